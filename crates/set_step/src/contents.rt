@@ -76,6 +76,7 @@ impl Core {
     ///
     /// Refusals are answers. Fault: 1 [`SetFault::NoMemory`], only where memory was refused, which `Take`,
     /// `Find`, `Next` and a heard unit without a body never want; what is kept is then as it was.
+    #[tactic(auto, using(crate::proofs::Kept::counted_of))]
     pub fn apply(&mut self, event: &Event, answer: &mut Answer) -> Result<(), SetFault>
         requires { HoldsFew longest_history self.old }
         ensures ok { OnOk result
@@ -136,6 +137,7 @@ impl Core {
 
     /// The message at this place of the link's unacknowledged ones, the oldest at 0: its number, and the FSN
     /// that it carries (Q.703 2.2). Past the last one, or on a link that the set hasn't: `None`.
+    #[tactic(auto, using(crate::proofs::Kept::unacked_is, crate::proofs::Kept::unacked_past, set_moves::proofs::Links::whole_of))]
     pub fn unacked_at(&self, link: u8, place: u8) -> Option<Numbered>
         ensures { (s : State) → StandsFor self.now s → result ≡ unacked_in s link place }
     {

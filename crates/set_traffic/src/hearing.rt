@@ -23,6 +23,7 @@ use std::alloc::AllocError;
 /// An LSSU is refused, since the error control has nothing to do with it.
 ///
 /// All memory that the body may want is taken first, so a fault leaves everything as it was.
+#[tactic(auto, using(set_moves::proofs::Links::whole_of, crate::proofs::Traffic::queue_there, crate::proofs::Traffic::space_still))]
 pub fn hear(
     parts: &mut Parts,
     number: u8,
@@ -131,6 +132,7 @@ fn make_room_for(parts: &mut Parts, order: Order) -> Result<(), AllocError>
 }
 
 /// The control hears the unit, and the link counts: acknowledged messages are the first ones, and so many.
+#[tactic(auto, using(crate::proofs::Traffic::part_reaches))]
 fn control_hears(parts: &mut Parts, number: u8, unit: &Unit) -> HeardPart
     requires counted { AreCounted (2 ^ 60) parts.old.links.items }
     requires known { number < length parts.old.links.items }
@@ -154,6 +156,7 @@ fn control_hears(parts: &mut Parts, number: u8, unit: &Unit) -> HeardPart
 }
 
 /// So many messages of the link are acknowledged, if any are: those up to this BSN.
+#[tactic(auto, using(set_moves::proofs::Links::on_less, set_moves::proofs::Links::acked_less))]
 fn acknowledge(queues: &mut Queues, number: u8, bsn: u8, acked: u8)
     requires known { number < length queues.old.lists.links }
     requires bsn { bsn < 128 }
@@ -175,6 +178,7 @@ fn has_message(unit: &Unit) -> bool
 }
 
 /// Where what a unit brought goes, if it's accepted: to the users' inbox, or to the rules of changeover.
+#[tactic(auto, using(crate::proofs::Traffic::unaccepted, crate::proofs::Traffic::nothing_brought, crate::proofs::Traffic::unread))]
 fn take_in(parts: &mut Parts, accept: bool, brought: Brought) -> Took
     requires holds { Holds (kept_of parts.old) }
     requires counted { AreCounted (2 ^ 61) parts.old.links.items }

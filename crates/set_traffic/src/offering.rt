@@ -21,6 +21,7 @@ const SHORTEST_OFFER: usize = 5;
 const STREAM_LIMIT: u64 = 1024;
 
 /// A message is offered: refused, or the last of its queue from now on.
+#[tactic(auto, using(set_moves::proofs::Links::whole_of))]
 pub fn offer(parts: &mut Parts, body: &Body, answer: &mut Answer) -> Result<(), AllocError>
     requires holds { Holds (kept_of parts.old) }
     ensures ok { OnOk result (Answers parts.old parts.new answer.new (λ s. offered

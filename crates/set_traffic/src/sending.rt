@@ -17,6 +17,7 @@ use set_events::{Answer, Fate};
 use set_moves::{Parts, unserved};
 
 /// The next unit to send.
+#[tactic(auto, using(crate::proofs::Traffic::queue_there))]
 pub fn send_next(parts: &mut Parts, number: u8, answer: &mut Answer)
     requires { Holds (kept_of parts.old) }
     ensures { Answers parts.old parts.new answer.new (λ s. in_service number s (next number s)) }
@@ -65,6 +66,7 @@ fn go_on(parts: &mut Parts, number: u8) -> (Choice, Header)
 }
 
 /// The body of the message at this place of a queue, whatever the links have come to.
+#[tactic(auto, using(crate::proofs::Traffic::fit_at))]
 fn body_at(parts: &Parts, fate: Fate, place: usize) -> ArrayVec<u8, LONGEST_BODY>
     requires holds { (links : List LinkState) × Holds (record (kept_of parts.now) { links = links }) }
     requires known { IsKnown fate parts.now.queues.lists }

@@ -11,9 +11,6 @@ use Rattle.set_step.proofs.step.take_down.Goals.{then-blind, else-blind}
 pub last_accepted-requires : goal.last_accepted-requires
 last_accepted-requires c = let few = (c.requires.counted c.args.number _ (found c.args.parts.now.links.items c.args.number c.from.result c.index.result.now c.from.ensures c.in_default.ensures.here.known c.index.ensures)).accepted in omega (arith, few)
 
-pub make_room_beside-requires-clause-whole : goal.make_room_beside-requires-clause-whole
-make_room_beside-requires-clause-whole c = whole_of c.args.parts.now c.requires.holds
-
 pub queue-requires-clause-order : goal.queue-requires-clause-order
 queue-requires-clause-order c =
     let low : c.args.number < 16 = omega (arith, (whole_of c.args.parts.now c.requires.holds).few, c.in_default.ensures.here.known) in

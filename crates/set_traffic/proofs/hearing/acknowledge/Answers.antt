@@ -1,6 +1,5 @@
 use Rattle.std.proofs.Common.{arith, ◌∙◌, ap, ◌+◌, ℕ}
 use Rattle.std.proofs.lemmas.Bool.Decides.{nat_tests}
-use Rattle.set_moves.proofs.Links.{acked_less, on_less}
 use Rattle.set_moves.proofs.States.{acked_for, link_for}
 use Rattle.set_traffic.proofs.hearing.acknowledge.Goals as goal
 
@@ -12,6 +11,3 @@ returns-clause-stands c = λ k s link counted there e f.
     let q = c.args.queues.now.lists in
     let reaches = c.requires.reach (grind (arith, nat_tests, c.if-acked-eq0.false)) in
     rw (rw c.unwrap.ensures at c.acknowledge.ensures.lists, rw c.unwrap.ensures at c.acknowledge.ensures.messages, reaches.count_is) (acked_for (record k { lists = q; messages = c.args.queues.now.messages }) s c.args.number c.args.bsn link counted f there c.requires.bsn (e ∙ ap (λ (i : ℕ). link.acked + i) reaches.count_is))
-
-pub returns-clause-keeps : goal.returns-clause-keeps
-returns-clause-keeps c = grind (arith, nat_tests, on_less, acked_less, c.acknowledge.ensures, c.unwrap.ensures, c.requires.known)

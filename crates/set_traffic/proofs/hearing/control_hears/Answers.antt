@@ -6,7 +6,7 @@ use Rattle.set_model.specs.State.{LinkState, State, window_of}
 use Rattle.set_moves.specs.declared.link.Link.{Link}
 use Rattle.set_moves.specs.Agreement.{StandsFor}
 use Rattle.set_moves.specs.Parts.{kept_of, IsCounted}
-use Rattle.set_traffic.proofs.Traffic.{told, part_reaches}
+use Rattle.set_traffic.proofs.Traffic.{told}
 use Rattle.set_moves.proofs.Links.{found, link_set, set_view, counted_set, wider}
 use Rattle.set_traffic.proofs.hearing.control_hears.Goals as goal
 use Rattle.set_traffic.proofs.hearing.control_hears.Goals.{After-hear-part}
@@ -29,9 +29,6 @@ overflow_add-link c = let k = (few (goal.at.overflow_add-link c).After-hear-part
 
 pub overflow_add-link-2 : goal.overflow_add-link-2
 overflow_add-link-2 c = let k = (few (goal.at.overflow_add-link-2 c).After-hear-part).accepted in grind (arith, k, c.from-3.ensures)
-
-pub acknowledge-requires-clause-reach : goal.acknowledge-requires-clause-reach
-acknowledge-requires-clause-reach c = λ some. rw c.hear-part.ensures.part (part_reaches c.link.inside.control c.window-window.result.now c.header_in-head.result c.has_message.result c.args.parts.now.queues.lists c.args.number c.window-window.ensures.last c.window-window.ensures.unacked (rw c.hear-part.ensures.part at some))
 
 pub returns-clause-part : goal.returns-clause-part
 returns-clause-part c = λ s link there f.

@@ -1,4 +1,4 @@
-use Rattle.std.proofs.Common.{refl, arith, ◌≡◌, ◌∙◌, ap, sym, subst, ℕ}
+use Rattle.std.proofs.Common.{arith, ◌≡◌, ◌∙◌, ap, sym, subst, ℕ}
 use Rattle.l2_signals.specs.declared.status.Status.{Status}
 use Rattle.l2_units.specs.Grammar.{head_of as header_in}
 use Rattle.set_model.specs.Control.{Header, HeardPart, part_of}
@@ -7,9 +7,9 @@ use Rattle.set_model.specs.State.{LinkState, State, window_of}
 use Rattle.set_model.specs.Step.{SignalUnit, Took, Lssu, HeardBack, heard as heard_of, controls, after_control, report_of, is_msu}
 use Rattle.set_moves.specs.Agreement.{StandsFor, Agrees}
 use Rattle.set_moves.specs.Parts.{Up, kept_of}
-use Rattle.set_moves.proofs.Links.{whole_of, IsHere, is_in, served}
+use Rattle.set_moves.proofs.Links.{IsHere, is_in, served}
 use Rattle.set_model.proofs.SoundLink.{hears_sound}
-use Rattle.set_traffic.proofs.Traffic.{queue_there, space_still}
+use Rattle.set_traffic.proofs.Traffic.{queue_there}
 use Rattle.set_traffic.proofs.hearing.hear.Goals as goal
 use Rattle.set_traffic.proofs.hearing.hear.Goals.{After-control_hears-part}
 
@@ -30,17 +30,11 @@ module _ (c : After-control_hears-part) (s : State) (a : Agrees (kept_of c.args.
     sound = subst (λ part. IsSound (after_control part (header_in c.args.unit.now) c.args.unit.now c.args.number s at.link)) (sym told) (hears_sound c.args.number at.link s (record { there = at.there; phase_is = at.phase_is }) a.sound c.args.unit.now);
   }
 
-pub make_space-requires : goal.make_space-requires
-make_space-requires c = record { whole = whole_of c.args.parts.now c.requires.holds }
-
 pub control_hears-part-requires-clause-queue : goal.control_hears-part-requires-clause-queue
 control_hears-part-requires-clause-queue c = queue_there c.make_space.new.parts c.args.number (rw c.in_ok-brought.ensures.same c.requires.holds) (rw c.in_ok-brought.ensures.links c.in_default.ensures.here.known)
 
 pub take_in-took-requires-clause-holds : goal.take_in-took-requires-clause-holds
 take_in-took-requires-clause-holds c = (_, after (goal.at.take_in-took-requires-clause-holds c).After-control_hears-part c.requires.holds.0 c.requires.holds.1)
-
-pub take_in-took-requires-clause-space : goal.take_in-took-requires-clause-space
-take_in-took-requires-clause-space c = space_still c.make_space.new.parts c.control_hears-part.new.parts c.control_hears-part.ensures.keeps c.in_ok-brought.brought c.in_ok-brought.ensures.space
 
 -- a unit that is no LSSU is the control's
 is_controls : (unit : SignalUnit) (n : ℕ) (s : State) (link : LinkState) → ((head : Header) (status : Status) → unit ≡ Lssu head status → ⊥) → heard_of unit n s link ≡ controls unit n s link
@@ -59,10 +53,3 @@ returns-clause-ok c = λ s a.
     let o = c.take_in-took.ensures unit _ c.in_ok-brought.ensures.brought (after so s a) in
     served s n (heard_of unit n s) _ c.take_in-took.new.parts i
     (rw (is_controls unit n s i.link (λ head status e. c.in_default-unit.not-Lssu head status e), ← told so s a) (record { answer_is = ap HeardBack (reported c.control_hears-part.result c.take_in-took.result ∙ ap (report_of c.control_hears-part.result) o.took_is); stands = o.stands }))
-
-pub returns-in-Lssu-clause-ok : goal.returns-in-Lssu-clause-ok
-returns-in-Lssu-clause-ok c = λ s a.
-    let n = c.args.number in
-    let i = is_in c.args.parts.now s n Up a c.in_default.ensures.here in
-    served s n (heard_of c.args.unit.now n s) _ c.args.parts.now i
-    (rw (c.in-Lssu.is, c.into-in-Lssu.ensures) (record { answer_is = refl; stands = a.stands }))

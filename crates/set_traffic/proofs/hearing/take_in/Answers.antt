@@ -1,18 +1,9 @@
 use Rattle.set_moves.specs.Parts.{kept_of}
-use Rattle.set_traffic.proofs.Traffic.{delivered, unaccepted, nothing_brought, message_taken, order_obeyed, unread}
+use Rattle.set_traffic.proofs.Traffic.{delivered, message_taken, order_obeyed}
 use Rattle.set_traffic.proofs.hearing.take_in.Goals as goal
-
-pub returns-then-not-accept : goal.returns-then-not-accept
-returns-then-not-accept c = λ unit s e a. rw c.if-not-accept.true (unaccepted c.args.parts.now s unit a.stands)
-
-pub returns-in-Nothing : goal.returns-in-Nothing
-returns-in-Nothing c = λ unit s e a. nothing_brought c.args.parts.now s unit c.args.accept (rw c.in-Nothing.is at e) a.stands
-
-pub returns-in-Message : goal.returns-in-Message
-returns-in-Message c = λ unit s e a. rw c.if-not-accept.false (message_taken _ s unit c.in-Message.message (rw c.in-Message.is at e) (delivered (kept_of c.args.parts.now) s _ c.in-Message.message a.stands c.push_back_reserved.ensures.items))
 
 pub returns-in-Order : goal.returns-in-Order
 returns-in-Order c = λ unit s e a. rw c.if-not-accept.false (order_obeyed c.obey.new.parts s unit c.in-Order.order c.obey.result (rw c.in-Order.is at e) (c.obey.ensures.stands s a))
 
-pub returns-in-Unread : goal.returns-in-Unread
-returns-in-Unread c = λ unit s e a. rw c.if-not-accept.false (unread c.args.parts.now s unit (rw c.in-Unread.is at e) a.stands)
+pub returns-in-Message : goal.returns-in-Message
+returns-in-Message c = λ unit s e a. rw c.if-not-accept.false (message_taken _ s unit c.in-Message.message (rw c.in-Message.is at e) (delivered (kept_of c.args.parts.now) s _ c.in-Message.message a.stands c.push_back_reserved.ensures.items))

@@ -6,12 +6,9 @@ use Rattle.set_model.specs.State.{State, fate_at}
 use Rattle.set_model.specs.Step.{Accepted, offer_refusal, refusal_by}
 use Rattle.set_moves.specs.Agreement.{Kept, StandsFor}
 use Rattle.set_moves.specs.Parts.{kept_of}
-use Rattle.set_moves.proofs.Links.{agrees_same, whole_of}
+use Rattle.set_moves.proofs.Links.{agrees_same}
 use Rattle.set_traffic.proofs.Counts.{unsent_is}
 use Rattle.set_traffic.proofs.offering.offer.Goals as goal
-
-pub fate_of_new-fate-requires-clause-whole : goal.fate_of_new-fate-requires-clause-whole
-fate_of_new-fate-requires-clause-whole c = whole_of c.args.parts.now c.requires.holds
 
 same_refusal : (k : Kept) (s : State) (body : List ℕ) → StandsFor k s → refusal_by (unsent_of (stream_of body) k.messages) body ≡ offer_refusal s.rows body
 same_refusal k s body f = ap (λ n. refusal_by n body) (unsent_is (stream_of body) k.lists k.messages s.rows f.stands)
@@ -28,6 +25,3 @@ returns-clause-ok c = λ s a.
       answer_is = ap Accepted (c.stand_last-number.ensures.number ∙ now.stands.stands.count);
       stands = grind (arith, stands, c.accept.ensures, c.stream_of_body-stream.ensures.value, c.octets-octets.ensures);
     })
-
-pub stand_last-number-requires-clause-known : goal.stand_last-number-requires-clause-known
-stand_last-number-requires-clause-known c = rw (ap (λ (k : Kept). k.lists) c.make_room.ensures.same.kept) c.fate_of_new-fate.ensures.known

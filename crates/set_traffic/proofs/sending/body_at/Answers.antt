@@ -1,16 +1,13 @@
 use Rattle.std.proofs.Common.{arith, ◌∙◌, ap, sym, Some}
 use Rattle.set_moves.specs.Parts.{kept_of}
-use Rattle.set_traffic.proofs.Traffic.{fit_at, found_at, body_is}
+use Rattle.set_traffic.proofs.Traffic.{found_at, body_is}
 use Rattle.set_traffic.proofs.sending.body_at.Goals as goal
+
+pub returns : goal.returns
+returns c = λ s f. body_is (kept_of c.args.parts.now) s f c.args.fate c.args.place c.unwrap-message.result c.requires.standing (sym c.number_at.ensures ∙ c.unwrap-message.ensures) ∙ c.body.ensures ∙ ap Some (sym c.body_of.ensures)
 
 pub body-requires : goal.body-requires
 body-requires c =
     let f = c.requires.holds.1.1.stands in
     let at = found_at _ _ f c.args.fate c.args.place c.unwrap-message.result c.requires.standing (sym c.number_at.ensures ∙ c.unwrap-message.ensures) in
     omega (arith, at.below, f.held_bodies, f.stands.count)
-
-pub body_of-requires : goal.body_of-requires
-body_of-requires c = let a = c.requires.holds.1.1 in fit_at c.unwrap-message.result _ c.body.result.now a.sound.fit (sym (a.stands.bodies c.unwrap-message.result) ∙ c.body.ensures)
-
-pub returns : goal.returns
-returns c = λ s f. body_is (kept_of c.args.parts.now) s f c.args.fate c.args.place c.unwrap-message.result c.requires.standing (sym c.number_at.ensures ∙ c.unwrap-message.ensures) ∙ c.body.ensures ∙ ap Some (sym c.body_of.ensures)

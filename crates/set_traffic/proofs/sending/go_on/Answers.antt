@@ -23,9 +23,6 @@ returns-clause-chosen c = λ s link there f.
     let same = tells so s link there f in
     c.choice-choice.ensures.value ∙ rw (same.1, same.0, weighs so s link there f) (grind arith)
 
-pub returns-clause-head : goal.returns-clause-head
-returns-clause-head c = λ s link there f. let same = tells (goal.at.returns-clause-head c).After-send-head s link there f in c.send-head.ensures.head ∙ rw (same.1, same.0) (grind arith)
-
 pub returns-clause-stands : goal.returns-clause-stands
 returns-clause-stands c = λ s link there f.
     let n = c.args.number in
@@ -35,3 +32,6 @@ returns-clause-stands c = λ s link there f.
     let after : c.send-head.new.self ≡ link'.control = c.send-head.ensures.state ∙ rw (same.1, same.0, weighs so s link there f) (grind arith) in
     let links = link_set c.args.parts.now.links.items n c.from.result c.index_mut.result.now c.from.ensures c.requires.known c.index_mut.ensures.value (λ l. record l { control = c.send-head.new.self }) _ s.links link c.behind-parts.view_is f.links there ∙ ap (λ control. slice_set s.links n (record link { control = control })) after in
     becomes (link_for (kept_of c.args.parts.now) s n link link' s.routing f there refl) (search (links, f.routing))
+
+pub returns-clause-head : goal.returns-clause-head
+returns-clause-head c = λ s link there f. let same = tells (goal.at.returns-clause-head c).After-send-head s link there f in c.send-head.ensures.head ∙ rw (same.1, same.0) (grind arith)

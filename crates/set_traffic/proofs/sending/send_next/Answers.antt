@@ -1,14 +1,11 @@
-use Rattle.std.proofs.Common.{refl, arith}
+use Rattle.std.proofs.Common.{arith}
 use Rattle.set_moves.proofs.States.{becomes, sent_for}
 use Rattle.l2_window.specs.declared.control.Choice.TheVariants.{First}
 use Rattle.set_moves.specs.Parts.{Up, kept_of}
 use Rattle.set_moves.proofs.Links.{is_in}
 use Rattle.set_traffic.specs.Traffic.{goes_on}
-use Rattle.set_traffic.proofs.Traffic.{given, with_body, queue_there}
+use Rattle.set_traffic.proofs.Traffic.{given, with_body}
 use Rattle.set_traffic.proofs.sending.send_next.Goals as goal
-
-pub go_on-choice-requires-clause-queue : goal.go_on-choice-requires-clause-queue
-go_on-choice-requires-clause-queue c = queue_there c.args.parts.now c.args.number c.requires c.in_default.ensures.here.known
 
 pub returns-in-Again : goal.returns-in-Again
 returns-in-Again c = λ s a.
@@ -25,14 +22,3 @@ returns-in-First c = λ s a.
     given c.args.number s _ i c.go_on-choice.result.0 c.go_on-choice.result.1 _ (c.go_on-choice.ensures.chosen s i.link i.there a.stands) (c.go_on-choice.ensures.head s i.link i.there a.stands)
     (rw c.in-First.is (with_body _ _ c.body_at-body-in-First.result (c.body_at-body-in-First.ensures _ stands)))
     (rw c.in-First.is (becomes (sent_for (kept_of c.go_on-choice.new.parts) (goes_on c.args.number First i.link s) c.args.number c.unwrap.result.0 stands (a.sound.links c.args.number i.link i.there).in_order c.go_on-choice.ensures.queue sent.first) (grind (arith, sent, rw c.unwrap.ensures at c.send.ensures.messages))))
-
-pub returns-in-Fill : goal.returns-in-Fill
-returns-in-Fill c = λ s a.
-    let i = is_in c.args.parts.now s c.args.number Up a c.in_default.ensures.here in
-    given c.args.number s _ i c.go_on-choice.result.0 c.go_on-choice.result.1 _ (c.go_on-choice.ensures.chosen s i.link i.there a.stands) (c.go_on-choice.ensures.head s i.link i.there a.stands) (rw c.in-Fill.is refl) (rw c.in-Fill.is (rw c.in-Fill.is at (c.go_on-choice.ensures.stands s i.link i.there a.stands)))
-
-pub body_at-body-requires-clause-holds : goal.body_at-body-requires-clause-holds
-body_at-body-requires-clause-holds c = ((kept_of c.args.parts.now).links, rw c.go_on-choice.ensures.same c.requires)
-
-pub body_at-body-requires-in-First-clause-holds : goal.body_at-body-requires-in-First-clause-holds
-body_at-body-requires-in-First-clause-holds c = ((kept_of c.args.parts.now).links, rw c.go_on-choice.ensures.same c.requires)

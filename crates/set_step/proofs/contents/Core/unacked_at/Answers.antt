@@ -5,8 +5,7 @@ use Rattle.set_model.specs.State.{State, unacked_in}
 use Rattle.set_moves.specs.Agreement.{StandsFor}
 use Rattle.set_model.proofs.Lists.{within}
 use Rattle.set_moves.specs.Parts.{kept_of}
-use Rattle.set_step.proofs.Kept.{unacked_is, unacked_past}
-use Rattle.set_moves.proofs.Links.{whole_of}
+use Rattle.set_step.proofs.Kept.{unacked_is}
 use Rattle.set_step.proofs.contents.Core.unacked_at.Goals as goal
 use Rattle.set_step.proofs.contents.Core.unacked_at.Goals.{After-number_at}
 
@@ -26,12 +25,3 @@ returns c = grind (arith, nat_tests, is, c.last-last.ensures.value, c.window.ens
 
 pub number_after-fsn-requires-clause-places : goal.number_after-fsn-requires-clause-places
 number_after-fsn-requires-clause-places c = grind (arith, nat_tests, within, at_place, c.in_ok-number.was, c.window.ensures.unacked, c.last-last.ensures.sound, c.from-3.ensures)
-
-pub number_at-requires : goal.number_at-requires
-number_at-requires c = grind (arith, nat_tests, whole_of, c.self.invariant, c.if-from-len.false, c.len.ensures, c.from.ensures)
-
-pub window-requires : goal.window-requires
-window-requires c = grind (arith, nat_tests, whole_of, c.self.invariant, c.if-from-len.false, c.len.ensures, c.from.ensures)
-
-pub returns-then-from-len : goal.returns-then-from-len
-returns-then-from-len c = rw (← c.self.view_is) (λ s st. sym (unacked_past (kept_of c.self.inside.parts) s c.args.link c.args.place st (omega (arith, c.if-from-len.true, c.len.ensures, c.from.ensures, c.self.inside.parts.links.ok.0))))
