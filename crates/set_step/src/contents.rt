@@ -137,7 +137,7 @@ impl Core {
 
     /// The message at this place of the link's unacknowledged ones, the oldest at 0: its number, and the FSN
     /// that it carries (Q.703 2.2). Past the last one, or on a link that the set hasn't: `None`.
-    #[tactic(auto, using(crate::proofs::Kept::unacked_is, crate::proofs::Kept::unacked_past, set_moves::proofs::Links::whole_of))]
+    #[tactic(auto, using(crate::proofs::Kept::unacked_is, crate::proofs::Kept::unacked_past, set_moves::proofs::Links::whole_of, set_model::proofs::Lists::within))]
     pub fn unacked_at(&self, link: u8, place: u8) -> Option<Numbered>
         ensures { (s : State) → StandsFor self.now s → result ≡ unacked_in s link place }
     {

@@ -3,7 +3,6 @@ use Rattle.std.proofs.lemmas.Bool.Decides.{nat_tests}
 use Rattle.set_queues.specs.Buffers.{Unacked, queue_at, last_at}
 use Rattle.set_model.specs.State.{State, unacked_in}
 use Rattle.set_moves.specs.Agreement.{StandsFor}
-use Rattle.set_model.proofs.Lists.{within}
 use Rattle.set_moves.specs.Parts.{kept_of}
 use Rattle.set_step.proofs.Kept.{unacked_is}
 use Rattle.set_step.proofs.contents.Core.unacked_at.Goals as goal
@@ -22,6 +21,3 @@ returns-in_err-number c = grind (arith, nat_tests, is, c.from_residual.ensures, 
 
 pub returns : goal.returns
 returns c = grind (arith, nat_tests, is, c.last-last.ensures.value, c.window.ensures.last, c.number_after-fsn.ensures.value, c.from-3.ensures, c.in_ok-number.was)
-
-pub number_after-fsn-requires-clause-places : goal.number_after-fsn-requires-clause-places
-number_after-fsn-requires-clause-places c = grind (arith, nat_tests, within, at_place, c.in_ok-number.was, c.window.ensures.unacked, c.last-last.ensures.sound, c.from-3.ensures)
