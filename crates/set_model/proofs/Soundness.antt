@@ -5,15 +5,19 @@ use Rattle.std.proofs.lemmas.Option.{slice_get_cases}
 use Rattle.std.proofs.lemmas.Bool.Decides.{nat_tests}
 use Rattle.set_route.specs.Routing.{new_stream, stream_numbers, settled, runs_on, NoneOpen, has_messages, place_of, place_raised, place_settled, raised}
 use Rattle.set_route.specs.declared.stream.Stream.{Stream}
-use Rattle.set_model.specs.Step.{Event, Offer, step, offered, rows_sent}
-use Rattle.set_model.specs.Laws.{RunsStraight}
+use Rattle.set_model.specs.Step.{Event, Gains, Offer, step, stepped, offered, rows_sent}
+use Rattle.set_model.specs.Laws.{IsNew, KeepsMessages, RunsStraight}
 use Rattle.set_model.specs.Rows.{numbers, stream_of, Fate, Unacked, Waiting, IsNumbered, Row, all_with, appended, changed, fated, is_back, is_back_to, is_on, is_parked, is_waiting, moved, standing, stands_back, turned, with_fate}
-use Rattle.set_model.specs.Sound.{AreFew, IsAsked, IsPlaced, IsSettings, IsSound, AreAbove, AreTogether, BeginsNone, IsAscending, IsBackOf, IsSoundStream, astray, is_astray, is_live, is_unfinished, live, stands_at}
+use Rattle.set_model.specs.Sound.{AreFew, IsAsked, IsManaged, IsPlaced, IsSettings, IsSound, AreAbove, AreTogether, BeginsNone, IsAscending, IsBackOf, IsSoundStream, astray, is_astray, is_live, is_unfinished, live, stands_at}
 use Rattle.set_model.specs.State.{Asked, Free, Nowhere, LinkState, Settings, State, new_link, opened_with, Place, Changing, On, fate_at, target}
 use Rattle.set_route.proofs.Places.{new_sound}
 use Rattle.set_route.proofs.Codes.{all_free}
 use Rattle.set_model.proofs.Events.{sent_given_up, waiting_given_up}
-use Rattle.set_model.proofs.Walk.{KeptBy, step_walks}
+use Rattle.set_model.proofs.Walk.{KeptBy, step_is, step_walks}
+use Rattle.set_model.proofs.Framing.{leaves_alone}
+use Rattle.set_model.proofs.Settling.{settled_empty, diverts_the_rest}
+use Rattle.set_model.proofs.Staying.{keeps_messages, step_gains}
+use Rattle.set_model.specs.Frame.{Concerns, LeavesAlone}
 use Rattle.set_model.proofs.SoundBack.{leaves, declares, releases, rises_sound, moves_off_sound}
 use Rattle.set_model.proofs.SoundLink.{with_inbox, acknowledges, gives_up, sends_sound, hears_sound, queues, offers}
 use Rattle.std.proofs.lemmas.List.Elements.{filter-append}
@@ -70,6 +74,9 @@ module _ (settings : Settings) (is : IsSettings settings) where
 
   pub opened_few : AreFew 0 (opened_with settings)
   opened_few n link there = grind (arith, new_there)
+
+  pub opened_new : IsNew (opened_with settings)
+  opened_new = record { sound = opened_sound; few = opened_few; straight = opened_straight }
 
 -- WHILE NO CHANGEBACK IS UNDER WAY the messages of each stream stay together, where it runs, and in the order of their
 -- numbers: leaving a link changes nothing but that link, and what is acknowledged by a code nothing at all.
@@ -205,3 +212,9 @@ step_straight s event asked begins t r =
     let then_straight : (a b c : State) → StaysStraight a b → StaysStraight b c → StaysStraight a c = λ a b c p q sound none r. rests b c (p sound none r) q in
     let begins_none : (u : State) → (BeginsNone event → ⊥) → IsSound u × RunsStraight u = λ u may. absurd (may begins) in
     (step_walks s StaysStraight (λ u. IsSound u × RunsStraight u) event (search (sounds, leaves_straight, releases_straight, queues_straight, stream_turned, stream_changed, fits_finished, moves_off_straight, offers_straight, sends_straight, rises_straight, then_straight, rests, begins_none, stood))).1
+
+-- WHAT EVERY STEP DOES. The first of it tells where the rest holds: of each step that is named.
+pub step_laws : (s : State) (event : Event) → (step s event ≡ stepped s event) × (IsAsked event → IsSound s → IsSound (step s event).state) × (IsManaged s.settings → Gains s event (step s event).answer (step s event).state) × (IsNumbered s.rows → KeepsMessages s.rows (step s event).state.rows) × ((n : ℕ) → (Concerns event n s → ⊥) → LeavesAlone n s (step s event).state)
+step_laws s event = (step_is s event, step_sound s event, step_gains s event, keeps_messages s event, λ n. leaves_alone n s event)
+
+pub ruleset laws = (step_laws, step_straight, settled_empty, diverts_the_rest, opened_new)
