@@ -1,5 +1,5 @@
 -- WHAT EACH CHANGE DOES TO EACH LINK: the lemmas that a set's step is argued by.
-use Rattle.std.proofs.Common.{refl, arith, ◌≡◌, ◌∙◌, ap, ◌≤◌, [], ◌∷◌, length, ℕ, Bool, true, false, ◌==◌, ◌||◌, List, ◌++◌, map, take, drop, not}
+use Rattle.std.proofs.Common.{refl, arith, ◌≡◌, ◌∙◌, ap, ◌≤◌, [], ◌∷◌, length, ℕ, Bool, true, false, ◌==◌, ◌||◌, List, ◌++◌, map, take, drop, not, cond}
 use Rattle.std.proofs.lemmas.List.{append-nil, map-append}
 use Rattle.std.proofs.lemmas.List.Elements.{filter-append}
 use Rattle.set_model.specs.Rows.{DiscardCause, Fate, Acked, Discarded, Parked, Unacked, Waiting, AreFit, IsHeldLast, IsInOrder, IsNumbered, Row, all_with, appended, back, body_at, changed, counts_of, fated, held, is_held, is_on, is_parked, is_unacked, is_waiting, moved, numbers, on, parked, standing, stands_back, total_of, turned, unack, wait, was_acked, with_fate}
@@ -115,12 +115,9 @@ sent_by first n rows = (sent n rows).in_place
 sent_by _ n rows = (acknowledged n 0 rows).in_place
 
 -- MESSAGES THAT ARE GIVEN UP.
-module _ (l : ℕ) (cause : DiscardCause) (rows : List Row) where
-  pub sent_given_up : ChangesOn l rows (changed (is_unacked l) (Discarded cause) rows)
-  sent_given_up = ends_on l (is_unacked l) (Discarded cause) rows _ (changed_there (is_unacked l) (Discarded cause) rows) (λ f e. grind arith) refl
-
-  pub waiting_given_up : ChangesOn l rows (changed (is_waiting l) (Discarded cause) rows)
-  waiting_given_up = ends_on l (is_waiting l) (Discarded cause) rows _ (changed_there (is_waiting l) (Discarded cause) rows) (λ f e. grind arith) refl
+pub given_up : (l : ℕ) (sent : Bool) (cause : DiscardCause) (rows : List Row) → ChangesOn l rows (changed (cond sent (is_unacked l) (is_waiting l)) (Discarded cause) rows)
+given_up l true cause rows = ends_on l (is_unacked l) (Discarded cause) rows _ (changed_there (is_unacked l) (Discarded cause) rows) (λ f e. grind arith) refl
+given_up l false cause rows = ends_on l (is_waiting l) (Discarded cause) rows _ (changed_there (is_waiting l) (Discarded cause) rows) (λ f e. grind arith) refl
 
 -- A LINK THAT IS LEFT BY ITS MESSAGES.
 pub record Left (l : ℕ) (to : Fate) (rows new : List Row) : Type 0 where

@@ -13,7 +13,7 @@ use Rattle.set_model.specs.Frame.{BringsAbout, Concerns, LeavesAlone, MovesAsIts
 use Rattle.set_model.specs.Rows.{DiscardCause, Fate, Waiting, Unacked, IsInOrder, Row, appended, fated, held, is_held, is_on, is_unacked, is_waiting, moved, numbers, standing, unack, wait}
 use Rattle.set_model.specs.Sound.{IsSound}
 use Rattle.set_model.specs.State.{Up, LinkState, State, is_up, link_is_up, target, window_of}
-use Rattle.set_model.proofs.Events.{Untouched, untouched_self, sent, sent_by, acknowledged, sent_given_up, waiting_given_up, unparked, appended_out, numbers_joined}
+use Rattle.set_model.proofs.Events.{ChangesOn, Unparked, Untouched, untouched_self, sent, sent_by, acknowledged, unparked, appended_out, numbers_joined}
 use Rattle.set_model.proofs.Rows.{fated_none, new_row, moved_same, moved_more}
 use Rattle.set_model.proofs.Lists.{get_set_same, get_set_other, within, target_off}
 use Rattle.set_model.proofs.Places.{apart, apart_back, on_other, not_on_waiting, back_not_on, home_back, code_back}
@@ -48,12 +48,9 @@ leaves_alone n s event free =
     let up_waits : (to m : ℕ) (u : State) → is_up to u ≡ true → is_up m u ≡ false → is_waiting m (Waiting to) ≡ false = λ to m u up down. grind (arith, nat_tests) in
     let off_waits = λ (links new : List LinkState) (same : slice_get new n ≡ slice_get links n) (down : link_is_up (slice_get new n) ≡ false). not_on_waiting n (fate_on (target links)) (target_off links n (rw same at down)) in
     let target_unheld : (to : Option ℕ) → is_held n (fate_on to) ≡ false = λ to. grind arith in
-    let sends = λ (choice : Choice) (m : ℕ) (rows : List Row). (sent_by choice m rows).others in
-    let acked = λ (m count : ℕ) (rows : List Row). (acknowledged m count rows).others in
-    let sent_up = λ (m : ℕ) (cause : DiscardCause) (rows : List Row). (sent_given_up m cause rows).others in
-    let waiting_up = λ (m : ℕ) (cause : DiscardCause) (rows : List Row). (waiting_given_up m cause rows).others in
-    let risen = λ (m : ℕ) (rows : List Row). (unparked m rows).others in
-    step_walks s (LeavesAlone n) (LeavesAlone n s) event (search (up_waits, alternative_up, alone_moved, back_not_on, code_back, home_back, on_other, apart_back, not_sent, off_waits, target_unheld, alone_then, alone_by, untouched_self, alone_appended, offered_out, up_not_held, down_not_waiting, off, concerned, inl, get_set_other, eqb-false) depth 7)
+    let apart_from = λ (m : ℕ) (rows new : List Row) (g : ChangesOn m rows new). g.others in
+    let risen = λ (m : ℕ) (rows new : List Row) (u : Unparked m rows new). u.others in
+    step_walks s (LeavesAlone n) (LeavesAlone n s) event (search (apart_from, risen, up_waits, alternative_up, alone_moved, back_not_on, code_back, home_back, on_other, apart_back, not_sent, off_waits, target_unheld, alone_then, alone_by, untouched_self, alone_appended, offered_out, up_not_held, down_not_waiting, off, concerned, inl, get_set_other, eqb-false) depth 7)
 
 -- THE WINDOW.
 pub numbers-drop : (d : ℕ) (rows : List Row) → numbers (drop d rows) ≡ drop d (numbers rows)

@@ -17,14 +17,8 @@ itself l = eq-eqb l l refl
 pub unacked_not_waiting : (l n : ℕ) (f : Fate) → is_unacked n f ≡ true → is_waiting l f ≡ false
 unacked_not_waiting l n f e = grind arith
 
-pub not_held : (test : Fate → Bool) → ((k : ℕ) → test (Held k) ≡ false) → (l : ℕ) (f : Fate) → test f ≡ true → is_held l f ≡ false
-not_held test none l f e = grind arith
-
 pub on_not_parked : (n : ℕ) (f : Fate) → is_on n f ≡ true → is_parked f ≡ false
 on_not_parked n f e = grind arith
-
-pub on_not_back : (n : ℕ) (f : Fate) → is_on n f ≡ true → stands_back f ≡ false
-on_not_back n f e = grind arith
 
 -- What stands in one of the three places of a link is on it.
 pub waiting_on : (l : ℕ) (f : Fate) → is_waiting l f ≡ true → is_on l f ≡ true

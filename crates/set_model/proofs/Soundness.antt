@@ -12,7 +12,6 @@ use Rattle.set_model.specs.Sound.{AreFew, IsAsked, IsManaged, IsPlaced, IsSettin
 use Rattle.set_model.specs.State.{Asked, Free, Nowhere, LinkState, Settings, State, new_link, opened_with, Place, Changing, On, fate_at, target}
 use Rattle.set_route.proofs.Places.{new_sound}
 use Rattle.set_route.proofs.Codes.{all_free}
-use Rattle.set_model.proofs.Events.{sent_given_up, waiting_given_up}
 use Rattle.set_model.proofs.Walk.{KeptBy, step_is, step_walks}
 use Rattle.set_model.proofs.Framing.{leaves_alone}
 use Rattle.set_model.proofs.Settling.{settled_empty, diverts_the_rest}
@@ -34,7 +33,7 @@ use Rattle.set_model.proofs.Places.{false_true, itself, code_back, home_back}
 pub asked_by : (event : Event) (body : List ℕ) → IsAsked event → event ≡ Offer body → stream_of body < 16
 asked_by event body asked e = subst IsAsked e asked
 
-pub ruleset sounds = (with_inbox, queues, leaves, acknowledges, gives_up, sent_given_up, waiting_given_up, moves_off_sound, declares, releases, offers, asked_by, sends_sound, hears_sound, rises_sound)
+pub ruleset sounds = (with_inbox, queues, leaves, acknowledges, gives_up, moves_off_sound, declares, releases, offers, asked_by, sends_sound, hears_sound, rises_sound)
 
 small : (Known : ℕ → Type 0) (May : Type 0) → KeptBy Known May (λ s u. IsSound s → IsSound u)
 small Known May = search sounds

@@ -7,7 +7,7 @@ use Rattle.std.proofs.lemmas.Bool.Decides.{nat_tests}
 use Rattle.set_model.specs.Laws.{MessagesStay, MovesTheLinksRows, KeepsMessages}
 use Rattle.set_model.specs.Rows.{Fate, IsNumbered, Row, DiscardCause, appended, counts_of, service_indicator, total_of, was_acked, Discarded, Acked, Unacked, is_unacked, is_waiting, moved, standing, turned, unack}
 use Rattle.set_model.proofs.Rows.{turned_there, changed_there, moved_length, moved_numbered, is_found, numbered_appended, same_numbers, no_rows, body_moved, place_moved, row_is_first, total_is, filter_comm, fewer_filter, fated_none, turned_left}
-use Rattle.set_model.proofs.Events.{numbers_fated, Kept, moved_kept, sent_by, acknowledged, sent_given_up, waiting_given_up, appended_out}
+use Rattle.set_model.proofs.Events.{ChangesOn, numbers_fated, Kept, moved_kept, sent_by, acknowledged, appended_out}
 use Rattle.std.proofs.lemmas.List.Elements.{filter-append}
 use Rattle.l3_orders.specs.Grammar.{text}
 use Rattle.set_model.specs.Changeover.{Order, fate_on}
@@ -61,12 +61,9 @@ step_grows s event =
     -- where a message goes that is moved, or whose stream runs there, it isn't acknowledged
     let target_open : (to : Option ℕ) → was_acked (fate_on to) ≡ false = λ to. grind arith in
     let fate_open : (p : Place) (s : State) → was_acked (fate_at p s) ≡ false = λ p s. grind arith in
+    let kept_on = λ (n : ℕ) (rows new : List Row) (g : ChangesOn n rows new). g.kept in
     let same = λ (rows : List Row). (acknowledged 0 0 rows).kept in
-    let sends = λ (choice : Choice) (n : ℕ) (rows : List Row). (sent_by choice n rows).kept in
-    let acks = λ (n count : ℕ) (rows : List Row). (acknowledged n count rows).kept in
-    let sent_up = λ (n : ℕ) (cause : DiscardCause) (rows : List Row). (sent_given_up n cause rows).kept in
-    let waiting_up = λ (n : ℕ) (cause : DiscardCause) (rows : List Row). (waiting_given_up n cause rows).kept in
-    step_walks s (Grows (is_offer event ≡ false)) (Grows (is_offer event ≡ false) s) event (search (grows_then, grows_kept, grows_appended, moved_kept, same, target_open, order_managed, fate_open, none_offered))
+    step_walks s (Grows (is_offer event ≡ false)) (Grows (is_offer event ≡ false) s) event (search (kept_on, grows_then, grows_kept, grows_appended, moved_kept, same, target_open, order_managed, fate_open, none_offered))
 
 pub keeps_messages : (s : State) (event : Event) → IsNumbered s.rows → KeepsMessages s.rows (step s event).state.rows
 keeps_messages s event numbered = (step_grows s event).keeps numbered
