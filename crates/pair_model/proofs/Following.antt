@@ -28,7 +28,7 @@ use Rattle.set_model.specs.Control.{part_of}
 use Rattle.set_model.specs.Changeover.{Obeyed, fate_on, left_link, acknowledged as acknowledged_link, settled_link, moved_over, queued, out_of_service, left_by, leaving_order, declared, some_declare, released, released_from, some_in_use, acknowledged_back, is_reasonable, judged, settled, changed_over, answered, at_link, order_obeyed, obeyed, reply_of}
 use Rattle.set_model.specs.Step.{Outcome, refused, offer_refusal, offered, is_msu, brought, takes, after_control, controls, heard, falls, gives_up, comes_back, runs_out, with_known, in_service, step}
 use Rattle.set_model.specs.Frame.{LeavesAlone}
-use Rattle.set_model.proofs.Events.{Untouched, acknowledged, sent_given_up, waiting_given_up, moved_to, moved_aside, appended_in, appended_out, untouched_self}
+use Rattle.set_model.proofs.Events.{Untouched, acknowledged, moved_to, moved_aside, appended_in, appended_out, untouched_self}
 use Rattle.set_model.proofs.Rows.{new_row, moved_same, moved_more}
 use Rattle.set_model.proofs.Framing.{leaves_alone}
 use Rattle.set_model.proofs.Lists.{get_set_same, get_set_other, same_at, within, length_set, target_up}
@@ -179,9 +179,8 @@ others l May = record {
   delivers = λ body s. follows_untouched l s _ refl (untouched_self l s.rows);
   queues = λ order s. follows_queued l order s;
   leaves = λ blind m link s d at. follows_left l blind m link s at;
-  acknowledges = λ count m link s d at few. follows_set l m (acknowledged_link count link) s _ d refl ((acknowledged m count s.rows).others l d);
-  gives_up_sent = λ cause m link s d at. follows_untouched l s _ refl ((sent_given_up m cause s.rows).others l d);
-  gives_up_waiting = λ cause m link s d at. follows_untouched l s _ refl ((waiting_given_up m cause s.rows).others l d);
+  acknowledges = λ count m link s d at few g. follows_set l m (acknowledged_link count link) s _ d refl (g.others l d);
+  gives_up = λ sent cause m link s d at g. follows_untouched l s _ refl (g.others l d);
   moves_off = λ m link s d at. follows_off l m link s d at;
   declares = λ may home alternative s up can. follows_new l _ (Waiting alternative) s (declared home alternative s) refl refl refl;
   releases = λ code s d. follows_released l code s;

@@ -7,7 +7,7 @@ use Rattle.set_model.specs.Control.{Choice, first}
 use Rattle.set_model.specs.Sound.{is_unfinished}
 use Rattle.set_model.specs.Step.{rows_sent}
 use Rattle.set_model.proofs.Places.{itself, apart_back, unacked_not_waiting, on_not_parked, waiting_on, unacked_on, held_on, on_other, not_on_waiting, not_on_unacked, not_on_held}
-use Rattle.set_model.proofs.Rows.{InPlace, turned_there, changed_there, turned_same, turned_left, moved_length, moved_fit, moved_numbered, moved_gone, moved_same, moved_joined, filter_moved, filter_comm, filter_within, body_moved, total_is, new_row, same_numbers}
+use Rattle.set_model.proofs.Rows.{InPlace, turned_there, turned_same, turned_left, moved_length, moved_fit, moved_numbered, moved_gone, moved_same, moved_joined, filter_moved, filter_comm, filter_within, body_moved, total_is, new_row, same_numbers}
 use Rattle.set_model.proofs.Order.{before_filter, before_never, before_none, before_within, first_sent, on_in_order}
 
 -- Rows that got their fates have the same numbers and octets.
@@ -116,8 +116,8 @@ sent_by _ n rows = (acknowledged n 0 rows).in_place
 
 -- MESSAGES THAT ARE GIVEN UP.
 pub given_up : (l : ℕ) (sent : Bool) (cause : DiscardCause) (rows : List Row) → ChangesOn l rows (changed (cond sent (is_unacked l) (is_waiting l)) (Discarded cause) rows)
-given_up l true cause rows = ends_on l (is_unacked l) (Discarded cause) rows _ (changed_there (is_unacked l) (Discarded cause) rows) (λ f e. grind arith) refl
-given_up l false cause rows = ends_on l (is_waiting l) (Discarded cause) rows _ (changed_there (is_waiting l) (Discarded cause) rows) (λ f e. grind arith) refl
+given_up l true cause rows = ends_on l (is_unacked l) (Discarded cause) rows _ (turned_there (is_unacked l) (Discarded cause) _ rows) (λ f e. grind arith) refl
+given_up l false cause rows = ends_on l (is_waiting l) (Discarded cause) rows _ (turned_there (is_waiting l) (Discarded cause) _ rows) (λ f e. grind arith) refl
 
 -- A LINK THAT IS LEFT BY ITS MESSAGES.
 pub record Left (l : ℕ) (to : Fate) (rows new : List Row) : Type 0 where

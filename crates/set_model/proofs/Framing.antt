@@ -10,10 +10,10 @@ use Rattle.set_model.specs.Step.{SignalUnit, Event, step, brought, rows_sent, ta
 use Rattle.set_model.specs.Changeover.{Order, fate_on}
 use Rattle.set_model.specs.Control.{Choice}
 use Rattle.set_model.specs.Frame.{BringsAbout, Concerns, LeavesAlone, MovesAsItsControl, window_after}
-use Rattle.set_model.specs.Rows.{DiscardCause, Fate, Waiting, Unacked, IsInOrder, Row, appended, fated, held, is_held, is_on, is_unacked, is_waiting, moved, numbers, standing, unack, wait}
+use Rattle.set_model.specs.Rows.{Fate, Waiting, Unacked, IsInOrder, Row, appended, fated, held, is_held, is_on, is_unacked, is_waiting, moved, numbers, standing, unack, wait}
 use Rattle.set_model.specs.Sound.{IsSound}
 use Rattle.set_model.specs.State.{Up, LinkState, State, is_up, link_is_up, target, window_of}
-use Rattle.set_model.proofs.Events.{ChangesOn, Unparked, Untouched, untouched_self, sent, sent_by, acknowledged, unparked, appended_out, numbers_joined}
+use Rattle.set_model.proofs.Events.{ChangesOn, Unparked, Untouched, untouched_self, sent, acknowledged, appended_out, numbers_joined}
 use Rattle.set_model.proofs.Rows.{fated_none, new_row, moved_same, moved_more}
 use Rattle.set_model.proofs.Lists.{get_set_same, get_set_other, within, target_off}
 use Rattle.set_model.proofs.Places.{apart, apart_back, on_other, not_on_waiting, back_not_on, home_back, code_back}

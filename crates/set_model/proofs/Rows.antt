@@ -6,6 +6,7 @@ pub use Rattle.std.proofs.lemmas.List.{nil_from_length as no_rows}
 use Rattle.std.proofs.lemmas.List.Elements.{filter-append}
 use Rattle.std.proofs.lemmas.List.Filters.{length-filter_both}
 use Rattle.std.proofs.lemmas.Bool.Decides.{nat_tests}
+use Rattle.std.proofs.Math.ListN.{drop_of_length-le}
 use Rattle.set_model.proofs.Lists.{at_map, present}
 
 -- One filter after another.
@@ -132,18 +133,14 @@ numbered_appended rows body fate numbered number = grind (arith, nat_tests, filt
 pub same_numbers : (rows new : List Row) → length new ≡ length rows → ((number : ℕ) → length (with_number number new) ≡ length (with_number number rows)) → IsNumbered rows → IsNumbered new
 same_numbers rows new long each numbered number = each number ∙ numbered number ∙ ap (λ (n : ℕ). cond (nat_lt number n) 1 0) (sym long)
 
--- Rows that get another fate in their places: the first n where a test tells, or all.
--- What is kept where a row stays, and where one turns, is kept by both changes.
+-- Rows that get another fate in their places: the first n where a test tells. All of them are as many as there are rows.
+-- What is kept where a row stays, and where one turns, is kept by the change.
 module _ (test : Fate → Bool) (fate : Fate) (P : List Row → List Row → Type 0) (none : P [] []) (stays : (x : Row) (xs ys : List Row) → P xs ys → P (x ∷ xs) (x ∷ ys)) (turns : (x : Row) (xs ys : List Row) → test x.fate ≡ true → P xs ys → P (x ∷ xs) (with_fate fate x ∷ ys)) where
   pub where_turned : (n : ℕ) (rows : List Row) → P rows (turned test fate n rows)
   where_turned zero [] = none
   where_turned zero (x ∷ rows) = stays x rows rows (where_turned zero rows)
   where_turned (suc n) [] = none
   where_turned (suc n) (x ∷ rows) = grind (arith, where_turned n rows, where_turned (suc n) rows)
-
-  pub where_changed : (rows : List Row) → P rows (changed test fate rows)
-  where_changed [] = none
-  where_changed (x ∷ rows) = grind (arith, where_changed rows)
 
 -- WHAT SUCH A CHANGE KEEPS.
 pub record InPlace (test : Fate → Bool) (fate : Fate) (xs ys : List Row) : Type 0 where
@@ -160,20 +157,12 @@ pub record InPlace (test : Fate → Bool) (fate : Fate) (xs ys : List Row) : Typ
   pub none : (p : Fate → Bool) → ((f : Fate) → test f ≡ true → p fate ≡ true → p f ≡ true) → standing p xs ≡ [] → standing p ys ≡ []
   pub before : (p q : Fate → Bool) → ((f : Fate) → test f ≡ true → p fate ≡ true → p f ≡ true) → ((f : Fate) → test f ≡ true → q fate ≡ true → q f ≡ true) → AreBefore p q xs → AreBefore p q ys
 
-module _ (test : Fate → Bool) (fate : Fate) where
-  pub turned_there : (n : ℕ) (rows : List Row) → InPlace test fate rows (turned test fate n rows)
-  turned_there n rows = where_turned test fate (InPlace test fate) (grind arith) (λ x xs ys p. grind arith) (λ x xs ys h p. grind arith) n rows
+pub turned_there : (test : Fate → Bool) (fate : Fate) (n : ℕ) (rows : List Row) → InPlace test fate rows (turned test fate n rows)
+turned_there test fate n rows = where_turned test fate (InPlace test fate) (grind arith) (λ x xs ys p. grind arith) (λ x xs ys h p. grind arith) n rows
 
-  pub changed_there : (rows : List Row) → InPlace test fate rows (changed test fate rows)
-  changed_there rows = where_changed test fate (InPlace test fate) (grind arith) (λ x xs ys p. grind arith) (λ x xs ys h p. grind arith) rows
-
--- A PLACE where none turns and none comes.
-module _ (test other : Fate → Bool) (fate : Fate) (o : other fate ≡ false) (w : (f : Fate) → test f ≡ true → other f ≡ false) where
-  pub turned_same : (n : ℕ) (rows : List Row) → standing other (turned test fate n rows) ≡ standing other rows
-  turned_same n rows = (turned_there test fate n rows).same other o w
-
-  pub changed_same : (rows : List Row) → standing other (changed test fate rows) ≡ standing other rows
-  changed_same rows = (changed_there test fate rows).same other o w
+-- A place where none turns and none comes.
+pub turned_same : (test other : Fate → Bool) (fate : Fate) → other fate ≡ false → ((f : Fate) → test f ≡ true → other f ≡ false) → (n : ℕ) (rows : List Row) → standing other (turned test fate n rows) ≡ standing other rows
+turned_same test other fate o w n rows = (turned_there test fate n rows).same other o w
 
 -- those that turned, or changed, left their place
 pub turned_left : (test : Fate → Bool) (fate : Fate) → test fate ≡ false → (n : ℕ) (rows : List Row) → standing test (turned test fate n rows) ≡ drop n (standing test rows)
@@ -182,8 +171,7 @@ turned_left test fate o (suc n) [] = refl
 turned_left test fate o (suc n) (x ∷ rows) = grind (arith, turned_left test fate o n rows, turned_left test fate o (suc n) rows)
 
 pub changed_left : (test : Fate → Bool) (fate : Fate) → test fate ≡ false → (rows : List Row) → standing test (changed test fate rows) ≡ []
-changed_left test fate o [] = refl
-changed_left test fate o (x ∷ rows) = grind (arith, changed_left test fate o rows)
+changed_left test fate o rows = turned_left test fate o (length rows) rows ∙ drop_of_length-le (standing test rows) (fewer_filter (λ row. test row.fate) rows)
 
 -- What is found under a number, before and after a change.
 pub at_most_one : (number : ℕ) (rows : List Row) → IsNumbered rows → length (with_number number rows) ≤ 1

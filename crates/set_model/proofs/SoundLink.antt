@@ -14,7 +14,7 @@ use Rattle.set_model.specs.State.{Asked, is_up, Place, Changing, Nowhere, On, Do
 use Rattle.set_model.specs.Step.{SignalUnit, choice_in, controlled, is_msu, part_in, next, rows_sent, offer_refusal, offered}
 use Rattle.set_model.proofs.Order.{backs_of, stood, before_append, before_never, neither, gone_none, coded_at, ascends_appended}
 use Rattle.set_model.proofs.Events.{Untouched, sent, acknowledged, ChangesOn, sent_by, untouched, appended_out}
-use Rattle.set_model.proofs.Rows.{each_append, each_filter, each_so, changed_there, others_stay, new_row, numbered_appended}
+use Rattle.set_model.proofs.Rows.{each_append, each_filter, each_so, turned_there, others_stay, new_row, numbered_appended}
 use Rattle.set_model.proofs.Lists.{at_set, each_set, get_set_same, get_set_other, set_same, within, set_at, target_up, none_up}
 use Rattle.set_model.proofs.Places.{false_true}
 use Rattle.set_model.proofs.Walk.{IsAt}
@@ -89,7 +89,7 @@ acknowledges count n link s at t =
 pub gives_up : (test : Fate → Bool) (cause : DiscardCause) (n : ℕ) (link : LinkState) (s : State) → ChangesOn n s.rows (changed test (Discarded cause) s.rows) → IsAt n link Down s → IsSound s → IsSound (record s { rows = changed test (Discarded cause) s.rows })
 gives_up test cause n link s g at t =
     let l = t.links n link at.there in
-    let fewer = (changed_there test (Discarded cause) s.rows).fewer (is_unacked n) refl in
+    let fewer = (turned_there test (Discarded cause) (length s.rows) s.rows).fewer (is_unacked n) refl in
     let sound = changes n link link s (changed test (Discarded cause) s.rows) t at.there refl (ap has_phase_settled at.phase_is) g (omega (arith, l.window, fewer)) l.counted l.method (false_true (has_phase_up link.phase) (ap has_phase_up at.phase_is)) in
     subst (λ (links : List LinkState). IsSound (record s { links = links; rows = changed test (Discarded cause) s.rows })) (set_same s.links n link at.there) sound
 

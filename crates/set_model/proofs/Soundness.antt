@@ -7,7 +7,7 @@ use Rattle.set_route.specs.Routing.{new_stream, stream_numbers, settled, runs_on
 use Rattle.set_route.specs.declared.stream.Stream.{Stream}
 use Rattle.set_model.specs.Step.{Event, Gains, Offer, step, stepped, offered, rows_sent}
 use Rattle.set_model.specs.Laws.{IsNew, KeepsMessages, RunsStraight}
-use Rattle.set_model.specs.Rows.{numbers, stream_of, Fate, Unacked, Waiting, IsNumbered, Row, all_with, appended, changed, fated, is_back, is_back_to, is_on, is_parked, is_waiting, moved, standing, stands_back, turned, with_fate}
+use Rattle.set_model.specs.Rows.{numbers, stream_of, Fate, Unacked, Waiting, IsNumbered, Row, all_with, appended, fated, is_back, is_back_to, is_on, is_parked, is_waiting, moved, standing, stands_back, turned, with_fate}
 use Rattle.set_model.specs.Sound.{AreFew, IsAsked, IsManaged, IsPlaced, IsSettings, IsSound, AreAbove, AreTogether, BeginsNone, IsAscending, IsBackOf, IsSoundStream, astray, is_astray, is_live, is_unfinished, live, stands_at}
 use Rattle.set_model.specs.State.{Asked, Free, Nowhere, LinkState, Settings, State, new_link, opened_with, Place, Changing, On, fate_at, target}
 use Rattle.set_route.proofs.Places.{new_sound}
@@ -25,7 +25,7 @@ use Rattle.set_model.specs.Changeover.{Order, fate_on, left_by, queued, released
 use Rattle.set_model.specs.Control.{Choice}
 use Rattle.set_route.proofs.Alone.{alone}
 use Rattle.set_route.proofs.Quiet.{left_quiet, back_quiet, never_changing}
-use Rattle.set_model.proofs.Rows.{filter_within, none_within, new_row, where_turned, where_changed, moved_nothing, no_rows}
+use Rattle.set_model.proofs.Rows.{filter_within, none_within, new_row, where_turned, moved_nothing, no_rows}
 use Rattle.set_model.proofs.Order.{ascends_appended, none_standing}
 use Rattle.set_model.proofs.Places.{false_true, itself, code_back, home_back}
 
@@ -102,9 +102,6 @@ module _ (stream : ℕ) (place : Place) (test : Fate → Bool) (fate : Fate) (fi
 
   pub stream_turned : (used : Bool) (n : ℕ) (rows : List Row) → IsSoundStream stream place used rows → IsSoundStream stream place used (turned test fate n rows)
   stream_turned used n rows t = let l = where_turned test fate (Less stream place) (grind arith) stays turns n rows in grind arith
-
-  pub stream_changed : (used : Bool) (rows : List Row) → IsSoundStream stream place used rows → IsSoundStream stream place used (changed test fate rows)
-  stream_changed used rows t = let l = where_changed test fate (Less stream place) (grind arith) stays turns rows in grind arith
 
 -- A NEW MESSAGE has a number above all others.
 pub stream_appended : (stream : ℕ) (place : Place) (used used' : Bool) (rows : List Row) (body : List ℕ) (fate : Fate) → IsNumbered rows → IsSoundStream stream place used rows → (is_live stream (new_row (length rows) body fate) ≡ true → (stands_at place fate ≡ true) × (used' ≡ true)) → (used' ≡ false → used ≡ false) → IsSoundStream stream place used' (appended rows body fate)
@@ -210,7 +207,7 @@ step_straight s event asked begins t r =
     let rests : (a b : State) → IsSound a × RunsStraight a → StaysStraight a b → IsSound b × RunsStraight b = λ a b q then. then q.0 q.1.none_open q.1.together in
     let then_straight : (a b c : State) → StaysStraight a b → StaysStraight b c → StaysStraight a c = λ a b c p q sound none r. rests b c (p sound none r) q in
     let begins_none : (u : State) → (BeginsNone event → ⊥) → IsSound u × RunsStraight u = λ u may. absurd (may begins) in
-    (step_walks s StaysStraight (λ u. IsSound u × RunsStraight u) event (search (sounds, leaves_straight, releases_straight, queues_straight, stream_turned, stream_changed, fits_finished, moves_off_straight, offers_straight, sends_straight, rises_straight, then_straight, rests, begins_none, stood))).1
+    (step_walks s StaysStraight (λ u. IsSound u × RunsStraight u) event (search (sounds, leaves_straight, releases_straight, queues_straight, stream_turned, fits_finished, moves_off_straight, offers_straight, sends_straight, rises_straight, then_straight, rests, begins_none, stood))).1
 
 -- WHAT EVERY STEP DOES. The first of it tells where the rest holds: of each step that is named.
 pub step_laws : (s : State) (event : Event) → (step s event ≡ stepped s event) × (IsAsked event → IsSound s → IsSound (step s event).state) × (IsManaged s.settings → Gains s event (step s event).answer (step s event).state) × (IsNumbered s.rows → KeepsMessages s.rows (step s event).state.rows) × ((n : ℕ) → (Concerns event n s → ⊥) → LeavesAlone n s (step s event).state)

@@ -5,9 +5,9 @@ use Rattle.std.proofs.lemmas.List.Filters.{length-filter_both}
 use Rattle.std.proofs.lemmas.List.Folds.{find-append}
 use Rattle.std.proofs.lemmas.Bool.Decides.{nat_tests}
 use Rattle.set_model.specs.Laws.{MessagesStay, MovesTheLinksRows, KeepsMessages}
-use Rattle.set_model.specs.Rows.{Fate, IsNumbered, Row, DiscardCause, appended, counts_of, service_indicator, total_of, was_acked, Discarded, Acked, Unacked, is_unacked, is_waiting, moved, standing, turned, unack}
-use Rattle.set_model.proofs.Rows.{turned_there, changed_there, moved_length, moved_numbered, is_found, numbered_appended, same_numbers, no_rows, body_moved, place_moved, row_is_first, total_is, filter_comm, fewer_filter, fated_none, turned_left}
-use Rattle.set_model.proofs.Events.{ChangesOn, numbers_fated, Kept, moved_kept, sent_by, acknowledged, appended_out}
+use Rattle.set_model.specs.Rows.{Fate, IsNumbered, Row, appended, counts_of, service_indicator, total_of, was_acked, Acked, Unacked, is_unacked, is_waiting, moved, standing, turned, unack}
+use Rattle.set_model.proofs.Rows.{turned_there, moved_length, moved_numbered, is_found, numbered_appended, same_numbers, no_rows, body_moved, place_moved, row_is_first, total_is, filter_comm, fewer_filter, fated_none, turned_left}
+use Rattle.set_model.proofs.Events.{ChangesOn, numbers_fated, Kept, moved_kept, acknowledged, appended_out}
 use Rattle.std.proofs.lemmas.List.Elements.{filter-append}
 use Rattle.l3_orders.specs.Grammar.{text}
 use Rattle.set_model.specs.Changeover.{Order, fate_on}
@@ -23,8 +23,7 @@ use Rattle.set_model.proofs.Lists.{each_set}
 pub messages_stay : (test : Fate → Bool) (to : Fate) (fate : Row → Fate) (rows : List Row) → IsNumbered rows → MessagesStay test to fate rows
 messages_stay test to fate rows numbered =
     let turned = turned_there test to in
-    let changed = changed_there test to rows in
-    grind (arith, nat_tests, turned, changed, same_numbers, moved_length, body_moved, moved_numbered, is_found, find-append, row_is_first, no_rows, numbered_appended)
+    grind (arith, nat_tests, turned, same_numbers, moved_length, body_moved, moved_numbered, is_found, find-append, row_is_first, no_rows, numbered_appended)
 
 pub moves_rows : (link : ℕ) (fate : Row → Fate) (rows : List Row) → IsNumbered rows → MovesTheLinksRows link fate rows
 moves_rows link fate rows numbered = grind (arith, length-filter_both, drop_at, numbers_fated, place_moved)
@@ -126,8 +125,7 @@ step_counts s event =
     let at_most : (a b more : ℕ) → a ≤ b → a ≤ b + more = λ a b more few. omega arith in
     let sum_at_most : (d c a b more : ℕ) → d ≤ c → a ≤ b + more → d + a ≤ c + b + more = λ d c a b more e few. omega arith in
     let one_low : (a more : ℕ) (b : Bool) → 1 ≤ more → a + one_if b ≤ a + more = λ a more b some. grind arith in
-    let acked = λ (m n count : ℕ) (rows : List Row). (turned_there (is_unacked n) (Acked n) count rows).fewer (is_unacked m) in
-    let given_up = λ (m : ℕ) (test : Fate → Bool) (cause : DiscardCause) (rows : List Row). (changed_there test (Discarded cause) rows).fewer (is_unacked m) in
+    let fewer = λ (m count : ℕ) (test : Fate → Bool) (fate : Fate) (rows : List Row). (turned_there test fate count rows).fewer (is_unacked m) in
     step_walks s (GrowBy 0) (GrowBy 1 s) event (search (le_refl, zero-le, grow_then, grow_rows, grow_set, acked_at_most, few_moved, appended_out, not_sent, offered_out, few_sent, acked_few, arith, at_most, sum_at_most, one_low))
 
 pub step_at_most : (s : State) (event : Event) (k : ℕ → WholeNumbers) → AreAtMost k s → AreAtMost (λ n. one_more (k n)) (step s event).state

@@ -1,7 +1,7 @@
 -- LAWS of the rows and of the step: of every state and every event.
-use Rattle.std.specs.Prelude.{◌≡◌, ℕ, ◌-◌, ◌<◌, ◌≤◌, Bool, not, List, [], ◌++◌, length, map, drop, Option, Some, None, if◌then◌else◌, option_map}
+use Rattle.std.specs.Prelude.{◌≡◌, ℕ, ◌-◌, ◌<◌, ◌≤◌, Bool, List, [], ◌++◌, length, drop, Option, Some, None, if◌then◌else◌, option_map}
 use Rattle.set_route.specs.Routing.{NoneOpen}
-use Rattle.set_model.specs.Rows.{Fate, Acked, Row, standing, is_unacked, is_on, unack, wait, held, on, parked, numbers, with_fate, turned, changed, moved, appended, row_of, place, body_at, IsNumbered}
+use Rattle.set_model.specs.Rows.{Fate, Acked, Row, all_with, is_unacked, is_on, unack, wait, held, on, parked, numbers, turned, changed, moved, appended, row_of, place, body_at, IsNumbered}
 use Rattle.set_model.specs.State.{LinkState, State, target}
 use Rattle.set_model.specs.Changeover.{Upto, fate_on, reached_by, settled}
 use Rattle.set_model.specs.Sound.{IsSound, AreTogether, AreFew}
@@ -64,14 +64,10 @@ pub record IsEmptyLink (number : ℕ) (rows : List Row) : Type 0 where
 abbrev pub arrived : ℕ → ℕ → List Row → List Row
 arrived count number rows = turned (is_unacked number) (Acked number) count rows
 
--- the rows that aren't on the link stand first; then exactly those that were on it, for the target; both in their order
-abbrev pub moved_off : ℕ → ℕ → State → List Row
-moved_off count number s =
-    standing (λ f. not (is_on number f)) (arrived count number s.rows)
-    ++ map (with_fate (fate_on (target s.links))) (on number (arrived count number s.rows))
-
 pub record MovesTheRest (fsn number : ℕ) (link : LinkState) (s : State) : Type 0 where
-  pub rows_are : (settled (Upto fsn) number link s).rows ≡ moved_off (reached_by fsn number link s.rows) number s
+  -- the rows that aren't on the link stand first; then exactly those that were on it, for the target
+  pub rows_are : (settled (Upto fsn) number link s).rows
+      ≡ moved (is_on number) (all_with (fate_on (target s.links))) (arrived (reached_by fsn number link s.rows) number s.rows)
   -- of what was on the link, just the acknowledged ones aren't moved
   pub sent_rest : unack number (arrived (reached_by fsn number link s.rows) number s.rows)
       ≡ drop (reached_by fsn number link s.rows) (unack number s.rows)

@@ -112,7 +112,7 @@ turned test fate (suc n) (row ∷ rows) =
 
 -- all of them, in their places
 abbrev pub changed : (Fate → Bool) → Fate → List Row → List Row
-changed test fate rows = map (λ row. if test row.fate then with_fate fate row else row) rows
+changed test fate rows = turned test fate (length rows) rows
 
 -- the fate that each row has then, told by the row
 abbrev pub fated : (Row → Fate) → Row → Row

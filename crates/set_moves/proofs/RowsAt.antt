@@ -1,13 +1,14 @@
 -- WHAT STANDS IN EACH PLACE after rows came to stand elsewhere, queue after queue, and where each number stands then.
-use Rattle.std.proofs.Common.{arith, refl, ◌≡◌, ◌∙◌, ap, sym, ◌≤◌, ◌<◌, [], ◌∷◌, length, ℕ, zero, suc, Bool, true, false, List, ◌++◌, Option, Some, None, take, drop, cond, not, slice_get, filter, map, option_map}
+use Rattle.std.proofs.Common.{arith, refl, ◌≡◌, ◌∙◌, ap, sym, subst, ◌≤◌, ◌<◌, [], ◌∷◌, length, ℕ, zero, suc, Bool, true, false, List, ◌++◌, Option, Some, None, take, drop, cond, not, slice_get, filter, map, option_map}
 use Rattle.std.specs.List.{drop-map}
 use Rattle.std.proofs.lemmas.Bool.Decides.{nat_tests}
-use Rattle.std.proofs.lemmas.List.{map-append, take-map, append-nil}
+use Rattle.std.proofs.lemmas.List.{map-append, take-map, append-nil, length-map, take_all}
+use Rattle.std.proofs.Math.ListN.{drop_of_length-le}
 use Rattle.set_queues.specs.Buffers.{is_standing, same_fate}
 use Rattle.set_model.specs.Rows.{Fate, Waiting, Unacked, Acked, Held, Parked, Back, Discarded, Row, standing, is_waiting, is_unacked, is_held, is_parked, is_back, numbers, turned, changed, moved, all_with, appended, IsNumbered, AreBefore, row_of, place, with_fate}
 use Rattle.set_model.specs.Laws.{SameMessages}
 use Rattle.set_model.proofs.Events.{numbers_joined, appended_in, appended_out}
-use Rattle.set_model.proofs.Rows.{turned_same, turned_left, changed_same, changed_left, moved_same, moved_gone, moved_joined, fewer_filter, filter_within, filter_apart, with_number, at_most_one, row_is_first, place_moved, no_rows}
+use Rattle.set_model.proofs.Rows.{turned_same, turned_left, moved_same, moved_gone, moved_joined, fewer_filter, filter_within, filter_apart, with_number, at_most_one, row_is_first, place_moved, no_rows}
 use Rattle.set_model.proofs.Staying.{messages_stay}
 use Rattle.set_moves.specs.Agreement.{Message, rows_at}
 use Rattle.std.proofs.lemmas.List.Elements.{filter_agree, filter-append}
@@ -31,11 +32,6 @@ module _ (test : Fate → Bool) (to : Fate) where
   goes_first n zero rows one = record { stays = λ e. refl; goes = λ e. absurd (omega (arith, e)) }
   goes_first n (suc k) [] one = record { stays = λ e. refl; goes = λ e. absurd (omega (arith, e)) }
   goes_first n (suc k) (x ∷ rows) one = let few = fewer_filter (λ (row : Row). test row.fate) (with_number n rows) in grind (arith, nat_tests, goes_first n k rows, goes_first n (suc k) rows, occurs-split n (suc k) (numbers (standing test rows)), occurs-split n k (numbers (standing test rows)), occurs_picked (λ (row : Row). test row.fate) n rows)
-
-  -- all of them, in their places
-  place_changed : (n : ℕ) (rows : List Row) → place n (changed test to rows) ≡ option_map (λ (row : Row). cond (test row.fate) to row.fate) (row_of n rows)
-  place_changed n [] = refl
-  place_changed n (x ∷ rows) = grind (arith, place_changed n rows)
 
   -- a place that is told by the row of the number alone
   told_first : (here : List Row) (count : ℕ) (o : Option Row) (before after : Option Fate) → length here ≤ 1 → count ≡ length (standing test here) → o ≡ slice_get here 0 → before ≡ option_map (λ (row : Row). row.fate) o → after ≡ option_map (λ (row : Row). cond (test row.fate) to row.fate) o
@@ -104,11 +100,10 @@ module _ (test : Fate → Bool) (to : Fate) (rows : List Row) (numbered : IsNumb
   }
 
   pub changed_shifts : is_standing to ≡ false → IsOfOne test → Shifts test to (numbers (standing test rows)) [] [] rows (changed test to rows)
-  changed_shifts final one = record {
-    places = λ f s. grind (arith, rows_as, standing_as test (is_there f), one f, changed_left, changed_same test (is_there f) to (final_none to f final s), elsewhere test f s, final_none);
-    messages = (messages_stay test to (all_with to) rows numbered).changed_stay;
-    goes = λ k. told test to k rows _ numbered (place_changed test to k rows);
-  }
+  changed_shifts final one =
+      let few : length (numbers (standing test rows)) ≤ length rows = grind (arith, length-map, fewer_filter) in
+      let all = subst (λ (gone : List ℕ). Shifts test to gone (drop (length rows) (numbers (standing test rows))) [] rows (changed test to rows)) (take_all (length rows) (numbers (standing test rows)) few) (turned_shifts (length rows) final one) in
+      subst (λ (kept : List ℕ). Shifts test to (numbers (standing test rows)) kept [] rows (changed test to rows)) (drop_of_length-le (numbers (standing test rows)) few) all
 
   -- to another place: all of one or more, behind those that stand there
   pub moved_shifts : is_standing to ≡ true → Shifts test to (numbers (standing test rows)) [] (numbers (rows_at to rows) ++ numbers (standing test rows)) rows (moved test (all_with to) rows)

@@ -24,7 +24,7 @@ use Rattle.set_route.specs.Routing.{Routing}
 use Rattle.set_model.specs.State.{LinkState, State}
 use Rattle.set_model.proofs.Lists.{at_set, length_set, within, present, get_set_same}
 use Rattle.set_moves.specs.Parts.{Reached, Upto, Unknown, Unanswered}
-use Rattle.set_model.proofs.Events.{acknowledged as acked_rows, sent_given_up, waiting_given_up}
+use Rattle.set_model.proofs.Events.{acknowledged as acked_rows, given_up}
 
 -- A message that comes to stand elsewhere keeps its label.
 labels_stay : (n : ℕ) (ns : List ℕ) (to : Fate) (ms : List Message) → option_map label_in (slice_get (restood ns to ms) n) ≡ option_map label_in (slice_get ms n)
@@ -235,10 +235,10 @@ pub record IsJudged (reached : Reached) (n : ℕ) (link : LinkState) (s : State)
 
 module _ (n : ℕ) (link : LinkState) (s : State) (there : slice_get s.links n ≡ Some link) (o : IsOrdered n s.rows) where
   sent_up : (cause : DiscardCause) → IsOrdered n (changed (is_unacked n) (Discarded cause) s.rows)
-  sent_up cause = let g = sent_given_up n cause s.rows in (g.order_kept o.0, g.last_kept o.1)
+  sent_up cause = let g = given_up n true cause s.rows in (g.order_kept o.0, g.last_kept o.1)
 
   both_up : (cause : DiscardCause) → IsOrdered n (changed (is_waiting n) (Discarded cause) (changed (is_unacked n) (Discarded cause) s.rows))
-  both_up cause = let g = waiting_given_up n cause (changed (is_unacked n) (Discarded cause) s.rows) in (g.order_kept (sent_up cause).0, g.last_kept (sent_up cause).1)
+  both_up cause = let g = given_up n false cause (changed (is_unacked n) (Discarded cause) s.rows) in (g.order_kept (sent_up cause).0, g.last_kept (sent_up cause).1)
 
   pub is_judged : (reached : Reached) → IsJudged reached n link s
   is_judged Unknown = record { ordered = sent_up Emergency; there = there }
