@@ -1,6 +1,6 @@
 -- A LINK SETTLES WITHOUT A NUMBER, in an emergency: what was sent on it and isn't acknowledged is discarded, and then it
 -- settles as by the number of the message last acknowledged.
-use Rattle.std.proofs.Common.{refl, arith, ◌≡◌, ◌∙◌, ap, sym, subst, ℕ, ◌==◌, ◌+◌, ◌-◌, ◌%◌, Bool, true, false, List, [], ◌∷◌, ◌++◌, drop, append_assoc, inl, inr}
+use Rattle.std.proofs.Common.{length, refl, arith, ◌≡◌, ◌∙◌, ap, sym, subst, ℕ, ◌==◌, ◌+◌, ◌-◌, ◌%◌, Bool, true, false, List, [], ◌∷◌, ◌++◌, drop, append_assoc, inl, inr}
 use Rattle.std.proofs.lemmas.Bool.{eqb-true}
 use Rattle.std.proofs.lemmas.Bool.Decides.{nat_tests}
 use Rattle.set_events.specs.declared.answer.Fate.TheVariants.{Discarded}

@@ -52,9 +52,9 @@ pub each_append : {X : Type 0} (P : X → Type 0) (xs ys : List X) → Each P xs
 each_append P [] ys a b = b
 each_append P (x ∷ xs) ys a b = (a.0, each_append P xs ys a.1 b)
 
-pub each_filter : (P : Row → Type 0) (p : Row → Bool) (rows : List Row) → Each P rows → Each P (filter p rows)
-each_filter P p [] e = tt
-each_filter P p (x ∷ rows) e = grind (arith, each_filter P p rows e.1)
+pub each_filter : (P Q : Row → Type 0) (p : Row → Bool) → ((x : Row) → p x ≡ true → P x → Q x) → (rows : List Row) → Each P rows → Each Q (filter p rows)
+each_filter P Q p so [] e = tt
+each_filter P Q p so (x ∷ rows) e = grind (arith, each_filter P Q p so rows e.1)
 
 pub fit_fated : (fate : Row → Fate) (xs : List Row) → AreFit xs → AreFit (map (fated fate) xs)
 fit_fated fate [] a = a
@@ -73,7 +73,7 @@ module _ (test : Fate → Bool) (fate : Row → Fate) where
   moved_numbered rows numbered number = grind (arith, filter_moved, moved_length, numbered)
 
   pub moved_fit : (rows : List Row) → AreFit rows → AreFit (moved test fate rows)
-  moved_fit rows a = search (each_append, each_filter, fit_fated)
+  moved_fit rows a = let fits = λ (p : Row → Bool). each_filter _ (λ row. length row.body ≤ 273) p (λ x e f. f) rows a in search (each_append, fits, fit_fated)
 
 -- WHAT THE FILTERS SEE OF A MOVE.
 module _ (test other : Fate → Bool) (fate : Row → Fate) (rows : List Row) where

@@ -12,7 +12,7 @@ use Rattle.set_model.specs.State.{Asked, Place, On, Changing, Down, Settled, Up,
 use Rattle.set_model.specs.Step.{risen_link, rises}
 use Rattle.set_route.proofs.Alone.{alone, codes_alone}
 use Rattle.set_route.proofs.Places.{raised_sound, settled_sound, left_sound, asked_sound, back_sound}
-use Rattle.set_model.proofs.Order.{ascends_filter, backs_of, before_none, coded_at, each_left, gone_none, none_standing, stood}
+use Rattle.set_model.proofs.Order.{ascends_filter, backs_of, before_none, coded_at, gone_none, none_standing, stood}
 use Rattle.set_model.proofs.Events.{left, unparked, untouched_self}
 use Rattle.set_model.proofs.Lists.{get_set_same, get_set_other, within, each_set, target_up, target_off, none_up}
 use Rattle.set_model.proofs.Rows.{each_filter, moved_off, moved_numbered, moved_fit, moved_same, moved_more, moved_nothing, fated_none}
@@ -27,7 +27,7 @@ moved_sound : (s : State) (links : List LinkState) (routing : Routing) (test : F
     → ((k : ℕ) → k < 16 → Follows links test (place_of k s.routing) (place_of k routing)) → ((code : ℕ) → code_of code routing ≡ Asked → link_is_up (slice_get links (home_of code)) ≡ true) → ((k : ℕ) (other : LinkState) → slice_get links k ≡ Some other → has_phase_up other.phase ≡ true → parked (moved test fate s.rows) ≡ [])
     → ((k : ℕ) (other : LinkState) → slice_get links k ≡ Some other → IsSoundLink s.settings.method k other (moved test fate s.rows)) → IsSound (record s { links = links; routing = routing; rows = moved test fate s.rows })
 moved_sound s links routing test fate t long sound same gone follows homes aside each =
-    let kept = each_left test (λ row. IsBackOf s.routing row row.fate) (λ row. IsBackOf routing row row.fate) (λ x. stood test s.routing routing (λ k few. (follows k few).stays) x x.fate) (back s.rows) (each_filter (λ row. IsBackOf s.routing row row.fate) (λ row. stands_back row.fate) s.rows t.backs) in
+    let kept = each_filter (λ row. IsBackOf s.routing row row.fate) (λ row. IsBackOf routing row row.fate) (λ row. not (test row.fate)) (λ x. stood test s.routing routing (λ k few. (follows k few).stays) x x.fate) (back s.rows) (each_filter (λ row. IsBackOf s.routing row row.fate) (λ row. IsBackOf s.routing row row.fate) (λ row. stands_back row.fate) (λ x e b. b) s.rows t.backs) in
     let backs : AreBack routing (moved test fate s.rows) = backs_of routing (moved test fate s.rows) (rw (moved_off test stands_back fate s.rows gone) kept) in
     let order : IsAscending (numbers (back (moved test fate s.rows))) = rw (moved_off test stands_back fate s.rows gone) (ascends_filter (λ (row : Row). not (test row.fate)) (back s.rows) t.back_order) in
     let placed = λ (k : ℕ) (few : k < 16). (follows k few).placed in

@@ -60,7 +60,7 @@ changes n link link' s new t there same unsettled g few counted method range =
     let run = up_before s.links n link link' there (λ e. sym up ∙ e) t.all_run in
     let stays = up_after s.links n link link' there (λ e. up ∙ e) in
     let links = links_set s.settings.method s.links n link' s.rows new one g.others t.links in
-    let backs = backs_of s.routing new (subst (AreBack s.routing) (sym g.back_same) (each_filter (λ row. IsBackOf s.routing row row.fate) (λ row. stands_back row.fate) s.rows t.backs)) in
+    let backs = backs_of s.routing new (subst (AreBack s.routing) (sym g.back_same) (each_filter (λ row. IsBackOf s.routing row row.fate) (λ row. IsBackOf s.routing row row.fate) (λ row. stands_back row.fate) (λ x e b. b) s.rows t.backs)) in
     search (length-set, g.kept.numbered, g.kept.fit, placed_set, t.placed, t.homes_up, backs, g.back_same)
 
 -- the inbox is no part of it

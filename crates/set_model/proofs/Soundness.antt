@@ -141,18 +141,17 @@ module _ (stream : ℕ) (place place' : Place) (test : Fate → Bool) (to : Fate
       record { in_order = rw same t.in_order; together = grind (arith, filter-append, g); unused = grind (arith, no_rows, length-map, as_many, t.unused) }
 
 -- NOTHING STANDS BACK, so leaving a link turns nothing back.
-module _ (s : State) (t : IsSound s) (none : NoneOpen s.routing) where
-  none_for : (test : Fate → Bool) → ((f : Fate) → test f ≡ true → stands_back f ≡ true) → standing test s.rows ≡ []
-  none_for test w = none_within test stands_back w s.rows (none_standing (λ row. IsBackOf s.routing row row.fate) stands_back (λ x e b. grind (arith, never_changing)) s.rows t.backs)
-
-still : (s t : State) → t.rows ≡ s.rows → t.routing ≡ s.routing → RunsStraight s → RunsStraight t
-still s t rows routing r = record { none_open = rw routing r.none_open; together = λ k low. rw (rows, routing) (r.together k low) }
+none_turns : (test : Fate → Bool) (fate : Row → Fate) (s t : State) → ((f : Fate) → test f ≡ true → stands_back f ≡ true) → t.rows ≡ moved test fate s.rows → t.routing ≡ s.routing → IsSound s → RunsStraight s → RunsStraight t
+none_turns test fate s t w rows routing sound r =
+    let none = none_within test stands_back w s.rows (none_standing (λ row. IsBackOf s.routing row row.fate) stands_back (λ x e b. grind (arith, never_changing, r.none_open)) s.rows sound.backs) in
+    let same = rows ∙ moved_nothing test fate s.rows none in
+    record { none_open = rw routing r.none_open; together = λ k low. rw (same, routing) (r.together k low) }
 
 leaves_straight : (blind : Bool) (n : ℕ) (link : LinkState) (s : State) → IsSound s → RunsStraight s → RunsStraight (left_by blind n link s)
-leaves_straight blind n link s t r = still s _ (moved_nothing (is_back_to n) _ s.rows (none_for s t r.none_open (is_back_to n) (home_back n))) (left_quiet n s.routing t.routing r.none_open) r
+leaves_straight blind n link s t r = none_turns (is_back_to n) _ s _ (home_back n) refl (left_quiet n s.routing t.routing r.none_open) t r
 
 releases_straight : (code : ℕ) (s : State) → IsSound s → RunsStraight s → RunsStraight (released code s)
-releases_straight code s t r = still s _ (moved_nothing (is_back code) _ s.rows (none_for s t r.none_open (is_back code) (code_back code))) (back_quiet code s.routing t.routing r.none_open) r
+releases_straight code s t r = none_turns (is_back code) _ s _ (code_back code) refl (back_quiet code s.routing t.routing r.none_open) t r
 
 -- AN ORDER is of no stream.
 queues_straight : (order : Order) (s : State) → IsSound s → AreTogether s → AreTogether (queued order s)
