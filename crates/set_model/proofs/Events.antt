@@ -4,10 +4,11 @@ use Rattle.std.proofs.lemmas.List.{append-nil, map-append}
 use Rattle.std.proofs.lemmas.List.Elements.{filter-append}
 use Rattle.set_model.specs.Rows.{DiscardCause, Fate, Acked, Discarded, Parked, Unacked, Waiting, AreFit, IsHeldLast, IsInOrder, IsNumbered, Row, all_with, appended, back, body_at, changed, counts_of, fated, held, is_held, is_on, is_parked, is_unacked, is_waiting, moved, numbers, on, parked, standing, stands_back, total_of, turned, unack, wait, was_acked, with_fate}
 use Rattle.set_model.specs.Control.{Choice, first}
+use Rattle.set_model.specs.Laws.{IsEmptyLink}
 use Rattle.set_model.specs.Sound.{is_unfinished}
 use Rattle.set_model.specs.Step.{rows_sent}
-use Rattle.set_model.proofs.Places.{itself, apart_back, unacked_not_waiting, on_not_parked, waiting_on, unacked_on, held_on, on_other, not_on_waiting, not_on_unacked, not_on_held}
-use Rattle.set_model.proofs.Rows.{InPlace, turned_there, turned_same, turned_left, moved_length, moved_fit, moved_numbered, moved_gone, moved_same, moved_joined, filter_moved, filter_comm, filter_within, body_moved, total_is, new_row, same_numbers}
+use Rattle.set_model.proofs.Places.{itself, apart_back, unacked_not_waiting, on_not_parked, on_other, not_on_waiting, not_on_unacked, not_on_held}
+use Rattle.set_model.proofs.Rows.{InPlace, turned_there, turned_same, turned_left, moved_length, moved_fit, moved_numbered, moved_gone, moved_same, moved_joined, filter_moved, filter_comm, filter_within, none_within, body_moved, total_is, new_row, same_numbers}
 use Rattle.set_model.proofs.Order.{before_filter, before_never, before_none, before_within, first_sent, on_in_order}
 
 -- Rows that got their fates have the same numbers and octets.
@@ -45,8 +46,8 @@ pub record Untouched (n : ℕ) (rows new : List Row) : Type 0 where
 -- where what is on it is the same
 pub untouched : (n : ℕ) (rows new : List Row) → on n new ≡ on n rows → Untouched n rows new
 untouched n rows new same =
-    let order = before_within (is_unacked n) (is_waiting n) (is_on n) (unacked_on n) (waiting_on n) new in
-    let last = before_within (λ f. is_unacked n f || is_waiting n f) (is_held n) (is_on n) (λ f e. grind arith) (held_on n) new in
+    let order = before_within (is_unacked n) (is_waiting n) (is_on n) (λ f e. grind arith) (λ f e. grind arith) new in
+    let last = before_within (λ f. is_unacked n f || is_waiting n f) (is_held n) (is_on n) (λ f e. grind arith) (λ f e. grind arith) new in
     grind (arith, filter_within, order, last, before_filter)
 
 pub untouched_self : (n : ℕ) (rows : List Row) → Untouched n rows rows
@@ -120,18 +121,24 @@ given_up l true cause rows = ends_on l (is_unacked l) (Discarded cause) rows _ (
 given_up l false cause rows = ends_on l (is_waiting l) (Discarded cause) rows _ (turned_there (is_waiting l) (Discarded cause) _ rows) (λ f e. grind arith) refl
 
 -- A LINK THAT IS LEFT BY ITS MESSAGES.
+-- none of the three kinds is on it where nothing is
+pub empty_link : (l : ℕ) (rows : List Row) → on l rows ≡ [] → IsEmptyLink l rows
+empty_link l rows none = let kind = λ (test : Fate → Bool) (w : (f : Fate) → test f ≡ true → is_on l f ≡ true). none_within test (is_on l) w rows none in record { unack_none = kind (is_unacked l) (λ f e. grind arith); wait_none = kind (is_waiting l) (λ f e. grind arith); held_none = kind (is_held l) (λ f e. grind arith) }
+
 pub record Left (l : ℕ) (to : Fate) (rows new : List Row) : Type 0 where
   pub kept : Kept rows new
-  pub unack_none : unack l new ≡ []
-  pub wait_none : wait l new ≡ []
-  pub held_none : held l new ≡ []
+  pub none_is : IsEmptyLink l new
+  pub open none_is use *
   pub on_none : on l new ≡ []
   pub in_order : IsInOrder l new
   pub held_last : IsHeldLast l new
   pub others : (n : ℕ) → (l == n) ≡ false → is_on n to ≡ false → Untouched n rows new
 
 pub left : (l : ℕ) (to : Fate) (rows : List Row) → is_on l to ≡ false → was_acked to ≡ false → Left l to rows (moved (is_on l) (all_with to) rows)
-left l to rows o a = search (moved_gone, not_on_unacked, unacked_on, not_on_waiting, waiting_on, moved_kept, not_on_held, held_on, before_none, before_never, untouched, moved_same, on_other, apart_back)
+left l to rows o a =
+    let none = moved_gone (is_on l) (is_on l) (all_with to) rows (λ x. o) (λ f e. e) in
+    let empty = empty_link l (moved (is_on l) (all_with to) rows) none in
+    search (moved_kept, before_none, before_never, untouched, moved_same, on_other, apart_back)
 
 -- to another link
 pub record MovedTo (l t : ℕ) (rows new : List Row) : Type 0 where

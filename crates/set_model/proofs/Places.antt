@@ -20,16 +20,6 @@ unacked_not_waiting l n f e = grind arith
 pub on_not_parked : (n : ℕ) (f : Fate) → is_on n f ≡ true → is_parked f ≡ false
 on_not_parked n f e = grind arith
 
--- What stands in one of the three places of a link is on it.
-pub waiting_on : (l : ℕ) (f : Fate) → is_waiting l f ≡ true → is_on l f ≡ true
-waiting_on l f e = grind arith
-
-pub unacked_on : (l : ℕ) (f : Fate) → is_unacked l f ≡ true → is_on l f ≡ true
-unacked_on l f e = grind arith
-
-pub held_on : (l : ℕ) (f : Fate) → is_held l f ≡ true → is_on l f ≡ true
-held_on l f e = grind arith
-
 -- What is on one link isn't on another.
 pub on_other : (l n : ℕ) → (l == n) ≡ false → (f : Fate) → is_on n f ≡ true → is_on l f ≡ false
 on_other l n d f e = grind arith

@@ -7,15 +7,12 @@ use Rattle.set_model.specs.Laws.{DivertsTo, IsEmptyLink, MovesTheRest, arrived, 
 use Rattle.set_model.specs.Rows.{IsHeldLast, IsInOrder, Row, all_with, is_on, moved}
 use Rattle.set_model.specs.Sound.{IsSound}
 use Rattle.set_model.specs.State.{Down, Settled, LinkState, State, has_phase_settled, has_phase_up, target}
-use Rattle.set_model.proofs.Events.{acknowledged, moved_to, moved_aside, numbers_joined}
-use Rattle.set_model.proofs.Rows.{none_within}
+use Rattle.set_model.proofs.Events.{acknowledged, empty_link, moved_to, moved_aside, numbers_joined}
 use Rattle.set_model.proofs.Lists.{map_set_same, target_up}
-use Rattle.set_model.proofs.Places.{apart, unacked_on, waiting_on, held_on}
+use Rattle.set_model.proofs.Places.{apart}
 
 pub settled_empty : (s : State) (n : ℕ) (link : LinkState) → IsSound s → slice_get s.links n ≡ Some link → link.phase ≡ Settled → IsEmptyLink n s.rows
-settled_empty s n link sound there settled =
-    let none = (sound.links n link there).settled (ap has_phase_settled settled) in
-    search (none_within, unacked_on, waiting_on, held_on, none)
+settled_empty s n link sound there settled = empty_link n s.rows ((sound.links n link there).settled (ap has_phase_settled settled))
 
 -- what is acknowledged on the way changes no target
 module _ (fsn n : ℕ) (link : LinkState) (s : State) (there : slice_get s.links n ≡ Some link) (reasonable : is_reasonable fsn n link s.rows ≡ true) where
