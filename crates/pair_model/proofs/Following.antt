@@ -9,7 +9,7 @@ use Rattle.l3_orders.specs.declared.order.Order.{Order}
 use Rattle.l3_orders.specs.declared.order.Order.TheVariants.{Coo, Coa, Cbd, Cba, Eco, Eca}
 use Rattle.l3_orders.specs.Grammar.{text, order_of, link_of}
 use Rattle.set_events.specs.declared.answer.Fate.{Fate}
-use Rattle.set_events.specs.declared.answer.Fate.TheVariants.{Waiting}
+use Rattle.set_events.specs.declared.answer.Fate.TheVariants.{Parked, Waiting}
 use Rattle.set_events.specs.declared.answer.Refusal.{Refusal as SetRefusal}
 use Rattle.set_events.specs.declared.answer.Refusal.TheVariants.{NotUp}
 use Rattle.set_events.specs.declared.event.Event.TheVariants.{Offer, Take, Find, Next, Heard, Up as UpEvent, Down as DownEvent, DownBlind, NoAnswer, Restore, BackTimeout}
@@ -28,7 +28,7 @@ use Rattle.set_model.specs.Control.{part_of}
 use Rattle.set_model.specs.Changeover.{Obeyed, fate_on, left_link, acknowledged as acknowledged_link, settled_link, moved_over, queued, out_of_service, left_by, leaving_order, declared, some_declare, released, released_from, some_in_use, acknowledged_back, is_reasonable, judged, settled, changed_over, answered, at_link, order_obeyed, obeyed, reply_of}
 use Rattle.set_model.specs.Step.{Outcome, refused, offer_refusal, offered, is_msu, brought, takes, after_control, controls, heard, falls, gives_up, comes_back, runs_out, with_known, in_service, step}
 use Rattle.set_model.specs.Frame.{LeavesAlone}
-use Rattle.set_model.proofs.Events.{Untouched, acknowledged, moved_to, moved_aside, appended_in, appended_out, untouched_self}
+use Rattle.set_model.proofs.Events.{Untouched, acknowledged, moved_to, left as left_by_rows, appended_in, appended_out, untouched_self}
 use Rattle.set_model.proofs.Rows.{new_row, moved_same, moved_more}
 use Rattle.set_model.proofs.Framing.{leaves_alone}
 use Rattle.set_model.proofs.Lists.{get_set_same, get_set_other, same_at, within, length_set, target_up}
@@ -169,7 +169,7 @@ follows_off l m link s d at = go (target s.links) refl
         follows_by l s (moved_over m link s) (map (with_fate (Waiting to)) (on m s.rows)) (get_set_other s.links m l (settled_link link) (λ eq. false_true (m == l) d (rw eq (itself l)))) (rw (e, same) moved.unack_same) (rw (e, same) moved.wait_is)
 
     go : (to : Option ℕ) → target s.links ≡ to → Follows l s (moved_over m link s)
-    go None e = follows_set l m (settled_link link) s (moved_over m link s) d refl (rw e ((moved_aside m s.rows).left_is.others l d refl))
+    go None e = follows_set l m (settled_link link) s (moved_over m link s) d refl (rw e ((left_by_rows m Parked s.rows refl refl).others l d refl))
     go (Some to) e = joins to e (to == l) refl
 
 others : (l : ℕ) (May : Type 0) → KeptBy (λ m. (m == l) ≡ false) May (Follows l)

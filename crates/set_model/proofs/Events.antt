@@ -28,9 +28,6 @@ pub record Kept (rows new : List Row) : Type 0 where
   pub total : total_of (counts_of new) ≡ total_of (counts_of rows)
   pub acked : (counts_of rows).acked ≤ (counts_of new).acked
 
-kept_in_place : (test : Fate → Bool) (to : Fate) (rows new : List Row) → InPlace test to rows new → ((l : ℕ) → test (Acked l) ≡ false) → Kept rows new
-kept_in_place test to rows new i w = grind (arith, total_is, same_numbers)
-
 pub moved_kept : (test : Fate → Bool) (fate : Row → Fate) (rows : List Row) → ((row : Row) → was_acked (fate row) ≡ false) → ((l : ℕ) → test (Acked l) ≡ false) → Kept rows (moved test fate rows)
 moved_kept test fate rows o w = let none : (f : Fate) → test f ≡ true → was_acked f ≡ false = λ f e. grind arith in grind (arith, moved_fit, moved_numbered, moved_length, body_moved, total_is, filter_moved, filter_comm, moved_same)
 
@@ -76,9 +73,10 @@ pub record ChangesOn (l : ℕ) (rows new : List Row) : Type 0 where
 module _ (l : ℕ) (test : Fate → Bool) (to : Fate) (rows new : List Row) (i : InPlace test to rows new) (goes : (f : Fate) → test f ≡ true → (is_unacked l f || is_waiting l f) ≡ true) where
   changes_on : (is_unacked l to || not (is_unfinished to)) ≡ true → (IsInOrder l rows → IsInOrder l new) → ChangesOn l rows new
   changes_on comes order =
+      let unacked : (k : ℕ) → test (Acked k) ≡ false = λ k. grind (arith, goes (Acked k)) in
       let last = i.before (λ f. is_unacked l f || is_waiting l f) (is_held l) (λ f e u. goes f e) (λ f e h. grind arith) in
       let none : (other : Fate → Bool) → other to ≡ false → ((f : Fate) → (is_unacked l f || is_waiting l f) ≡ true → other f ≡ false) → standing other new ≡ standing other rows = λ other o w. i.same other o (λ f e. w f (goes f e)) in
-      record { kept = kept_in_place test to rows new i (λ k. grind (arith, goes (Acked k))); held_same = none (is_held l) (grind arith) (λ f e. grind arith); parked_same = none is_parked (grind arith) (λ f e. grind arith); back_same = none stands_back (grind arith) (λ f e. grind arith); order_kept = order; last_kept = last; others = λ n d. untouched n rows new (none (is_on n) (grind arith) (λ f e. grind arith)) }
+      record { kept = grind (arith, total_is, same_numbers); held_same = none (is_held l) (grind arith) (λ f e. grind arith); parked_same = none is_parked (grind arith) (λ f e. grind arith); back_same = none stands_back (grind arith) (λ f e. grind arith); order_kept = order; last_kept = last; others = λ n d. untouched n rows new (none (is_on n) (grind arith) (λ f e. grind arith)) }
 
   ends_on : is_unfinished to ≡ false → ChangesOn l rows new
   ends_on done = changes_on (grind arith) (i.before (is_unacked l) (is_waiting l) (λ f e u. grind arith) (λ f e w. grind arith))
@@ -152,12 +150,8 @@ pub moved_to : (l t : ℕ) (rows : List Row) → (l == t) ≡ false → MovedTo 
 moved_to l t rows d = search (on_other, apart_back, moved_joined, itself, not_on_waiting, moved_same, not_on_held, left, not_on_unacked, on_not_parked)
 
 -- where no link is up
-pub record MovedAside (l : ℕ) (rows new : List Row) : Type 0 where
-  pub left_is : Left l Parked rows new
-  pub parked_is : parked new ≡ parked rows ++ map (with_fate Parked) (on l rows)
-
-pub moved_aside : (l : ℕ) (rows : List Row) → MovedAside l rows (moved (is_on l) (all_with Parked) rows)
-moved_aside l rows = search (moved_joined, on_not_parked, left)
+pub moved_aside : (l : ℕ) (rows : List Row) → parked (moved (is_on l) (all_with Parked) rows) ≡ parked rows ++ map (with_fate Parked) (on l rows)
+moved_aside l rows = search (moved_joined, on_not_parked)
 
 -- PARKED MESSAGES THAT FIND A LINK.
 pub record Unparked (l : ℕ) (rows new : List Row) : Type 0 where

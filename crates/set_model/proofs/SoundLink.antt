@@ -101,13 +101,12 @@ module _ (n : ℕ) (link : LinkState) (s : State) (at : IsAt n link Up s) (t : I
   l : IsSoundLink s.settings.method n link s.rows
   l = t.links n link at.there
 
-  -- how many are unacknowledged then
-  counts : (choice : Choice) → choice_in n link s ≡ choice → (length (unack n s.rows) ≤ length (unack n (rows_sent choice n s.rows))) × (choice ≡ first → length (unack n (rows_sent choice n s.rows)) ≡ length (unack n s.rows) + 1) × (length (unack n (rows_sent choice n s.rows)) ≤ 127)
-  counts choice e = grind (arith, first_chosen (octets_in (unack n s.rows)) link.control window, length-map, length-append, length-take, (sent n s.rows).unack_is l.in_order, l.window)
-
   pub sends_sound : IsSound (next n s link).state
   sends_sound =
       let choice = choice_in n link s in
+      -- how many are unacknowledged then
+      let counts : (c : Choice) → choice ≡ c → (length (unack n s.rows) ≤ length (unack n (rows_sent c n s.rows))) × (c ≡ first → length (unack n (rows_sent c n s.rows)) ≡ length (unack n s.rows) + 1) × (length (unack n (rows_sent c n s.rows)) ≤ 127)
+      = λ c e. grind (arith, first_chosen (octets_in (unack n s.rows)) link.control window, length-map, length-append, length-take, (sent n s.rows).unack_is l.in_order, l.window) in
       let c = counts choice refl in
       changes n link _ s _ t at.there refl (ap has_phase_settled at.phase_is) (sent_by choice n s.rows) c.2 (grind (arith, l.counted)) (grind (arith, l.method)) (λ u. grind (arith, c, l.in_range, length-map))
 

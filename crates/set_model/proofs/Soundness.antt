@@ -7,7 +7,7 @@ use Rattle.set_route.specs.Routing.{new_stream, stream_numbers, settled, runs_on
 use Rattle.set_route.specs.declared.stream.Stream.{Stream}
 use Rattle.set_model.specs.Step.{Event, Gains, Offer, step, stepped, offered, rows_sent}
 use Rattle.set_model.specs.Laws.{IsNew, KeepsMessages, RunsStraight}
-use Rattle.set_model.specs.Rows.{numbers, stream_of, Fate, Unacked, Waiting, IsNumbered, Row, all_with, appended, fated, is_back, is_back_to, is_on, is_parked, is_waiting, moved, standing, stands_back, turned, with_fate}
+use Rattle.set_model.specs.Rows.{numbers, stream_of, Fate, Unacked, Waiting, IsNumbered, Row, all_with, appended, fated, is_back, is_back_to, is_on, is_parked, is_waiting, moved, standing, stands_back, turned}
 use Rattle.set_model.specs.Sound.{AreFew, IsAsked, IsManaged, IsPlaced, IsSettings, IsSound, AreAbove, AreTogether, BeginsNone, IsAscending, IsBackOf, IsSoundStream, astray, is_astray, is_live, is_unfinished, live, stands_at}
 use Rattle.set_model.specs.State.{Asked, Free, Nowhere, LinkState, Settings, State, new_link, opened_with, Place, Changing, On, fate_at, target}
 use Rattle.set_route.proofs.Places.{new_sound}
@@ -93,15 +93,12 @@ Fits place test fate =
     (f : Fate) → test f ≡ true → is_unfinished fate ≡ true
     → (is_unfinished f ≡ true) × (stands_at place f ≡ stands_at place fate)
 
-module _ (stream : ℕ) (place : Place) (test : Fate → Bool) (fate : Fate) (fits : Fits place test fate) where
-  stays : (x : Row) (xs ys : List Row) → Less stream place xs ys → Less stream place (x ∷ xs) (x ∷ ys)
-  stays x xs ys p = record { above = λ k a. grind (arith, p.above k); ascends = λ a. grind (arith, p.above x.number); none = λ e. grind arith; none_away = λ e. grind arith }
-
-  turns : (x : Row) (xs ys : List Row) → test x.fate ≡ true → Less stream place xs ys → Less stream place (x ∷ xs) (with_fate fate x ∷ ys)
-  turns x xs ys t p = record { above = λ k a. grind (arith, fits, p.above k); ascends = λ a. grind (arith, fits, p.above x.number); none = λ e. grind (arith, fits); none_away = λ e. grind (arith, fits) }
-
-  pub stream_turned : (used : Bool) (n : ℕ) (rows : List Row) → IsSoundStream stream place used rows → IsSoundStream stream place used (turned test fate n rows)
-  stream_turned used n rows t = let l = where_turned test fate (Less stream place) (grind arith) stays turns n rows in grind arith
+pub stream_turned : (stream : ℕ) (place : Place) (test : Fate → Bool) (fate : Fate) → Fits place test fate → (used : Bool) (n : ℕ) (rows : List Row) → IsSoundStream stream place used rows → IsSoundStream stream place used (turned test fate n rows)
+stream_turned stream place test fate fits used n rows t =
+    let less = where_turned test fate (Less stream place) (grind arith)
+    (λ x xs ys p. record { above = λ k a. grind (arith, p.above k); ascends = λ a. grind (arith, p.above x.number); none = λ e. grind arith; none_away = λ e. grind arith })
+    (λ x xs ys h p. record { above = λ k a. grind (arith, fits, p.above k); ascends = λ a. grind (arith, fits, p.above x.number); none = λ e. grind (arith, fits); none_away = λ e. grind (arith, fits) }) n rows in
+    grind arith
 
 -- A NEW MESSAGE has a number above all others.
 pub stream_appended : (stream : ℕ) (place : Place) (used used' : Bool) (rows : List Row) (body : List ℕ) (fate : Fate) → IsNumbered rows → IsSoundStream stream place used rows → (is_live stream (new_row (length rows) body fate) ≡ true → (stands_at place fate ≡ true) × (used' ≡ true)) → (used' ≡ false → used ≡ false) → IsSoundStream stream place used' (appended rows body fate)

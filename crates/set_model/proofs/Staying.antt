@@ -40,20 +40,15 @@ pub record Grows (Free : Type 0) (s t : State) : Type 0 where
   pub acked : (counts_of s.rows).acked ≤ (counts_of t.rows).acked
   pub total : Free → IsManaged s.settings → total_of (counts_of t.rows) ≡ total_of (counts_of s.rows)
 
-module _ (Free : Type 0) where
-  grows_then : (a b c : State) → Grows Free a b → Grows Free b c → Grows Free a c
-  grows_then a b c p q = grind arith
-
-  grows_kept : (s t : State) → t.settings ≡ s.settings → Kept s.rows t.rows → Grows Free s t
-  grows_kept s t same k = grind arith
-
-  grows_appended : (s : State) (routing : Routing) (body : List ℕ) (fate : Fate) → (Free → IsManaged s.settings → (service_indicator body == 0) ≡ true) → Grows Free s (record s { rows = appended s.rows body fate; routing = routing })
-  grows_appended s routing body fate order =
-      let stay = λ (numbered : IsNumbered s.rows). (messages_stay (λ f. false) fate (λ row. fate) s.rows numbered).others_stay body in
-      grind (arith, length_push, stay, total_is, filter-append, length-append, numbered_appended, order)
+grows_appended : (Free : Type 0) (s : State) (routing : Routing) (body : List ℕ) (fate : Fate) → (Free → IsManaged s.settings → (service_indicator body == 0) ≡ true) → Grows Free s (record s { rows = appended s.rows body fate; routing = routing })
+grows_appended Free s routing body fate order =
+    let stay = λ (numbered : IsNumbered s.rows). (messages_stay (λ f. false) fate (λ row. fate) s.rows numbered).others_stay body in
+    grind (arith, length_push, stay, total_is, filter-append, length-append, numbered_appended, order)
 
 pub step_grows : (s : State) (event : Event) → Grows (is_offer event ≡ false) s (step s event).state
 step_grows s event =
+    let grows_then : (Free : Type 0) (a b c : State) → Grows Free a b → Grows Free b c → Grows Free a c = λ Free a b c p q. grind arith in
+    let grows_kept : (Free : Type 0) (s t : State) → t.settings ≡ s.settings → Kept s.rows t.rows → Grows Free s t = λ Free s t same k. grind arith in
     let none_offered : (body : List ℕ) → event ≡ Offer body → is_offer event ≡ false → (service_indicator body == 0) ≡ true = λ body e other. absurd (let no : true ≡ false = sym (ap is_offer e) ∙ other in cc) in
     -- an order is the management's
     let order_managed : (order : Order) (settings : Settings) → IsManaged settings → (service_indicator (text order settings.sio settings.dpc settings.opc) == 0) ≡ true = λ order settings m. grind arith in
@@ -88,10 +83,6 @@ few_turned test other fate zero rows = omega arith
 few_turned test other fate (suc n) [] = omega arith
 few_turned test other fate (suc n) (x ∷ rows) = grind (arith, few_turned test other fate n rows, few_turned test other fate (suc n) rows)
 
--- a move makes no unacknowledged ones
-few_moved : (test : Fate → Bool) (fate : Row → Fate) (m : ℕ) (rows : List Row) → ((row : Row) → is_unacked m (fate row) ≡ false) → length (unack m (moved test fate rows)) ≤ length (unack m rows)
-few_moved test fate m rows none = grind (arith, filter-append, fated_none, append-nil, filter_comm, fewer_filter)
-
 pub not_sent : (m : ℕ) (to : Option ℕ) → is_unacked m (fate_on to) ≡ false
 not_sent m to = grind arith
 
@@ -120,7 +111,8 @@ module _ (more : ℕ) (s : State) (rows : List Row) (routing : Routing) (inbox :
 step_counts : (s : State) (event : Event) → GrowBy 1 s (step s event).state
 step_counts s event =
     let few_sent : (choice : Choice) (m n : ℕ) (rows : List Row) → length (unack m (rows_sent choice n rows)) ≤ length (unack m rows) + 1 = λ choice m n rows. grind (arith, few_turned (is_waiting n) (is_unacked m) (Unacked n) 1 rows) in
-    -- what is acknowledged was sent
+    -- a move makes no unacknowledged ones, and what is acknowledged was sent
+    let few_moved : (test : Fate → Bool) (fate : Row → Fate) (m : ℕ) (rows : List Row) → ((row : Row) → is_unacked m (fate row) ≡ false) → length (unack m (moved test fate rows)) ≤ length (unack m rows) = λ test fate m rows none. grind (arith, filter-append, fated_none, append-nil, filter_comm, fewer_filter) in
     let acked_at_most : (more c n count : ℕ) (rows : List Row) → count ≤ length (unack n rows) → c + count + length (unack n (turned (is_unacked n) (Acked n) count rows)) ≤ c + length (unack n rows) + more = λ more c n count rows fits. grind (arith, turned_left, length-drop) in
     let at_most : (a b more : ℕ) → a ≤ b → a ≤ b + more = λ a b more few. omega arith in
     let sum_at_most : (d c a b more : ℕ) → d ≤ c → a ≤ b + more → d + a ≤ c + b + more = λ d c a b more e few. omega arith in
