@@ -25,12 +25,6 @@ use Rattle.set_model.proofs.Walk.{step_walks}
 alone_more : (n : ℕ) (s t : State) (come : List Row) → slice_get t.links n ≡ slice_get s.links n → unack n t.rows ≡ unack n s.rows → wait n t.rows ≡ wait n s.rows ++ wait n come → held n t.rows ≡ held n s.rows ++ held n come → (is_up n s ≡ false → wait n come ≡ []) → (is_up n s ≡ true → held n come ≡ []) → LeavesAlone n s t
 alone_more n s t come link sent waits holds no_wait no_held = record { link_same = link; unack_same = sent; more = wait n come; wait_more = waits; none_more = no_wait; later = held n come; held_later = holds; none_later = no_held }
 
-alone_by : (n : ℕ) (s t : State) → slice_get t.links n ≡ slice_get s.links n → Untouched n s.rows t.rows → LeavesAlone n s t
-alone_by n s t links u = alone_more n s t [] links u.unack_same (grind (arith, append-nil, u)) (grind (arith, append-nil, u)) (λ e. refl) (λ e. refl)
-
-alone_then : (n : ℕ) (a b c : State) → LeavesAlone n a b → LeavesAlone n b c → LeavesAlone n a c
-alone_then n a b c p q = record { link_same = grind arith; unack_same = grind arith; more = p.more ++ q.more; wait_more = grind (arith, append_assoc); none_more = λ e. grind arith; later = p.later ++ q.later; held_later = grind (arith, append_assoc); none_later = λ e. grind arith }
-
 -- a new message comes to wait for the link, or to be held for it
 alone_appended : (n : ℕ) (body : List ℕ) (fate : Fate) (s : State) (routing : Routing) → is_unacked n fate ≡ false → (is_up n s ≡ false → is_waiting n fate ≡ false) → (is_up n s ≡ true → is_held n fate ≡ false) → LeavesAlone n s (record s { rows = appended s.rows body fate; routing = routing })
 alone_appended n body fate s routing unsent waits holds = alone_more n s _ (new_row (length s.rows) body fate ∷ []) refl (appended_out s.rows body fate (is_unacked n) unsent) (grind (arith, filter-append)) (grind (arith, filter-append)) (λ e. grind (arith, waits)) (λ e. grind (arith, holds))
@@ -42,6 +36,8 @@ alone_moved n test fate s links routing same off unsent waits holds = alone_more
 
 pub leaves_alone : (n : ℕ) (s : State) (event : Event) → (Concerns event n s → ⊥) → LeavesAlone n s (step s event).state
 leaves_alone n s event free =
+    let alone_by = λ (s t : State) (links : slice_get t.links n ≡ slice_get s.links n) (u : Untouched n s.rows t.rows). alone_more n s t [] links u.unack_same (grind (arith, append-nil, u)) (grind (arith, append-nil, u)) (λ e. refl) (λ e. refl) in
+    let alone_then : (a b c : State) → LeavesAlone n a b → LeavesAlone n b c → LeavesAlone n a c = λ a b c p q. record { link_same = grind arith; unack_same = grind arith; more = p.more ++ q.more; wait_more = grind (arith, append_assoc); none_more = λ e. grind arith; later = p.later ++ q.later; held_later = grind (arith, append_assoc); none_later = λ e. grind arith } in
     let off = λ (m : ℕ) (known : Concerns event m s). apart m n (λ same. free (subst (λ (k : ℕ). Concerns event k s) same known)) in
     let concerned = λ (by : Event) (m : ℕ) (u : State) (e : event ≡ by) (known : Concerns by m u). subst (λ (v : Event). Concerns v m u) (sym e) known in
     -- what waits for a link that is up waits for no other

@@ -117,11 +117,6 @@ module _ (n : ℕ) (link : LinkState) (s : State) (at : IsAt n link Up s) (t : I
       changes n link _ s _ t at.there refl (ap has_phase_settled at.phase_is) a.in_place (grind (arith, length-drop, a.unack_is, l.window))
       (grind (arith, nat_tests, (header_in unit).fsn, l.counted)) (grind (arith, l.method)) (λ u. grind (arith, range_heard link.control window (header_in unit) (is_msu unit) (grind (arith, length-map, l.in_range)), a.unack_is, length-drop, length-map))
 
--- A NEW MESSAGE can come to stand there, for all that this link has to do with it: it waits for a link that is up, is held
--- for one that isn't settled, or parked while none is up.
-abbrev pub IsOpenAt : ℕ → LinkState → Fate → Type 0
-IsOpenAt number link fate = (is_unacked number fate ≡ false) × (has_phase_up link.phase ≡ true → (is_held number fate || is_parked fate) ≡ false) × (has_phase_up link.phase ≡ false → is_waiting number fate ≡ false) × (has_phase_settled link.phase ≡ true → is_on number fate ≡ false)
-
 -- WHERE A STREAM RUNS, as links and streams change, and what stands back by a code of which nothing moves.
 pub record Follows (links : List LinkState) (test : Fate → Bool) (was is : Place) : Type 0 where
   pub placed : IsPlaced links is
@@ -129,8 +124,9 @@ pub record Follows (links : List LinkState) (test : Fate → Bool) (was is : Pla
   pub stays : (code via : ℕ) → test (Back code) ≡ false → was ≡ Changing (home_of code) code via → (via' : ℕ) × (is ≡ Changing (home_of code) code via')
 
 module _ (s : State) (routing : Routing) (t : IsSound s) (sound : IsRouting routing) (same : routing.links ≡ s.routing.links) where
-  -- a new row
-  pub appended_sound : (body : List ℕ) (fate : Fate) → length body ≤ 273 → ((k : ℕ) (link : LinkState) → slice_get s.links k ≡ Some link → IsOpenAt k link fate) → IsBackOf s.routing (new_row (length s.rows) body fate) fate → ((k : ℕ) → k < 16 → Follows s.links (λ f. false) (place_of k s.routing) (place_of k routing))
+  -- a new row can come to stand there, for all that each link has to do with it: it waits for a link that is up, is held
+  -- for one that isn't settled, or parked while none is up
+  pub appended_sound : (body : List ℕ) (fate : Fate) → length body ≤ 273 → ((k : ℕ) (link : LinkState) → slice_get s.links k ≡ Some link → (is_unacked k fate ≡ false) × (has_phase_up link.phase ≡ true → (is_held k fate || is_parked fate) ≡ false) × (has_phase_up link.phase ≡ false → is_waiting k fate ≡ false) × (has_phase_settled link.phase ≡ true → is_on k fate ≡ false)) → IsBackOf s.routing (new_row (length s.rows) body fate) fate → ((k : ℕ) → k < 16 → Follows s.links (λ f. false) (place_of k s.routing) (place_of k routing))
       → ((code : ℕ) → code_of code routing ≡ Asked → is_up (home_of code) s ≡ true) → IsSound (record s { rows = appended s.rows body fate; routing = routing })
   appended_sound body fate fits opened is_back follows homes =
       let links = λ (k : ℕ) (other : LinkState) (there : slice_get s.links k ≡ Some other). link_more s.settings.method k other s.rows (new_row (length s.rows) body fate ∷ []) (let o = opened k other there in grind arith) (λ u. let o = opened k other there in grind arith) (λ d. let o = opened k other there in grind arith) (λ e. let o = opened k other there in grind arith) s.rows refl (t.links k other there) in

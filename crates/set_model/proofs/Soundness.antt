@@ -3,7 +3,7 @@ use Rattle.std.proofs.Common.{refl, arith, ◌≡◌, ◌∙◌, sym, subst, ℕ
 use Rattle.std.proofs.lemmas.List.{get_or-replicate, length-replicate, append-nil, map-append, length-map}
 use Rattle.std.proofs.lemmas.Option.{slice_get_cases}
 use Rattle.std.proofs.lemmas.Bool.Decides.{nat_tests}
-use Rattle.set_route.specs.Routing.{new_stream, stream_numbers, settled, runs_on, NoneOpen, has_messages, place_of, place_raised, place_settled, raised}
+use Rattle.set_route.specs.Routing.{new_stream, stream_numbers, settled, runs_on, NoneOpen, has_messages, place_of, place_raised, place_settled, raised, home_of}
 use Rattle.set_route.specs.declared.stream.Stream.{Stream}
 use Rattle.set_model.specs.Step.{Event, Gains, Offer, step, stepped, offered, rows_sent}
 use Rattle.set_model.specs.Laws.{IsNew, KeepsMessages, RunsStraight}
@@ -144,17 +144,6 @@ none_turns test fate s t w rows routing sound r =
     let same = rows ∙ moved_nothing test fate s.rows none in
     record { none_open = rw routing r.none_open; together = λ k low. rw (same, routing) (r.together k low) }
 
-leaves_straight : (blind : Bool) (n : ℕ) (link : LinkState) (s : State) → IsSound s → RunsStraight s → RunsStraight (left_by blind n link s)
-leaves_straight blind n link s t r = none_turns (is_back_to n) _ s _ (home_back n) refl (left_quiet n s.routing t.routing r.none_open) t r
-
-releases_straight : (code : ℕ) (s : State) → IsSound s → RunsStraight s → RunsStraight (released code s)
-releases_straight code s t r = none_turns (is_back code) _ s _ (code_back code) refl (back_quiet code s.routing t.routing r.none_open) t r
-
--- AN ORDER is of no stream.
-queues_straight : (order : Order) (s : State) → IsSound s → AreTogether s → AreTogether (queued order s)
-queues_straight order s t r stream low =
-    stream_appended stream (place_of stream s.routing) (has_messages stream s.routing) (has_messages stream s.routing) s.rows _ (fate_on (target s.links)) t.numbered (r stream low) (λ e. grind (arith, t.managed)) (λ e. e)
-
 -- AN OFFER goes where its stream runs.
 offers_straight : (s : State) (body : List ℕ) → IsSound s → NoneOpen s.routing → AreTogether s → AreTogether (offered None s body).state
 offers_straight s body t none r k few =
@@ -188,10 +177,6 @@ rises_straight n s t none r k low =
     let a = alone s.routing k t.routing low in
     rw (a.raised_place n, a.raised_messages n) (stream_risen n s.rows k (k % s.routing.links) (has_messages k s.routing) (place_of k s.routing) (λ to code via. never_changing k to code via s.routing t.routing none) (r k low))
 
--- SENDING.
-sends_straight : (choice : Choice) (n : ℕ) (s : State) → AreTogether s → (stream : ℕ) → stream < 16 → IsSoundStream stream (place_of stream s.routing) (has_messages stream s.routing) (rows_sent choice n s.rows)
-sends_straight choice n s r stream low = let turns = stream_turned stream (place_of stream s.routing) (is_waiting n) (Unacked n) (λ f e alive. grind arith) (has_messages stream s.routing) 1 s.rows (r stream low) in grind arith
-
 -- THE STEP.
 abbrev StaysStraight : State → State → Type 0
 StaysStraight s t = IsSound s → NoneOpen s.routing → AreTogether s → IsSound t × RunsStraight t
@@ -199,6 +184,11 @@ StaysStraight s t = IsSound s → NoneOpen s.routing → AreTogether s → IsSou
 pub step_straight : (s : State) (event : Event) → IsAsked event → BeginsNone event → IsSound s → RunsStraight s → RunsStraight (step s event).state
 step_straight s event asked begins t r =
     let stood = r.together in
+    let leaves_straight = λ (blind : Bool) (n : ℕ) (link : LinkState) (s : State) (t : IsSound s) (r : RunsStraight s). none_turns (is_back_to n) _ s (left_by blind n link s) (home_back n) refl (left_quiet n s.routing t.routing r.none_open) t r in
+    let releases_straight = λ (code : ℕ) (s : State) (t : IsSound s) (r : RunsStraight s). none_turns (is_back code) (all_with (Waiting (home_of code))) s (released code s) (code_back code) refl (back_quiet code s.routing t.routing r.none_open) t r in
+    -- an order is of no stream
+    let queues_straight : (order : Order) (s : State) → IsSound s → AreTogether s → AreTogether (queued order s) = λ order s t r k low. stream_appended k (place_of k s.routing) (has_messages k s.routing) (has_messages k s.routing) s.rows _ (fate_on (target s.links)) t.numbered (r k low) (λ e. grind (arith, t.managed)) (λ e. e) in
+    let sends_straight : (choice : Choice) (n : ℕ) (s : State) → AreTogether s → (k : ℕ) → k < 16 → IsSoundStream k (place_of k s.routing) (has_messages k s.routing) (rows_sent choice n s.rows) = λ choice n s r k low. let turns = stream_turned k (place_of k s.routing) (is_waiting n) (Unacked n) (λ f e alive. grind arith) (has_messages k s.routing) 1 s.rows (r k low) in grind arith in
     let fits_finished : (place : Place) (test : Fate → Bool) (fate : Fate) → is_unfinished fate ≡ false → Fits place test fate = λ place test fate done f e alive. false_true (is_unfinished fate) done alive in
     let rests : (a b : State) → IsSound a × RunsStraight a → StaysStraight a b → IsSound b × RunsStraight b = λ a b q then. then q.0 q.1.none_open q.1.together in
     let then_straight : (a b c : State) → StaysStraight a b → StaysStraight b c → StaysStraight a c = λ a b c p q sound none r. rests b c (p sound none r) q in

@@ -97,9 +97,6 @@ acked_few n link rows head msu = grind (arith, length-map)
 pub record GrowBy (more : ℕ) (s t : State) : Type 0 where
   pub each : (n : ℕ) (new : LinkState) → slice_get t.links n ≡ Some new → (old : LinkState) × (slice_get s.links n ≡ Some old) × (new.acked + length (unack n t.rows) ≤ old.acked + length (unack n s.rows) + more) × (new.accepted ≤ old.accepted + more)
 
-grow_then : (more : ℕ) (s t u : State) → GrowBy more s t → GrowBy 0 t u → GrowBy more s u
-grow_then more s t u p q = record { each = λ n new at. let y = q.each n new at in let x = p.each n y.0 y.1 in (x.0, x.1, omega (arith, x.2, y.2), omega (arith, x.3, y.3)) }
-
 module _ (more : ℕ) (s : State) (rows : List Row) (routing : Routing) (inbox : List (List ℕ)) (few : (m : ℕ) → length (unack m rows) ≤ length (unack m s.rows) + more) where
   grow_rows : GrowBy more s (record s { rows = rows; routing = routing; inbox = inbox })
   grow_rows = record { each = λ n new at. (new, at, omega (arith, few n), omega arith) }
@@ -110,6 +107,7 @@ module _ (more : ℕ) (s : State) (rows : List Row) (routing : Routing) (inbox :
 
 step_counts : (s : State) (event : Event) → GrowBy 1 s (step s event).state
 step_counts s event =
+    let grow_then : (more : ℕ) (s t u : State) → GrowBy more s t → GrowBy 0 t u → GrowBy more s u = λ more s t u p q. record { each = λ n new at. let y = q.each n new at in let x = p.each n y.0 y.1 in (x.0, x.1, omega (arith, x.2, y.2), omega (arith, x.3, y.3)) } in
     let few_sent : (choice : Choice) (m n : ℕ) (rows : List Row) → length (unack m (rows_sent choice n rows)) ≤ length (unack m rows) + 1 = λ choice m n rows. grind (arith, few_turned (is_waiting n) (is_unacked m) (Unacked n) 1 rows) in
     -- a move makes no unacknowledged ones, and what is acknowledged was sent
     let few_moved : (test : Fate → Bool) (fate : Row → Fate) (m : ℕ) (rows : List Row) → ((row : Row) → is_unacked m (fate row) ≡ false) → length (unack m (moved test fate rows)) ≤ length (unack m rows) = λ test fate m rows none. grind (arith, filter-append, fated_none, append-nil, filter_comm, fewer_filter) in

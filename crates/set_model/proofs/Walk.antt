@@ -97,9 +97,6 @@ pub record WalkedBy (s : State) (event : Event) (R : State → State → Type 0)
   pub hears : (n : ℕ) (unit : SignalUnit) (link : LinkState) → event ≡ Heard n unit → IsAt n link Up s → ChangesOn n s.rows (controlled unit n s link).rows → S (controlled unit n s link)
   pub rises : (n : ℕ) (link : LinkState) → event ≡ UpEvent n → IsAt n link Settled s → Unparked n s.rows (rises n s Settled).state.rows → S (rises n s Settled).state
 
-brought_either : (accept : Bool) (unit : SignalUnit) (b : List ℕ) → brought accept unit ≡ Some b → (o : Order) → order_of b ≡ Some o → (n : ℕ) → Touches o n → BringsAbout n unit ⊎ BringsBackTo n unit
-brought_either accept unit b e o f n touches = grind arith
-
 module _ (s : State) (R : State → State → Type 0) (S : State → Type 0) where
   in_walks : (n : ℕ) (f : LinkState → Outcome) → S s → ((link : LinkState) → IsAt n link Up s → S (f link).state) → S (in_service n s f).state
   in_walks n f unmoved all = grind arith
@@ -110,8 +107,9 @@ module _ (s : State) (R : State → State → Type 0) (S : State → Type 0) whe
   hear_walks : (n : ℕ) (unit : SignalUnit) (link : LinkState) → WalkedBy s (Heard n unit) R S → IsAt n link Up s → S (controls unit n s link).state
   hear_walks n unit link w at =
       let part = part_in unit n link s in
+      let either : (accept : Bool) (unit : SignalUnit) (b : List ℕ) → brought accept unit ≡ Some b → (o : Order) → order_of b ≡ Some o → (m : ℕ) → Touches o m → BringsAbout m unit ⊎ BringsBackTo m unit = λ accept unit b e o f m touches. grind arith in
       w.rests _ (controls unit n s link).state (w.hears n unit link refl at (acknowledged n part.acked s.rows).in_place)
-      (takes_walks (λ m. Concerns (Heard n unit) m s) (BeginsNone (Heard n unit) → ⊥) R w.small (brought part.accept unit) _ (λ b e o f m g. inr (brought_either part.accept unit b e o f m g)))
+      (takes_walks (λ m. Concerns (Heard n unit) m s) (BeginsNone (Heard n unit) → ⊥) R w.small (brought part.accept unit) _ (λ b e o f m g. inr (either part.accept unit b e o f m g)))
 
   rise_walks : (n : ℕ) (link : LinkState) → WalkedBy s (UpEvent n) R S → slice_get s.links n ≡ Some link → S (rises n s link.phase).state
   rise_walks n link w there = let rise = λ (at : IsAt n link Settled s). w.rises n link refl at (unparked n s.rows) in grind (arith, rise)
