@@ -17,7 +17,7 @@ use Rattle.set_model.specs.Sound.{AreFew}
 use Rattle.set_model.specs.Rows.{counts_of, total_of}
 use Rattle.set_model.specs.Step.{Gains, step, messages_in, octets_of}
 use Rattle.set_model.proofs.Staying.{step_gains, AcceptsNone, accepts_none, step_few}
-use Rattle.set_model.proofs.Soundness.{opened_few}
+use Rattle.set_model.proofs.Soundness.{opened_new}
 use Rattle.set_moves.specs.Agreement.{Kept, Agrees}
 use Rattle.set_step.specs.Answering.{AnswersFor}
 use Rattle.set_core.specs.Gaining.{BooksGain, IsOwn, GainsNoOther, AreBounded, users_after, terminals_after}
@@ -175,7 +175,7 @@ bounded opening kept tally history k = record {
 }
 
 pub new_few : (config : SetConfig) → AreFew 0 (new_state config)
-new_few config = opened_few (settings_of config) (record { some_link = config.has_links; at_most_16 = config.links_in_range; managed = config.management })
+new_few config = (opened_new (settings_of config) (record { some_link = config.has_links; at_most_16 = config.links_in_range; managed = config.management })).few
 
 -- A REPLAY. So many entries were replayed, and the rest is left: what is kept agrees with the state after them, and the
 -- rest decides from there.

@@ -68,14 +68,10 @@ module _ (settings : Settings) (is : IsSettings settings) where
   }
 
   -- no changeback is under way
-  pub opened_straight : RunsStraight (opened_with settings)
-  opened_straight = search all_free
-
-  pub opened_few : AreFew 0 (opened_with settings)
-  opened_few n link there = grind (arith, new_there)
-
   pub opened_new : IsNew (opened_with settings)
-  opened_new = record { sound = opened_sound; few = opened_few; straight = opened_straight }
+  opened_new =
+      let straight : RunsStraight (opened_with settings) = search all_free in
+      record { sound = opened_sound; few = λ n link there. grind (arith, new_there); straight = straight }
 
 -- WHILE NO CHANGEBACK IS UNDER WAY the messages of each stream stay together, where it runs, and in the order of their
 -- numbers: leaving a link changes nothing but that link, and what is acknowledged by a code nothing at all.
@@ -88,12 +84,7 @@ record Less (stream : ℕ) (place : Place) (xs ys : List Row) : Type 0 where
   pub none_away : astray stream place xs ≡ [] → astray stream place ys ≡ []
 
 -- where one gets the fate it's finished, or stays where it is
-abbrev pub Fits : Place → (Fate → Bool) → Fate → Type 0
-Fits place test fate =
-    (f : Fate) → test f ≡ true → is_unfinished fate ≡ true
-    → (is_unfinished f ≡ true) × (stands_at place f ≡ stands_at place fate)
-
-pub stream_turned : (stream : ℕ) (place : Place) (test : Fate → Bool) (fate : Fate) → Fits place test fate → (used : Bool) (n : ℕ) (rows : List Row) → IsSoundStream stream place used rows → IsSoundStream stream place used (turned test fate n rows)
+pub stream_turned : (stream : ℕ) (place : Place) (test : Fate → Bool) (fate : Fate) → ((f : Fate) → test f ≡ true → is_unfinished fate ≡ true → (is_unfinished f ≡ true) × (stands_at place f ≡ stands_at place fate)) → (used : Bool) (n : ℕ) (rows : List Row) → IsSoundStream stream place used rows → IsSoundStream stream place used (turned test fate n rows)
 stream_turned stream place test fate fits used n rows t =
     let less = where_turned test fate (Less stream place) (grind arith)
     (λ x xs ys p. record { above = λ k a. grind (arith, p.above k); ascends = λ a. grind (arith, p.above x.number); none = λ e. grind arith; none_away = λ e. grind arith })
@@ -106,18 +97,12 @@ stream_appended stream place used used' rows body fate numbered t fits grows = g
 
 -- ROWS THAT MOVE: all live ones of a stream do, or none.
 module _ (stream : ℕ) (place place' : Place) (test : Fate → Bool) (to : Fate) (goes : Bool) (open_there : (f : Fate) → test f ≡ true → is_unfinished f ≡ true) (open_to : is_unfinished to ≡ true) (all : (f : Fate) → stands_at place f ≡ true → test f ≡ goes) (comes : goes ≡ true → stands_at place' to ≡ true) (stays : goes ≡ false → (f : Fate) → stands_at place f ≡ true → stands_at place' f ≡ true) where
-  abbrev kept : List Row → List Row
-  kept rows = standing (λ f. not (test f)) rows
-
-  abbrev gone : List Row → List Row
-  gone rows = map (fated (all_with to)) (standing test rows)
-
   -- what a filter sees of the two parts of a move
   pub record Parts (rows : List Row) : Type 0 where
-    pub kept_live : numbers (live stream (kept rows)) ≡ cond goes [] (numbers (live stream rows))
-    pub kept_astray : astray stream place' (kept rows) ≡ []
-    pub gone_live : numbers (live stream (gone rows)) ≡ cond goes (numbers (live stream rows)) []
-    pub gone_astray : astray stream place' (gone rows) ≡ []
+    pub kept_live : numbers (live stream (standing (λ f. not (test f)) rows)) ≡ cond goes [] (numbers (live stream rows))
+    pub kept_astray : astray stream place' (standing (λ f. not (test f)) rows) ≡ []
+    pub gone_live : numbers (live stream (map (fated (all_with to)) (standing test rows))) ≡ cond goes (numbers (live stream rows)) []
+    pub gone_astray : astray stream place' (map (fated (all_with to)) (standing test rows)) ≡ []
 
   parts : (rows : List Row) → astray stream place rows ≡ [] → Parts rows
   parts [] e = grind arith
@@ -125,8 +110,7 @@ module _ (stream : ℕ) (place place' : Place) (test : Fate → Bool) (to : Fate
     where
       one : (a b : Bool) → test x.fate ≡ a → is_live stream x ≡ b → Parts rows → Parts (x ∷ rows)
       one false true t l g =
-          let stood : stands_at place x.fate ≡ true = grind (arith, l) in
-          let stay : goes ≡ false = sym (all x.fate stood) ∙ t in
+          let stay : goes ≡ false = sym (all x.fate (grind (arith, l))) ∙ t in
           grind (arith, stay)
       one a b t l g = grind arith
 
@@ -189,11 +173,11 @@ step_straight s event asked begins t r =
     -- an order is of no stream
     let queues_straight : (order : Order) (s : State) → IsSound s → AreTogether s → AreTogether (queued order s) = λ order s t r k low. stream_appended k (place_of k s.routing) (has_messages k s.routing) (has_messages k s.routing) s.rows _ (fate_on (target s.links)) t.numbered (r k low) (λ e. grind (arith, t.managed)) (λ e. e) in
     let sends_straight : (choice : Choice) (n : ℕ) (s : State) → AreTogether s → (k : ℕ) → k < 16 → IsSoundStream k (place_of k s.routing) (has_messages k s.routing) (rows_sent choice n s.rows) = λ choice n s r k low. let turns = stream_turned k (place_of k s.routing) (is_waiting n) (Unacked n) (λ f e alive. grind arith) (has_messages k s.routing) 1 s.rows (r k low) in grind arith in
-    let fits_finished : (place : Place) (test : Fate → Bool) (fate : Fate) → is_unfinished fate ≡ false → Fits place test fate = λ place test fate done f e alive. false_true (is_unfinished fate) done alive in
+    let stream_finishes = λ (k : ℕ) (place : Place) (test : Fate → Bool) (fate : Fate) (done : is_unfinished fate ≡ false). stream_turned k place test fate (λ f e alive. false_true (is_unfinished fate) done alive) in
     let rests : (a b : State) → IsSound a × RunsStraight a → StaysStraight a b → IsSound b × RunsStraight b = λ a b q then. then q.0 q.1.none_open q.1.together in
     let then_straight : (a b c : State) → StaysStraight a b → StaysStraight b c → StaysStraight a c = λ a b c p q sound none r. rests b c (p sound none r) q in
     let begins_none : (u : State) → (BeginsNone event → ⊥) → IsSound u × RunsStraight u = λ u may. absurd (may begins) in
-    (step_walks s StaysStraight (λ u. IsSound u × RunsStraight u) event (search (sounds, leaves_straight, releases_straight, queues_straight, stream_turned, fits_finished, moves_off_straight, offers_straight, sends_straight, rises_straight, then_straight, rests, begins_none, stood))).1
+    (step_walks s StaysStraight (λ u. IsSound u × RunsStraight u) event (search (sounds, leaves_straight, releases_straight, queues_straight, stream_finishes, moves_off_straight, offers_straight, sends_straight, rises_straight, then_straight, rests, begins_none, stood))).1
 
 -- WHAT EVERY STEP DOES. The first of it tells where the rest holds: of each step that is named.
 pub step_laws : (s : State) (event : Event) → (step s event ≡ stepped s event) × (IsAsked event → IsSound s → IsSound (step s event).state) × (IsManaged s.settings → Gains s event (step s event).answer (step s event).state) × (IsNumbered s.rows → KeepsMessages s.rows (step s event).state.rows) × ((n : ℕ) → (Concerns event n s → ⊥) → LeavesAlone n s (step s event).state)
