@@ -51,13 +51,12 @@ pub untouched_self : (n : ℕ) (rows : List Row) → Untouched n rows rows
 untouched_self n rows = untouched n rows rows refl
 
 -- A NEW MESSAGE.
-module _ (rows : List Row) (body : List ℕ) (fate : Fate) where
-  -- a place where it stands, and one where it doesn't
-  pub appended_in : (test : Fate → Bool) → test fate ≡ true → standing test (appended rows body fate) ≡ standing test rows ++ new_row (length rows) body fate ∷ []
-  appended_in test h = filter-append (λ (row : Row). test row.fate) rows (new_row (length rows) body fate ∷ []) ∙ rw h refl
+-- a place where it stands, and one where it doesn't
+pub appended_in : (rows : List Row) (body : List ℕ) (fate : Fate) (test : Fate → Bool) → test fate ≡ true → standing test (appended rows body fate) ≡ standing test rows ++ new_row (length rows) body fate ∷ []
+appended_in rows body fate test h = filter-append (λ (row : Row). test row.fate) rows (new_row (length rows) body fate ∷ []) ∙ rw h refl
 
-  pub appended_out : (test : Fate → Bool) → test fate ≡ false → standing test (appended rows body fate) ≡ standing test rows
-  appended_out test h = filter-append (λ (row : Row). test row.fate) rows (new_row (length rows) body fate ∷ []) ∙ ap (λ (xs : List Row). standing test rows ++ xs) (rw h refl) ∙ append-nil (standing test rows)
+pub appended_out : (rows : List Row) (body : List ℕ) (fate : Fate) (test : Fate → Bool) → test fate ≡ false → standing test (appended rows body fate) ≡ standing test rows
+appended_out rows body fate test h = filter-append (λ (row : Row). test row.fate) rows (new_row (length rows) body fate ∷ []) ∙ ap (λ (xs : List Row). standing test rows ++ xs) (rw h refl) ∙ append-nil (standing test rows)
 
 -- ROWS OF A LINK THAT CHANGE IN THEIR PLACES: none of them is held, and what stands elsewhere doesn't change.
 pub record ChangesOn (l : ℕ) (rows new : List Row) : Type 0 where

@@ -105,12 +105,9 @@ module _ (test other : Fate → Bool) (fate : Row → Fate) (rows : List Row) wh
   moved_off e = grind (arith, parts, append-nil, filter_comm)
 
 -- where no row moves
-none_move : (test : Fate → Bool) (xs : List Row) → standing test xs ≡ [] → standing (λ f. not (test f)) xs ≡ xs
-none_move test [] e = refl
-none_move test (x ∷ xs) e = grind (arith, none_move test xs)
-
 pub moved_nothing : (test : Fate → Bool) (fate : Row → Fate) (rows : List Row) → standing test rows ≡ [] → moved test fate rows ≡ rows
-moved_nothing test fate rows e = grind (arith, append-nil, none_move)
+moved_nothing test fate [] e = refl
+moved_nothing test fate (x ∷ rows) e = grind (arith, moved_nothing test fate rows)
 
 -- Each message is counted in one place.
 pub all_counted : (rows : List Row) → length (standing waits rows) + length (standing was_sent rows) + length (standing was_acked rows) + length (standing was_held rows) + length (standing is_parked rows) + length (standing stands_back rows) + length (standing was_discarded rows) ≡ length rows
