@@ -95,27 +95,23 @@ gives_up test cause n link s g at t =
 
 -- SENDING.
 module _ (n : ℕ) (link : LinkState) (s : State) (at : IsAt n link Up s) (t : IsSound s) where
-  abbrev window : WindowState
-  window = window_of n link s.rows
-
-  l : IsSoundLink s.settings.method n link s.rows
-  l = t.links n link at.there
-
   pub sends_sound : IsSound (next n s link).state
   sends_sound =
+      let l = t.links n link at.there in
       let choice = choice_in n link s in
       -- how many are unacknowledged then
       let counts : (c : Choice) → choice ≡ c → (length (unack n s.rows) ≤ length (unack n (rows_sent c n s.rows))) × (c ≡ first → length (unack n (rows_sent c n s.rows)) ≡ length (unack n s.rows) + 1) × (length (unack n (rows_sent c n s.rows)) ≤ 127)
-      = λ c e. grind (arith, first_chosen (octets_in (unack n s.rows)) link.control window, length-map, length-append, length-take, (sent n s.rows).unack_is l.in_order, l.window) in
+      = λ c e. grind (arith, first_chosen (octets_in (unack n s.rows)) link.control (window_of n link s.rows), length-map, length-append, length-take, (sent n s.rows).unack_is l.in_order, l.window) in
       let c = counts choice refl in
       changes n link _ s _ t at.there refl (ap has_phase_settled at.phase_is) (sent_by choice n s.rows) c.2 (grind (arith, l.counted)) (grind (arith, l.method)) (λ u. grind (arith, c, l.in_range, length-map))
 
   -- HEARING.
   pub hears_sound : (unit : SignalUnit) → IsSound (controlled unit n s link)
   hears_sound unit =
+      let l = t.links n link at.there in
       let a = acknowledged n (part_in unit n link s).acked s.rows in
       changes n link _ s _ t at.there refl (ap has_phase_settled at.phase_is) a.in_place (grind (arith, length-drop, a.unack_is, l.window))
-      (grind (arith, nat_tests, (header_in unit).fsn, l.counted)) (grind (arith, l.method)) (λ u. grind (arith, range_heard link.control window (header_in unit) (is_msu unit) (grind (arith, length-map, l.in_range)), a.unack_is, length-drop, length-map))
+      (grind (arith, nat_tests, (header_in unit).fsn, l.counted)) (grind (arith, l.method)) (λ u. grind (arith, range_heard link.control (window_of n link s.rows) (header_in unit) (is_msu unit) (grind (arith, length-map, l.in_range)), a.unack_is, length-drop, length-map))
 
 -- WHERE A STREAM RUNS, as links and streams change, and what stands back by a code of which nothing moves.
 pub record Follows (links : List LinkState) (test : Fate → Bool) (was is : Place) : Type 0 where

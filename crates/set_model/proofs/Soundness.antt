@@ -136,18 +136,14 @@ offers_straight s body t none r k few =
     rw (a.accepted_place (stream_of body), a.accepted_messages (stream_of body)) (stream_appended k (place_of k s.routing) (has_messages k s.routing) ((k == stream_of body) || has_messages k s.routing) s.rows body (fate_at place s) t.numbered (r k few) (λ e. grind (arith, nat_tests)) (λ e. grind arith))
 
 -- A LINK COMES UP.
-module _ (n : ℕ) (rows : List Row) where
-  abbrev risen : List Row
-  risen = moved is_parked (all_with (Waiting n)) rows
-
-  stream_risen : (k home : ℕ) (used : Bool) (place : Place) → ((to code via : ℕ) → place ≡ Changing to code via → ⊥) → IsSoundStream k place used rows → IsSoundStream k (place_raised n home used place) used risen
-  stream_risen k home used Nowhere away p = stream_moves k Nowhere (On n) is_parked (Waiting n) true (λ f e. grind arith) refl (λ f e. e) (λ e. itself n) (λ e. absurd cc) used rows p
-  stream_risen k home used (Changing to code via) away p = absurd (away to code via refl)
-  stream_risen k home used (On l) away p =
-      let remains = stream_moves k (On l) (On l) is_parked (Waiting n) false (λ f e. grind arith) refl (λ f e. grind arith) (λ e. absurd cc) (λ e f h. h) used rows p in
-      cond_both ((home == n) && not used) (On n) (On l) (λ (at : Place). IsSoundStream k at used risen)
-      -- one with no live message can run anywhere
-      (λ e. let away = filter_within (is_astray k (On n)) (is_live k) (λ x e. grind arith) risen in let none = remains.unused (grind arith) in grind (arith, away, none)) (λ e. remains)
+stream_risen : (n : ℕ) (rows : List Row) (k home : ℕ) (used : Bool) (place : Place) → ((to code via : ℕ) → place ≡ Changing to code via → ⊥) → IsSoundStream k place used rows → IsSoundStream k (place_raised n home used place) used (moved is_parked (all_with (Waiting n)) rows)
+stream_risen n rows k home used Nowhere away p = stream_moves k Nowhere (On n) is_parked (Waiting n) true (λ f e. grind arith) refl (λ f e. e) (λ e. itself n) (λ e. absurd cc) used rows p
+stream_risen n rows k home used (Changing to code via) away p = absurd (away to code via refl)
+stream_risen n rows k home used (On l) away p =
+    let remains = stream_moves k (On l) (On l) is_parked (Waiting n) false (λ f e. grind arith) refl (λ f e. grind arith) (λ e. absurd cc) (λ e f h. h) used rows p in
+    cond_both ((home == n) && not used) (On n) (On l) (λ (at : Place). IsSoundStream k at used (moved is_parked (all_with (Waiting n)) rows))
+    -- one with no live message can run anywhere
+    (λ e. let away = filter_within (is_astray k (On n)) (is_live k) (λ x e. grind arith) (moved is_parked (all_with (Waiting n)) rows) in let none = remains.unused (grind arith) in grind (arith, away, none)) (λ e. remains)
 
 -- A LINK IS LEFT BY ITS MESSAGES.
 moves_off_straight : (n : ℕ) (s : State) → IsSound s → NoneOpen s.routing → AreTogether s → (k : ℕ) → k < 16 → IsSoundStream k (place_of k (settled n (target s.links) s.routing)) (has_messages k (settled n (target s.links) s.routing)) (moved (is_on n) (all_with (fate_on (target s.links))) s.rows)
@@ -156,7 +152,7 @@ moves_off_straight n s t none r k low =
     let never = λ (to code via : ℕ). never_changing k to code via s.routing t.routing none in
     rw (a.settled_place n (target s.links), a.settled_messages n (target s.links)) (stream_moves k (place_of k s.routing) (place_settled n (target s.links) (place_of k s.routing)) (is_on n) (fate_on (target s.links)) (runs_on n (place_of k s.routing)) (λ f e. grind arith) (grind arith) (λ f e. grind (arith, nat_tests, never)) (λ e. grind arith) (λ e f h. grind (arith, nat_tests, never)) (has_messages k s.routing) s.rows (r k low))
 
-rises_straight : (n : ℕ) (s : State) → IsSound s → NoneOpen s.routing → AreTogether s → (k : ℕ) → k < 16 → IsSoundStream k (place_of k (raised n s.routing)) (has_messages k (raised n s.routing)) (risen n s.rows)
+rises_straight : (n : ℕ) (s : State) → IsSound s → NoneOpen s.routing → AreTogether s → (k : ℕ) → k < 16 → IsSoundStream k (place_of k (raised n s.routing)) (has_messages k (raised n s.routing)) (moved is_parked (all_with (Waiting n)) s.rows)
 rises_straight n s t none r k low =
     let a = alone s.routing k t.routing low in
     rw (a.raised_place n, a.raised_messages n) (stream_risen n s.rows k (k % s.routing.links) (has_messages k s.routing) (place_of k s.routing) (λ to code via. never_changing k to code via s.routing t.routing none) (r k low))
