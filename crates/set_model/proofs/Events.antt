@@ -1,5 +1,5 @@
 -- WHAT EACH CHANGE DOES TO EACH LINK: the lemmas that a set's step is argued by.
-use Rattle.std.proofs.Common.{refl, arith, ◌≡◌, ◌∙◌, ap, ◌≤◌, [], ◌∷◌, length, ℕ, Bool, true, false, ◌==◌, ◌||◌, List, ◌++◌, map, take, drop, not, cond}
+use Rattle.std.proofs.Common.{inl, inr, refl, arith, ◌≡◌, ◌∙◌, ap, ◌≤◌, [], ◌∷◌, length, ℕ, Bool, true, false, ◌==◌, ◌||◌, List, ◌++◌, map, take, drop, not, cond}
 use Rattle.std.proofs.lemmas.List.{append-nil, map-append}
 use Rattle.std.proofs.lemmas.List.Elements.{filter-append}
 use Rattle.set_model.specs.Rows.{DiscardCause, Fate, Acked, Discarded, Parked, Unacked, Waiting, AreFit, IsHeldLast, IsInOrder, IsNumbered, Row, all_with, appended, back, body_at, changed, counts_of, fated, held, is_held, is_on, is_parked, is_unacked, is_waiting, moved, numbers, on, parked, standing, stands_back, total_of, turned, unack, wait, was_acked, with_fate}
@@ -9,7 +9,7 @@ use Rattle.set_model.specs.Sound.{is_unfinished}
 use Rattle.set_model.specs.Step.{rows_sent}
 use Rattle.set_model.proofs.Places.{itself, apart_back, unacked_not_waiting, on_not_parked, on_other, not_on_waiting, not_on_unacked, not_on_held}
 use Rattle.set_model.proofs.Rows.{InPlace, turned_there, turned_same, turned_left, moved_length, moved_fit, moved_numbered, moved_gone, moved_same, moved_joined, filter_moved, filter_comm, filter_within, none_within, body_moved, total_is, new_row, same_numbers}
-use Rattle.set_model.proofs.Order.{before_filter, before_never, before_none, before_within, first_sent, on_in_order}
+use Rattle.set_model.proofs.Order.{before_filter, before_none, before_within, first_sent, on_in_order}
 
 -- Rows that got their fates have the same numbers and octets.
 pub numbers_fated : (fate : Row → Fate) (xs : List Row) → numbers (map (fated fate) xs) ≡ numbers xs
@@ -135,7 +135,7 @@ pub left : (l : ℕ) (to : Fate) (rows : List Row) → is_on l to ≡ false → 
 left l to rows o a =
     let none = moved_gone (is_on l) (is_on l) (all_with to) rows (λ x. o) (λ f e. e) in
     let empty = empty_link l (moved (is_on l) (all_with to) rows) none in
-    search (moved_kept, before_none, before_never, untouched, moved_same, on_other, apart_back)
+    search (moved_kept, before_none, inl, inr, untouched, moved_same, on_other, apart_back)
 
 -- to another link
 pub record MovedTo (l t : ℕ) (rows new : List Row) : Type 0 where
@@ -165,4 +165,4 @@ pub record Unparked (l : ℕ) (rows new : List Row) : Type 0 where
 pub unparked : (l : ℕ) (rows : List Row) → Unparked l rows (moved is_parked (all_with (Waiting l)) rows)
 unparked l rows =
     let parked_not_on : (n : ℕ) (f : Fate) → is_parked f ≡ true → is_on n f ≡ false = λ n f e. grind arith in
-    search (parked_not_on, moved_joined, itself, not_on_waiting, moved_same, not_on_held, moved_kept, moved_gone, not_on_unacked, before_never, untouched)
+    search (parked_not_on, moved_joined, itself, not_on_waiting, moved_same, not_on_held, moved_kept, moved_gone, not_on_unacked, before_none, inr, untouched)

@@ -1,5 +1,5 @@
 -- FACTS OF EACH ROW, and what changes of rows do to them.
-use Rattle.std.proofs.Common.{arith, refl, ◌≡◌, ◌<◌, ℕ, suc, Bool, true, false, not, ◌||◌, List, [], ◌∷◌, ◌++◌, length, map, slice_get, Some, filter, subst, ◌==◌, take}
+use Rattle.std.proofs.Common.{inl, ◌⊎◌, arith, refl, ◌≡◌, ◌<◌, ℕ, suc, Bool, true, false, not, ◌||◌, List, [], ◌∷◌, ◌++◌, length, map, slice_get, Some, filter, subst, ◌==◌, take}
 use Rattle.std.proofs.lemmas.List.{append-nil, map-append}
 use Rattle.std.proofs.lemmas.List.Elements.{filter-append}
 use Rattle.set_model.specs.Rows.{Fate, AreBefore, Each, IsNumbered, Row, appended, fated, numbers, standing, Back, back, Unacked, IsHeldLast, IsInOrder, held, is_waiting, on, turned, unack, wait, with_fate}
@@ -60,16 +60,12 @@ neither p q (x ∷ rows) e f = grind (arith, neither p q rows)
 
 module _ (p q : Fate → Bool) where
   -- where there are none, or no others
-  pub before_none : (rows : List Row) → standing p rows ≡ [] → AreBefore p q rows
+  pub before_none : (rows : List Row) → (standing p rows ≡ []) ⊎ (standing q rows ≡ []) → AreBefore p q rows
   before_none [] e = tt
   before_none (x ∷ rows) e = grind (arith, before_none rows)
 
-  pub before_never : (rows : List Row) → standing q rows ≡ [] → AreBefore p q rows
-  before_never [] e = tt
-  before_never (x ∷ rows) e = grind (arith, before_never rows)
-
   pub before_append : (xs ys : List Row) → AreBefore p q xs → standing p ys ≡ [] → AreBefore p q (xs ++ ys)
-  before_append [] ys o e = before_none ys e
+  before_append [] ys o e = before_none ys (inl e)
   before_append (x ∷ xs) ys o e = grind (arith, filter-append, before_append xs ys o.1 e)
 
   -- where some rows leave

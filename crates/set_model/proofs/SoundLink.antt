@@ -12,7 +12,7 @@ use Rattle.set_model.specs.Changeover.{acknowledged_by, Order, fate_on, queued}
 use Rattle.set_model.specs.Rows.{AreFit, DiscardCause, Fate, Discarded, Row, changed, fated, held, is_held, is_on, is_parked, is_unacked, is_waiting, moved, octets_in, on, standing, stands_back, unack, wait, Back, appended, parked, service_indicator, stream_of}
 use Rattle.set_model.specs.State.{Asked, is_up, Place, Changing, Nowhere, On, Down, Up, LinkState, State, has_phase_settled, has_phase_up, last_accepted, link_is_up, window_of, fate_at, target}
 use Rattle.set_model.specs.Step.{SignalUnit, choice_in, controlled, is_msu, part_in, next, rows_sent, offer_refusal, offered}
-use Rattle.set_model.proofs.Order.{backs_of, stood, before_append, before_never, neither, gone_none, coded_at, ascends_appended}
+use Rattle.set_model.proofs.Order.{backs_of, stood, before_append, before_none, neither, gone_none, coded_at, ascends_appended}
 use Rattle.set_model.proofs.Events.{Untouched, sent, acknowledged, ChangesOn, sent_by, untouched, appended_out}
 use Rattle.set_model.proofs.Rows.{each_append, each_filter, each_so, turned_there, others_stay, new_row, numbered_appended}
 use Rattle.set_model.proofs.Lists.{at_set, each_set, get_set_same, get_set_other, set_same, within, set_at, target_up, none_up}
@@ -70,7 +70,7 @@ with_inbox s inbox t = assumption
 -- ROWS THAT COME TO STAND LAST, behind those that a link has.
 module _ (m : Method) (k : ℕ) (link : LinkState) (rows come : List Row) (sent : unack k come ≡ []) (holds : has_phase_up link.phase ≡ true → held k come ≡ []) (waits : has_phase_up link.phase ≡ false → wait k come ≡ []) (gone : has_phase_settled link.phase ≡ true → on k come ≡ []) where
   pub link_more : (base : List Row) → on k base ≡ on k rows → IsSoundLink m k link rows → IsSoundLink m k link (base ++ come)
-  link_more base same l = let u = untouched k rows base same in let none = neither (is_unacked k) (is_waiting k) come sent in grind (arith, filter-append, append-nil, none, before_append, before_never)
+  link_more base same l = let u = untouched k rows base same in let none = neither (is_unacked k) (is_waiting k) come sent in grind (arith, filter-append, append-nil, none, before_append, before_none)
 
 -- those that move leave the others where they were; of what goes it is known that its stream is on its way back
 pub link_moved : (m : Method) (k : ℕ) (link : LinkState) (test : Fate → Bool) (fate : Row → Fate) (routing : Routing) (rows : List Row) → AreBack routing rows → ((f : Fate) → test f ≡ true → is_on k f ≡ false) → ((x : Row) → is_unacked k (fate x) ≡ false) → (has_phase_up link.phase ≡ true → (x : Row) → is_held k (fate x) ≡ false)

@@ -14,7 +14,7 @@ use Rattle.set_model.specs.Changeover.{Order, fate_on}
 use Rattle.set_route.specs.Routing.{Routing}
 use Rattle.set_model.specs.Step.{Event, Offer, step, Answer, Gains, messages_in, octets_of, one_if, rows_sent}
 use Rattle.set_model.specs.Control.{Choice, Header, part_of}
-use Rattle.set_model.specs.Sound.{IsManaged, AreAtMost, AreFew, WholeNumbers, one_more}
+use Rattle.set_model.specs.Sound.{IsManaged, AreAtMost, WholeNumbers, one_more}
 use Rattle.set_model.specs.State.{Place, Settings, State, fate_at, Phase, LinkState, window_of}
 use Rattle.set_model.proofs.Walk.{step_walks, IsAt}
 use Rattle.std.proofs.Math.Nat.{le_refl}
@@ -120,6 +120,3 @@ step_counts s event =
 
 pub step_at_most : (s : State) (event : Event) (k : ℕ → WholeNumbers) → AreAtMost k s → AreAtMost (λ n. one_more (k n)) (step s event).state
 step_at_most s event k few n link there = let g = (step_counts s event).each n link there in let f = few n g.0 g.1 in grind (arith, f, g)
-
-pub step_few : (s : State) (event : Event) (events : ℕ) → AreFew events s → AreFew (events + 1) (step s event).state
-step_few s event events few = step_at_most s event (λ n. record { sent = events; accepted = events }) few

@@ -1,5 +1,5 @@
 -- WHAT STANDS BACK FOR A LINK turns back: the oldest, the first of the rows that do, and so all of it, one by one.
-use Rattle.std.proofs.Common.{inl, refl, arith, ◌≡◌, ◌∙◌, ap, sym, subst, [], ◌∷◌, ◌++◌, length, ℕ, suc, Bool, true, false, List, Some, cond, take, drop, ◌+◌, ◌*◌, None, ◌≤◌, ◌<◌, zero, ◌==◌, ◌⊎◌, Option, slice_get, filter, map, not, option_map}
+use Rattle.std.proofs.Common.{inl, inr, refl, arith, ◌≡◌, ◌∙◌, ap, sym, subst, [], ◌∷◌, ◌++◌, length, ℕ, suc, Bool, true, false, List, Some, cond, take, drop, ◌+◌, ◌*◌, None, ◌≤◌, ◌<◌, zero, ◌==◌, ◌⊎◌, Option, slice_get, filter, map, not, option_map}
 use Rattle.std.proofs.lemmas.Bool.{eq-eqb, cases_eq, cases_lt, ne_eqb, not-true}
 use Rattle.std.proofs.lemmas.Bool.Decides.{nat_tests}
 use Rattle.std.proofs.lemmas.List.Elements.{filter-append}
@@ -25,7 +25,7 @@ use Rattle.set_queues.proofs.Tallies.{back_none}
 use Rattle.set_queues.proofs.Soundness.{on_length, both_replaced}
 use Rattle.std.proofs.lemmas.Option.{same_Some}
 use Rattle.set_queues.specs.declared.message.Kind.TheVariants.{User}
-use Rattle.set_model.proofs.Order.{ascends_filter, none_standing, before_append, before_never}
+use Rattle.set_model.proofs.Order.{ascends_filter, none_standing, before_append, before_none}
 use Rattle.set_model.proofs.Lists.{within}
 use Rattle.set_model.proofs.Places.{home_back}
 use Rattle.set_model.proofs.SoundBack.{goes}
@@ -157,7 +157,7 @@ module _ (home : ℕ) (s : State) (k : Kept) (t : TurnsOn home s k) where
         let way_is : to ≡ way_in s it.row = is ∙ ap (λ place. fate_at place s) (sym (it_turns.1 it_turns.0).3) in
         let rows_are : turned (is_back code) to 1 (t.gone ++ t.rest) ≡ (t.gone ++ with_fate to it.row ∷ []) ++ it.after = ap (λ (rows : List Row). turned (is_back code) to 1 (t.gone ++ rows)) it.rest_is ∙ turned_one (is_back code) to it.row it.after t.gone (none_gone code o.of_home) it.on in
         let unlike = none_standing (IsLeft home s) (is_there to) (λ x e l. absurd (let here = l.0 in grind (arith, same_is, off))) t.rest t.left in
-        let order : AreBefore (is_there to) (is_back code) (t.gone ++ t.rest) = before_append (is_there to) (is_back code) t.gone t.rest (before_never (is_there to) (is_back code) t.gone (none_gone code o.of_home)) unlike in
+        let order : AreBefore (is_there to) (is_back code) (t.gone ++ t.rest) = before_append (is_there to) (is_back code) t.gone t.rest (before_none (is_there to) (is_back code) t.gone (inr (none_gone code o.of_home))) unlike in
         let known : code < length k.lists.back = let first = o.first in grind (arith, nat_tests, cases_lt, get_or_past) in
         let stands = first_for k (record s { rows = t.gone ++ t.rest }) (Back code) to (is_back code) (is_there to) t.stands refl (grind arith) known (let low = on.1 in grind arith) (λ g. grind arith) (λ g. refl) (grind arith) refl order in
         record {
