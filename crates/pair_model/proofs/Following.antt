@@ -28,7 +28,7 @@ use Rattle.set_model.specs.Control.{part_of}
 use Rattle.set_model.specs.Changeover.{Obeyed, fate_on, left_link, acknowledged as acknowledged_link, settled_link, moved_over, queued, out_of_service, left_by, leaving_order, declared, some_declare, released, released_from, some_in_use, acknowledged_back, is_reasonable, judged, settled, changed_over, answered, at_link, order_obeyed, obeyed, reply_of}
 use Rattle.set_model.specs.Step.{Outcome, refused, offer_refusal, offered, is_msu, brought, takes, after_control, controls, heard, falls, gives_up, comes_back, runs_out, with_known, in_service, step}
 use Rattle.set_model.specs.Frame.{LeavesAlone}
-use Rattle.set_model.proofs.Events.{Untouched, acknowledged, moved_to, left as left_by_rows, appended_in, appended_out, untouched_self}
+use Rattle.set_model.proofs.Events.{Untouched, acknowledged, moved_to, left as left_by_rows, appended_in, appended_out, untouched}
 use Rattle.set_model.proofs.Rows.{new_row, moved_same, moved_more}
 use Rattle.set_model.proofs.Framing.{leaves_alone}
 use Rattle.set_model.proofs.Lists.{get_set_same, get_set_other, same_at, within, length_set, target_up}
@@ -68,7 +68,7 @@ pub follows_untouched : (l : ℕ) (s t : State) → slice_get t.links l ≡ slic
 follows_untouched l s t same u = follows_by l s t [] same u.unack_same (u.wait_same ∙ sym (append-nil (wait l s.rows)))
 
 pub follows_same : (l : ℕ) (s : State) → Follows l s s
-follows_same l s = follows_untouched l s s refl (untouched_self l s.rows)
+follows_same l s = follows_untouched l s s refl (untouched l s.rows s.rows refl)
 
 pub follows_alone : (l : ℕ) (s t : State) → LeavesAlone l s t → Follows l s t
 follows_alone l s t a = follows_by l s t a.more a.link_same a.unack_same a.wait_more
@@ -131,7 +131,7 @@ out_follows : (l : ℕ) (blind : Bool) (m : ℕ) (link : LinkState) (s : State) 
 out_follows l blind m link s at = go (m == l) refl
   where
     go : (b : Bool) → (m == l) ≡ b → Follows l s (out_of_service blind m link s)
-    go false d = follows_set l m (left_link blind link) s (out_of_service blind m link s) d refl (untouched_self l s.rows)
+    go false d = follows_set l m (left_link blind link) s (out_of_service blind m link s) d refl (untouched l s.rows s.rows refl)
     go true d = λ after there unsettled.
         let same : m ≡ l = eqb-true m l d in
         let is : after ≡ left_link blind link = same_at (slice_set s.links m (left_link blind link)) l (left_link blind link) after (subst (λ (k : ℕ). slice_get (slice_set s.links m (left_link blind link)) k ≡ Some (left_link blind link)) same (get_set_same s.links m (left_link blind link) (within s.links m link at.there))) there in
@@ -176,7 +176,7 @@ others : (l : ℕ) (May : Type 0) → KeptBy (λ m. (m == l) ≡ false) May (Fol
 others l May = record {
   same = λ s. follows_same l s;
   after = λ a b c p q. follows_then l a b c p q;
-  delivers = λ body s. follows_untouched l s _ refl (untouched_self l s.rows);
+  delivers = λ body s. follows_untouched l s _ refl (untouched l s.rows s.rows refl);
   queues = λ order s. follows_queued l order s;
   leaves = λ blind m link s d at. follows_left l blind m link s at;
   acknowledges = λ count m link s d at few g. follows_set l m (acknowledged_link count link) s _ d refl (g.others l d);
@@ -258,7 +258,7 @@ takes_follows l (Some body) s = go (service_indicator body == 0) refl
   where
     go : (b : Bool) → (service_indicator body == 0) ≡ b → Follows l s (takes (Some body) s).state
     go true e = rw e (obeyed_follows l (order_of body) s)
-    go false e = rw e (follows_untouched l s _ refl (untouched_self l s.rows))
+    go false e = rw e (follows_untouched l s _ refl (untouched l s.rows s.rows refl))
 
 -- EVENTS
 pub offered_unsent : (l : ℕ) (place : Place) (s : State) → is_unacked l (fate_at place s) ≡ false

@@ -47,9 +47,6 @@ untouched n rows new same =
     let last = before_within (λ f. is_unacked n f || is_waiting n f) (is_held n) (is_on n) (λ f e. grind arith) (λ f e. grind arith) new in
     grind (arith, filter_within, order, last, before_filter)
 
-pub untouched_self : (n : ℕ) (rows : List Row) → Untouched n rows rows
-untouched_self n rows = untouched n rows rows refl
-
 -- A NEW MESSAGE.
 -- a place where it stands, and one where it doesn't
 pub appended_in : (rows : List Row) (body : List ℕ) (fate : Fate) (test : Fate → Bool) → test fate ≡ true → standing test (appended rows body fate) ≡ standing test rows ++ new_row (length rows) body fate ∷ []

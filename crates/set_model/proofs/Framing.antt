@@ -13,7 +13,7 @@ use Rattle.set_model.specs.Frame.{BringsAbout, Concerns, LeavesAlone, MovesAsIts
 use Rattle.set_model.specs.Rows.{Fate, Waiting, Unacked, IsInOrder, Row, appended, fated, held, is_held, is_on, is_unacked, is_waiting, moved, numbers, standing, unack, wait}
 use Rattle.set_model.specs.Sound.{IsSound}
 use Rattle.set_model.specs.State.{Up, LinkState, State, is_up, link_is_up, target, window_of}
-use Rattle.set_model.proofs.Events.{ChangesOn, Unparked, Untouched, untouched_self, sent, acknowledged, appended_out, numbers_joined}
+use Rattle.set_model.proofs.Events.{ChangesOn, Unparked, Untouched, untouched, sent, acknowledged, appended_out, numbers_joined}
 use Rattle.set_model.proofs.Rows.{fated_none, new_row, moved_same, moved_more}
 use Rattle.set_model.proofs.Lists.{get_set_same, get_set_other, within, target_off}
 use Rattle.set_model.proofs.Places.{apart, apart_back, on_other, not_on_waiting, back_not_on, home_back, code_back}
@@ -46,7 +46,7 @@ leaves_alone n s event free =
     let target_unheld : (to : Option ℕ) → is_held n (fate_on to) ≡ false = λ to. grind arith in
     let apart_from = λ (m : ℕ) (rows new : List Row) (g : ChangesOn m rows new). g.others in
     let risen = λ (m : ℕ) (rows new : List Row) (u : Unparked m rows new). u.others in
-    step_walks s (LeavesAlone n) (LeavesAlone n s) event (search (apart_from, risen, up_waits, alternative_up, alone_moved, back_not_on, code_back, home_back, on_other, apart_back, not_sent, off_waits, target_unheld, alone_then, alone_by, untouched_self, alone_appended, offered_out, up_not_held, down_not_waiting, off, concerned, inl, get_set_other, eqb-false) depth 7)
+    step_walks s (LeavesAlone n) (LeavesAlone n s) event (search (apart_from, risen, up_waits, alternative_up, alone_moved, back_not_on, code_back, home_back, on_other, apart_back, not_sent, off_waits, target_unheld, alone_then, alone_by, untouched, alone_appended, offered_out, up_not_held, down_not_waiting, off, concerned, inl, get_set_other, eqb-false) depth 7)
 
 -- THE WINDOW.
 pub numbers-drop : (d : ℕ) (rows : List Row) → numbers (drop d rows) ≡ drop d (numbers rows)
