@@ -211,10 +211,7 @@ row_in_filter p rows i k row numbered e n = let one = found_in p rows i k row e 
 pub record Found (p : Row → Bool) (rows : List Row) (i number : ℕ) : Type 0 where
   pub row : Row
   pub there : slice_get (filter p rows) i ≡ Some row
-  pub number_is : row.number ≡ number
-  pub row_is : row_of number rows ≡ Some row
   pub body_is : body_at number rows ≡ Some row.body
-  pub place_is : place number rows ≡ Some row.fate
   pub below : number < length rows
 
 pub found_by_number : (p : Row → Bool) (rows : List Row) (i number : ℕ) → IsNumbered rows → slice_get (numbers (filter p rows)) i ≡ Some number → Found p rows i number
