@@ -4,18 +4,18 @@ use Rattle.std.proofs.lemmas.List.{length-drop, append-nil, length-map, length-a
 use Rattle.std.proofs.lemmas.Bool.Decides.{nat_tests}
 use Rattle.l2_window.specs.Window.{WindowState}
 use Rattle.set_model.specs.Control.{Header, Choice, Control, acked_by, choice_of, control_heard, first, Method, accepted_of}
-use Rattle.set_model.specs.Sound.{IsInRange, IsOf, IsPlaced, IsSound, IsSoundLink, AreBack, IsBackOf}
+use Rattle.set_model.specs.Sound.{IsAsked, IsInRange, IsOf, IsPlaced, IsSound, IsSoundLink, AreBack, IsBackOf}
 use Rattle.std.proofs.lemmas.List.Elements.{filter-append}
 use Rattle.l2_units.specs.Grammar.{head_of as header_in}
 use Rattle.set_route.specs.Routing.{IsRouting, Routing, accepted, code_of, home_of, place_of}
 use Rattle.set_model.specs.Changeover.{acknowledged_by, Order, fate_on, queued}
 use Rattle.set_model.specs.Rows.{AreFit, DiscardCause, Fate, Discarded, Row, changed, fated, held, is_held, is_on, is_parked, is_unacked, is_waiting, moved, octets_in, on, standing, stands_back, unack, wait, Back, appended, parked, service_indicator, stream_of}
 use Rattle.set_model.specs.State.{Asked, is_up, Place, Changing, Nowhere, On, Down, Up, LinkState, State, has_phase_settled, has_phase_up, last_accepted, link_is_up, window_of, fate_at, target}
-use Rattle.set_model.specs.Step.{SignalUnit, choice_in, controlled, is_msu, part_in, next, rows_sent, offer_refusal, offered}
+use Rattle.set_model.specs.Step.{Event, Offer, SignalUnit, choice_in, controlled, is_msu, part_in, next, rows_sent, offer_refusal, offered}
 use Rattle.set_model.proofs.Order.{backs_of, stood, before_append, before_none, neither, gone_none, coded_at, ascends_appended}
 use Rattle.set_model.proofs.Events.{Untouched, sent, acknowledged, ChangesOn, sent_by, untouched, appended_out}
 use Rattle.set_model.proofs.Rows.{each_append, each_filter, each_so, turned_there, others_stay, new_row, numbered_appended}
-use Rattle.set_model.proofs.Lists.{at_set, each_set, get_set_same, get_set_other, set_same, within, set_at, target_up, none_up}
+use Rattle.set_model.proofs.Lists.{at_set, each_set, get_set_same, get_set_other, set_same, within, target_up, none_up}
 use Rattle.set_model.proofs.Places.{false_true}
 use Rattle.set_model.proofs.Walk.{IsAt}
 use Rattle.set_route.proofs.Alone.{alone}
@@ -37,8 +37,8 @@ links_set m links n link rows new one others all = each_set (λ k other. IsSound
 -- a place stays one, where the link that changes isn't settled
 pub placed_set : (links : List LinkState) (n : ℕ) (link link' : LinkState) (place : Place) → slice_get links n ≡ Some link → has_phase_settled link'.phase ≡ false → IsPlaced links place → IsPlaced (slice_set links n link') place
 placed_set links n link link' Nowhere there unsettled p = tt
-placed_set links n link link' (On l) there unsettled p = (cond (n == l) link' p.0, set_at links n l link' p.0 p.1, grind (arith, p.2))
-placed_set links n link link' (Changing to code l) there unsettled p = (cond (n == l) link' p.0, set_at links n l link' p.0 p.1, grind (arith, p.2))
+placed_set links n link link' (On l) there unsettled p = (cond (n == l) link' p.0, grind (arith, nat_tests, get_set_same, get_set_other, within, p.1), grind (arith, p.2))
+placed_set links n link link' (Changing to code l) there unsettled p = (cond (n == l) link' p.0, grind (arith, nat_tests, get_set_same, get_set_other, within, p.1), grind (arith, p.2))
 
 -- what is so while a link is up stays so, where the one that changes isn't up anew
 pub up_before : {X : Type 0} (links : List LinkState) (n : ℕ) (link link' : LinkState) → slice_get links n ≡ Some link → (has_phase_up link'.phase ≡ true → has_phase_up link.phase ≡ true) → ((k : ℕ) (old : LinkState) → slice_get links k ≡ Some old → has_phase_up old.phase ≡ true → X) → (k : ℕ) (other : LinkState) → slice_get (slice_set links n link') k ≡ Some other → has_phase_up other.phase ≡ true → X
@@ -140,9 +140,10 @@ queues order s t =
     (λ k few. record { placed = t.placed k few; runs = λ n link there up. t.all_run n link there up k few; stays = λ code via e is. (via, is) }) t.homes_up
 
 -- AN OFFER goes where its stream runs.
-pub offers : (s : State) (body : List ℕ) → stream_of body < 16 → offer_refusal s.rows body ≡ None → IsSound s → IsSound (offered None s body).state
-offers s body low free t =
+pub offers : (s : State) (event : Event) (body : List ℕ) → IsAsked event → event ≡ Offer body → offer_refusal s.rows body ≡ None → IsSound s → IsSound (offered None s body).state
+offers s event body asked e free t =
     let stream = stream_of body in
+    let low : stream < 16 = subst IsAsked e asked in
     let fits : (length body ≤ 273) × ((service_indicator body == 0) ≡ false) = grind (arith, free) in
     let placed = t.placed stream low in
     let same = λ (k : ℕ) (few : k < 16). (alone s.routing k t.routing few).accepted_place stream in

@@ -30,10 +30,7 @@ use Rattle.set_model.proofs.Order.{ascends_appended, none_standing}
 use Rattle.set_model.proofs.Places.{false_true, itself, code_back, home_back}
 
 -- THE STEP.
-pub asked_by : (event : Event) (body : List ℕ) → IsAsked event → event ≡ Offer body → stream_of body < 16
-asked_by event body asked e = subst IsAsked e asked
-
-pub ruleset sounds = (with_inbox, queues, leaves, acknowledges, gives_up, moves_off_sound, declares, releases, offers, asked_by, sends_sound, hears_sound, rises_sound)
+pub ruleset sounds = (with_inbox, queues, leaves, acknowledges, gives_up, moves_off_sound, declares, releases, offers, sends_sound, hears_sound, rises_sound)
 
 small : (Known : ℕ → Type 0) (May : Type 0) → KeptBy Known May (λ s u. IsSound s → IsSound u)
 small Known May = search sounds
