@@ -5,7 +5,7 @@ use Rattle.std.proofs.lemmas.Option.{slice_get_cases}
 use Rattle.std.proofs.lemmas.Bool.Decides.{nat_tests}
 use Rattle.set_route.specs.Routing.{new_stream, stream_numbers, settled, runs_on, NoneOpen, has_messages, place_of, place_raised, place_settled, raised, home_of}
 use Rattle.set_route.specs.declared.stream.Stream.{Stream}
-use Rattle.set_model.specs.Step.{Event, Gains, Offer, step, stepped, offered, rows_sent}
+use Rattle.set_model.specs.Step.{Event, Gains, step, stepped, offered, rows_sent}
 use Rattle.set_model.specs.Laws.{IsNew, KeepsMessages, RunsStraight}
 use Rattle.set_model.specs.Rows.{numbers, stream_of, Fate, Unacked, Waiting, IsNumbered, Row, all_with, appended, fated, is_back, is_back_to, is_on, is_parked, is_waiting, moved, standing, stands_back, turned}
 use Rattle.set_model.specs.Sound.{IsAsked, IsManaged, IsPlaced, IsSettings, IsSound, AreAbove, AreTogether, BeginsNone, IsAscending, IsBackOf, IsSoundStream, astray, is_astray, is_live, is_unfinished, live, stands_at}
