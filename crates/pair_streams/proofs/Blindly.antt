@@ -1,12 +1,12 @@
 -- A LINK SETTLES WITHOUT A NUMBER, and each stream: of those that are lost each stands given up, and the rest goes along.
 use Rattle.std.proofs.Math.Nat.{le_refl}
 use Rattle.std.proofs.lemmas.Bool.Decides.{nat_tests}
-use Rattle.std.proofs.Common.{arith, zero, suc, ◌≤◌, length, refl, ◌≡◌, ◌∙◌, ap, sym, subst, ℕ, ◌==◌, ◌+◌, ◌-◌, Bool, true, false, List, [], ◌∷◌, drop, slice_get, Some, None, ◌⊎◌, inl, inr}
+use Rattle.std.proofs.Common.{arith, zero, suc, ◌≤◌, length, refl, ◌≡◌, ◌∙◌, sym, subst, ℕ, ◌+◌, ◌-◌, Bool, true, List, [], ◌∷◌, drop, slice_get, Some, ◌⊎◌, inl, inr}
 use Rattle.set_events.specs.declared.answer.Fate.{Fate}
 use Rattle.set_model.specs.declared.phase.Phase.TheVariants.{Down}
 use Rattle.set_model.specs.declared.reached.Reached.TheVariants.{Upto, Unknown}
 use Rattle.set_model.specs.Changeover.{fate_on, settled}
-use Rattle.set_model.specs.Rows.{Row, is_on, is_unacked, all_with, changed, turned, place, row_of, unack}
+use Rattle.set_model.specs.Rows.{Row, is_on, is_unacked, all_with, turned, place, row_of, unack}
 use Rattle.set_model.specs.Sound.{IsSound}
 use Rattle.set_model.specs.State.{LinkState, State, target}
 use Rattle.set_model.proofs.Rows.{row_in_filter}

@@ -1,15 +1,14 @@
 -- NUMBERS RISE: a set gives each number once, so those of what was offered rise, and so do those of any part in order.
 use Rattle.std.proofs.Common.{refl, arith, ◌≡◌, ap, sym, subst, ℕ, ◌≤◌, ◌==◌, ◌+◌, Bool, true, false, List, [], ◌∷◌, ◌++◌, length, Option, Some, None, cond, inl, inr}
 use Rattle.std.proofs.lemmas.List.{append-nil, length-append}
-use Rattle.l2_units.specs.Grammar.{head_of}
 use Rattle.set_events.specs.declared.answer.Fate.{Fate}
 use Rattle.set_events.specs.declared.answer.Refusal.{Refusal as SetRefusal}
 use Rattle.set_events.specs.declared.event.Event.{Event}
 use Rattle.set_events.specs.declared.event.Event.TheVariants.{Offer}
-use Rattle.set_model.specs.Control.{Choice, again, first, fill, choice_of, part_of}
+use Rattle.set_model.specs.Control.{Choice, again, first, fill, choice_of}
 use Rattle.set_model.specs.Rows.{Row, is_on, is_back, is_back_to, appended, moved, unack, octets_in, stream_of}
 use Rattle.set_model.specs.State.{State, window_of}
-use Rattle.set_model.specs.Step.{is_msu, offer_refusal, offered, rows_sent, step}
+use Rattle.set_model.specs.Step.{offer_refusal, offered, rows_sent, step}
 use Rattle.set_model.proofs.Events.{sent}
 use Rattle.set_model.proofs.Rows.{new_row, moved_length}
 use Rattle.set_model.proofs.Walk.{KeptBy, step_walks}

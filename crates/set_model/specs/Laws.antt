@@ -67,7 +67,8 @@ arrived count number rows = turned (is_unacked number) (Acked number) count rows
 pub record MovesTheRest (fsn number : ℕ) (link : LinkState) (s : State) : Type 0 where
   -- the rows that aren't on the link stand first; then exactly those that were on it, for the target
   pub rows_are : (settled (Upto fsn) number link s).rows
-      ≡ moved (is_on number) (all_with (fate_on (target s.links))) (arrived (reached_by fsn number link s.rows) number s.rows)
+      ≡ moved (is_on number) (all_with (fate_on (target s.links)))
+      (arrived (reached_by fsn number link s.rows) number s.rows)
   -- of what was on the link, just the acknowledged ones aren't moved
   pub sent_rest : unack number (arrived (reached_by fsn number link s.rows) number s.rows)
       ≡ drop (reached_by fsn number link s.rows) (unack number s.rows)
