@@ -13,7 +13,6 @@ use Rattle.set_model.specs.State.{LinkState, State, is_up}
 use Rattle.set_model.specs.Changeover.{reached_by, is_reasonable, settled, settled_link}
 use Rattle.set_model.proofs.Events.{ChangesOn, given_up as given_up_of}
 use Rattle.set_model.proofs.Lists.{set_same}
-use Rattle.set_model.proofs.Places.{unacked_not_waiting}
 use Rattle.set_model.proofs.Rows.{changed_left, turned_same}
 use Rattle.set_model.proofs.SoundLink.{gives_up}
 use Rattle.set_model.proofs.Walk.{IsAt}
@@ -49,7 +48,7 @@ module _ (n : ℕ) (link : LinkState) (s f : State) (sound : IsSound s) (at : Is
 
   -- of its queue what wasn't sent is left, and other queues stay
   pub rest_is : (count : ℕ) → queue count n given_up.rows ≡ messages (wait n s.rows ++ held n s.rows)
-  rest_is count = rw (none_sent, turned_same (is_unacked n) (is_waiting n) (Discarded Emergency) refl (unacked_not_waiting n n) (length s.rows) s.rows, does.held_same, drop_none {X = Row} count) refl
+  rest_is count = rw (none_sent, turned_same (is_unacked n) (is_waiting n) (Discarded Emergency) refl (λ f e. grind arith) (length s.rows) s.rows, does.held_same, drop_none {X = Row} count) refl
 
   pub own_rest : pending n given_up f ≡ messages (wait n s.rows ++ held n s.rows)
   own_rest = rest_is (accepted_on n f - acked_on n s)

@@ -7,7 +7,7 @@ use Rattle.set_model.specs.Control.{Choice, first}
 use Rattle.set_model.specs.Laws.{IsEmptyLink}
 use Rattle.set_model.specs.Sound.{is_unfinished}
 use Rattle.set_model.specs.Step.{rows_sent}
-use Rattle.set_model.proofs.Places.{itself, apart_back, unacked_not_waiting, on_not_parked, on_other, not_on_waiting, not_on_unacked, not_on_held}
+use Rattle.set_model.proofs.Places.{itself, apart_back, on_other, not_on_waiting, not_on_unacked, not_on_held}
 use Rattle.set_model.proofs.Rows.{InPlace, turned_there, turned_same, turned_left, moved_length, moved_fit, moved_numbered, moved_gone, moved_same, moved_joined, filter_moved, filter_comm, filter_within, none_within, body_moved, total_is, new_row, same_numbers}
 use Rattle.set_model.proofs.Order.{before_filter, before_none, before_within, first_sent, on_in_order}
 
@@ -102,7 +102,8 @@ pub record Acknowledged (l count : ℕ) (rows new : List Row) : Type 0 where
 pub acknowledged : (l count : ℕ) (rows : List Row) → Acknowledged l count rows (turned (is_unacked l) (Acked l) count rows)
 acknowledged l count rows =
     let changed = ends_on l (is_unacked l) (Acked l) rows _ (turned_there (is_unacked l) (Acked l) count rows) (λ f e. grind arith) refl in
-    search (changed, turned_left, turned_same, unacked_not_waiting, on_in_order, changed.order_kept, changed.last_kept, changed.held_same)
+    let not_waiting : (f : Fate) → is_unacked l f ≡ true → is_waiting l f ≡ false = λ f e. grind arith in
+    search (changed, turned_left, turned_same, on_in_order, changed.order_kept, changed.last_kept, changed.held_same)
 
 -- what the rows keep where nothing is sent for the first time too
 pub sent_by : (choice : Choice) (n : ℕ) (rows : List Row) → ChangesOn n rows (rows_sent choice n rows)
@@ -143,11 +144,13 @@ pub record MovedTo (l t : ℕ) (rows new : List Row) : Type 0 where
   pub parked_same : parked new ≡ parked rows
 
 pub moved_to : (l t : ℕ) (rows : List Row) → (l == t) ≡ false → MovedTo l t rows (moved (is_on l) (all_with (Waiting t)) rows)
-moved_to l t rows d = search (on_other, apart_back, moved_joined, itself, not_on_waiting, moved_same, not_on_held, left, not_on_unacked, on_not_parked)
+moved_to l t rows d =
+    let not_parked : (f : Fate) → is_on l f ≡ true → is_parked f ≡ false = λ f e. grind arith in
+    search (on_other, apart_back, moved_joined, itself, not_on_waiting, moved_same, not_on_held, left, not_on_unacked)
 
 -- where no link is up
 pub moved_aside : (l : ℕ) (rows : List Row) → parked (moved (is_on l) (all_with Parked) rows) ≡ parked rows ++ map (with_fate Parked) (on l rows)
-moved_aside l rows = search (moved_joined, on_not_parked)
+moved_aside l rows = moved_joined (is_on l) is_parked (all_with Parked) rows (λ x. refl) (λ f e. grind arith)
 
 -- PARKED MESSAGES THAT FIND A LINK.
 pub record Unparked (l : ℕ) (rows new : List Row) : Type 0 where

@@ -13,13 +13,6 @@ apart_back l n d = apart n l (λ e. eqb-false l n d (sym e))
 pub itself : (l : ℕ) → (l == l) ≡ true
 itself l = eq-eqb l l refl
 
--- Kinds of places.
-pub unacked_not_waiting : (l n : ℕ) (f : Fate) → is_unacked n f ≡ true → is_waiting l f ≡ false
-unacked_not_waiting l n f e = grind arith
-
-pub on_not_parked : (n : ℕ) (f : Fate) → is_on n f ≡ true → is_parked f ≡ false
-on_not_parked n f e = grind arith
-
 -- What is on one link isn't on another.
 pub on_other : (l n : ℕ) → (l == n) ≡ false → (f : Fate) → is_on n f ≡ true → is_on l f ≡ false
 on_other l n d f e = grind arith
