@@ -69,7 +69,7 @@ impl Bodies {
     }
 
     /// The body of the message of this number.
-    #[tactic(auto, using(crate::proofs::Storing::found, crate::proofs::Storing::length_bodies))]
+    #[tactic(auto, using(crate::proofs::Storing::found, crate::proofs::Storing::length_bodies, crate::proofs::Storing::spans))]
     pub fn body(&self, number: u64) -> &[u8]
         requires { number < length self.now.items }
         ensures { slice_get self.now.items number ≡ Some result.now }

@@ -112,15 +112,4 @@ impl Buffers {
             Fate::Acked { .. } | Fate::Discarded { .. } => (),
         }
     }
-
-    /// The first that waits for the acknowledgement of the changeback leaves, if there is one.
-    #[tactic(auto, using(crate::proofs::Linked::of_code))]
-    pub(crate) fn drop_back(&mut self, code: u8)
-        requires known { code < length self.old.lists.back }
-        ensures lists { self.new.lists ≡ with_queue (Fate.Back code)
-            (drop 1 (queue_at (Fate.Back code) self.old.lists)) self.old.lists }
-        ensures room { KeepsRoom self.old.rooms self.new.rooms }
-    {
-        self.back[usize::from(code)].pop();
-    }
 }
