@@ -5,8 +5,7 @@ use Rattle.std.proofs.lemmas.List.{length-map}
 use Rattle.std.proofs.lemmas.Option.{slice_get-map, slice_get_read, slice_get_within, get_or_from_slice_get}
 use Rattle.l2_window.specs.Queue.{QueueState}
 use Rattle.set_queues.specs.declared.buffers.Link.{Link}
-use Rattle.set_queues.specs.Messages.{updated}
-use Rattle.set_queues.specs.Buffers.{LinkLists, LinkRooms, Rooms, BuffersState, KeepsRoom}
+use Rattle.set_queues.specs.Buffers.{updated, LinkLists, LinkRooms, Rooms, BuffersState, KeepsRoom}
 use Rattle.std.specs.Option.{option_map_or}
 use Rattle.set_queues.specs.Kept.{lists_of, rooms_of, messages_of, room_of, state_of}
 use Rattle.set_queues.specs.declared.buffers.Buffers.TheInside.{Inside}

@@ -1,12 +1,17 @@
 -- The queues in which messages stand, as lists of their numbers. Read this file first.
-use Rattle.std.specs.Prelude.{◌≡◌, ℕ, ◌+◌, ◌<◌, ◌≤◌, ◌==◌, Bool, true, false, List, [], length, replicate, slice_get, slice_index_or, Option, Some, None, if◌then◌else◌}
+use Rattle.std.specs.Prelude.{◌≡◌, ℕ, ◌+◌, ◌<◌, ◌≤◌, ◌==◌, Bool, true, false, List, [], ◌∷◌, zero, suc, length, replicate, slice_get, slice_index_or, Option, Some, None, if◌then◌else◌}
 use Rattle.std.specs.Option.{option_map_or}
 use Rattle.l2_window.specs.Window.{fsn_before_first}
 pub use Rattle.set_events.specs.declared.answer.Fate.{Fate}
 pub use Rattle.set_events.specs.declared.answer.Fate.TheVariants.{Waiting, Unacked, Acked, Held, Parked, Back, Discarded}
 use Rattle.set_events.specs.declared.answer.DiscardCause.{DiscardCause}
 pub use Rattle.set_events.specs.declared.answer.DiscardCause.TheVariants.{Emergency, Unreasonable, NoAnswer}
-use Rattle.set_queues.specs.Messages.{updated}
+
+-- the element at this place changes
+abbrev pub updated : {X : Type 0} → ℕ → (X → X) → List X → List X
+updated i change [] = []
+updated zero change (x ∷ xs) = change x ∷ xs
+updated (suc i) change (x ∷ xs) = x ∷ updated i change xs
 
 -- of one link: the FSN last acknowledged; what was sent and isn't acknowledged; what waits to be sent; what is held
 -- until the link settles. Oldest first.

@@ -129,6 +129,7 @@ impl Queues {
     }
 
     /// The octets of the unacknowledged bodies of the link.
+    #[tactic(auto, using(crate::proofs::Tallies::weighs))]
     pub fn octets(&self, link: u8) -> u32
         requires { link < length self.now.lists.links }
         ensures { result ≡ octets_of (queue_at
