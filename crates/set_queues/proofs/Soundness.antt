@@ -15,10 +15,7 @@ abbrev pub Replaces : Lists → Lists → Fate → Fate → List ℕ → List �
 Replaces q q' from to left joined = (f : Fate) → is_standing f ≡ true → queue_at f q' ≡ cond (same_fate from f) left (cond (same_fate to f) joined (queue_at f q))
 
 pub both_size : (q : Lists) (from to : Fate) (left joined : List ℕ) → SameSize q (with_queue from left (with_queue to joined q))
-both_size q from to left joined =
-    let once = size_stays to joined q in
-    let twice = size_stays from left (with_queue to joined q) in
-    record { links = twice.links ∙ once.links; back = twice.back ∙ once.back }
+both_size q from to left joined = let once = size_stays to joined q in let twice = size_stays from left (with_queue to joined q) in record { links = twice.links ∙ once.links; back = twice.back ∙ once.back }
 
 pub both_replaced : (q : Lists) (from to : Fate) (left joined : List ℕ) → IsKnown from q → IsKnown to q → Replaces q (with_queue from left (with_queue to joined q)) from to left joined
 both_replaced q from to left joined k o f s =
@@ -81,11 +78,7 @@ stands_push ms x f m = grind (arith, get_push, slice_get_past)
 
 added_tie : (q : Lists) (ms : List Message) (x : Message) → AreTied q ms → is_standing x.fate ≡ true → IsKnown x.fate q → AreTied (with_queue x.fate (queue_at x.fate q ++ length ms ∷ []) q) (ms ++ x ∷ [])
 added_tie q ms x tie u k f s m =
-    let had = tie f s m in
-    let there = queue_set x.fate f (queue_at x.fate q ++ length ms ∷ []) q u k in
-    let stood = stands_push ms x f m in
-    let more = occurs-append m (queue_at x.fate q) (length ms ∷ []) in
-    grind (arith, same_is)
+    grind (arith, same_is, tie f s m, queue_set x.fate f (queue_at x.fate q ++ length ms ∷ []) q u k, stands_push ms x f m, occurs-append m (queue_at x.fate q) (length ms ∷ []))
 
 pub sound_added : (q : Lists) (ms : List Message) (x : Message) → AreSound q ms → IsFit x → IsKnown x.fate q → IsQueued x.fate → AreSound (with_queue x.fate (queue_at x.fate q ++ length ms ∷ []) q) (ms ++ x ∷ [])
 sound_added q ms x s fit k u =
@@ -150,10 +143,8 @@ waits_on link to q a = let now = passed_replaces q (Unacked link) to refl a.know
 
 pub held_last : (link : ℕ) (to : Fate) (q : Lists) → IsAside link to q → queue_at (Held link) (passed (Waiting link) to (passed (Unacked link) to q)) ≡ queue_at (Held link) q
 held_last link to q a =
-    let mid = passed_replaces q (Unacked link) to refl a.known a.other (Held link) refl in
     let there = aside_passed link (Unacked link) to q a in
-    let now = passed_replaces (passed (Unacked link) to q) (Waiting link) to refl there.known there.other (Held link) refl in
-    grind (arith, a.held)
+    grind (arith, a.held, passed_replaces q (Unacked link) to refl a.known a.other (Held link) refl, passed_replaces (passed (Unacked link) to q) (Waiting link) to refl there.known there.other (Held link) refl)
 
 -- the room that is left
 pub room_left : (to : Fate) (count : ℕ) (old new : Rooms) → IsQueued to → TakesRoom to count old new → room_at to old ≤ room_at to new + count
