@@ -6,9 +6,8 @@ use Rattle.std.proofs.lemmas.List.Folds.{find-append}
 use Rattle.std.proofs.lemmas.Bool.Decides.{nat_tests}
 use Rattle.set_queues.specs.Buffers.{Lists, is_standing, same_fate, queue_at, with_queue, IsKnown, LinkLists, last_at, with_last, number_in, IsQueued}
 use Rattle.set_queues.specs.Messages.{restood_one, restood, fate_at}
-use Rattle.set_queues.specs.Sending.{first_sent, acknowledged as acked_lists, reach}
-use Rattle.set_queues.specs.Backs.{passed_first}
-use Rattle.set_queues.specs.Queues.{occurs, passed}
+use Rattle.set_queues.specs.Sending.{acknowledged as acked_lists, reach}
+use Rattle.set_queues.specs.Queues.{occurs, passed, passed_first}
 use Rattle.set_queues.specs.Settling.{on as on_lists, settled}
 use Rattle.set_queues.proofs.Standing.{length-updated, updated_same, updated_other, updated_there, same_is, length-restood, fate_stays, fate_moves, queue_set, links_stay}
 use Rattle.set_queues.proofs.Soundness.{both_replaced, passed_replaces, queue_last, last_links, IsAside, settling}
@@ -135,18 +134,16 @@ has_queues k s n link f there = let low = within s.links n link there in let man
 
 -- THE FIRST OF A QUEUE stands last in another, where none of those stands behind one of it
 pub first_for : (k : Kept) (s : State) (from to : Fate) (test there : Fate → Bool) → StandsFor k s → is_standing from ≡ true → is_standing to ≡ true → IsKnown from k.lists → IsKnown to k.lists → ((g : Fate) → test g ≡ is_there from g) → ((g : Fate) → there g ≡ is_there to g) → test to ≡ false → rows_at from s.rows ≡ standing test s.rows → AreBefore there test s.rows
-    → StandsFor (record k { lists = passed_first from to k.lists; messages = restood (take 1 (queue_at from k.lists)) to k.messages }) (record s { rows = turned test to 1 s.rows })
+    → StandsFor (record k { lists = passed_first 1 from to k.lists; messages = restood (take 1 (queue_at from k.lists)) to k.messages }) (record s { rows = turned test to 1 s.rows })
 first_for k s from to test there f stood own known other is same off rows order =
     let ns : queue_at from k.lists ≡ numbers (standing test s.rows) = f.stands.queues from ∙ ap numbers rows in
     queues_for k s f _ _ _ (shifts_stand f.stands (first_shifts test there to same off (λ h e. same h ∙ grind (arith, is h, same_is)) (λ g h t e. is h ∙ grind (arith, same_is)) s.rows f.stands.numbered order)
     (λ g t. both_replaced k.lists from to (drop 1 (queue_at from k.lists)) (queue_at to k.lists ++ take 1 (queue_at from k.lists)) known other g t ∙ grind (arith, nat_tests, is g, f.stands.queues to, ns)) (ap (take 1) ns)) (simp (length-updated, links_stay)) _ _ f.routing (λ m. search last_stays)
 
 -- A FIRST SENDING: the first that waits stands last among the unacknowledged.
-pub sent_for : (k : Kept) (s : State) (n message : ℕ) → StandsFor k s → IsInOrder n s.rows → n < length k.lists.links → slice_get (queue_at (Waiting n) k.lists) 0 ≡ Some message
-    → StandsFor (record k { lists = first_sent n message k.lists; messages = restood (message ∷ []) (Unacked n) k.messages }) (record s { rows = turned (is_waiting n) (Unacked n) 1 s.rows })
-sent_for k s n message f order known first =
-    let taken : take 1 (queue_at (Waiting n) k.lists) ≡ message ∷ [] = grind arith in
-    subst (λ (ns : List ℕ). StandsFor (record k { lists = with_queue (Waiting n) (drop 1 (queue_at (Waiting n) k.lists)) (with_queue (Unacked n) (queue_at (Unacked n) k.lists ++ ns) k.lists); messages = restood ns (Unacked n) k.messages }) (record s { rows = turned (is_waiting n) (Unacked n) 1 s.rows })) taken (first_for k s (Waiting n) (Unacked n) (is_waiting n) (is_unacked n) f refl refl known known (λ fate. grind arith) (λ fate. grind arith) refl refl order)
+pub sent_for : (k : Kept) (s : State) (n : ℕ) → StandsFor k s → IsInOrder n s.rows → n < length k.lists.links
+    → StandsFor (record k { lists = passed_first 1 (Waiting n) (Unacked n) k.lists; messages = restood (take 1 (queue_at (Waiting n) k.lists)) (Unacked n) k.messages }) (record s { rows = turned (is_waiting n) (Unacked n) 1 s.rows })
+sent_for k s n f order known = first_for k s (Waiting n) (Unacked n) (is_waiting n) (is_unacked n) f refl refl known known (λ fate. grind arith) (λ fate. grind arith) refl refl order
 
 -- AN ACKNOWLEDGEMENT, under a link that counts it.
 pub acked_for : (k : Kept) (s : State) (n fsn : ℕ) (link link' : LinkState) → StandsFor k s → slice_get s.links n ≡ Some link → fsn < 128 → link'.acked ≡ link.acked + reach n fsn k.lists

@@ -1,10 +1,10 @@
 -- WHAT STANDS BACK FOR A LINK turns back: the oldest, the first of the rows that do, and so all of it, one by one.
-use Rattle.std.proofs.Common.{inl, refl, arith, ◌≡◌, ◌∙◌, ap, sym, subst, [], ◌∷◌, ◌++◌, length, ℕ, suc, Bool, true, false, List, Some, cond, take, drop, ◌+◌, ◌*◌, None, ◌≤◌, ◌<◌, zero, ◌==◌, ◌⊎◌, Option, slice_get, filter, map, not, option_map}
+use Rattle.std.proofs.Common.{length-take, inl, refl, arith, ◌≡◌, ◌∙◌, ap, sym, subst, [], ◌∷◌, ◌++◌, length, ℕ, suc, Bool, true, false, List, Some, cond, take, drop, ◌+◌, ◌*◌, None, ◌≤◌, ◌<◌, zero, ◌==◌, ◌⊎◌, Option, slice_get, filter, map, not, option_map}
 use Rattle.std.proofs.lemmas.Bool.{eq-eqb, cases_eq, cases_lt, ne_eqb, not-true}
 use Rattle.std.proofs.lemmas.Bool.Decides.{nat_tests}
 use Rattle.std.proofs.lemmas.List.Elements.{filter-append}
 use Rattle.std.proofs.lemmas.List.{append_assoc, length-append, get_or_past}
-use Rattle.set_queues.specs.Backs.{passed_first, IsOldest, back_from, NoneBack}
+use Rattle.set_queues.specs.Backs.{IsOldest, back_from, NoneBack}
 use Rattle.set_queues.specs.Buffers.{Lists, is_standing, same_fate, queue_at, HaveRoom, TakesRoom}
 use Rattle.set_queues.specs.Messages.{restood}
 use Rattle.set_queues.proofs.Standing.{same_is}
@@ -19,7 +19,7 @@ use Rattle.set_moves.specs.Turning.{IsTurning, IsTurningRow, HasWay, TakesTurns,
 use Rattle.set_moves.proofs.States.{becomes, first_for, parted_for}
 use Rattle.set_moves.proofs.RowsAt.{is_there}
 use Rattle.set_moves.specs.Parts.{Parts, Up, IsWhole, kept_of}
-use Rattle.set_queues.specs.Queues.{QueuesState}
+use Rattle.set_queues.specs.Queues.{QueuesState, passed_first}
 use Rattle.set_queues.specs.Settling.{on as on_lists}
 use Rattle.set_queues.proofs.Tallies.{back_none}
 use Rattle.set_queues.proofs.Soundness.{on_length, both_replaced}
@@ -150,7 +150,7 @@ module _ (home : ℕ) (s : State) (k : Kept) (t : TurnsOn home s k) where
         record { number = it.row.number; first = o.first ∙ ap Some (sym it.number_is); message = label.0; message_is = label.1; stream = stream_of it.row.body; kind_is = label.2; few = turns.1; via = turns.2; place_is = ap (place_of (stream_of it.row.body)) t.stands.routing ∙ turns.3; known = subst (λ (n : ℕ). turns.2 < n) (ap length (sym t.stands.links)) turns.4 }
 
     -- and turns
-    pub turned_first : (to : Fate) (new : Kept) → IsOnLink (length k.lists.links) to → to ≡ fate_at (On way.via) s → new ≡ record k { lists = passed_first (Back code) to k.lists; messages = restood (take 1 (queue_at (Back code) k.lists)) to k.messages } → TurnsOn home s new
+    pub turned_first : (to : Fate) (new : Kept) → IsOnLink (length k.lists.links) to → to ≡ fate_at (On way.via) s → new ≡ record k { lists = passed_first 1 (Back code) to k.lists; messages = restood (take 1 (queue_at (Back code) k.lists)) to k.messages } → TurnsOn home s new
     unfolding way
     turned_first to new on is b =
         let off : is_back_to home to ≡ false = grind arith in
@@ -186,7 +186,7 @@ module _ (code : ℕ) (q q' : Lists) (others : (c : ℕ) → (code ≡ c → ⊥
 -- THE FIRST OF A CODE'S GOES TO A LINK: it waits for it, or is held for it
 module _ (home code : ℕ) (to : Fate) (q : Lists) (o : IsOldest home code q) (on : IsOnLink (length q.links) to) where
   abbrev gone : Lists
-  gone = passed_first (Back code) to q
+  gone = passed_first 1 (Back code) to q
 
   pub apart : (c : ℕ) → same_fate to (Back c) ≡ false
   apart c = let to_link = on.2 in grind arith
@@ -213,10 +213,10 @@ module _ (home code : ℕ) (to : Fate) (q : Lists) (o : IsOldest home code q) (o
   on_then m = let to_link = on.2 in grind (arith, nat_tests, on_length m q, on_length m gone, grown (Unacked m) refl refl, grown (Waiting m) refl refl, grown (Held m) refl refl)
 
 -- ROOM
-pub turns_one : (home code : ℕ) (to : Fate) (old new : QueuesState) → IsOldest home code old.lists → IsOnLink (length old.lists.links) to → new.lists ≡ passed_first (Back code) to old.lists → TakesRoom to 1 old.rooms new.rooms → new.room ≡ old.room → TakesTurns 1 old new
+pub turns_one : (home code : ℕ) (to : Fate) (old new : QueuesState) → IsOldest home code old.lists → IsOnLink (length old.lists.links) to → new.lists ≡ passed_first 1 (Back code) to old.lists → TakesRoom to (length (take 1 (queue_at (Back code) old.lists))) old.rooms new.rooms → new.room ≡ old.room → TakesTurns 1 old new
 turns_one home code to old new o on e rooms room = record {
   room = room;
-  rooms = λ f. let taken = rooms f in grind arith;
+  rooms = λ f. let taken = rooms f in grind (arith, length-take);
   on_link = λ n low. rw e (on_then home code to old.lists o on n);
 }
 

@@ -21,6 +21,7 @@ use Rattle.set_queues.specs.Messages.{octets_at, octets_of}
 use Rattle.set_model.proofs.Rows.{Found, found_by_number, row_in_filter}
 use Rattle.set_moves.proofs.RowsAt.{is_there, rows_as}
 use Rattle.std.proofs.lemmas.List.{length-map}
+use Rattle.std.proofs.lemmas.List.Sums.{sum_by-cons}
 use Rattle.set_queues.specs.Backs.{back_from}
 use Rattle.set_route.specs.Routing.{home_of}
 use Rattle.set_route.specs.Target.{target_of}
@@ -56,7 +57,7 @@ fit_at number (x ∷ rows) body fit e = grind (arith, fit_at number rows body fi
 
 sum_of : (xs : List Row) (ms : List KeptMessage) → ((i : ℕ) (row : Row) → slice_get xs i ≡ Some row → octets_at row.number ms ≡ length row.body) → octets_of (numbers xs) ms ≡ octets_in xs
 sum_of [] ms h = refl
-sum_of (x ∷ xs) ms h = let here = h 0 x refl in let rest = sum_of xs ms (λ i row e. h (suc i) row e) in omega (arith, here, rest)
+sum_of (x ∷ xs) ms h = let here = h 0 x refl in let rest = sum_of xs ms (λ i row e. h (suc i) row e) in omega (arith, here, rest, sum_by-cons (λ (n : ℕ). octets_at n ms) x.number (numbers xs))
 
 module _ (k : Kept) (s : State) (f : StandsFor k s) where
   -- at a place of a queue stands the row that the number there finds, with its body

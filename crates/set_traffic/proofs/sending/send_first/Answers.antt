@@ -8,4 +8,4 @@ unreachable-requires c = grind (arith, c.in-Err.ensures.succeeds)
 
 pub returns : goal.returns
 returns c = λ s f order.
-    becomes (sent_for (kept_of c.args.parts.now) s c.args.number c.in-Ok.field-0.0 f order c.requires.known c.in-Ok.ensures.sent.first) (grind (arith, c.in-Ok.ensures.sent.lists, c.in-Ok.ensures.messages))
+    becomes (sent_for (kept_of c.args.parts.now) s c.args.number f order c.requires.known) (grind (arith, c.in-Ok.ensures.sent.lists, c.in-Ok.ensures.sent.messages))
