@@ -4,7 +4,8 @@ use Rattle.std.proofs.lemmas.Bool.{cases_eq}
 use Rattle.std.proofs.lemmas.List.{length-append, map-append, length-map}
 use Rattle.std.proofs.lemmas.List.Folds.{find-append}
 use Rattle.std.proofs.lemmas.Bool.Decides.{nat_tests}
-use Rattle.set_queues.specs.Buffers.{Lists, is_standing, same_fate, queue_at, with_queue, IsKnown, LinkLists, last_at, with_last, number_in, IsQueued}
+use Rattle.set_queues.specs.Buffers.{Lists, is_standing, same_fate, queue_at, with_queue, IsKnown, LinkLists, last_at, with_last, IsQueued}
+use Rattle.std.specs.Option.{option_map_or}
 use Rattle.set_queues.specs.Messages.{restood_one, restood, fate_at}
 use Rattle.set_queues.specs.Sending.{acknowledged as acked_lists, reach}
 use Rattle.set_queues.specs.Queues.{occurs, passed, passed_first}
@@ -75,10 +76,10 @@ pub last_stays : (f : Fate) (xs : List ℕ) (q : Lists) (n : ℕ) → last_at n 
 last_stays f xs q n = grind (arith, nat_tests, cases_eq, updated_same, updated_other)
 
 last_here : (l fsn : ℕ) (q : Lists) → l < length q.links → last_at l (with_last l fsn q) ≡ fsn
-last_here l fsn q h = let x = present q.links l h in ap number_in (updated_there (λ (z : LinkLists). record z { last = fsn }) q.links l x.0 x.1)
+last_here l fsn q h = let x = present q.links l h in ap (λ (o : Option LinkLists). option_map_or (λ z. z.last) o 127) (updated_there (λ (z : LinkLists). record z { last = fsn }) q.links l x.0 x.1)
 
 last_there : (l fsn : ℕ) (q : Lists) (n : ℕ) → l ≢ n → last_at n (with_last l fsn q) ≡ last_at n q
-last_there l fsn q n ne = ap number_in (updated_other (λ (z : LinkLists). record z { last = fsn }) q.links l n ne)
+last_there l fsn q n ne = ap (λ (o : Option LinkLists). option_map_or (λ z. z.last) o 127) (updated_other (λ (z : LinkLists). record z { last = fsn }) q.links l n ne)
 
 -- A NEW MESSAGE.
 pub appended_for : (k : Kept) (s : State) (body : List ℕ) (fate : Fate) → StandsFor k s → is_standing fate ≡ true → IsKnown fate k.lists

@@ -47,9 +47,7 @@ impl Bodies {
         ensures room { OnOk result (CanHold bodies self.new) }
         ensures same { self.new.items ≡ self.old.items }
     {
-        let Some(octets) = bodies.checked_mul(LONGEST_BODY) else {
-            return Err(AllocError);
-        };
+        let octets = bodies.checked_mul(LONGEST_BODY).ok_or(AllocError)?;
         self.ends.reserve(bodies)?;
         self.octets.reserve(octets)
     }

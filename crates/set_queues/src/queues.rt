@@ -1,6 +1,6 @@
 //! Where every message of a set stands, with what the counts need.
 ghost use Rattle.std.specs.Prelude.{◌≡◌, ◌+◌, ◌<◌, ℕ, slice_index, if◌then◌else◌, IfSome, ◌-◌, vec_len, vec_capacity, ◌≢◌, ◌↔◌, ◌%◌, ◌≤◌, ◌^◌, ◌++◌, [], ◌∷◌, Some, true, false, IsOk, IfOk, OnOk, OnErr, length, replicate, take, slice_get};
-ghost use Rattle.set_queues.specs.Buffers.{IsQueued, same_fate, IsKnown, CanTake, KeepsRoom, TakesRoom, HaveRoom, is_standing, queue_at, with_queue, last_at, with_last, room_at};
+ghost use Rattle.set_queues.specs.Buffers.{empty_lists, IsQueued, same_fate, IsKnown, CanTake, KeepsRoom, TakesRoom, HaveRoom, is_standing, queue_at, with_queue, last_at, with_last, room_at};
 ghost use Rattle.set_queues.specs.Settling.{fate_on, on, settled};
 ghost use Rattle.set_queues.specs.Queues.{QueuesState, AreSound, Moves, MovesAll, MovesFirst, MakesRoom};
 ghost use Rattle.set_queues.specs.Messages.{IsTally, restood, fate_at, octets_of, counts_of, unsent_of, IsFit};
@@ -46,10 +46,7 @@ impl Queues {
     /// acknowledged on it (Q.703 5.2.1).
     pub fn new(alloc: Global, links: u8) -> Result<Queues, AllocError>
         requires { (1 ≤ links) × (links ≤ 16) }
-        ensures links { IfOk result (λ queues. queues.lists.links ≡ replicate links
-            (record { last = 127; unacked = []; unsent = []; held = [] })) }
-        ensures parked { IfOk result (λ queues. queues.lists.parked ≡ []) }
-        ensures back { IfOk result (λ queues. queues.lists.back ≡ replicate 256 []) }
+        ensures lists { IfOk result (λ queues. queues.lists ≡ empty_lists links 256) }
         ensures messages { IfOk result (λ queues. queues.messages ≡ []) }
     {
         Ok(Queues {
@@ -347,17 +344,15 @@ impl Queues {
         ensures unreasonable { OnErr result (result ≡ Err WindowFault.Unreasonable) }
         ensures err { OnErr result (self.new ≡ self.old) }
     {
-        let Some(count) = self.window(link).distance(fsn) else {
-            return Err(WindowFault::Unreasonable);
-        };
+        let count = self
+            .window(link)
+            .distance(fsn)
+            .ok_or(WindowFault::Unreasonable)?;
         let (from, to) = (Fate::Unacked { link }, Fate::Acked { link });
         let moved = usize::from(count);
         pass(&mut self.buffers, &mut self.messages, from, moved, to);
         let buffers = &mut self.buffers;
-        match buffers.links[usize::from(link)].window.ack(fsn) {
-            Ok(_) => Ok(count),
-            Err(_) => unreachable!(),
-        }
+        buffers.links[usize::from(link)].window.ack(fsn)
     }
 
     /// All that stand in one queue stand last in the other from now on, in their order. It wants no

@@ -10,7 +10,6 @@ use Rattle.set_model.proofs.Lists.{present}
 use Rattle.std.proofs.lemmas.List.{length-replicate}
 use Rattle.set_events.specs.declared.config.SetConfig.{SetConfig}
 use Rattle.set_queues.specs.Queues.{AreGiven, AreSound}
-use Rattle.set_queues.proofs.Soundness.{given_all}
 use Rattle.set_route.specs.Routing.{new_routing}
 use Rattle.set_model.specs.Sound.{IsAsked}
 use Rattle.set_model.specs.Step.{Event, Answer, step, stepped}
@@ -19,7 +18,7 @@ use Rattle.set_model.proofs.Walk.{step_is}
 use Rattle.set_moves.specs.declared.parts.Parts.{Parts}
 use Rattle.set_step.specs.Answering.{AnswersFor, wants_none}
 use Rattle.set_moves.specs.Parts.{Answers, AreCounted, kept_of}
-use Rattle.set_queues.proofs.Standing.{occurs_here}
+use Rattle.set_queues.proofs.Standing.{occurs_here, given_queue}
 use Rattle.std.proofs.Common.{◌∙◌}
 use Rattle.set_model.specs.Rows.{Waiting}
 use Rattle.set_model.proofs.Settling.{settled_empty}
@@ -50,7 +49,7 @@ none_given [] given = refl
 none_given (n ∷ ns) given = absurd (omega (arith, given n (omega (arith, occurs_here n n refl))))
 
 none_stands : (q : Lists) → AreSound q [] → (fate : Fate) → queue_at fate q ≡ numbers (rows_at fate [])
-none_stands q sound fate = grind (arith, none_given (queue_at fate q), given_all q [] fate sound)
+none_stands q sound fate = grind (arith, none_given (queue_at fate q), given_queue q [] fate sound.tied)
 
 -- links that stand for new ones, sound queues with nothing, and nothing else
 pub opened : (config : SetConfig) (parts : Parts) → parts.config ≡ config → parts.links.items ≡ replicate config.links (new_link config.method) → parts.queues.lists.links ≡ replicate config.links no_lists → AreSound parts.queues.lists parts.queues.messages → parts.queues.messages ≡ [] → parts.bodies.items ≡ [] → parts.routes ≡ new_routing config.links → parts.inbox.items ≡ []

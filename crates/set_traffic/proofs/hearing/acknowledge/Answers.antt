@@ -11,7 +11,7 @@ pub returns-clause-stands : goal.returns-clause-stands
 returns-clause-stands c = λ k s link counted there e f.
     let q = c.args.queues.now.lists in
     let reaches = c.requires.reach (grind (arith, nat_tests, c.if-acked-eq0.false)) in
-    rw (c.in-Ok.ensures.lists, c.in-Ok.ensures.messages, reaches.count_is) (acked_for (record k { lists = q; messages = c.args.queues.now.messages }) s c.args.number c.args.bsn link counted f there c.requires.bsn (e ∙ ap (λ (i : ℕ). link.acked + i) reaches.count_is))
+    rw (c.in-Ok.ensures.moves.lists, c.in-Ok.ensures.moves.messages, reaches.count_is) (acked_for (record k { lists = q; messages = c.args.queues.now.messages }) s c.args.number c.args.bsn link counted f there c.requires.bsn (e ∙ ap (λ (i : ℕ). link.acked + i) reaches.count_is))
 
 pub returns-clause-keeps : goal.returns-clause-keeps
-returns-clause-keeps c = grind (arith, nat_tests, on_less, acked_less, c.in-Ok.ensures.rooms.1, c.in-Ok.ensures.rooms.0, c.in-Ok.ensures.lists, c.requires.known)
+returns-clause-keeps c = grind (arith, nat_tests, on_less, acked_less, c.in-Ok.ensures.moves.room, c.in-Ok.ensures.moves.rooms, c.in-Ok.ensures.moves.lists, c.requires.known)
