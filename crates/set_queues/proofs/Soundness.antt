@@ -1,13 +1,14 @@
 -- What holds of every set's queues goes on holding.
-use Rattle.std.proofs.Common.{refl, arith, ◌≡◌, ◌∙◌, ap, ◌+◌, ◌≤◌, ◌<◌, [], ◌∷◌, ◌++◌, length, ℕ, Bool, true, false, ◌==◌, List, Some, cond, get_or, take, drop, replicate, slice_get, ◌≢◌, subst, Option, append_assoc, IfSome}
+use Rattle.std.proofs.Common.{refl, arith, ◌≡◌, ◌∙◌, ap, ◌+◌, ◌≤◌, ◌<◌, [], ◌∷◌, ◌++◌, length, ℕ, Bool, true, false, ◌==◌, List, Some, cond, take, drop, slice_get, ◌≢◌, subst, Option, append_assoc, IfSome}
 use Rattle.set_queues.specs.Messages.{one_if, Message, restood_one, restood, IsFit, AreFit}
 use Rattle.set_queues.specs.Buffers.{Fate, Waiting, Unacked, no_lists, empty_lists, LinkLists, Lists, is_standing, same_fate, queue_at, with_queue, with_last, IsKnown, IsQueued, Rooms, Held, room_at, TakesRoom}
 use Rattle.set_queues.specs.Queues.{occurs, stands, passed, passed_first, AreTied, AreSound, AreNarrow}
 use Rattle.set_queues.proofs.Standing.{length-updated, updated_same, updated_other, get_push, Moves, moved_tie, given_queue, take_get, same_is, occurs-append, occurs-split, occurs_here, queue_set, links_stay, queue_away, SameSize, size_stays, known_on, restood-append, same_self, queued_stands}
 use Rattle.set_queues.proofs.Tallies.{fit_push, fit_restood}
-use Rattle.std.proofs.lemmas.List.{drop_all, get_or-replicate, get_or-set_same, get_or-set_other, get_or_past, length-replicate, length-append, length-take, length-drop}
+use Rattle.std.proofs.lemmas.List.{drop_all, get_or-replicate, get_or_past, length-replicate, length-append, length-take, length-drop}
 use Rattle.std.proofs.lemmas.Option.{slice_get_past, slice_get_cases}
 use Rattle.std.proofs.lemmas.Bool.{eq-eqb}
+use Rattle.std.proofs.lemmas.Bool.Decides.{nat_tests}
 use Rattle.set_queues.specs.Settling.{fate_on, on, Settles}
 
 -- two queues change: messages leave the one and join the other
@@ -41,14 +42,11 @@ pub record CanMove (from to : Fate) (q : Lists) : Type 0 where
   pub apart : same_fate to from ≡ false
 
 module _ (k : ℕ) (from to : Fate) (q : Lists) (ms : List Message) (c : CanMove from to q) where
-  moved_queue : Replaces q (passed_first k from to q) from to (drop k (queue_at from q)) (queue_at to q ++ take k (queue_at from q))
-  moved_queue = both_replaced q from to _ _ c.known c.other
-
   moved_moves : Moves (take k (queue_at from q)) from to q (passed_first k from to q)
-  moved_moves f s m = let there = moved_queue f s in let left = same_is from f s in let come = same_is to f s in let apart = c.apart in grind (arith, occurs-split, occurs-append)
+  moved_moves f s m = let there = both_replaced q from to (drop k (queue_at from q)) (queue_at to q ++ take k (queue_at from q)) c.known c.other f s in let left = same_is from f s in let come = same_is to f s in let apart = c.apart in grind (arith, occurs-split, occurs-append)
 
   narrow_moved : AreNarrow q → ((l : ℕ) → same_fate to (Unacked l) ≡ true → length (queue_at to q) + k ≤ 127) → AreNarrow (passed_first k from to q)
-  narrow_moved h n l = let there = moved_queue (Unacked l) refl in let had = h l in let more = n l in grind (arith, same_is, length-append, length-take, length-drop)
+  narrow_moved h n l = let there = both_replaced q from to (drop k (queue_at from q)) (queue_at to q ++ take k (queue_at from q)) c.known c.other (Unacked l) refl in let had = h l in let more = n l in grind (arith, same_is, length-append, length-take, length-drop)
 
   pub sound_moved : AreSound q ms → ((l : ℕ) → same_fate to (Unacked l) ≡ true → length (queue_at to q) + k ≤ 127) → AreSound (passed_first k from to q) (restood (take k (queue_at from q)) to ms)
   sound_moved s n =
@@ -84,11 +82,8 @@ sound_added q ms x s fit k u =
 
 -- NO MESSAGE
 
-all_alike : {X : Type 0} (x : X) (n k : ℕ) → get_or (replicate n x) k x ≡ x
-all_alike x n k = grind (arith, get_or-replicate, get_or-set_same, get_or-set_other, get_or_past, length-replicate)
-
 empty_queue : (n codes : ℕ) (f : Fate) → queue_at f (empty_lists n codes) ≡ []
-empty_queue n codes f = grind (arith, all_alike, slice_get_cases, get_or-replicate, length-replicate)
+empty_queue n codes f = grind (arith, slice_get_cases, get_or-replicate, get_or_past, length-replicate, nat_tests)
 
 pub sound_new : (q : Lists) (n : ℕ) → q ≡ empty_lists n 256 → 1 ≤ n → n ≤ 16 → AreSound q []
 sound_new q n e low high = rw e (record {

@@ -143,6 +143,8 @@ queue_set g f ns q s h = grind (arith, updated_there, updated_other, slice_get_c
 pub links_stay : (g : Fate) (numbers : List ℕ) (q : Lists) → length (with_queue g numbers q).links ≡ length q.links
 links_stay g ns q = grind (arith, length-updated)
 
+pub ruleset links = (links_stay, length-updated)
+
 -- as many links, and as many codes
 pub record SameSize (q q' : Lists) : Type 0 where
   pub links : length q'.links ≡ length q.links

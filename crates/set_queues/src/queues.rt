@@ -401,7 +401,7 @@ impl Queues {
 
     /// All that stand in one queue have another fate from now on, and stand last there, in their order, if
     /// it isn't final.
-    #[tactic(auto, using(crate::proofs::Standing::links_stay))]
+    #[tactic(auto, using(crate::proofs::Standing::known_with))]
     fn pass_all(&mut self, from: Fate, to: Fate)
         requires standing { is_standing from ≡ true }
         requires known { IsKnown from self.old.lists }

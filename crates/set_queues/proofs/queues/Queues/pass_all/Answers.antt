@@ -1,9 +1,5 @@
-use Rattle.set_queues.proofs.Standing.{known_with}
 use Rattle.set_queues.proofs.Soundness.{sound_passed, moved_whole}
 use Rattle.set_queues.proofs.queues.Queues.pass_all.Goals as goal
-
-pub clear-requires : goal.clear-requires
-clear-requires c = record { known = known_with c.args.from c.args.to _ _ _ c.pass.ensures.lists (rw (← c.self.view_is) at c.requires.known) }
 
 pub invariant_of-self : goal.invariant_of-self
 invariant_of-self c = (
