@@ -5,7 +5,7 @@ use Rattle.set_queues.specs.Buffers.{Fate, Waiting, Unacked, no_lists, empty_lis
 use Rattle.set_queues.specs.Queues.{occurs, stands, passed, passed_first, AreTied, AreSound, AreNarrow}
 use Rattle.set_queues.proofs.Standing.{length-updated, updated_same, updated_other, get_push, Moves, moved_tie, given_queue, take_get, same_is, occurs-append, occurs-split, occurs_here, queue_set, links_stay, queue_away, SameSize, size_stays, known_on, restood-append, same_self, queued_stands}
 use Rattle.set_queues.proofs.Tallies.{fit_push, fit_restood}
-use Rattle.std.proofs.lemmas.List.{drop_all, get_or-replicate, get_or_past, length-replicate, length-append, length-take, length-drop}
+use Rattle.std.proofs.lemmas.List.{get_or-replicate, get_or_past, length-replicate, length-append, length-take, length-drop}
 use Rattle.std.proofs.lemmas.Option.{slice_get_past, slice_get_cases}
 use Rattle.std.proofs.lemmas.Bool.{eq-eqb}
 use Rattle.std.proofs.lemmas.Bool.Decides.{nat_tests}
@@ -59,9 +59,6 @@ unqueued to l h = grind arith
 -- to where messages come otherwise than by being sent
 pub sound_passed : (k : ℕ) (from to : Fate) (q q' : Lists) (ms ms' : List Message) → AreSound q ms → CanMove from to q → (is_standing to ≡ true → IsQueued to) → q' ≡ passed_first k from to q → ms' ≡ restood (take k (queue_at from q)) to ms → AreSound q' ms'
 sound_passed k from to q q' ms ms' s c n e m = rw (e, m) (sound_moved k from to q ms c s (λ l f. let no = unqueued to l n in absurd (cc)))
-
-pub moved_whole : (k : ℕ) (from to : Fate) (q mid new : Lists) → k ≡ length (queue_at from q) → mid ≡ with_queue to (queue_at to q ++ take k (queue_at from q)) q → new ≡ with_queue from [] mid → new ≡ passed_first k from to q
-moved_whole k from to q mid new e m n = rw (n, m, drop_all k (queue_at from q) (omega (arith, e))) refl
 
 pub moved_one : (from to : Fate) (q mid new : Lists) → IsKnown to q → same_fate to from ≡ false → mid ≡ with_queue to (queue_at to q ++ take 1 (queue_at from q)) q → new ≡ with_queue from (drop 1 (queue_at from mid)) mid → new ≡ passed_first 1 from to q
 moved_one from to q mid new o a m n = rw (n, queue_away to from _ q mid m o a, m) refl

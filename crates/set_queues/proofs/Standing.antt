@@ -179,7 +179,4 @@ queue_next g xs ys i m q now new h e f n =
     let more : with_queue g (queue_at g now ++ m ∷ []) now ≡ with_queue g ((xs ++ take i ys) ++ m ∷ []) q = grind (arith, queue_set, same_self, queue_twice) in
     rw (n, more, take_get ys i m f) (simp append_assoc)
 
-pub restood_next : (ys : List ℕ) (i m : ℕ) (f : Fate) (ms now new : List Message) → now ≡ restood (take i ys) f ms → slice_get ys i ≡ Some m → new ≡ restood_one m f now → new ≡ restood (take (i + 1) ys) f ms
-restood_next ys i m f ms now new e g n = rw (n, e, take_get ys i m g, restood-append) refl
-
 pub ruleset passing = (queue_id, queue_away, known_with, none_past, append-nil)

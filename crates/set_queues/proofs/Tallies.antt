@@ -1,5 +1,5 @@
 -- The running counts of a list of messages, when one of them changes or joins, and the octets of their bodies.
-use Rattle.std.proofs.Common.{Fits, w32, ◌^◌, arith, ◌≡◌, ◌+◌, ◌≤◌, ◌<◌, [], ◌∷◌, ◌++◌, length, ℕ, zero, suc, Bool, List, Option, Some, None, refl, ◌*◌, cond, filter, sum_by, slice_get, slice_set, slice_index, get_or, sym, ◌-◌, true, false, ◌&&◌, nat_le, nat_lt, add-one}
+use Rattle.std.proofs.Common.{Fits, w32, ◌^◌, arith, ◌≡◌, ◌+◌, ◌≤◌, ◌<◌, [], ◌∷◌, ◌++◌, length, ℕ, zero, suc, Bool, List, Option, Some, None, refl, ◌*◌, cond, filter, sum_by, slice_get, slice_set, slice_index, get_or, ◌-◌, true, false, ◌&&◌, nat_le, nat_lt, add-one}
 use Rattle.std.proofs.lemmas.List.Sums.{length-filter, count_by-le-length, get_or-le-sum_by, sum_by-set, sum_by_push, sum_by-le, sum_by-cons}
 use Rattle.std.proofs.lemmas.Option.{slice_get_read, slice_get_past, slice_get-get_or, slice_get_cases, slice_get_within, get_or_from_slice_get}
 use Rattle.std.specs.Option.{option_map_or}
@@ -11,9 +11,6 @@ use Rattle.set_queues.specs.Queues.{occurs, stands, AreTied, AreSound}
 use Rattle.set_queues.specs.Backs.{back_from}
 
 -- what messages weigh, when one of them changes
-sum_in : (w : Message → ℕ) (xs : List Message) (n : ℕ) (x : Message) → slice_get xs n ≡ Some x → w x ≤ sum_by w xs
-sum_in w xs n x e = rw (get_or_from_slice_get xs n x x e) at (get_or-le-sum_by w xs n x (slice_get_within xs n x e))
-
 sum_set : (w : Message → ℕ) (xs : List Message) (n : ℕ) (x y : Message) → slice_get xs n ≡ Some x → sum_by w (slice_set xs n y) + w x ≡ sum_by w xs + w y
 sum_set w xs n x y e = rw (get_or_from_slice_get xs n x x e) at (sum_by-set w xs n y x (slice_get_within xs n x e))
 
@@ -22,7 +19,7 @@ count_few p xs = rw length-filter (count_by-le-length p xs)
 
 pub tally_in : (t : Tally) (xs : List Message) (n : ℕ) (x : Message) → IsTally t xs → slice_get xs n ≡ Some x → IsAmong x t
 tally_in t xs n x h e =
-    let sums = λ (w : Message → ℕ). sum_in w xs n x e in
+    let sums = λ (w : Message → ℕ). rw (get_or_from_slice_get xs n x x e) at (get_or-le-sum_by w xs n x (slice_get_within xs n x e)) in
     let counts = λ (p : Message → Bool). rw (← length-filter p) at (sums (λ m. cond (p m) 1 0)) in
     grind arith
 
@@ -107,23 +104,18 @@ abbrev AreThose : Fate → List ℕ → List Message → Type 0
 AreThose g ns ms = (m : ℕ) → occurs m ns ≡ one_if (stands g m ms)
 
 module _ (g : Fate) (standing : is_standing g ≡ true) (w : Message → ℕ) (same : (f : Fate) (m : Message) → w (with_fate f m) ≡ w m) where
-  none_weigh : (ms : List Message) → AreThose g [] ms → sum_by (weight g w) ms ≡ 0
-  none_weigh ms h = omega (arith, sum_by-le (weight g w) 0 ms (λ k d b. let at = h k in let there = slice_get-get_or ms k d b in grind arith))
-
   -- one of them stands in no queue any more
   one_less : (n : ℕ) (ms : List Message) (o : Option Message) → slice_get ms n ≡ o → stands g n ms ≡ true → sum_by (weight g w) (restood_one n (Acked 0) ms) + option_map_or w o 0 ≡ sum_by (weight g w) ms
   one_less n ms None e h = absurd (cc)
   one_less n ms (Some x) e h = let set = rw (set_updated (with_fate (Acked 0)) ms n x e) at (sum_set (weight g w) ms n x (with_fate (Acked 0) x) e) in grind arith
 
-  rest_those : (n : ℕ) (ns : List ℕ) (ms : List Message) → AreThose g (n ∷ ns) ms → AreThose g ns (restood_one n (Acked 0) ms)
-  rest_those n ns ms h m = let here = h n in let was = h m in let once = occurs_here n n refl in grind (arith, nat_tests, updated_same, updated_other, slice_get_cases)
-
   weighed : (v : ℕ → ℕ) (ns : List ℕ) (ms : List Message) → AreThose g ns ms → ((n : ℕ) (x : Message) → slice_get ms n ≡ Some x → v n ≡ w x) → sum_by v ns ≡ sum_by (weight g w) ms
-  weighed v [] ms h like = sym (none_weigh ms h)
+  weighed v [] ms h like = omega (arith, sum_by-le (weight g w) 0 ms (λ k d b. let at = h k in let there = slice_get-get_or ms k d b in grind arith))
   weighed v (n ∷ ns) ms h like =
-      let rest = weighed v ns (restood_one n (Acked 0) ms) (rest_those n ns ms h) (λ k x e. grind (arith, nat_tests, like, same, updated_same, updated_other, slice_get_cases)) in
       let here = h n in
       let once = occurs_here n n refl in
+      let those : AreThose g ns (restood_one n (Acked 0) ms) = λ m. let was = h m in grind (arith, nat_tests, updated_same, updated_other, slice_get_cases) in
+      let rest = weighed v ns (restood_one n (Acked 0) ms) those (λ k x e. grind (arith, nat_tests, like, same, updated_same, updated_other, slice_get_cases)) in
       let less = one_less n ms (slice_get ms n) refl (grind arith) in
       grind (arith, sum_by-cons v n ns, rest, like n, less, slice_get_cases)
 
