@@ -41,17 +41,13 @@ pub record CanMove (from to : Fate) (q : Lists) : Type 0 where
   pub other : IsKnown to q
   pub apart : same_fate to from ≡ false
 
-module _ (k : ℕ) (from to : Fate) (q : Lists) (ms : List Message) (c : CanMove from to q) where
-  moved_moves : Moves (take k (queue_at from q)) from to q (passed_first k from to q)
-  moved_moves f s m = let there = both_replaced q from to (drop k (queue_at from q)) (queue_at to q ++ take k (queue_at from q)) c.known c.other f s in let left = same_is from f s in let come = same_is to f s in let apart = c.apart in grind (arith, occurs-split, occurs-append)
-
-  narrow_moved : AreNarrow q → ((l : ℕ) → same_fate to (Unacked l) ≡ true → length (queue_at to q) + k ≤ 127) → AreNarrow (passed_first k from to q)
-  narrow_moved h n l = let there = both_replaced q from to (drop k (queue_at from q)) (queue_at to q ++ take k (queue_at from q)) c.known c.other (Unacked l) refl in let had = h l in let more = n l in grind (arith, same_is, length-append, length-take, length-drop)
-
-  pub sound_moved : AreSound q ms → ((l : ℕ) → same_fate to (Unacked l) ≡ true → length (queue_at to q) + k ≤ 127) → AreSound (passed_first k from to q) (restood (take k (queue_at from q)) to ms)
-  sound_moved s n =
-      let within : (m : ℕ) → occurs m (take k (queue_at from q)) ≤ occurs m (queue_at from q) = λ m. omega (arith, occurs-split m k (queue_at from q)) in
-      sound_on q _ ms _ s (both_size q from to _ _) (narrow_moved s.narrow n) (moved_tie q _ ms _ from to s.tied c.standing within moved_moves) (fit_restood (take k (queue_at from q)) to ms s.fit)
+pub sound_moved : (k : ℕ) (from to : Fate) (q : Lists) (ms : List Message) → CanMove from to q → AreSound q ms → ((l : ℕ) → same_fate to (Unacked l) ≡ true → length (queue_at to q) + k ≤ 127) → AreSound (passed_first k from to q) (restood (take k (queue_at from q)) to ms)
+sound_moved k from to q ms c s n =
+    let queues = both_replaced q from to (drop k (queue_at from q)) (queue_at to q ++ take k (queue_at from q)) c.known c.other in
+    let moves : Moves (take k (queue_at from q)) from to q (passed_first k from to q) = λ f t m. let there = queues f t in let left = same_is from f t in let come = same_is to f t in let apart = c.apart in grind (arith, occurs-split, occurs-append) in
+    let narrow : AreNarrow (passed_first k from to q) = λ l. let there = queues (Unacked l) refl in let had = s.narrow l in let more = n l in grind (arith, same_is, length-append, length-take, length-drop) in
+    let within : (m : ℕ) → occurs m (take k (queue_at from q)) ≤ occurs m (queue_at from q) = λ m. omega (arith, occurs-split m k (queue_at from q)) in
+    sound_on q _ ms _ s (both_size q from to _ _) narrow (moved_tie q _ ms _ from to s.tied c.standing within moves) (fit_restood (take k (queue_at from q)) to ms s.fit)
 
 pub unqueued : (to : Fate) (l : ℕ) → (is_standing to ≡ true → IsQueued to) → same_fate to (Unacked l) ≡ false
 unqueued to l h = grind arith
@@ -65,12 +61,10 @@ moved_one from to q mid new o a m n = rw (n, queue_away to from _ q mid m o a, m
 
 -- A NEW MESSAGE
 
-stands_push : (ms : List Message) (x : Message) (f : Fate) (m : ℕ) → one_if (stands f m (ms ++ x ∷ [])) ≡ one_if (stands f m ms) + cond (length ms == m) (one_if (same_fate x.fate f)) 0
-stands_push ms x f m = grind (arith, get_push, slice_get_past)
-
 added_tie : (q : Lists) (ms : List Message) (x : Message) → AreTied q ms → is_standing x.fate ≡ true → IsKnown x.fate q → AreTied (with_queue x.fate (queue_at x.fate q ++ length ms ∷ []) q) (ms ++ x ∷ [])
 added_tie q ms x tie u k f s m =
-    grind (arith, same_is, tie f s m, queue_set x.fate f (queue_at x.fate q ++ length ms ∷ []) q u k, stands_push ms x f m, occurs-append m (queue_at x.fate q) (length ms ∷ []))
+    let stood : one_if (stands f m (ms ++ x ∷ [])) ≡ one_if (stands f m ms) + cond (length ms == m) (one_if (same_fate x.fate f)) 0 = grind (arith, get_push, slice_get_past) in
+    grind (arith, same_is, tie f s m, queue_set x.fate f (queue_at x.fate q ++ length ms ∷ []) q u k, stood, occurs-append m (queue_at x.fate q) (length ms ∷ []))
 
 pub sound_added : (q : Lists) (ms : List Message) (x : Message) → AreSound q ms → IsFit x → IsKnown x.fate q → IsQueued x.fate → AreSound (with_queue x.fate (queue_at x.fate q ++ length ms ∷ []) q) (ms ++ x ∷ [])
 sound_added q ms x s fit k u =

@@ -1,5 +1,5 @@
 -- The running counts of a list of messages, when one of them changes or joins, and the octets of their bodies.
-use Rattle.std.proofs.Common.{Fits, w32, ◌^◌, arith, ◌≡◌, ◌+◌, ◌≤◌, ◌<◌, [], ◌∷◌, ◌++◌, length, ℕ, zero, suc, Bool, List, Option, Some, None, refl, ◌*◌, cond, filter, sum_by, slice_get, slice_set, slice_index, get_or, ◌-◌, true, false, ◌&&◌, nat_le, nat_lt, add-one}
+use Rattle.std.proofs.Common.{Fits, w32, ◌^◌, arith, ◌≡◌, ◌+◌, ◌≤◌, ◌<◌, [], ◌∷◌, ◌++◌, length, ℕ, zero, suc, Bool, List, Option, Some, None, refl, cond, filter, sum_by, slice_get, slice_set, slice_index, get_or, ◌-◌, true, false, ◌&&◌, nat_le, nat_lt, add-one}
 use Rattle.std.proofs.lemmas.List.Sums.{length-filter, count_by-le-length, get_or-le-sum_by, sum_by-set, sum_by_push, sum_by-le, sum_by-cons}
 use Rattle.std.proofs.lemmas.Option.{slice_get_read, slice_get_past, slice_get-get_or, slice_get_cases, slice_get_within, get_or_from_slice_get}
 use Rattle.std.specs.Option.{option_map_or}
@@ -63,11 +63,6 @@ restood_past xs i fate h = updated_id (with_fate fate) xs i (λ x e. absurd (gri
 
 pub ruleset restands = (slice_get_read, slice_get_past, restood_set, restood_past, tally_in, few_left, tally_set)
 
--- THE OCTETS of the bodies
-
-pub octets_few : (ns : List ℕ) (ms : List Message) → AreFit ms → octets_of ns ms ≤ 273 * length ns
-octets_few ns ms f = omega (arith, sum_by-le (λ n. octets_at n ms) 273 ns (λ k d b. let fit = λ (m : Message) (e : slice_get ms (get_or ns k d) ≡ Some m). (f (get_or ns k d) m e).octets in grind (arith, slice_get_cases, fit)))
-
 -- a message that comes to stand elsewhere keeps its octets
 
 pub octets_kept : (n : ℕ) (ks : List ℕ) (f : Fate) (ms : List Message) → octets_at n (restood ks f ms) ≡ octets_at n ms
@@ -124,7 +119,7 @@ pub weighs : (l : ℕ) (ns : List ℕ) (ms : List Message) → AreThose (Unacked
 weighs l ns ms h = weighed (Unacked l) refl (λ m. m.octets) (λ f m. refl) (λ n. octets_at n ms) ns ms h (λ n x e. grind arith)
 
 pub octets_fit : (l : ℕ) (q : Lists) (t : Tally) (ms : List Message) → AreSound q ms → IsTally t ms → l < length q.links → Fits w32 (slice_index t.octets l)
-octets_fit l q t ms s i h = omega (arith, weighs l _ ms (s.tied (Unacked l) refl), i.octets l (omega (arith, h, s.few)), octets_few (queue_at (Unacked l) q) ms s.fit, s.narrow l)
+octets_fit l q t ms s i h = omega (arith, weighs l _ ms (s.tied (Unacked l) refl), i.octets l (omega (arith, h, s.few)), sum_by-le (λ n. octets_at n ms) 273 (queue_at (Unacked l) q) (λ k d b. let fit = λ (m : Message) (e : slice_get ms (get_or (queue_at (Unacked l) q) k d) ≡ Some m). (s.fit (get_or (queue_at (Unacked l) q) k d) m e).octets in grind (arith, slice_get_cases, fit)), s.narrow l)
 
 -- all that wait for so many codes: each stands in one queue, and was given out
 
@@ -136,12 +131,11 @@ abbrev is_in : ℕ → ℕ → Fate → Bool
 is_in code n (Back d) = nat_le code d && nat_lt d (code + n)
 is_in code n _ = false
 
-in_one : (code n : ℕ) (f : Fate) → one_if (is_in code (suc n) f) ≡ one_if (is_in code n f) + cond (same_fate f (Back (code + n))) 1 0
-in_one code n f = grind (arith, nat_tests)
-
 in_more : (code n : ℕ) (ms : List Message) → sum_by (λ m. one_if (is_in code (suc n) m.fate)) ms ≡ sum_by (λ m. one_if (is_in code n m.fate)) ms + sum_by (weight (Back (code + n)) (λ m. 1)) ms
 in_more code n [] = refl
-in_more code n (x ∷ xs) = omega (arith, sum_by-cons (λ m. one_if (is_in code (suc n) m.fate)) x xs, sum_by-cons (λ m. one_if (is_in code n m.fate)) x xs, sum_by-cons (weight (Back (code + n)) (λ m. 1)) x xs, in_one code n x.fate, in_more code n xs)
+in_more code n (x ∷ xs) =
+    let one : one_if (is_in code (suc n) x.fate) ≡ one_if (is_in code n x.fate) + cond (same_fate x.fate (Back (code + n))) 1 0 = grind (arith, nat_tests) in
+    omega (arith, sum_by-cons (λ m. one_if (is_in code (suc n) m.fate)) x xs, sum_by-cons (λ m. one_if (is_in code n m.fate)) x xs, sum_by-cons (weight (Back (code + n)) (λ m. 1)) x xs, one, in_more code n xs)
 
 back_sum : (code n : ℕ) (q : Lists) (ms : List Message) → AreTied q ms → back_from code n q ≤ sum_by (λ m. one_if (is_in code n m.fate)) ms
 back_sum code zero q ms tie = omega (arith, back_none code q)
