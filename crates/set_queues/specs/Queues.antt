@@ -34,7 +34,7 @@ AreTied q messages = (fate : Fate) → is_standing fate ≡ true → (number : �
 abbrev pub AreGiven : List ℕ → List Message → Type 0
 AreGiven numbers messages = (number : ℕ) → 0 < occurs number numbers → number < length messages
 
--- all of a queue go to another, in their order, or the first so many
+-- all of a queue go to another, in their order, or the first so many of it
 abbrev pub passed : Fate → Fate → Lists → Lists
 passed from to q = with_queue from [] (with_queue to (queue_at to q ++ queue_at from q) q)
 
@@ -49,7 +49,7 @@ pub record Moves (numbers : List ℕ) (to : Fate) (q : Lists) (old new : QueuesS
   pub rooms : TakesRoom to (length numbers) old.rooms new.rooms
   pub room : new.room ≡ old.room
 
--- so all of a queue, or the first so many
+-- so all of a queue move, or the first so many of it
 abbrev pub MovesAll : Fate → Fate → QueuesState → QueuesState → Type 0
 MovesAll from to old new = Moves (queue_at from old.lists) to (passed from to old.lists) old new
 

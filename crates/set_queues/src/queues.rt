@@ -344,10 +344,8 @@ impl Queues {
         ensures unreasonable { OnErr result (result ≡ Err WindowFault.Unreasonable) }
         ensures err { OnErr result (self.new ≡ self.old) }
     {
-        let count = self
-            .window(link)
-            .distance(fsn)
-            .ok_or(WindowFault::Unreasonable)?;
+        let window = self.window(link);
+        let count = window.distance(fsn).ok_or(WindowFault::Unreasonable)?;
         let (from, to) = (Fate::Unacked { link }, Fate::Acked { link });
         let moved = usize::from(count);
         pass(&mut self.buffers, &mut self.messages, from, moved, to);
