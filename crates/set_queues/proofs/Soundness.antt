@@ -35,26 +35,20 @@ sound_on q q' ms ms' s e n t f = record { one = omega (arith, s.one, e.links); f
 
 -- THE FIRST SO MANY OF A QUEUE stand last in another place
 
-pub record CanMove (from to : Fate) (q : Lists) : Type 0 where
-  pub standing : is_standing from ≡ true
-  pub known : IsKnown from q
-  pub other : IsKnown to q
-  pub apart : same_fate to from ≡ false
-
-pub sound_moved : (k : ℕ) (from to : Fate) (q : Lists) (ms : List Message) → CanMove from to q → AreSound q ms → ((l : ℕ) → same_fate to (Unacked l) ≡ true → length (queue_at to q) + k ≤ 127) → AreSound (passed_first k from to q) (restood (take k (queue_at from q)) to ms)
-sound_moved k from to q ms c s n =
-    let queues = both_replaced q from to (drop k (queue_at from q)) (queue_at to q ++ take k (queue_at from q)) c.known c.other in
-    let moves : Moves (take k (queue_at from q)) from to q (passed_first k from to q) = λ f t m. let there = queues f t in let left = same_is from f t in let come = same_is to f t in let apart = c.apart in grind (arith, occurs-split, occurs-append) in
+pub sound_moved : (k : ℕ) (from to : Fate) (q : Lists) (ms : List Message) → is_standing from ≡ true → IsKnown from q → IsKnown to q → same_fate to from ≡ false → AreSound q ms → ((l : ℕ) → same_fate to (Unacked l) ≡ true → length (queue_at to q) + k ≤ 127) → AreSound (passed_first k from to q) (restood (take k (queue_at from q)) to ms)
+sound_moved k from to q ms standing known other apart s n =
+    let queues = both_replaced q from to (drop k (queue_at from q)) (queue_at to q ++ take k (queue_at from q)) known other in
+    let moves : Moves (take k (queue_at from q)) from to q (passed_first k from to q) = λ f t m. let there = queues f t in let left = same_is from f t in let come = same_is to f t in grind (arith, occurs-split, occurs-append) in
     let narrow : AreNarrow (passed_first k from to q) = λ l. let there = queues (Unacked l) refl in let had = s.narrow l in let more = n l in grind (arith, same_is, length-append, length-take, length-drop) in
     let within : (m : ℕ) → occurs m (take k (queue_at from q)) ≤ occurs m (queue_at from q) = λ m. omega (arith, occurs-split m k (queue_at from q)) in
-    sound_on q _ ms _ s (both_size q from to _ _) narrow (moved_tie q _ ms _ from to s.tied c.standing within moves) (fit_restood (take k (queue_at from q)) to ms s.fit)
+    sound_on q _ ms _ s (both_size q from to _ _) narrow (moved_tie q _ ms _ from to s.tied standing within moves) (fit_restood (take k (queue_at from q)) to ms s.fit)
 
 pub unqueued : (to : Fate) (l : ℕ) → (is_standing to ≡ true → IsQueued to) → same_fate to (Unacked l) ≡ false
 unqueued to l h = grind arith
 
 -- to where messages come otherwise than by being sent
-pub sound_passed : (k : ℕ) (from to : Fate) (q q' : Lists) (ms ms' : List Message) → AreSound q ms → CanMove from to q → (is_standing to ≡ true → IsQueued to) → q' ≡ passed_first k from to q → ms' ≡ restood (take k (queue_at from q)) to ms → AreSound q' ms'
-sound_passed k from to q q' ms ms' s c n e m = rw (e, m) (sound_moved k from to q ms c s (λ l f. let no = unqueued to l n in absurd (cc)))
+pub sound_passed : (k : ℕ) (from to : Fate) (q q' : Lists) (ms ms' : List Message) → AreSound q ms → is_standing from ≡ true → IsKnown from q → IsKnown to q → same_fate to from ≡ false → (is_standing to ≡ true → IsQueued to) → q' ≡ passed_first k from to q → ms' ≡ restood (take k (queue_at from q)) to ms → AreSound q' ms'
+sound_passed k from to q q' ms ms' s standing known other apart n e m = rw (e, m) (sound_moved k from to q ms standing known other apart s (λ l f. let no = unqueued to l n in absurd (cc)))
 
 pub moved_one : (from to : Fate) (q mid new : Lists) → IsKnown to q → same_fate to from ≡ false → mid ≡ with_queue to (queue_at to q ++ take 1 (queue_at from q)) q → new ≡ with_queue from (drop 1 (queue_at from mid)) mid → new ≡ passed_first 1 from to q
 moved_one from to q mid new o a m n = rw (n, queue_away to from _ q mid m o a, m) refl
@@ -91,7 +85,7 @@ sound_new q n e low high = rw e (record {
 pub sound_sent : (q q' : Lists) (ms : List Message) (l n : ℕ) → AreSound q ms → l < length q.links → slice_get (queue_at (Waiting l) q) 0 ≡ Some n → length (queue_at (Unacked l) q) < 127 → q' ≡ passed_first 1 (Waiting l) (Unacked l) q → AreSound q' (restood_one n (Unacked l) ms)
 sound_sent q q' ms l n s b first few e =
     let one : take 1 (queue_at (Waiting l) q) ≡ n ∷ [] = take_get _ 0 n first in
-    rw e (subst (λ (ns : List ℕ). AreSound (passed_first 1 (Waiting l) (Unacked l) q) (restood ns (Unacked l) ms)) one (sound_moved 1 (Waiting l) (Unacked l) q ms (record { standing = refl; known = b; other = b; apart = refl }) s
+    rw e (subst (λ (ns : List ℕ). AreSound (passed_first 1 (Waiting l) (Unacked l) q) (restood ns (Unacked l) ms)) one (sound_moved 1 (Waiting l) (Unacked l) q ms refl b b refl s
     (λ k t. let same = same_is (Unacked l) (Unacked k) refl t in omega (arith, few))))
 
 -- THE FIRST OF THE UNACKNOWLEDGED LEAVE, and a link has a new life
