@@ -129,7 +129,8 @@ module _ (s : State) (R : State → State → Type 0) (S : State → Type 0) whe
       grind (arith, release)
   step_walks (DownEvent n) w = in_walks n _ w.unmoved (λ link at. fall_walks (DownEvent n) false n link w refl at)
   step_walks (DownBlind n) w = in_walks n _ w.unmoved (λ link at. fall_walks (DownBlind n) true n link w refl at)
-  step_walks event w = grind (arith, w.sends, hear_walks, rise_walks, declare_walks)
+  step_walks (Next n) w = in_walks n _ w.unmoved (λ link at. w.sends n link refl at)
+  step_walks event w = grind (arith, hear_walks, rise_walks, declare_walks)
 
 -- The sealed step is its cases.
 pub step_is : (s : State) (event : Event) → step s event ≡ stepped s event

@@ -14,10 +14,9 @@ use Rattle.set_model.specs.Sound.{IsSound, IsAscending, AreAbove, IsBackOf}
 use Rattle.set_model.specs.State.{On, State, fate_at, LinkState}
 use Rattle.set_model.specs.Changeover.{turned_back, out_of_service}
 use Rattle.set_model.proofs.Rows.{each_so, filter_within, filter_apart, none_within, row_in_filter}
-use Rattle.set_moves.specs.Agreement.{Message, Kept, StandsFor, label_in, label_of}
+use Rattle.set_moves.specs.Agreement.{Message, Kept, StandsFor, is_there, label_in, label_of}
 use Rattle.set_moves.specs.Turning.{IsTurning, IsTurningRow, HasWay, TakesTurns, CanTurn}
 use Rattle.set_moves.proofs.States.{becomes, first_for, parted_for}
-use Rattle.set_moves.proofs.RowsAt.{is_there}
 use Rattle.set_moves.specs.Parts.{Parts, Up, IsWhole, kept_of}
 use Rattle.set_queues.specs.Queues.{QueuesState}
 use Rattle.set_queues.specs.Settling.{on as on_lists}
@@ -108,7 +107,7 @@ module _ (home : ℕ) (s : State) (k : Kept) (t : TurnsOn home s k) where
   none_gone c of = none_within (is_back c) (is_back_to home) (λ f e. back_home home c of f e) t.gone t.none
 
   at_code : (c : ℕ) → home_of c ≡ home → queue_at (Back c) k.lists ≡ numbers (standing (is_back c) t.rest)
-  at_code c of = t.stands.stands.queues (Back c) ∙ ap numbers (grind (arith, filter-append, none_gone c of))
+  at_code c of = t.stands.stands.queues (Back c) refl ∙ ap numbers (grind (arith, filter-append, none_gone c of))
 
   none_left : (xs : List Row) → t.rest ≡ xs → NoneBack home k.lists → xs ≡ []
   none_left [] e nothing = refl
@@ -159,7 +158,7 @@ module _ (home : ℕ) (s : State) (k : Kept) (t : TurnsOn home s k) where
         let unlike = none_standing (IsLeft home s) (is_there to) (λ x e l. absurd (let here = l.0 in grind (arith, same_is, off))) t.rest t.left in
         let order : AreBefore (is_there to) (is_back code) (t.gone ++ t.rest) = before_append (is_there to) (is_back code) t.gone t.rest (before_never (is_there to) (is_back code) t.gone (none_gone code o.of_home)) unlike in
         let known : code < length k.lists.back = let first = o.first in grind (arith, nat_tests, cases_lt, get_or_past) in
-        let stands = first_for k (record s { rows = t.gone ++ t.rest }) (Back code) to (is_back code) (is_there to) t.stands refl (grind arith) known (let low = on.1 in grind arith) (λ g. grind arith) (λ g. refl) (grind arith) refl order in
+        let stands = first_for k (record s { rows = t.gone ++ t.rest }) (Back code) to t.stands refl (grind arith) known (let low = on.1 in grind arith) (grind arith) order in
         record {
           gone = t.gone ++ with_fate to it.row ∷ [];
           rest = it.after;

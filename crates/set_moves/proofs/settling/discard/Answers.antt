@@ -1,7 +1,7 @@
 use Rattle.std.proofs.Common.{rules, refl, arith, []}
 use Rattle.set_queues.proofs.Standing.{links_stay}
 use Rattle.set_moves.specs.Parts.{kept_of}
-use Rattle.set_model.specs.Rows.{Unacked, Waiting, is_unacked, is_waiting}
+use Rattle.set_model.specs.Rows.{Unacked, Waiting}
 use Rattle.set_moves.proofs.States.{becomes, given_up_for}
 use Rattle.set_moves.proofs.Links.{cleared_less, on_less}
 use Rattle.set_moves.proofs.settling.discard.Goals as goal
@@ -9,8 +9,8 @@ use Rattle.set_moves.proofs.settling.discard.Goals as goal
 pub returns-clause-stands : goal.returns-clause-stands
 returns-clause-stands c = λ s f.
     let mid = kept_of (record c.args.parts.now { queues = c.discard.new.self }) in
-    let first = becomes {new = mid} (given_up_for (kept_of c.args.parts.now) s (Unacked c.args.number) (is_unacked c.args.number) c.args.cause f refl (omega arith) (λ fate. grind arith) refl) (search rules) in
-    becomes (given_up_for mid _ (Waiting c.args.number) (is_waiting c.args.number) c.args.cause first refl (grind arith) (λ fate. grind arith) refl) (search rules)
+    let first = becomes {new = mid} (given_up_for (kept_of c.args.parts.now) s (Unacked c.args.number) c.args.cause f refl (omega arith)) (search rules) in
+    becomes (given_up_for mid _ (Waiting c.args.number) c.args.cause first refl (grind arith)) (search rules)
 
 pub returns-clause-fewer : goal.returns-clause-fewer
 returns-clause-fewer c =

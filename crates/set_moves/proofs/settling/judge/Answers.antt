@@ -4,7 +4,7 @@ use Rattle.set_queues.specs.Buffers.{queue_at}
 use Rattle.set_queues.specs.Sending.{reach}
 use Rattle.set_model.specs.Changeover.{acknowledged}
 use Rattle.set_moves.specs.Agreement.{StandsFor}
-use Rattle.set_model.specs.Rows.{Unacked, Emergency, is_unacked}
+use Rattle.set_model.specs.Rows.{Unacked, Emergency}
 use Rattle.set_moves.specs.Parts.{kept_of}
 use Rattle.set_moves.proofs.States.{becomes, reaches, acked_for, given_up_for}
 use Rattle.set_moves.proofs.Links.{link_set, cleared_less, on_less}
@@ -24,7 +24,7 @@ returns-in-Err-clause-stands c = λ s link there f.
     (c.discard.ensures.stands s (subst (λ q. StandsFor (record (kept_of c.args.parts.now) { lists = q.lists; messages = q.messages }) s) (sym c.in-Err.ensures.err) f))
 
 pub returns-in-Unknown-clause-stands : goal.returns-in-Unknown-clause-stands
-returns-in-Unknown-clause-stands c = λ s link there f. rw c.in-Unknown.is (becomes (given_up_for (kept_of c.args.parts.now) s (Unacked c.args.number) (is_unacked c.args.number) Emergency f refl (omega arith) (λ fate. grind arith) refl) (search rules))
+returns-in-Unknown-clause-stands c = λ s link there f. rw c.in-Unknown.is (becomes (given_up_for (kept_of c.args.parts.now) s (Unacked c.args.number) Emergency f refl (omega arith)) (search rules))
 
 pub returns-in-Unknown-clause-fewer : goal.returns-in-Unknown-clause-fewer
 returns-in-Unknown-clause-fewer c = search (rules, cleared_less, on_less)
