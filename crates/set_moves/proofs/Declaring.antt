@@ -1,5 +1,5 @@
 -- A declaration goes out on each link from which streams come back.
-use Rattle.std.proofs.Common.{arith, ◌≡◌, ap, sym, subst, ◌≤◌, ◌<◌, ◌+◌, ◌-◌, ◌||◌, ℕ, zero, suc, true, false, Bool, length}
+use Rattle.std.proofs.Common.{arith, ◌≡◌, ap, sym, subst, ◌≤◌, ◌<◌, ◌+◌, ◌-◌, ℕ, zero, suc, false, length}
 use Rattle.std.proofs.lemmas.Bool.Decides.{nat_tests}
 use Rattle.set_queues.specs.Bodies.{CanHold}
 use Rattle.set_queues.specs.Buffers.{Waiting, TakesRoom}
@@ -19,17 +19,6 @@ module _ (run : ℕ → ℕ → State → State) (step : ℕ → State → State
 
   pub becomes_next : (n from at : ℕ) (old now new : Parts) → at ≡ from + n → Becomes old now (run from n) → Becomes now new (step at) → Becomes old new (run from (n + 1))
   becomes_next n from at old now new is before last s f = rw (last_step n from s, ← is) (last (run from n s) (before s f))
-
--- WHETHER ANY OF SO MANY IS SUCH, from one on
-module _ (some : ℕ → ℕ → Bool) (such : ℕ → Bool) (none : (from : ℕ) → some from 0 ≡ false) (next : (from n : ℕ) → some from (suc n) ≡ (such from || some (suc from) n)) where
-  pub none_more : (n from at : ℕ) → at ≡ from + n → some from n ≡ false → such at ≡ false → some from (n + 1) ≡ false
-  none_more zero from at is e f = grind (arith, none, next)
-  none_more (suc n) from at is e f = grind (arith, next, none_more n (suc from) at)
-
-  pub found_at : (n m from at : ℕ) → at ≡ from + n → such at ≡ true → n < m → some from m ≡ true
-  found_at n zero from at is e low = absurd (omega arith)
-  found_at zero (suc m) from at is e low = grind (arith, next)
-  found_at (suc n) (suc m) from at is e low = grind (arith, next, found_at n m (suc from) at)
 
 -- ROOM on the links that are left, once one was taken
 pub room_after : (n : ℕ) (old new : Parts) → HasRoomFrom n old → new.links ≡ old.links → TakesRoom (Waiting n) 1 old.queues.rooms new.queues.rooms → old.queues.room ≤ new.queues.room + 1 → ((more : ℕ) → CanHold (more + 1) old.bodies → CanHold more new.bodies) → n < 16

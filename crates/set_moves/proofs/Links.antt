@@ -1,12 +1,11 @@
 -- One link of the list changes, and what the list stands for with it.
-use Rattle.std.proofs.Common.{arith, ◌≡◌, ◌∙◌, ap, sym, ◌<◌, ℕ, List, map, length, slice_get, slice_set, slice_index_or, Some, ◌≢◌, false, Option, ◌==◌, IfSome, refl, subst, ◌≤◌, None, Bool, option_map, true, [], drop}
+use Rattle.std.proofs.Common.{arith, ◌≡◌, ◌∙◌, ap, sym, ◌<◌, ℕ, List, map, length, slice_get, slice_set, slice_index_or, Some, ◌≢◌, false, Option, IfSome, refl, subst, ◌≤◌, None, Bool, option_map, true, [], drop}
 use Rattle.std.proofs.lemmas.Option.{slice_get-get_or, slice_get_past}
 use Rattle.set_moves.specs.Parts.{Link, Parts, kept_of, AtLink, IsOut, Gives, Obeys, AllObey, obeyed_at, Phase, Down, IsWhole, IsCounted, AreCounted}
 use Rattle.std.proofs.lemmas.List.{length-map, length-drop}
 use Rattle.set_moves.specs.Agreement.{Agrees, Holds}
 use Rattle.set_model.specs.State.{LinkState, State, has_phase_up, target}
 use Rattle.set_model.proofs.Lists.{map_at, map_set, map_set_same, same_at, at_map, present, target_up, within, set_same, at_set, get_set_same, length_set}
-use Rattle.std.proofs.lemmas.Bool.{ne_eqb}
 use Rattle.std.proofs.lemmas.Simd.{map-map}
 use Rattle.set_queues.specs.Buffers.{Fate, Lists, IsKnown, Waiting, Unacked, Held, TakesRoom, same_fate, with_queue, room_at, is_standing, queue_at}
 use Rattle.set_queues.proofs.Soundness.{IsAside, aside_of, room_left, on_length, queue_last}
@@ -49,19 +48,13 @@ pub same_target : (old new : List Link) → map (λ (link : Link). link.phase) n
 same_target old new e = ap target_of (same_ups old new e)
 
 -- the place of what leaves a link that is out of service: it's known, and no queue of the link
-pub record IsPlace (n : ℕ) (o : Option ℕ) (to : Fate) (q : Lists) : Type 0 where
-  pub aside : IsAside n to q
-  pub apart : IfSome o (λ t. t ≢ n)
-  pub off : (t : ℕ) → o ≡ Some t → (n == t) ≡ false
-
-pub place_for : {links read : List Link} (n : ℕ) (o : Option ℕ) (to : Fate) (q : Lists) → read ≡ links → o ≡ target read → IfSome o (λ t. t < length read) → to ≡ fate_on o → length q.links ≡ length links → n < length links → AtLink n links IsOut → IsPlace n o to q
+pub place_for : {links read : List Link} (n : ℕ) (o : Option ℕ) (to : Fate) (q : Lists) → read ≡ links → o ≡ target read → IfSome o (λ t. t < length read) → to ≡ fate_on o → length q.links ≡ length links → n < length links → AtLink n links IsOut → IsAside n to q × IfSome o (λ t. t ≢ n)
 place_for {links} {read} n o to q same is below there many known out =
     let x = present links n known in
     let down = out x.0 x.1 in
-    let other : (t : ℕ) → o ≡ Some t → n ≢ t = λ t e. grind (arith, same_at, target_up) in
-    let apart : IfSome o (λ t. t ≢ n) = grind arith in
+    let apart : IfSome o (λ t. t ≢ n) = grind (arith, same_at, target_up) in
     let known_to : IsKnown (fate_on o) q = grind arith in
-    record { aside = aside_of o n to q there (omega (arith, many, known)) known_to apart; apart = apart; off = λ t e. ne_eqb n t (other t e) }
+    (aside_of o n to q there (omega (arith, many, known)) known_to apart, apart)
 
 -- a link of a list with the same phases
 pub phase_at : (old new : List Link) (n : ℕ) (link : Link) → map (λ (l : Link). l.phase) new ≡ map (λ (l : Link). l.phase) old → slice_get new n ≡ Some link → (x : Link) × (slice_get old n ≡ Some x) × (x.phase ≡ link.phase)

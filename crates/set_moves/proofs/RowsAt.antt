@@ -1,5 +1,5 @@
 -- WHAT STANDS IN EACH PLACE after rows came to stand elsewhere, queue after queue, and where each number stands then.
-use Rattle.std.proofs.Common.{arith, refl, ◌≡◌, ◌≤◌, ◌<◌, [], ◌∷◌, length, ℕ, zero, suc, Bool, true, false, List, ◌++◌, Option, Some, None, take, drop, cond, not, slice_get, filter, option_map}
+use Rattle.std.proofs.Common.{arith, refl, ◌≡◌, ◌≤◌, ◌<◌, [], ◌∷◌, length, ℕ, zero, suc, Bool, true, false, List, ◌++◌, Some, None, take, drop, cond, not, filter, option_map}
 use Rattle.std.specs.List.{drop-map}
 use Rattle.std.proofs.lemmas.Bool.Decides.{nat_tests}
 use Rattle.std.proofs.lemmas.List.{map-append, append-nil}
@@ -40,15 +40,9 @@ module _ (test : Fate → Bool) (to : Fate) where
   all_turned (suc n) (x ∷ rows) few = grind (arith, all_turned n rows, all_turned (suc n) rows)
 
   -- a place that is told by the row of the number alone
-  told_first : (here : List Row) (count : ℕ) (o : Option Row) (before after : Option Fate) → length here ≤ 1 → count ≡ length (standing test here) → o ≡ slice_get here 0 → before ≡ option_map (λ (row : Row). row.fate) o → after ≡ option_map (λ (row : Row). cond (test row.fate) to row.fate) o
-      → (count ≡ 0 → after ≡ before) × (0 < count → after ≡ Some to)
-  told_first [] count o before after one many first b a = grind arith
-  told_first (x ∷ here) count o before after one many first b a = grind (arith, fewer_filter)
-
-  told : (n : ℕ) (rows new : List Row) → IsNumbered rows → place n new ≡ option_map (λ (row : Row). cond (test row.fate) to row.fate) (row_of n rows) → GoesTo (numbers (standing test rows)) to n rows new
-  told n rows new numbered e =
-      let way = told_first (with_number n rows) _ _ _ _ (at_most_one n rows numbered) (occurs_picked (λ (row : Row). test row.fate) n rows) (row_is_first n rows) refl e in
-      record { stays = way.0; goes = way.1 }
+  told : (n : ℕ) (rows new here : List Row) → with_number n rows ≡ here → length here ≤ 1 → place n new ≡ option_map (λ (row : Row). cond (test row.fate) to row.fate) (row_of n rows) → GoesTo (numbers (standing test rows)) to n rows new
+  told n rows new [] is one e = grind (arith, occurs_picked (λ (row : Row). test row.fate) n rows, row_is_first n rows)
+  told n rows new (x ∷ here) is one e = grind (arith, occurs_picked (λ (row : Row). test row.fate) n rows, row_is_first n rows, fewer_filter (λ (row : Row). test row.fate) here)
 
 -- WHAT STANDS SOMEWHERE was given out.
 pub none_at : (n : ℕ) (rows : List Row) → IsNumbered rows → length rows ≤ n → row_of n rows ≡ None
@@ -56,10 +50,6 @@ none_at n rows numbered far = let none = no_rows (with_number n rows) in grind (
 
 pub given_all : (ns : List ℕ) (to : Fate) (ms : List Message) (rows new : List Row) → IsNumbered new → length ms ≡ length new → ((n : ℕ) → GoesTo ns to n rows new) → AreGiven ns ms
 given_all ns to ms rows new numbered many goes n h = let there = (goes n).goes h in grind (arith, nat_tests, cases_lt, none_at n new)
-
--- BY FATE
-pub final_none : (to fate : Fate) → is_standing to ≡ false → is_standing fate ≡ true → same_fate to fate ≡ false
-final_none to fate t s = grind arith
 
 -- A NEW MESSAGE stands last in the place of its fate.
 pub appended_at : (rows : List Row) (body : List ℕ) (fate f : Fate) → is_standing f ≡ true → numbers (rows_at f (appended rows body fate)) ≡ cond (same_fate fate f) (numbers (rows_at f rows) ++ length rows ∷ []) (numbers (rows_at f rows))
@@ -101,7 +91,7 @@ moved_shifts test to rows numbered off there = record {
       let gone : test f ≡ true → standing (is_there f) (moved test (all_with to) rows) ≡ [] = λ e. let away : same_fate to f ≡ false = grind (arith, same_is) in moved_gone test (is_there f) (all_with to) rows (λ x. away) (λ g h. grind (arith, same_is)) in
       grind (arith, gone, moved_joined test (is_there f) (all_with to) rows, moved_same test (is_there f) (all_with to) rows, numbers_joined (all_with to) (rows_at f rows) (standing test rows), elsewhere test f s, same_is to f s);
   messages = (messages_stay test to (all_with to) rows numbered).moved_stay;
-  goes = λ k. told test to k rows _ numbered (place_moved test (all_with to) k rows numbered);
+  goes = λ k. told test to k rows _ _ refl (at_most_one k rows numbered) (place_moved test (all_with to) k rows numbered);
 }
 
 -- ROWS THAT STAND LAST FROM NOW ON, each with its fate: what stands in each place stays

@@ -1,5 +1,5 @@
 -- WHAT STANDS BACK FOR A LINK turns back: the oldest, the first of the rows that do, and so all of it, one by one.
-use Rattle.std.proofs.Common.{inl, refl, arith, ◌≡◌, ◌∙◌, ap, sym, subst, [], ◌∷◌, ◌++◌, length, ℕ, suc, Bool, true, false, List, Some, cond, take, drop, ◌+◌, ◌*◌, None, ◌≤◌, ◌<◌, zero, ◌==◌, ◌⊎◌, Option, slice_get, filter, map, not, option_map}
+use Rattle.std.proofs.Common.{nat_lt, inl, refl, arith, ◌≡◌, ◌∙◌, ap, sym, subst, [], ◌∷◌, ◌++◌, length, ℕ, suc, Bool, true, false, List, Some, cond, take, drop, ◌+◌, ◌*◌, None, ◌≤◌, ◌<◌, zero, ◌==◌, ◌⊎◌, Option, slice_get, filter, map, not, option_map}
 use Rattle.std.proofs.lemmas.Bool.{eq-eqb, cases_eq, cases_lt, ne_eqb, not-true}
 use Rattle.std.proofs.lemmas.Bool.Decides.{nat_tests}
 use Rattle.std.proofs.lemmas.List.Elements.{filter-append}
@@ -20,7 +20,7 @@ use Rattle.set_moves.proofs.States.{becomes, first_for, parted_for}
 use Rattle.set_moves.specs.Parts.{Parts, Up, IsWhole, kept_of}
 use Rattle.set_queues.specs.Queues.{QueuesState}
 use Rattle.set_queues.specs.Settling.{on as on_lists}
-use Rattle.set_queues.proofs.Tallies.{back_none}
+use Rattle.set_queues.proofs.Tallies.{back_none, back_more}
 use Rattle.set_queues.proofs.Soundness.{on_length, both_replaced}
 use Rattle.std.proofs.lemmas.Option.{same_Some}
 use Rattle.set_queues.specs.declared.message.Kind.TheVariants.{User}
@@ -32,15 +32,12 @@ use Rattle.set_model.proofs.Walk.{IsAt}
 
 -- FATES
 
-back_is : (c : ℕ) (f : Fate) → is_back c f ≡ true → f ≡ Back c
-back_is c f e = grind arith
-
 back_of : (home : ℕ) (f : Fate) → is_back_to home f ≡ true → (c : ℕ) × (f ≡ Back c) × (home_of c ≡ home)
 back_of home f e = grind arith
 
 -- what waits for a code of the home waits for the home
 back_home : (home c : ℕ) → home_of c ≡ home → (f : Fate) → is_back c f ≡ true → is_back_to home f ≡ true
-back_home home c of f e = ap (is_back_to home) (back_is c f e) ∙ eq-eqb (home_of c) home of
+back_home home c of f e = ap (is_back_to home) (same_is f (Back c) refl e) ∙ eq-eqb (home_of c) home of
 
 -- ROWS
 
@@ -119,18 +116,16 @@ module _ (home : ℕ) (s : State) (k : Kept) (t : TurnsOn home s k) where
   pub all_turned : NoneBack home k.lists → StandsFor k (turned_back home s)
   all_turned nothing = let none = none_left t.rest refl nothing in rw (t.same, none) (rw none at t.stands)
 
-  first_at : (code : ℕ) (o : IsOldest home code k.lists) (x : Row) (xs : List Row) (b : Bool) → t.rest ≡ x ∷ xs → is_back code x.fate ≡ b → IsFirst code o.number (x ∷ xs)
-  first_at code o x xs true e is = record { row = x; after = xs; rest_is = refl; number_is = let first = o.first in grind (arith, at_code code o.of_home); on = is }
-  first_at code o x xs false e is =
+  first_in : (code : ℕ) (o : IsOldest home code k.lists) (xs : List Row) → t.rest ≡ xs → IsFirst code o.number xs
+  first_in code o [] e = let first = o.first in absurd (grind (arith, at_code code o.of_home))
+  first_in code o (x ∷ xs) e =
+      let first : slice_get (numbers (standing (is_back code) (x ∷ xs))) 0 ≡ Some o.number = let there = o.first in grind (arith, at_code code o.of_home) in
       let c = back_of home x.fate (subst (Each (IsLeft home s)) e t.left).0.0 in
       let above = (subst (λ (rows : List Row). IsAscending (numbers rows)) e t.order).0 in
       let least = o.least c.0 x.number c.2 (grind (arith, nat_tests, at_code c.0 c.2)) in
-      let more = first_above x.number o.number (λ (row : Row). is_back code row.fate) xs above (let first = o.first in grind (arith, at_code code o.of_home)) in
-      absurd (omega (arith, least, more))
-
-  first_in : (code : ℕ) (o : IsOldest home code k.lists) (xs : List Row) → t.rest ≡ xs → IsFirst code o.number xs
-  first_in code o [] e = let first = o.first in absurd (grind (arith, at_code code o.of_home))
-  first_in code o (x ∷ xs) e = first_at code o x xs (is_back code x.fate) e refl
+      let more = first_above x.number o.number (λ (row : Row). is_back code row.fate) xs above in
+      let on : is_back code x.fate ≡ true = grind (arith, first, least, more) in
+      record { row = x; after = xs; rest_is = refl; number_is = grind (arith, first, on); on = on }
 
   -- it has its way
   module _ (code : ℕ) (o : IsOldest home code k.lists) where
@@ -169,18 +164,10 @@ module _ (home : ℕ) (s : State) (k : Kept) (t : TurnsOn home s k) where
           same = t.same ∙ ap (λ (rows : List Row). record s { rows = rows }) (ap (λ (rows : List Row). t.gone ++ map (fated (way_in s)) rows) it.rest_is ∙ ap (λ (f : Fate). t.gone ++ with_fate f it.row ∷ map (fated (way_in s)) it.after) (sym way_is) ∙ sym (append_assoc t.gone (with_fate to it.row ∷ []) (map (fated (way_in s)) it.after)));
         }
 
-back_suc : (code n : ℕ) (q : Lists) → back_from code (suc n) q ≡ back_from code n q + length (queue_at (Back (code + n)) q)
-unfolding back_from
-back_suc code n q = refl
-
 module _ (code : ℕ) (q q' : Lists) (others : (c : ℕ) → (code ≡ c → ⊥) → queue_at (Back c) q' ≡ queue_at (Back c) q) where
-  back_same : (from n : ℕ) → from + n ≤ code → back_from from n q' ≡ back_from from n q
-  back_same from zero low = grind (arith, back_none)
-  back_same from (suc n) low = grind (arith, back_suc, back_same from n (omega (arith, low)), others (from + n))
-
-  pub back_less : (gone : ℕ) → length (queue_at (Back code) q') + gone ≡ length (queue_at (Back code) q) → (from n : ℕ) → from ≤ code → code < from + n → back_from from n q' + gone ≡ back_from from n q
-  back_less gone less from zero low high = absurd (omega (arith, low, high))
-  back_less gone less from (suc n) low high = grind (arith, nat_tests, cases_eq, back_suc, back_same, back_less gone less from n low)
+  pub back_less : (gone : ℕ) → length (queue_at (Back code) q') + gone ≡ length (queue_at (Back code) q) → (from n : ℕ) → from ≤ code → back_from from n q' + cond (nat_lt code (from + n)) gone 0 ≡ back_from from n q
+  back_less gone less from zero low = grind (arith, nat_tests, back_none)
+  back_less gone less from (suc n) low = grind (arith, nat_tests, less, cases_eq code (from + n), back_more from n q, back_more from n q', back_less gone less from n low, others (from + n))
 
 -- THE FIRST OF A CODE'S GOES TO A LINK: it waits for it, or is held for it
 module _ (home code : ℕ) (to : Fate) (q : Lists) (o : IsOldest home code q) (on : IsOnLink (length q.links) to) where
@@ -202,7 +189,7 @@ module _ (home code : ℕ) (to : Fate) (q : Lists) (o : IsOldest home code q) (o
       let of = o.of_home in
       let first = o.first in
       let less : length (queue_at (Back code) gone) + 1 ≡ length (queue_at (Back code) q) = grind (arith, nat_tests, queue_then (Back code) refl) in
-      back_less code q gone (λ c ne. queue_then (Back c) refl ∙ rw (ne_eqb code c ne, apart c) refl) 1 less (16 * home) 16 (omega (arith, of)) (omega (arith, of))
+      grind (arith, nat_tests, back_less code q gone (λ c ne. queue_then (Back c) refl ∙ rw (ne_eqb code c ne, apart c) refl) 1 less (16 * home) 16 (omega (arith, of)))
 
   -- and at most one more stands on a link
   grown : (f : Fate) → is_standing f ≡ true → same_fate (Back code) f ≡ false → length (queue_at f gone) ≤ length (queue_at f q) + cond (same_fate to f) 1 0

@@ -33,9 +33,8 @@ pub fn restore(parts: &mut Parts, number: u8, answer: &mut Answer) -> Result<(),
         return Ok(());
     }
     if !has_alternative(parts, number) {
-        *answer = Answer::Refused {
-            why: Refusal::Nothing,
-        };
+        let why = Refusal::Nothing;
+        *answer = Answer::Refused { why };
         return Ok(());
     }
     parts.bodies.reserve(MOST_LINKS)?;
@@ -68,15 +67,13 @@ pub fn time_out(parts: &mut Parts, number: u8, answer: &mut Answer) -> Result<()
     ensures err { OnErr result (kept_of parts.new ≡ kept_of parts.old) }
 {
     if usize::from(number) >= parts.links.len() {
-        *answer = Answer::Refused {
-            why: Refusal::NoSuchLink,
-        };
+        let why = Refusal::NoSuchLink;
+        *answer = Answer::Refused { why };
         return Ok(());
     }
     if !has_code_in_use(parts, number) {
-        *answer = Answer::Refused {
-            why: Refusal::Nothing,
-        };
+        let why = Refusal::Nothing;
+        *answer = Answer::Refused { why };
         return Ok(());
     }
     let back = parts.queues.back_count(number);
