@@ -5,10 +5,10 @@ use Rattle.set_moves.specs.Parts.{Link, Parts, kept_of, AtLink, IsOut, Gives, Ob
 use Rattle.std.proofs.lemmas.List.{length-map, length-drop}
 use Rattle.set_moves.specs.Agreement.{Agrees, Holds}
 use Rattle.set_model.specs.State.{LinkState, State, has_phase_up, target}
-use Rattle.set_model.proofs.Lists.{map_at, map_set, map_set_same, same_at, at_map, present, target_up, within, set_same, at_set, get_set_same, length_set}
+use Rattle.set_model.proofs.Lists.{map_at, map_set, map_set_same, same_at, present, target_up, within, set_same, at_set}
 use Rattle.std.proofs.lemmas.Simd.{map-map}
-use Rattle.set_queues.specs.Buffers.{Fate, Lists, IsKnown, Waiting, Unacked, Held, TakesRoom, same_fate, with_queue, room_at, is_standing, queue_at}
-use Rattle.set_queues.proofs.Soundness.{IsAside, aside_of, room_left, on_length, queue_last}
+use Rattle.set_queues.specs.Buffers.{Fate, Lists, IsKnown, Waiting, Unacked, Held, same_fate, with_queue, room_at, is_standing, queue_at}
+use Rattle.set_queues.proofs.Soundness.{IsAside, aside_of, on_length, queue_last}
 use Rattle.set_model.specs.Changeover.{fate_on, Obeyed, ignored, at_link, answered}
 use Rattle.set_route.specs.Target.{target_of}
 use Rattle.set_moves.specs.Room.{SameButRoom, HasRoom, IsReady, target_beside}
@@ -55,10 +55,6 @@ place_for {links} {read} n o to q same is below there many known out =
     let apart : IfSome o (λ t. t ≢ n) = grind (arith, same_at, target_up) in
     let known_to : IsKnown (fate_on o) q = grind arith in
     (aside_of o n to q there (omega (arith, many, known)) known_to apart, apart)
-
--- a link of a list with the same phases
-pub phase_at : (old new : List Link) (n : ℕ) (link : Link) → map (λ (l : Link). l.phase) new ≡ map (λ (l : Link). l.phase) old → slice_get new n ≡ Some link → (x : Link) × (slice_get old n ≡ Some x) × (x.phase ≡ link.phase)
-phase_at old new n link e there = at_map (λ (l : Link). l.phase) old n link.phase (ap (λ phases. slice_get phases n) (sym e) ∙ map_at (λ (l : Link). l.phase) new n link there)
 
 -- What an event of a link does where the link is there, and as the event needs it.
 -- the same of the state that the links stand for
@@ -147,30 +143,6 @@ here_room parts n orders phase h down r = grind (arith, beside_out, out_at)
 -- room for an order once the link is left, and what stood back for it turned
 pub has_room_left : (n : ℕ) (old new : Parts) → IsReady n 1 old → TakesTurns (back_count n old.queues.lists) old.queues new.queues → new.bodies ≡ old.bodies → target new.links.items ≡ target_beside n old.links.items → HasRoom (fate_on (target new.links.items)) new
 has_room_left n old new r turns bodies same = grind arith
-
--- A LINK THAT IS LEFT is out, and the whole numbers stay
-pub record IsLeft (n : ℕ) (old new : Parts) : Type 0 where
-  pub many : length new.links.items ≡ length old.links.items
-  pub out : AtLink n new.links.items IsOut
-  pub target_is : target new.links.items ≡ target_beside n old.links.items
-  pub counted : (bound : ℕ) → AreCounted bound old.links.items → AreCounted bound new.links.items
-
-pub is_left : (blind : Bool) (n : ℕ) (old new : Parts) → n < length old.links.items → AtLink n old.links.items (λ link. new.links.items ≡ slice_set old.links.items n (record link { phase = Down; blind = blind })) → IsLeft n old new
-is_left blind n old new known links =
-    let x = present old.links.items n known in
-    let is = links x.0 x.1 in
-    record {
-      many = ap length is ∙ length_set old.links.items n _;
-      out = λ link there. grind (arith, same_at new.links.items n _ link (ap (λ (ls : List Link). slice_get ls n) is ∙ get_set_same old.links.items n _ known) there);
-      target_is = beside_left old.links.items new.links.items n _ is refl;
-      counted = λ bound all. let one = all n x.0 x.1 in counted_set bound old.links.items new.links.items n _ all is (record { acked = one.acked; accepted = one.accepted });
-    }
-
--- room for all that stand on a link, once it's left and the order stands
-pub room_after : (n : ℕ) (old left new : Parts) → n < length old.queues.lists.links → IsReady n 1 old → TakesTurns (back_count n old.queues.lists) old.queues left.queues → target left.links.items ≡ target_beside n old.links.items → target new.links.items ≡ target left.links.items
-    → on n new.queues.lists ≡ on n left.queues.lists → TakesRoom (fate_on (target left.links.items)) 1 left.queues.rooms new.queues.rooms
-    → length (on n new.queues.lists) ≤ room_at (fate_on (target new.links.items)) new.queues.rooms
-room_after n old left new low r turns beside same elsewhere takes = grind (arith, room_left)
 
 pub wider : (bound more : ℕ) (links : List Link) → bound ≤ more → AreCounted bound links → AreCounted more links
 wider bound more links h all n link there = let k = all n link there in record { acked = let low = k.acked in omega (arith, h, low); accepted = let low = k.accepted in omega (arith, h, low) }

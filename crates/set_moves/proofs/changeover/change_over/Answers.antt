@@ -1,13 +1,14 @@
-use Rattle.std.proofs.Common.{refl, arith, ◌∙◌, ap, subst, ℕ, false}
+use Rattle.std.proofs.Common.{refl, arith, length, ◌≡◌, ◌∙◌, ap, subst, ℕ, false}
 use Rattle.set_model.specs.Changeover.{Coa, changed_over, queued, left_by, left_link}
-use Rattle.set_model.specs.State.{last_accepted, target}
-use Rattle.set_model.proofs.Lists.{within, get_set_same}
+use Rattle.set_model.specs.State.{last_accepted}
+use Rattle.set_model.proofs.Lists.{within, get_set_same, length_set}
 use Rattle.set_model.proofs.SoundBack.{leaves}
 use Rattle.set_model.proofs.SoundLink.{queues}
 use Rattle.set_model.proofs.Walk.{IsAt}
 use Rattle.set_moves.specs.Agreement.{StandsFor}
-use Rattle.set_moves.specs.Parts.{Up, Down, Settled, kept_of}
-use Rattle.set_moves.proofs.Links.{IsHere, IsLeft, ignores, obeys_at, here_room, stands_for, whole_of, has_room_left, beside_out, out_at, room_after, is_left}
+use Rattle.set_moves.specs.Parts.{Up, Down, Settled, AtLink, IsOut, kept_of}
+use Rattle.set_moves.proofs.Links.{IsHere, ignores, obeys_at, here_room, stands_for, whole_of, has_room_left, beside_out, beside_left, counted_set, out_at}
+use Rattle.set_queues.proofs.Soundness.{room_left}
 use Rattle.set_moves.proofs.changeover.change_over.Goals as goal
 use Rattle.set_moves.proofs.changeover.change_over.Goals.{After-leave}
 
@@ -18,28 +19,28 @@ returns-in-None c = record { stands = ignores c.args.parts.now c.args.number (ch
 is_here : (c : After-leave) → IsHere c.args.parts.now.links.items c.args.number Up
 is_here c = rw c.in-Some-Up.field-0-is at c.in-Some-Up.ensures.here
 
-left : (c : After-leave) → IsLeft c.args.number c.args.parts.now c.leave.new.parts
-left c = is_left false c.args.number c.args.parts.now c.leave.new.parts (is_here c).known c.leave.ensures.links
-
 pub queue-requires-clause-room : goal.queue-requires-clause-room
 queue-requires-clause-room c =
-    let so = (goal.at.queue-requires-clause-room c).After-leave in
-    has_room_left c.args.number c.args.parts.now c.leave.new.parts (c.requires.room (is_here so).known) c.leave.ensures.turns c.leave.ensures.bodies (left so).target_is
+    let h = is_here (goal.at.queue-requires-clause-room c).After-leave in
+    has_room_left c.args.number c.args.parts.now c.leave.new.parts (c.requires.room h.known) c.leave.ensures.turns c.leave.ensures.bodies (beside_left _ _ c.args.number _ (c.leave.ensures.links h.link h.there) refl)
 
 pub settle-requires : goal.settle-requires
 settle-requires c =
     let n = c.args.number in
-    let so = (goal.at.settle-requires c).After-leave in
-    let low = (is_here so).known in
-    let l = left so in
-    let whole = whole_of c.args.parts.now c.requires.holds in
+    let h = is_here (goal.at.settle-requires c).After-leave in
+    let links = c.args.parts.now.links.items in
+    let is = c.leave.ensures.links h.link h.there in
+    let many : length c.leave.new.parts.links.items ≡ length links = rw is (length_set _ _ _) in
+    let out : AtLink n c.leave.new.parts.links.items IsOut = λ link there. grind (arith, is, get_set_same links n, h.known) in
+    let beside = beside_left links c.leave.new.parts.links.items n _ is refl in
+    let one = c.requires.counted n h.link h.there in
     record {
       whole = c.queue.ensures.whole;
-      counted = rw c.queue.ensures.links (l.counted _ c.requires.counted);
+      counted = rw c.queue.ensures.links (counted_set _ links c.leave.new.parts.links.items n _ c.requires.counted is (record { acked = one.acked; accepted = one.accepted }));
       reached = c.requires.reached;
-      known = rw (c.queue.ensures.links, l.many) low;
-      out = rw c.queue.ensures.links l.out;
-      room = room_after n c.args.parts.now c.leave.new.parts c.queue.new.parts (omega (arith, low, whole.as_many)) (c.requires.room low) c.leave.ensures.turns l.target_is (ap (λ links. target links.items) c.queue.ensures.links) (c.queue.ensures.elsewhere n (rw l.many low) l.out) c.queue.ensures.rooms;
+      known = rw (c.queue.ensures.links, many) h.known;
+      out = rw c.queue.ensures.links out;
+      room = grind (arith, room_left, c.requires.room h.known, c.leave.ensures.turns, beside, c.queue.ensures.links, c.queue.ensures.elsewhere n (rw many h.known) out, c.queue.ensures.rooms, (whole_of c.args.parts.now c.requires.holds).as_many);
     }
 
 pub returns-in-Some-Up : goal.returns-in-Some-Up

@@ -1,6 +1,7 @@
 use Rattle.std.proofs.Common.{rules, refl, arith, []}
 use Rattle.set_queues.proofs.Standing.{links_stay}
 use Rattle.set_moves.specs.Parts.{kept_of}
+use Rattle.set_queues.specs.Buffers.{IsKnown}
 use Rattle.set_model.specs.Rows.{Unacked, Waiting}
 use Rattle.set_moves.proofs.States.{becomes, given_up_for}
 use Rattle.set_moves.proofs.Links.{cleared_less, on_less}
@@ -13,12 +14,8 @@ returns-clause-stands c = λ s f.
     becomes (given_up_for mid _ (Waiting c.args.number) c.args.cause first refl (grind arith)) (search rules)
 
 pub returns-clause-fewer : goal.returns-clause-fewer
-returns-clause-fewer c =
-    let n = c.args.number in
-    let q = c.args.parts.now.queues.lists in
-    let mid = c.discard.new.self.lists in
-    let many = links_stay (Unacked n) [] q in
-    on_less n q c.discard-2.new.self.lists (λ f. omega (arith, cleared_less (Unacked n) q mid c.discard.ensures.lists refl (omega arith) f, cleared_less (Waiting n) mid _ c.discard-2.ensures.lists refl (grind arith) f))
+returns-clause-fewer c = let known : IsKnown (Waiting c.args.number) c.discard.new.self.lists = grind (arith, links_stay (Unacked c.args.number) []) in
+    omega (arith, on_less c.args.number _ _ (cleared_less (Unacked c.args.number) _ _ c.discard.ensures.lists refl (omega arith)), on_less c.args.number _ _ (cleared_less (Waiting c.args.number) _ _ c.discard-2.ensures.lists refl known))
 
 pub discard-requires-2-clause-known : goal.discard-requires-2-clause-known
 discard-requires-2-clause-known c = let many = links_stay (Unacked c.args.number) [] c.args.parts.now.queues.lists in grind arith
