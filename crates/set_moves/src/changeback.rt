@@ -132,6 +132,7 @@ fn has_code_in_use(parts: &Parts, home: u8) -> bool
 
 /// What waits for the code's acknowledgement waits for its home from now on, and its streams run there;
 /// the code is free.
+#[tactic(auto, using(set_queues::proofs::Standing::links))]
 pub(crate) fn release(parts: &mut Parts, code: u8)
     requires whole { IsWhole parts.old }
     requires known { home_of code < length parts.old.links.items }

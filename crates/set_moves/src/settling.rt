@@ -62,6 +62,7 @@ fn judge(parts: &mut Parts, number: u8, reached: Reached)
 }
 
 /// What was sent on the link, or waits for it, is discarded.
+#[tactic(auto, using(set_queues::proofs::Standing::links))]
 fn discard(parts: &mut Parts, number: u8, cause: DiscardCause)
     requires whole { IsWhole parts.old }
     requires known { number < length parts.old.links.items }

@@ -16,9 +16,3 @@ returns-clause-stands c = λ s f.
 pub returns-clause-fewer : goal.returns-clause-fewer
 returns-clause-fewer c = let known : IsKnown (Waiting c.args.number) c.discard.new.self.lists = grind (arith, links_stay (Unacked c.args.number) []) in
     omega (arith, on_less c.args.number _ _ (cleared_less (Unacked c.args.number) _ _ c.discard.ensures.lists refl (omega arith)), on_less c.args.number _ _ (cleared_less (Waiting c.args.number) _ _ c.discard-2.ensures.lists refl known))
-
-pub discard-requires-2-clause-known : goal.discard-requires-2-clause-known
-discard-requires-2-clause-known c = let many = links_stay (Unacked c.args.number) [] c.args.parts.now.queues.lists in grind arith
-
-pub returns-clause-whole : goal.returns-clause-whole
-returns-clause-whole c = grind (arith, c.discard.ensures.lists, c.discard-2.ensures.lists, links_stay (Unacked c.args.number) [], links_stay (Waiting c.args.number) [])
