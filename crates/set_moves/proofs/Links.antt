@@ -9,11 +9,11 @@ use Rattle.set_model.proofs.Lists.{map_at, map_set, map_set_same, same_at, prese
 use Rattle.std.proofs.lemmas.Simd.{map-map}
 use Rattle.set_queues.specs.Buffers.{Fate, Lists, IsKnown, Waiting, Unacked, Held, same_fate, with_queue, room_at, is_standing, queue_at}
 use Rattle.set_queues.proofs.Soundness.{IsAside, aside_of, on_length, queue_last}
-use Rattle.set_model.specs.Changeover.{fate_on, Obeyed, ignored, at_link, answered}
+use Rattle.set_model.specs.Changeover.{fate_on, Obeyed}
 use Rattle.set_route.specs.Target.{target_of}
 use Rattle.set_moves.specs.Room.{SameButRoom, HasRoom, IsReady, target_beside}
 pub use Rattle.set_moves.specs.Parts.{Link, Parts, Phase, Up, Down, Settled, Unanswered, Reached, IsHere}
-use Rattle.set_model.specs.Step.{Answer, Refused, NoSuchLink, Took, Ignored, Outcome, on_link, in_service}
+use Rattle.set_model.specs.Step.{Answer, Refused, NoSuchLink, Took, Outcome, on_link, in_service}
 use Rattle.std.proofs.lemmas.Bool.Decides.{nat_tests}
 use Rattle.set_queues.specs.Backs.{back_count}
 use Rattle.set_queues.specs.Settling.{on}
@@ -73,20 +73,7 @@ known_here old parts s n answer outcome a known g = rw (← a.stands.links, (pre
 pub unknown : (parts : Parts) (s : State) (a : Agrees (kept_of parts) s) (n : ℕ) (outcome : LinkState → Outcome) → length parts.links.items ≤ n → Gives (on_link n s outcome) (Refused NoSuchLink) parts
 unknown parts s a n outcome few = rw (ap (λ links. slice_get links n) (sym a.stands.links) ∙ slice_get_past parts.links.items n few) (record { answer_is = refl; stands = a.stands })
 
--- An order changes nothing at a link that it isn't for, as its phase or that there is none tells,
-pub ignores : {o : Option Phase} (parts : Parts) (n : ℕ) (obeyed : LinkState → Phase → State → Obeyed) → o ≡ option_map (λ (l : Link). l.phase) (slice_get parts.links.items n) → ((phase : Phase) → o ≡ Some phase → (link : LinkState) (s : State) → obeyed link phase s ≡ ignored s)
-    → AllObey parts parts Ignored (obeyed_at n obeyed)
-ignores parts n obeyed is none s a = rw (ap (λ links. slice_get links n) (sym a.stands.links)) (rw (nothing (slice_get parts.links.items n) (λ link e. none link.phase (is ∙ ap (option_map (λ (l : Link). l.phase)) e) link s)) (record { took_is = refl; stands = a.stands }))
-  where
-    nothing : (o : Option Link) → ((link : Link) → o ≡ Some link → obeyed link link.phase s ≡ ignored s) → at_link n s (λ link. obeyed link link.phase s) (o) ≡ ignored s
-    nothing None h = refl
-    nothing (Some link) h = h link refl
-
--- as at one for which no acknowledgement is waited for,
-pub unanswered : (reached : Reached) (n : ℕ) (o : Option Phase) → (o ≡ Some Down → ⊥) → (phase : Phase) → o ≡ Some phase → (link : LinkState) (s : State) → answered reached n link phase s ≡ ignored s
-unanswered reached n o other phase is link s = grind arith
-
--- and is obeyed at one in its phase
+-- An order is obeyed at a link in its phase.
 pub obeys_at : {new : Parts} {n : ℕ} {phase : Phase} {took : Took} (parts : Parts) (obeyed : LinkState → Phase → State → Obeyed) → IsHere parts.links.items n phase
     → ((s : State) (link : LinkState) → slice_get s.links n ≡ Some link → link.phase ≡ phase → Agrees (kept_of parts) s → Obeys (obeyed link phase s) took new)
     → AllObey parts new took (obeyed_at n obeyed)

@@ -1,14 +1,10 @@
-use Rattle.set_model.specs.Step.{Refused, Done, Nothing, comes_back}
+use Rattle.set_model.specs.Step.{Done, comes_back}
 use Rattle.set_moves.specs.Parts.{Up}
 use Rattle.set_moves.proofs.Links.{served, is_in, whole_of}
 use Rattle.std.proofs.Common.{arith, ◌≡◌, ◌∙◌, refl, sym, length}
 use Rattle.set_model.specs.Changeover.{declared_from, declared_if}
 use Rattle.set_moves.proofs.Declaring.{count_is, becomes_next, room_after, room_later}
 use Rattle.set_moves.proofs.changeback.restore.Goals as goal
-
-pub returns-then-not-has_alternative-clause-ok : goal.returns-then-not-has_alternative-clause-ok
-returns-then-not-has_alternative-clause-ok c = λ s a.
-    served s c.args.number (λ link. comes_back c.args.number s) (Refused Nothing) c.args.parts.now (is_in c.args.parts.now s c.args.number Up a c.in_default.ensures.here) (rw (sym (c.has_alternative.ensures s a.stands) ∙ c.if-not-has_alternative.true) (record { answer_is = refl; stands = a.stands }))
 
 pub returns-clause-ok : goal.returns-clause-ok
 returns-clause-ok c = λ s a. let end : c.loop-alternative.alternative ≡ length c.args.parts.now.links.items = omega (arith, (whole_of c.args.parts.now c.requires.holds).few) in

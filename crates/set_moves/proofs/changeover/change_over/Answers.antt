@@ -7,13 +7,10 @@ use Rattle.set_model.proofs.SoundLink.{queues}
 use Rattle.set_model.proofs.Walk.{IsAt}
 use Rattle.set_moves.specs.Agreement.{StandsFor}
 use Rattle.set_moves.specs.Parts.{Up, Down, Settled, AtLink, IsOut, kept_of}
-use Rattle.set_moves.proofs.Links.{IsHere, ignores, obeys_at, here_room, stands_for, whole_of, has_room_left, beside_out, beside_left, counted_set, out_at}
+use Rattle.set_moves.proofs.Links.{IsHere, obeys_at, here_room, stands_for, whole_of, has_room_left, beside_out, beside_left, counted_set, out_at}
 use Rattle.set_queues.proofs.Soundness.{room_left}
 use Rattle.set_moves.proofs.changeover.change_over.Goals as goal
 use Rattle.set_moves.proofs.changeover.change_over.Goals.{After-leave}
-
-pub returns-in-None : goal.returns-in-None
-returns-in-None c = record { stands = ignores c.args.parts.now c.args.number (changed_over c.args.reached c.args.number) c.phase_of.ensures.value (λ phase e link s. let none = c.in-None.is in absurd cc) }
 
 -- A LINK THAT IS UP is left and answered for
 is_here : (c : After-leave) → IsHere c.args.parts.now.links.items c.args.number Up
@@ -64,21 +61,9 @@ settle-requires-in-Some-Down-clause-room c =
     let h = rw c.in-Some-Down.field-0-is at c.in-Some-Down.ensures.here in
     here_room c.args.parts.now c.args.number 1 Down h refl (c.requires.room h.known)
 
-pub returns-in-Some-Down : goal.returns-in-Some-Down
-returns-in-Some-Down c = record { stands = obeys_at c.args.parts.now (changed_over c.args.reached c.args.number) (rw c.in-Some-Down.field-0-is at c.in-Some-Down.ensures.here) (λ s link there is a. record { took_is = refl; stands = c.settle-in-Some-Down.ensures.stands s link there is a }) }
-
 -- one that settled is answered for again
 pub queue-requires-in-Some-Settled-clause-room : goal.queue-requires-in-Some-Settled-clause-room
 queue-requires-in-Some-Settled-clause-room c =
     let h = rw c.in-Some-Settled.field-0-is at c.in-Some-Settled.ensures.here in
     let room = c.requires.room h.known in
     grind (arith, beside_out, out_at c.args.parts.now.links.items c.args.number Settled h refl, h.known, room)
-
-pub returns-in-Some-Settled : goal.returns-in-Some-Settled
-returns-in-Some-Settled c =
-    let h = rw c.in-Some-Settled.field-0-is at c.in-Some-Settled.ensures.here in
-    record {
-      stands = obeys_at c.args.parts.now (changed_over c.args.reached c.args.number) h (λ s link there is a.
-          let same = stands_for c.args.parts.now.links.items c.args.number c.from-in-Some-Settled.result c.index-in-Some-Settled.result.now c.from-in-Some-Settled.ensures h.known c.index-in-Some-Settled.ensures s.links link a.stands.links there in
-          record { took_is = refl; stands = rw (c.reply-order.ensures.order, same) at (c.queue-in-Some-Settled.ensures.stands s a.stands) });
-    }
