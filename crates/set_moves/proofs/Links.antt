@@ -1,23 +1,23 @@
 -- One link of the list changes, and what the list stands for with it.
 use Rattle.std.proofs.Common.{arith, ◌≡◌, ◌∙◌, ap, sym, ◌<◌, ℕ, List, map, length, slice_get, slice_set, slice_index_or, Some, ◌≢◌, false, Option, IfSome, refl, subst, ◌≤◌, None, Bool, option_map, true, [], drop}
-use Rattle.std.proofs.lemmas.Option.{slice_get-get_or, slice_get_past}
-use Rattle.set_moves.specs.Parts.{Link, Parts, kept_of, AtLink, IsOut, Gives, Obeys, AllObey, obeyed_at, Phase, Down, IsWhole, IsCounted, AreCounted}
+use Rattle.std.proofs.lemmas.Option.{slice_get-get_or}
+use Rattle.set_moves.specs.Parts.{Link, Parts, kept_of, AtLink, IsOut, Gives, Phase, Down, IsWhole, IsCounted, AreCounted}
 use Rattle.std.proofs.lemmas.List.{length-map, length-drop}
 use Rattle.set_moves.specs.Agreement.{Agrees, Holds}
 use Rattle.set_model.specs.State.{LinkState, State, has_phase_up, target}
 use Rattle.set_model.proofs.Lists.{map_at, map_set, map_set_same, same_at, present, target_up, within, set_same, at_set}
 use Rattle.std.proofs.lemmas.Simd.{map-map}
-use Rattle.set_queues.specs.Buffers.{Fate, Lists, IsKnown, Waiting, Unacked, Held, same_fate, with_queue, room_at, is_standing, queue_at}
+use Rattle.set_queues.specs.Buffers.{Fate, Lists, IsKnown, Waiting, Unacked, Held, with_queue, room_at, is_standing, queue_at}
 use Rattle.set_queues.proofs.Soundness.{IsAside, aside_of, on_length, queue_last}
-use Rattle.set_model.specs.Changeover.{fate_on, Obeyed}
+use Rattle.set_model.specs.Changeover.{fate_on}
 use Rattle.set_route.specs.Target.{target_of}
 use Rattle.set_moves.specs.Room.{SameButRoom, HasRoom, IsReady, target_beside}
 pub use Rattle.set_moves.specs.Parts.{Link, Parts, Phase, Up, Down, Settled, Unanswered, Reached, IsHere}
-use Rattle.set_model.specs.Step.{Answer, Refused, NoSuchLink, Took, Outcome, on_link, in_service}
+use Rattle.set_model.specs.Step.{Answer, Outcome, on_link, in_service}
 use Rattle.std.proofs.lemmas.Bool.Decides.{nat_tests}
 use Rattle.set_queues.specs.Backs.{back_count}
 use Rattle.set_queues.specs.Settling.{on}
-use Rattle.set_queues.proofs.Standing.{queue_away, queue_set}
+use Rattle.set_queues.proofs.Standing.{queue_set}
 use Rattle.set_moves.specs.Turning.{TakesTurns}
 use Rattle.set_queues.specs.Sending.{acknowledged, reach}
 
@@ -69,18 +69,6 @@ served s n outcome answer parts i g = rw i.there (rw (ap has_phase_up i.phase_is
 pub known_here : (old parts : Parts) (s : State) (n : ℕ) (answer : Answer) (outcome : Outcome) → Agrees (kept_of old) s → n < length old.links.items → Gives outcome answer parts → Gives (on_link n s (λ link. outcome)) answer parts
 known_here old parts s n answer outcome a known g = rw (← a.stands.links, (present old.links.items n known).1) g
 
--- A refusal changes nothing.
-pub unknown : (parts : Parts) (s : State) (a : Agrees (kept_of parts) s) (n : ℕ) (outcome : LinkState → Outcome) → length parts.links.items ≤ n → Gives (on_link n s outcome) (Refused NoSuchLink) parts
-unknown parts s a n outcome few = rw (ap (λ links. slice_get links n) (sym a.stands.links) ∙ slice_get_past parts.links.items n few) (record { answer_is = refl; stands = a.stands })
-
--- An order is obeyed at a link in its phase.
-pub obeys_at : {new : Parts} {n : ℕ} {phase : Phase} {took : Took} (parts : Parts) (obeyed : LinkState → Phase → State → Obeyed) → IsHere parts.links.items n phase
-    → ((s : State) (link : LinkState) → slice_get s.links n ≡ Some link → link.phase ≡ phase → Agrees (kept_of parts) s → Obeys (obeyed link phase s) took new)
-    → AllObey parts new took (obeyed_at n obeyed)
-obeys_at {new} {n} {phase} {took} parts obeyed h done s a =
-    let i = is_in parts s n phase a h in
-    rw i.there (subst (λ p. Obeys (obeyed i.link p s) took new) (sym i.phase_is) (done s i.link i.there i.phase_is a))
-
 pub phase_here : (links : List Link) (n : ℕ) (o : Option Link) → slice_get links n ≡ o → IfSome (option_map (λ (l : Link). l.phase) o) (IsHere links n)
 phase_here links n None e = tt
 phase_here links n (Some link) e = record { link = link; there = e; phase_is = refl; known = within links n link e }
@@ -109,12 +97,6 @@ beside_out links n known out =
 pub beside_left : (links new : List Link) (n : ℕ) (link : Link) → new ≡ slice_set links n link → has_phase_up link.phase ≡ false → target new ≡ target_beside n links
 unfolding ups_of
 beside_left links new n link e out = grind (arith, map_set, ups_of)
-
--- what stands on a link isn't touched by what waits elsewhere
-pub on_same : (n : ℕ) (to : Fate) (xs : List ℕ) (q new : Lists) → IsAside n to q → new ≡ with_queue to xs q → on n new ≡ on n q
-on_same n to xs q new a e =
-    let sent : same_fate to (Unacked n) ≡ false = grind arith in
-    rw (queue_away to (Unacked n) xs q new e a.other sent, queue_away to (Waiting n) xs q new e a.other a.unsent, queue_away to (Held n) xs q new e a.other a.held) refl
 
 -- THE WHOLE NUMBERS of a list in which one link changed otherwise
 pub counted_set : (bound : ℕ) (links new : List Link) (n : ℕ) (link : Link) → AreCounted bound links → new ≡ slice_set links n link → IsCounted bound link → AreCounted bound new

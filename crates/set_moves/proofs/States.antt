@@ -48,9 +48,6 @@ shifts_stand {q} {q'} {ms} {rows} {new} {test} {to} {ns} s shifts queues e =
 pub row_push : (n : ℕ) (rows : List Row) (body : List ℕ) (fate : Fate) → IsNumbered rows → row_of n (appended rows body fate) ≡ cond (length rows == n) (Some (new_row (length rows) body fate)) (row_of n rows)
 row_push n rows body fate numbered = find-append (λ (r : Row). r.number == n) rows (new_row (length rows) body fate ∷ []) ∙ grind (arith, nat_tests, none_at, is_found)
 
-abbrev pub message_of : List ℕ → Fate → Message
-message_of body fate = record { fate = fate; kind = kind_of body; octets = length body }
-
 -- THE FSN LAST ACKNOWLEDGED on each link.
 pub last_stays : (f : Fate) (xs : List ℕ) (q : Lists) (n : ℕ) → last_at n (with_queue f xs q) ≡ last_at n q
 last_stays f xs q n = grind (arith, nat_tests, cases_eq, updated_same, updated_other)
@@ -60,23 +57,19 @@ last_set l fsn q n h = let x = present q.links l h in grind (arith, nat_tests, c
 
 -- A NEW MESSAGE.
 pub appended_for : (k : Kept) (s : State) (body : List ℕ) (fate : Fate) → StandsFor k s → is_standing fate ≡ true → IsKnown fate k.lists
-    → StandsFor (record k { lists = with_queue fate (queue_at fate k.lists ++ length k.messages ∷ []) k.lists; messages = k.messages ++ message_of body fate ∷ []; bodies = k.bodies ++ body ∷ [] }) (record s { rows = appended s.rows body fate })
+    → StandsFor (record k { lists = with_queue fate (queue_at fate k.lists ++ length k.messages ∷ []) k.lists; messages = k.messages ++ record { fate = fate; kind = kind_of body; octets = length body } ∷ []; bodies = k.bodies ++ body ∷ [] }) (record s { rows = appended s.rows body fate })
 appended_for k s body fate f standing known = grind (arith, nat_tests, length-append, same_is, queue_set, appended_at, get_push, row_push, numbered_appended, links_stay, last_stays)
 
 -- MESSAGES COME TO STAND ELSEWHERE, and links and routing may change.
 module _ (k : Kept) (s : State) (f : StandsFor k s) (lists : Lists) (messages : List Message) (new : List Row) (moves : Moves lists messages s.rows new) (as_many : length lists.links ≡ length k.lists.links) (routing routing' : Routing) (way : routing ≡ routing') where
-  moved_for : (links : List LinkState) → length links ≡ length s.links → ((m : ℕ) (link : LinkState) → slice_get links m ≡ Some link → last_at m lists ≡ (link.acked + 127) % 128)
-      → StandsFor (record k { lists = lists; messages = messages; links = links; routing = routing }) (record s { rows = new; links = links; routing = routing' })
-  moved_for links many fsns = grind (arith, nat_tests)
-
   -- no link changes
   pub queues_for : ((n : ℕ) → last_at n lists ≡ last_at n k.lists) → StandsFor (record k { lists = lists; messages = messages; routing = routing }) (record s { rows = new; routing = routing' })
-  queues_for last = subst (λ links. StandsFor (record k { lists = lists; messages = messages; links = links; routing = routing }) (record s { rows = new; routing = routing' })) (sym f.links) (moved_for s.links refl (λ n link there. last n ∙ f.fsns n link there))
+  queues_for last = grind (arith, last, f.fsns)
 
   -- one does
   link_and_queues_for : (n : ℕ) (link' : LinkState) → ((m : ℕ) → n ≢ m → last_at m lists ≡ last_at m k.lists) → last_at n lists ≡ (link'.acked + 127) % 128
       → StandsFor (record k { lists = lists; messages = messages; links = slice_set s.links n link'; routing = routing }) (record s { rows = new; links = slice_set s.links n link'; routing = routing' })
-  link_and_queues_for n link' others own = moved_for (slice_set s.links n link') (length_set s.links n link') (λ m link there. grind (arith, nat_tests, at_set, f.fsns))
+  link_and_queues_for n link' others own = grind (arith, nat_tests, length_set, at_set, others, own, f.fsns)
 
 -- ROWS THAT STAND LAST FROM NOW ON: what is kept tells nothing of it.
 pub parted_for : (k : Kept) (s : State) (test : Fate → Bool) → StandsFor k s → StandsFor k (record s { rows = parted test s.rows })

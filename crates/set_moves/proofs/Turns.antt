@@ -35,10 +35,6 @@ use Rattle.set_model.proofs.Walk.{IsAt}
 back_of : (home : ℕ) (f : Fate) → is_back_to home f ≡ true → (c : ℕ) × (f ≡ Back c) × (home_of c ≡ home)
 back_of home f e = grind arith
 
--- what waits for a code of the home waits for the home
-back_home : (home c : ℕ) → home_of c ≡ home → (f : Fate) → is_back c f ≡ true → is_back_to home f ≡ true
-back_home home c of f e = ap (is_back_to home) (same_is f (Back c) refl e) ∙ eq-eqb (home_of c) home of
-
 -- ROWS
 
 -- the first number of some that are above another
@@ -101,7 +97,7 @@ pub record IsFirst (code number : ℕ) (rest : List Row) : Type 0 where
 
 module _ (home : ℕ) (s : State) (k : Kept) (t : TurnsOn home s k) where
   none_gone : (c : ℕ) → home_of c ≡ home → standing (is_back c) t.gone ≡ []
-  none_gone c of = none_within (is_back c) (is_back_to home) (λ f e. back_home home c of f e) t.gone t.none
+  none_gone c of = none_within (is_back c) (is_back_to home) (λ f e. ap (is_back_to home) (same_is f (Back c) refl e) ∙ eq-eqb (home_of c) home of) t.gone t.none
 
   at_code : (c : ℕ) → home_of c ≡ home → queue_at (Back c) k.lists ≡ numbers (standing (is_back c) t.rest)
   at_code c of = t.stands.stands.queues (Back c) refl ∙ ap numbers (grind (arith, filter-append, none_gone c of))

@@ -1,13 +1,12 @@
 use Rattle.std.proofs.Common.{refl, arith, length, ◌≡◌, ◌∙◌, ap, subst, ℕ, false}
-use Rattle.set_model.specs.Changeover.{Coa, changed_over, queued, left_by, left_link}
+use Rattle.set_model.specs.Changeover.{Coa, queued, left_by, left_link}
 use Rattle.set_model.specs.State.{last_accepted}
 use Rattle.set_model.proofs.Lists.{within, get_set_same, length_set}
 use Rattle.set_model.proofs.SoundBack.{leaves}
 use Rattle.set_model.proofs.SoundLink.{queues}
-use Rattle.set_model.proofs.Walk.{IsAt}
 use Rattle.set_moves.specs.Agreement.{StandsFor}
 use Rattle.set_moves.specs.Parts.{Up, Down, Settled, AtLink, IsOut, kept_of}
-use Rattle.set_moves.proofs.Links.{IsHere, obeys_at, here_room, stands_for, whole_of, has_room_left, beside_out, beside_left, counted_set, out_at}
+use Rattle.set_moves.proofs.Links.{IsHere, is_in, here_room, stands_for, whole_of, has_room_left, beside_out, beside_left, counted_set, out_at}
 use Rattle.set_queues.proofs.Soundness.{room_left}
 use Rattle.set_moves.proofs.changeover.change_over.Goals as goal
 use Rattle.set_moves.proofs.changeover.change_over.Goals.{After-leave}
@@ -45,14 +44,15 @@ returns-in-Some-Up c =
     let n = c.args.number in
     let h = is_here (goal.at.returns-in-Some-Up c).After-leave in
     record {
-      stands = obeys_at c.args.parts.now (changed_over c.args.reached n) h (λ s link there up a.
-          let at : IsAt n link Up s = record { there = there; phase_is = up } in
-          let same = stands_for c.args.parts.now.links.items n c.from.result c.index.result.now c.from.ensures h.known c.index.ensures s.links link a.stands.links there in
+      stands = λ s a.
+          let at = is_in c.args.parts.now s n Up a h in
+          let link = at.link in
+          let same = stands_for c.args.parts.now.links.items n c.from.result c.index.result.now c.from.ensures h.known c.index.ensures s.links link a.stands.links at.there in
           let fsn = c.last_accepted.ensures.value ∙ ap last_accepted same in
           let mid = left_by false n link s in
-          let told = subst (λ (f : ℕ). StandsFor (kept_of c.queue.new.parts) (queued (Coa n f) mid)) fsn (c.queue.ensures.stands mid (c.leave.ensures.stands s link there a)) in
-          let sound = queues (Coa n (last_accepted link)) mid (leaves false n link s at a.sound) in
-          record { took_is = refl; stands = c.settle.ensures.stands (queued (Coa n (last_accepted link)) mid) (left_link false link) (get_set_same s.links n (left_link false link) (within s.links n link there)) refl (record { stands = told; sound = sound }) });
+          let told = subst (λ (f : ℕ). StandsFor (kept_of c.queue.new.parts) (queued (Coa n f) mid)) fsn (c.queue.ensures.stands mid (c.leave.ensures.stands s link at.there a)) in
+          let sound = queues (Coa n (last_accepted link)) mid (leaves false n link s (record { there = at.there; phase_is = at.phase_is }) a.sound) in
+          rw (at.there, at.phase_is) (record { took_is = refl; stands = c.settle.ensures.stands (queued (Coa n (last_accepted link)) mid) (left_link false link) (get_set_same s.links n (left_link false link) (within s.links n link at.there)) refl (record { stands = told; sound = sound }) });
     }
 
 -- one that was left settles
