@@ -1,11 +1,9 @@
 -- A declaration goes out on each link from which streams come back.
-use Rattle.std.proofs.Common.{arith, ◌≡◌, ap, sym, ◌+◌, ℕ, zero, suc, false, length}
-use Rattle.set_model.specs.Step.{Order}
-use Rattle.set_route.specs.Routing.{is_free}
-use Rattle.set_model.specs.Changeover.{acknowledged_back, released}
-use Rattle.set_model.specs.State.{Code, State, link_count}
+use Rattle.std.proofs.Common.{◌-◌, ◌||◌, ◌<◌, arith, ◌≡◌, ap, sym, ◌+◌, ℕ, zero, suc, length}
+use Rattle.set_model.specs.Changeover.{can_declare, some_declare}
+use Rattle.set_model.specs.State.{State, link_count}
 use Rattle.set_moves.specs.Agreement.{StandsFor}
-use Rattle.set_moves.specs.Parts.{Parts, Becomes, Obeys, kept_of}
+use Rattle.set_moves.specs.Parts.{Parts, Becomes, kept_of}
 
 -- SO MANY STEPS, from one on: the last of them comes last
 module _ (run : ℕ → ℕ → State → State) (step : ℕ → State → State) (none : (from : ℕ) (s : State) → run from 0 s ≡ s) (next : (from n : ℕ) (s : State) → run from (suc n) s ≡ run (suc from) n (step from s)) where
@@ -19,6 +17,6 @@ module _ (run : ℕ → ℕ → State → State) (step : ℕ → State → State
 pub count_is : (parts : Parts) (s : State) → StandsFor (kept_of parts) s → link_count s ≡ length parts.links.items
 count_is parts s f = sym (ap length f.links)
 
--- an acknowledgement of a code that is in use
-pub in_use : (code : ℕ) (x : Code) (s : State) (parts : Parts) → is_free x ≡ false → StandsFor (kept_of parts) (released code s) → Obeys (acknowledged_back code x s) Order parts
-in_use code x s parts used stands = grind arith
+-- one of so many that are left declares, or one after it
+pub declares_next : (home n count : ℕ) (s : State) → n < count → some_declare home n (count - n) s ≡ (can_declare home n s || some_declare home (n + 1) (count - (n + 1)) s)
+declares_next home n count s low = let more : count - n ≡ suc (count - (n + 1)) = omega (arith, low) in grind (arith, more)

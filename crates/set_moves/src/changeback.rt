@@ -89,7 +89,7 @@ pub fn time_out(parts: &mut Parts, number: u8, answer: &mut Answer) -> Result<()
 }
 
 /// Whether streams can come back from some link.
-#[tactic(auto, using(crate::proofs::Declaring::count_is))]
+#[tactic(auto, using(crate::proofs::Declaring::count_is, crate::proofs::Declaring::declares_next))]
 fn has_alternative(parts: &Parts, number: u8) -> bool
     requires whole { IsWhole parts.now }
     requires known { number < length parts.now.links.items }

@@ -67,7 +67,7 @@ pub fn leave(parts: &mut Parts, number: u8, blind: bool)
 }
 
 /// An order is carried out (Q.704 5.4, 5.6, 6.3).
-#[tactic(auto, using(crate::proofs::Declaring::in_use, crate::proofs::Links::whole_of))]
+#[tactic(auto, using(crate::proofs::Links::whole_of))]
 pub fn obey(parts: &mut Parts, order: Order) -> Took
     requires holds { Holds (kept_of parts.old) }
     requires counted { AreCounted (2 ^ 61) parts.old.links.items }
