@@ -18,17 +18,13 @@ use Rattle.set_model.specs.Laws.{SameMessages}
 use Rattle.set_model.proofs.Rows.{fewer_filter, place_moved, new_row, numbered_appended, is_found}
 use Rattle.set_model.proofs.Order.{on_in_order}
 use Rattle.set_model.proofs.Staying.{messages_stay}
-use Rattle.set_moves.specs.Agreement.{Message, Stands, is_there, rows_at, label_in, label_of, kind_of, Kept, StandsFor}
+use Rattle.set_moves.specs.Agreement.{Message, Stands, is_there, rows_at, label_of, kind_of, Kept, StandsFor}
 use Rattle.set_moves.proofs.RowsAt.{given_all, none_at, Shifts, appended_at, parted, parted_at, turned_shifts, all_turned, moved_shifts}
 use Rattle.set_route.specs.Routing.{Routing}
 use Rattle.set_model.specs.State.{LinkState, State}
 use Rattle.set_model.proofs.Lists.{at_set, length_set, within, present, get_set_same}
 use Rattle.set_moves.specs.Parts.{Reached, Upto, Unknown, Unanswered}
 use Rattle.set_model.proofs.Events.{acknowledged as acked_rows, sent_given_up, waiting_given_up}
-
--- A message that comes to stand elsewhere keeps its label.
-labels_stay : (n : ℕ) (ns : List ℕ) (to : Fate) (ms : List Message) → option_map label_in (slice_get (restood ns to ms) n) ≡ option_map label_in (slice_get ms n)
-labels_stay n ns to ms = grind (arith, restood_at)
 
 -- THE QUEUES STAND FOR THE ROWS, which are the same messages,
 pub record Moves (q : Lists) (ms : List Message) (rows new : List Row) : Type 0 where
@@ -41,7 +37,7 @@ pub shifts_stand : {q q' : Lists} {ms : List Message} {rows new : List Row} {tes
 shifts_stand {q} {q'} {ms} {rows} {new} {test} {to} {ns} s shifts queues e =
     let given = given_all ns to ms rows new shifts.messages.numbered (s.count ∙ sym shifts.messages.count) shifts.goes in
     let fates : (n : ℕ) → fate_at n (restood ns to ms) ≡ place n new = λ n. let goes = shifts.goes n in grind (arith, cases_lt 0 (occurs n ns), given n, goes.stays, goes.goes, fate_stays n ns to ms, fate_moves n ns to ms, s.fates n) in
-    rw e (grind (arith, s, shifts, queues, labels_stay, length-restood, fates))
+    rw e (grind (arith, s, shifts, queues, restood_at, length-restood, fates))
 
 -- A NEW MESSAGE
 -- its number is the first that no row had

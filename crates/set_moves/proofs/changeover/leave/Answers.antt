@@ -1,7 +1,7 @@
 use Rattle.std.proofs.Common.{◌≡◌, refl, slice_set, slice_get, Some, ap, ◌∙◌}
 use Rattle.set_model.specs.Changeover.{out_of_service, left_link}
 use Rattle.set_route.specs.Routing.{left as streams_left}
-use Rattle.set_model.proofs.Lists.{length_set, present}
+use Rattle.set_model.proofs.Lists.{present}
 use Rattle.set_moves.specs.Agreement.{StandsFor, Agrees}
 use Rattle.set_moves.specs.Parts.{Link, kept_of}
 use Rattle.set_moves.proofs.Links.{link_set}
@@ -28,9 +28,6 @@ turn_back-requires-clause-turning c =
     let x = present c.requires.holds.0.links c.args.number (rw a.stands.links at c.requires.known) in
     let left = out (goal.at.turn_back-requires-clause-turning c).After-divert _ c.link.view_is c.requires.holds.0 x.0 x.1 a in
     (_, left.0, left.1)
-
-pub turn_back-requires-clause-room : goal.turn_back-requires-clause-room
-turn_back-requires-clause-room c = rw (length_set c.args.parts.now.links.items c.from.result _) c.requires.room
 
 pub returns-clause-stands : goal.returns-clause-stands
 returns-clause-stands c = λ s link there a. let left = out (goal.at.returns-clause-stands c).After-divert _ c.link.view_is s link there a in c.turn_back.ensures.stands _ left.0 left.1
