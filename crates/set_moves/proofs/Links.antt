@@ -1,5 +1,5 @@
 -- One link of the list changes, and what the list stands for with it.
-use Rattle.std.proofs.Common.{arith, ◌≡◌, ◌∙◌, ap, sym, ◌<◌, ℕ, List, map, length, slice_get, slice_set, slice_index_or, Some, ◌≢◌, false, Option, IfSome, refl, subst, ◌≤◌, None, Bool, option_map, true, [], drop}
+use Rattle.std.proofs.Common.{arith, ◌≡◌, ◌∙◌, ap, sym, ◌<◌, ℕ, List, map, length, slice_get, slice_set, slice_index_or, Some, ◌≢◌, false, Option, IfSome, refl, subst, ◌≤◌, None, option_map, true, [], drop}
 use Rattle.std.proofs.lemmas.Option.{slice_get-get_or}
 use Rattle.set_moves.specs.Parts.{Link, Parts, kept_of, AtLink, IsOut, Gives, Phase, Down, IsWhole, IsCounted, AreCounted}
 use Rattle.std.proofs.lemmas.List.{length-map, length-drop}
@@ -81,13 +81,8 @@ out_at links n phase h e link there = ap (λ (l : Link). has_phase_up l.phase) (
 pub agrees_same : (old new : Parts) (s : State) → SameButRoom old new → Agrees (kept_of old) s → Agrees (kept_of new) s
 agrees_same old new s same a = subst (λ k. Agrees k s) (sym same.kept) a
 
--- Room that was taken, as orders and moved messages need it.
-ups_of : List Link → List Bool
-ups_of links = map (λ (link : Link). has_phase_up link.phase) links
-
 -- THE TARGET beside a link that is out, and once it's left
 pub beside_out : (links : List Link) (n : ℕ) → n < length links → AtLink n links IsOut → target_beside n links ≡ target links
-unfolding ups_of
 beside_out links n known out =
     let x = present links n known in
     let down = out x.0 x.1 in
@@ -95,8 +90,7 @@ beside_out links n known out =
     grind (arith, set_same)
 
 pub beside_left : (links new : List Link) (n : ℕ) (link : Link) → new ≡ slice_set links n link → has_phase_up link.phase ≡ false → target new ≡ target_beside n links
-unfolding ups_of
-beside_left links new n link e out = grind (arith, map_set, ups_of)
+beside_left links new n link e out = grind (arith, map_set (λ (link : Link). has_phase_up link.phase) links n link)
 
 -- THE WHOLE NUMBERS of a list in which one link changed otherwise
 pub counted_set : (bound : ℕ) (links new : List Link) (n : ℕ) (link : Link) → AreCounted bound links → new ≡ slice_set links n link → IsCounted bound link → AreCounted bound new

@@ -170,9 +170,6 @@ module _ (home code : ℕ) (to : Fate) (q : Lists) (o : IsOldest home code q) (o
   abbrev gone : Lists
   gone = passed_first (Back code) to q
 
-  pub apart : (c : ℕ) → same_fate to (Back c) ≡ false
-  apart c = let to_link = on.2 in grind arith
-
   pub queue_then : (f : Fate) → is_standing f ≡ true → queue_at f gone ≡ cond (same_fate (Back code) f) (drop 1 (queue_at (Back code) q)) (cond (same_fate to f) (queue_at to q ++ take 1 (queue_at (Back code) q)) (queue_at f q))
   queue_then f s =
       let first = o.first in
@@ -185,7 +182,7 @@ module _ (home code : ℕ) (to : Fate) (q : Lists) (o : IsOldest home code q) (o
       let of = o.of_home in
       let first = o.first in
       let less : length (queue_at (Back code) gone) + 1 ≡ length (queue_at (Back code) q) = grind (arith, nat_tests, queue_then (Back code) refl) in
-      grind (arith, nat_tests, back_less code q gone (λ c ne. queue_then (Back c) refl ∙ rw (ne_eqb code c ne, apart c) refl) 1 less (16 * home) 16 (omega (arith, of)))
+      grind (arith, nat_tests, back_less code q gone (λ c ne. let to_link = on.2 in let apart : same_fate to (Back c) ≡ false = grind arith in queue_then (Back c) refl ∙ rw (ne_eqb code c ne, apart) refl) 1 less (16 * home) 16 (omega (arith, of)))
 
   -- and at most one more stands on a link
   grown : (f : Fate) → is_standing f ≡ true → same_fate (Back code) f ≡ false → length (queue_at f gone) ≤ length (queue_at f q) + cond (same_fate to f) 1 0
