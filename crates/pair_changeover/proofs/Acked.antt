@@ -22,9 +22,10 @@ use Rattle.set_model.specs.Rows.{Row, all_with, is_waiting, is_unacked, is_on, i
 use Rattle.set_model.specs.Sound.{IsSound}
 use Rattle.set_model.specs.State.{LinkState, State, Settings, has_phase_settled, is_settled, is_up, link_is_settled, new_link, opened_with, fate_at, target, window_of}
 use Rattle.set_model.specs.Step.{with_known, is_msu, after_control, next, offered, rises, rows_sent, step, takes}
-use Rattle.set_model.proofs.Events.{acknowledged, appended_out, sent_given_up, unparked}
+use Rattle.std.proofs.lemmas.Bool.{cond_both}
+use Rattle.set_model.proofs.Events.{ChangesOn, acknowledged, appended_out, unparked}
 use Rattle.set_model.proofs.Events as events
-use Rattle.set_model.proofs.Rows.{with_number, numbered_appended, turned_there, turned_left, changed_left, changed_same, at_most_one, moved_numbered, moved_same}
+use Rattle.set_model.proofs.Rows.{with_number, numbered_appended, turned_there, turned_left, turned_same, changed_left, at_most_one, moved_numbered, moved_same}
 use Rattle.set_model.proofs.Lists.{get_set_same, get_set_other, same_at, within}
 use Rattle.set_model.proofs.Places.{false_true, itself, apart_back, on_other, not_on_unacked, back_not_on, code_back, home_back}
 use Rattle.set_model.proofs.Staying.{acked_few, not_sent, offered_out}
@@ -233,7 +234,7 @@ module _ (l : ℕ) (sent : List Message) where
 
   gives_up_own : (cause : DiscardCause) (link : LinkState) (s : State) → IsAt l link Down s → AckedFirst l sent s → AckedFirst l sent (record s { rows = changed (is_unacked l) (Discarded cause) s.rows })
   gives_up_own cause link s at a = record {
-    numbered = (sent_given_up l cause s.rows).kept.numbered a.numbered;
+    numbered = (events.given_up l true cause s.rows).kept.numbered a.numbered;
     few = a.few;
     first = still l s.rows (changed (is_unacked l) (Discarded cause) s.rows) (changed_stay (Acked l) (is_unacked l) refl (Discarded cause) s.rows) (take (acked_on l s) sent) a.first;
     going = λ other there unsettled. inr (ap (λ (k : LinkState). k.phase) (same_at s.links l link other at.there there) ∙ at.phase_is, changed_left (is_unacked l) (Discarded cause) refl s.rows);
@@ -260,10 +261,10 @@ module _ (l : ℕ) (sent : List Message) where
     delivers = λ body s a. record { numbered = a.numbered; few = a.few; first = a.first; going = a.going };
     queues = λ order s a. appends s (queued order s) (text order s.settings.sio s.settings.dpc s.settings.opc) (fate_on (target s.links)) (not_sent l (target s.links)) refl refl a;
     leaves = λ blind n link s known at a. leaves_any blind n link s at a;
-    acknowledges = λ count n link s known at enough a. acknowledges_any count n link (acknowledged_link count link) s (acknowledged_by count n link s) at.there refl refl refl refl (ap has_phase_settled at.phase_is) enough a;
-    gives_up_sent = λ cause n link s known at a. by_link n (λ m. IsAt m link Down s → AckedFirst l sent (record s { rows = changed (is_unacked m) (Discarded cause) s.rows })) (λ here. gives_up_own cause link s here a)
-        (λ d here. goes_on s (record s { rows = changed (is_unacked n) (Discarded cause) s.rows }) ((sent_given_up n cause s.rows).kept.numbered a.numbered) (changed_stay (Acked l) (is_unacked n) refl (Discarded cause) s.rows) refl (((sent_given_up n cause s.rows).others l d).unack_same) a) at;
-    gives_up_waiting = λ cause n link s known at a. goes_on s (record s { rows = changed (is_waiting n) (Discarded cause) s.rows }) ((events.waiting_given_up n cause s.rows).kept.numbered a.numbered) (changed_stay (Acked l) (is_waiting n) refl (Discarded cause) s.rows) refl (changed_same (is_waiting n) (is_unacked l) (Discarded cause) refl (λ f e. grind arith) s.rows) a;
+    acknowledges = λ count n link s known at enough g a. acknowledges_any count n link (acknowledged_link count link) s (acknowledged_by count n link s) at.there refl refl refl refl (ap has_phase_settled at.phase_is) enough a;
+    gives_up = λ was_sent cause n link s known at g. cond_both was_sent (is_unacked n) (is_waiting n) (λ test. ChangesOn n s.rows (changed test (Discarded cause) s.rows) → AckedFirst l sent s → AckedFirst l sent (record s { rows = changed test (Discarded cause) s.rows })) (λ e g a. by_link n (λ m. IsAt m link Down s → AckedFirst l sent (record s { rows = changed (is_unacked m) (Discarded cause) s.rows })) (λ here. gives_up_own cause link s here a)
+        (λ d here. goes_on s (record s { rows = changed (is_unacked n) (Discarded cause) s.rows }) (g.kept.numbered a.numbered) (changed_stay (Acked l) (is_unacked n) refl (Discarded cause) s.rows) refl ((g.others l d).unack_same) a) at)
+        (λ e g a. goes_on s (record s { rows = changed (is_waiting n) (Discarded cause) s.rows }) (g.kept.numbered a.numbered) (changed_stay (Acked l) (is_waiting n) refl (Discarded cause) s.rows) refl (turned_same (is_waiting n) (is_unacked l) (Discarded cause) refl (λ f e. grind arith) (length s.rows) s.rows) a) g;
     moves_off = λ n link s known at a. moves_off_any n link s at a;
     declares = λ may home alternative s up can a. appends s (declared home alternative s) _ (Waiting alternative) refl refl refl a;
     releases = λ code s known a. turns (is_back code) (all_with (Waiting _)) s (released code s) refl (code_back code) (λ row. refl) refl refl a;
@@ -391,9 +392,9 @@ module _ (l : ℕ) (sent : List Message) (s : State) where
     rests = λ t u b keeps. keeps b;
     offers = λ body e none. appends l sent s (offered None s body).state body (fate_at (place_of (stream_of body) s.routing) s) (offered_out l (place_of (stream_of body) s.routing) s) refl refl a;
     takes = λ body rest e there. record { numbered = a.numbered; few = a.few; first = a.first; going = a.going };
-    sends = λ n link e at. absurd (not_next n e);
-    hears = λ n unit link e at. hears_part l sent n unit link s at a;
-    rises = λ n link e at. absurd (not_up n e);
+    sends = λ n link e at g. absurd (not_next n e);
+    hears = λ n unit link e at g. hears_part l sent n unit link s at a;
+    rises = λ n link e at u. absurd (not_up n e);
   })
 
 -- what was sent on the link in its present life, or its last one, when the event was asked

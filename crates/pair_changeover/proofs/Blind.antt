@@ -1,6 +1,6 @@
 -- A LINK SETTLES WITHOUT A NUMBER, in an emergency: what was sent on it and isn't acknowledged is discarded, and then it
 -- settles as by the number of the message last acknowledged.
-use Rattle.std.proofs.Common.{refl, arith, ◌≡◌, ◌∙◌, ap, sym, subst, ℕ, ◌==◌, ◌+◌, ◌-◌, ◌%◌, Bool, true, false, List, [], ◌∷◌, ◌++◌, drop, append_assoc, inl, inr}
+use Rattle.std.proofs.Common.{length, refl, arith, ◌≡◌, ◌∙◌, ap, sym, subst, ℕ, ◌==◌, ◌+◌, ◌-◌, ◌%◌, Bool, true, false, List, [], ◌∷◌, ◌++◌, drop, append_assoc, inl, inr}
 use Rattle.std.proofs.lemmas.Bool.{eqb-true}
 use Rattle.std.proofs.lemmas.Bool.Decides.{nat_tests}
 use Rattle.set_events.specs.declared.answer.Fate.TheVariants.{Discarded}
@@ -11,10 +11,9 @@ use Rattle.set_model.specs.Rows.{Row, is_unacked, is_waiting, unack, wait, held,
 use Rattle.set_model.specs.Sound.{IsSound}
 use Rattle.set_model.specs.State.{LinkState, State, is_up}
 use Rattle.set_model.specs.Changeover.{reached_by, is_reasonable, settled, settled_link}
-use Rattle.set_model.proofs.Events.{ChangesOn, sent_given_up}
+use Rattle.set_model.proofs.Events.{ChangesOn, given_up as given_up_of}
 use Rattle.set_model.proofs.Lists.{set_same}
-use Rattle.set_model.proofs.Places.{unacked_not_waiting}
-use Rattle.set_model.proofs.Rows.{changed_left, changed_same}
+use Rattle.set_model.proofs.Rows.{changed_left, turned_same}
 use Rattle.set_model.proofs.SoundLink.{gives_up}
 use Rattle.set_model.proofs.Walk.{IsAt}
 use Rattle.pair_model.specs.Run.{Message, messages}
@@ -36,7 +35,7 @@ module _ (n : ℕ) (link : LinkState) (s f : State) (sound : IsSound s) (at : Is
   given_up = record s { rows = changed (is_unacked n) (Discarded Emergency) s.rows }
 
   does : ChangesOn n s.rows given_up.rows
-  does = sent_given_up n Emergency s.rows
+  does = given_up_of n true Emergency s.rows
 
   pub none_sent : unack n given_up.rows ≡ []
   none_sent = changed_left (is_unacked n) (Discarded Emergency) refl s.rows
@@ -49,7 +48,7 @@ module _ (n : ℕ) (link : LinkState) (s f : State) (sound : IsSound s) (at : Is
 
   -- of its queue what wasn't sent is left, and other queues stay
   pub rest_is : (count : ℕ) → queue count n given_up.rows ≡ messages (wait n s.rows ++ held n s.rows)
-  rest_is count = rw (none_sent, changed_same (is_unacked n) (is_waiting n) (Discarded Emergency) refl (unacked_not_waiting n n) s.rows, does.held_same, drop_none {X = Row} count) refl
+  rest_is count = rw (none_sent, turned_same (is_unacked n) (is_waiting n) (Discarded Emergency) refl (λ f e. grind arith) (length s.rows) s.rows, does.held_same, drop_none {X = Row} count) refl
 
   pub own_rest : pending n given_up f ≡ messages (wait n s.rows ++ held n s.rows)
   own_rest = rest_is (accepted_on n f - acked_on n s)

@@ -19,7 +19,7 @@ use Rattle.set_model.specs.State.{LinkState, State, Settings, link_count, is_up,
 use Rattle.set_model.specs.Control.{Choice, again, first, fill, choice_of, control_after}
 use Rattle.set_model.specs.Changeover.{fate_on, queued, leaving_order, left_link, left_by, can_declare, declared, declared_from, some_declare}
 use Rattle.set_model.specs.Step.{Outcome, refused, offer_refusal, offered, taken, found, with_known, in_service, falls, comes_back, next, rows_sent, step}
-use Rattle.set_model.proofs.Events.{Untouched, untouched_self, sent, appended_out}
+use Rattle.set_model.proofs.Events.{Untouched, untouched, sent, appended_out}
 use Rattle.set_model.proofs.Rows.{turned_same}
 use Rattle.set_model.proofs.SoundBack.{leaves, declares, alternative_up}
 use Rattle.set_model.proofs.Walk.{IsAt}
@@ -220,7 +220,7 @@ waiting_not_discarded k (Back code) e = refl
 waiting_not_discarded k (Discarded cause) e = absurd cc
 
 unmoved : (k count : ℕ) (rows : List Row) → Unmoved k count rows rows
-unmoved k count rows = record { own = refl; others = λ l d. untouched_self l rows; parked_same = refl; discards = refl }
+unmoved k count rows = record { own = refl; others = λ l d. untouched l rows rows refl; parked_same = refl; discards = refl }
 
 sent_unmoved : (k count : ℕ) (link : LinkState) (s : State) → IsSound s → IsAt k link Up s → count ≤ length (unack k s.rows) → (choice : Choice) → Unmoved k count s.rows (rows_sent choice k s.rows)
 sent_unmoved k count link s sound at few (again place) = unmoved k count s.rows

@@ -1,14 +1,14 @@
 -- WHAT AN END DOES ON ONE LINK, and the orders under way at both: it sends, it hears, the link settles, or comes up.
 use Rattle.std.proofs.Common.{refl, arith, ◌≡◌, ◌∙◌, ap, sym, subst, ℕ, suc, ◌≤◌, ◌==◌, ◌-◌, Bool, true, false, List, [], ◌∷◌, ◌++◌, slice_get, slice_set, Option, Some, None, ◌⊎◌, inl, inr}
 use Rattle.std.proofs.lemmas.Bool.{eqb-true}
-use Rattle.set_events.specs.declared.answer.Fate.TheVariants.{Acked}
+use Rattle.set_events.specs.declared.answer.Fate.TheVariants.{Acked, Parked}
 use Rattle.set_model.specs.declared.phase.Phase.TheVariants.{Up, Down}
 use Rattle.set_model.specs.declared.reached.Reached.TheVariants.{Upto}
 use Rattle.set_model.specs.Rows.{Row, is_on, is_unacked, all_with, unack, held, parked, turned, moved as moved_rows}
 use Rattle.set_model.specs.Sound.{IsSound}
 use Rattle.set_model.specs.State.{LinkState, State, is_up, is_settled, link_is_up, link_is_settled, has_phase_settled, target}
 use Rattle.set_model.specs.Changeover.{fate_on, acknowledged as acknowledged_link, settled_link, reached_by, is_reasonable, settled}
-use Rattle.set_model.proofs.Events.{Untouched, acknowledged, moved_to, moved_aside}
+use Rattle.set_model.proofs.Events.{Untouched, acknowledged, moved_to, left as left_by_rows}
 use Rattle.std.proofs.lemmas.List.{set-set}
 use Rattle.set_model.proofs.Lists.{target_up}
 use Rattle.set_model.proofs.Places.{apart}
@@ -110,7 +110,7 @@ module _ (fsn n : ℕ) (link : LinkState) (s f : State) (sound : IsSound s) (at 
   -- nothing is left on it
   left_none : (k : ℕ) (to : Option ℕ) → target s.links ≡ to → queue k n (there_then to) ≡ []
   left_none k None e =
-      let m = (moved_aside n mid).left_is in
+      let m = left_by_rows n Parked mid refl refl in
       rw (m.unack_none, m.wait_none, m.held_none, drop_none {X = Row} k) refl
   left_none k (Some to) e =
       let m = (moved_to n to mid (no_own to e)).left_is in
@@ -120,7 +120,7 @@ module _ (fsn n : ℕ) (link : LinkState) (s f : State) (sound : IsSound s) (at 
   own_pending = r.left
 
   others_stay : (k l : ℕ) (to : Option ℕ) → target s.links ≡ to → (n == l) ≡ false → is_on l (fate_on to) ≡ false → queue k l (there_then to) ≡ queue k l s.rows
-  others_stay k l None e d f = queue_untouched k l mid _ ((moved_aside n mid).left_is.others l d f) ∙ queue_untouched k l s.rows mid (mid_others l d)
+  others_stay k l None e d f = queue_untouched k l mid _ ((left_by_rows n Parked mid refl refl).others l d f) ∙ queue_untouched k l s.rows mid (mid_others l d)
   others_stay k l (Some to) e d f = queue_untouched k l mid _ ((moved_to n to mid (no_own to e)).left_is.others l d f) ∙ queue_untouched k l s.rows mid (mid_others l d)
 
   held_at : (to : ℕ) → target s.links ≡ Some to → held to s.rows ≡ []

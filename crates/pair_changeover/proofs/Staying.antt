@@ -1,10 +1,10 @@
 -- A FATE THAT STAYS: what is acknowledged, or was discarded, is so ever after, whatever changes of other rows.
-use Rattle.std.proofs.Common.{refl, ◌≡◌, ◌∙◌, ap, sym, ℕ, ◌==◌, Bool, true, false, List, [], ◌∷◌, ◌++◌, Option, Some, None, cond}
+use Rattle.std.proofs.Common.{refl, ◌≡◌, ◌∙◌, ap, sym, ℕ, ◌==◌, Bool, true, false, List, [], ◌∷◌, ◌++◌, Option, Some, None, cond, length}
 use Rattle.std.specs.Option.{option_map}
 use Rattle.std.proofs.lemmas.Option.{same_Some}
 use Rattle.set_events.specs.declared.answer.Fate.{Fate}
 use Rattle.set_model.specs.Rows.{Row, turned, changed, moved, with_fate, place, row_of, IsNumbered}
-use Rattle.set_model.proofs.Rows.{where_turned, where_changed, place_moved}
+use Rattle.set_model.proofs.Rows.{where_turned, place_moved}
 use Rattle.set_model.proofs.Places.{false_true}
 
 abbrev pub Stays : Fate → List Row → List Row → Type 0
@@ -35,7 +35,7 @@ module _ (kept : Fate) (test : Fate → Bool) (w : test kept ≡ false) where
     turned_stay n rows = where_turned test fate (Stays kept) none_stay row_stays row_turns n rows
 
     pub changed_stay : (rows : List Row) → Stays kept rows (changed test fate rows)
-    changed_stay rows = where_changed test fate (Stays kept) none_stay row_stays row_turns rows
+    changed_stay rows = turned_stay (length rows) rows
 
   pub moved_stay : (fate : Row → Fate) (rows : List Row) → IsNumbered rows → Stays kept rows (moved test fate rows)
   moved_stay fate rows numbered number e = place_moved test fate number rows numbered ∙ go (row_of number rows) e

@@ -111,7 +111,7 @@ pub aside_settled : (count link : ℕ) (rows : List Row) → IsInOrder link rows
 aside_settled count link rows order last =
     let a = acknowledged link count rows in
     let mid = turned (is_unacked link) (Acked link) count rows in
-    ap messages ((moved_aside link mid).parked_is ∙ rw (a.parked_same, a.on_is order last) refl)
+    ap messages (moved_aside link mid ∙ rw (a.parked_same, a.on_is order last) refl)
     ∙ joined (parked rows) (map (with_fate Parked) (drop count (unack link rows) ++ wait link rows ++ held link rows))
     ∙ ap (λ (ms : List Message). messages (parked rows) ++ ms) (same_messages Parked (drop count (unack link rows) ++ wait link rows ++ held link rows))
 

@@ -41,9 +41,8 @@ small Known May l = record {
   delivers = λ body s. same_links l s.links;
   queues = λ order s. same_links l s.links;
   leaves = λ blind m link s known at. set_links l m link _ s.links at.there refl;
-  acknowledges = λ count m link s known at few. set_links l m link _ s.links at.there refl;
-  gives_up_sent = λ cause m link s known at. same_links l s.links;
-  gives_up_waiting = λ cause m link s known at. same_links l s.links;
+  acknowledges = λ count m link s known at few g. set_links l m link _ s.links at.there refl;
+  gives_up = λ sent cause m link s known at g. same_links l s.links;
   moves_off = λ m link s known at. set_links l m link _ s.links at.there refl;
   declares = λ may home alternative s up can. same_links l s.links;
   releases = λ code s known. same_links l s.links;
@@ -66,9 +65,9 @@ count_stays l s event apart = step_walks s (CountStays l) (CountStays l s) event
   rests = λ t u p q. stays_then l s.links t.links u.links p q;
   offers = λ body e none. same_links l s.links;
   takes = λ body rest e there. same_links l s.links;
-  sends = λ m link e at. set_links l m link _ s.links at.there refl;
-  hears = λ m unit link e at. other m (subst (IsApart l) e apart) _;
-  rises = λ m link e at. other m (subst (IsApart l) e apart) _;
+  sends = λ m link e at g. set_links l m link _ s.links at.there refl;
+  hears = λ m unit link e at g. other m (subst (IsApart l) e apart) _;
+  rises = λ m link e at u. other m (subst (IsApart l) e apart) _;
 })
   where
     other : (m : ℕ) → (m == l) ≡ false → (link' : LinkState) (after : LinkState) → slice_get (slice_set s.links m link') l ≡ Some after → (k : LinkState) × (slice_get s.links l ≡ Some k) × (after.accepted ≡ k.accepted)

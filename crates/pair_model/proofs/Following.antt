@@ -9,7 +9,7 @@ use Rattle.l3_orders.specs.declared.order.Order.{Order}
 use Rattle.l3_orders.specs.declared.order.Order.TheVariants.{Coo, Coa, Cbd, Cba, Eco, Eca}
 use Rattle.l3_orders.specs.Grammar.{text, order_of, link_of}
 use Rattle.set_events.specs.declared.answer.Fate.{Fate}
-use Rattle.set_events.specs.declared.answer.Fate.TheVariants.{Waiting}
+use Rattle.set_events.specs.declared.answer.Fate.TheVariants.{Parked, Waiting}
 use Rattle.set_events.specs.declared.answer.Refusal.{Refusal as SetRefusal}
 use Rattle.set_events.specs.declared.answer.Refusal.TheVariants.{NotUp}
 use Rattle.set_events.specs.declared.event.Event.TheVariants.{Offer, Take, Find, Next, Heard, Up as UpEvent, Down as DownEvent, DownBlind, NoAnswer, Restore, BackTimeout}
@@ -28,7 +28,7 @@ use Rattle.set_model.specs.Control.{part_of}
 use Rattle.set_model.specs.Changeover.{Obeyed, fate_on, left_link, acknowledged as acknowledged_link, settled_link, moved_over, queued, out_of_service, left_by, leaving_order, declared, some_declare, released, released_from, some_in_use, acknowledged_back, is_reasonable, judged, settled, changed_over, answered, at_link, order_obeyed, obeyed, reply_of}
 use Rattle.set_model.specs.Step.{Outcome, refused, offer_refusal, offered, is_msu, brought, takes, after_control, controls, heard, falls, gives_up, comes_back, runs_out, with_known, in_service, step}
 use Rattle.set_model.specs.Frame.{LeavesAlone}
-use Rattle.set_model.proofs.Events.{Untouched, acknowledged, sent_given_up, waiting_given_up, moved_to, moved_aside, appended_in, appended_out, untouched_self}
+use Rattle.set_model.proofs.Events.{Untouched, acknowledged, moved_to, left as left_by_rows, appended_in, appended_out, untouched}
 use Rattle.set_model.proofs.Rows.{new_row, moved_same, moved_more}
 use Rattle.set_model.proofs.Framing.{leaves_alone}
 use Rattle.set_model.proofs.Lists.{get_set_same, get_set_other, same_at, within, length_set, target_up}
@@ -68,7 +68,7 @@ pub follows_untouched : (l : ℕ) (s t : State) → slice_get t.links l ≡ slic
 follows_untouched l s t same u = follows_by l s t [] same u.unack_same (u.wait_same ∙ sym (append-nil (wait l s.rows)))
 
 pub follows_same : (l : ℕ) (s : State) → Follows l s s
-follows_same l s = follows_untouched l s s refl (untouched_self l s.rows)
+follows_same l s = follows_untouched l s s refl (untouched l s.rows s.rows refl)
 
 pub follows_alone : (l : ℕ) (s t : State) → LeavesAlone l s t → Follows l s t
 follows_alone l s t a = follows_by l s t a.more a.link_same a.unack_same a.wait_more
@@ -131,7 +131,7 @@ out_follows : (l : ℕ) (blind : Bool) (m : ℕ) (link : LinkState) (s : State) 
 out_follows l blind m link s at = go (m == l) refl
   where
     go : (b : Bool) → (m == l) ≡ b → Follows l s (out_of_service blind m link s)
-    go false d = follows_set l m (left_link blind link) s (out_of_service blind m link s) d refl (untouched_self l s.rows)
+    go false d = follows_set l m (left_link blind link) s (out_of_service blind m link s) d refl (untouched l s.rows s.rows refl)
     go true d = λ after there unsettled.
         let same : m ≡ l = eqb-true m l d in
         let is : after ≡ left_link blind link = same_at (slice_set s.links m (left_link blind link)) l (left_link blind link) after (subst (λ (k : ℕ). slice_get (slice_set s.links m (left_link blind link)) k ≡ Some (left_link blind link)) same (get_set_same s.links m (left_link blind link) (within s.links m link at.there))) there in
@@ -169,19 +169,18 @@ follows_off l m link s d at = go (target s.links) refl
         follows_by l s (moved_over m link s) (map (with_fate (Waiting to)) (on m s.rows)) (get_set_other s.links m l (settled_link link) (λ eq. false_true (m == l) d (rw eq (itself l)))) (rw (e, same) moved.unack_same) (rw (e, same) moved.wait_is)
 
     go : (to : Option ℕ) → target s.links ≡ to → Follows l s (moved_over m link s)
-    go None e = follows_set l m (settled_link link) s (moved_over m link s) d refl (rw e ((moved_aside m s.rows).left_is.others l d refl))
+    go None e = follows_set l m (settled_link link) s (moved_over m link s) d refl (rw e ((left_by_rows m Parked s.rows refl refl).others l d refl))
     go (Some to) e = joins to e (to == l) refl
 
 others : (l : ℕ) (May : Type 0) → KeptBy (λ m. (m == l) ≡ false) May (Follows l)
 others l May = record {
   same = λ s. follows_same l s;
   after = λ a b c p q. follows_then l a b c p q;
-  delivers = λ body s. follows_untouched l s _ refl (untouched_self l s.rows);
+  delivers = λ body s. follows_untouched l s _ refl (untouched l s.rows s.rows refl);
   queues = λ order s. follows_queued l order s;
   leaves = λ blind m link s d at. follows_left l blind m link s at;
-  acknowledges = λ count m link s d at few. follows_set l m (acknowledged_link count link) s _ d refl ((acknowledged m count s.rows).others l d);
-  gives_up_sent = λ cause m link s d at. follows_untouched l s _ refl ((sent_given_up m cause s.rows).others l d);
-  gives_up_waiting = λ cause m link s d at. follows_untouched l s _ refl ((waiting_given_up m cause s.rows).others l d);
+  acknowledges = λ count m link s d at few g. follows_set l m (acknowledged_link count link) s _ d refl (g.others l d);
+  gives_up = λ sent cause m link s d at g. follows_untouched l s _ refl (g.others l d);
   moves_off = λ m link s d at. follows_off l m link s d at;
   declares = λ may home alternative s up can. follows_new l _ (Waiting alternative) s (declared home alternative s) refl refl refl;
   releases = λ code s d. follows_released l code s;
@@ -259,7 +258,7 @@ takes_follows l (Some body) s = go (service_indicator body == 0) refl
   where
     go : (b : Bool) → (service_indicator body == 0) ≡ b → Follows l s (takes (Some body) s).state
     go true e = rw e (obeyed_follows l (order_of body) s)
-    go false e = rw e (follows_untouched l s _ refl (untouched_self l s.rows))
+    go false e = rw e (follows_untouched l s _ refl (untouched l s.rows s.rows refl))
 
 -- EVENTS
 pub offered_unsent : (l : ℕ) (place : Place) (s : State) → is_unacked l (fate_at place s) ≡ false

@@ -80,9 +80,8 @@ small_settings Known May = record {
   delivers = λ body s. refl;
   queues = λ order s. refl;
   leaves = λ blind n link s known at. refl;
-  acknowledges = λ count n link s known at few. refl;
-  gives_up_sent = λ cause n link s known at. refl;
-  gives_up_waiting = λ cause n link s known at. refl;
+  acknowledges = λ count n link s known at few g. refl;
+  gives_up = λ sent cause n link s known at g. refl;
   moves_off = λ n link s known at. refl;
   declares = λ may home alternative s up can. refl;
   releases = λ code s known. refl;
@@ -95,9 +94,9 @@ settings_stay s event = step_walks s (λ t u. u.settings ≡ t.settings) (λ t. 
   rests = λ t u p q. q ∙ p;
   offers = λ body e none. refl;
   takes = λ body rest e there. refl;
-  sends = λ n link e at. refl;
-  hears = λ n unit link e at. refl;
-  rises = λ n link e at. refl;
+  sends = λ n link e at g. refl;
+  hears = λ n unit link e at g. refl;
+  rises = λ n link e at u. refl;
 })
 
 -- AN EVENT at the near end

@@ -1,10 +1,12 @@
 -- A LINK SETTLES WITHOUT A NUMBER, and each stream: of those that are lost each stands given up, and the rest goes along.
-use Rattle.std.proofs.Common.{refl, ◌≡◌, ◌∙◌, ap, sym, subst, ℕ, ◌==◌, ◌+◌, ◌-◌, Bool, true, false, List, [], ◌∷◌, drop, slice_get, Some, None, ◌⊎◌, inl, inr}
+use Rattle.std.proofs.Math.Nat.{le_refl}
+use Rattle.std.proofs.lemmas.Bool.Decides.{nat_tests}
+use Rattle.std.proofs.Common.{arith, zero, suc, ◌≤◌, length, refl, ◌≡◌, ◌∙◌, sym, subst, ℕ, ◌+◌, ◌-◌, Bool, true, List, [], ◌∷◌, drop, slice_get, Some, ◌⊎◌, inl, inr}
 use Rattle.set_events.specs.declared.answer.Fate.{Fate}
 use Rattle.set_model.specs.declared.phase.Phase.TheVariants.{Down}
 use Rattle.set_model.specs.declared.reached.Reached.TheVariants.{Upto, Unknown}
 use Rattle.set_model.specs.Changeover.{fate_on, settled}
-use Rattle.set_model.specs.Rows.{Row, is_on, is_unacked, all_with, changed, place, row_of, unack}
+use Rattle.set_model.specs.Rows.{Row, is_on, is_unacked, all_with, turned, place, row_of, unack}
 use Rattle.set_model.specs.Sound.{IsSound}
 use Rattle.set_model.specs.State.{LinkState, State, target}
 use Rattle.set_model.proofs.Rows.{row_in_filter}
@@ -24,19 +26,11 @@ use Rattle.pair_streams.proofs.Known.{given_up}
 use Rattle.pair_streams.proofs.Settled.{was_in, settles_flow}
 
 -- a row that changes has the fate then
-placed_changed : (test : Fate → Bool) (fate : Fate) (number : ℕ) (rows : List Row) (row : Row) → row_of number rows ≡ Some row → test row.fate ≡ true → place number (changed test fate rows) ≡ Some fate
-placed_changed test fate number [] row e t = let never : None ≡ Some row = e in absurd cc
-placed_changed test fate number (x ∷ rows) row e t = go (x.number == number) refl (test x.fate) refl (λ f. placed_changed test fate number rows row f t)
-  where
-    go : (b : Bool) → (x.number == number) ≡ b → (c : Bool) → test x.fate ≡ c → (row_of number rows ≡ Some row → place number (changed test fate rows) ≡ Some fate) → place number (changed test fate (x ∷ rows)) ≡ Some fate
-    go true d true f later = rw (f, d) refl
-    go true d false f later =
-        let same : Some x ≡ Some row = rw d at e in
-        let is : x ≡ row = cc in
-        let never : true ≡ false = sym t ∙ ap (λ (r : Row). test r.fate) (sym is) ∙ f in
-        absurd cc
-    go false d true f later = rw (f, d) (later (rw d at e))
-    go false d false f later = rw (f, d) (later (rw d at e))
+placed_turned : (test : Fate → Bool) (fate : Fate) (number n : ℕ) (rows : List Row) (row : Row) → length rows ≤ n → row_of number rows ≡ Some row → test row.fate ≡ true → place number (turned test fate n rows) ≡ Some fate
+placed_turned test fate number zero [] row few e t = absurd cc
+placed_turned test fate number zero (x ∷ rows) row few e t = absurd (omega (arith, few))
+placed_turned test fate number (suc n) [] row few e t = absurd cc
+placed_turned test fate number (suc n) (x ∷ rows) row few e t = grind (arith, nat_tests, placed_turned test fate number n rows row, placed_turned test fate number (suc n) rows row)
 
 module _ (l : ℕ) (link : LinkState) (s f : State) (sound : IsSound s) (at : IsAt l link Down s) where
   abbrev after : State
@@ -68,7 +62,7 @@ module _ (l : ℕ) (link : LinkState) (s f : State) (sound : IsSound s) (at : Is
       let row_is = row_in_filter (λ (r : Row). is_unacked l r.fate) s.rows (count + w.place) m.number w.row sound.numbered there (sym w.number_is) in
       let unacked = filtered (λ (r : Row). is_unacked l r.fate) s.rows (count + w.place) w.row there in
       moved_stay given_up (is_on l) refl (all_with (fate_on (target s.links))) mid.rows mid_sound.numbered m.number
-      (placed_changed (is_unacked l) given_up m.number s.rows w.row row_is unacked)
+      (placed_turned (is_unacked l) given_up m.number (length s.rows) s.rows w.row (le_refl (length s.rows)) row_is unacked)
 
   pub blind_was_in : (m : Message) → In m (view after f) → In m (view s f)
   blind_was_in m i = given.was_in l link s f sound at m (was_in number l link mid f mid_sound mid_at mid_reached m (subst (λ (t : State). In m (view t f)) after_is i))

@@ -1,5 +1,5 @@
 -- WHAT WAS SENT ON A LINK IS GIVEN UP, in an emergency, and each stream: some of it is lost, and the rest stays in its order.
-use Rattle.std.proofs.Common.{refl, arith, ◌≡◌, ◌∙◌, ap, sym, subst, ℕ, ◌<◌, ◌==◌, ◌-◌, Bool, true, false, nat_lt, List, [], ◌∷◌, ◌++◌, drop, append_assoc, ◌⊎◌, inl, inr}
+use Rattle.std.proofs.Common.{length, refl, arith, ◌≡◌, ◌∙◌, ap, sym, subst, ℕ, ◌<◌, ◌==◌, ◌-◌, Bool, true, false, nat_lt, List, [], ◌∷◌, ◌++◌, drop, append_assoc, ◌⊎◌, inl, inr}
 use Rattle.std.proofs.lemmas.Bool.{eqb-true, ltb-true}
 use Rattle.std.proofs.lemmas.Bool.Decides.{nat_tests}
 use Rattle.set_events.specs.declared.answer.DiscardCause.TheVariants.{Emergency}
@@ -12,7 +12,7 @@ use Rattle.set_model.specs.declared.phase.Phase.TheVariants.{Down}
 use Rattle.set_model.specs.Rows.{is_unacked, is_back, unack, wait, held}
 use Rattle.set_model.specs.Sound.{IsSound}
 use Rattle.set_model.specs.State.{LinkState, State}
-use Rattle.set_model.proofs.Rows.{changed_same}
+use Rattle.set_model.proofs.Rows.{turned_same}
 use Rattle.set_model.proofs.Walk.{IsAt}
 use Rattle.pair_model.specs.Run.{Message, messages}
 use Rattle.pair_changeover.specs.Pending.{pending, aside, acked_on, accepted_on}
@@ -65,7 +65,7 @@ module _ (n : ℕ) (link : LinkState) (s f : State) (sound : IsSound s) (at : Is
   aside_same = aside_stays n link s f sound at
 
   backs : (c : ℕ) → back_by c after ≡ back_by c s
-  backs c = ap messages (changed_same (is_unacked n) (is_back c) (Discarded Emergency) refl (λ fate e. sent_not_back n c fate e) s.rows)
+  backs c = ap messages (turned_same (is_unacked n) (is_back c) (Discarded Emergency) refl (λ fate e. sent_not_back n c fate e) (length s.rows) s.rows)
 
   -- on its queue, or another
   by_queue : (P : List Message → List Message → Type 0) → P (gone_then ++ rest) rest → ((q : List Message) → P q q) → (l : ℕ) → P (pending l s f) (pending l after f)

@@ -1,6 +1,6 @@
 -- EVERY MESSAGE OF A USER THAT A SET HOLDS was offered there: whatever is asked, an own new row is an order. And what was
 -- discarded stays so.
-use Rattle.std.proofs.Common.{refl, ◌≡◌, ◌∙◌, ap, sym, subst, ℕ, ◌==◌, ◌%◌, Bool, true, false, List, [], ◌∷◌, ◌++◌, length, Some, None, ◌⊎◌, inl, inr}
+use Rattle.std.proofs.Common.{refl, ◌≡◌, ◌∙◌, ap, sym, subst, ℕ, ◌==◌, ◌%◌, Bool, true, false, List, [], ◌∷◌, ◌++◌, length, cond, Some, None, ◌⊎◌, inl, inr}
 use Rattle.std.proofs.lemmas.Bool.{eq-eqb, eqb-true}
 use Rattle.l3_orders.specs.declared.order.Order.{Order}
 use Rattle.l3_orders.specs.declared.order.Order.TheVariants.{Cbd}
@@ -18,7 +18,8 @@ use Rattle.set_model.specs.Rows.{Row, is_on, is_back, is_back_to, is_unacked, is
 use Rattle.set_model.specs.Sound.{IsManaged}
 use Rattle.set_model.specs.State.{LinkState, State, target, window_of}
 use Rattle.set_model.specs.Step.{is_msu, sends, step}
-use Rattle.set_model.proofs.Events.{acknowledged, sent, sent_given_up, waiting_given_up, unparked}
+use Rattle.std.proofs.lemmas.Bool.{cond_both}
+use Rattle.set_model.proofs.Events.{sent}
 use Rattle.set_model.proofs.Rows.{numbered_appended, new_row, body_moved, moved_numbered}
 use Rattle.set_model.proofs.Walk.{KeptBy, step_walks}
 use Rattle.pair_changeover.proofs.Staying.{Stays, turned_stay, changed_stay, moved_stay, joined_stay}
@@ -88,15 +89,11 @@ module _ (P : ℕ → List ℕ → Type 0) (Q : ℕ → Type 0) where
     delivers = λ body s c. record { managed = c.managed; numbered = c.numbered; known = c.known; gone = c.gone };
     queues = λ order s c. order_covers order s _ (fate_on (target s.links)) refl refl c;
     leaves = λ blind n link s known at c. moved_covers (is_back_to n) _ s (left_by blind n link s) refl refl refl c;
-    acknowledges = λ count n link s known at few c.
-        let k = (acknowledged n count s.rows).kept in
-        covers_kept s _ refl (k.numbered c.numbered) (k.bodies c.numbered) (turned_stay given_up (is_unacked n) refl (Acked n) count s.rows) c;
-    gives_up_sent = λ cause n link s known at c.
-        let k = (sent_given_up n cause s.rows).kept in
-        covers_kept s _ refl (k.numbered c.numbered) (k.bodies c.numbered) (changed_stay given_up (is_unacked n) refl (Discarded cause) s.rows) c;
-    gives_up_waiting = λ cause n link s known at c.
-        let k = (waiting_given_up n cause s.rows).kept in
-        covers_kept s _ refl (k.numbered c.numbered) (k.bodies c.numbered) (changed_stay given_up (is_waiting n) refl (Discarded cause) s.rows) c;
+    acknowledges = λ count n link s known at few g c.
+        covers_kept s _ refl (g.kept.numbered c.numbered) (g.kept.bodies c.numbered) (turned_stay given_up (is_unacked n) refl (Acked n) count s.rows) c;
+    gives_up = λ was_sent cause n link s known at g c.
+        let off = cond_both was_sent (is_unacked n) (is_waiting n) (λ test. test given_up ≡ false) (λ e. refl) (λ e. refl) in
+        covers_kept s _ refl (g.kept.numbered c.numbered) (g.kept.bodies c.numbered) (changed_stay given_up (cond was_sent (is_unacked n) (is_waiting n)) off (Discarded cause) s.rows) c;
     moves_off = λ n link s known at c. moved_covers (is_on n) _ s (moved_over n link s) refl refl refl c;
     declares = λ may home alternative s up can c. order_covers (Cbd home (code_for home alternative)) s (declared home alternative s) (Waiting alternative) refl refl c;
     releases = λ code s known c. moved_covers (is_back code) _ s (released code s) refl refl refl c;
@@ -115,12 +112,10 @@ module _ (P : ℕ → List ℕ → Type 0) (Q : ℕ → Type 0) where
     rests = λ t u p q. q p;
     offers = λ body e none. absurd (apart body e);
     takes = λ body rest e there. record { managed = c.managed; numbered = c.numbered; known = c.known; gone = c.gone };
-    sends = λ n link e at. sends_covers (choice_of (octets_in (unack n s.rows)) link.control (window_of n link s.rows)) n link s c;
-    hears = λ n unit link e at.
+    sends = λ n link e at g. sends_covers (choice_of (octets_in (unack n s.rows)) link.control (window_of n link s.rows)) n link s c;
+    hears = λ n unit link e at g.
         let count = (part_of link.control (window_of n link s.rows) (head_of unit) (is_msu unit)).acked in
-        let k = (acknowledged n count s.rows).kept in
-        covers_kept s _ refl (k.numbered c.numbered) (k.bodies c.numbered) (turned_stay given_up (is_unacked n) refl (Acked n) count s.rows) c;
-    rises = λ n link e at.
-        let k = (unparked n s.rows).kept in
-        covers_kept s _ refl (k.numbered c.numbered) (k.bodies c.numbered) (moved_stay given_up is_parked refl (all_with (Waiting n)) s.rows c.numbered) c;
+        covers_kept s _ refl (g.kept.numbered c.numbered) (g.kept.bodies c.numbered) (turned_stay given_up (is_unacked n) refl (Acked n) count s.rows) c;
+    rises = λ n link e at u.
+        covers_kept s _ refl (u.kept.numbered c.numbered) (u.kept.bodies c.numbered) (moved_stay given_up is_parked refl (all_with (Waiting n)) s.rows c.numbered) c;
   })

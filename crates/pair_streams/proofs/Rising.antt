@@ -1,16 +1,15 @@
 -- NUMBERS RISE: a set gives each number once, so those of what was offered rise, and so do those of any part in order.
 use Rattle.std.proofs.Common.{refl, arith, ◌≡◌, ap, sym, subst, ℕ, ◌≤◌, ◌==◌, ◌+◌, Bool, true, false, List, [], ◌∷◌, ◌++◌, length, Option, Some, None, cond, inl, inr}
 use Rattle.std.proofs.lemmas.List.{append-nil, length-append}
-use Rattle.l2_units.specs.Grammar.{head_of}
 use Rattle.set_events.specs.declared.answer.Fate.{Fate}
 use Rattle.set_events.specs.declared.answer.Refusal.{Refusal as SetRefusal}
 use Rattle.set_events.specs.declared.event.Event.{Event}
 use Rattle.set_events.specs.declared.event.Event.TheVariants.{Offer}
-use Rattle.set_model.specs.Control.{Choice, again, first, fill, choice_of, part_of}
+use Rattle.set_model.specs.Control.{Choice, again, first, fill, choice_of}
 use Rattle.set_model.specs.Rows.{Row, is_on, is_back, is_back_to, appended, moved, unack, octets_in, stream_of}
 use Rattle.set_model.specs.State.{State, window_of}
-use Rattle.set_model.specs.Step.{is_msu, offer_refusal, offered, rows_sent, step}
-use Rattle.set_model.proofs.Events.{acknowledged, sent, sent_given_up, waiting_given_up, unparked}
+use Rattle.set_model.specs.Step.{offer_refusal, offered, rows_sent, step}
+use Rattle.set_model.proofs.Events.{sent}
 use Rattle.set_model.proofs.Rows.{new_row, moved_length}
 use Rattle.set_model.proofs.Walk.{KeptBy, step_walks}
 use Rattle.world_steps.specs.declared.step.Shown.TheVariants.{Answered}
@@ -63,9 +62,8 @@ small Known May = record {
   delivers = λ body s. omega arith;
   queues = λ order s. more_appended s.rows _ _;
   leaves = λ blind n link s known at. more_moved (is_back_to n) _ s.rows;
-  acknowledges = λ count n link s known at few. same_many s.rows _ (acknowledged n count s.rows).kept.count;
-  gives_up_sent = λ cause n link s known at. same_many s.rows _ (sent_given_up n cause s.rows).kept.count;
-  gives_up_waiting = λ cause n link s known at. same_many s.rows _ (waiting_given_up n cause s.rows).kept.count;
+  acknowledges = λ count n link s known at few g. same_many s.rows _ g.kept.count;
+  gives_up = λ sent cause n link s known at g. same_many s.rows _ g.kept.count;
   moves_off = λ n link s known at. more_moved (is_on n) _ s.rows;
   declares = λ may home alternative s up can. more_appended s.rows _ _;
   releases = λ code s known. more_moved (is_back code) _ s.rows;
@@ -83,9 +81,9 @@ never_fewer s event = step_walks s (λ t u. More t.rows u.rows) (λ t. More s.ro
   rests = λ t u p q. omega (arith, p, q);
   offers = λ body e none. more_appended s.rows body _;
   takes = λ body rest e there. omega arith;
-  sends = λ n link e at. sent_many (choice_of (octets_in (unack n s.rows)) link.control (window_of n link s.rows)) n s.rows;
-  hears = λ n unit link e at. same_many s.rows _ (acknowledged n (part_of link.control (window_of n link s.rows) (head_of unit) (is_msu unit)).acked s.rows).kept.count;
-  rises = λ n link e at. same_many s.rows _ (unparked n s.rows).kept.count;
+  sends = λ n link e at g. sent_many (choice_of (octets_in (unack n s.rows)) link.control (window_of n link s.rows)) n s.rows;
+  hears = λ n unit link e at g. same_many s.rows _ g.kept.count;
+  rises = λ n link e at u. same_many s.rows _ u.kept.count;
 })
 
 -- SO WHAT WAS OFFERED rises

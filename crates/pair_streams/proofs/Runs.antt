@@ -25,7 +25,7 @@ use Rattle.set_model.specs.Sound.{IsAsked}
 use Rattle.set_model.specs.State.{LinkState, State, Settings, is_up, is_settled, link_count, opened_with, settings_of}
 use Rattle.set_model.specs.Step.{Outcome as SetOutcome, step}
 use Rattle.set_model.proofs.Rows.{row_in_filter}
-use Rattle.set_model.proofs.Soundness.{opened_sound, opened_straight}
+use Rattle.set_model.proofs.Soundness.{opened_sound, opened_new}
 use Rattle.set_model.proofs.Walk.{IsAt}
 use Rattle.world_steps.specs.declared.step.End.{End}
 use Rattle.world_steps.specs.declared.step.End.TheVariants.{A, B}
@@ -416,7 +416,7 @@ first_flows config other = record {
     b = settings_of other
 
     never : (stream to code via : ℕ) → place_of stream (opened_with (settings_of config)).routing ≡ Changing to code via → ⊥
-    never stream to code via e = never_changing stream to code via (opened_with (settings_of config)).routing (opened_sound (settings_of config) (settings_sound config)).routing (opened_straight (settings_of config) (settings_sound config)).none_open e
+    never stream to code via e = never_changing stream to code via (opened_with (settings_of config)).routing (opened_sound (settings_of config) (settings_sound config)).routing (opened_new (settings_of config) (settings_sound config)).straight.none_open e
 
 first_covers : (config : SetConfig) → Covered no_past (λ stream. []) (opened_with (settings_of config))
 first_covers config = record {

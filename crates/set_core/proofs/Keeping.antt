@@ -16,8 +16,8 @@ use Rattle.set_model.specs.State.{State, new_state, settings_of}
 use Rattle.set_model.specs.Sound.{AreFew}
 use Rattle.set_model.specs.Rows.{counts_of, total_of}
 use Rattle.set_model.specs.Step.{Gains, step, messages_in, octets_of}
-use Rattle.set_model.proofs.Staying.{step_gains, AcceptsNone, accepts_none, step_few}
-use Rattle.set_model.proofs.Soundness.{opened_few}
+use Rattle.set_model.proofs.Staying.{step_gains, AcceptsNone, accepts_none, step_at_most}
+use Rattle.set_model.proofs.Soundness.{opened_new}
 use Rattle.set_moves.specs.Agreement.{Kept, Agrees}
 use Rattle.set_step.specs.Answering.{AnswersFor}
 use Rattle.set_core.specs.Gaining.{BooksGain, IsOwn, GainsNoOther, AreBounded, users_after, terminals_after}
@@ -153,7 +153,7 @@ module _ (opening : State) (old new : Kept) (history : List Entry) (entry : Entr
         placed = gains.messages ∙ ap (λ (n : ℕ). n + messages_in entry.answer) k.placed ∙ sym (messages_more history entry);
         short = omega (arith, long, room);
         octets = omega (arith, long, octets_more history entry, k.octets, gains.octets);
-        few = rw (long, after_more opening history entry) (step_few (after opening history) entry.event (length history) k.few);
+        few = rw (long, after_more opening history entry) (step_at_most (after opening history) entry.event (λ n. record { sent = length history; accepted = length history }) k.few);
       }
 
 -- The bounds.
@@ -175,7 +175,7 @@ bounded opening kept tally history k = record {
 }
 
 pub new_few : (config : SetConfig) → AreFew 0 (new_state config)
-new_few config = opened_few (settings_of config) (record { some_link = config.has_links; at_most_16 = config.links_in_range; managed = config.management })
+new_few config = (opened_new (settings_of config) (record { some_link = config.has_links; at_most_16 = config.links_in_range; managed = config.management })).few
 
 -- A REPLAY. So many entries were replayed, and the rest is left: what is kept agrees with the state after them, and the
 -- rest decides from there.
@@ -194,7 +194,7 @@ module _ (opening : State) (entries : List Entry) (kept : Kept) (count : ℕ) (b
       let state : after opening (before ++ entry ∷ []) ≡ (step (after opening before) entry.event).state = after_more opening before entry in
       record {
         agrees = rw state answers.agrees;
-        few = rw state (step_few (after opening before) entry.event count replayed.few);
+        few = rw state (step_at_most (after opening before) entry.event (λ n. record { sent = count; accepted = count }) replayed.few);
         left = (λ l. replayed.left.0 (actor, sym same ∙ answers.answer_is, rw (← state) l), λ l. rw state (replayed.left.1 l).2);
       }
 

@@ -1,7 +1,19 @@
 -- WHERE A MESSAGE STANDS by its fate, on any link, or on none.
-use Rattle.std.specs.Prelude.{ℕ, Bool, true, false, Option, Some, None}
+use Rattle.std.specs.Prelude.{ℕ, ◌==◌, Bool, true, false, Option, Some, None}
 use Rattle.set_events.specs.declared.answer.Fate.{Fate}
 use Rattle.set_events.specs.declared.answer.Fate.TheVariants.{Waiting, Unacked, Acked, Held, Parked, Back, Discarded}
+use Rattle.set_events.specs.Numbers.{cause_number}
+
+-- the same fate; for a discarded one of the same cause
+abbrev pub same_fate : Fate → Fate → Bool
+same_fate (Waiting l) (Waiting k) = l == k
+same_fate (Unacked l) (Unacked k) = l == k
+same_fate (Acked l) (Acked k) = l == k
+same_fate (Held l) (Held k) = l == k
+same_fate Parked Parked = true
+same_fate (Back c) (Back d) = c == d
+same_fate (Discarded c) (Discarded d) = cause_number c == cause_number d
+same_fate _ _ = false
 
 abbrev pub waits : Fate → Bool
 waits (Waiting l) = true
@@ -20,8 +32,7 @@ was_held (Held l) = true
 was_held _ = false
 
 abbrev pub is_parked : Fate → Bool
-is_parked Parked = true
-is_parked _ = false
+is_parked fate = same_fate fate Parked
 
 abbrev pub stands_back : Fate → Bool
 stands_back (Back c) = true

@@ -1,14 +1,15 @@
 -- WHAT EACH CHANGE DOES TO EACH LINK: the lemmas that a set's step is argued by.
-use Rattle.std.proofs.Common.{refl, arith, ◌≡◌, ◌∙◌, ap, ◌≤◌, [], ◌∷◌, length, ℕ, Bool, true, false, ◌==◌, ◌||◌, List, ◌++◌, map, take, drop, not}
+use Rattle.std.proofs.Common.{inl, inr, refl, arith, ◌≡◌, ◌∙◌, ap, ◌≤◌, [], ◌∷◌, length, ℕ, Bool, true, false, ◌==◌, ◌||◌, List, ◌++◌, map, take, drop, not, cond}
 use Rattle.std.proofs.lemmas.List.{append-nil, map-append}
 use Rattle.std.proofs.lemmas.List.Elements.{filter-append}
 use Rattle.set_model.specs.Rows.{DiscardCause, Fate, Acked, Discarded, Parked, Unacked, Waiting, AreFit, IsHeldLast, IsInOrder, IsNumbered, Row, all_with, appended, back, body_at, changed, counts_of, fated, held, is_held, is_on, is_parked, is_unacked, is_waiting, moved, numbers, on, parked, standing, stands_back, total_of, turned, unack, wait, was_acked, with_fate}
 use Rattle.set_model.specs.Control.{Choice, first}
+use Rattle.set_model.specs.Laws.{IsEmptyLink}
 use Rattle.set_model.specs.Sound.{is_unfinished}
 use Rattle.set_model.specs.Step.{rows_sent}
-use Rattle.set_model.proofs.Places.{itself, apart_back, unacked_not_waiting, on_not_parked, waiting_on, unacked_on, held_on, on_other, not_on_waiting, not_on_unacked, not_on_held}
-use Rattle.set_model.proofs.Rows.{InPlace, turned_there, changed_there, turned_same, turned_left, moved_length, moved_fit, moved_numbered, moved_gone, moved_same, moved_joined, filter_moved, filter_comm, filter_within, body_moved, total_is, new_row, same_numbers}
-use Rattle.set_model.proofs.Order.{before_filter, before_never, before_none, before_within, first_sent, on_in_order}
+use Rattle.set_model.proofs.Places.{itself, apart_back, on_other, not_on_waiting, not_on_unacked, not_on_held}
+use Rattle.set_model.proofs.Rows.{InPlace, turned_there, turned_same, turned_left, moved_length, moved_fit, moved_numbered, moved_gone, moved_same, moved_joined, filter_moved, filter_comm, filter_within, none_within, body_moved, total_is, new_row, same_numbers}
+use Rattle.set_model.proofs.Order.{before_filter, before_none, before_within, first_sent, on_in_order}
 
 -- Rows that got their fates have the same numbers and octets.
 pub numbers_fated : (fate : Row → Fate) (xs : List Row) → numbers (map (fated fate) xs) ≡ numbers xs
@@ -27,9 +28,6 @@ pub record Kept (rows new : List Row) : Type 0 where
   pub total : total_of (counts_of new) ≡ total_of (counts_of rows)
   pub acked : (counts_of rows).acked ≤ (counts_of new).acked
 
-kept_in_place : (test : Fate → Bool) (to : Fate) (rows new : List Row) → InPlace test to rows new → ((l : ℕ) → test (Acked l) ≡ false) → Kept rows new
-kept_in_place test to rows new i w = grind (arith, total_is, same_numbers)
-
 pub moved_kept : (test : Fate → Bool) (fate : Row → Fate) (rows : List Row) → ((row : Row) → was_acked (fate row) ≡ false) → ((l : ℕ) → test (Acked l) ≡ false) → Kept rows (moved test fate rows)
 moved_kept test fate rows o w = let none : (f : Fate) → test f ≡ true → was_acked f ≡ false = λ f e. grind arith in grind (arith, moved_fit, moved_numbered, moved_length, body_moved, total_is, filter_moved, filter_comm, moved_same)
 
@@ -45,21 +43,17 @@ pub record Untouched (n : ℕ) (rows new : List Row) : Type 0 where
 -- where what is on it is the same
 pub untouched : (n : ℕ) (rows new : List Row) → on n new ≡ on n rows → Untouched n rows new
 untouched n rows new same =
-    let order = before_within (is_unacked n) (is_waiting n) (is_on n) (unacked_on n) (waiting_on n) new in
-    let last = before_within (λ f. is_unacked n f || is_waiting n f) (is_held n) (is_on n) (λ f e. grind arith) (held_on n) new in
+    let order = before_within (is_unacked n) (is_waiting n) (is_on n) (λ f e. grind arith) (λ f e. grind arith) new in
+    let last = before_within (λ f. is_unacked n f || is_waiting n f) (is_held n) (is_on n) (λ f e. grind arith) (λ f e. grind arith) new in
     grind (arith, filter_within, order, last, before_filter)
 
-pub untouched_self : (n : ℕ) (rows : List Row) → Untouched n rows rows
-untouched_self n rows = untouched n rows rows refl
-
 -- A NEW MESSAGE.
-module _ (rows : List Row) (body : List ℕ) (fate : Fate) where
-  -- a place where it stands, and one where it doesn't
-  pub appended_in : (test : Fate → Bool) → test fate ≡ true → standing test (appended rows body fate) ≡ standing test rows ++ new_row (length rows) body fate ∷ []
-  appended_in test h = filter-append (λ (row : Row). test row.fate) rows (new_row (length rows) body fate ∷ []) ∙ rw h refl
+-- a place where it stands, and one where it doesn't
+pub appended_in : (rows : List Row) (body : List ℕ) (fate : Fate) (test : Fate → Bool) → test fate ≡ true → standing test (appended rows body fate) ≡ standing test rows ++ new_row (length rows) body fate ∷ []
+appended_in rows body fate test h = filter-append (λ (row : Row). test row.fate) rows (new_row (length rows) body fate ∷ []) ∙ rw h refl
 
-  pub appended_out : (test : Fate → Bool) → test fate ≡ false → standing test (appended rows body fate) ≡ standing test rows
-  appended_out test h = filter-append (λ (row : Row). test row.fate) rows (new_row (length rows) body fate ∷ []) ∙ ap (λ (xs : List Row). standing test rows ++ xs) (rw h refl) ∙ append-nil (standing test rows)
+pub appended_out : (rows : List Row) (body : List ℕ) (fate : Fate) (test : Fate → Bool) → test fate ≡ false → standing test (appended rows body fate) ≡ standing test rows
+appended_out rows body fate test h = filter-append (λ (row : Row). test row.fate) rows (new_row (length rows) body fate ∷ []) ∙ ap (λ (xs : List Row). standing test rows ++ xs) (rw h refl) ∙ append-nil (standing test rows)
 
 -- ROWS OF A LINK THAT CHANGE IN THEIR PLACES: none of them is held, and what stands elsewhere doesn't change.
 pub record ChangesOn (l : ℕ) (rows new : List Row) : Type 0 where
@@ -75,9 +69,10 @@ pub record ChangesOn (l : ℕ) (rows new : List Row) : Type 0 where
 module _ (l : ℕ) (test : Fate → Bool) (to : Fate) (rows new : List Row) (i : InPlace test to rows new) (goes : (f : Fate) → test f ≡ true → (is_unacked l f || is_waiting l f) ≡ true) where
   changes_on : (is_unacked l to || not (is_unfinished to)) ≡ true → (IsInOrder l rows → IsInOrder l new) → ChangesOn l rows new
   changes_on comes order =
+      let unacked : (k : ℕ) → test (Acked k) ≡ false = λ k. grind (arith, goes (Acked k)) in
       let last = i.before (λ f. is_unacked l f || is_waiting l f) (is_held l) (λ f e u. goes f e) (λ f e h. grind arith) in
       let none : (other : Fate → Bool) → other to ≡ false → ((f : Fate) → (is_unacked l f || is_waiting l f) ≡ true → other f ≡ false) → standing other new ≡ standing other rows = λ other o w. i.same other o (λ f e. w f (goes f e)) in
-      record { kept = kept_in_place test to rows new i (λ k. grind (arith, goes (Acked k))); held_same = none (is_held l) (grind arith) (λ f e. grind arith); parked_same = none is_parked (grind arith) (λ f e. grind arith); back_same = none stands_back (grind arith) (λ f e. grind arith); order_kept = order; last_kept = last; others = λ n d. untouched n rows new (none (is_on n) (grind arith) (λ f e. grind arith)) }
+      record { kept = grind (arith, total_is, same_numbers); held_same = none (is_held l) (grind arith) (λ f e. grind arith); parked_same = none is_parked (grind arith) (λ f e. grind arith); back_same = none stands_back (grind arith) (λ f e. grind arith); order_kept = order; last_kept = last; others = λ n d. untouched n rows new (none (is_on n) (grind arith) (λ f e. grind arith)) }
 
   ends_on : is_unfinished to ≡ false → ChangesOn l rows new
   ends_on done = changes_on (grind arith) (i.before (is_unacked l) (is_waiting l) (λ f e u. grind arith) (λ f e w. grind arith))
@@ -107,7 +102,8 @@ pub record Acknowledged (l count : ℕ) (rows new : List Row) : Type 0 where
 pub acknowledged : (l count : ℕ) (rows : List Row) → Acknowledged l count rows (turned (is_unacked l) (Acked l) count rows)
 acknowledged l count rows =
     let changed = ends_on l (is_unacked l) (Acked l) rows _ (turned_there (is_unacked l) (Acked l) count rows) (λ f e. grind arith) refl in
-    search (changed, turned_left, turned_same, unacked_not_waiting, on_in_order, changed.order_kept, changed.last_kept, changed.held_same)
+    let not_waiting : (f : Fate) → is_unacked l f ≡ true → is_waiting l f ≡ false = λ f e. grind arith in
+    search (changed, turned_left, turned_same, on_in_order, changed.order_kept, changed.last_kept, changed.held_same)
 
 -- what the rows keep where nothing is sent for the first time too
 pub sent_by : (choice : Choice) (n : ℕ) (rows : List Row) → ChangesOn n rows (rows_sent choice n rows)
@@ -115,26 +111,29 @@ sent_by first n rows = (sent n rows).in_place
 sent_by _ n rows = (acknowledged n 0 rows).in_place
 
 -- MESSAGES THAT ARE GIVEN UP.
-module _ (l : ℕ) (cause : DiscardCause) (rows : List Row) where
-  pub sent_given_up : ChangesOn l rows (changed (is_unacked l) (Discarded cause) rows)
-  sent_given_up = ends_on l (is_unacked l) (Discarded cause) rows _ (changed_there (is_unacked l) (Discarded cause) rows) (λ f e. grind arith) refl
-
-  pub waiting_given_up : ChangesOn l rows (changed (is_waiting l) (Discarded cause) rows)
-  waiting_given_up = ends_on l (is_waiting l) (Discarded cause) rows _ (changed_there (is_waiting l) (Discarded cause) rows) (λ f e. grind arith) refl
+pub given_up : (l : ℕ) (sent : Bool) (cause : DiscardCause) (rows : List Row) → ChangesOn l rows (changed (cond sent (is_unacked l) (is_waiting l)) (Discarded cause) rows)
+given_up l true cause rows = ends_on l (is_unacked l) (Discarded cause) rows _ (turned_there (is_unacked l) (Discarded cause) _ rows) (λ f e. grind arith) refl
+given_up l false cause rows = ends_on l (is_waiting l) (Discarded cause) rows _ (turned_there (is_waiting l) (Discarded cause) _ rows) (λ f e. grind arith) refl
 
 -- A LINK THAT IS LEFT BY ITS MESSAGES.
+-- none of the three kinds is on it where nothing is
+pub empty_link : (l : ℕ) (rows : List Row) → on l rows ≡ [] → IsEmptyLink l rows
+empty_link l rows none = let kind = λ (test : Fate → Bool) (w : (f : Fate) → test f ≡ true → is_on l f ≡ true). none_within test (is_on l) w rows none in record { unack_none = kind (is_unacked l) (λ f e. grind arith); wait_none = kind (is_waiting l) (λ f e. grind arith); held_none = kind (is_held l) (λ f e. grind arith) }
+
 pub record Left (l : ℕ) (to : Fate) (rows new : List Row) : Type 0 where
   pub kept : Kept rows new
-  pub unack_none : unack l new ≡ []
-  pub wait_none : wait l new ≡ []
-  pub held_none : held l new ≡ []
+  pub none_is : IsEmptyLink l new
+  pub open none_is use *
   pub on_none : on l new ≡ []
   pub in_order : IsInOrder l new
   pub held_last : IsHeldLast l new
   pub others : (n : ℕ) → (l == n) ≡ false → is_on n to ≡ false → Untouched n rows new
 
 pub left : (l : ℕ) (to : Fate) (rows : List Row) → is_on l to ≡ false → was_acked to ≡ false → Left l to rows (moved (is_on l) (all_with to) rows)
-left l to rows o a = search (moved_gone, not_on_unacked, unacked_on, not_on_waiting, waiting_on, moved_kept, not_on_held, held_on, before_none, before_never, untouched, moved_same, on_other, apart_back)
+left l to rows o a =
+    let none = moved_gone (is_on l) (is_on l) (all_with to) rows (λ x. o) (λ f e. e) in
+    let empty = empty_link l (moved (is_on l) (all_with to) rows) none in
+    search (moved_kept, before_none, inl, inr, untouched, moved_same, on_other, apart_back)
 
 -- to another link
 pub record MovedTo (l t : ℕ) (rows new : List Row) : Type 0 where
@@ -145,15 +144,13 @@ pub record MovedTo (l t : ℕ) (rows new : List Row) : Type 0 where
   pub parked_same : parked new ≡ parked rows
 
 pub moved_to : (l t : ℕ) (rows : List Row) → (l == t) ≡ false → MovedTo l t rows (moved (is_on l) (all_with (Waiting t)) rows)
-moved_to l t rows d = search (on_other, apart_back, moved_joined, itself, not_on_waiting, moved_same, not_on_held, left, not_on_unacked, on_not_parked)
+moved_to l t rows d =
+    let not_parked : (f : Fate) → is_on l f ≡ true → is_parked f ≡ false = λ f e. grind arith in
+    search (on_other, apart_back, moved_joined, itself, not_on_waiting, moved_same, not_on_held, left, not_on_unacked)
 
 -- where no link is up
-pub record MovedAside (l : ℕ) (rows new : List Row) : Type 0 where
-  pub left_is : Left l Parked rows new
-  pub parked_is : parked new ≡ parked rows ++ map (with_fate Parked) (on l rows)
-
-pub moved_aside : (l : ℕ) (rows : List Row) → MovedAside l rows (moved (is_on l) (all_with Parked) rows)
-moved_aside l rows = search (moved_joined, on_not_parked, left)
+pub moved_aside : (l : ℕ) (rows : List Row) → parked (moved (is_on l) (all_with Parked) rows) ≡ parked rows ++ map (with_fate Parked) (on l rows)
+moved_aside l rows = moved_joined (is_on l) is_parked (all_with Parked) rows (λ x. refl) (λ f e. grind arith)
 
 -- PARKED MESSAGES THAT FIND A LINK.
 pub record Unparked (l : ℕ) (rows new : List Row) : Type 0 where
@@ -168,4 +165,4 @@ pub record Unparked (l : ℕ) (rows new : List Row) : Type 0 where
 pub unparked : (l : ℕ) (rows : List Row) → Unparked l rows (moved is_parked (all_with (Waiting l)) rows)
 unparked l rows =
     let parked_not_on : (n : ℕ) (f : Fate) → is_parked f ≡ true → is_on n f ≡ false = λ n f e. grind arith in
-    search (parked_not_on, moved_joined, itself, not_on_waiting, moved_same, not_on_held, moved_kept, moved_gone, not_on_unacked, before_never, untouched)
+    search (parked_not_on, moved_joined, itself, not_on_waiting, moved_same, not_on_held, moved_kept, moved_gone, not_on_unacked, before_none, inr, untouched)

@@ -10,10 +10,10 @@ use Rattle.set_model.specs.Step.{SignalUnit, Event, step, brought, rows_sent, ta
 use Rattle.set_model.specs.Changeover.{Order, fate_on}
 use Rattle.set_model.specs.Control.{Choice}
 use Rattle.set_model.specs.Frame.{BringsAbout, Concerns, LeavesAlone, MovesAsItsControl, window_after}
-use Rattle.set_model.specs.Rows.{DiscardCause, Fate, Waiting, Unacked, IsInOrder, Row, appended, fated, held, is_held, is_on, is_unacked, is_waiting, moved, numbers, standing, unack, wait}
+use Rattle.set_model.specs.Rows.{Fate, Waiting, Unacked, IsInOrder, Row, appended, fated, held, is_held, is_on, is_unacked, is_waiting, moved, numbers, standing, unack, wait}
 use Rattle.set_model.specs.Sound.{IsSound}
 use Rattle.set_model.specs.State.{Up, LinkState, State, is_up, link_is_up, target, window_of}
-use Rattle.set_model.proofs.Events.{Untouched, untouched_self, sent, sent_by, acknowledged, sent_given_up, waiting_given_up, unparked, appended_out, numbers_joined}
+use Rattle.set_model.proofs.Events.{ChangesOn, Unparked, Untouched, untouched, sent, acknowledged, appended_out, numbers_joined}
 use Rattle.set_model.proofs.Rows.{fated_none, new_row, moved_same, moved_more}
 use Rattle.set_model.proofs.Lists.{get_set_same, get_set_other, within, target_off}
 use Rattle.set_model.proofs.Places.{apart, apart_back, on_other, not_on_waiting, back_not_on, home_back, code_back}
@@ -24,12 +24,6 @@ use Rattle.set_model.proofs.Walk.{step_walks}
 -- ALONE: a link has the messages that it had, and more behind them.
 alone_more : (n : ℕ) (s t : State) (come : List Row) → slice_get t.links n ≡ slice_get s.links n → unack n t.rows ≡ unack n s.rows → wait n t.rows ≡ wait n s.rows ++ wait n come → held n t.rows ≡ held n s.rows ++ held n come → (is_up n s ≡ false → wait n come ≡ []) → (is_up n s ≡ true → held n come ≡ []) → LeavesAlone n s t
 alone_more n s t come link sent waits holds no_wait no_held = record { link_same = link; unack_same = sent; more = wait n come; wait_more = waits; none_more = no_wait; later = held n come; held_later = holds; none_later = no_held }
-
-alone_by : (n : ℕ) (s t : State) → slice_get t.links n ≡ slice_get s.links n → Untouched n s.rows t.rows → LeavesAlone n s t
-alone_by n s t links u = alone_more n s t [] links u.unack_same (grind (arith, append-nil, u)) (grind (arith, append-nil, u)) (λ e. refl) (λ e. refl)
-
-alone_then : (n : ℕ) (a b c : State) → LeavesAlone n a b → LeavesAlone n b c → LeavesAlone n a c
-alone_then n a b c p q = record { link_same = grind arith; unack_same = grind arith; more = p.more ++ q.more; wait_more = grind (arith, append_assoc); none_more = λ e. grind arith; later = p.later ++ q.later; held_later = grind (arith, append_assoc); none_later = λ e. grind arith }
 
 -- a new message comes to wait for the link, or to be held for it
 alone_appended : (n : ℕ) (body : List ℕ) (fate : Fate) (s : State) (routing : Routing) → is_unacked n fate ≡ false → (is_up n s ≡ false → is_waiting n fate ≡ false) → (is_up n s ≡ true → is_held n fate ≡ false) → LeavesAlone n s (record s { rows = appended s.rows body fate; routing = routing })
@@ -42,18 +36,17 @@ alone_moved n test fate s links routing same off unsent waits holds = alone_more
 
 pub leaves_alone : (n : ℕ) (s : State) (event : Event) → (Concerns event n s → ⊥) → LeavesAlone n s (step s event).state
 leaves_alone n s event free =
+    let alone_by = λ (s t : State) (links : slice_get t.links n ≡ slice_get s.links n) (u : Untouched n s.rows t.rows). alone_more n s t [] links u.unack_same (grind (arith, append-nil, u)) (grind (arith, append-nil, u)) (λ e. refl) (λ e. refl) in
+    let alone_then : (a b c : State) → LeavesAlone n a b → LeavesAlone n b c → LeavesAlone n a c = λ a b c p q. record { link_same = grind arith; unack_same = grind arith; more = p.more ++ q.more; wait_more = grind (arith, append_assoc); none_more = λ e. grind arith; later = p.later ++ q.later; held_later = grind (arith, append_assoc); none_later = λ e. grind arith } in
     let off = λ (m : ℕ) (known : Concerns event m s). apart m n (λ same. free (subst (λ (k : ℕ). Concerns event k s) same known)) in
     let concerned = λ (by : Event) (m : ℕ) (u : State) (e : event ≡ by) (known : Concerns by m u). subst (λ (v : Event). Concerns v m u) (sym e) known in
     -- what waits for a link that is up waits for no other
     let up_waits : (to m : ℕ) (u : State) → is_up to u ≡ true → is_up m u ≡ false → is_waiting m (Waiting to) ≡ false = λ to m u up down. grind (arith, nat_tests) in
     let off_waits = λ (links new : List LinkState) (same : slice_get new n ≡ slice_get links n) (down : link_is_up (slice_get new n) ≡ false). not_on_waiting n (fate_on (target links)) (target_off links n (rw same at down)) in
     let target_unheld : (to : Option ℕ) → is_held n (fate_on to) ≡ false = λ to. grind arith in
-    let sends = λ (choice : Choice) (m : ℕ) (rows : List Row). (sent_by choice m rows).others in
-    let acked = λ (m count : ℕ) (rows : List Row). (acknowledged m count rows).others in
-    let sent_up = λ (m : ℕ) (cause : DiscardCause) (rows : List Row). (sent_given_up m cause rows).others in
-    let waiting_up = λ (m : ℕ) (cause : DiscardCause) (rows : List Row). (waiting_given_up m cause rows).others in
-    let risen = λ (m : ℕ) (rows : List Row). (unparked m rows).others in
-    step_walks s (LeavesAlone n) (LeavesAlone n s) event (search (up_waits, alternative_up, alone_moved, back_not_on, code_back, home_back, on_other, apart_back, not_sent, off_waits, target_unheld, alone_then, alone_by, untouched_self, alone_appended, offered_out, up_not_held, down_not_waiting, off, concerned, inl, get_set_other, eqb-false) depth 7)
+    let apart_from = λ (m : ℕ) (rows new : List Row) (g : ChangesOn m rows new). g.others in
+    let risen = λ (m : ℕ) (rows new : List Row) (u : Unparked m rows new). u.others in
+    step_walks s (LeavesAlone n) (LeavesAlone n s) event (search (apart_from, risen, up_waits, alternative_up, alone_moved, back_not_on, code_back, home_back, on_other, apart_back, not_sent, off_waits, target_unheld, alone_then, alone_by, untouched, alone_appended, offered_out, up_not_held, down_not_waiting, off, concerned, inl, get_set_other, eqb-false) depth 7)
 
 -- THE WINDOW.
 pub numbers-drop : (d : ℕ) (rows : List Row) → numbers (drop d rows) ≡ drop d (numbers rows)

@@ -1,5 +1,5 @@
 -- What a list holds when one place of it is set.
-use Rattle.std.proofs.Common.{arith, ◌≡◌, ◌≢◌, ◌==◌, false, ◌∙◌, ap, sym, ◌<◌, length, ℕ, List, map, slice_get, slice_set, Some, ◌⊎◌, cond, option_map, subst, true, None}
+use Rattle.std.proofs.Common.{arith, ◌≡◌, ◌≢◌, ◌==◌, false, ◌∙◌, ap, sym, ◌<◌, length, ℕ, List, map, slice_get, slice_set, Some, ◌⊎◌, option_map, subst, true, None}
 pub use Rattle.std.proofs.lemmas.Option.{slice_get_within as within}
 pub use Rattle.std.proofs.lemmas.List.{length-set as length_set, map-set as map_set}
 use Rattle.std.proofs.lemmas.Option.{same_Some, get_or_from_slice_get, slice_get-get_or, slice_get-map, slice_get_cases, slice_get_past}
@@ -24,9 +24,6 @@ set_same xs n x there = grind (arith, set-get_or xs n x, get_or_from_slice_get)
 -- where one place is set, each place holds what was set or what it held
 pub at_set : {X : Type 0} (xs : List X) (n m : ℕ) (x y : X) → slice_get (slice_set xs n x) m ≡ Some y → ((m ≡ n) × (y ≡ x)) ⊎ ((m ≢ n) × (slice_get xs m ≡ Some y))
 at_set xs n m x y there = grind (arith, get_set_same, get_set_other, within, length_set)
-
-pub set_at : {X : Type 0} (xs : List X) (n m : ℕ) (x y : X) → slice_get xs m ≡ Some y → slice_get (slice_set xs n x) m ≡ Some (cond (n == m) x y)
-set_at xs n m x y there = grind (arith, nat_tests, get_set_same, get_set_other, within)
 
 -- what holds of the new element and of the others holds of each
 pub each_set : {X : Type 0} (P : ℕ → X → Type 0) (xs : List X) (n : ℕ) (x : X) → P n x → ((m : ℕ) (y : X) → (n == m) ≡ false → slice_get xs m ≡ Some y → P m y) → (m : ℕ) (y : X) → slice_get (slice_set xs n x) m ≡ Some y → P m y

@@ -1,5 +1,5 @@
 -- FACTS OF EACH ROW, and what changes of rows do to them.
-use Rattle.std.proofs.Common.{arith, refl, ◌≡◌, ◌<◌, ℕ, suc, Bool, true, false, not, ◌||◌, List, [], ◌∷◌, ◌++◌, length, map, slice_get, Some, filter, subst, ◌==◌, take}
+use Rattle.std.proofs.Common.{inl, ◌⊎◌, arith, refl, ◌≡◌, ◌<◌, ℕ, suc, Bool, true, false, not, ◌||◌, List, [], ◌∷◌, ◌++◌, length, map, slice_get, Some, filter, subst, ◌==◌, take}
 use Rattle.std.proofs.lemmas.List.{append-nil, map-append}
 use Rattle.std.proofs.lemmas.List.Elements.{filter-append}
 use Rattle.set_model.specs.Rows.{Fate, AreBefore, Each, IsNumbered, Row, appended, fated, numbers, standing, Back, back, Unacked, IsHeldLast, IsInOrder, held, is_waiting, on, turned, unack, wait, with_fate}
@@ -9,16 +9,10 @@ use Rattle.set_route.specs.Routing.{IsCoded, IsRouting, Routing, code_of, home_o
 use Rattle.set_model.specs.State.{Asked, Changing}
 use Rattle.set_route.proofs.Quiet.{at_place}
 
--- ROWS THAT MOVE: those that stay, and those that go.
-module _ (test : Fate → Bool) where
-  pub each_left : (P Q : Row → Type 0) → ((x : Row) → test x.fate ≡ false → P x → Q x) → (rows : List Row) → Each P rows → Each Q (standing (λ f. not (test f)) rows)
-  each_left P Q so [] e = tt
-  each_left P Q so (x ∷ rows) e = grind (arith, each_left P Q so rows e.1)
-
-  -- none that goes comes to stand there
-  pub gone_none : (fate : Row → Fate) (P : Row → Type 0) (other : Fate → Bool) → ((x : Row) → test x.fate ≡ true → P x → other (fate x) ≡ false) → (rows : List Row) → Each P rows → standing other (map (fated fate) (standing test rows)) ≡ []
-  gone_none fate P other so [] e = refl
-  gone_none fate P other so (x ∷ rows) e = grind (arith, gone_none fate P other so rows e.1)
+-- ROWS THAT MOVE: none that goes comes to stand there.
+pub gone_none : (test : Fate → Bool) (fate : Row → Fate) (P : Row → Type 0) (other : Fate → Bool) → ((x : Row) → test x.fate ≡ true → P x → other (fate x) ≡ false) → (rows : List Row) → Each P rows → standing other (map (fated fate) (standing test rows)) ≡ []
+gone_none test fate P other so [] e = refl
+gone_none test fate P other so (x ∷ rows) e = grind (arith, gone_none test fate P other so rows e.1)
 
 -- none stands there, since what does is so
 pub none_standing : (P : Row → Type 0) (test : Fate → Bool) → ((x : Row) → test x.fate ≡ true → P x → ⊥) → (rows : List Row) → Each P rows → standing test rows ≡ []
@@ -51,7 +45,7 @@ pub coded_at : (r : Routing) (stream : ℕ) → IsRouting r → (to code via : �
 coded_at r stream sound to code via e = subst (IsCoded r) e (at_place (IsCoded r) tt r.streams stream sound.coded)
 
 -- where a stream on its way back by a code of which nothing moves stays on it
-pub stood : (test : Fate → Bool) (old new : Routing) → ((k : ℕ) → k < 16 → (code via : ℕ) → test (Back code) ≡ false → place_of k old ≡ Changing (home_of code) code via → (via' : ℕ) × (place_of k new ≡ Changing (home_of code) code via')) → (x : Row) (f : Fate) → test f ≡ false → IsBackOf old x f → IsBackOf new x f
+pub stood : (test : Fate → Bool) (old new : Routing) → ((k : ℕ) → k < 16 → (code via : ℕ) → test (Back code) ≡ false → place_of k old ≡ Changing (home_of code) code via → (via' : ℕ) × (place_of k new ≡ Changing (home_of code) code via')) → (x : Row) (f : Fate) → not (test f) ≡ true → IsBackOf old x f → IsBackOf new x f
 stood test old new stays x f out b = grind arith
 
 -- of the rows it asks only those that stand back
@@ -66,16 +60,12 @@ neither p q (x ∷ rows) e f = grind (arith, neither p q rows)
 
 module _ (p q : Fate → Bool) where
   -- where there are none, or no others
-  pub before_none : (rows : List Row) → standing p rows ≡ [] → AreBefore p q rows
+  pub before_none : (rows : List Row) → (standing p rows ≡ []) ⊎ (standing q rows ≡ []) → AreBefore p q rows
   before_none [] e = tt
   before_none (x ∷ rows) e = grind (arith, before_none rows)
 
-  pub before_never : (rows : List Row) → standing q rows ≡ [] → AreBefore p q rows
-  before_never [] e = tt
-  before_never (x ∷ rows) e = grind (arith, before_never rows)
-
   pub before_append : (xs ys : List Row) → AreBefore p q xs → standing p ys ≡ [] → AreBefore p q (xs ++ ys)
-  before_append [] ys o e = before_none ys e
+  before_append [] ys o e = before_none ys (inl e)
   before_append (x ∷ xs) ys o e = grind (arith, filter-append, before_append xs ys o.1 e)
 
   -- where some rows leave

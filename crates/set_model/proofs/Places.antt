@@ -2,7 +2,7 @@
 use Rattle.std.proofs.Common.{arith, refl, ◌≡◌, ◌∙◌, sym, ℕ, Bool, true, false, ◌==◌}
 pub use Rattle.std.proofs.lemmas.Bool.{ne_eqb as apart}
 use Rattle.std.proofs.lemmas.Bool.{eq-eqb, eqb-false}
-use Rattle.set_model.specs.Rows.{Fate, Held, is_back, is_back_to, is_held, is_on, is_parked, is_unacked, is_waiting, stands_back}
+use Rattle.set_model.specs.Rows.{Fate, is_back, is_back_to, is_held, is_on, is_parked, is_unacked, is_waiting, stands_back}
 
 pub false_true : {P : Type 0} (b : Bool) → b ≡ false → b ≡ true → P
 false_true b f t = let no : true ≡ false = sym t ∙ f in absurd cc
@@ -12,29 +12,6 @@ apart_back l n d = apart n l (λ e. eqb-false l n d (sym e))
 
 pub itself : (l : ℕ) → (l == l) ≡ true
 itself l = eq-eqb l l refl
-
--- Kinds of places.
-pub unacked_not_waiting : (l n : ℕ) (f : Fate) → is_unacked n f ≡ true → is_waiting l f ≡ false
-unacked_not_waiting l n f e = grind arith
-
-pub not_held : (test : Fate → Bool) → ((k : ℕ) → test (Held k) ≡ false) → (l : ℕ) (f : Fate) → test f ≡ true → is_held l f ≡ false
-not_held test none l f e = grind arith
-
-pub on_not_parked : (n : ℕ) (f : Fate) → is_on n f ≡ true → is_parked f ≡ false
-on_not_parked n f e = grind arith
-
-pub on_not_back : (n : ℕ) (f : Fate) → is_on n f ≡ true → stands_back f ≡ false
-on_not_back n f e = grind arith
-
--- What stands in one of the three places of a link is on it.
-pub waiting_on : (l : ℕ) (f : Fate) → is_waiting l f ≡ true → is_on l f ≡ true
-waiting_on l f e = grind arith
-
-pub unacked_on : (l : ℕ) (f : Fate) → is_unacked l f ≡ true → is_on l f ≡ true
-unacked_on l f e = grind arith
-
-pub held_on : (l : ℕ) (f : Fate) → is_held l f ≡ true → is_on l f ≡ true
-held_on l f e = grind arith
 
 -- What is on one link isn't on another.
 pub on_other : (l n : ℕ) → (l == n) ≡ false → (f : Fate) → is_on n f ≡ true → is_on l f ≡ false

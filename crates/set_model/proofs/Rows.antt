@@ -6,6 +6,7 @@ pub use Rattle.std.proofs.lemmas.List.{nil_from_length as no_rows}
 use Rattle.std.proofs.lemmas.List.Elements.{filter-append}
 use Rattle.std.proofs.lemmas.List.Filters.{length-filter_both}
 use Rattle.std.proofs.lemmas.Bool.Decides.{nat_tests}
+use Rattle.std.proofs.Math.ListN.{drop_of_length-le}
 use Rattle.set_model.proofs.Lists.{at_map, present}
 
 -- One filter after another.
@@ -51,9 +52,9 @@ pub each_append : {X : Type 0} (P : X → Type 0) (xs ys : List X) → Each P xs
 each_append P [] ys a b = b
 each_append P (x ∷ xs) ys a b = (a.0, each_append P xs ys a.1 b)
 
-pub each_filter : (P : Row → Type 0) (p : Row → Bool) (rows : List Row) → Each P rows → Each P (filter p rows)
-each_filter P p [] e = tt
-each_filter P p (x ∷ rows) e = grind (arith, each_filter P p rows e.1)
+pub each_filter : (P Q : Row → Type 0) (p : Row → Bool) → ((x : Row) → p x ≡ true → P x → Q x) → (rows : List Row) → Each P rows → Each Q (filter p rows)
+each_filter P Q p so [] e = tt
+each_filter P Q p so (x ∷ rows) e = grind (arith, each_filter P Q p so rows e.1)
 
 pub fit_fated : (fate : Row → Fate) (xs : List Row) → AreFit xs → AreFit (map (fated fate) xs)
 fit_fated fate [] a = a
@@ -72,7 +73,7 @@ module _ (test : Fate → Bool) (fate : Row → Fate) where
   moved_numbered rows numbered number = grind (arith, filter_moved, moved_length, numbered)
 
   pub moved_fit : (rows : List Row) → AreFit rows → AreFit (moved test fate rows)
-  moved_fit rows a = search (each_append, each_filter, fit_fated)
+  moved_fit rows a = let fits = λ (p : Row → Bool). each_filter _ (λ row. length row.body ≤ 273) p (λ x e f. f) rows a in search (each_append, fits, fit_fated)
 
 -- WHAT THE FILTERS SEE OF A MOVE.
 module _ (test other : Fate → Bool) (fate : Row → Fate) (rows : List Row) where
@@ -104,12 +105,9 @@ module _ (test other : Fate → Bool) (fate : Row → Fate) (rows : List Row) wh
   moved_off e = grind (arith, parts, append-nil, filter_comm)
 
 -- where no row moves
-none_move : (test : Fate → Bool) (xs : List Row) → standing test xs ≡ [] → standing (λ f. not (test f)) xs ≡ xs
-none_move test [] e = refl
-none_move test (x ∷ xs) e = grind (arith, none_move test xs)
-
 pub moved_nothing : (test : Fate → Bool) (fate : Row → Fate) (rows : List Row) → standing test rows ≡ [] → moved test fate rows ≡ rows
-moved_nothing test fate rows e = grind (arith, append-nil, none_move)
+moved_nothing test fate [] e = refl
+moved_nothing test fate (x ∷ rows) e = grind (arith, moved_nothing test fate rows)
 
 -- Each message is counted in one place.
 pub all_counted : (rows : List Row) → length (standing waits rows) + length (standing was_sent rows) + length (standing was_acked rows) + length (standing was_held rows) + length (standing is_parked rows) + length (standing stands_back rows) + length (standing was_discarded rows) ≡ length rows
@@ -132,18 +130,14 @@ numbered_appended rows body fate numbered number = grind (arith, nat_tests, filt
 pub same_numbers : (rows new : List Row) → length new ≡ length rows → ((number : ℕ) → length (with_number number new) ≡ length (with_number number rows)) → IsNumbered rows → IsNumbered new
 same_numbers rows new long each numbered number = each number ∙ numbered number ∙ ap (λ (n : ℕ). cond (nat_lt number n) 1 0) (sym long)
 
--- Rows that get another fate in their places: the first n where a test tells, or all.
--- What is kept where a row stays, and where one turns, is kept by both changes.
+-- Rows that get another fate in their places: the first n where a test tells. All of them are as many as there are rows.
+-- What is kept where a row stays, and where one turns, is kept by the change.
 module _ (test : Fate → Bool) (fate : Fate) (P : List Row → List Row → Type 0) (none : P [] []) (stays : (x : Row) (xs ys : List Row) → P xs ys → P (x ∷ xs) (x ∷ ys)) (turns : (x : Row) (xs ys : List Row) → test x.fate ≡ true → P xs ys → P (x ∷ xs) (with_fate fate x ∷ ys)) where
   pub where_turned : (n : ℕ) (rows : List Row) → P rows (turned test fate n rows)
   where_turned zero [] = none
   where_turned zero (x ∷ rows) = stays x rows rows (where_turned zero rows)
   where_turned (suc n) [] = none
   where_turned (suc n) (x ∷ rows) = grind (arith, where_turned n rows, where_turned (suc n) rows)
-
-  pub where_changed : (rows : List Row) → P rows (changed test fate rows)
-  where_changed [] = none
-  where_changed (x ∷ rows) = grind (arith, where_changed rows)
 
 -- WHAT SUCH A CHANGE KEEPS.
 pub record InPlace (test : Fate → Bool) (fate : Fate) (xs ys : List Row) : Type 0 where
@@ -160,20 +154,12 @@ pub record InPlace (test : Fate → Bool) (fate : Fate) (xs ys : List Row) : Typ
   pub none : (p : Fate → Bool) → ((f : Fate) → test f ≡ true → p fate ≡ true → p f ≡ true) → standing p xs ≡ [] → standing p ys ≡ []
   pub before : (p q : Fate → Bool) → ((f : Fate) → test f ≡ true → p fate ≡ true → p f ≡ true) → ((f : Fate) → test f ≡ true → q fate ≡ true → q f ≡ true) → AreBefore p q xs → AreBefore p q ys
 
-module _ (test : Fate → Bool) (fate : Fate) where
-  pub turned_there : (n : ℕ) (rows : List Row) → InPlace test fate rows (turned test fate n rows)
-  turned_there n rows = where_turned test fate (InPlace test fate) (grind arith) (λ x xs ys p. grind arith) (λ x xs ys h p. grind arith) n rows
+pub turned_there : (test : Fate → Bool) (fate : Fate) (n : ℕ) (rows : List Row) → InPlace test fate rows (turned test fate n rows)
+turned_there test fate n rows = where_turned test fate (InPlace test fate) (grind arith) (λ x xs ys p. grind arith) (λ x xs ys h p. grind arith) n rows
 
-  pub changed_there : (rows : List Row) → InPlace test fate rows (changed test fate rows)
-  changed_there rows = where_changed test fate (InPlace test fate) (grind arith) (λ x xs ys p. grind arith) (λ x xs ys h p. grind arith) rows
-
--- A PLACE where none turns and none comes.
-module _ (test other : Fate → Bool) (fate : Fate) (o : other fate ≡ false) (w : (f : Fate) → test f ≡ true → other f ≡ false) where
-  pub turned_same : (n : ℕ) (rows : List Row) → standing other (turned test fate n rows) ≡ standing other rows
-  turned_same n rows = (turned_there test fate n rows).same other o w
-
-  pub changed_same : (rows : List Row) → standing other (changed test fate rows) ≡ standing other rows
-  changed_same rows = (changed_there test fate rows).same other o w
+-- A place where none turns and none comes.
+pub turned_same : (test other : Fate → Bool) (fate : Fate) → other fate ≡ false → ((f : Fate) → test f ≡ true → other f ≡ false) → (n : ℕ) (rows : List Row) → standing other (turned test fate n rows) ≡ standing other rows
+turned_same test other fate o w n rows = (turned_there test fate n rows).same other o w
 
 -- those that turned, or changed, left their place
 pub turned_left : (test : Fate → Bool) (fate : Fate) → test fate ≡ false → (n : ℕ) (rows : List Row) → standing test (turned test fate n rows) ≡ drop n (standing test rows)
@@ -182,8 +168,7 @@ turned_left test fate o (suc n) [] = refl
 turned_left test fate o (suc n) (x ∷ rows) = grind (arith, turned_left test fate o n rows, turned_left test fate o (suc n) rows)
 
 pub changed_left : (test : Fate → Bool) (fate : Fate) → test fate ≡ false → (rows : List Row) → standing test (changed test fate rows) ≡ []
-changed_left test fate o [] = refl
-changed_left test fate o (x ∷ rows) = grind (arith, changed_left test fate o rows)
+changed_left test fate o rows = turned_left test fate o (length rows) rows ∙ drop_of_length-le (standing test rows) (fewer_filter (λ row. test row.fate) rows)
 
 -- What is found under a number, before and after a change.
 pub at_most_one : (number : ℕ) (rows : List Row) → IsNumbered rows → length (with_number number rows) ≤ 1
@@ -226,10 +211,7 @@ row_in_filter p rows i k row numbered e n = let one = found_in p rows i k row e 
 pub record Found (p : Row → Bool) (rows : List Row) (i number : ℕ) : Type 0 where
   pub row : Row
   pub there : slice_get (filter p rows) i ≡ Some row
-  pub number_is : row.number ≡ number
-  pub row_is : row_of number rows ≡ Some row
   pub body_is : body_at number rows ≡ Some row.body
-  pub place_is : place number rows ≡ Some row.fate
   pub below : number < length rows
 
 pub found_by_number : (p : Row → Bool) (rows : List Row) (i number : ℕ) → IsNumbered rows → slice_get (numbers (filter p rows)) i ≡ Some number → Found p rows i number

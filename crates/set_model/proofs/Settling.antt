@@ -7,26 +7,20 @@ use Rattle.set_model.specs.Laws.{DivertsTo, IsEmptyLink, MovesTheRest, arrived, 
 use Rattle.set_model.specs.Rows.{IsHeldLast, IsInOrder, Row, all_with, is_on, moved}
 use Rattle.set_model.specs.Sound.{IsSound}
 use Rattle.set_model.specs.State.{Down, Settled, LinkState, State, has_phase_settled, has_phase_up, target}
-use Rattle.set_model.proofs.Events.{acknowledged, moved_to, moved_aside, numbers_joined}
-use Rattle.set_model.proofs.Rows.{none_within}
+use Rattle.set_model.proofs.Events.{acknowledged, empty_link, moved_to, moved_aside, numbers_joined}
 use Rattle.set_model.proofs.Lists.{map_set_same, target_up}
-use Rattle.set_model.proofs.Places.{apart, unacked_on, waiting_on, held_on}
+use Rattle.set_model.proofs.Places.{apart}
 
 pub settled_empty : (s : State) (n : ℕ) (link : LinkState) → IsSound s → slice_get s.links n ≡ Some link → link.phase ≡ Settled → IsEmptyLink n s.rows
-settled_empty s n link sound there settled =
-    let none = (sound.links n link there).settled (ap has_phase_settled settled) in
-    search (none_within, unacked_on, waiting_on, held_on, none)
+settled_empty s n link sound there settled = empty_link n s.rows ((sound.links n link there).settled (ap has_phase_settled settled))
 
 -- what is acknowledged on the way changes no target
 module _ (fsn n : ℕ) (link : LinkState) (s : State) (there : slice_get s.links n ≡ Some link) (reasonable : is_reasonable fsn n link s.rows ≡ true) where
-  abbrev count : ℕ
-  count = reached_by fsn n link s.rows
-
-  settled_rows : (settled (Upto fsn) n link s).rows ≡ moved (is_on n) (all_with (fate_on (target s.links))) (arrived count n s.rows)
-  settled_rows = rw (reasonable, ap target_of (map_set_same (λ (l : LinkState). has_phase_up l.phase) s.links n link (acknowledged_link count link) there refl)) refl
+  settled_rows : (settled (Upto fsn) n link s).rows ≡ moved (is_on n) (all_with (fate_on (target s.links))) (arrived (reached_by fsn n link s.rows) n s.rows)
+  settled_rows = rw (reasonable, ap target_of (map_set_same (λ (l : LinkState). has_phase_up l.phase) s.links n link (acknowledged_link (reached_by fsn n link s.rows) link) there refl)) refl
 
   pub moves_the_rest : MovesTheRest fsn n link s
-  moves_the_rest = let acks = acknowledged n count s.rows in search settled_rows
+  moves_the_rest = let acks = acknowledged n (reached_by fsn n link s.rows) s.rows in search settled_rows
 
   diverts_by : (d : ℕ) (rows : List Row) → IsInOrder n rows → IsHeldLast n rows → (to : Option ℕ) → ((t : ℕ) → to ≡ Some t → n ≢ t) → DivertsTo to (rest_of n d rows) rows (moved (is_on n) (all_with (fate_on to)) (arrived d n rows))
   diverts_by d rows order last (Some t) other =
@@ -41,7 +35,7 @@ module _ (fsn n : ℕ) (link : LinkState) (s : State) (there : slice_get s.links
   pub no_target : link.phase ≡ Down → (t : ℕ) → target s.links ≡ Some t → n ≢ t
   no_target down t e same = grind (arith, target_up)
 
-  pub diverts_the_rest : IsSound s → link.phase ≡ Down → DivertsTo (target s.links) (rest_of n count s.rows) s.rows (settled (Upto fsn) n link s).rows
+  pub diverts_the_rest : IsSound s → link.phase ≡ Down → DivertsTo (target s.links) (rest_of n (reached_by fsn n link s.rows) s.rows) s.rows (settled (Upto fsn) n link s).rows
   diverts_the_rest sound down =
       let t = sound.links n link there in
-      subst (DivertsTo (target s.links) (rest_of n count s.rows) s.rows) (sym settled_rows) (diverts_by count s.rows t.in_order t.held_last (target s.links) (no_target down))
+      subst (DivertsTo (target s.links) (rest_of n (reached_by fsn n link s.rows) s.rows) s.rows) (sym settled_rows) (diverts_by (reached_by fsn n link s.rows) s.rows t.in_order t.held_last (target s.links) (no_target down))

@@ -12,8 +12,8 @@ use Rattle.set_model.specs.State.{Asked, Place, On, Changing, Down, Settled, Up,
 use Rattle.set_model.specs.Step.{risen_link, rises}
 use Rattle.set_route.proofs.Alone.{alone, codes_alone}
 use Rattle.set_route.proofs.Places.{raised_sound, settled_sound, left_sound, asked_sound, back_sound}
-use Rattle.set_model.proofs.Order.{ascends_filter, backs_of, before_none, coded_at, each_left, gone_none, none_standing, stood}
-use Rattle.set_model.proofs.Events.{left, unparked, untouched_self}
+use Rattle.set_model.proofs.Order.{ascends_filter, backs_of, before_none, coded_at, gone_none, none_standing, stood}
+use Rattle.set_model.proofs.Events.{left, unparked, untouched}
 use Rattle.set_model.proofs.Lists.{get_set_same, get_set_other, within, each_set, target_up, target_off, none_up}
 use Rattle.set_model.proofs.Rows.{each_filter, moved_off, moved_numbered, moved_fit, moved_same, moved_more, moved_nothing, fated_none}
 use Rattle.set_model.proofs.Places.{false_true, apart_back, on_other, not_on_waiting, back_not_on, back_not_parked, code_back, home_back}
@@ -27,7 +27,7 @@ moved_sound : (s : State) (links : List LinkState) (routing : Routing) (test : F
     → ((k : ℕ) → k < 16 → Follows links test (place_of k s.routing) (place_of k routing)) → ((code : ℕ) → code_of code routing ≡ Asked → link_is_up (slice_get links (home_of code)) ≡ true) → ((k : ℕ) (other : LinkState) → slice_get links k ≡ Some other → has_phase_up other.phase ≡ true → parked (moved test fate s.rows) ≡ [])
     → ((k : ℕ) (other : LinkState) → slice_get links k ≡ Some other → IsSoundLink s.settings.method k other (moved test fate s.rows)) → IsSound (record s { links = links; routing = routing; rows = moved test fate s.rows })
 moved_sound s links routing test fate t long sound same gone follows homes aside each =
-    let kept = each_left test (λ row. IsBackOf s.routing row row.fate) (λ row. IsBackOf routing row row.fate) (λ x. stood test s.routing routing (λ k few. (follows k few).stays) x x.fate) (back s.rows) (each_filter (λ row. IsBackOf s.routing row row.fate) (λ row. stands_back row.fate) s.rows t.backs) in
+    let kept = each_filter (λ row. IsBackOf s.routing row row.fate) (λ row. IsBackOf routing row row.fate) (λ row. not (test row.fate)) (λ x. stood test s.routing routing (λ k few. (follows k few).stays) x x.fate) (back s.rows) (each_filter (λ row. IsBackOf s.routing row row.fate) (λ row. IsBackOf s.routing row row.fate) (λ row. stands_back row.fate) (λ x e b. b) s.rows t.backs) in
     let backs : AreBack routing (moved test fate s.rows) = backs_of routing (moved test fate s.rows) (rw (moved_off test stands_back fate s.rows gone) kept) in
     let order : IsAscending (numbers (back (moved test fate s.rows))) = rw (moved_off test stands_back fate s.rows gone) (ascends_filter (λ (row : Row). not (test row.fate)) (back s.rows) t.back_order) in
     let placed = λ (k : ℕ) (few : k < 16). (follows k few).placed in
@@ -67,17 +67,12 @@ module _ (n : ℕ) (link : LinkState) (s : State) (at : IsAt n link Down s) (t :
       (each_set (λ k other. IsSoundLink s.settings.method k other (moved (is_on n) (all_with (fate_on (target s.links))) s.rows)) s.links n (settled_link link) (grind arith) (λ k other d here. let out = λ (is_down : has_phase_up other.phase ≡ false). target_off s.links k (ap link_is_up here ∙ is_down) in link_moved s.settings.method k other (is_on n) (all_with (fate_on (target s.links))) s.routing s.rows t.backs (on_other k n (apart_back n k d))
       (λ x. not_sent k (target s.links)) (λ u x. grind arith) (λ f x e b. not_on_waiting k (fate_on (target s.links)) (out f)) (λ e x f b. out (grind (arith, e))) (t.links k other here)))
 
--- a code in use is below 256
-in_use_below : (r : Routing) → IsRouting r → (code : ℕ) → code_of code r ≡ Asked → code < 256
-in_use_below r sound code e = grind arith
-
 -- where a message goes whose stream runs on a link: to wait for it if it's up, else to be held for it
-module _ (s : State) where
-  pub up_not_held : (k : ℕ) → is_up k s ≡ true → (p : Place) → is_held k (fate_at p s) ≡ false
-  up_not_held k up p = grind arith
+pub up_not_held : (s : State) (k : ℕ) → is_up k s ≡ true → (p : Place) → is_held k (fate_at p s) ≡ false
+up_not_held s k up p = grind arith
 
-  pub down_not_waiting : (k : ℕ) → is_up k s ≡ false → (p : Place) → is_waiting k (fate_at p s) ≡ false
-  down_not_waiting k down p = grind arith
+pub down_not_waiting : (s : State) (k : ℕ) → is_up k s ≡ false → (p : Place) → is_waiting k (fate_at p s) ≡ false
+down_not_waiting s k down p = grind arith
 
 -- A LINK IS LEFT, and what stood back for it turns back.
 module _ (blind : Bool) (n : ℕ) (link : LinkState) (s : State) (at : IsAt n link Up s) (t : IsSound s) where
@@ -99,11 +94,12 @@ module _ (blind : Bool) (n : ℕ) (link : LinkState) (s : State) (at : IsAt n li
 
   pub leaves : IsSound (left_by blind n link s)
   leaves =
-      let mid_links = links_set s.settings.method s.links n (left_link blind link) s.rows s.rows (let l = t.links n link at.there in grind arith) (λ k d. untouched_self k s.rows) t.links in
-      moved_sound s mid.links mid.routing (is_back_to n) fate t (length-set s.links n (left_link blind link)) (left_sound n s.routing t.routing) refl (gone stands_back (λ via p. grind arith))
+      let mid_links = links_set s.settings.method s.links n (left_link blind link) s.rows s.rows (let l = t.links n link at.there in grind arith) (λ k d. untouched k s.rows s.rows refl) t.links in
+      let sound = left_sound n s.routing t.routing in
+      moved_sound s mid.links mid.routing (is_back_to n) fate t (length-set s.links n (left_link blind link)) sound refl (gone stands_back (λ via p. grind arith))
       (λ k few. let stays = placed_set s.links n link (left_link blind link) (place_of k s.routing) at.there refl (t.placed k few) in let a = (alone s.routing k t.routing few).left_place n in
       let runs = up_before s.links n link (left_link blind link) at.there (λ e. absurd cc) (λ j old here up. t.all_run j old here up k few) in grind (arith, stays, a, runs))
-      (λ code e. grind (arith, nat_tests, (codes_alone s.routing code t.routing (in_use_below mid.routing (left_sound n s.routing t.routing) code e)).left_code n, t.homes_up code, get_set_other))
+      (λ code e. grind (arith, nat_tests, (codes_alone s.routing code t.routing (grind arith)).left_code n, t.homes_up code, get_set_other))
       (up_before s.links n link (left_link blind link) at.there (λ e. absurd cc) (λ k old here up. grind (arith, nat_tests, moved_more, gone, t.none_aside k old here up)))
       (λ k other there. link_moved s.settings.method k other (is_back_to n) fate s.routing s.rows t.backs (λ f e. back_not_on k f (home_back n f e)) (λ x. offered_out k _ mid) (λ u x. up_not_held mid k (ap link_is_up there ∙ u) _) (λ d x e b. down_not_waiting mid k (ap link_is_up there ∙ d) _) (λ e x f b. grind (arith, nat_tests, goes x f b)) (mid_links k other there))
 
@@ -120,7 +116,7 @@ declares home alternative s up may t =
     let sound = asked_sound home alternative s.routing (below home up) (below alternative out) t.routing in
     appended_sound s runs t sound refl _ (Waiting alternative) (grind arith) (λ k link there. grind (arith, nat_tests, out)) tt
     (λ k few. let p = t.placed k few in let a = (alone s.routing k t.routing few).asked_place home alternative in record { placed = rw a (grind (arith, p, out)); runs = λ n link at rising. let runs = t.all_run n link at rising k few in rw a (grind (arith, runs)); stays = λ code via of e. grind (arith, nat_tests, a) })
-    (λ code e. grind (arith, nat_tests, (codes_alone s.routing code t.routing (in_use_below runs sound code e)).asked_code home alternative, up, t.routing.at_most_16, below home up, below alternative out, t.homes_up code))
+    (λ code e. grind (arith, nat_tests, (codes_alone s.routing code t.routing (grind arith)).asked_code home alternative, up, t.routing.at_most_16, below home up, below alternative out, t.homes_up code))
 
 -- WHAT STOOD BACK WAITS FOR ITS HOME.
 module _ (code : ℕ) (s : State) (t : IsSound s) where
@@ -134,6 +130,6 @@ module _ (code : ℕ) (s : State) (t : IsSound s) where
       let sound = back_sound code s.routing t.routing in
       moved_sound s s.links (given_back code s.routing) (is_back code) (all_with (Waiting (home_of code))) t refl sound refl (fated_none stands_back (all_with (Waiting (home_of code))) (λ x. refl) (standing (is_back code) s.rows))
       (λ k few. let there = t.placed k few in let a = (alone s.routing k t.routing few).back_place code in record { placed = rw a (grind (arith, nat_tests, there, coded_at, t.homes_up)); runs = λ n link at up. let runs = t.all_run n link at up k few in rw a (grind (arith, runs)); stays = λ c via of f. grind (arith, a) })
-      (λ c e. grind (arith, nat_tests, (codes_alone s.routing c t.routing (in_use_below (given_back code s.routing) sound c e)).back_code code, t.homes_up c))
+      (λ c e. grind (arith, nat_tests, (codes_alone s.routing c t.routing (grind arith)).back_code code, t.homes_up c))
       (λ k other there up. moved_same (is_back code) is_parked (all_with (Waiting (home_of code))) s.rows (λ x. refl) (λ f e. back_not_parked f (code_back code f e)) ∙ t.none_aside k other there up)
       (λ k other there. link_moved s.settings.method k other (is_back code) (all_with (Waiting (home_of code))) s.routing s.rows t.backs (λ f e. back_not_on k f (code_back code f e)) (λ x. refl) (λ u x. refl) (λ d x e b. grind (arith, nat_tests, coded_at, t.homes_up)) (λ d x e b. grind (arith, nat_tests, coded_at, t.homes_up)) (t.links k other there))

@@ -4,18 +4,18 @@ use Rattle.std.proofs.lemmas.List.{length-drop, append-nil, length-map, length-a
 use Rattle.std.proofs.lemmas.Bool.Decides.{nat_tests}
 use Rattle.l2_window.specs.Window.{WindowState}
 use Rattle.set_model.specs.Control.{Header, Choice, Control, acked_by, choice_of, control_heard, first, Method, accepted_of}
-use Rattle.set_model.specs.Sound.{IsInRange, IsOf, IsPlaced, IsSound, IsSoundLink, AreBack, IsBackOf}
+use Rattle.set_model.specs.Sound.{IsAsked, IsInRange, IsOf, IsPlaced, IsSound, IsSoundLink, AreBack, IsBackOf}
 use Rattle.std.proofs.lemmas.List.Elements.{filter-append}
 use Rattle.l2_units.specs.Grammar.{head_of as header_in}
 use Rattle.set_route.specs.Routing.{IsRouting, Routing, accepted, code_of, home_of, place_of}
 use Rattle.set_model.specs.Changeover.{acknowledged_by, Order, fate_on, queued}
 use Rattle.set_model.specs.Rows.{AreFit, DiscardCause, Fate, Discarded, Row, changed, fated, held, is_held, is_on, is_parked, is_unacked, is_waiting, moved, octets_in, on, standing, stands_back, unack, wait, Back, appended, parked, service_indicator, stream_of}
 use Rattle.set_model.specs.State.{Asked, is_up, Place, Changing, Nowhere, On, Down, Up, LinkState, State, has_phase_settled, has_phase_up, last_accepted, link_is_up, window_of, fate_at, target}
-use Rattle.set_model.specs.Step.{SignalUnit, choice_in, controlled, is_msu, part_in, next, rows_sent, offer_refusal, offered}
-use Rattle.set_model.proofs.Order.{backs_of, stood, before_append, before_never, neither, gone_none, coded_at, ascends_appended}
+use Rattle.set_model.specs.Step.{Event, Offer, SignalUnit, choice_in, controlled, is_msu, part_in, next, rows_sent, offer_refusal, offered}
+use Rattle.set_model.proofs.Order.{backs_of, stood, before_append, before_none, neither, gone_none, coded_at, ascends_appended}
 use Rattle.set_model.proofs.Events.{Untouched, sent, acknowledged, ChangesOn, sent_by, untouched, appended_out}
-use Rattle.set_model.proofs.Rows.{each_append, each_filter, each_so, changed_there, others_stay, new_row, numbered_appended}
-use Rattle.set_model.proofs.Lists.{at_set, each_set, get_set_same, get_set_other, set_same, within, set_at, target_up, none_up}
+use Rattle.set_model.proofs.Rows.{each_append, each_filter, each_so, turned_there, others_stay, new_row, numbered_appended}
+use Rattle.set_model.proofs.Lists.{at_set, each_set, get_set_same, get_set_other, set_same, within, target_up, none_up}
 use Rattle.set_model.proofs.Places.{false_true}
 use Rattle.set_model.proofs.Walk.{IsAt}
 use Rattle.set_route.proofs.Alone.{alone}
@@ -37,8 +37,8 @@ links_set m links n link rows new one others all = each_set (λ k other. IsSound
 -- a place stays one, where the link that changes isn't settled
 pub placed_set : (links : List LinkState) (n : ℕ) (link link' : LinkState) (place : Place) → slice_get links n ≡ Some link → has_phase_settled link'.phase ≡ false → IsPlaced links place → IsPlaced (slice_set links n link') place
 placed_set links n link link' Nowhere there unsettled p = tt
-placed_set links n link link' (On l) there unsettled p = (cond (n == l) link' p.0, set_at links n l link' p.0 p.1, grind (arith, p.2))
-placed_set links n link link' (Changing to code l) there unsettled p = (cond (n == l) link' p.0, set_at links n l link' p.0 p.1, grind (arith, p.2))
+placed_set links n link link' (On l) there unsettled p = (cond (n == l) link' p.0, grind (arith, nat_tests, get_set_same, get_set_other, within, p.1), grind (arith, p.2))
+placed_set links n link link' (Changing to code l) there unsettled p = (cond (n == l) link' p.0, grind (arith, nat_tests, get_set_same, get_set_other, within, p.1), grind (arith, p.2))
 
 -- what is so while a link is up stays so, where the one that changes isn't up anew
 pub up_before : {X : Type 0} (links : List LinkState) (n : ℕ) (link link' : LinkState) → slice_get links n ≡ Some link → (has_phase_up link'.phase ≡ true → has_phase_up link.phase ≡ true) → ((k : ℕ) (old : LinkState) → slice_get links k ≡ Some old → has_phase_up old.phase ≡ true → X) → (k : ℕ) (other : LinkState) → slice_get (slice_set links n link') k ≡ Some other → has_phase_up other.phase ≡ true → X
@@ -60,7 +60,7 @@ changes n link link' s new t there same unsettled g few counted method range =
     let run = up_before s.links n link link' there (λ e. sym up ∙ e) t.all_run in
     let stays = up_after s.links n link link' there (λ e. up ∙ e) in
     let links = links_set s.settings.method s.links n link' s.rows new one g.others t.links in
-    let backs = backs_of s.routing new (subst (AreBack s.routing) (sym g.back_same) (each_filter (λ row. IsBackOf s.routing row row.fate) (λ row. stands_back row.fate) s.rows t.backs)) in
+    let backs = backs_of s.routing new (subst (AreBack s.routing) (sym g.back_same) (each_filter (λ row. IsBackOf s.routing row row.fate) (λ row. IsBackOf s.routing row row.fate) (λ row. stands_back row.fate) (λ x e b. b) s.rows t.backs)) in
     search (length-set, g.kept.numbered, g.kept.fit, placed_set, t.placed, t.homes_up, backs, g.back_same)
 
 -- the inbox is no part of it
@@ -70,7 +70,7 @@ with_inbox s inbox t = assumption
 -- ROWS THAT COME TO STAND LAST, behind those that a link has.
 module _ (m : Method) (k : ℕ) (link : LinkState) (rows come : List Row) (sent : unack k come ≡ []) (holds : has_phase_up link.phase ≡ true → held k come ≡ []) (waits : has_phase_up link.phase ≡ false → wait k come ≡ []) (gone : has_phase_settled link.phase ≡ true → on k come ≡ []) where
   pub link_more : (base : List Row) → on k base ≡ on k rows → IsSoundLink m k link rows → IsSoundLink m k link (base ++ come)
-  link_more base same l = let u = untouched k rows base same in let none = neither (is_unacked k) (is_waiting k) come sent in grind (arith, filter-append, append-nil, none, before_append, before_never)
+  link_more base same l = let u = untouched k rows base same in let none = neither (is_unacked k) (is_waiting k) come sent in grind (arith, filter-append, append-nil, none, before_append, before_none)
 
 -- those that move leave the others where they were; of what goes it is known that its stream is on its way back
 pub link_moved : (m : Method) (k : ℕ) (link : LinkState) (test : Fate → Bool) (fate : Row → Fate) (routing : Routing) (rows : List Row) → AreBack routing rows → ((f : Fate) → test f ≡ true → is_on k f ≡ false) → ((x : Row) → is_unacked k (fate x) ≡ false) → (has_phase_up link.phase ≡ true → (x : Row) → is_held k (fate x) ≡ false)
@@ -89,39 +89,29 @@ acknowledges count n link s at t =
 pub gives_up : (test : Fate → Bool) (cause : DiscardCause) (n : ℕ) (link : LinkState) (s : State) → ChangesOn n s.rows (changed test (Discarded cause) s.rows) → IsAt n link Down s → IsSound s → IsSound (record s { rows = changed test (Discarded cause) s.rows })
 gives_up test cause n link s g at t =
     let l = t.links n link at.there in
-    let fewer = (changed_there test (Discarded cause) s.rows).fewer (is_unacked n) refl in
+    let fewer = (turned_there test (Discarded cause) (length s.rows) s.rows).fewer (is_unacked n) refl in
     let sound = changes n link link s (changed test (Discarded cause) s.rows) t at.there refl (ap has_phase_settled at.phase_is) g (omega (arith, l.window, fewer)) l.counted l.method (false_true (has_phase_up link.phase) (ap has_phase_up at.phase_is)) in
     subst (λ (links : List LinkState). IsSound (record s { links = links; rows = changed test (Discarded cause) s.rows })) (set_same s.links n link at.there) sound
 
 -- SENDING.
 module _ (n : ℕ) (link : LinkState) (s : State) (at : IsAt n link Up s) (t : IsSound s) where
-  abbrev window : WindowState
-  window = window_of n link s.rows
-
-  l : IsSoundLink s.settings.method n link s.rows
-  l = t.links n link at.there
-
-  -- how many are unacknowledged then
-  counts : (choice : Choice) → choice_in n link s ≡ choice → (length (unack n s.rows) ≤ length (unack n (rows_sent choice n s.rows))) × (choice ≡ first → length (unack n (rows_sent choice n s.rows)) ≡ length (unack n s.rows) + 1) × (length (unack n (rows_sent choice n s.rows)) ≤ 127)
-  counts choice e = grind (arith, first_chosen (octets_in (unack n s.rows)) link.control window, length-map, length-append, length-take, (sent n s.rows).unack_is l.in_order, l.window)
-
   pub sends_sound : IsSound (next n s link).state
   sends_sound =
+      let l = t.links n link at.there in
       let choice = choice_in n link s in
+      -- how many are unacknowledged then
+      let counts : (c : Choice) → choice ≡ c → (length (unack n s.rows) ≤ length (unack n (rows_sent c n s.rows))) × (c ≡ first → length (unack n (rows_sent c n s.rows)) ≡ length (unack n s.rows) + 1) × (length (unack n (rows_sent c n s.rows)) ≤ 127)
+      = λ c e. grind (arith, first_chosen (octets_in (unack n s.rows)) link.control (window_of n link s.rows), length-map, length-append, length-take, (sent n s.rows).unack_is l.in_order, l.window) in
       let c = counts choice refl in
       changes n link _ s _ t at.there refl (ap has_phase_settled at.phase_is) (sent_by choice n s.rows) c.2 (grind (arith, l.counted)) (grind (arith, l.method)) (λ u. grind (arith, c, l.in_range, length-map))
 
   -- HEARING.
   pub hears_sound : (unit : SignalUnit) → IsSound (controlled unit n s link)
   hears_sound unit =
+      let l = t.links n link at.there in
       let a = acknowledged n (part_in unit n link s).acked s.rows in
       changes n link _ s _ t at.there refl (ap has_phase_settled at.phase_is) a.in_place (grind (arith, length-drop, a.unack_is, l.window))
-      (grind (arith, nat_tests, (header_in unit).fsn, l.counted)) (grind (arith, l.method)) (λ u. grind (arith, range_heard link.control window (header_in unit) (is_msu unit) (grind (arith, length-map, l.in_range)), a.unack_is, length-drop, length-map))
-
--- A NEW MESSAGE can come to stand there, for all that this link has to do with it: it waits for a link that is up, is held
--- for one that isn't settled, or parked while none is up.
-abbrev pub IsOpenAt : ℕ → LinkState → Fate → Type 0
-IsOpenAt number link fate = (is_unacked number fate ≡ false) × (has_phase_up link.phase ≡ true → (is_held number fate || is_parked fate) ≡ false) × (has_phase_up link.phase ≡ false → is_waiting number fate ≡ false) × (has_phase_settled link.phase ≡ true → is_on number fate ≡ false)
+      (grind (arith, nat_tests, (header_in unit).fsn, l.counted)) (grind (arith, l.method)) (λ u. grind (arith, range_heard link.control (window_of n link s.rows) (header_in unit) (is_msu unit) (grind (arith, length-map, l.in_range)), a.unack_is, length-drop, length-map))
 
 -- WHERE A STREAM RUNS, as links and streams change, and what stands back by a code of which nothing moves.
 pub record Follows (links : List LinkState) (test : Fate → Bool) (was is : Place) : Type 0 where
@@ -130,8 +120,9 @@ pub record Follows (links : List LinkState) (test : Fate → Bool) (was is : Pla
   pub stays : (code via : ℕ) → test (Back code) ≡ false → was ≡ Changing (home_of code) code via → (via' : ℕ) × (is ≡ Changing (home_of code) code via')
 
 module _ (s : State) (routing : Routing) (t : IsSound s) (sound : IsRouting routing) (same : routing.links ≡ s.routing.links) where
-  -- a new row
-  pub appended_sound : (body : List ℕ) (fate : Fate) → length body ≤ 273 → ((k : ℕ) (link : LinkState) → slice_get s.links k ≡ Some link → IsOpenAt k link fate) → IsBackOf s.routing (new_row (length s.rows) body fate) fate → ((k : ℕ) → k < 16 → Follows s.links (λ f. false) (place_of k s.routing) (place_of k routing))
+  -- a new row can come to stand there, for all that each link has to do with it: it waits for a link that is up, is held
+  -- for one that isn't settled, or parked while none is up
+  pub appended_sound : (body : List ℕ) (fate : Fate) → length body ≤ 273 → ((k : ℕ) (link : LinkState) → slice_get s.links k ≡ Some link → (is_unacked k fate ≡ false) × (has_phase_up link.phase ≡ true → (is_held k fate || is_parked fate) ≡ false) × (has_phase_up link.phase ≡ false → is_waiting k fate ≡ false) × (has_phase_settled link.phase ≡ true → is_on k fate ≡ false)) → IsBackOf s.routing (new_row (length s.rows) body fate) fate → ((k : ℕ) → k < 16 → Follows s.links (λ f. false) (place_of k s.routing) (place_of k routing))
       → ((code : ℕ) → code_of code routing ≡ Asked → is_up (home_of code) s ≡ true) → IsSound (record s { rows = appended s.rows body fate; routing = routing })
   appended_sound body fate fits opened is_back follows homes =
       let links = λ (k : ℕ) (other : LinkState) (there : slice_get s.links k ≡ Some other). link_more s.settings.method k other s.rows (new_row (length s.rows) body fate ∷ []) (let o = opened k other there in grind arith) (λ u. let o = opened k other there in grind arith) (λ d. let o = opened k other there in grind arith) (λ e. let o = opened k other there in grind arith) s.rows refl (t.links k other there) in
@@ -149,9 +140,10 @@ queues order s t =
     (λ k few. record { placed = t.placed k few; runs = λ n link there up. t.all_run n link there up k few; stays = λ code via e is. (via, is) }) t.homes_up
 
 -- AN OFFER goes where its stream runs.
-pub offers : (s : State) (body : List ℕ) → stream_of body < 16 → offer_refusal s.rows body ≡ None → IsSound s → IsSound (offered None s body).state
-offers s body low free t =
+pub offers : (s : State) (event : Event) (body : List ℕ) → IsAsked event → event ≡ Offer body → offer_refusal s.rows body ≡ None → IsSound s → IsSound (offered None s body).state
+offers s event body asked e free t =
     let stream = stream_of body in
+    let low : stream < 16 = subst IsAsked e asked in
     let fits : (length body ≤ 273) × ((service_indicator body == 0) ≡ false) = grind (arith, free) in
     let placed = t.placed stream low in
     let same = λ (k : ℕ) (few : k < 16). (alone s.routing k t.routing few).accepted_place stream in

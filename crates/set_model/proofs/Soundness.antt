@@ -3,17 +3,20 @@ use Rattle.std.proofs.Common.{refl, arith, ◌≡◌, ◌∙◌, sym, subst, ℕ
 use Rattle.std.proofs.lemmas.List.{get_or-replicate, length-replicate, append-nil, map-append, length-map}
 use Rattle.std.proofs.lemmas.Option.{slice_get_cases}
 use Rattle.std.proofs.lemmas.Bool.Decides.{nat_tests}
-use Rattle.set_route.specs.Routing.{new_stream, stream_numbers, settled, runs_on, NoneOpen, has_messages, place_of, place_raised, place_settled, raised}
+use Rattle.set_route.specs.Routing.{new_stream, stream_numbers, settled, runs_on, NoneOpen, has_messages, place_of, place_raised, place_settled, raised, home_of}
 use Rattle.set_route.specs.declared.stream.Stream.{Stream}
-use Rattle.set_model.specs.Step.{Event, Offer, step, offered, rows_sent}
-use Rattle.set_model.specs.Laws.{RunsStraight}
-use Rattle.set_model.specs.Rows.{numbers, stream_of, Fate, Unacked, Waiting, IsNumbered, Row, all_with, appended, changed, fated, is_back, is_back_to, is_on, is_parked, is_waiting, moved, standing, stands_back, turned, with_fate}
-use Rattle.set_model.specs.Sound.{AreFew, IsAsked, IsPlaced, IsSettings, IsSound, AreAbove, AreTogether, BeginsNone, IsAscending, IsBackOf, IsSoundStream, astray, is_astray, is_live, is_unfinished, live, stands_at}
+use Rattle.set_model.specs.Step.{Event, Gains, step, stepped, offered, rows_sent}
+use Rattle.set_model.specs.Laws.{IsNew, KeepsMessages, RunsStraight}
+use Rattle.set_model.specs.Rows.{numbers, stream_of, Fate, Unacked, Waiting, IsNumbered, Row, all_with, appended, fated, is_back, is_back_to, is_on, is_parked, is_waiting, moved, standing, stands_back, turned}
+use Rattle.set_model.specs.Sound.{IsAsked, IsManaged, IsPlaced, IsSettings, IsSound, AreAbove, AreTogether, BeginsNone, IsAscending, IsBackOf, IsSoundStream, astray, is_astray, is_live, is_unfinished, live, stands_at}
 use Rattle.set_model.specs.State.{Asked, Free, Nowhere, LinkState, Settings, State, new_link, opened_with, Place, Changing, On, fate_at, target}
 use Rattle.set_route.proofs.Places.{new_sound}
 use Rattle.set_route.proofs.Codes.{all_free}
-use Rattle.set_model.proofs.Events.{sent_given_up, waiting_given_up}
-use Rattle.set_model.proofs.Walk.{KeptBy, step_walks}
+use Rattle.set_model.proofs.Walk.{KeptBy, step_is, step_walks}
+use Rattle.set_model.proofs.Framing.{leaves_alone}
+use Rattle.set_model.proofs.Settling.{settled_empty, diverts_the_rest}
+use Rattle.set_model.proofs.Staying.{keeps_messages, step_gains}
+use Rattle.set_model.specs.Frame.{Concerns, LeavesAlone}
 use Rattle.set_model.proofs.SoundBack.{leaves, declares, releases, rises_sound, moves_off_sound}
 use Rattle.set_model.proofs.SoundLink.{with_inbox, acknowledges, gives_up, sends_sound, hears_sound, queues, offers}
 use Rattle.std.proofs.lemmas.List.Elements.{filter-append}
@@ -22,15 +25,12 @@ use Rattle.set_model.specs.Changeover.{Order, fate_on, left_by, queued, released
 use Rattle.set_model.specs.Control.{Choice}
 use Rattle.set_route.proofs.Alone.{alone}
 use Rattle.set_route.proofs.Quiet.{left_quiet, back_quiet, never_changing}
-use Rattle.set_model.proofs.Rows.{filter_within, none_within, new_row, where_turned, where_changed, moved_nothing, no_rows}
+use Rattle.set_model.proofs.Rows.{filter_within, none_within, new_row, where_turned, moved_nothing, no_rows}
 use Rattle.set_model.proofs.Order.{ascends_appended, none_standing}
 use Rattle.set_model.proofs.Places.{false_true, itself, code_back, home_back}
 
 -- THE STEP.
-pub asked_by : (event : Event) (body : List ℕ) → IsAsked event → event ≡ Offer body → stream_of body < 16
-asked_by event body asked e = subst IsAsked e asked
-
-pub ruleset sounds = (with_inbox, queues, leaves, acknowledges, gives_up, sent_given_up, waiting_given_up, moves_off_sound, declares, releases, offers, asked_by, sends_sound, hears_sound, rises_sound)
+pub ruleset sounds = (with_inbox, queues, leaves, acknowledges, gives_up, moves_off_sound, declares, releases, offers, sends_sound, hears_sound, rises_sound)
 
 small : (Known : ℕ → Type 0) (May : Type 0) → KeptBy Known May (λ s u. IsSound s → IsSound u)
 small Known May = search sounds
@@ -65,11 +65,10 @@ module _ (settings : Settings) (is : IsSettings settings) where
   }
 
   -- no changeback is under way
-  pub opened_straight : RunsStraight (opened_with settings)
-  opened_straight = search all_free
-
-  pub opened_few : AreFew 0 (opened_with settings)
-  opened_few n link there = grind (arith, new_there)
+  pub opened_new : IsNew (opened_with settings)
+  opened_new =
+      let straight : RunsStraight (opened_with settings) = search all_free in
+      record { sound = opened_sound; few = λ n link there. grind (arith, new_there); straight = straight }
 
 -- WHILE NO CHANGEBACK IS UNDER WAY the messages of each stream stay together, where it runs, and in the order of their
 -- numbers: leaving a link changes nothing but that link, and what is acknowledged by a code nothing at all.
@@ -82,23 +81,12 @@ record Less (stream : ℕ) (place : Place) (xs ys : List Row) : Type 0 where
   pub none_away : astray stream place xs ≡ [] → astray stream place ys ≡ []
 
 -- where one gets the fate it's finished, or stays where it is
-abbrev pub Fits : Place → (Fate → Bool) → Fate → Type 0
-Fits place test fate =
-    (f : Fate) → test f ≡ true → is_unfinished fate ≡ true
-    → (is_unfinished f ≡ true) × (stands_at place f ≡ stands_at place fate)
-
-module _ (stream : ℕ) (place : Place) (test : Fate → Bool) (fate : Fate) (fits : Fits place test fate) where
-  stays : (x : Row) (xs ys : List Row) → Less stream place xs ys → Less stream place (x ∷ xs) (x ∷ ys)
-  stays x xs ys p = record { above = λ k a. grind (arith, p.above k); ascends = λ a. grind (arith, p.above x.number); none = λ e. grind arith; none_away = λ e. grind arith }
-
-  turns : (x : Row) (xs ys : List Row) → test x.fate ≡ true → Less stream place xs ys → Less stream place (x ∷ xs) (with_fate fate x ∷ ys)
-  turns x xs ys t p = record { above = λ k a. grind (arith, fits, p.above k); ascends = λ a. grind (arith, fits, p.above x.number); none = λ e. grind (arith, fits); none_away = λ e. grind (arith, fits) }
-
-  pub stream_turned : (used : Bool) (n : ℕ) (rows : List Row) → IsSoundStream stream place used rows → IsSoundStream stream place used (turned test fate n rows)
-  stream_turned used n rows t = let l = where_turned test fate (Less stream place) (grind arith) stays turns n rows in grind arith
-
-  pub stream_changed : (used : Bool) (rows : List Row) → IsSoundStream stream place used rows → IsSoundStream stream place used (changed test fate rows)
-  stream_changed used rows t = let l = where_changed test fate (Less stream place) (grind arith) stays turns rows in grind arith
+pub stream_turned : (stream : ℕ) (place : Place) (test : Fate → Bool) (fate : Fate) → ((f : Fate) → test f ≡ true → is_unfinished fate ≡ true → (is_unfinished f ≡ true) × (stands_at place f ≡ stands_at place fate)) → (used : Bool) (n : ℕ) (rows : List Row) → IsSoundStream stream place used rows → IsSoundStream stream place used (turned test fate n rows)
+stream_turned stream place test fate fits used n rows t =
+    let less = where_turned test fate (Less stream place) (grind arith)
+    (λ x xs ys p. record { above = λ k a. grind (arith, p.above k); ascends = λ a. grind (arith, p.above x.number); none = λ e. grind arith; none_away = λ e. grind arith })
+    (λ x xs ys h p. record { above = λ k a. grind (arith, fits, p.above k); ascends = λ a. grind (arith, fits, p.above x.number); none = λ e. grind (arith, fits); none_away = λ e. grind (arith, fits) }) n rows in
+    grind arith
 
 -- A NEW MESSAGE has a number above all others.
 pub stream_appended : (stream : ℕ) (place : Place) (used used' : Bool) (rows : List Row) (body : List ℕ) (fate : Fate) → IsNumbered rows → IsSoundStream stream place used rows → (is_live stream (new_row (length rows) body fate) ≡ true → (stands_at place fate ≡ true) × (used' ≡ true)) → (used' ≡ false → used ≡ false) → IsSoundStream stream place used' (appended rows body fate)
@@ -106,18 +94,12 @@ stream_appended stream place used used' rows body fate numbered t fits grows = g
 
 -- ROWS THAT MOVE: all live ones of a stream do, or none.
 module _ (stream : ℕ) (place place' : Place) (test : Fate → Bool) (to : Fate) (goes : Bool) (open_there : (f : Fate) → test f ≡ true → is_unfinished f ≡ true) (open_to : is_unfinished to ≡ true) (all : (f : Fate) → stands_at place f ≡ true → test f ≡ goes) (comes : goes ≡ true → stands_at place' to ≡ true) (stays : goes ≡ false → (f : Fate) → stands_at place f ≡ true → stands_at place' f ≡ true) where
-  abbrev kept : List Row → List Row
-  kept rows = standing (λ f. not (test f)) rows
-
-  abbrev gone : List Row → List Row
-  gone rows = map (fated (all_with to)) (standing test rows)
-
   -- what a filter sees of the two parts of a move
   pub record Parts (rows : List Row) : Type 0 where
-    pub kept_live : numbers (live stream (kept rows)) ≡ cond goes [] (numbers (live stream rows))
-    pub kept_astray : astray stream place' (kept rows) ≡ []
-    pub gone_live : numbers (live stream (gone rows)) ≡ cond goes (numbers (live stream rows)) []
-    pub gone_astray : astray stream place' (gone rows) ≡ []
+    pub kept_live : numbers (live stream (standing (λ f. not (test f)) rows)) ≡ cond goes [] (numbers (live stream rows))
+    pub kept_astray : astray stream place' (standing (λ f. not (test f)) rows) ≡ []
+    pub gone_live : numbers (live stream (map (fated (all_with to)) (standing test rows))) ≡ cond goes (numbers (live stream rows)) []
+    pub gone_astray : astray stream place' (map (fated (all_with to)) (standing test rows)) ≡ []
 
   parts : (rows : List Row) → astray stream place rows ≡ [] → Parts rows
   parts [] e = grind arith
@@ -125,8 +107,7 @@ module _ (stream : ℕ) (place place' : Place) (test : Fate → Bool) (to : Fate
     where
       one : (a b : Bool) → test x.fate ≡ a → is_live stream x ≡ b → Parts rows → Parts (x ∷ rows)
       one false true t l g =
-          let stood : stands_at place x.fate ≡ true = grind (arith, l) in
-          let stay : goes ≡ false = sym (all x.fate stood) ∙ t in
+          let stay : goes ≡ false = sym (all x.fate (grind (arith, l))) ∙ t in
           grind (arith, stay)
       one a b t l g = grind arith
 
@@ -138,23 +119,11 @@ module _ (stream : ℕ) (place place' : Place) (test : Fate → Bool) (to : Fate
       record { in_order = rw same t.in_order; together = grind (arith, filter-append, g); unused = grind (arith, no_rows, length-map, as_many, t.unused) }
 
 -- NOTHING STANDS BACK, so leaving a link turns nothing back.
-module _ (s : State) (t : IsSound s) (none : NoneOpen s.routing) where
-  none_for : (test : Fate → Bool) → ((f : Fate) → test f ≡ true → stands_back f ≡ true) → standing test s.rows ≡ []
-  none_for test w = none_within test stands_back w s.rows (none_standing (λ row. IsBackOf s.routing row row.fate) stands_back (λ x e b. grind (arith, never_changing)) s.rows t.backs)
-
-still : (s t : State) → t.rows ≡ s.rows → t.routing ≡ s.routing → RunsStraight s → RunsStraight t
-still s t rows routing r = record { none_open = rw routing r.none_open; together = λ k low. rw (rows, routing) (r.together k low) }
-
-leaves_straight : (blind : Bool) (n : ℕ) (link : LinkState) (s : State) → IsSound s → RunsStraight s → RunsStraight (left_by blind n link s)
-leaves_straight blind n link s t r = still s _ (moved_nothing (is_back_to n) _ s.rows (none_for s t r.none_open (is_back_to n) (home_back n))) (left_quiet n s.routing t.routing r.none_open) r
-
-releases_straight : (code : ℕ) (s : State) → IsSound s → RunsStraight s → RunsStraight (released code s)
-releases_straight code s t r = still s _ (moved_nothing (is_back code) _ s.rows (none_for s t r.none_open (is_back code) (code_back code))) (back_quiet code s.routing t.routing r.none_open) r
-
--- AN ORDER is of no stream.
-queues_straight : (order : Order) (s : State) → IsSound s → AreTogether s → AreTogether (queued order s)
-queues_straight order s t r stream low =
-    stream_appended stream (place_of stream s.routing) (has_messages stream s.routing) (has_messages stream s.routing) s.rows _ (fate_on (target s.links)) t.numbered (r stream low) (λ e. grind (arith, t.managed)) (λ e. e)
+none_turns : (test : Fate → Bool) (fate : Row → Fate) (s t : State) → ((f : Fate) → test f ≡ true → stands_back f ≡ true) → t.rows ≡ moved test fate s.rows → t.routing ≡ s.routing → IsSound s → RunsStraight s → RunsStraight t
+none_turns test fate s t w rows routing sound r =
+    let none = none_within test stands_back w s.rows (none_standing (λ row. IsBackOf s.routing row row.fate) stands_back (λ x e b. grind (arith, never_changing, r.none_open)) s.rows sound.backs) in
+    let same = rows ∙ moved_nothing test fate s.rows none in
+    record { none_open = rw routing r.none_open; together = λ k low. rw (same, routing) (r.together k low) }
 
 -- AN OFFER goes where its stream runs.
 offers_straight : (s : State) (body : List ℕ) → IsSound s → NoneOpen s.routing → AreTogether s → AreTogether (offered None s body).state
@@ -164,18 +133,14 @@ offers_straight s body t none r k few =
     rw (a.accepted_place (stream_of body), a.accepted_messages (stream_of body)) (stream_appended k (place_of k s.routing) (has_messages k s.routing) ((k == stream_of body) || has_messages k s.routing) s.rows body (fate_at place s) t.numbered (r k few) (λ e. grind (arith, nat_tests)) (λ e. grind arith))
 
 -- A LINK COMES UP.
-module _ (n : ℕ) (rows : List Row) where
-  abbrev risen : List Row
-  risen = moved is_parked (all_with (Waiting n)) rows
-
-  stream_risen : (k home : ℕ) (used : Bool) (place : Place) → ((to code via : ℕ) → place ≡ Changing to code via → ⊥) → IsSoundStream k place used rows → IsSoundStream k (place_raised n home used place) used risen
-  stream_risen k home used Nowhere away p = stream_moves k Nowhere (On n) is_parked (Waiting n) true (λ f e. grind arith) refl (λ f e. e) (λ e. itself n) (λ e. absurd cc) used rows p
-  stream_risen k home used (Changing to code via) away p = absurd (away to code via refl)
-  stream_risen k home used (On l) away p =
-      let remains = stream_moves k (On l) (On l) is_parked (Waiting n) false (λ f e. grind arith) refl (λ f e. grind arith) (λ e. absurd cc) (λ e f h. h) used rows p in
-      cond_both ((home == n) && not used) (On n) (On l) (λ (at : Place). IsSoundStream k at used risen)
-      -- one with no live message can run anywhere
-      (λ e. let away = filter_within (is_astray k (On n)) (is_live k) (λ x e. grind arith) risen in let none = remains.unused (grind arith) in grind (arith, away, none)) (λ e. remains)
+stream_risen : (n : ℕ) (rows : List Row) (k home : ℕ) (used : Bool) (place : Place) → ((to code via : ℕ) → place ≡ Changing to code via → ⊥) → IsSoundStream k place used rows → IsSoundStream k (place_raised n home used place) used (moved is_parked (all_with (Waiting n)) rows)
+stream_risen n rows k home used Nowhere away p = stream_moves k Nowhere (On n) is_parked (Waiting n) true (λ f e. grind arith) refl (λ f e. e) (λ e. itself n) (λ e. absurd cc) used rows p
+stream_risen n rows k home used (Changing to code via) away p = absurd (away to code via refl)
+stream_risen n rows k home used (On l) away p =
+    let remains = stream_moves k (On l) (On l) is_parked (Waiting n) false (λ f e. grind arith) refl (λ f e. grind arith) (λ e. absurd cc) (λ e f h. h) used rows p in
+    cond_both ((home == n) && not used) (On n) (On l) (λ (at : Place). IsSoundStream k at used (moved is_parked (all_with (Waiting n)) rows))
+    -- one with no live message can run anywhere
+    (λ e. let away = filter_within (is_astray k (On n)) (is_live k) (λ x e. grind arith) (moved is_parked (all_with (Waiting n)) rows) in let none = remains.unused (grind arith) in grind (arith, away, none)) (λ e. remains)
 
 -- A LINK IS LEFT BY ITS MESSAGES.
 moves_off_straight : (n : ℕ) (s : State) → IsSound s → NoneOpen s.routing → AreTogether s → (k : ℕ) → k < 16 → IsSoundStream k (place_of k (settled n (target s.links) s.routing)) (has_messages k (settled n (target s.links) s.routing)) (moved (is_on n) (all_with (fate_on (target s.links))) s.rows)
@@ -184,14 +149,10 @@ moves_off_straight n s t none r k low =
     let never = λ (to code via : ℕ). never_changing k to code via s.routing t.routing none in
     rw (a.settled_place n (target s.links), a.settled_messages n (target s.links)) (stream_moves k (place_of k s.routing) (place_settled n (target s.links) (place_of k s.routing)) (is_on n) (fate_on (target s.links)) (runs_on n (place_of k s.routing)) (λ f e. grind arith) (grind arith) (λ f e. grind (arith, nat_tests, never)) (λ e. grind arith) (λ e f h. grind (arith, nat_tests, never)) (has_messages k s.routing) s.rows (r k low))
 
-rises_straight : (n : ℕ) (s : State) → IsSound s → NoneOpen s.routing → AreTogether s → (k : ℕ) → k < 16 → IsSoundStream k (place_of k (raised n s.routing)) (has_messages k (raised n s.routing)) (risen n s.rows)
+rises_straight : (n : ℕ) (s : State) → IsSound s → NoneOpen s.routing → AreTogether s → (k : ℕ) → k < 16 → IsSoundStream k (place_of k (raised n s.routing)) (has_messages k (raised n s.routing)) (moved is_parked (all_with (Waiting n)) s.rows)
 rises_straight n s t none r k low =
     let a = alone s.routing k t.routing low in
     rw (a.raised_place n, a.raised_messages n) (stream_risen n s.rows k (k % s.routing.links) (has_messages k s.routing) (place_of k s.routing) (λ to code via. never_changing k to code via s.routing t.routing none) (r k low))
-
--- SENDING.
-sends_straight : (choice : Choice) (n : ℕ) (s : State) → AreTogether s → (stream : ℕ) → stream < 16 → IsSoundStream stream (place_of stream s.routing) (has_messages stream s.routing) (rows_sent choice n s.rows)
-sends_straight choice n s r stream low = let turns = stream_turned stream (place_of stream s.routing) (is_waiting n) (Unacked n) (λ f e alive. grind arith) (has_messages stream s.routing) 1 s.rows (r stream low) in grind arith
 
 -- THE STEP.
 abbrev StaysStraight : State → State → Type 0
@@ -200,8 +161,19 @@ StaysStraight s t = IsSound s → NoneOpen s.routing → AreTogether s → IsSou
 pub step_straight : (s : State) (event : Event) → IsAsked event → BeginsNone event → IsSound s → RunsStraight s → RunsStraight (step s event).state
 step_straight s event asked begins t r =
     let stood = r.together in
-    let fits_finished : (place : Place) (test : Fate → Bool) (fate : Fate) → is_unfinished fate ≡ false → Fits place test fate = λ place test fate done f e alive. false_true (is_unfinished fate) done alive in
+    let leaves_straight = λ (blind : Bool) (n : ℕ) (link : LinkState) (s : State) (t : IsSound s) (r : RunsStraight s). none_turns (is_back_to n) _ s (left_by blind n link s) (home_back n) refl (left_quiet n s.routing t.routing r.none_open) t r in
+    let releases_straight = λ (code : ℕ) (s : State) (t : IsSound s) (r : RunsStraight s). none_turns (is_back code) (all_with (Waiting (home_of code))) s (released code s) (code_back code) refl (back_quiet code s.routing t.routing r.none_open) t r in
+    -- an order is of no stream
+    let queues_straight : (order : Order) (s : State) → IsSound s → AreTogether s → AreTogether (queued order s) = λ order s t r k low. stream_appended k (place_of k s.routing) (has_messages k s.routing) (has_messages k s.routing) s.rows _ (fate_on (target s.links)) t.numbered (r k low) (λ e. grind (arith, t.managed)) (λ e. e) in
+    let sends_straight : (choice : Choice) (n : ℕ) (s : State) → AreTogether s → (k : ℕ) → k < 16 → IsSoundStream k (place_of k s.routing) (has_messages k s.routing) (rows_sent choice n s.rows) = λ choice n s r k low. let turns = stream_turned k (place_of k s.routing) (is_waiting n) (Unacked n) (λ f e alive. grind arith) (has_messages k s.routing) 1 s.rows (r k low) in grind arith in
+    let stream_finishes = λ (k : ℕ) (place : Place) (test : Fate → Bool) (fate : Fate) (done : is_unfinished fate ≡ false). stream_turned k place test fate (λ f e alive. false_true (is_unfinished fate) done alive) in
     let rests : (a b : State) → IsSound a × RunsStraight a → StaysStraight a b → IsSound b × RunsStraight b = λ a b q then. then q.0 q.1.none_open q.1.together in
     let then_straight : (a b c : State) → StaysStraight a b → StaysStraight b c → StaysStraight a c = λ a b c p q sound none r. rests b c (p sound none r) q in
     let begins_none : (u : State) → (BeginsNone event → ⊥) → IsSound u × RunsStraight u = λ u may. absurd (may begins) in
-    (step_walks s StaysStraight (λ u. IsSound u × RunsStraight u) event (search (sounds, leaves_straight, releases_straight, queues_straight, stream_turned, stream_changed, fits_finished, moves_off_straight, offers_straight, sends_straight, rises_straight, then_straight, rests, begins_none, stood))).1
+    (step_walks s StaysStraight (λ u. IsSound u × RunsStraight u) event (search (sounds, leaves_straight, releases_straight, queues_straight, stream_finishes, moves_off_straight, offers_straight, sends_straight, rises_straight, then_straight, rests, begins_none, stood))).1
+
+-- WHAT EVERY STEP DOES. The first of it tells where the rest holds: of each step that is named.
+pub step_laws : (s : State) (event : Event) → (step s event ≡ stepped s event) × (IsAsked event → IsSound s → IsSound (step s event).state) × (IsManaged s.settings → Gains s event (step s event).answer (step s event).state) × (IsNumbered s.rows → KeepsMessages s.rows (step s event).state.rows) × ((n : ℕ) → (Concerns event n s → ⊥) → LeavesAlone n s (step s event).state)
+step_laws s event = (step_is s event, step_sound s event, step_gains s event, keeps_messages s event, λ n. leaves_alone n s event)
+
+pub ruleset laws = (step_laws, step_straight, settled_empty, diverts_the_rest, opened_new)

@@ -5,16 +5,16 @@ use Rattle.std.proofs.lemmas.List.Filters.{length-filter_both}
 use Rattle.std.proofs.lemmas.List.Folds.{find-append}
 use Rattle.std.proofs.lemmas.Bool.Decides.{nat_tests}
 use Rattle.set_model.specs.Laws.{MessagesStay, MovesTheLinksRows, KeepsMessages}
-use Rattle.set_model.specs.Rows.{Fate, IsNumbered, Row, DiscardCause, appended, counts_of, service_indicator, total_of, was_acked, Discarded, Acked, Unacked, is_unacked, is_waiting, moved, standing, turned, unack}
-use Rattle.set_model.proofs.Rows.{turned_there, changed_there, moved_length, moved_numbered, is_found, numbered_appended, same_numbers, no_rows, body_moved, place_moved, row_is_first, total_is, filter_comm, fewer_filter, fated_none, turned_left}
-use Rattle.set_model.proofs.Events.{numbers_fated, Kept, moved_kept, sent_by, acknowledged, sent_given_up, waiting_given_up, appended_out}
+use Rattle.set_model.specs.Rows.{Fate, IsNumbered, Row, appended, counts_of, service_indicator, total_of, was_acked, Acked, Unacked, is_unacked, is_waiting, moved, standing, turned, unack}
+use Rattle.set_model.proofs.Rows.{turned_there, moved_length, moved_numbered, is_found, numbered_appended, same_numbers, no_rows, body_moved, place_moved, row_is_first, total_is, filter_comm, fewer_filter, fated_none, turned_left}
+use Rattle.set_model.proofs.Events.{ChangesOn, numbers_fated, Kept, moved_kept, acknowledged, appended_out}
 use Rattle.std.proofs.lemmas.List.Elements.{filter-append}
 use Rattle.l3_orders.specs.Grammar.{text}
 use Rattle.set_model.specs.Changeover.{Order, fate_on}
 use Rattle.set_route.specs.Routing.{Routing}
 use Rattle.set_model.specs.Step.{Event, Offer, step, Answer, Gains, messages_in, octets_of, one_if, rows_sent}
 use Rattle.set_model.specs.Control.{Choice, Header, part_of}
-use Rattle.set_model.specs.Sound.{IsManaged, AreAtMost, AreFew, WholeNumbers, one_more}
+use Rattle.set_model.specs.Sound.{IsManaged, AreAtMost, WholeNumbers, one_more}
 use Rattle.set_model.specs.State.{Place, Settings, State, fate_at, Phase, LinkState, window_of}
 use Rattle.set_model.proofs.Walk.{step_walks, IsAt}
 use Rattle.std.proofs.Math.Nat.{le_refl}
@@ -23,8 +23,7 @@ use Rattle.set_model.proofs.Lists.{each_set}
 pub messages_stay : (test : Fate → Bool) (to : Fate) (fate : Row → Fate) (rows : List Row) → IsNumbered rows → MessagesStay test to fate rows
 messages_stay test to fate rows numbered =
     let turned = turned_there test to in
-    let changed = changed_there test to rows in
-    grind (arith, nat_tests, turned, changed, same_numbers, moved_length, body_moved, moved_numbered, is_found, find-append, row_is_first, no_rows, numbered_appended)
+    grind (arith, nat_tests, turned, same_numbers, moved_length, body_moved, moved_numbered, is_found, find-append, row_is_first, no_rows, numbered_appended)
 
 pub moves_rows : (link : ℕ) (fate : Row → Fate) (rows : List Row) → IsNumbered rows → MovesTheLinksRows link fate rows
 moves_rows link fate rows numbered = grind (arith, length-filter_both, drop_at, numbers_fated, place_moved)
@@ -41,32 +40,24 @@ pub record Grows (Free : Type 0) (s t : State) : Type 0 where
   pub acked : (counts_of s.rows).acked ≤ (counts_of t.rows).acked
   pub total : Free → IsManaged s.settings → total_of (counts_of t.rows) ≡ total_of (counts_of s.rows)
 
-module _ (Free : Type 0) where
-  grows_then : (a b c : State) → Grows Free a b → Grows Free b c → Grows Free a c
-  grows_then a b c p q = grind arith
-
-  grows_kept : (s t : State) → t.settings ≡ s.settings → Kept s.rows t.rows → Grows Free s t
-  grows_kept s t same k = grind arith
-
-  grows_appended : (s : State) (routing : Routing) (body : List ℕ) (fate : Fate) → (Free → IsManaged s.settings → (service_indicator body == 0) ≡ true) → Grows Free s (record s { rows = appended s.rows body fate; routing = routing })
-  grows_appended s routing body fate order =
-      let stay = λ (numbered : IsNumbered s.rows). (messages_stay (λ f. false) fate (λ row. fate) s.rows numbered).others_stay body in
-      grind (arith, length_push, stay, total_is, filter-append, length-append, numbered_appended, order)
+grows_appended : (Free : Type 0) (s : State) (routing : Routing) (body : List ℕ) (fate : Fate) → (Free → IsManaged s.settings → (service_indicator body == 0) ≡ true) → Grows Free s (record s { rows = appended s.rows body fate; routing = routing })
+grows_appended Free s routing body fate order =
+    let stay = λ (numbered : IsNumbered s.rows). (messages_stay (λ f. false) fate (λ row. fate) s.rows numbered).others_stay body in
+    grind (arith, length_push, stay, total_is, filter-append, length-append, numbered_appended, order)
 
 pub step_grows : (s : State) (event : Event) → Grows (is_offer event ≡ false) s (step s event).state
 step_grows s event =
+    let grows_then : (Free : Type 0) (a b c : State) → Grows Free a b → Grows Free b c → Grows Free a c = λ Free a b c p q. grind arith in
+    let grows_kept : (Free : Type 0) (s t : State) → t.settings ≡ s.settings → Kept s.rows t.rows → Grows Free s t = λ Free s t same k. grind arith in
     let none_offered : (body : List ℕ) → event ≡ Offer body → is_offer event ≡ false → (service_indicator body == 0) ≡ true = λ body e other. absurd (let no : true ≡ false = sym (ap is_offer e) ∙ other in cc) in
     -- an order is the management's
     let order_managed : (order : Order) (settings : Settings) → IsManaged settings → (service_indicator (text order settings.sio settings.dpc settings.opc) == 0) ≡ true = λ order settings m. grind arith in
     -- where a message goes that is moved, or whose stream runs there, it isn't acknowledged
     let target_open : (to : Option ℕ) → was_acked (fate_on to) ≡ false = λ to. grind arith in
     let fate_open : (p : Place) (s : State) → was_acked (fate_at p s) ≡ false = λ p s. grind arith in
+    let kept_on = λ (n : ℕ) (rows new : List Row) (g : ChangesOn n rows new). g.kept in
     let same = λ (rows : List Row). (acknowledged 0 0 rows).kept in
-    let sends = λ (choice : Choice) (n : ℕ) (rows : List Row). (sent_by choice n rows).kept in
-    let acks = λ (n count : ℕ) (rows : List Row). (acknowledged n count rows).kept in
-    let sent_up = λ (n : ℕ) (cause : DiscardCause) (rows : List Row). (sent_given_up n cause rows).kept in
-    let waiting_up = λ (n : ℕ) (cause : DiscardCause) (rows : List Row). (waiting_given_up n cause rows).kept in
-    step_walks s (Grows (is_offer event ≡ false)) (Grows (is_offer event ≡ false) s) event (search (grows_then, grows_kept, grows_appended, moved_kept, same, target_open, order_managed, fate_open, none_offered))
+    step_walks s (Grows (is_offer event ≡ false)) (Grows (is_offer event ≡ false) s) event (search (kept_on, grows_then, grows_kept, grows_appended, moved_kept, same, target_open, order_managed, fate_open, none_offered))
 
 pub keeps_messages : (s : State) (event : Event) → IsNumbered s.rows → KeepsMessages s.rows (step s event).state.rows
 keeps_messages s event numbered = (step_grows s event).keeps numbered
@@ -92,10 +83,6 @@ few_turned test other fate zero rows = omega arith
 few_turned test other fate (suc n) [] = omega arith
 few_turned test other fate (suc n) (x ∷ rows) = grind (arith, few_turned test other fate n rows, few_turned test other fate (suc n) rows)
 
--- a move makes no unacknowledged ones
-few_moved : (test : Fate → Bool) (fate : Row → Fate) (m : ℕ) (rows : List Row) → ((row : Row) → is_unacked m (fate row) ≡ false) → length (unack m (moved test fate rows)) ≤ length (unack m rows)
-few_moved test fate m rows none = grind (arith, filter-append, fated_none, append-nil, filter_comm, fewer_filter)
-
 pub not_sent : (m : ℕ) (to : Option ℕ) → is_unacked m (fate_on to) ≡ false
 not_sent m to = grind arith
 
@@ -110,9 +97,6 @@ acked_few n link rows head msu = grind (arith, length-map)
 pub record GrowBy (more : ℕ) (s t : State) : Type 0 where
   pub each : (n : ℕ) (new : LinkState) → slice_get t.links n ≡ Some new → (old : LinkState) × (slice_get s.links n ≡ Some old) × (new.acked + length (unack n t.rows) ≤ old.acked + length (unack n s.rows) + more) × (new.accepted ≤ old.accepted + more)
 
-grow_then : (more : ℕ) (s t u : State) → GrowBy more s t → GrowBy 0 t u → GrowBy more s u
-grow_then more s t u p q = record { each = λ n new at. let y = q.each n new at in let x = p.each n y.0 y.1 in (x.0, x.1, omega (arith, x.2, y.2), omega (arith, x.3, y.3)) }
-
 module _ (more : ℕ) (s : State) (rows : List Row) (routing : Routing) (inbox : List (List ℕ)) (few : (m : ℕ) → length (unack m rows) ≤ length (unack m s.rows) + more) where
   grow_rows : GrowBy more s (record s { rows = rows; routing = routing; inbox = inbox })
   grow_rows = record { each = λ n new at. (new, at, omega (arith, few n), omega arith) }
@@ -123,18 +107,16 @@ module _ (more : ℕ) (s : State) (rows : List Row) (routing : Routing) (inbox :
 
 step_counts : (s : State) (event : Event) → GrowBy 1 s (step s event).state
 step_counts s event =
+    let grow_then : (more : ℕ) (s t u : State) → GrowBy more s t → GrowBy 0 t u → GrowBy more s u = λ more s t u p q. record { each = λ n new at. let y = q.each n new at in let x = p.each n y.0 y.1 in (x.0, x.1, omega (arith, x.2, y.2), omega (arith, x.3, y.3)) } in
     let few_sent : (choice : Choice) (m n : ℕ) (rows : List Row) → length (unack m (rows_sent choice n rows)) ≤ length (unack m rows) + 1 = λ choice m n rows. grind (arith, few_turned (is_waiting n) (is_unacked m) (Unacked n) 1 rows) in
-    -- what is acknowledged was sent
+    -- a move makes no unacknowledged ones, and what is acknowledged was sent
+    let few_moved : (test : Fate → Bool) (fate : Row → Fate) (m : ℕ) (rows : List Row) → ((row : Row) → is_unacked m (fate row) ≡ false) → length (unack m (moved test fate rows)) ≤ length (unack m rows) = λ test fate m rows none. grind (arith, filter-append, fated_none, append-nil, filter_comm, fewer_filter) in
     let acked_at_most : (more c n count : ℕ) (rows : List Row) → count ≤ length (unack n rows) → c + count + length (unack n (turned (is_unacked n) (Acked n) count rows)) ≤ c + length (unack n rows) + more = λ more c n count rows fits. grind (arith, turned_left, length-drop) in
     let at_most : (a b more : ℕ) → a ≤ b → a ≤ b + more = λ a b more few. omega arith in
     let sum_at_most : (d c a b more : ℕ) → d ≤ c → a ≤ b + more → d + a ≤ c + b + more = λ d c a b more e few. omega arith in
     let one_low : (a more : ℕ) (b : Bool) → 1 ≤ more → a + one_if b ≤ a + more = λ a more b some. grind arith in
-    let acked = λ (m n count : ℕ) (rows : List Row). (turned_there (is_unacked n) (Acked n) count rows).fewer (is_unacked m) in
-    let given_up = λ (m : ℕ) (test : Fate → Bool) (cause : DiscardCause) (rows : List Row). (changed_there test (Discarded cause) rows).fewer (is_unacked m) in
+    let fewer = λ (m count : ℕ) (test : Fate → Bool) (fate : Fate) (rows : List Row). (turned_there test fate count rows).fewer (is_unacked m) in
     step_walks s (GrowBy 0) (GrowBy 1 s) event (search (le_refl, zero-le, grow_then, grow_rows, grow_set, acked_at_most, few_moved, appended_out, not_sent, offered_out, few_sent, acked_few, arith, at_most, sum_at_most, one_low))
 
 pub step_at_most : (s : State) (event : Event) (k : ℕ → WholeNumbers) → AreAtMost k s → AreAtMost (λ n. one_more (k n)) (step s event).state
 step_at_most s event k few n link there = let g = (step_counts s event).each n link there in let f = few n g.0 g.1 in grind (arith, f, g)
-
-pub step_few : (s : State) (event : Event) (events : ℕ) → AreFew events s → AreFew (events + 1) (step s event).state
-step_few s event events few = step_at_most s event (λ n. record { sent = events; accepted = events }) few

@@ -1,14 +1,15 @@
 -- THE WALK over the cases of the step, once: what each small change keeps, every event keeps.
-use Rattle.std.proofs.Common.{refl, arith, ◌≡◌, ◌<◌, ◌≤◌, length, ℕ, zero, suc, ◌+◌, Bool, true, false, ◌⊎◌, List, [], ◌∷◌, ◌++◌, slice_get, Option, Some, None, inr}
+use Rattle.std.proofs.Common.{refl, arith, ◌≡◌, ◌<◌, ◌≤◌, length, ℕ, zero, suc, ◌+◌, Bool, true, false, ◌⊎◌, List, [], ◌∷◌, ◌++◌, slice_get, Option, Some, None, inr, cond}
 use Rattle.std.proofs.lemmas.Bool.{cond_both}
 use Rattle.l3_orders.specs.Grammar.{link_of, order_of}
 use Rattle.set_route.specs.Routing.{code_for, home_of}
 use Rattle.set_model.specs.Step.{SignalUnit, Event, BackTimeout, DownEvent, DownBlind, Heard, Next, NoAnswer, Offer, Take, UpEvent, step, Outcome, brought, controlled, controls, falls, in_service, next, offer_refusal, offered, part_in, rises, taken, takes, stepped}
-use Rattle.set_model.specs.Changeover.{Order, Cba, Cbd, Coa, Reached, Unanswered, Unknown, Upto, acknowledged_by, answered, can_declare, changed_over, declared, declared_from, leaving_order, left_by, left_link, moved_over, order_obeyed, queued, released, released_from, settled}
+use Rattle.set_model.specs.Changeover.{Order, Cba, Cbd, Coa, Reached, Unanswered, Unknown, Upto, acknowledged_by, answered, can_declare, changed_over, declared, declared_from, leaving_order, left_by, left_link, moved_over, order_obeyed, queued, reached_by, released, released_from, settled}
 use Rattle.set_model.specs.Frame.{BringsAbout, BringsBackTo, Concerns}
 use Rattle.set_model.specs.Rows.{DiscardCause, Emergency, NoAnswer as NoAnswerCame, Unreasonable, Discarded, changed, is_unacked, is_waiting, unack}
 use Rattle.set_model.specs.Sound.{BeginsNone}
 use Rattle.set_model.specs.State.{Phase, Down, Settled, Up, LinkState, State, is_up, last_accepted}
+use Rattle.set_model.proofs.Events.{ChangesOn, Unparked, acknowledged, given_up, sent_by, unparked}
 use Rattle.set_model.proofs.Lists.{within, get_set_same}
 use Rattle.std.proofs.lemmas.List.{length-set}
 
@@ -25,9 +26,8 @@ pub record KeptBy (Known : ℕ → Type 0) (May : Type 0) (R : State → State �
   pub delivers : (body : List ℕ) (s : State) → R s (record s { inbox = s.inbox ++ body ∷ [] })
   pub queues : (order : Order) (s : State) → R s (queued order s)
   pub leaves : (blind : Bool) (n : ℕ) (link : LinkState) (s : State) → Known n → IsAt n link Up s → R s (left_by blind n link s)
-  pub acknowledges : (count n : ℕ) (link : LinkState) (s : State) → Known n → IsAt n link Down s → count ≤ length (unack n s.rows) → R s (acknowledged_by count n link s)
-  pub gives_up_sent : (cause : DiscardCause) (n : ℕ) (link : LinkState) (s : State) → Known n → IsAt n link Down s → R s (record s { rows = changed (is_unacked n) (Discarded cause) s.rows })
-  pub gives_up_waiting : (cause : DiscardCause) (n : ℕ) (link : LinkState) (s : State) → Known n → IsAt n link Down s → R s (record s { rows = changed (is_waiting n) (Discarded cause) s.rows })
+  pub acknowledges : (count n : ℕ) (link : LinkState) (s : State) → Known n → IsAt n link Down s → count ≤ length (unack n s.rows) → ChangesOn n s.rows (acknowledged_by count n link s).rows → R s (acknowledged_by count n link s)
+  pub gives_up : (sent : Bool) (cause : DiscardCause) (n : ℕ) (link : LinkState) (s : State) → Known n → IsAt n link Down s → ChangesOn n s.rows (changed (cond sent (is_unacked n) (is_waiting n)) (Discarded cause) s.rows) → R s (record s { rows = changed (cond sent (is_unacked n) (is_waiting n)) (Discarded cause) s.rows })
   pub moves_off : (n : ℕ) (link : LinkState) (s : State) → Known n → IsAt n link Down s → R s (moved_over n link s)
   pub declares : May → (home alternative : ℕ) (s : State) → is_up home s ≡ true → can_declare home alternative s ≡ true → R s (declared home alternative s)
   pub releases : (code : ℕ) (s : State) → Known (home_of code) → R s (released code s)
@@ -38,20 +38,22 @@ Touches order n = (link_of order ≡ n) ⊎ ((link code : ℕ) × (order ≡ Cba
 
 module _ (Known : ℕ → Type 0) (May : Type 0) (R : State → State → Type 0) (k : KeptBy Known May R) where
   -- settling
-  given_up : (cause : DiscardCause) (n : ℕ) (link : LinkState) (s : State) → Known n → IsAt n link Down s → R s (record s { rows = changed (is_waiting n) (Discarded cause) (changed (is_unacked n) (Discarded cause) s.rows) })
-  given_up cause n link s known at =
+  both_given_up : (cause : DiscardCause) (n : ℕ) (link : LinkState) (s : State) → Known n → IsAt n link Down s → R s (record s { rows = changed (is_waiting n) (Discarded cause) (changed (is_unacked n) (Discarded cause) s.rows) })
+  both_given_up cause n link s known at =
       let mid : State = record s { rows = changed (is_unacked n) (Discarded cause) s.rows } in
-      k.after s mid (record mid { rows = changed (is_waiting n) (Discarded cause) mid.rows }) (k.gives_up_sent cause n link s known at) (k.gives_up_waiting cause n link mid known (record { there = at.there; phase_is = at.phase_is }))
+      k.after s mid (record mid { rows = changed (is_waiting n) (Discarded cause) mid.rows }) (k.gives_up true cause n link s known at (given_up n true cause s.rows)) (k.gives_up false cause n link mid known (record { there = at.there; phase_is = at.phase_is }) (given_up n false cause mid.rows))
 
   off : (n : ℕ) (link : LinkState) (s mid : State) → Known n → R s mid → IsAt n link Down mid → R s (moved_over n link mid)
   off n link s mid known r at = k.after s mid (moved_over n link mid) r (k.moves_off n link mid known at)
 
   pub settle_walks : (reached : Reached) (n : ℕ) (link : LinkState) (s : State) → Known n → IsAt n link Down s → R s (settled reached n link s)
-  settle_walks Unknown n link s known at = off n link s _ known (k.gives_up_sent Emergency n link s known at) (record { there = at.there; phase_is = at.phase_is })
-  settle_walks Unanswered n link s known at = off n link s _ known (given_up NoAnswerCame n link s known at) (record { there = at.there; phase_is = at.phase_is })
+  settle_walks Unknown n link s known at = off n link s _ known (k.gives_up true Emergency n link s known at (given_up n true Emergency s.rows)) (record { there = at.there; phase_is = at.phase_is })
+  settle_walks Unanswered n link s known at = off n link s _ known (both_given_up NoAnswerCame n link s known at) (record { there = at.there; phase_is = at.phase_is })
   settle_walks (Upto fsn) n link s known at =
-      let refused = off n link s _ known (given_up Unreasonable n link s known at) (record { there = at.there; phase_is = at.phase_is }) in
-      grind (arith, get_set_same, within, refused)
+      let refused = off n link s _ known (both_given_up Unreasonable n link s known at) (record { there = at.there; phase_is = at.phase_is }) in
+      let count = reached_by fsn n link s.rows in
+      let arrived = λ (few : count ≤ length (unack n s.rows)). k.acknowledges count n link s known at few (acknowledged n count s.rows).in_place in
+      grind (arith, get_set_same, within, refused, arrived)
 
   -- orders
   over_walks : (reached : Reached) (n : ℕ) (link : LinkState) (phase : Phase) (s : State) → Known n → IsAt n link phase s → R s (changed_over reached n link phase s).state
@@ -91,12 +93,9 @@ pub record WalkedBy (s : State) (event : Event) (R : State → State → Type 0)
   pub rests : (t u : State) → S t → R t u → S u
   pub offers : (body : List ℕ) → event ≡ Offer body → offer_refusal s.rows body ≡ None → S (offered None s body).state
   pub takes : (body : List ℕ) (rest : List (List ℕ)) → event ≡ Take → s.inbox ≡ body ∷ rest → S (record s { inbox = rest })
-  pub sends : (n : ℕ) (link : LinkState) → event ≡ Next n → IsAt n link Up s → S (next n s link).state
-  pub hears : (n : ℕ) (unit : SignalUnit) (link : LinkState) → event ≡ Heard n unit → IsAt n link Up s → S (controlled unit n s link)
-  pub rises : (n : ℕ) (link : LinkState) → event ≡ UpEvent n → IsAt n link Settled s → S (rises n s Settled).state
-
-brought_either : (accept : Bool) (unit : SignalUnit) (b : List ℕ) → brought accept unit ≡ Some b → (o : Order) → order_of b ≡ Some o → (n : ℕ) → Touches o n → BringsAbout n unit ⊎ BringsBackTo n unit
-brought_either accept unit b e o f n touches = grind arith
+  pub sends : (n : ℕ) (link : LinkState) → event ≡ Next n → IsAt n link Up s → ChangesOn n s.rows (next n s link).state.rows → S (next n s link).state
+  pub hears : (n : ℕ) (unit : SignalUnit) (link : LinkState) → event ≡ Heard n unit → IsAt n link Up s → ChangesOn n s.rows (controlled unit n s link).rows → S (controlled unit n s link)
+  pub rises : (n : ℕ) (link : LinkState) → event ≡ UpEvent n → IsAt n link Settled s → Unparked n s.rows (rises n s Settled).state.rows → S (rises n s Settled).state
 
 module _ (s : State) (R : State → State → Type 0) (S : State → Type 0) where
   in_walks : (n : ℕ) (f : LinkState → Outcome) → S s → ((link : LinkState) → IsAt n link Up s → S (f link).state) → S (in_service n s f).state
@@ -108,11 +107,12 @@ module _ (s : State) (R : State → State → Type 0) (S : State → Type 0) whe
   hear_walks : (n : ℕ) (unit : SignalUnit) (link : LinkState) → WalkedBy s (Heard n unit) R S → IsAt n link Up s → S (controls unit n s link).state
   hear_walks n unit link w at =
       let part = part_in unit n link s in
-      w.rests _ (controls unit n s link).state (w.hears n unit link refl at)
-      (takes_walks (λ m. Concerns (Heard n unit) m s) (BeginsNone (Heard n unit) → ⊥) R w.small (brought part.accept unit) _ (λ b e o f m g. inr (brought_either part.accept unit b e o f m g)))
+      let either : (accept : Bool) (unit : SignalUnit) (b : List ℕ) → brought accept unit ≡ Some b → (o : Order) → order_of b ≡ Some o → (m : ℕ) → Touches o m → BringsAbout m unit ⊎ BringsBackTo m unit = λ accept unit b e o f m touches. grind arith in
+      w.rests _ (controls unit n s link).state (w.hears n unit link refl at (acknowledged n part.acked s.rows).in_place)
+      (takes_walks (λ m. Concerns (Heard n unit) m s) (BeginsNone (Heard n unit) → ⊥) R w.small (brought part.accept unit) _ (λ b e o f m g. inr (either part.accept unit b e o f m g)))
 
   rise_walks : (n : ℕ) (link : LinkState) → WalkedBy s (UpEvent n) R S → slice_get s.links n ≡ Some link → S (rises n s link.phase).state
-  rise_walks n link w there = let rise = w.rises n link refl in grind (arith, rise)
+  rise_walks n link w there = let rise = λ (at : IsAt n link Settled s). w.rises n link refl at (unparked n s.rows) in grind (arith, rise)
 
   fall_walks : (event : Event) (blind : Bool) (n : ℕ) (link : LinkState) → WalkedBy s event R S → Concerns event n s → IsAt n link Up s → S (falls blind n s link).state
   fall_walks event blind n link w known at =
@@ -129,7 +129,8 @@ module _ (s : State) (R : State → State → Type 0) (S : State → Type 0) whe
       grind (arith, release)
   step_walks (DownEvent n) w = in_walks n _ w.unmoved (λ link at. fall_walks (DownEvent n) false n link w refl at)
   step_walks (DownBlind n) w = in_walks n _ w.unmoved (λ link at. fall_walks (DownBlind n) true n link w refl at)
-  step_walks event w = grind (arith, w.sends, hear_walks, rise_walks, declare_walks)
+  step_walks (Next n) w = in_walks n _ w.unmoved (λ link at. w.sends n link refl at (sent_by _ n s.rows))
+  step_walks event w = grind (arith, hear_walks, rise_walks, declare_walks)
 
 -- The sealed step is its cases.
 pub step_is : (s : State) (event : Event) → step s event ≡ stepped s event

@@ -173,10 +173,13 @@ abbrev pub answered : Reached → ℕ → LinkState → Phase → State → Obey
 answered reached number link Down s = record { took = TookOrder; state = settled reached number link s }
 answered reached number link _ s = ignored s
 
--- an order for a link that doesn't exist is ignored
+-- an order for a link that doesn't exist is ignored; what is done for another goes by its phase
 abbrev pub at_link : ℕ → State → (LinkState → Obeyed) → Option LinkState → Obeyed
 at_link number s obeyed None = ignored s
 at_link number s obeyed (Some link) = obeyed link
+
+abbrev pub obeyed_at : ℕ → (LinkState → Phase → State → Obeyed) → State → Obeyed
+obeyed_at number obeyed s = at_link number s (λ link. obeyed link link.phase s) (slice_get s.links number)
 
 -- (Q.704 6.3) an acknowledgement of a code in no use is ignored
 abbrev pub acknowledged_back : ℕ → Code → State → Obeyed
@@ -186,14 +189,10 @@ acknowledged_back code _ s = record { took = TookOrder; state = released code s 
 -- the link of the order need not be the one that it was heard on; a declaration is acknowledged, whatever its code
 -- (Q.704 6.3)
 abbrev pub order_obeyed : Order → State → Obeyed
-order_obeyed (Coo number fsn) s =
-    at_link number s (λ link. changed_over (Upto fsn) number link link.phase s) (slice_get s.links number)
-order_obeyed (Eco number) s =
-    at_link number s (λ link. changed_over Unknown number link link.phase s) (slice_get s.links number)
-order_obeyed (Coa number fsn) s =
-    at_link number s (λ link. answered (Upto fsn) number link link.phase s) (slice_get s.links number)
-order_obeyed (Eca number) s =
-    at_link number s (λ link. answered Unknown number link link.phase s) (slice_get s.links number)
+order_obeyed (Coo number fsn) s = obeyed_at number (changed_over (Upto fsn) number) s
+order_obeyed (Eco number) s = obeyed_at number (changed_over Unknown number) s
+order_obeyed (Coa number fsn) s = obeyed_at number (answered (Upto fsn) number) s
+order_obeyed (Eca number) s = obeyed_at number (answered Unknown number) s
 order_obeyed (Cbd number code) s = record { took = TookOrder; state = queued (Cba number code) s }
 order_obeyed (Cba number code) s = acknowledged_back code (code_of code s.routing) s
 

@@ -4,7 +4,7 @@ use Rattle.std.specs.Prelude.{◌≡◌, ℕ, suc, zero, ◌==◌, ◌+◌, ◌%
 pub use Rattle.set_events.specs.declared.answer.Fate.{Fate}
 pub use Rattle.set_events.specs.declared.answer.Fate.TheVariants.{Waiting, Unacked, Held, Back, Acked, Discarded, Parked}
 use Rattle.set_events.specs.declared.answer.Counts.{Counts}
-pub use Rattle.set_events.specs.Places.{waits, was_sent, was_acked, was_held, is_parked, stands_back, was_discarded, is_unsent}
+pub use Rattle.set_events.specs.Places.{waits, was_sent, was_acked, was_held, is_parked, stands_back, was_discarded, is_unsent, same_fate}
 use Rattle.set_route.specs.Routing.{home_of}
 pub use Rattle.set_events.specs.declared.answer.DiscardCause.{DiscardCause}
 pub use Rattle.set_events.specs.declared.answer.DiscardCause.TheVariants.{Emergency, NoAnswer, Unreasonable}
@@ -18,16 +18,13 @@ pub record Row : Type 0 where
 -- Where a row stands: on one link.
 
 abbrev pub is_waiting : ℕ → Fate → Bool
-is_waiting link (Waiting l) = l == link
-is_waiting link _ = false
+is_waiting link fate = same_fate fate (Waiting link)
 
 abbrev pub is_unacked : ℕ → Fate → Bool
-is_unacked link (Unacked l) = l == link
-is_unacked link _ = false
+is_unacked link fate = same_fate fate (Unacked link)
 
 abbrev pub is_held : ℕ → Fate → Bool
-is_held link (Held l) = l == link
-is_held link _ = false
+is_held link fate = same_fate fate (Held link)
 
 -- it isn't settled what becomes of it on the link: it waits for it, was sent on it, or is held for it
 abbrev pub is_on : ℕ → Fate → Bool
@@ -38,8 +35,7 @@ is_on link _ = false
 
 -- it waits for the acknowledgement of this changeback code, or of one of this home (Q.704 6.3)
 abbrev pub is_back : ℕ → Fate → Bool
-is_back code (Back c) = c == code
-is_back code _ = false
+is_back code fate = same_fate fate (Back code)
 
 abbrev pub is_back_to : ℕ → Fate → Bool
 is_back_to home (Back c) = home_of c == home
@@ -112,7 +108,7 @@ turned test fate (suc n) (row ∷ rows) =
 
 -- all of them, in their places
 abbrev pub changed : (Fate → Bool) → Fate → List Row → List Row
-changed test fate rows = map (λ row. if test row.fate then with_fate fate row else row) rows
+changed test fate rows = turned test fate (length rows) rows
 
 -- the fate that each row has then, told by the row
 abbrev pub fated : (Row → Fate) → Row → Row

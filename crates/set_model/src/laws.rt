@@ -1,4 +1,6 @@
 //! Laws that speak of states alone.
+#![tactic(auto, using(crate::proofs::Soundness::laws))]
+
 ghost use Rattle.std.specs.Prelude.{◌≡◌, ℕ, ◌<◌, Bool, true, List, slice_get, Some};
 ghost use Rattle.set_model.specs.Rows.{Fate, Row, IsNumbered};
 ghost use Rattle.set_model.specs.State.{Up, Down, Settled, LinkState, State, Settings, opened_with, target};
@@ -31,7 +33,6 @@ pub fn no_event_changes_a_message()
 
 /// Once a link has settled no message stands on it: none that was sent and isn't acknowledged, none that
 /// waits for it, and none that is held for it (Q.704 5.5).
-#[tactic(auto, using(crate::proofs::Settling::settled_empty))]
 pub fn a_settled_link_is_empty()
     ensures { (s : State) (number : ℕ) (link : LinkState) → IsSound s → slice_get s.links number ≡ Some link
         → link.phase ≡ Settled → IsEmptyLink number s.rows }
@@ -48,7 +49,6 @@ pub fn settling_moves_the_rest()
 /// A changeover diverts exactly the messages past those that the far end has, in order: the rest of what was
 /// sent, then what waited, then what was held, behind all that waited for the target before, or, where no link
 /// is up, behind what was parked (Q.704 5.5).
-#[tactic(auto, using(crate::proofs::Settling::diverts_the_rest))]
 pub fn a_changeover_diverts_the_rest()
     ensures { (fsn number : ℕ) (link : LinkState) (s : State) → IsSound s → slice_get s.links number ≡ Some link
         → link.phase ≡ Down → is_reasonable fsn number link s.rows ≡ true
@@ -82,6 +82,7 @@ pub fn every_step_keeps_a_set_sound()
 /// An event leaves all links alone that it doesn't concern: its own link, that of an order which its unit
 /// brings, and the one on which an offered message's stream runs. Messages can come to wait for another
 /// one, last, if it's up.
+#[tactic(auto, using(crate::proofs::Soundness::step_laws))]
 pub fn an_event_leaves_the_rest_alone()
     ensures { (number : ℕ) (s : State) (event : Event) → (Concerns event number s → ⊥)
         → LeavesAlone number s (step s event).state }
@@ -96,7 +97,6 @@ pub fn a_window_moves_as_its_control()
 
 /// While no changeback is under way, and none begins, the messages of each stream that aren't finished
 /// stand together where the stream runs, in the order of their numbers.
-#[tactic(auto, using(crate::proofs::Soundness::step_straight))]
 pub fn streams_stay_together()
     ensures { (s : State) (event : Event) → IsAsked event → BeginsNone event → IsSound s → RunsStraight s
         → RunsStraight (step s event).state }

@@ -1,15 +1,9 @@
 -- A declaration goes out on each link from which streams come back.
-use Rattle.std.proofs.Common.{arith, ◌≡◌, ap, sym, subst, ◌≤◌, ◌<◌, ◌+◌, ◌-◌, ◌||◌, ℕ, zero, suc, true, false, Bool, length}
-use Rattle.std.proofs.lemmas.Bool.Decides.{nat_tests}
-use Rattle.set_queues.specs.Bodies.{CanHold}
-use Rattle.set_queues.specs.Buffers.{Waiting, TakesRoom}
-use Rattle.set_model.specs.Step.{Order}
-use Rattle.set_route.specs.Routing.{is_free}
-use Rattle.set_model.specs.Changeover.{acknowledged_back, released}
-use Rattle.set_model.specs.State.{Code, State, link_count}
+use Rattle.std.proofs.Common.{◌-◌, ◌||◌, ◌<◌, arith, ◌≡◌, ap, sym, ◌+◌, ℕ, zero, suc, length}
+use Rattle.set_model.specs.Changeover.{can_declare, some_declare}
+use Rattle.set_model.specs.State.{State, link_count}
 use Rattle.set_moves.specs.Agreement.{StandsFor}
-use Rattle.set_moves.specs.Room.{HasRoomFrom}
-use Rattle.set_moves.specs.Parts.{Parts, Becomes, Obeys, kept_of}
+use Rattle.set_moves.specs.Parts.{Parts, Becomes, kept_of}
 
 -- SO MANY STEPS, from one on: the last of them comes last
 module _ (run : ℕ → ℕ → State → State) (step : ℕ → State → State) (none : (from : ℕ) (s : State) → run from 0 s ≡ s) (next : (from n : ℕ) (s : State) → run from (suc n) s ≡ run (suc from) n (step from s)) where
@@ -20,33 +14,9 @@ module _ (run : ℕ → ℕ → State → State) (step : ℕ → State → State
   pub becomes_next : (n from at : ℕ) (old now new : Parts) → at ≡ from + n → Becomes old now (run from n) → Becomes now new (step at) → Becomes old new (run from (n + 1))
   becomes_next n from at old now new is before last s f = rw (last_step n from s, ← is) (last (run from n s) (before s f))
 
--- WHETHER ANY OF SO MANY IS SUCH, from one on
-module _ (some : ℕ → ℕ → Bool) (such : ℕ → Bool) (none : (from : ℕ) → some from 0 ≡ false) (next : (from n : ℕ) → some from (suc n) ≡ (such from || some (suc from) n)) where
-  pub none_more : (n from at : ℕ) → at ≡ from + n → some from n ≡ false → such at ≡ false → some from (n + 1) ≡ false
-  none_more zero from at is e f = grind (arith, none, next)
-  none_more (suc n) from at is e f = grind (arith, next, none_more n (suc from) at)
-
-  pub found_at : (n m from at : ℕ) → at ≡ from + n → such at ≡ true → n < m → some from m ≡ true
-  found_at n zero from at is e low = absurd (omega arith)
-  found_at zero (suc m) from at is e low = grind (arith, next)
-  found_at (suc n) (suc m) from at is e low = grind (arith, next, found_at n m (suc from) at)
-
--- ROOM on the links that are left, once one was taken
-pub room_after : (n : ℕ) (old new : Parts) → HasRoomFrom n old → new.links ≡ old.links → TakesRoom (Waiting n) 1 old.queues.rooms new.queues.rooms → old.queues.room ≤ new.queues.room + 1 → ((more : ℕ) → CanHold (more + 1) old.bodies → CanHold more new.bodies) → n < 16
-    → HasRoomFrom (n + 1) new
-room_after n old new r links takes message body low = record {
-  message = let m = r.message in omega (arith, m, message);
-  body = body (16 - (n + 1)) (subst (λ (more : ℕ). CanHold more old.bodies) (let same : 16 - n ≡ 16 - (n + 1) + 1 = omega (arith, low) in same) r.body);
-  each = λ link far low. let kept = takes (Waiting link) in grind (arith, nat_tests, r.each link);
-}
-
--- or none was
-pub room_later : (n : ℕ) (parts : Parts) → HasRoomFrom n parts → HasRoomFrom (n + 1) parts
-room_later n parts r = record { message = let m = r.message in omega (arith, m); body = let b = r.body in (omega (arith, b.0), omega (arith, b.1)); each = λ link far low. r.each link (omega (arith, far)) low }
-
 pub count_is : (parts : Parts) (s : State) → StandsFor (kept_of parts) s → link_count s ≡ length parts.links.items
 count_is parts s f = sym (ap length f.links)
 
--- an acknowledgement of a code that is in use
-pub in_use : (code : ℕ) (x : Code) (s : State) (parts : Parts) → is_free x ≡ false → StandsFor (kept_of parts) (released code s) → Obeys (acknowledged_back code x s) Order parts
-in_use code x s parts used stands = grind arith
+-- one of so many that are left declares, or one after it
+pub declares_next : (home n count : ℕ) (s : State) → n < count → some_declare home n (count - n) s ≡ (can_declare home n s || some_declare home (n + 1) (count - (n + 1)) s)
+declares_next home n count s low = let more : count - n ≡ suc (count - (n + 1)) = omega (arith, low) in grind (arith, more)

@@ -1,24 +1,23 @@
 -- One link of the list changes, and what the list stands for with it.
-use Rattle.std.proofs.Common.{arith, ◌≡◌, ◌∙◌, ap, sym, ◌<◌, ℕ, List, map, length, slice_get, slice_set, slice_index_or, Some, ◌≢◌, false, Option, ◌==◌, IfSome, refl, subst, ◌≤◌, None, Bool, option_map, true, [], drop}
-use Rattle.std.proofs.lemmas.Option.{slice_get-get_or, slice_get_past}
-use Rattle.set_moves.specs.Parts.{Link, Parts, kept_of, AtLink, IsOut, Gives, Obeys, AllObey, obeyed_at, Phase, Down, IsWhole, IsCounted, AreCounted}
+use Rattle.std.proofs.Common.{arith, ◌≡◌, ◌∙◌, ap, sym, ◌<◌, ℕ, List, map, length, slice_get, slice_set, slice_index_or, Some, ◌≢◌, false, Option, IfSome, refl, subst, ◌≤◌, None, option_map, true, [], drop}
+use Rattle.std.proofs.lemmas.Option.{slice_get-get_or}
+use Rattle.set_moves.specs.Parts.{Link, Parts, kept_of, AtLink, IsOut, Gives, Phase, Down, IsWhole, IsCounted, AreCounted}
 use Rattle.std.proofs.lemmas.List.{length-map, length-drop}
 use Rattle.set_moves.specs.Agreement.{Agrees, Holds}
 use Rattle.set_model.specs.State.{LinkState, State, has_phase_up, target}
-use Rattle.set_model.proofs.Lists.{map_at, map_set, map_set_same, same_at, at_map, present, target_up, within, set_same, at_set, get_set_same, length_set}
-use Rattle.std.proofs.lemmas.Bool.{ne_eqb}
+use Rattle.set_model.proofs.Lists.{map_at, map_set, map_set_same, same_at, present, target_up, within, set_same, at_set}
 use Rattle.std.proofs.lemmas.Simd.{map-map}
-use Rattle.set_queues.specs.Buffers.{Fate, Lists, IsKnown, Waiting, Unacked, Held, TakesRoom, same_fate, with_queue, room_at, is_standing, queue_at}
-use Rattle.set_queues.proofs.Soundness.{IsAside, aside_of, room_left, on_length, queue_last}
-use Rattle.set_model.specs.Changeover.{fate_on, Obeyed, ignored, at_link, answered}
+use Rattle.set_queues.specs.Buffers.{Fate, Lists, IsKnown, Waiting, Unacked, Held, with_queue, room_at, is_standing, queue_at}
+use Rattle.set_queues.proofs.Soundness.{IsAside, aside_of, on_length, queue_last}
+use Rattle.set_model.specs.Changeover.{fate_on}
 use Rattle.set_route.specs.Target.{target_of}
 use Rattle.set_moves.specs.Room.{SameButRoom, HasRoom, IsReady, target_beside}
 pub use Rattle.set_moves.specs.Parts.{Link, Parts, Phase, Up, Down, Settled, Unanswered, Reached, IsHere}
-use Rattle.set_model.specs.Step.{Answer, Refused, NoSuchLink, Took, Ignored, Outcome, on_link, in_service}
+use Rattle.set_model.specs.Step.{Answer, Outcome, on_link, in_service}
 use Rattle.std.proofs.lemmas.Bool.Decides.{nat_tests}
 use Rattle.set_queues.specs.Backs.{back_count}
 use Rattle.set_queues.specs.Settling.{on}
-use Rattle.set_queues.proofs.Standing.{queue_away, queue_set}
+use Rattle.set_queues.proofs.Standing.{queue_set}
 use Rattle.set_moves.specs.Turning.{TakesTurns}
 use Rattle.set_queues.specs.Sending.{acknowledged, reach}
 
@@ -49,23 +48,13 @@ pub same_target : (old new : List Link) → map (λ (link : Link). link.phase) n
 same_target old new e = ap target_of (same_ups old new e)
 
 -- the place of what leaves a link that is out of service: it's known, and no queue of the link
-pub record IsPlace (n : ℕ) (o : Option ℕ) (to : Fate) (q : Lists) : Type 0 where
-  pub aside : IsAside n to q
-  pub apart : IfSome o (λ t. t ≢ n)
-  pub off : (t : ℕ) → o ≡ Some t → (n == t) ≡ false
-
-pub place_for : {links read : List Link} (n : ℕ) (o : Option ℕ) (to : Fate) (q : Lists) → read ≡ links → o ≡ target read → IfSome o (λ t. t < length read) → to ≡ fate_on o → length q.links ≡ length links → n < length links → AtLink n links IsOut → IsPlace n o to q
+pub place_for : {links read : List Link} (n : ℕ) (o : Option ℕ) (to : Fate) (q : Lists) → read ≡ links → o ≡ target read → IfSome o (λ t. t < length read) → to ≡ fate_on o → length q.links ≡ length links → n < length links → AtLink n links IsOut → IsAside n to q × IfSome o (λ t. t ≢ n)
 place_for {links} {read} n o to q same is below there many known out =
     let x = present links n known in
     let down = out x.0 x.1 in
-    let other : (t : ℕ) → o ≡ Some t → n ≢ t = λ t e. grind (arith, same_at, target_up) in
-    let apart : IfSome o (λ t. t ≢ n) = grind arith in
+    let apart : IfSome o (λ t. t ≢ n) = grind (arith, same_at, target_up) in
     let known_to : IsKnown (fate_on o) q = grind arith in
-    record { aside = aside_of o n to q there (omega (arith, many, known)) known_to apart; apart = apart; off = λ t e. ne_eqb n t (other t e) }
-
--- a link of a list with the same phases
-pub phase_at : (old new : List Link) (n : ℕ) (link : Link) → map (λ (l : Link). l.phase) new ≡ map (λ (l : Link). l.phase) old → slice_get new n ≡ Some link → (x : Link) × (slice_get old n ≡ Some x) × (x.phase ≡ link.phase)
-phase_at old new n link e there = at_map (λ (l : Link). l.phase) old n link.phase (ap (λ phases. slice_get phases n) (sym e) ∙ map_at (λ (l : Link). l.phase) new n link there)
+    (aside_of o n to q there (omega (arith, many, known)) known_to apart, apart)
 
 -- What an event of a link does where the link is there, and as the event needs it.
 -- the same of the state that the links stand for
@@ -80,31 +69,6 @@ served s n outcome answer parts i g = rw i.there (rw (ap has_phase_up i.phase_is
 pub known_here : (old parts : Parts) (s : State) (n : ℕ) (answer : Answer) (outcome : Outcome) → Agrees (kept_of old) s → n < length old.links.items → Gives outcome answer parts → Gives (on_link n s (λ link. outcome)) answer parts
 known_here old parts s n answer outcome a known g = rw (← a.stands.links, (present old.links.items n known).1) g
 
--- A refusal changes nothing.
-pub unknown : (parts : Parts) (s : State) (a : Agrees (kept_of parts) s) (n : ℕ) (outcome : LinkState → Outcome) → length parts.links.items ≤ n → Gives (on_link n s outcome) (Refused NoSuchLink) parts
-unknown parts s a n outcome few = rw (ap (λ links. slice_get links n) (sym a.stands.links) ∙ slice_get_past parts.links.items n few) (record { answer_is = refl; stands = a.stands })
-
--- An order changes nothing at a link that it isn't for, as its phase or that there is none tells,
-pub ignores : {o : Option Phase} (parts : Parts) (n : ℕ) (obeyed : LinkState → Phase → State → Obeyed) → o ≡ option_map (λ (l : Link). l.phase) (slice_get parts.links.items n) → ((phase : Phase) → o ≡ Some phase → (link : LinkState) (s : State) → obeyed link phase s ≡ ignored s)
-    → AllObey parts parts Ignored (obeyed_at n obeyed)
-ignores parts n obeyed is none s a = rw (ap (λ links. slice_get links n) (sym a.stands.links)) (rw (nothing (slice_get parts.links.items n) (λ link e. none link.phase (is ∙ ap (option_map (λ (l : Link). l.phase)) e) link s)) (record { took_is = refl; stands = a.stands }))
-  where
-    nothing : (o : Option Link) → ((link : Link) → o ≡ Some link → obeyed link link.phase s ≡ ignored s) → at_link n s (λ link. obeyed link link.phase s) (o) ≡ ignored s
-    nothing None h = refl
-    nothing (Some link) h = h link refl
-
--- as at one for which no acknowledgement is waited for,
-pub unanswered : (reached : Reached) (n : ℕ) (o : Option Phase) → (o ≡ Some Down → ⊥) → (phase : Phase) → o ≡ Some phase → (link : LinkState) (s : State) → answered reached n link phase s ≡ ignored s
-unanswered reached n o other phase is link s = grind arith
-
--- and is obeyed at one in its phase
-pub obeys_at : {new : Parts} {n : ℕ} {phase : Phase} {took : Took} (parts : Parts) (obeyed : LinkState → Phase → State → Obeyed) → IsHere parts.links.items n phase
-    → ((s : State) (link : LinkState) → slice_get s.links n ≡ Some link → link.phase ≡ phase → Agrees (kept_of parts) s → Obeys (obeyed link phase s) took new)
-    → AllObey parts new took (obeyed_at n obeyed)
-obeys_at {new} {n} {phase} {took} parts obeyed h done s a =
-    let i = is_in parts s n phase a h in
-    rw i.there (subst (λ p. Obeys (obeyed i.link p s) took new) (sym i.phase_is) (done s i.link i.there i.phase_is a))
-
 pub phase_here : (links : List Link) (n : ℕ) (o : Option Link) → slice_get links n ≡ o → IfSome (option_map (λ (l : Link). l.phase) o) (IsHere links n)
 phase_here links n None e = tt
 phase_here links n (Some link) e = record { link = link; there = e; phase_is = refl; known = within links n link e }
@@ -117,13 +81,8 @@ out_at links n phase h e link there = ap (λ (l : Link). has_phase_up l.phase) (
 pub agrees_same : (old new : Parts) (s : State) → SameButRoom old new → Agrees (kept_of old) s → Agrees (kept_of new) s
 agrees_same old new s same a = subst (λ k. Agrees k s) (sym same.kept) a
 
--- Room that was taken, as orders and moved messages need it.
-ups_of : List Link → List Bool
-ups_of links = map (λ (link : Link). has_phase_up link.phase) links
-
 -- THE TARGET beside a link that is out, and once it's left
 pub beside_out : (links : List Link) (n : ℕ) → n < length links → AtLink n links IsOut → target_beside n links ≡ target links
-unfolding ups_of
 beside_out links n known out =
     let x = present links n known in
     let down = out x.0 x.1 in
@@ -131,14 +90,7 @@ beside_out links n known out =
     grind (arith, set_same)
 
 pub beside_left : (links new : List Link) (n : ℕ) (link : Link) → new ≡ slice_set links n link → has_phase_up link.phase ≡ false → target new ≡ target_beside n links
-unfolding ups_of
-beside_left links new n link e out = grind (arith, map_set, ups_of)
-
--- what stands on a link isn't touched by what waits elsewhere
-pub on_same : (n : ℕ) (to : Fate) (xs : List ℕ) (q new : Lists) → IsAside n to q → new ≡ with_queue to xs q → on n new ≡ on n q
-on_same n to xs q new a e =
-    let sent : same_fate to (Unacked n) ≡ false = grind arith in
-    rw (queue_away to (Unacked n) xs q new e a.other sent, queue_away to (Waiting n) xs q new e a.other a.unsent, queue_away to (Held n) xs q new e a.other a.held) refl
+beside_left links new n link e out = grind (arith, map_set (λ (link : Link). has_phase_up link.phase) links n link)
 
 -- THE WHOLE NUMBERS of a list in which one link changed otherwise
 pub counted_set : (bound : ℕ) (links new : List Link) (n : ℕ) (link : Link) → AreCounted bound links → new ≡ slice_set links n link → IsCounted bound link → AreCounted bound new
@@ -154,30 +106,6 @@ here_room parts n orders phase h down r = grind (arith, beside_out, out_at)
 -- room for an order once the link is left, and what stood back for it turned
 pub has_room_left : (n : ℕ) (old new : Parts) → IsReady n 1 old → TakesTurns (back_count n old.queues.lists) old.queues new.queues → new.bodies ≡ old.bodies → target new.links.items ≡ target_beside n old.links.items → HasRoom (fate_on (target new.links.items)) new
 has_room_left n old new r turns bodies same = grind arith
-
--- A LINK THAT IS LEFT is out, and the whole numbers stay
-pub record IsLeft (n : ℕ) (old new : Parts) : Type 0 where
-  pub many : length new.links.items ≡ length old.links.items
-  pub out : AtLink n new.links.items IsOut
-  pub target_is : target new.links.items ≡ target_beside n old.links.items
-  pub counted : (bound : ℕ) → AreCounted bound old.links.items → AreCounted bound new.links.items
-
-pub is_left : (blind : Bool) (n : ℕ) (old new : Parts) → n < length old.links.items → AtLink n old.links.items (λ link. new.links.items ≡ slice_set old.links.items n (record link { phase = Down; blind = blind })) → IsLeft n old new
-is_left blind n old new known links =
-    let x = present old.links.items n known in
-    let is = links x.0 x.1 in
-    record {
-      many = ap length is ∙ length_set old.links.items n _;
-      out = λ link there. grind (arith, same_at new.links.items n _ link (ap (λ (ls : List Link). slice_get ls n) is ∙ get_set_same old.links.items n _ known) there);
-      target_is = beside_left old.links.items new.links.items n _ is refl;
-      counted = λ bound all. let one = all n x.0 x.1 in counted_set bound old.links.items new.links.items n _ all is (record { acked = one.acked; accepted = one.accepted });
-    }
-
--- room for all that stand on a link, once it's left and the order stands
-pub room_after : (n : ℕ) (old left new : Parts) → n < length old.queues.lists.links → IsReady n 1 old → TakesTurns (back_count n old.queues.lists) old.queues left.queues → target left.links.items ≡ target_beside n old.links.items → target new.links.items ≡ target left.links.items
-    → on n new.queues.lists ≡ on n left.queues.lists → TakesRoom (fate_on (target left.links.items)) 1 left.queues.rooms new.queues.rooms
-    → length (on n new.queues.lists) ≤ room_at (fate_on (target new.links.items)) new.queues.rooms
-room_after n old left new low r turns beside same elsewhere takes = grind (arith, room_left)
 
 pub wider : (bound more : ℕ) (links : List Link) → bound ≤ more → AreCounted bound links → AreCounted more links
 wider bound more links h all n link there = let k = all n link there in record { acked = let low = k.acked in omega (arith, h, low); accepted = let low = k.accepted in omega (arith, h, low) }

@@ -1,18 +1,18 @@
 -- WHAT STANDS IN EACH PLACE after rows came to stand elsewhere, queue after queue, and where each number stands then.
-use Rattle.std.proofs.Common.{arith, refl, ◌≡◌, ◌∙◌, ap, sym, ◌≤◌, ◌<◌, [], ◌∷◌, length, ℕ, zero, suc, Bool, true, false, List, ◌++◌, Option, Some, None, take, drop, cond, not, slice_get, filter, map, option_map}
+use Rattle.std.proofs.Common.{arith, refl, ◌≡◌, ◌≤◌, ◌<◌, [], ◌∷◌, length, ℕ, zero, suc, Bool, true, false, List, ◌++◌, Some, None, take, drop, cond, not, filter, option_map}
 use Rattle.std.specs.List.{drop-map}
 use Rattle.std.proofs.lemmas.Bool.Decides.{nat_tests}
-use Rattle.std.proofs.lemmas.List.{map-append, take-map, append-nil}
+use Rattle.std.proofs.lemmas.List.{map-append, append-nil}
 use Rattle.set_queues.specs.Buffers.{is_standing, same_fate}
-use Rattle.set_model.specs.Rows.{Fate, Waiting, Unacked, Acked, Held, Parked, Back, Discarded, Row, standing, is_waiting, is_unacked, is_held, is_parked, is_back, numbers, turned, changed, moved, all_with, appended, IsNumbered, AreBefore, row_of, place, with_fate}
+use Rattle.set_model.specs.Rows.{Fate, Row, standing, numbers, turned, changed, moved, all_with, appended, IsNumbered, AreBefore, row_of, place}
 use Rattle.set_model.specs.Laws.{SameMessages}
 use Rattle.set_model.proofs.Events.{numbers_joined, appended_in, appended_out}
-use Rattle.set_model.proofs.Rows.{turned_same, turned_left, changed_same, changed_left, moved_same, moved_gone, moved_joined, fewer_filter, filter_within, filter_apart, with_number, at_most_one, row_is_first, place_moved, no_rows}
+use Rattle.set_model.proofs.Rows.{turned_same, turned_left, moved_same, moved_gone, moved_joined, fewer_filter, filter_within, filter_apart, with_number, at_most_one, row_is_first, place_moved, no_rows}
 use Rattle.set_model.proofs.Staying.{messages_stay}
-use Rattle.set_moves.specs.Agreement.{Message, rows_at}
-use Rattle.std.proofs.lemmas.List.Elements.{filter_agree, filter-append}
+use Rattle.set_moves.specs.Agreement.{Message, is_there, rows_at}
+use Rattle.std.proofs.lemmas.List.Elements.{filter-append}
 use Rattle.set_queues.specs.Queues.{occurs, AreGiven}
-use Rattle.set_queues.proofs.Standing.{same_is, occurs-split}
+use Rattle.set_queues.proofs.Standing.{same_is, same_self, occurs-split}
 use Rattle.std.proofs.lemmas.Bool.{cases_lt}
 
 -- a number occurs among the rows that a test picks as often as its row is picked
@@ -32,21 +32,10 @@ module _ (test : Fate → Bool) (to : Fate) where
   goes_first n (suc k) [] one = record { stays = λ e. refl; goes = λ e. absurd (omega (arith, e)) }
   goes_first n (suc k) (x ∷ rows) one = let few = fewer_filter (λ (row : Row). test row.fate) (with_number n rows) in grind (arith, nat_tests, goes_first n k rows, goes_first n (suc k) rows, occurs-split n (suc k) (numbers (standing test rows)), occurs-split n k (numbers (standing test rows)), occurs_picked (λ (row : Row). test row.fate) n rows)
 
-  -- all of them, in their places
-  place_changed : (n : ℕ) (rows : List Row) → place n (changed test to rows) ≡ option_map (λ (row : Row). cond (test row.fate) to row.fate) (row_of n rows)
-  place_changed n [] = refl
-  place_changed n (x ∷ rows) = grind (arith, place_changed n rows)
-
   -- a place that is told by the row of the number alone
-  told_first : (here : List Row) (count : ℕ) (o : Option Row) (before after : Option Fate) → length here ≤ 1 → count ≡ length (standing test here) → o ≡ slice_get here 0 → before ≡ option_map (λ (row : Row). row.fate) o → after ≡ option_map (λ (row : Row). cond (test row.fate) to row.fate) o
-      → (count ≡ 0 → after ≡ before) × (0 < count → after ≡ Some to)
-  told_first [] count o before after one many first b a = grind arith
-  told_first (x ∷ here) count o before after one many first b a = grind (arith, fewer_filter)
-
-  told : (n : ℕ) (rows new : List Row) → IsNumbered rows → place n new ≡ option_map (λ (row : Row). cond (test row.fate) to row.fate) (row_of n rows) → GoesTo (numbers (standing test rows)) to n rows new
-  told n rows new numbered e =
-      let way = told_first (with_number n rows) _ _ _ _ (at_most_one n rows numbered) (occurs_picked (λ (row : Row). test row.fate) n rows) (row_is_first n rows) refl e in
-      record { stays = way.0; goes = way.1 }
+  told : (n : ℕ) (rows new here : List Row) → with_number n rows ≡ here → length here ≤ 1 → place n new ≡ option_map (λ (row : Row). cond (test row.fate) to row.fate) (row_of n rows) → GoesTo (numbers (standing test rows)) to n rows new
+  told n rows new [] is one e = grind (arith, occurs_picked (λ (row : Row). test row.fate) n rows, row_is_first n rows)
+  told n rows new (x ∷ here) is one e = grind (arith, occurs_picked (λ (row : Row). test row.fate) n rows, row_is_first n rows, fewer_filter (λ (row : Row). test row.fate) here)
 
 -- WHAT STANDS SOMEWHERE was given out.
 pub none_at : (n : ℕ) (rows : List Row) → IsNumbered rows → length rows ≤ n → row_of n rows ≡ None
@@ -55,94 +44,48 @@ none_at n rows numbered far = let none = no_rows (with_number n rows) in grind (
 pub given_all : (ns : List ℕ) (to : Fate) (ms : List Message) (rows new : List Row) → IsNumbered new → length ms ≡ length new → ((n : ℕ) → GoesTo ns to n rows new) → AreGiven ns ms
 given_all ns to ms rows new numbered many goes n h = let there = (goes n).goes h in grind (arith, nat_tests, cases_lt, none_at n new)
 
--- BY FATE
--- the rows of a fate that isn't final are those that have it
-abbrev pub is_there : Fate → Fate → Bool
-is_there f g = same_fate g f
-
-standing_as : (p q : Fate → Bool) → ((g : Fate) → p g ≡ q g) → (rows : List Row) → standing p rows ≡ standing q rows
-standing_as p q e rows = filter_agree (λ (row : Row). p row.fate) (λ (row : Row). q row.fate) (λ row. e row.fate) rows
-
-pub rows_as : (f : Fate) (rows : List Row) → is_standing f ≡ true → rows_at f rows ≡ standing (is_there f) rows
-rows_as (Waiting l) rows s = standing_as (is_waiting l) (is_there (Waiting l)) (λ fate. grind arith) rows
-rows_as (Unacked l) rows s = standing_as (is_unacked l) (is_there (Unacked l)) (λ fate. grind arith) rows
-rows_as (Held l) rows s = standing_as (is_held l) (is_there (Held l)) (λ fate. grind arith) rows
-rows_as Parked rows s = standing_as is_parked (is_there Parked) (λ fate. grind arith) rows
-rows_as (Back c) rows s = standing_as (is_back c) (is_there (Back c)) (λ fate. grind arith) rows
-rows_as (Acked l) rows s = absurd cc
-rows_as (Discarded cause) rows s = absurd cc
-
-pub final_none : (to fate : Fate) → is_standing to ≡ false → is_standing fate ≡ true → same_fate to fate ≡ false
-final_none to fate t s = grind arith
-
 -- A NEW MESSAGE stands last in the place of its fate.
 pub appended_at : (rows : List Row) (body : List ℕ) (fate f : Fate) → is_standing f ≡ true → numbers (rows_at f (appended rows body fate)) ≡ cond (same_fate fate f) (numbers (rows_at f rows) ++ length rows ∷ []) (numbers (rows_at f rows))
-appended_at rows body fate f s = grind (arith, rows_as, appended_in rows body fate (is_there f), appended_out rows body fate (is_there f), map-append)
-
--- WHAT BECAME OF THE PLACES when the rows of these numbers came to stand there: what is left where they stood, and
--- what stands then where they went.
-pub record Shifts (test : Fate → Bool) (to : Fate) (ns left joined : List ℕ) (rows new : List Row) : Type 0 where
-  pub places : (f : Fate) → is_standing f ≡ true → numbers (rows_at f new) ≡ cond (test f) left (cond (same_fate to f) joined (numbers (rows_at f rows)))
-  pub messages : SameMessages rows new
-  pub goes : (n : ℕ) → GoesTo ns to n rows new
+appended_at rows body fate f s = grind (arith, appended_in rows body fate (is_there f), appended_out rows body fate (is_there f), map-append)
 
 -- where they don't stand
 elsewhere : (test : Fate → Bool) (f : Fate) → is_standing f ≡ true → test f ≡ false → (g : Fate) → test g ≡ true → is_there f g ≡ false
 elsewhere test f s e g h = grind (arith, same_is)
 
--- the test tells of one place alone
-abbrev pub IsOfOne : (Fate → Bool) → Type 0
-IsOfOne test = (f g : Fate) → is_standing f ≡ true → test f ≡ true → test g ≡ is_there f g
+-- WHAT BECAME OF THE PLACES when the rows of these numbers came to stand there: what is left where they stood, and
+-- they stand last where they went.
+pub record Shifts (test : Fate → Bool) (to : Fate) (ns left : List ℕ) (rows new : List Row) : Type 0 where
+  pub places : (f : Fate) → is_standing f ≡ true → numbers (rows_at f new) ≡ cond (test f) left (cond (same_fate to f) (numbers (rows_at f rows) ++ ns) (numbers (rows_at f rows)))
+  pub messages : SameMessages rows new
+  pub goes : (n : ℕ) → GoesTo ns to n rows new
 
-module _ (test : Fate → Bool) (to : Fate) (rows : List Row) (numbered : IsNumbered rows) (off : test to ≡ false) where
-  -- to a final fate: the first so many of one place, or all of it
-  pub turned_shifts : (n : ℕ) → is_standing to ≡ false → IsOfOne test → Shifts test to (take n (numbers (standing test rows))) (drop n (numbers (standing test rows))) [] rows (turned test to n rows)
-  turned_shifts n final one = record {
-    places = λ f s. grind (arith, rows_as, standing_as test (is_there f), one f, turned_left, drop-map, turned_same test (is_there f) to (final_none to f final s), elsewhere test f s, final_none);
-    messages = (messages_stay test to (all_with to) rows numbered).turned_stay n;
-    goes = λ k. goes_first test to k n rows (at_most_one k rows numbered);
-  }
+-- those that turn stand last in their new place, where none there stands behind one of them
+joined : (test there : Fate → Bool) (to : Fate) → there to ≡ true → ((f : Fate) → test f ≡ true → there f ≡ false) → (n : ℕ) (rows : List Row) → AreBefore there test rows → numbers (standing there (turned test to n rows)) ≡ numbers (standing there rows) ++ take n (numbers (standing test rows))
+joined test there to own apart zero rows o = grind (arith, append-nil)
+joined test there to own apart (suc n) [] o = refl
+joined test there to own apart (suc n) (x ∷ rows) o = grind (arith, joined test there to own apart n rows o.1, joined test there to own apart (suc n) rows o.1, o.0, apart x.fate)
 
-  pub changed_shifts : is_standing to ≡ false → IsOfOne test → Shifts test to (numbers (standing test rows)) [] [] rows (changed test to rows)
-  changed_shifts final one = record {
-    places = λ f s. grind (arith, rows_as, standing_as test (is_there f), one f, changed_left, changed_same test (is_there f) to (final_none to f final s), elsewhere test f s, final_none);
-    messages = (messages_stay test to (all_with to) rows numbered).changed_stay;
-    goes = λ k. told test to k rows _ numbered (place_changed test to k rows);
-  }
+-- the first so many of one place, to a final fate, or to such a place
+pub turned_shifts : (from to : Fate) → is_standing from ≡ true → is_there from to ≡ false → (n : ℕ) (rows : List Row) → IsNumbered rows → (is_standing to ≡ true → AreBefore (is_there to) (is_there from) rows) → Shifts (is_there from) to (take n (numbers (rows_at from rows))) (drop n (numbers (rows_at from rows))) rows (turned (is_there from) to n rows)
+turned_shifts from to stood off n rows numbered order = record {
+  places = λ f s.
+      let left = turned_left (is_there from) to off n rows in
+      let come = λ (t : is_standing to ≡ true). joined (is_there from) (is_there to) to (same_self to t) (elsewhere (is_there from) to t off) n rows (order t) in
+      let same = λ (e : is_there from f ≡ false) (away : same_fate to f ≡ false). turned_same (is_there from) (is_there f) to away (elsewhere (is_there from) f s e) n rows in
+      grind (arith, left, come, same, drop-map, same_is f from stood, same_is to f s);
+  messages = (messages_stay (is_there from) to (all_with to) rows numbered).turned_stay n;
+  goes = λ k. goes_first (is_there from) to k n rows (at_most_one k rows numbered);
+}
 
-  -- to another place: all of one or more, behind those that stand there
-  pub moved_shifts : is_standing to ≡ true → Shifts test to (numbers (standing test rows)) [] (numbers (rows_at to rows) ++ numbers (standing test rows)) rows (moved test (all_with to) rows)
-  moved_shifts there = record {
-    places = λ f s.
-        let gone : test f ≡ true → standing (is_there f) (moved test (all_with to) rows) ≡ [] = λ e. let away : same_fate to f ≡ false = grind (arith, same_is) in moved_gone test (is_there f) (all_with to) rows (λ x. away) (λ g h. grind (arith, same_is)) in
-        grind (arith, rows_as, gone, moved_joined test (is_there f) (all_with to) rows, moved_same test (is_there f) (all_with to) rows, numbers_joined (all_with to) (standing (is_there f) rows) (standing test rows), elsewhere test f s, same_is to f s);
-    messages = (messages_stay test to (all_with to) rows numbered).moved_stay;
-    goes = λ k. told test to k rows _ numbered (place_moved test (all_with to) k rows numbered);
-  }
-
--- THE FIRST OF ONE PLACE goes to another behind those that stand there, where none of them stands behind one of the first place
-module _ (test there : Fate → Bool) (to : Fate) (same : (f : Fate) → there f ≡ is_there to f) (off : test to ≡ false) (apart : (f : Fate) → test f ≡ true → there f ≡ false) (one : IsOfOne test) (rows : List Row) (numbered : IsNumbered rows) (order : AreBefore there test rows) where
-  joined : (own : there to ≡ true) (xs : List Row) → AreBefore there test xs → standing there (turned test to 1 xs) ≡ standing there xs ++ map (with_fate to) (take 1 (standing test xs))
-  joined own [] o = refl
-  joined own (x ∷ xs) o = here (joined own xs o.1) (test x.fate) refl
-    where
-      here : standing there (turned test to 1 xs) ≡ standing there xs ++ map (with_fate to) (take 1 (standing test xs)) → (b : Bool) → test x.fate ≡ b → standing there (turned test to 1 (x ∷ xs)) ≡ standing there (x ∷ xs) ++ map (with_fate to) (take 1 (standing test (x ∷ xs)))
-      here rest true e = rw (e, own, apart x.fate e, o.0 e) refl
-      here rest false e = grind (arith, e, rest)
-
-  first_place : (f : Fate) → is_standing f ≡ true → (b d : Bool) → test f ≡ b → same_fate to f ≡ d → numbers (rows_at f (turned test to 1 rows)) ≡ cond b (drop 1 (numbers (standing test rows))) (cond d (numbers (rows_at to rows) ++ take 1 (numbers (standing test rows))) (numbers (rows_at f rows)))
-  first_place f s true d e h = ap numbers (rows_as f _ s ∙ sym (standing_as test (is_there f) (λ g. one f g s e) _) ∙ turned_left test to off 1 rows) ∙ rw (drop-map (λ (row : Row). row.number) 1 (standing test rows)) refl
-  first_place f s false true e h =
-      let here : to ≡ f = same_is to f s h in
-      rw (← here) (ap numbers (rows_as to _ (rw here s) ∙ sym (standing_as there (is_there to) same _) ∙ joined (same to ∙ rw (← here) at h) rows order) ∙ numbers_joined (all_with to) (standing there rows) (take 1 (standing test rows)) ∙ grind (arith, rows_as, standing_as there (is_there to), same, take-map))
-  first_place f s false false e h = ap numbers (rows_as f _ s ∙ turned_same test (is_there f) to h (elsewhere test f s e) 1 rows ∙ sym (rows_as f rows s))
-
-  pub first_shifts : Shifts test to (take 1 (numbers (standing test rows))) (drop 1 (numbers (standing test rows))) (numbers (rows_at to rows) ++ take 1 (numbers (standing test rows))) rows (turned test to 1 rows)
-  first_shifts = record {
-    places = λ f s. first_place f s (test f) (same_fate to f) refl refl;
-    messages = (messages_stay test to (all_with to) rows numbered).turned_stay 1;
-    goes = λ k. goes_first test to k 1 rows (at_most_one k rows numbered);
-  }
+-- all of one or more places, behind those that stand there
+pub moved_shifts : (test : Fate → Bool) (to : Fate) (rows : List Row) → IsNumbered rows → test to ≡ false → is_standing to ≡ true → Shifts test to (numbers (standing test rows)) [] rows (moved test (all_with to) rows)
+moved_shifts test to rows numbered off there = record {
+  places = λ f s.
+      let gone : test f ≡ true → standing (is_there f) (moved test (all_with to) rows) ≡ [] = λ e. let away : same_fate to f ≡ false = grind (arith, same_is) in moved_gone test (is_there f) (all_with to) rows (λ x. away) (λ g h. grind (arith, same_is)) in
+      grind (arith, gone, moved_joined test (is_there f) (all_with to) rows, moved_same test (is_there f) (all_with to) rows, numbers_joined (all_with to) (rows_at f rows) (standing test rows), elsewhere test f s, same_is to f s);
+  messages = (messages_stay test to (all_with to) rows numbered).moved_stay;
+  goes = λ k. told test to k rows _ _ refl (at_most_one k rows numbered) (place_moved test (all_with to) k rows numbered);
+}
 
 -- ROWS THAT STAND LAST FROM NOW ON, each with its fate: what stands in each place stays
 abbrev pub parted : (Fate → Bool) → List Row → List Row

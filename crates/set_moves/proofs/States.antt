@@ -1,39 +1,30 @@
 -- WHAT IS KEPT STANDS FOR THE STATE, before and after each small change.
-use Rattle.std.proofs.Common.{refl, arith, ◌≡◌, ◌∙◌, ap, sym, subst, ◌<◌, [], ◌∷◌, length, ℕ, zero, suc, ◌==◌, Bool, true, false, List, ◌++◌, Option, Some, take, drop, cond, ◌≢◌, ◌+◌, ◌%◌, slice_get, slice_set, ◌-◌, option_map, not, map-id, nat_le}
-use Rattle.std.proofs.lemmas.Bool.{cases_eq}
-use Rattle.std.proofs.lemmas.List.{length-append, map-append, length-map}
+use Rattle.std.proofs.Common.{refl, arith, ◌≡◌, ◌∙◌, ap, sym, subst, ◌<◌, ◌≤◌, [], ◌∷◌, length, ℕ, ◌==◌, Bool, true, false, List, ◌++◌, Option, Some, take, drop, cond, ◌≢◌, ◌+◌, ◌%◌, slice_get, slice_set, option_map, not, map-id, nat_le}
+use Rattle.std.proofs.lemmas.Bool.{cases_eq, cases_lt, ne_eqb, eq-eqb}
+use Rattle.std.proofs.lemmas.List.{length-append, map-append, length-map, take_all, drop_all}
 use Rattle.std.proofs.lemmas.List.Folds.{find-append}
 use Rattle.std.proofs.lemmas.Bool.Decides.{nat_tests}
-use Rattle.set_queues.specs.Buffers.{Lists, is_standing, same_fate, queue_at, with_queue, IsKnown, LinkLists, last_at, with_last, number_in, IsQueued}
+use Rattle.set_queues.specs.Buffers.{Lists, is_standing, same_fate, queue_at, with_queue, IsKnown, LinkLists, last_at, with_last, IsQueued}
+use Rattle.std.specs.Option.{option_map_or}
 use Rattle.set_queues.specs.Messages.{restood_one, restood, fate_at}
-use Rattle.set_queues.specs.Sending.{first_sent, acknowledged as acked_lists, reach}
-use Rattle.set_queues.specs.Backs.{passed_first}
-use Rattle.set_queues.specs.Queues.{occurs, passed}
+use Rattle.set_queues.specs.Sending.{acknowledged as acked_lists, reach}
+use Rattle.set_queues.specs.Queues.{occurs, passed, passed_first}
 use Rattle.set_queues.specs.Settling.{on as on_lists, settled}
-use Rattle.set_queues.proofs.Standing.{length-updated, updated_same, updated_other, updated_there, same_is, length-restood, fate_stays, fate_moves, queue_set, links_stay}
+use Rattle.set_queues.proofs.Standing.{get_push, restood_at, length-updated, updated_same, updated_other, updated_there, same_is, length-restood, fate_stays, fate_moves, queue_set, links_stay}
 use Rattle.set_queues.proofs.Soundness.{both_replaced, passed_replaces, queue_last, last_links, IsAside, settling}
-use Rattle.set_model.specs.Rows.{Fate, Waiting, Unacked, Acked, Held, Parked, Back, Discarded, DiscardCause, Emergency, Unreasonable, NoAnswer, Row, standing, is_waiting, is_unacked, is_on, is_parked, is_back, on, numbers, turned, changed, moved, all_with, appended, row_of, place, IsNumbered, IsInOrder, IsHeldLast, AreBefore, unack}
+use Rattle.set_model.specs.Rows.{Fate, Waiting, Unacked, Acked, Held, Parked, Back, Discarded, DiscardCause, Emergency, Unreasonable, NoAnswer, Row, standing, is_waiting, is_unacked, is_on, is_parked, is_back, on, numbers, turned, changed, moved, all_with, appended, row_of, place, IsNumbered, IsInOrder, IsHeldLast, AreBefore}
 use Rattle.set_model.specs.Changeover.{fate_on, reached_by, is_reasonable, judged, judged_link}
 use Rattle.set_model.specs.Laws.{SameMessages}
-use Rattle.set_model.proofs.Rows.{place_moved, new_row, numbered_appended, is_found}
+use Rattle.set_model.proofs.Rows.{fewer_filter, place_moved, new_row, numbered_appended, is_found}
 use Rattle.set_model.proofs.Order.{on_in_order}
 use Rattle.set_model.proofs.Staying.{messages_stay}
-use Rattle.set_moves.specs.Agreement.{Message, Stands, rows_at, label_in, label_of, kind_of, Kept, StandsFor}
-use Rattle.set_moves.proofs.RowsAt.{given_all, none_at, final_none, Shifts, appended_at, first_shifts, parted, parted_at, turned_shifts, changed_shifts, moved_shifts, is_there, rows_as}
+use Rattle.set_moves.specs.Agreement.{Message, Stands, is_there, rows_at, label_of, kind_of, Kept, StandsFor}
+use Rattle.set_moves.proofs.RowsAt.{given_all, none_at, Shifts, appended_at, parted, parted_at, turned_shifts, moved_shifts}
 use Rattle.set_route.specs.Routing.{Routing}
 use Rattle.set_model.specs.State.{LinkState, State}
 use Rattle.set_model.proofs.Lists.{at_set, length_set, within, present, get_set_same}
 use Rattle.set_moves.specs.Parts.{Reached, Upto, Unknown, Unanswered}
-use Rattle.set_model.proofs.Events.{acknowledged as acked_rows, sent_given_up, waiting_given_up}
-
--- A message that comes to stand elsewhere keeps its label.
-labels_stay : (n : ℕ) (ns : List ℕ) (to : Fate) (ms : List Message) → option_map label_in (slice_get (restood ns to ms) n) ≡ option_map label_in (slice_get ms n)
-labels_stay n [] to ms = refl
-labels_stay n (k ∷ ns) to ms = labels_stay n ns to (restood_one k to ms) ∙ grind (arith, nat_tests, cases_eq, updated_same, updated_other)
-
--- a final fate has no queue
-only_standing : (q : Lists) (rows : List Row) → ((f : Fate) → is_standing f ≡ true → queue_at f q ≡ numbers (rows_at f rows)) → (f : Fate) → queue_at f q ≡ numbers (rows_at f rows)
-only_standing q rows h f = grind (arith, h)
+use Rattle.set_model.proofs.Events.{acknowledged as acked_rows, given_up}
 
 -- THE QUEUES STAND FOR THE ROWS, which are the same messages,
 pub record Moves (q : Lists) (ms : List Message) (rows new : List Row) : Type 0 where
@@ -41,65 +32,40 @@ pub record Moves (q : Lists) (ms : List Message) (rows new : List Row) : Type 0 
   pub same : SameMessages rows new
 
 -- where the queues change as the places of the rows do
-pub shifts_stand : {q q' : Lists} {ms : List Message} {rows new : List Row} {test : Fate → Bool} {to : Fate} {ns xs left joined : List ℕ} → Stands q ms rows → Shifts test to ns left joined rows new
-    → ((f : Fate) → is_standing f ≡ true → queue_at f q' ≡ cond (test f) left (cond (same_fate to f) joined (queue_at f q))) → xs ≡ ns → Moves q' (restood xs to ms) rows new
-shifts_stand {q} {q'} {ms} {rows} {new} {test} {to} {ns} {xs} {left} {joined} s shifts queues e = subst (λ (ys : List ℕ). Moves q' (restood ys to ms) rows new) (sym e) (record {
-  stands = record {
-    queues = only_standing q' new (λ f t. queues f t ∙ ap (λ (ys : List ℕ). cond (test f) left (cond (same_fate to f) joined ys)) (s.queues f) ∙ sym (shifts.places f t));
-    fates = λ n. fate n (occurs n ns) refl;
-    labels = λ n. labels_stay n ns to ms ∙ s.labels n ∙ ap (option_map label_of) (sym (shifts.messages.bodies n));
-    count = length-restood ns to ms ∙ s.count ∙ sym shifts.messages.count;
-    numbered = shifts.messages.numbered;
-  };
-  same = shifts.messages;
-})
-  where
-    fate : (n k : ℕ) → occurs n ns ≡ k → fate_at n (restood ns to ms) ≡ place n new
-    fate n zero e = fate_stays n ns to ms e ∙ s.fates n ∙ sym ((shifts.goes n).stays e)
-    fate n (suc k) e = fate_moves n ns to ms (given_all ns to ms rows new shifts.messages.numbered (s.count ∙ sym shifts.messages.count) shifts.goes n (omega (arith, e))) (omega (arith, e)) ∙ sym ((shifts.goes n).goes (omega (arith, e)))
+pub shifts_stand : {q q' : Lists} {ms : List Message} {rows new : List Row} {test : Fate → Bool} {to : Fate} {ns xs left : List ℕ} → Stands q ms rows → Shifts test to ns left rows new
+    → ((f : Fate) → is_standing f ≡ true → queue_at f q' ≡ cond (test f) left (cond (same_fate to f) (queue_at f q ++ ns) (queue_at f q))) → xs ≡ ns → Moves q' (restood xs to ms) rows new
+shifts_stand {q} {q'} {ms} {rows} {new} {test} {to} {ns} s shifts queues e =
+    let given = given_all ns to ms rows new shifts.messages.numbered (s.count ∙ sym shifts.messages.count) shifts.goes in
+    let fates : (n : ℕ) → fate_at n (restood ns to ms) ≡ place n new = λ n. let goes = shifts.goes n in grind (arith, cases_lt 0 (occurs n ns), given n, goes.stays, goes.goes, fate_stays n ns to ms, fate_moves n ns to ms, s.fates n) in
+    rw e (grind (arith, s, shifts, queues, restood_at, length-restood, fates))
 
 -- A NEW MESSAGE
-pub get_push : {X : Type 0} (xs : List X) (x : X) (n : ℕ) → slice_get (xs ++ x ∷ []) n ≡ cond (length xs == n) (Some x) (slice_get xs n)
-get_push [] x n = grind (arith, nat_tests)
-get_push (y ∷ xs) x zero = grind (arith, nat_tests)
-get_push (y ∷ xs) x (suc n) = grind (arith, nat_tests, get_push xs x n)
-
 -- its number is the first that no row had
 pub row_push : (n : ℕ) (rows : List Row) (body : List ℕ) (fate : Fate) → IsNumbered rows → row_of n (appended rows body fate) ≡ cond (length rows == n) (Some (new_row (length rows) body fate)) (row_of n rows)
 row_push n rows body fate numbered = find-append (λ (r : Row). r.number == n) rows (new_row (length rows) body fate ∷ []) ∙ grind (arith, nat_tests, none_at, is_found)
-
-abbrev pub message_of : List ℕ → Fate → Message
-message_of body fate = record { fate = fate; kind = kind_of body; octets = length body }
 
 -- THE FSN LAST ACKNOWLEDGED on each link.
 pub last_stays : (f : Fate) (xs : List ℕ) (q : Lists) (n : ℕ) → last_at n (with_queue f xs q) ≡ last_at n q
 last_stays f xs q n = grind (arith, nat_tests, cases_eq, updated_same, updated_other)
 
-last_here : (l fsn : ℕ) (q : Lists) → l < length q.links → last_at l (with_last l fsn q) ≡ fsn
-last_here l fsn q h = let x = present q.links l h in ap number_in (updated_there (λ (z : LinkLists). record z { last = fsn }) q.links l x.0 x.1)
-
-last_there : (l fsn : ℕ) (q : Lists) (n : ℕ) → l ≢ n → last_at n (with_last l fsn q) ≡ last_at n q
-last_there l fsn q n ne = ap number_in (updated_other (λ (z : LinkLists). record z { last = fsn }) q.links l n ne)
+last_set : (l fsn : ℕ) (q : Lists) (n : ℕ) → l < length q.links → last_at n (with_last l fsn q) ≡ cond (l == n) fsn (last_at n q)
+last_set l fsn q n h = let x = present q.links l h in grind (arith, nat_tests, cases_eq, updated_there (λ (z : LinkLists). record z { last = fsn }) q.links l x.0 x.1, updated_other)
 
 -- A NEW MESSAGE.
 pub appended_for : (k : Kept) (s : State) (body : List ℕ) (fate : Fate) → StandsFor k s → is_standing fate ≡ true → IsKnown fate k.lists
-    → StandsFor (record k { lists = with_queue fate (queue_at fate k.lists ++ length k.messages ∷ []) k.lists; messages = k.messages ++ message_of body fate ∷ []; bodies = k.bodies ++ body ∷ [] }) (record s { rows = appended s.rows body fate })
-appended_for k s body fate f standing known = grind (arith, nat_tests, length-append, only_standing, same_is, queue_set, appended_at, get_push, row_push, numbered_appended, links_stay, last_stays)
+    → StandsFor (record k { lists = with_queue fate (queue_at fate k.lists ++ length k.messages ∷ []) k.lists; messages = k.messages ++ record { fate = fate; kind = kind_of body; octets = length body } ∷ []; bodies = k.bodies ++ body ∷ [] }) (record s { rows = appended s.rows body fate })
+appended_for k s body fate f standing known = grind (arith, nat_tests, length-append, same_is, queue_set, appended_at, get_push, row_push, numbered_appended, links_stay, last_stays)
 
 -- MESSAGES COME TO STAND ELSEWHERE, and links and routing may change.
 module _ (k : Kept) (s : State) (f : StandsFor k s) (lists : Lists) (messages : List Message) (new : List Row) (moves : Moves lists messages s.rows new) (as_many : length lists.links ≡ length k.lists.links) (routing routing' : Routing) (way : routing ≡ routing') where
-  moved_for : (links : List LinkState) → length links ≡ length s.links → ((m : ℕ) (link : LinkState) → slice_get links m ≡ Some link → last_at m lists ≡ (link.acked + 127) % 128)
-      → StandsFor (record k { lists = lists; messages = messages; links = links; routing = routing }) (record s { rows = new; links = links; routing = routing' })
-  moved_for links many fsns = grind (arith, nat_tests)
-
   -- no link changes
   pub queues_for : ((n : ℕ) → last_at n lists ≡ last_at n k.lists) → StandsFor (record k { lists = lists; messages = messages; routing = routing }) (record s { rows = new; routing = routing' })
-  queues_for last = subst (λ links. StandsFor (record k { lists = lists; messages = messages; links = links; routing = routing }) (record s { rows = new; routing = routing' })) (sym f.links) (moved_for s.links refl (λ n link there. last n ∙ f.fsns n link there))
+  queues_for last = grind (arith, last, f.fsns)
 
   -- one does
   link_and_queues_for : (n : ℕ) (link' : LinkState) → ((m : ℕ) → n ≢ m → last_at m lists ≡ last_at m k.lists) → last_at n lists ≡ (link'.acked + 127) % 128
       → StandsFor (record k { lists = lists; messages = messages; links = slice_set s.links n link'; routing = routing }) (record s { rows = new; links = slice_set s.links n link'; routing = routing' })
-  link_and_queues_for n link' others own = moved_for (slice_set s.links n link') (length_set s.links n link') (λ m link there. grind (arith, nat_tests, at_set, f.fsns))
+  link_and_queues_for n link' others own = grind (arith, nat_tests, length_set, at_set, others, own, f.fsns)
 
 -- ROWS THAT STAND LAST FROM NOW ON: what is kept tells nothing of it.
 pub parted_for : (k : Kept) (s : State) (test : Fate → Bool) → StandsFor k s → StandsFor k (record s { rows = parted test s.rows })
@@ -109,7 +75,7 @@ parted_for k s test f =
     let places = λ (n : ℕ). rw own at (place_moved test (λ row. row.fate) n s.rows f.stands.numbered) in
     queues_for k s f k.lists k.messages (parted test s.rows) (record {
       stands = record {
-        queues = only_standing k.lists _ (λ g t. f.stands.queues g ∙ ap numbers (rows_as g s.rows t ∙ sym (parted_at test g s.rows t (test g) refl) ∙ sym (rows_as g _ t)));
+        queues = λ g t. f.stands.queues g t ∙ ap numbers (sym (parted_at test g s.rows t (test g) refl));
         fates = λ n. f.stands.fates n ∙ grind (arith, places n);
         labels = λ n. f.stands.labels n ∙ ap (option_map label_of) (sym (stay.bodies n));
         count = f.stands.count ∙ sym stay.count;
@@ -118,35 +84,23 @@ parted_for k s test f =
       same = stay;
     }) refl _ _ f.routing (λ m. refl)
 
--- a link on which nothing more was acknowledged
-pub still : (k : Kept) (s : State) (n : ℕ) (link link' : LinkState) → StandsFor k s → slice_get s.links n ≡ Some link → link'.acked ≡ link.acked → last_at n k.lists ≡ (link'.acked + 127) % 128
-still k s n link link' f there e = f.fsns n link there ∙ ap (λ (a : ℕ). (a + 127) % 128) (sym e)
-
 -- A LINK CHANGES, but for what was acknowledged on it.
 pub link_for : (k : Kept) (s : State) (n : ℕ) (link link' : LinkState) (routing : Routing) → StandsFor k s → slice_get s.links n ≡ Some link → link'.acked ≡ link.acked
     → StandsFor (record k { links = slice_set s.links n link'; routing = routing }) (record s { links = slice_set s.links n link'; routing = routing })
 link_for k s n link link' routing f there e =
-    let nothing : Moves k.lists k.messages s.rows s.rows = record { stands = f.stands; same = record { count = refl; bodies = λ m. refl; numbered = f.stands.numbered } } in
-    link_and_queues_for k s f _ _ _ nothing refl routing routing refl n link' (λ m ne. refl) (still k s n link link' f there e)
-
--- there are queues of each link
-pub has_queues : (k : Kept) (s : State) (n : ℕ) (link : LinkState) → StandsFor k s → slice_get s.links n ≡ Some link → n < length k.lists.links
-has_queues k s n link f there = let low = within s.links n link there in let many = f.as_many in omega (arith, low, many)
+    grind (arith, nat_tests, length_set, at_set)
 
 -- THE FIRST OF A QUEUE stands last in another, where none of those stands behind one of it
-pub first_for : (k : Kept) (s : State) (from to : Fate) (test there : Fate → Bool) → StandsFor k s → is_standing from ≡ true → is_standing to ≡ true → IsKnown from k.lists → IsKnown to k.lists → ((g : Fate) → test g ≡ is_there from g) → ((g : Fate) → there g ≡ is_there to g) → test to ≡ false → rows_at from s.rows ≡ standing test s.rows → AreBefore there test s.rows
-    → StandsFor (record k { lists = passed_first from to k.lists; messages = restood (take 1 (queue_at from k.lists)) to k.messages }) (record s { rows = turned test to 1 s.rows })
-first_for k s from to test there f stood own known other is same off rows order =
-    let ns : queue_at from k.lists ≡ numbers (standing test s.rows) = f.stands.queues from ∙ ap numbers rows in
-    queues_for k s f _ _ _ (shifts_stand f.stands (first_shifts test there to same off (λ h e. same h ∙ grind (arith, is h, same_is)) (λ g h t e. is h ∙ grind (arith, same_is)) s.rows f.stands.numbered order)
-    (λ g t. both_replaced k.lists from to (drop 1 (queue_at from k.lists)) (queue_at to k.lists ++ take 1 (queue_at from k.lists)) known other g t ∙ grind (arith, nat_tests, is g, f.stands.queues to, ns)) (ap (take 1) ns)) (simp (length-updated, links_stay)) _ _ f.routing (λ m. search last_stays)
+pub first_for : (k : Kept) (s : State) (from to : Fate) → StandsFor k s → is_standing from ≡ true → is_standing to ≡ true → IsKnown from k.lists → IsKnown to k.lists → is_there from to ≡ false → AreBefore (is_there to) (is_there from) s.rows
+    → StandsFor (record k { lists = passed_first 1 from to k.lists; messages = restood (take 1 (queue_at from k.lists)) to k.messages }) (record s { rows = turned (is_there from) to 1 s.rows })
+first_for k s from to f stood own known other off order =
+    queues_for k s f _ _ _ (shifts_stand f.stands (turned_shifts from to stood off 1 s.rows f.stands.numbered (λ e. order))
+    (λ g t. both_replaced k.lists from to (drop 1 (queue_at from k.lists)) (queue_at to k.lists ++ take 1 (queue_at from k.lists)) known other g t ∙ grind (arith, nat_tests, same_is, f.stands.queues from stood)) (ap (take 1) (f.stands.queues from stood))) (simp links_stay) _ _ f.routing (λ m. search last_stays)
 
 -- A FIRST SENDING: the first that waits stands last among the unacknowledged.
-pub sent_for : (k : Kept) (s : State) (n message : ℕ) → StandsFor k s → IsInOrder n s.rows → n < length k.lists.links → slice_get (queue_at (Waiting n) k.lists) 0 ≡ Some message
-    → StandsFor (record k { lists = first_sent n message k.lists; messages = restood (message ∷ []) (Unacked n) k.messages }) (record s { rows = turned (is_waiting n) (Unacked n) 1 s.rows })
-sent_for k s n message f order known first =
-    let taken : take 1 (queue_at (Waiting n) k.lists) ≡ message ∷ [] = grind arith in
-    subst (λ (ns : List ℕ). StandsFor (record k { lists = with_queue (Waiting n) (drop 1 (queue_at (Waiting n) k.lists)) (with_queue (Unacked n) (queue_at (Unacked n) k.lists ++ ns) k.lists); messages = restood ns (Unacked n) k.messages }) (record s { rows = turned (is_waiting n) (Unacked n) 1 s.rows })) taken (first_for k s (Waiting n) (Unacked n) (is_waiting n) (is_unacked n) f refl refl known known (λ fate. grind arith) (λ fate. grind arith) refl refl order)
+pub sent_for : (k : Kept) (s : State) (n : ℕ) → StandsFor k s → IsInOrder n s.rows → n < length k.lists.links
+    → StandsFor (record k { lists = passed_first 1 (Waiting n) (Unacked n) k.lists; messages = restood (take 1 (queue_at (Waiting n) k.lists)) (Unacked n) k.messages }) (record s { rows = turned (is_waiting n) (Unacked n) 1 s.rows })
+sent_for k s n f order known = first_for k s (Waiting n) (Unacked n) f refl refl known known refl order
 
 -- AN ACKNOWLEDGEMENT, under a link that counts it.
 pub acked_for : (k : Kept) (s : State) (n fsn : ℕ) (link link' : LinkState) → StandsFor k s → slice_get s.links n ≡ Some link → fsn < 128 → link'.acked ≡ link.acked + reach n fsn k.lists
@@ -156,42 +110,38 @@ acked_for k s n fsn link link' f there h e =
     let count : ℕ = reach n fsn k.lists in
     let left : List ℕ = drop count (queue_at (Unacked n) k.lists) in
     let mid : Lists = with_queue (Unacked n) left k.lists in
-    let known = has_queues k s n link f there in
+    let known : n < length k.lists.links = grind (arith, within s.links n link there, f.as_many) in
     let inner : n < length mid.links = omega (arith, known, links_stay (Unacked n) left k.lists) in
     let counted : (link'.acked + 127) % 128 ≡ fsn = omega (arith, h, e, f.fsns n link there) in
-    link_and_queues_for k s f _ _ _ (shifts_stand f.stands (turned_shifts (is_unacked n) (Acked n) s.rows f.stands.numbered refl count refl (λ f g s e. grind (arith, nat_tests)))
-    (λ g t. queue_last g n fsn mid ∙ queue_set (Unacked n) g left k.lists refl known ∙ grind (arith, nat_tests, f.stands)) (ap (take count) (f.stands.queues (Unacked n)))) (simp length-updated) _ _ f.routing n link'
-    (λ m ne. last_there n fsn mid m ne ∙ last_stays (Unacked n) left k.lists m) (last_here n fsn mid inner ∙ sym counted)
+    link_and_queues_for k s f _ _ _ (shifts_stand f.stands (turned_shifts (Unacked n) (Acked n) refl refl count s.rows f.stands.numbered (λ e. absurd cc))
+    (λ g t. queue_last g n fsn mid ∙ queue_set (Unacked n) g left k.lists refl known ∙ grind (arith, nat_tests, f.stands)) (ap (take count) (f.stands.queues (Unacked n) refl))) (simp length-updated) _ _ f.routing n link'
+    (λ m ne. last_set n fsn mid m inner ∙ rw (ne_eqb n m ne) (last_stays (Unacked n) left k.lists m)) (last_set n fsn mid n inner ∙ rw (eq-eqb n n refl) (sym counted))
 
--- ALL OF A QUEUE of a link are given up.
-pub given_up_for : (k : Kept) (s : State) (from : Fate) (test : Fate → Bool) (cause : DiscardCause) → StandsFor k s → is_standing from ≡ true → IsKnown from k.lists → ((g : Fate) → test g ≡ is_there from g) → rows_at from s.rows ≡ standing test s.rows
-    → StandsFor (record k { lists = with_queue from [] k.lists; messages = restood (queue_at from k.lists) (Discarded cause) k.messages }) (record s { rows = changed test (Discarded cause) s.rows })
-given_up_for k s from test cause f stood known is same =
-    queues_for k s f _ _ _ (shifts_stand f.stands (changed_shifts test (Discarded cause) s.rows f.stands.numbered (is (Discarded cause) ∙ final_none (Discarded cause) from refl stood) refl (λ g h t e. is h ∙ grind (arith, same_is)))
-    (λ g t. queue_set from g [] k.lists stood known ∙ grind (arith, nat_tests, same_is, is g)) (f.stands.queues from ∙ ap numbers same)) (links_stay from [] k.lists) _ _ f.routing (λ m. last_stays from [] k.lists m)
+-- ALL OF A QUEUE are given up.
+pub given_up_for : (k : Kept) (s : State) (from : Fate) (cause : DiscardCause) → StandsFor k s → is_standing from ≡ true → IsKnown from k.lists
+    → StandsFor (record k { lists = with_queue from [] k.lists; messages = restood (queue_at from k.lists) (Discarded cause) k.messages }) (record s { rows = changed (is_there from) (Discarded cause) s.rows })
+given_up_for k s from cause f stood known =
+    let long : length (numbers (rows_at from s.rows)) ≤ length s.rows = omega (arith, length-map (rows_at from s.rows) (λ (row : Row). row.number), fewer_filter (λ (row : Row). is_there from row.fate) s.rows) in
+    let all : queue_at from k.lists ≡ take (length s.rows) (numbers (rows_at from s.rows)) = f.stands.queues from stood ∙ sym (take_all (length s.rows) (numbers (rows_at from s.rows)) long) in
+    queues_for k s f _ _ _ (shifts_stand f.stands (turned_shifts from (Discarded cause) stood (grind arith) (length s.rows) s.rows f.stands.numbered (λ e. absurd cc))
+    (λ g t. queue_set from g [] k.lists stood known ∙ grind (arith, nat_tests, same_is, drop_all, long)) all) (links_stay from [] k.lists) _ _ f.routing (λ m. last_stays from [] k.lists m)
 
 -- A LINK SETTLES: what stands on it goes to another place.
-settled_at : (l : ℕ) (to : Fate) (q : Lists) → IsAside l to q → (f : Fate) → is_standing f ≡ true → queue_at f (settled l to q) ≡ cond (is_on l f) [] (cond (same_fate to f) (queue_at to q ++ on_lists l q) (queue_at f q))
-settled_at l to q a f t = let w = settling l to q a in let e = w.elsewhere f t in grind (arith, nat_tests, same_is, w, e)
-
 pub settled_for : (k : Kept) (s : State) (n : ℕ) (target : Option ℕ) (link link' : LinkState) (routing : Routing) → StandsFor k s → IsInOrder n s.rows → IsHeldLast n s.rows → slice_get s.links n ≡ Some link → link'.acked ≡ link.acked
-    → IsAside n (fate_on target) k.lists → ((t : ℕ) → target ≡ Some t → (n == t) ≡ false)
-    → StandsFor (record k { lists = settled n (fate_on target) k.lists; messages = restood (on_lists n k.lists) (fate_on target) k.messages; links = slice_set s.links n link'; routing = routing })
+    → IsAside n (fate_on target) k.lists → StandsFor (record k { lists = settled n (fate_on target) k.lists; messages = restood (on_lists n k.lists) (fate_on target) k.messages; links = slice_set s.links n link'; routing = routing })
     (record s { rows = moved (is_on n) (all_with (fate_on target)) s.rows; links = slice_set s.links n link'; routing = routing })
-settled_for k s n target link link' routing f order last there e aside apart =
+settled_for k s n target link link' routing f order last there e aside =
     let to = fate_on target in
-    let off : is_on n to ≡ false = grind (arith, nat_tests) in
+    let off : is_on n to ≡ false = grind (arith, aside.unsent) in
     let stood : is_standing to ≡ true = grind arith in
-    let ns : on_lists n k.lists ≡ numbers (on n s.rows) = grind (arith, on_in_order n s.rows order last, map-append, f.stands.queues (Unacked n), f.stands.queues (Waiting n), f.stands.queues (Held n)) in
-    link_and_queues_for k s f _ _ _ (shifts_stand f.stands (moved_shifts (is_on n) to s.rows f.stands.numbered off stood) (λ g t. grind (arith, nat_tests, settled_at n to k.lists aside g t, f.stands.queues to, ns)) ns) (simp (length-updated, links_stay)) routing routing refl n link'
-    (λ m ne. search last_stays) (search last_stays ∙ still k s n link link' f there e)
+    let ns : on_lists n k.lists ≡ numbers (on n s.rows) = grind (arith, on_in_order n s.rows order last, map-append, f.stands.queues (Unacked n) refl, f.stands.queues (Waiting n) refl, f.stands.queues (Held n) refl) in
+    link_and_queues_for k s f _ _ _ (shifts_stand f.stands (moved_shifts (is_on n) to s.rows f.stands.numbered off stood) (λ g t. let at = settling n to k.lists aside in let e = at.elsewhere g t in grind (arith, nat_tests, same_is, at, e, ns)) ns) (simp (length-updated, links_stay)) routing routing refl n link'
+    (λ m ne. search last_stays) (search last_stays ∙ f.fsns n link there ∙ ap (λ (a : ℕ). (a + 127) % 128) (sym e))
 
 -- ALL OF A PLACE WAIT FOR A LINK: what was parked, or stood back by a code.
-passed_moves : (from to : Fate) (test : Fate → Bool) (q : Lists) (ms : List Message) (rows : List Row) → Stands q ms rows → is_standing from ≡ true → IsKnown from q → IsKnown to q → IsQueued to → is_standing to ≡ true → test to ≡ false → ((g : Fate) → is_standing g ≡ true → test g ≡ same_fate from g) → rows_at from rows ≡ standing test rows
-    → Moves (passed from to q) (restood (queue_at from q) to ms) rows (moved test (all_with to) rows)
-passed_moves from to test q ms rows s stood known other queued there off is same =
-    let ns : queue_at from q ≡ numbers (standing test rows) = s.queues from ∙ ap numbers same in
-    shifts_stand s (moved_shifts test to rows s.numbered off there) (λ g t. grind (arith, nat_tests, passed_replaces q from to stood known other g t, is g t, s.queues to, ns)) ns
+passed_moves : (from to : Fate) (q : Lists) (ms : List Message) (rows : List Row) → Stands q ms rows → is_standing from ≡ true → IsKnown from q → IsKnown to q → is_standing to ≡ true → is_there from to ≡ false → Moves (passed from to q) (restood (queue_at from q) to ms) rows (moved (is_there from) (all_with to) rows)
+passed_moves from to q ms rows s stood known other there off =
+    shifts_stand s (moved_shifts (is_there from) to rows s.numbered off there) (λ g t. passed_replaces q from to stood known other g t ∙ grind (arith, nat_tests, same_is, s.queues from stood)) (s.queues from stood)
 
 -- a link comes up, and what was parked waits for it
 pub risen_for : (k : Kept) (s : State) (n : ℕ) (link link' : LinkState) (routing : Routing) → StandsFor k s → slice_get s.links n ≡ Some link → link'.acked ≡ 0
@@ -199,48 +149,39 @@ pub risen_for : (k : Kept) (s : State) (n : ℕ) (link link' : LinkState) (routi
     (record s { rows = moved is_parked (all_with (Waiting n)) s.rows; links = slice_set s.links n link'; routing = routing })
 risen_for k s n link link' routing f there e =
     let reset : Lists = with_last n 127 k.lists in
-    let known = has_queues k s n link f there in
+    let known : n < length k.lists.links = grind (arith, within s.links n link there, f.as_many) in
     let inner : n < length reset.links = omega (arith, known, last_links n 127 k.lists) in
-    let stands : Stands reset k.messages s.rows = record { queues = λ g. queue_last g n 127 k.lists ∙ f.stands.queues g; fates = f.stands.fates; labels = f.stands.labels; count = f.stands.count; numbered = f.stands.numbered } in
-    link_and_queues_for k s f _ _ _ (passed_moves Parked (Waiting n) is_parked reset k.messages s.rows stands refl tt inner tt refl refl (λ g t. grind arith) refl) (simp length-updated) routing routing refl n link'
-    (λ m ne. search last_stays ∙ last_there n 127 k.lists m ne) (search last_stays ∙ last_here n 127 k.lists known ∙ sym (ap (λ (a : ℕ). (a + 127) % 128) e))
+    let stands : Stands reset k.messages s.rows = record { queues = λ g t. queue_last g n 127 k.lists ∙ f.stands.queues g t; fates = f.stands.fates; labels = f.stands.labels; count = f.stands.count; numbered = f.stands.numbered } in
+    link_and_queues_for k s f _ _ _ (passed_moves Parked (Waiting n) reset k.messages s.rows stands refl tt inner refl refl) (simp length-updated) routing routing refl n link'
+    (λ m ne. search last_stays ∙ last_set n 127 k.lists m known ∙ rw (ne_eqb n m ne) refl) (search last_stays ∙ last_set n 127 k.lists n known ∙ rw (eq-eqb n n refl, e) refl)
 
 -- what stood back by a code waits for its home
 pub released_for : (k : Kept) (s : State) (c l : ℕ) (routing : Routing) → StandsFor k s → c < length k.lists.back → l < length k.lists.links
     → StandsFor (record k { lists = passed (Back c) (Waiting l) k.lists; messages = restood (queue_at (Back c) k.lists) (Waiting l) k.messages; routing = routing }) (record s { rows = moved (is_back c) (all_with (Waiting l)) s.rows; routing = routing })
 released_for k s c l routing f code known =
-    queues_for k s f _ _ _ (passed_moves (Back c) (Waiting l) (is_back c) k.lists k.messages s.rows f.stands refl code known tt refl refl (λ g t. grind (arith, nat_tests)) refl) (simp length-updated) routing routing refl (λ m. search last_stays)
+    queues_for k s f _ _ _ (passed_moves (Back c) (Waiting l) k.lists k.messages s.rows f.stands refl code known refl refl) (simp length-updated) routing routing refl (λ m. search last_stays)
 
 -- What is kept after a call stands for what became of the state.
 pub becomes : {k new : Kept} {s : State} → StandsFor k s → new ≡ k → StandsFor new s
 becomes f e = rw e f
 
 -- WHAT REACHED THE FAR END, as the queues and as the rows tell it
-pub record Reaches (k : Kept) (s : State) (n fsn : ℕ) (link : LinkState) : Type 0 where
-  pub reach_is : reach n fsn k.lists ≡ reached_by fsn n link s.rows
-  pub reasonable : nat_le (reach n fsn k.lists) (length (queue_at (Unacked n) k.lists)) ≡ is_reasonable fsn n link s.rows
-
-pub reaches : (k : Kept) (s : State) (n fsn : ℕ) (link : LinkState) → StandsFor k s → slice_get s.links n ≡ Some link → Reaches k s n fsn link
-reaches k s n fsn link f there =
-    let is : reach n fsn k.lists ≡ reached_by fsn n link s.rows = ap (λ (last : ℕ). (fsn + 128 - last) % 128) (f.fsns n link there) in
-    record { reach_is = is; reasonable = ap (λ (r : ℕ). nat_le r (length (queue_at (Unacked n) k.lists))) is ∙ ap (nat_le (reached_by fsn n link s.rows)) (ap length (f.stands.queues (Unacked n)) ∙ length-map (unack n s.rows) (λ (row : Row). row.number)) }
+pub reaches : (k : Kept) (s : State) (n fsn : ℕ) (link : LinkState) → StandsFor k s → slice_get s.links n ≡ Some link
+    → (reach n fsn k.lists ≡ reached_by fsn n link s.rows) × (nat_le (reach n fsn k.lists) (length (queue_at (Unacked n) k.lists)) ≡ is_reasonable fsn n link s.rows)
+reaches k s n fsn link f there = grind (arith, f.fsns n link there, f.stands.queues (Unacked n) refl, length-map)
 
 abbrev pub IsOrdered : ℕ → List Row → Type 0
 IsOrdered n rows = IsInOrder n rows × IsHeldLast n rows
 
 -- A LINK THAT SETTLES, once it's judged how far the far end got: its rows stand in their order still, and it's there
-pub record IsJudged (reached : Reached) (n : ℕ) (link : LinkState) (s : State) : Type 0 where
-  pub ordered : IsOrdered n (judged reached n link s).rows
-  pub there : slice_get (judged reached n link s).links n ≡ Some (judged_link reached n link s.rows)
-
 module _ (n : ℕ) (link : LinkState) (s : State) (there : slice_get s.links n ≡ Some link) (o : IsOrdered n s.rows) where
   sent_up : (cause : DiscardCause) → IsOrdered n (changed (is_unacked n) (Discarded cause) s.rows)
-  sent_up cause = let g = sent_given_up n cause s.rows in (g.order_kept o.0, g.last_kept o.1)
+  sent_up cause = let g = given_up n true cause s.rows in (g.order_kept o.0, g.last_kept o.1)
 
   both_up : (cause : DiscardCause) → IsOrdered n (changed (is_waiting n) (Discarded cause) (changed (is_unacked n) (Discarded cause) s.rows))
-  both_up cause = let g = waiting_given_up n cause (changed (is_unacked n) (Discarded cause) s.rows) in (g.order_kept (sent_up cause).0, g.last_kept (sent_up cause).1)
+  both_up cause = let g = given_up n false cause (changed (is_unacked n) (Discarded cause) s.rows) in (g.order_kept (sent_up cause).0, g.last_kept (sent_up cause).1)
 
-  pub is_judged : (reached : Reached) → IsJudged reached n link s
-  is_judged Unknown = record { ordered = sent_up Emergency; there = there }
-  is_judged Unanswered = record { ordered = both_up NoAnswer; there = there }
+  pub is_judged : (reached : Reached) → IsOrdered n (judged reached n link s).rows × (slice_get (judged reached n link s).links n ≡ Some (judged_link reached n link s.rows))
+  is_judged Unknown = (sent_up Emergency, there)
+  is_judged Unanswered = (both_up NoAnswer, there)
   is_judged (Upto fsn) = let g = acked_rows n (reached_by fsn n link s.rows) s.rows in let given_up = both_up Unreasonable in grind (arith, get_set_same, within, g.order_kept o.0, g.last_kept o.1)

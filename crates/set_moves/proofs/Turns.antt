@@ -1,10 +1,10 @@
 -- WHAT STANDS BACK FOR A LINK turns back: the oldest, the first of the rows that do, and so all of it, one by one.
-use Rattle.std.proofs.Common.{inl, refl, arith, ◌≡◌, ◌∙◌, ap, sym, subst, [], ◌∷◌, ◌++◌, length, ℕ, suc, Bool, true, false, List, Some, cond, take, drop, ◌+◌, ◌*◌, None, ◌≤◌, ◌<◌, zero, ◌==◌, ◌⊎◌, Option, slice_get, filter, map, not, option_map}
+use Rattle.std.proofs.Common.{length-take, nat_lt, inl, inr, refl, arith, ◌≡◌, ◌∙◌, ap, sym, subst, [], ◌∷◌, ◌++◌, length, ℕ, suc, Bool, true, false, List, Some, cond, take, drop, ◌+◌, ◌*◌, None, ◌≤◌, ◌<◌, zero, ◌==◌, ◌⊎◌, Option, slice_get, filter, map, not, option_map}
 use Rattle.std.proofs.lemmas.Bool.{eq-eqb, cases_eq, cases_lt, ne_eqb, not-true}
 use Rattle.std.proofs.lemmas.Bool.Decides.{nat_tests}
 use Rattle.std.proofs.lemmas.List.Elements.{filter-append}
 use Rattle.std.proofs.lemmas.List.{append_assoc, length-append, get_or_past}
-use Rattle.set_queues.specs.Backs.{passed_first, IsOldest, back_from, NoneBack}
+use Rattle.set_queues.specs.Backs.{IsOldest, back_from, NoneBack}
 use Rattle.set_queues.specs.Buffers.{Lists, is_standing, same_fate, queue_at, HaveRoom, TakesRoom}
 use Rattle.set_queues.specs.Messages.{restood}
 use Rattle.set_queues.proofs.Standing.{same_is}
@@ -14,18 +14,17 @@ use Rattle.set_model.specs.Sound.{IsSound, IsAscending, AreAbove, IsBackOf}
 use Rattle.set_model.specs.State.{On, State, fate_at, LinkState}
 use Rattle.set_model.specs.Changeover.{turned_back, out_of_service}
 use Rattle.set_model.proofs.Rows.{each_so, filter_within, filter_apart, none_within, row_in_filter}
-use Rattle.set_moves.specs.Agreement.{Message, Kept, StandsFor, label_in, label_of}
+use Rattle.set_moves.specs.Agreement.{Message, Kept, StandsFor, is_there, label_in, label_of}
 use Rattle.set_moves.specs.Turning.{IsTurning, IsTurningRow, HasWay, TakesTurns, CanTurn}
 use Rattle.set_moves.proofs.States.{becomes, first_for, parted_for}
-use Rattle.set_moves.proofs.RowsAt.{is_there}
 use Rattle.set_moves.specs.Parts.{Parts, Up, IsWhole, kept_of}
-use Rattle.set_queues.specs.Queues.{QueuesState}
+use Rattle.set_queues.specs.Queues.{QueuesState, passed_first}
 use Rattle.set_queues.specs.Settling.{on as on_lists}
-use Rattle.set_queues.proofs.Tallies.{back_none}
+use Rattle.set_queues.proofs.Tallies.{back_none, back_more}
 use Rattle.set_queues.proofs.Soundness.{on_length, both_replaced}
 use Rattle.std.proofs.lemmas.Option.{same_Some}
 use Rattle.set_queues.specs.declared.message.Kind.TheVariants.{User}
-use Rattle.set_model.proofs.Order.{ascends_filter, none_standing, before_append, before_never}
+use Rattle.set_model.proofs.Order.{ascends_filter, none_standing, before_append, before_none}
 use Rattle.set_model.proofs.Lists.{within}
 use Rattle.set_model.proofs.Places.{home_back}
 use Rattle.set_model.proofs.SoundBack.{goes}
@@ -33,15 +32,8 @@ use Rattle.set_model.proofs.Walk.{IsAt}
 
 -- FATES
 
-back_is : (c : ℕ) (f : Fate) → is_back c f ≡ true → f ≡ Back c
-back_is c f e = grind arith
-
 back_of : (home : ℕ) (f : Fate) → is_back_to home f ≡ true → (c : ℕ) × (f ≡ Back c) × (home_of c ≡ home)
 back_of home f e = grind arith
-
--- what waits for a code of the home waits for the home
-back_home : (home c : ℕ) → home_of c ≡ home → (f : Fate) → is_back c f ≡ true → is_back_to home f ≡ true
-back_home home c of f e = ap (is_back_to home) (back_is c f e) ∙ eq-eqb (home_of c) home of
 
 -- ROWS
 
@@ -105,10 +97,10 @@ pub record IsFirst (code number : ℕ) (rest : List Row) : Type 0 where
 
 module _ (home : ℕ) (s : State) (k : Kept) (t : TurnsOn home s k) where
   none_gone : (c : ℕ) → home_of c ≡ home → standing (is_back c) t.gone ≡ []
-  none_gone c of = none_within (is_back c) (is_back_to home) (λ f e. back_home home c of f e) t.gone t.none
+  none_gone c of = none_within (is_back c) (is_back_to home) (λ f e. ap (is_back_to home) (same_is f (Back c) refl e) ∙ eq-eqb (home_of c) home of) t.gone t.none
 
   at_code : (c : ℕ) → home_of c ≡ home → queue_at (Back c) k.lists ≡ numbers (standing (is_back c) t.rest)
-  at_code c of = t.stands.stands.queues (Back c) ∙ ap numbers (grind (arith, filter-append, none_gone c of))
+  at_code c of = t.stands.stands.queues (Back c) refl ∙ ap numbers (grind (arith, filter-append, none_gone c of))
 
   none_left : (xs : List Row) → t.rest ≡ xs → NoneBack home k.lists → xs ≡ []
   none_left [] e nothing = refl
@@ -120,18 +112,16 @@ module _ (home : ℕ) (s : State) (k : Kept) (t : TurnsOn home s k) where
   pub all_turned : NoneBack home k.lists → StandsFor k (turned_back home s)
   all_turned nothing = let none = none_left t.rest refl nothing in rw (t.same, none) (rw none at t.stands)
 
-  first_at : (code : ℕ) (o : IsOldest home code k.lists) (x : Row) (xs : List Row) (b : Bool) → t.rest ≡ x ∷ xs → is_back code x.fate ≡ b → IsFirst code o.number (x ∷ xs)
-  first_at code o x xs true e is = record { row = x; after = xs; rest_is = refl; number_is = let first = o.first in grind (arith, at_code code o.of_home); on = is }
-  first_at code o x xs false e is =
+  first_in : (code : ℕ) (o : IsOldest home code k.lists) (xs : List Row) → t.rest ≡ xs → IsFirst code o.number xs
+  first_in code o [] e = let first = o.first in absurd (grind (arith, at_code code o.of_home))
+  first_in code o (x ∷ xs) e =
+      let first : slice_get (numbers (standing (is_back code) (x ∷ xs))) 0 ≡ Some o.number = let there = o.first in grind (arith, at_code code o.of_home) in
       let c = back_of home x.fate (subst (Each (IsLeft home s)) e t.left).0.0 in
       let above = (subst (λ (rows : List Row). IsAscending (numbers rows)) e t.order).0 in
       let least = o.least c.0 x.number c.2 (grind (arith, nat_tests, at_code c.0 c.2)) in
-      let more = first_above x.number o.number (λ (row : Row). is_back code row.fate) xs above (let first = o.first in grind (arith, at_code code o.of_home)) in
-      absurd (omega (arith, least, more))
-
-  first_in : (code : ℕ) (o : IsOldest home code k.lists) (xs : List Row) → t.rest ≡ xs → IsFirst code o.number xs
-  first_in code o [] e = let first = o.first in absurd (grind (arith, at_code code o.of_home))
-  first_in code o (x ∷ xs) e = first_at code o x xs (is_back code x.fate) e refl
+      let more = first_above x.number o.number (λ (row : Row). is_back code row.fate) xs above in
+      let on : is_back code x.fate ≡ true = grind (arith, first, least, more) in
+      record { row = x; after = xs; rest_is = refl; number_is = grind (arith, first, on); on = on }
 
   -- it has its way
   module _ (code : ℕ) (o : IsOldest home code k.lists) where
@@ -150,16 +140,16 @@ module _ (home : ℕ) (s : State) (k : Kept) (t : TurnsOn home s k) where
         record { number = it.row.number; first = o.first ∙ ap Some (sym it.number_is); message = label.0; message_is = label.1; stream = stream_of it.row.body; kind_is = label.2; few = turns.1; via = turns.2; place_is = ap (place_of (stream_of it.row.body)) t.stands.routing ∙ turns.3; known = subst (λ (n : ℕ). turns.2 < n) (ap length (sym t.stands.links)) turns.4 }
 
     -- and turns
-    pub turned_first : (to : Fate) (new : Kept) → IsOnLink (length k.lists.links) to → to ≡ fate_at (On way.via) s → new ≡ record k { lists = passed_first (Back code) to k.lists; messages = restood (take 1 (queue_at (Back code) k.lists)) to k.messages } → TurnsOn home s new
+    pub turned_first : (to : Fate) (new : Kept) → IsOnLink (length k.lists.links) to → to ≡ fate_at (On way.via) s → new ≡ record k { lists = passed_first 1 (Back code) to k.lists; messages = restood (take 1 (queue_at (Back code) k.lists)) to k.messages } → TurnsOn home s new
     unfolding way
     turned_first to new on is b =
         let off : is_back_to home to ≡ false = grind arith in
         let way_is : to ≡ way_in s it.row = is ∙ ap (λ place. fate_at place s) (sym (it_turns.1 it_turns.0).3) in
         let rows_are : turned (is_back code) to 1 (t.gone ++ t.rest) ≡ (t.gone ++ with_fate to it.row ∷ []) ++ it.after = ap (λ (rows : List Row). turned (is_back code) to 1 (t.gone ++ rows)) it.rest_is ∙ turned_one (is_back code) to it.row it.after t.gone (none_gone code o.of_home) it.on in
         let unlike = none_standing (IsLeft home s) (is_there to) (λ x e l. absurd (let here = l.0 in grind (arith, same_is, off))) t.rest t.left in
-        let order : AreBefore (is_there to) (is_back code) (t.gone ++ t.rest) = before_append (is_there to) (is_back code) t.gone t.rest (before_never (is_there to) (is_back code) t.gone (none_gone code o.of_home)) unlike in
+        let order : AreBefore (is_there to) (is_back code) (t.gone ++ t.rest) = before_append (is_there to) (is_back code) t.gone t.rest (before_none (is_there to) (is_back code) t.gone (inr (none_gone code o.of_home))) unlike in
         let known : code < length k.lists.back = let first = o.first in grind (arith, nat_tests, cases_lt, get_or_past) in
-        let stands = first_for k (record s { rows = t.gone ++ t.rest }) (Back code) to (is_back code) (is_there to) t.stands refl (grind arith) known (let low = on.1 in grind arith) (λ g. grind arith) (λ g. refl) (grind arith) refl order in
+        let stands = first_for k (record s { rows = t.gone ++ t.rest }) (Back code) to t.stands refl (grind arith) known (let low = on.1 in grind arith) (grind arith) order in
         record {
           gone = t.gone ++ with_fate to it.row ∷ [];
           rest = it.after;
@@ -170,26 +160,15 @@ module _ (home : ℕ) (s : State) (k : Kept) (t : TurnsOn home s k) where
           same = t.same ∙ ap (λ (rows : List Row). record s { rows = rows }) (ap (λ (rows : List Row). t.gone ++ map (fated (way_in s)) rows) it.rest_is ∙ ap (λ (f : Fate). t.gone ++ with_fate f it.row ∷ map (fated (way_in s)) it.after) (sym way_is) ∙ sym (append_assoc t.gone (with_fate to it.row ∷ []) (map (fated (way_in s)) it.after)));
         }
 
-back_suc : (code n : ℕ) (q : Lists) → back_from code (suc n) q ≡ back_from code n q + length (queue_at (Back (code + n)) q)
-unfolding back_from
-back_suc code n q = refl
-
 module _ (code : ℕ) (q q' : Lists) (others : (c : ℕ) → (code ≡ c → ⊥) → queue_at (Back c) q' ≡ queue_at (Back c) q) where
-  back_same : (from n : ℕ) → from + n ≤ code → back_from from n q' ≡ back_from from n q
-  back_same from zero low = grind (arith, back_none)
-  back_same from (suc n) low = grind (arith, back_suc, back_same from n (omega (arith, low)), others (from + n))
-
-  pub back_less : (gone : ℕ) → length (queue_at (Back code) q') + gone ≡ length (queue_at (Back code) q) → (from n : ℕ) → from ≤ code → code < from + n → back_from from n q' + gone ≡ back_from from n q
-  back_less gone less from zero low high = absurd (omega (arith, low, high))
-  back_less gone less from (suc n) low high = grind (arith, nat_tests, cases_eq, back_suc, back_same, back_less gone less from n low)
+  pub back_less : (gone : ℕ) → length (queue_at (Back code) q') + gone ≡ length (queue_at (Back code) q) → (from n : ℕ) → from ≤ code → back_from from n q' + cond (nat_lt code (from + n)) gone 0 ≡ back_from from n q
+  back_less gone less from zero low = grind (arith, nat_tests, back_none)
+  back_less gone less from (suc n) low = grind (arith, nat_tests, less, cases_eq code (from + n), back_more from n q, back_more from n q', back_less gone less from n low, others (from + n))
 
 -- THE FIRST OF A CODE'S GOES TO A LINK: it waits for it, or is held for it
 module _ (home code : ℕ) (to : Fate) (q : Lists) (o : IsOldest home code q) (on : IsOnLink (length q.links) to) where
   abbrev gone : Lists
-  gone = passed_first (Back code) to q
-
-  pub apart : (c : ℕ) → same_fate to (Back c) ≡ false
-  apart c = let to_link = on.2 in grind arith
+  gone = passed_first 1 (Back code) to q
 
   pub queue_then : (f : Fate) → is_standing f ≡ true → queue_at f gone ≡ cond (same_fate (Back code) f) (drop 1 (queue_at (Back code) q)) (cond (same_fate to f) (queue_at to q ++ take 1 (queue_at (Back code) q)) (queue_at f q))
   queue_then f s =
@@ -203,7 +182,7 @@ module _ (home code : ℕ) (to : Fate) (q : Lists) (o : IsOldest home code q) (o
       let of = o.of_home in
       let first = o.first in
       let less : length (queue_at (Back code) gone) + 1 ≡ length (queue_at (Back code) q) = grind (arith, nat_tests, queue_then (Back code) refl) in
-      back_less code q gone (λ c ne. queue_then (Back c) refl ∙ rw (ne_eqb code c ne, apart c) refl) 1 less (16 * home) 16 (omega (arith, of)) (omega (arith, of))
+      grind (arith, nat_tests, back_less code q gone (λ c ne. let to_link = on.2 in let apart : same_fate to (Back c) ≡ false = grind arith in queue_then (Back c) refl ∙ rw (ne_eqb code c ne, apart) refl) 1 less (16 * home) 16 (omega (arith, of)))
 
   -- and at most one more stands on a link
   grown : (f : Fate) → is_standing f ≡ true → same_fate (Back code) f ≡ false → length (queue_at f gone) ≤ length (queue_at f q) + cond (same_fate to f) 1 0
@@ -213,10 +192,10 @@ module _ (home code : ℕ) (to : Fate) (q : Lists) (o : IsOldest home code q) (o
   on_then m = let to_link = on.2 in grind (arith, nat_tests, on_length m q, on_length m gone, grown (Unacked m) refl refl, grown (Waiting m) refl refl, grown (Held m) refl refl)
 
 -- ROOM
-pub turns_one : (home code : ℕ) (to : Fate) (old new : QueuesState) → IsOldest home code old.lists → IsOnLink (length old.lists.links) to → new.lists ≡ passed_first (Back code) to old.lists → TakesRoom to 1 old.rooms new.rooms → new.room ≡ old.room → TakesTurns 1 old new
+pub turns_one : (home code : ℕ) (to : Fate) (old new : QueuesState) → IsOldest home code old.lists → IsOnLink (length old.lists.links) to → new.lists ≡ passed_first 1 (Back code) to old.lists → TakesRoom to (length (take 1 (queue_at (Back code) old.lists))) old.rooms new.rooms → new.room ≡ old.room → TakesTurns 1 old new
 turns_one home code to old new o on e rooms room = record {
   room = room;
-  rooms = λ f. let taken = rooms f in grind arith;
+  rooms = λ f. let taken = rooms f in grind (arith, length-take);
   on_link = λ n low. rw e (on_then home code to old.lists o on n);
 }
 

@@ -1,14 +1,13 @@
 -- WHAT A SET KEEPS, AND HOW IT AGREES WITH THE STATE that it stands for. Read this file first.
-use Rattle.std.specs.Prelude.{◌≡◌, ℕ, ◌+◌, ◌%◌, ◌==◌, List, [], length, Some, slice_get, if◌then◌else◌, option_map}
+use Rattle.std.specs.Prelude.{◌≡◌, ℕ, ◌+◌, ◌%◌, ◌==◌, Bool, true, List, length, Some, slice_get, if◌then◌else◌, option_map}
 use Rattle.set_events.specs.declared.answer.Fate.{Fate}
-use Rattle.set_events.specs.declared.answer.Fate.TheVariants.{Waiting, Unacked, Acked, Held, Parked, Back, Discarded}
 use Rattle.set_queues.specs.declared.message.Kind.{Kind}
 use Rattle.set_queues.specs.declared.message.Kind.TheVariants.{User, Order}
 pub use Rattle.set_queues.specs.declared.message.Message.{Message}
-use Rattle.set_queues.specs.Buffers.{Lists, queue_at, last_at}
+use Rattle.set_queues.specs.Buffers.{Lists, is_standing, queue_at, last_at}
 use Rattle.set_queues.specs.Messages.{fate_at}
 use Rattle.set_route.specs.Routing.{Routing}
-use Rattle.set_model.specs.Rows.{Row, numbers, standing, is_back, unack, wait, held, parked, place, body_at, service_indicator, stream_of, IsNumbered}
+use Rattle.set_model.specs.Rows.{Row, numbers, standing, same_fate, place, body_at, service_indicator, stream_of, IsNumbered}
 use Rattle.set_model.specs.Sound.{IsSound, AreFew}
 use Rattle.set_model.specs.State.{LinkState, State, Settings}
 use Rattle.l2_window.specs.Window.{fsn_before_first, fsn_count}
@@ -25,15 +24,12 @@ pub record Kept : Type 0 where
   pub routing : Routing
   pub inbox : List (List ℕ)
 
--- the rows that stand where the fate tells, if it isn't final
+-- whether it's this fate, and the rows of a fate that isn't final
+abbrev pub is_there : Fate → Fate → Bool
+is_there fate other = same_fate other fate
+
 abbrev pub rows_at : Fate → List Row → List Row
-rows_at (Waiting link) rows = wait link rows
-rows_at (Unacked link) rows = unack link rows
-rows_at (Held link) rows = held link rows
-rows_at Parked rows = parked rows
-rows_at (Back code) rows = standing (is_back code) rows
-rows_at (Acked link) rows = []
-rows_at (Discarded cause) rows = []
+rows_at fate rows = standing (is_there fate) rows
 
 -- whose a body is
 abbrev pub kind_of : List ℕ → Kind
@@ -53,7 +49,7 @@ label_of body = record { kind = kind_of body; octets = length body }
 -- THE QUEUES STAND FOR THE ROWS: each queue holds the numbers of the rows of its fate, in their order; each number's
 -- fate is its row's, and its label its body's
 pub record Stands (q : Lists) (ms : List Message) (rows : List Row) : Type 0 where
-  pub queues : (fate : Fate) → queue_at fate q ≡ numbers (rows_at fate rows)
+  pub queues : (fate : Fate) → is_standing fate ≡ true → queue_at fate q ≡ numbers (rows_at fate rows)
   pub fates : (number : ℕ) → fate_at number ms ≡ place number rows
   pub labels : (number : ℕ) → option_map label_in (slice_get ms number) ≡ option_map label_of (body_at number rows)
   pub count : length ms ≡ length rows

@@ -5,7 +5,7 @@ pub use Rattle.set_model.specs.declared.reached.Reached.{Reached}
 pub use Rattle.set_model.specs.declared.reached.Reached.TheVariants.{Upto, Unknown, Unanswered}
 use Rattle.set_model.specs.State.{LinkState, State, settings_of, has_phase_up}
 use Rattle.set_model.specs.Step.{Answer, Took, Outcome}
-use Rattle.set_model.specs.Changeover.{Obeyed, at_link}
+use Rattle.set_model.specs.Changeover.{Obeyed}
 pub use Rattle.set_moves.specs.declared.link.Link.{Link}
 pub use Rattle.set_moves.specs.declared.parts.Parts.{Parts}
 use Rattle.set_moves.specs.Agreement.{Kept, StandsFor, Agrees}
@@ -92,7 +92,3 @@ pub record Obeys (obeyed : Obeyed) (took : Took) (parts : Parts) : Type 0 where
 -- whatever state the old parts agree with
 abbrev pub AllObey : Parts → Parts → Took → (State → Obeyed) → Type 0
 AllObey old new took obeyed = (s : State) → Agrees (kept_of old) s → Obeys (obeyed s) took new
-
--- what becomes of an order for this link, if there is one
-abbrev pub obeyed_at : ℕ → (LinkState → Phase → State → Obeyed) → State → Obeyed
-obeyed_at number obeyed s = at_link number s (λ link. obeyed link link.phase s) (slice_get s.links number)

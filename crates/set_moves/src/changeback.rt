@@ -29,13 +29,11 @@ pub fn restore(parts: &mut Parts, number: u8, answer: &mut Answer) -> Result<(),
     ensures err { OnErr result (kept_of parts.new ≡ kept_of parts.old) }
 {
     if let Some(why) = unserved(parts, number) {
-        *answer = Answer::Refused { why };
+        *answer = why.into();
         return Ok(());
     }
     if !has_alternative(parts, number) {
-        *answer = Answer::Refused {
-            why: Refusal::Nothing,
-        };
+        *answer = Refusal::Nothing.into();
         return Ok(());
     }
     parts.bodies.reserve(MOST_LINKS)?;
@@ -68,15 +66,11 @@ pub fn time_out(parts: &mut Parts, number: u8, answer: &mut Answer) -> Result<()
     ensures err { OnErr result (kept_of parts.new ≡ kept_of parts.old) }
 {
     if usize::from(number) >= parts.links.len() {
-        *answer = Answer::Refused {
-            why: Refusal::NoSuchLink,
-        };
+        *answer = Refusal::NoSuchLink.into();
         return Ok(());
     }
     if !has_code_in_use(parts, number) {
-        *answer = Answer::Refused {
-            why: Refusal::Nothing,
-        };
+        *answer = Refusal::Nothing.into();
         return Ok(());
     }
     let back = parts.queues.back_count(number);
@@ -92,7 +86,7 @@ pub fn time_out(parts: &mut Parts, number: u8, answer: &mut Answer) -> Result<()
 }
 
 /// Whether streams can come back from some link.
-#[tactic(auto, using(crate::proofs::Declaring::count_is))]
+#[tactic(auto, using(crate::proofs::Declaring::count_is, crate::proofs::Declaring::declares_next))]
 fn has_alternative(parts: &Parts, number: u8) -> bool
     requires whole { IsWhole parts.now }
     requires known { number < length parts.now.links.items }
@@ -135,6 +129,7 @@ fn has_code_in_use(parts: &Parts, home: u8) -> bool
 
 /// What waits for the code's acknowledgement waits for its home from now on, and its streams run there;
 /// the code is free.
+#[tactic(auto, using(set_queues::proofs::Standing::links))]
 pub(crate) fn release(parts: &mut Parts, code: u8)
     requires whole { IsWhole parts.old }
     requires known { home_of code < length parts.old.links.items }

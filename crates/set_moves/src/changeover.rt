@@ -5,10 +5,10 @@ ghost use Rattle.l3_orders.specs.Grammar.{IsOrder};
 ghost use Rattle.set_queues.specs.Backs.{back_count};
 ghost use Rattle.set_queues.specs.Buffers.{TakesRoom};
 ghost use Rattle.set_queues.specs.Settling.{on};
-ghost use Rattle.set_model.specs.Changeover.{queued, left_by, settled, order_obeyed, changed_over, answered, at_link};
+ghost use Rattle.set_model.specs.Changeover.{queued, left_by, settled, order_obeyed, changed_over, answered, at_link, obeyed_at};
 ghost use Rattle.set_model.specs.State.{State, last_accepted};
 ghost use Rattle.set_moves.specs.Agreement.{Agrees, Holds};
-ghost use Rattle.set_moves.specs.Parts.{Up, Down, IsWhole, AreCounted, AtLink, IsOut, IsReach, Becomes, AgreedBecomes, AllObey, obeyed_at, kept_of};
+ghost use Rattle.set_moves.specs.Parts.{Up, Down, IsWhole, AreCounted, AtLink, IsOut, IsReach, Becomes, AgreedBecomes, AllObey, kept_of};
 ghost use Rattle.set_moves.specs.Room.{HasRoom, IsReady, IsSpaciousFor, CanTurnBack, order_fate};
 ghost use Rattle.set_moves.specs.Turning.{TakesTurns};
 
@@ -67,7 +67,7 @@ pub fn leave(parts: &mut Parts, number: u8, blind: bool)
 }
 
 /// An order is carried out (Q.704 5.4, 5.6, 6.3).
-#[tactic(auto, using(crate::proofs::Declaring::in_use, crate::proofs::Links::whole_of))]
+#[tactic(auto, using(crate::proofs::Links::whole_of))]
 pub fn obey(parts: &mut Parts, order: Order) -> Took
     requires holds { Holds (kept_of parts.old) }
     requires counted { AreCounted (2 ^ 61) parts.old.links.items }

@@ -1,7 +1,7 @@
 //! The error control of a link: one of the two methods.
 ghost use Rattle.std.specs.Prelude.{◌≡◌};
 ghost use Rattle.l2_window.specs.Control.{fsn_of};
-ghost use Rattle.set_model.specs.Control.{start_of, choice_of, head_of, control_after, part_of, control_heard};
+ghost use Rattle.set_model.specs.Control.{Control as ModelControl, start_of, choice_of, head_of, control_after, part_of, control_heard};
 ghost use Rattle.set_moves.specs.Controls.{IsPossible, control_of};
 
 use l2_basic::Basic;
@@ -27,11 +27,7 @@ pub(crate) enum ByMethod {
 }
 
 impl Model for Control {
-    ghost use Rattle.set_model.specs.Control.{Control as ModelControl};
-
     ghost Value = { ModelControl };
-
-    ghost use Rattle.set_moves.specs.Controls.{control_of};
 
     ghost view = { λ c. control_of c.by };
 }

@@ -1,5 +1,5 @@
 //! The messages heard for users.
-ghost use Rattle.std.specs.Prelude.{◌≡◌, ◌≤◌, length, IfOk};
+ghost use Rattle.std.specs.Prelude.{◌≡◌, ◌≤◌, ℕ, List, length, IfOk};
 
 use arrayvec::ArrayVec;
 use l2_units::{LONGEST_BODY, body_of};
@@ -17,8 +17,6 @@ pub struct HeardBody {
 }
 
 impl Model for HeardBody {
-    ghost use Rattle.std.specs.Prelude.{List, ℕ, ◌≤◌, length};
-
     ghost Value = { List ℕ };
 
     ghost view = { λ b. b.octets.items };

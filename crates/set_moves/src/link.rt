@@ -3,7 +3,7 @@ ghost use Rattle.std.specs.Prelude.{◌≡◌, ◌<◌, ◌^◌, false};
 ghost use Rattle.l3_orders.specs.Grammar.{IsOrder};
 ghost use Rattle.set_model.specs.Changeover.{reply_of};
 ghost use Rattle.set_model.specs.Control.{start_of};
-ghost use Rattle.set_model.specs.State.{new_link, last_accepted};
+ghost use Rattle.set_model.specs.State.{LinkState, new_link, last_accepted};
 
 use super::control::Control;
 use l3_orders::Order;
@@ -27,8 +27,6 @@ pub struct Link {
 }
 
 impl Model for Link {
-    ghost use Rattle.set_model.specs.State.{LinkState};
-
     ghost Value = { LinkState };
 
     ghost view = { λ l. record { phase = l.phase; blind = l.blind; acked = l.acked; accepted = l.accepted; control = l.control } };

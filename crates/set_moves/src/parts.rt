@@ -89,8 +89,7 @@ pub fn unserved(parts: &Parts, number: u8) -> Option<Refusal>
     match phase_of(parts, number) {
         None => Some(Refusal::NoSuchLink),
         Some(Phase::Up) => None,
-        Some(Phase::Down) => Some(Refusal::NotUp),
-        Some(Phase::Settled) => Some(Refusal::NotUp),
+        Some(Phase::Down | Phase::Settled) => Some(Refusal::NotUp),
     }
 }
 

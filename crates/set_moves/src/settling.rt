@@ -14,7 +14,7 @@ use set_model::{Phase, Reached};
 /// The link settles: what reached the far end is acknowledged, and what stands on it is moved.
 ///
 /// Conditions: a link of the set that isn't up, and room for all that stand on it where they go.
-#[tactic(auto, using(crate::proofs::Links::phase_at, crate::proofs::Links::same_target))]
+#[tactic(auto, using(crate::proofs::Links::same_target))]
 pub fn settle(parts: &mut Parts, number: u8, reached: Reached)
     requires whole { IsWhole parts.old }
     requires counted { AreCounted (2 ^ 61) parts.old.links.items }
@@ -27,8 +27,8 @@ pub fn settle(parts: &mut Parts, number: u8, reached: Reached)
         → link.phase ≡ Down → Agrees (kept_of parts.old) s
         → StandsFor (kept_of parts.new) (settled reached number link s) }
 {
-    judge(parts, number, reached);
     let target = target_of(&parts.links);
+    judge(parts, number, reached);
     parts.queues.settle(number, target);
     parts.links[usize::from(number)].phase = Phase::Settled;
     parts.routes.settle(number, target);
@@ -62,6 +62,7 @@ fn judge(parts: &mut Parts, number: u8, reached: Reached)
 }
 
 /// What was sent on the link, or waits for it, is discarded.
+#[tactic(auto, using(set_queues::proofs::Standing::links))]
 fn discard(parts: &mut Parts, number: u8, cause: DiscardCause)
     requires whole { IsWhole parts.old }
     requires known { number < length parts.old.links.items }

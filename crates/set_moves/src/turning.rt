@@ -40,12 +40,8 @@ fn way_of(parts: &Parts, code: u8) -> Fate
         → result ≡ fate_at (On way.via) s }
 {
     parts.queues.is_sound();
-    let Some(first) = parts.queues.number_at(Fate::Back { code }, 0) else {
-        unreachable!()
-    };
-    let Some(message) = parts.queues.message(first) else {
-        unreachable!()
-    };
+    let first = parts.queues.number_at(Fate::Back { code }, 0).unwrap();
+    let message = parts.queues.message(first).unwrap();
     match message.kind {
         Kind::User { stream } => fate_of_new(parts, stream),
         Kind::Order => unreachable!(),

@@ -5,10 +5,9 @@ use Rattle.std.proofs.lemmas.List.{length-map}
 use Rattle.std.proofs.lemmas.Option.{slice_get-map, slice_get_read, slice_get_within, get_or_from_slice_get}
 use Rattle.l2_window.specs.Queue.{QueueState}
 use Rattle.set_queues.specs.declared.buffers.Link.{Link}
-use Rattle.set_queues.specs.Messages.{updated}
-use Rattle.set_queues.specs.Buffers.{LinkLists, LinkRooms, Rooms, BuffersState, KeepsRoom}
+use Rattle.set_queues.specs.Buffers.{updated, LinkLists, LinkRooms, Rooms, BuffersState, KeepsRoom}
 use Rattle.std.specs.Option.{option_map_or}
-use Rattle.set_queues.specs.Kept.{lists_of, rooms_of, messages_of, room_of, state_of}
+use Rattle.set_queues.specs.Kept.{lists_of, rooms_of, state_of}
 use Rattle.set_queues.specs.declared.buffers.Buffers.TheInside.{Inside}
 use Rattle.set_queues.proofs.Standing.{updated_there, updated_other, updated_twice, map_set_updated, map_set_same, read_set}
 
@@ -41,14 +40,14 @@ keeps xs l x y parked back e u h fate = grind (arith, rooms_set, slice_get-map)
 pub back_there : {X : Type 0} (v : QueueState → X) (xs : List QueueState) (c : ℕ) (x : QueueState) (d : X) → slice_get xs c ≡ Some x → get_or (map v xs) c d ≡ v x
 back_there v xs c x d e = get_or_from_slice_get (map v xs) c (v x) d (slice_get-map v xs c ∙ ap (option_map v) e)
 
-pub back_set : (ns : List ℕ) (xs : List QueueState) (c : ℕ) (x y : QueueState) → slice_get xs c ≡ Some x → y.messages ≡ ns → map messages_of (slice_set xs c y) ≡ updated c (λ (z : List ℕ). ns) (map messages_of xs)
-back_set ns xs c x y e h = map_set_updated messages_of (λ (z : List ℕ). ns) xs c x y e h
+pub back_set : (ns : List ℕ) (xs : List QueueState) (c : ℕ) (x y : QueueState) → slice_get xs c ≡ Some x → y.messages ≡ ns → map (λ (z : QueueState). z.messages) (slice_set xs c y) ≡ updated c (λ (z : List ℕ). ns) (map (λ (z : QueueState). z.messages) xs)
+back_set ns xs c x y e h = map_set_updated (λ z. z.messages) (λ (z : List ℕ). ns) xs c x y e h
 
-pub back_same : (xs : List QueueState) (c : ℕ) (x y : QueueState) → slice_get xs c ≡ Some x → y.messages ≡ x.messages → map messages_of (slice_set xs c y) ≡ map messages_of xs
-back_same xs c x y e h = map_set_same messages_of xs c x y e h
+pub back_same : (xs : List QueueState) (c : ℕ) (x y : QueueState) → slice_get xs c ≡ Some x → y.messages ≡ x.messages → map (λ (z : QueueState). z.messages) (slice_set xs c y) ≡ map (λ (z : QueueState). z.messages) xs
+back_same xs c x y e h = map_set_same (λ z. z.messages) xs c x y e h
 
-pub room_read : (xs : List QueueState) (c k : ℕ) (x y : QueueState) → slice_get xs c ≡ Some x → get_or (map room_of (slice_set xs c y)) k 0 ≡ cond (c == k) y.room (get_or (map room_of xs) k 0)
-room_read xs c k x y e = rw (map_set_updated room_of (λ (r : ℕ). y.room) xs c x y e refl) (read_set y.room (map room_of xs) c k 0 (omega (arith, slice_get_within xs c x e, length-map xs room_of)))
+pub room_read : (xs : List QueueState) (c k : ℕ) (x y : QueueState) → slice_get xs c ≡ Some x → get_or (map (λ (z : QueueState). z.room) (slice_set xs c y)) k 0 ≡ cond (c == k) y.room (get_or (map (λ (z : QueueState). z.room) xs) k 0)
+room_read xs c k x y e = rw (map_set_updated (λ z. z.room) (λ (r : ℕ). y.room) xs c x y e refl) (read_set y.room (map (λ (z : QueueState). z.room) xs) c k 0 (omega (arith, slice_get_within xs c x e, length-map xs (λ (z : QueueState). z.room))))
 
 -- what a call on a queue of a link is for the set; and one on a code's
 pub ruleset of_link = (found, length-map, slice_get-map, lists_set, lists_same, rooms_set, keeps, updated_twice, eq-eqb)

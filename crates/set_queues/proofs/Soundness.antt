@@ -1,15 +1,14 @@
 -- What holds of every set's queues goes on holding.
-use Rattle.std.proofs.Common.{refl, arith, ◌≡◌, ◌∙◌, ap, ◌+◌, ◌≤◌, ◌<◌, [], ◌∷◌, ◌++◌, length, ℕ, Bool, true, false, ◌==◌, List, Some, cond, get_or, take, drop, replicate, slice_get, ◌≢◌, subst, Option, append_assoc, IfSome}
+use Rattle.std.proofs.Common.{refl, arith, ◌≡◌, ◌∙◌, ap, ◌+◌, ◌≤◌, ◌<◌, [], ◌∷◌, ◌++◌, length, ℕ, Bool, true, false, ◌==◌, List, Some, cond, take, drop, slice_get, ◌≢◌, subst, Option, append_assoc, IfSome}
 use Rattle.set_queues.specs.Messages.{one_if, Message, restood_one, restood, IsFit, AreFit}
-use Rattle.set_queues.specs.Backs.{passed_first}
-use Rattle.set_queues.specs.Sending.{first_sent}
 use Rattle.set_queues.specs.Buffers.{Fate, Waiting, Unacked, no_lists, empty_lists, LinkLists, Lists, is_standing, same_fate, queue_at, with_queue, with_last, IsKnown, IsQueued, Rooms, Held, room_at, TakesRoom}
-use Rattle.set_queues.specs.Queues.{occurs, stands, passed, AreTied, AreGiven, AreSound, AreNarrow}
+use Rattle.set_queues.specs.Queues.{occurs, stands, passed, passed_first, AreTied, AreSound, AreNarrow}
 use Rattle.set_queues.proofs.Standing.{length-updated, updated_same, updated_other, get_push, Moves, moved_tie, given_queue, take_get, same_is, occurs-append, occurs-split, occurs_here, queue_set, links_stay, queue_away, SameSize, size_stays, known_on, restood-append, same_self, queued_stands}
 use Rattle.set_queues.proofs.Tallies.{fit_push, fit_restood}
-use Rattle.std.proofs.lemmas.List.{drop_all, get_or-replicate, get_or-set_same, get_or-set_other, get_or_past, length-replicate, length-append, length-take, length-drop}
+use Rattle.std.proofs.lemmas.List.{get_or-replicate, get_or_past, length-replicate, length-append, length-take, length-drop}
 use Rattle.std.proofs.lemmas.Option.{slice_get_past, slice_get_cases}
 use Rattle.std.proofs.lemmas.Bool.{eq-eqb}
+use Rattle.std.proofs.lemmas.Bool.Decides.{nat_tests}
 use Rattle.set_queues.specs.Settling.{fate_on, on, Settles}
 
 -- two queues change: messages leave the one and join the other
@@ -17,10 +16,7 @@ abbrev pub Replaces : Lists → Lists → Fate → Fate → List ℕ → List �
 Replaces q q' from to left joined = (f : Fate) → is_standing f ≡ true → queue_at f q' ≡ cond (same_fate from f) left (cond (same_fate to f) joined (queue_at f q))
 
 pub both_size : (q : Lists) (from to : Fate) (left joined : List ℕ) → SameSize q (with_queue from left (with_queue to joined q))
-both_size q from to left joined =
-    let once = size_stays to joined q in
-    let twice = size_stays from left (with_queue to joined q) in
-    record { links = twice.links ∙ once.links; back = twice.back ∙ once.back }
+both_size q from to left joined = let once = size_stays to joined q in let twice = size_stays from left (with_queue to joined q) in record { links = twice.links ∙ once.links; back = twice.back ∙ once.back }
 
 pub both_replaced : (q : Lists) (from to : Fate) (left joined : List ℕ) → IsKnown from q → IsKnown to q → Replaces q (with_queue from left (with_queue to joined q)) from to left joined
 both_replaced q from to left joined k o f s =
@@ -30,8 +26,8 @@ both_replaced q from to left joined k o f s =
 pub passed_replaces : (q : Lists) (from to : Fate) → is_standing from ≡ true → IsKnown from q → IsKnown to q → Replaces q (passed from to q) from to [] (queue_at to q ++ queue_at from q)
 passed_replaces q from to s k o = both_replaced q from to [] (queue_at to q ++ queue_at from q) k o
 
-pub given_all : (q : Lists) (ms : List Message) (from : Fate) → AreSound q ms → is_standing from ≡ true → AreGiven (queue_at from q) ms
-given_all q ms from h s = given_queue q ms from h.tied s
+pub known_passed : (f from to : Fate) (q now : Lists) → now ≡ passed from to q → IsKnown f q → IsKnown f now
+known_passed f from to q now e k = rw e (known_on f q _ (both_size q from to _ _) k)
 
 -- of as many links and codes
 sound_on : (q q' : Lists) (ms ms' : List Message) → AreSound q ms → SameSize q q' → AreNarrow q' → AreTied q' ms' → AreFit ms' → AreSound q' ms'
@@ -39,55 +35,30 @@ sound_on q q' ms ms' s e n t f = record { one = omega (arith, s.one, e.links); f
 
 -- THE FIRST SO MANY OF A QUEUE stand last in another place
 
-abbrev pub moved : ℕ → Fate → Fate → Lists → Lists
-moved k from to q = with_queue from (drop k (queue_at from q)) (with_queue to (queue_at to q ++ take k (queue_at from q)) q)
-
-pub record CanMove (from to : Fate) (q : Lists) : Type 0 where
-  pub standing : is_standing from ≡ true
-  pub known : IsKnown from q
-  pub other : IsKnown to q
-  pub apart : same_fate to from ≡ false
-
-module _ (k : ℕ) (from to : Fate) (q : Lists) (ms : List Message) (c : CanMove from to q) where
-  moved_queue : Replaces q (moved k from to q) from to (drop k (queue_at from q)) (queue_at to q ++ take k (queue_at from q))
-  moved_queue = both_replaced q from to _ _ c.known c.other
-
-  moved_moves : Moves (take k (queue_at from q)) from to q (moved k from to q)
-  moved_moves f s m = let there = moved_queue f s in let left = same_is from f s in let come = same_is to f s in let apart = c.apart in grind (arith, occurs-split, occurs-append)
-
-  narrow_moved : AreNarrow q → ((l : ℕ) → same_fate to (Unacked l) ≡ true → length (queue_at to q) + k ≤ 127) → AreNarrow (moved k from to q)
-  narrow_moved h n l = let there = moved_queue (Unacked l) refl in let had = h l in let more = n l in grind (arith, same_is, length-append, length-take, length-drop)
-
-  pub sound_moved : AreSound q ms → ((l : ℕ) → same_fate to (Unacked l) ≡ true → length (queue_at to q) + k ≤ 127) → AreSound (moved k from to q) (restood (take k (queue_at from q)) to ms)
-  sound_moved s n =
-      let within : (m : ℕ) → occurs m (take k (queue_at from q)) ≤ occurs m (queue_at from q) = λ m. omega (arith, occurs-split m k (queue_at from q)) in
-      sound_on q _ ms _ s (both_size q from to _ _) (narrow_moved s.narrow n) (moved_tie q _ ms _ from to s.tied c.standing within moved_moves) (fit_restood (take k (queue_at from q)) to ms s.fit)
+pub sound_moved : (k : ℕ) (from to : Fate) (q : Lists) (ms : List Message) → is_standing from ≡ true → IsKnown from q → IsKnown to q → same_fate to from ≡ false → AreSound q ms → ((l : ℕ) → same_fate to (Unacked l) ≡ true → length (queue_at to q) + k ≤ 127) → AreSound (passed_first k from to q) (restood (take k (queue_at from q)) to ms)
+sound_moved k from to q ms standing known other apart s n =
+    let queues = both_replaced q from to (drop k (queue_at from q)) (queue_at to q ++ take k (queue_at from q)) known other in
+    let moves : Moves (take k (queue_at from q)) from to q (passed_first k from to q) = λ f t m. let there = queues f t in let left = same_is from f t in let come = same_is to f t in grind (arith, occurs-split, occurs-append) in
+    let narrow : AreNarrow (passed_first k from to q) = λ l. let there = queues (Unacked l) refl in let had = s.narrow l in let more = n l in grind (arith, same_is, length-append, length-take, length-drop) in
+    let within : (m : ℕ) → occurs m (take k (queue_at from q)) ≤ occurs m (queue_at from q) = λ m. omega (arith, occurs-split m k (queue_at from q)) in
+    sound_on q _ ms _ s (both_size q from to _ _) narrow (moved_tie q _ ms _ from to s.tied standing within moves) (fit_restood (take k (queue_at from q)) to ms s.fit)
 
 pub unqueued : (to : Fate) (l : ℕ) → (is_standing to ≡ true → IsQueued to) → same_fate to (Unacked l) ≡ false
 unqueued to l h = grind arith
 
 -- to where messages come otherwise than by being sent
-pub sound_passed : (k : ℕ) (from to : Fate) (q : Lists) (ms : List Message) → AreSound q ms → CanMove from to q → (is_standing to ≡ true → IsQueued to) → AreSound (moved k from to q) (restood (take k (queue_at from q)) to ms)
-sound_passed k from to q ms s c n = sound_moved k from to q ms c s (λ l f. let no = unqueued to l n in absurd (cc))
+pub sound_passed : (k : ℕ) (from to : Fate) (q q' : Lists) (ms ms' : List Message) → AreSound q ms → is_standing from ≡ true → IsKnown from q → IsKnown to q → same_fate to from ≡ false → (is_standing to ≡ true → IsQueued to) → q' ≡ passed_first k from to q → ms' ≡ restood (take k (queue_at from q)) to ms → AreSound q' ms'
+sound_passed k from to q q' ms ms' s standing known other apart n e m = rw (e, m) (sound_moved k from to q ms standing known other apart s (λ l f. let no = unqueued to l n in absurd (cc)))
 
-pub moved_whole : (k : ℕ) (from to : Fate) (q mid new : Lists) → k ≡ length (queue_at from q) → mid ≡ with_queue to (queue_at to q ++ take k (queue_at from q)) q → new ≡ with_queue from [] mid → new ≡ moved k from to q
-moved_whole k from to q mid new e m n = rw (n, m, drop_all k (queue_at from q) (omega (arith, e))) refl
-
-pub moved_one : (from to : Fate) (q mid new : Lists) → IsKnown to q → same_fate to from ≡ false → mid ≡ with_queue to (queue_at to q ++ take 1 (queue_at from q)) q → new ≡ with_queue from (drop 1 (queue_at from mid)) mid → new ≡ passed_first from to q
+pub moved_one : (from to : Fate) (q mid new : Lists) → IsKnown to q → same_fate to from ≡ false → mid ≡ with_queue to (queue_at to q ++ take 1 (queue_at from q)) q → new ≡ with_queue from (drop 1 (queue_at from mid)) mid → new ≡ passed_first 1 from to q
 moved_one from to q mid new o a m n = rw (n, queue_away to from _ q mid m o a, m) refl
 
 -- A NEW MESSAGE
 
-stands_push : (ms : List Message) (x : Message) (f : Fate) (m : ℕ) → one_if (stands f m (ms ++ x ∷ [])) ≡ one_if (stands f m ms) + cond (length ms == m) (one_if (same_fate x.fate f)) 0
-stands_push ms x f m = grind (arith, get_push, slice_get_past)
-
 added_tie : (q : Lists) (ms : List Message) (x : Message) → AreTied q ms → is_standing x.fate ≡ true → IsKnown x.fate q → AreTied (with_queue x.fate (queue_at x.fate q ++ length ms ∷ []) q) (ms ++ x ∷ [])
 added_tie q ms x tie u k f s m =
-    let had = tie f s m in
-    let there = queue_set x.fate f (queue_at x.fate q ++ length ms ∷ []) q u k in
-    let stood = stands_push ms x f m in
-    let more = occurs-append m (queue_at x.fate q) (length ms ∷ []) in
-    grind (arith, same_is)
+    let stood : one_if (stands f m (ms ++ x ∷ [])) ≡ one_if (stands f m ms) + cond (length ms == m) (one_if (same_fate x.fate f)) 0 = grind (arith, get_push, slice_get_past) in
+    grind (arith, same_is, tie f s m, queue_set x.fate f (queue_at x.fate q ++ length ms ∷ []) q u k, stood, occurs-append m (queue_at x.fate q) (length ms ∷ []))
 
 pub sound_added : (q : Lists) (ms : List Message) (x : Message) → AreSound q ms → IsFit x → IsKnown x.fate q → IsQueued x.fate → AreSound (with_queue x.fate (queue_at x.fate q ++ length ms ∷ []) q) (ms ++ x ∷ [])
 sound_added q ms x s fit k u =
@@ -96,11 +67,8 @@ sound_added q ms x s fit k u =
 
 -- NO MESSAGE
 
-all_alike : {X : Type 0} (x : X) (n k : ℕ) → get_or (replicate n x) k x ≡ x
-all_alike x n k = grind (arith, get_or-replicate, get_or-set_same, get_or-set_other, get_or_past, length-replicate)
-
 empty_queue : (n codes : ℕ) (f : Fate) → queue_at f (empty_lists n codes) ≡ []
-empty_queue n codes f = grind (arith, all_alike, slice_get_cases, get_or-replicate, length-replicate)
+empty_queue n codes f = grind (arith, slice_get_cases, get_or-replicate, get_or_past, length-replicate, nat_tests)
 
 pub sound_new : (q : Lists) (n : ℕ) → q ≡ empty_lists n 256 → 1 ≤ n → n ≤ 16 → AreSound q []
 sound_new q n e low high = rw e (record {
@@ -114,10 +82,10 @@ sound_new q n e low high = rw e (record {
 
 -- THE FIRST THAT WAITS IS SENT
 
-pub sound_sent : (q q' : Lists) (ms : List Message) (l n : ℕ) → AreSound q ms → l < length q.links → slice_get (queue_at (Waiting l) q) 0 ≡ Some n → length (queue_at (Unacked l) q) < 127 → q' ≡ first_sent l n q → AreSound q' (restood_one n (Unacked l) ms)
+pub sound_sent : (q q' : Lists) (ms : List Message) (l n : ℕ) → AreSound q ms → l < length q.links → slice_get (queue_at (Waiting l) q) 0 ≡ Some n → length (queue_at (Unacked l) q) < 127 → q' ≡ passed_first 1 (Waiting l) (Unacked l) q → AreSound q' (restood_one n (Unacked l) ms)
 sound_sent q q' ms l n s b first few e =
     let one : take 1 (queue_at (Waiting l) q) ≡ n ∷ [] = take_get _ 0 n first in
-    rw e (rw one at (sound_moved 1 (Waiting l) (Unacked l) q ms (record { standing = refl; known = b; other = b; apart = refl }) s
+    rw e (subst (λ (ns : List ℕ). AreSound (passed_first 1 (Waiting l) (Unacked l) q) (restood ns (Unacked l) ms)) one (sound_moved 1 (Waiting l) (Unacked l) q ms refl b b refl s
     (λ k t. let same = same_is (Unacked l) (Unacked k) refl t in omega (arith, few))))
 
 -- THE FIRST OF THE UNACKNOWLEDGED LEAVE, and a link has a new life
@@ -152,10 +120,8 @@ waits_on link to q a = let now = passed_replaces q (Unacked link) to refl a.know
 
 pub held_last : (link : ℕ) (to : Fate) (q : Lists) → IsAside link to q → queue_at (Held link) (passed (Waiting link) to (passed (Unacked link) to q)) ≡ queue_at (Held link) q
 held_last link to q a =
-    let mid = passed_replaces q (Unacked link) to refl a.known a.other (Held link) refl in
     let there = aside_passed link (Unacked link) to q a in
-    let now = passed_replaces (passed (Unacked link) to q) (Waiting link) to refl there.known there.other (Held link) refl in
-    grind (arith, a.held)
+    grind (arith, a.held, passed_replaces q (Unacked link) to refl a.known a.other (Held link) refl, passed_replaces (passed (Unacked link) to q) (Waiting link) to refl there.known there.other (Held link) refl)
 
 -- the room that is left
 pub room_left : (to : Fate) (count : ℕ) (old new : Rooms) → IsQueued to → TakesRoom to count old new → room_at to old ≤ room_at to new + count
@@ -180,4 +146,4 @@ settling link to q a =
       elsewhere = λ f s t u w h. grind (arith, one f s, two f s, three f s);
     }
 
-pub ruleset settles = (aside_of, waits_on, held_last, on_length, restood-append)
+pub ruleset settles = (aside_of, waits_on, held_last, on_length, restood-append, links_stay, length-updated, known_passed)

@@ -3,12 +3,12 @@ use Rattle.std.proofs.Common.{refl, arith, ◌≡◌, ◌∙◌, ap, sym, ◌<�
 use Rattle.std.proofs.Math.Seq.{map-set_same}
 use Rattle.std.proofs.lemmas.List.{map-append, replicate_more, map-set, take-append-drop, append-nil, set-get_or, get_or-set_same, get_or-set_other}
 use Rattle.std.proofs.lemmas.Option.{slice_get-map, get_or_from_slice_get, slice_get_cases, slice_get_within, slice_get_past, slice_get-get_or}
-use Rattle.set_queues.specs.Messages.{updated, one_if, Message, with_fate, restood_one, restood, fate_at}
+use Rattle.set_queues.specs.Messages.{one_if, Message, with_fate, restood_one, restood, fate_at}
 use Rattle.std.proofs.lemmas.Bool.Decides.{nat_tests}
 use Rattle.std.proofs.lemmas.Bool.{eq-eqb}
 use Rattle.std.proofs.lemmas.Grind.{take_at_read}
 use Rattle.std.specs.Option.{option_map_or}
-use Rattle.set_queues.specs.Buffers.{Fate, Lists, is_standing, same_fate, queue_at, Back, with_queue, IsKnown, IsQueued}
+use Rattle.set_queues.specs.Buffers.{updated, Fate, Lists, is_standing, same_fate, queue_at, Back, with_queue, IsKnown, IsQueued}
 use Rattle.set_queues.specs.Queues.{occurs, AreTied, AreGiven}
 
 -- LISTS of which the element at one place changes
@@ -178,8 +178,5 @@ pub queue_next : (g : Fate) (xs ys : List ℕ) (i m : ℕ) (q now new : Lists) �
 queue_next g xs ys i m q now new h e f n =
     let more : with_queue g (queue_at g now ++ m ∷ []) now ≡ with_queue g ((xs ++ take i ys) ++ m ∷ []) q = grind (arith, queue_set, same_self, queue_twice) in
     rw (n, more, take_get ys i m f) (simp append_assoc)
-
-pub restood_next : (ys : List ℕ) (i m : ℕ) (f : Fate) (ms now new : List Message) → now ≡ restood (take i ys) f ms → slice_get ys i ≡ Some m → new ≡ restood_one m f now → new ≡ restood (take (i + 1) ys) f ms
-restood_next ys i m f ms now new e g n = rw (n, e, take_get ys i m g, restood-append) refl
 
 pub ruleset passing = (queue_id, queue_away, known_with, none_past, append-nil)

@@ -18,14 +18,10 @@ starts_within start (end ∷ ends) octets all = let rest = starts_within end end
 between_still : (start end : ℕ) (octets more : List ℕ) → start ≤ end → end ≤ length octets → between start end (octets ++ more) ≡ between start end octets
 between_still start end octets more low high = grind (arith, drop-append-le, take-append-le, length-drop)
 
--- the last one is what was put last
-between_last : (octets body : List ℕ) → between (length octets) (length octets + length body) (octets ++ body) ≡ body
-between_last octets body = grind (arith, drop_at, take_all)
-
 -- A FURTHER BODY stands last
 pub bodies_more : (start : ℕ) (ends octets body : List ℕ) (end : ℕ) → end ≡ length octets + length body → AreAll start ends octets
     → bodies_in start (ends ++ end ∷ []) (octets ++ body) ≡ bodies_in start ends octets ++ body ∷ []
-bodies_more start [] octets body end e all = rw (e, ← all) (ap (λ (b : List ℕ). b ∷ []) (between_last octets body))
+bodies_more start [] octets body end e all = rw (e, ← all) (ap (λ (b : List ℕ). b ∷ []) (grind (arith, drop_at, take_all)))
 bodies_more start (first ∷ ends) octets body end e all = rw (
   between_still start first octets body all.0 (starts_within first ends octets all.1),
   bodies_more first ends octets body end e all.1,

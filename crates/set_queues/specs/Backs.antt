@@ -1,11 +1,6 @@
 -- What waits for the acknowledgement of a changeback (Q.704 6.3), by the home of its code: code / 16.
-use Rattle.std.specs.Prelude.{◌≡◌, ℕ, zero, suc, ◌+◌, ◌*◌, ◌/◌, ◌<◌, ◌≤◌, ◌++◌, [], length, take, drop, slice_get, Option, Some, None}
-use Rattle.set_queues.specs.Buffers.{Fate, Back, Lists, queue_at, with_queue}
-
--- the first of a queue, if there is one, stands last in another
-abbrev pub passed_first : Fate → Fate → Lists → Lists
-passed_first from to q =
-    with_queue from (drop 1 (queue_at from q)) (with_queue to (queue_at to q ++ take 1 (queue_at from q)) q)
+use Rattle.std.specs.Prelude.{◌≡◌, ℕ, zero, suc, ◌+◌, ◌*◌, ◌/◌, ◌<◌, ◌≤◌, [], length, slice_get, Option, Some, None}
+use Rattle.set_queues.specs.Buffers.{Back, Lists, queue_at}
 
 -- how many wait for so many codes, from this one on
 unfoldable pub back_from : ℕ → ℕ → Lists → ℕ

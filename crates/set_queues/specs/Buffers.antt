@@ -1,12 +1,17 @@
 -- The queues in which messages stand, as lists of their numbers. Read this file first.
-use Rattle.std.specs.Prelude.{◌≡◌, ℕ, ◌+◌, ◌<◌, ◌≤◌, ◌==◌, Bool, true, false, List, [], length, replicate, slice_get, slice_index_or, Option, Some, None, if◌then◌else◌}
+use Rattle.std.specs.Prelude.{◌≡◌, ℕ, ◌+◌, ◌<◌, ◌≤◌, ◌==◌, Bool, true, false, List, [], ◌∷◌, zero, suc, length, replicate, slice_get, slice_index_or, if◌then◌else◌}
 use Rattle.std.specs.Option.{option_map_or}
 use Rattle.l2_window.specs.Window.{fsn_before_first}
 pub use Rattle.set_events.specs.declared.answer.Fate.{Fate}
 pub use Rattle.set_events.specs.declared.answer.Fate.TheVariants.{Waiting, Unacked, Acked, Held, Parked, Back, Discarded}
-use Rattle.set_events.specs.declared.answer.DiscardCause.{DiscardCause}
 pub use Rattle.set_events.specs.declared.answer.DiscardCause.TheVariants.{Emergency, Unreasonable, NoAnswer}
-use Rattle.set_queues.specs.Messages.{updated}
+pub use Rattle.set_events.specs.Places.{same_fate}
+
+-- the element at this place changes
+abbrev pub updated : {X : Type 0} → ℕ → (X → X) → List X → List X
+updated i change [] = []
+updated zero change (x ∷ xs) = change x ∷ xs
+updated (suc i) change (x ∷ xs) = x ∷ updated i change xs
 
 -- of one link: the FSN last acknowledged; what was sent and isn't acknowledged; what waits to be sent; what is held
 -- until the link settles. Oldest first.
@@ -38,22 +43,6 @@ abbrev pub is_standing : Fate → Bool
 is_standing (Acked l) = false
 is_standing (Discarded cause) = false
 is_standing _ = true
-
-abbrev pub same_cause : DiscardCause → DiscardCause → Bool
-same_cause Emergency Emergency = true
-same_cause Unreasonable Unreasonable = true
-same_cause NoAnswer NoAnswer = true
-same_cause _ _ = false
-
-abbrev pub same_fate : Fate → Fate → Bool
-same_fate (Waiting l) (Waiting k) = l == k
-same_fate (Unacked l) (Unacked k) = l == k
-same_fate (Acked l) (Acked k) = l == k
-same_fate (Held l) (Held k) = l == k
-same_fate Parked Parked = true
-same_fate (Back c) (Back d) = c == d
-same_fate (Discarded c) (Discarded d) = same_cause c d
-same_fate _ _ = false
 
 -- its numbers, none where there is no such link
 abbrev pub queue_at : Fate → Lists → List ℕ
@@ -94,12 +83,8 @@ with_queue (Back c) numbers q = record q { back = updated c (λ _. numbers) q.ba
 with_queue _ numbers q = q
 
 -- the FSN last acknowledged on a link
-abbrev pub number_in : Option LinkLists → ℕ
-number_in None = fsn_before_first
-number_in (Some link) = link.last
-
 abbrev pub last_at : ℕ → Lists → ℕ
-last_at l q = number_in (slice_get q.links l)
+last_at l q = option_map_or (λ link. link.last) (slice_get q.links l) fsn_before_first
 
 abbrev pub with_last : ℕ → ℕ → Lists → Lists
 with_last l fsn q = on_link l (λ link. record link { last = fsn }) q

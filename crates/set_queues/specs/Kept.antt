@@ -1,6 +1,5 @@
 -- What the queues that are kept stand for.
-use Rattle.std.specs.Prelude.{ℕ, List, map}
-use Rattle.l2_window.specs.Queue.{QueueState}
+use Rattle.std.specs.Prelude.{map}
 use Rattle.set_queues.specs.declared.buffers.Link.{Link}
 use Rattle.set_queues.specs.declared.buffers.Buffers.TheInside.{Inside}
 use Rattle.set_queues.specs.Buffers.{LinkLists, LinkRooms, BuffersState}
@@ -16,22 +15,16 @@ lists_of link = record {
 abbrev pub rooms_of : Link → LinkRooms
 rooms_of link = record { unsent = link.window.room; held = link.held.room }
 
-abbrev pub messages_of : QueueState → List ℕ
-messages_of queue = queue.messages
-
-abbrev pub room_of : QueueState → ℕ
-room_of queue = queue.room
-
 abbrev pub state_of : Inside → BuffersState
 state_of fields = record {
   lists = record {
     links = map lists_of fields.links.items;
     parked = fields.parked.messages;
-    back = map messages_of fields.back.items;
+    back = map (λ queue. queue.messages) fields.back.items;
   };
   rooms = record {
     links = map rooms_of fields.links.items;
     parked = fields.parked.room;
-    back = map room_of fields.back.items;
+    back = map (λ queue. queue.room) fields.back.items;
   };
 }

@@ -1,5 +1,5 @@
 -- The messages of a set by their numbers: whose each is, where it stands, and its octets.
-use Rattle.std.specs.Prelude.{ℕ, Bool, true, false, nat_lt, ◌==◌, zero, suc, ◌+◌, ◌&&◌, List, [], ◌∷◌, length, filter, sum_by, slice_get, Option, Some, ◌≡◌, ◌<◌, ◌≤◌, ◌^◌, slice_index, option_map, if◌then◌else◌}
+use Rattle.std.specs.Prelude.{ℕ, Bool, true, false, nat_lt, ◌==◌, ◌+◌, ◌&&◌, List, [], ◌∷◌, length, filter, sum_by, slice_get, Option, Some, ◌≡◌, ◌<◌, ◌≤◌, ◌^◌, slice_index, option_map, if◌then◌else◌}
 use Rattle.std.specs.Option.{option_map_or}
 use Rattle.set_queues.specs.declared.message.Kind.{Kind}
 use Rattle.set_queues.specs.declared.message.Kind.TheVariants.{User, Order}
@@ -7,6 +7,7 @@ use Rattle.set_events.specs.declared.answer.Fate.{Fate}
 use Rattle.set_events.specs.declared.answer.Fate.TheVariants.{Waiting, Unacked, Acked, Held, Parked, Back, Discarded}
 pub use Rattle.set_events.specs.Places.{waits, was_sent, was_acked, was_held, is_parked, stands_back, was_discarded, is_unsent, one_if}
 use Rattle.set_events.specs.declared.answer.Counts.{Counts}
+use Rattle.set_queues.specs.Buffers.{same_fate, updated}
 pub use Rattle.set_queues.specs.declared.message.Message.{Message}
 pub use Rattle.set_queues.specs.declared.tally.Tally.{Tally}
 
@@ -48,18 +49,7 @@ stands_at Parked = is_parked
 stands_at (Back c) = stands_back
 stands_at (Discarded cause) = was_discarded
 
--- whether a message of a fate is unacknowledged on the link
-abbrev pub is_sent_on : ℕ → Fate → Bool
-is_sent_on link (Unacked l) = l == link
-is_sent_on link _ = false
-
 -- THE MESSAGES
-
--- the element at this place changes
-abbrev pub updated : {X : Type 0} → ℕ → (X → X) → List X → List X
-updated i change [] = []
-updated zero change (x ∷ xs) = change x ∷ xs
-updated (suc i) change (x ∷ xs) = x ∷ updated i change xs
 
 abbrev pub with_fate : Fate → Message → Message
 with_fate fate m = record m { fate = fate }
@@ -81,8 +71,7 @@ octets_at number messages = option_map_or (λ m. m.octets) (slice_get messages n
 
 -- the octets of the bodies of these messages
 abbrev pub octets_of : List ℕ → List Message → ℕ
-octets_of [] messages = 0
-octets_of (n ∷ ns) messages = octets_at n messages + octets_of ns messages
+octets_of numbers messages = sum_by (λ number. octets_at number messages) numbers
 
 -- how many of the users' messages stand where the test tells
 abbrev pub count_of : (Fate → Bool) → List Message → ℕ
@@ -115,7 +104,7 @@ is_queued stream m = is_of stream m.kind && is_unsent m.fate
 
 -- the octets of its body, if it's unacknowledged on the link
 abbrev pub octets_on : ℕ → Message → ℕ
-octets_on link m = if is_sent_on link m.fate then m.octets else 0
+octets_on link m = if same_fate m.fate (Unacked link) then m.octets else 0
 
 -- no body is longer than a unit's, and a stream has four bits
 pub record IsFit (m : Message) : Type 0 where

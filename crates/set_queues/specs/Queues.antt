@@ -1,8 +1,8 @@
 -- Where every message of a set stands.
-use Rattle.std.specs.Prelude.{◌≡◌, ℕ, ◌+◌, ◌<◌, ◌≤◌, ◌==◌, Bool, true, false, List, [], ◌∷◌, ◌++◌, length, Some}
+use Rattle.std.specs.Prelude.{◌≡◌, ℕ, ◌+◌, ◌<◌, ◌≤◌, ◌==◌, Bool, true, false, List, [], ◌∷◌, ◌++◌, length, Some, take, drop}
 use Rattle.std.specs.Option.{option_map_or}
 use Rattle.set_queues.specs.Messages.{one_if, Message, AreFit, fate_at, restood, octets_at}
-use Rattle.set_queues.specs.Buffers.{Fate, Unacked, Lists, Rooms, is_standing, same_fate, queue_at, with_queue}
+use Rattle.set_queues.specs.Buffers.{Fate, Unacked, Lists, Rooms, TakesRoom, KeepsRoom, is_standing, same_fate, queue_at, with_queue}
 use Rattle.l2_window.specs.Window.{most_unacked}
 use Rattle.set_events.specs.Config.{most_links}
 
@@ -34,9 +34,35 @@ AreTied q messages = (fate : Fate) → is_standing fate ≡ true → (number : �
 abbrev pub AreGiven : List ℕ → List Message → Type 0
 AreGiven numbers messages = (number : ℕ) → 0 < occurs number numbers → number < length messages
 
--- all of a queue go to another, in their order
+-- all of a queue go to another, in their order, or the first so many of it
 abbrev pub passed : Fate → Fate → Lists → Lists
 passed from to q = with_queue from [] (with_queue to (queue_at to q ++ queue_at from q) q)
+
+abbrev pub passed_first : ℕ → Fate → Fate → Lists → Lists
+passed_first count from to q =
+    with_queue from (drop count (queue_at from q)) (with_queue to (queue_at to q ++ take count (queue_at from q)) q)
+
+-- the messages of these numbers stand there from now on, and these are the lists; only theirs is the room that is taken
+pub record Moves (numbers : List ℕ) (to : Fate) (q : Lists) (old new : QueuesState) : Type 0 where
+  pub lists : new.lists ≡ q
+  pub messages : new.messages ≡ restood numbers to old.messages
+  pub rooms : TakesRoom to (length numbers) old.rooms new.rooms
+  pub room : new.room ≡ old.room
+
+-- so all of a queue move, or the first so many of it
+abbrev pub MovesAll : Fate → Fate → QueuesState → QueuesState → Type 0
+MovesAll from to old new = Moves (queue_at from old.lists) to (passed from to old.lists) old new
+
+abbrev pub MovesFirst : ℕ → Fate → Fate → QueuesState → QueuesState → Type 0
+MovesFirst count from to old new =
+    Moves (take count (queue_at from old.lists)) to (passed_first count from to old.lists) old new
+
+-- no queue has less room, and nothing else changes
+pub record MakesRoom (old new : QueuesState) : Type 0 where
+  pub lists : new.lists ≡ old.lists
+  pub messages : new.messages ≡ old.messages
+  pub room : new.room ≡ old.room
+  pub kept : KeepsRoom old.rooms new.rooms
 
 -- at most 127 messages of a link are unacknowledged (Q.703 5.2.2)
 abbrev pub AreNarrow : Lists → Type 0

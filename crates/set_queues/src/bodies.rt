@@ -47,9 +47,7 @@ impl Bodies {
         ensures room { OnOk result (CanHold bodies self.new) }
         ensures same { self.new.items ≡ self.old.items }
     {
-        let Some(octets) = bodies.checked_mul(LONGEST_BODY) else {
-            return Err(AllocError);
-        };
+        let octets = bodies.checked_mul(LONGEST_BODY).ok_or(AllocError)?;
         self.ends.reserve(bodies)?;
         self.octets.reserve(octets)
     }
@@ -62,14 +60,12 @@ impl Bodies {
         ensures items { self.new.items ≡ self.old.items ++ body.now ∷ [] }
         ensures room { (more : ℕ) → CanHold (more + 1) self.old → CanHold more self.new }
     {
-        match self.octets.extend_from_slice(body) {
-            Ok(()) => self.ends.push_reserved(self.octets.len()),
-            Err(_) => unreachable!(),
-        }
+        self.octets.extend_from_slice(body).unwrap();
+        self.ends.push_reserved(self.octets.len());
     }
 
     /// The body of the message of this number.
-    #[tactic(auto, using(crate::proofs::Storing::found, crate::proofs::Storing::length_bodies))]
+    #[tactic(auto, using(crate::proofs::Storing::found, crate::proofs::Storing::length_bodies, crate::proofs::Storing::spans))]
     pub fn body(&self, number: u64) -> &[u8]
         requires { number < length self.now.items }
         ensures { slice_get self.now.items number ≡ Some result.now }

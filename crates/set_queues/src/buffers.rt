@@ -1,7 +1,8 @@
 //! The queues in which messages stand: of each link those of its window and the held ones, the parked
 //! ones, and of each changeback code those that wait for its acknowledgement.
-ghost use Rattle.set_queues.specs.Buffers.{empty_lists, IsKnown, CanTake, KeepsRoom, TakesRoom, queue_at, with_queue};
+ghost use Rattle.set_queues.specs.Buffers.{BuffersState, empty_lists, IsKnown, CanTake, KeepsRoom, TakesRoom, queue_at, with_queue};
 ghost use Rattle.std.specs.Prelude.{◌≡◌, ◌<◌, ◌++◌, [], ◌∷◌, IfOk, length, drop, slice_get};
+ghost use Rattle.set_queues.specs.Kept.{state_of};
 
 use l2_window::{Queue, Window};
 use set_events::Fate;
@@ -25,11 +26,7 @@ pub(crate) struct Buffers {
 }
 
 impl Model for Buffers {
-    ghost use Rattle.set_queues.specs.Buffers.{BuffersState};
-
     ghost Value = { BuffersState };
-
-    ghost use Rattle.set_queues.specs.Kept.{state_of};
 
     ghost view = { state_of };
 }
@@ -84,10 +81,7 @@ impl Buffers {
         ensures room { TakesRoom fate 1 self.old.rooms self.new.rooms }
     {
         match fate {
-            Fate::Waiting { link } => match self.links[usize::from(link)].window.push(message) {
-                Ok(()) => (),
-                Err(_) => unreachable!(),
-            },
+            Fate::Waiting { link } => self.links[usize::from(link)].window.push(message).unwrap(),
             Fate::Held { link } => self.links[usize::from(link)].held.push_reserved(message),
             Fate::Parked => self.parked.push_reserved(message),
             Fate::Back { code } => self.back[usize::from(code)].push_reserved(message),
@@ -111,16 +105,5 @@ impl Buffers {
             Fate::Back { code } => self.back[usize::from(code)].clear(),
             Fate::Acked { .. } | Fate::Discarded { .. } => (),
         }
-    }
-
-    /// The first that waits for the acknowledgement of the changeback leaves, if there is one.
-    #[tactic(auto, using(crate::proofs::Linked::of_code))]
-    pub(crate) fn drop_back(&mut self, code: u8)
-        requires known { code < length self.old.lists.back }
-        ensures lists { self.new.lists ≡ with_queue (Fate.Back code)
-            (drop 1 (queue_at (Fate.Back code) self.old.lists)) self.old.lists }
-        ensures room { KeepsRoom self.old.rooms self.new.rooms }
-    {
-        self.back[usize::from(code)].pop();
     }
 }

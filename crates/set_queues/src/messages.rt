@@ -63,12 +63,8 @@ pub(crate) fn pass(
         ≡ vec_capacity messages.old.all - vec_len messages.old.all }
 {
     for place in 0..count {
-        match buffers.at(from, place) {
-            Some(number) => {
-                messages.restand(number, to);
-                buffers.push(to, number);
-            }
-            None => unreachable!(),
-        }
+        let number = buffers.at(from, place).unwrap();
+        messages.restand(number, to);
+        buffers.push(to, number);
     }
 }

@@ -1,12 +1,12 @@
 //! Where every message of a set stands, with what the counts need.
 ghost use Rattle.std.specs.Prelude.{◌≡◌, ◌+◌, ◌<◌, ℕ, slice_index, if◌then◌else◌, IfSome, ◌-◌, vec_len, vec_capacity, ◌≢◌, ◌↔◌, ◌%◌, ◌≤◌, ◌^◌, ◌++◌, [], ◌∷◌, Some, true, false, IsOk, IfOk, OnOk, OnErr, length, replicate, take, slice_get};
-ghost use Rattle.set_queues.specs.Buffers.{IsQueued, same_fate, IsKnown, CanTake, KeepsRoom, TakesRoom, HaveRoom, is_standing, queue_at, with_queue, last_at, with_last, room_at};
+ghost use Rattle.set_queues.specs.Buffers.{empty_lists, IsQueued, same_fate, IsKnown, CanTake, KeepsRoom, TakesRoom, HaveRoom, is_standing, queue_at, with_queue, last_at, with_last, room_at};
 ghost use Rattle.set_queues.specs.Settling.{fate_on, on, settled};
-ghost use Rattle.set_queues.specs.Queues.{QueuesState, AreSound, passed};
+ghost use Rattle.set_queues.specs.Queues.{QueuesState, AreSound, Moves, MovesAll, MovesFirst, MakesRoom};
 ghost use Rattle.set_queues.specs.Messages.{IsTally, restood, fate_at, octets_of, counts_of, unsent_of, IsFit};
 ghost use Rattle.std.specs.Result.{OkIff};
-ghost use Rattle.set_queues.specs.Backs.{IsOldestOf, back_count, passed_first};
-ghost use Rattle.set_queues.specs.Sending.{IsSending, acknowledged, reach};
+ghost use Rattle.set_queues.specs.Backs.{IsOldestOf, back_count};
+ghost use Rattle.set_queues.specs.Sending.{acknowledged, reach};
 
 use super::buffers::Buffers;
 use super::message::Message;
@@ -46,10 +46,7 @@ impl Queues {
     /// acknowledged on it (Q.703 5.2.1).
     pub fn new(alloc: Global, links: u8) -> Result<Queues, AllocError>
         requires { (1 ≤ links) × (links ≤ 16) }
-        ensures links { IfOk result (λ queues. queues.lists.links ≡ replicate links
-            (record { last = 127; unacked = []; unsent = []; held = [] })) }
-        ensures parked { IfOk result (λ queues. queues.lists.parked ≡ []) }
-        ensures back { IfOk result (λ queues. queues.lists.back ≡ replicate 256 []) }
+        ensures lists { IfOk result (λ queues. queues.lists ≡ empty_lists links 256) }
         ensures messages { IfOk result (λ queues. queues.messages ≡ []) }
     {
         Ok(Queues {
@@ -129,6 +126,7 @@ impl Queues {
     }
 
     /// The octets of the unacknowledged bodies of the link.
+    #[tactic(auto, using(crate::proofs::Tallies::weighs))]
     pub fn octets(&self, link: u8) -> u32
         requires { link < length self.now.lists.links }
         ensures { result ≡ octets_of (queue_at
@@ -231,9 +229,7 @@ impl Queues {
         requires known { IsKnown fate self.old.lists }
         requires queued { IsQueued fate }
         ensures room { OnOk result (messages ≤ room_at fate self.new.rooms) }
-        ensures same { (self.new.lists ≡ self.old.lists) × (self.new.messages
-            ≡ self.old.messages) × (self.new.room ≡ self.old.room) }
-        ensures kept { KeepsRoom self.old.rooms self.new.rooms }
+        ensures same { MakesRoom self.old self.new }
     {
         let buffers = &mut self.buffers;
         match fate {
@@ -249,9 +245,7 @@ impl Queues {
     /// is done for 0.
     pub fn reserve_each(&mut self, messages: usize) -> Result<(), AllocError>
         ensures room { OnOk result (HaveRoom (length self.new.lists.links) messages self.new.rooms) }
-        ensures same { (self.new.lists ≡ self.old.lists) × (self.new.messages
-            ≡ self.old.messages) × (self.new.room ≡ self.old.room) }
-        ensures kept { KeepsRoom self.old.rooms self.new.rooms }
+        ensures same { MakesRoom self.old self.new }
     {
         if messages == 0 {
             return Ok(());
@@ -271,9 +265,7 @@ impl Queues {
         requires link { link < length self.old.lists.links }
         ensures room { OnOk result (length (on link self.old.lists) + more
             ≤ room_at fate self.new.rooms) }
-        ensures same { (self.new.lists ≡ self.old.lists) × (self.new.messages
-            ≡ self.old.messages) × (self.new.room ≡ self.old.room) }
-        ensures kept { KeepsRoom self.old.rooms self.new.rooms }
+        ensures same { MakesRoom self.old self.new }
     {
         let sent = self.count_at(Fate::Unacked { link });
         let unsent = self.count_at(Fate::Waiting { link });
@@ -323,13 +315,11 @@ impl Queues {
             (Fate.Unacked link) self.old.lists))) }
         ensures succeeds { queue_at (Fate.Waiting link) self.old.lists ≢ [] → length (queue_at
             (Fate.Unacked link) self.old.lists) < 127 → IsOk result }
-        ensures sent { IfOk result (λ sent. IsSending link sent.0 self.old.lists self.new.lists) }
-        ensures messages { IfOk result (λ sent. self.new.messages ≡ restood (sent.0 ∷ [])
-            (Fate.Unacked link) self.old.messages) }
+        ensures first { IfOk result (λ sent. slice_get (queue_at
+            (Fate.Waiting link) self.old.lists) 0 ≡ Some sent.0) }
+        ensures sent { OnOk result (MovesFirst 1 (Fate.Waiting link) (Fate.Unacked link) self.old self.new) }
         ensures fsn { IfOk result (λ sent. sent.1 ≡ (last_at link self.old.lists + 1 + length
             (queue_at (Fate.Unacked link) self.old.lists)) % 128) }
-        ensures rooms { OnOk result (KeepsRoom self.old.rooms self.new.rooms × (self.new.room
-            ≡ self.old.room)) }
         ensures err { OnErr result (self.new ≡ self.old) }
     {
         let buffers = &mut self.buffers;
@@ -348,26 +338,19 @@ impl Queues {
         requires fsn { fsn < 128 }
         ensures acked { OkIff result (reach link fsn self.old.lists ≤ length (queue_at
             (Fate.Unacked link) self.old.lists)) (reach link fsn self.old.lists) }
-        ensures lists { OnOk result (self.new.lists ≡ acknowledged link fsn self.old.lists) }
-        ensures messages { OnOk result (self.new.messages ≡ restood (take
-            (reach link fsn self.old.lists) (queue_at (Fate.Unacked link) self.old.lists))
-            (Fate.Acked link) self.old.messages) }
-        ensures rooms { OnOk result (KeepsRoom self.old.rooms self.new.rooms × (self.new.room
-            ≡ self.old.room)) }
+        ensures moves { OnOk result (Moves (take (reach link fsn self.old.lists) (queue_at
+            (Fate.Unacked link) self.old.lists)) (Fate.Acked link) (acknowledged link fsn
+            self.old.lists) self.old self.new) }
         ensures unreasonable { OnErr result (result ≡ Err WindowFault.Unreasonable) }
         ensures err { OnErr result (self.new ≡ self.old) }
     {
-        let Some(count) = self.window(link).distance(fsn) else {
-            return Err(WindowFault::Unreasonable);
-        };
+        let window = self.window(link);
+        let count = window.distance(fsn).ok_or(WindowFault::Unreasonable)?;
         let (from, to) = (Fate::Unacked { link }, Fate::Acked { link });
         let moved = usize::from(count);
         pass(&mut self.buffers, &mut self.messages, from, moved, to);
         let buffers = &mut self.buffers;
-        match buffers.links[usize::from(link)].window.ack(fsn) {
-            Ok(_) => Ok(count),
-            Err(_) => unreachable!(),
-        }
+        buffers.links[usize::from(link)].window.ack(fsn)
     }
 
     /// All that stand in one queue stand last in the other from now on, in their order. It wants no
@@ -381,12 +364,7 @@ impl Queues {
         requires queued { IsQueued to }
         requires apart { same_fate to from ≡ false }
         requires room { length (queue_at from self.old.lists) ≤ room_at to self.old.rooms }
-        ensures lists { self.new.lists ≡ passed from to self.old.lists }
-        ensures messages { self.new.messages ≡ restood
-            (queue_at from self.old.lists) to self.old.messages }
-        ensures rooms { TakesRoom to (length
-            (queue_at from self.old.lists)) self.old.rooms self.new.rooms }
-        ensures room { self.new.room ≡ self.old.room }
+        ensures { MovesAll from to self.old self.new }
     {
         self.pass_all(from, to);
     }
@@ -395,52 +373,40 @@ impl Queues {
     /// the other queue from now on. It wants no memory.
     ///
     /// Conditions: one waits for it; the other is a queue in which messages can wait, with room for one.
+    #[tactic(auto, using(crate::proofs::Linked::of_code))]
     pub fn turn_back(&mut self, code: u8, to: Fate)
         requires some { queue_at (Fate.Back code) self.old.lists ≢ [] }
         requires other { IsKnown to self.old.lists }
         requires queued { IsQueued to }
         requires apart { same_fate to (Fate.Back code) ≡ false }
         requires room { 0 < room_at to self.old.rooms }
-        ensures lists { self.new.lists ≡ passed_first (Fate.Back code) to self.old.lists }
-        ensures messages { self.new.messages ≡ restood (take 1 (queue_at
-            (Fate.Back code) self.old.lists)) to self.old.messages }
-        ensures rooms { TakesRoom to 1 self.old.rooms self.new.rooms }
-        ensures room { self.new.room ≡ self.old.room }
+        ensures { MovesFirst 1 (Fate.Back code) to self.old self.new }
     {
         let from = Fate::Back { code };
         pass(&mut self.buffers, &mut self.messages, from, 1, to);
-        self.buffers.drop_back(code);
+        let buffers = &mut self.buffers;
+        buffers.back[usize::from(code)].pop();
     }
 
     /// All that stand in the queue are given up, for this cause.
     pub fn discard(&mut self, from: Fate, cause: DiscardCause)
         requires standing { is_standing from ≡ true }
         requires known { IsKnown from self.old.lists }
-        ensures lists { self.new.lists ≡ with_queue from [] self.old.lists }
-        ensures messages { self.new.messages ≡ restood (queue_at from self.old.lists)
-            (Fate.Discarded cause) self.old.messages }
-        ensures rooms { KeepsRoom self.old.rooms self.new.rooms }
-        ensures room { self.new.room ≡ self.old.room }
+        ensures { MovesAll from (Fate.Discarded cause) self.old self.new }
     {
         self.pass_all(from, Fate::Discarded { cause });
     }
 
     /// All that stand in one queue have another fate from now on, and stand last there, in their order, if
     /// it isn't final.
-    #[tactic(auto, using(crate::proofs::Standing::links_stay))]
+    #[tactic(auto, using(crate::proofs::Standing::known_with))]
     fn pass_all(&mut self, from: Fate, to: Fate)
         requires standing { is_standing from ≡ true }
         requires known { IsKnown from self.old.lists }
         requires other { IsKnown to self.old.lists }
         requires apart { same_fate to from ≡ false }
         requires room { CanTake to (length (queue_at from self.old.lists)) self.old.rooms }
-        ensures lists { self.new.lists ≡ passed from to self.old.lists }
-        ensures links { length self.new.lists.links ≡ length self.old.lists.links }
-        ensures messages { self.new.messages ≡ restood
-            (queue_at from self.old.lists) to self.old.messages }
-        ensures rooms { TakesRoom to (length
-            (queue_at from self.old.lists)) self.old.rooms self.new.rooms }
-        ensures room { self.new.room ≡ self.old.room }
+        ensures { MovesAll from to self.old self.new }
     {
         let count = self.count_at(from);
         pass(&mut self.buffers, &mut self.messages, from, count, to);
@@ -458,12 +424,8 @@ impl Queues {
         requires other { IsKnown (fate_on target) self.old.lists }
         requires apart { IfSome target (λ to. to ≢ link) }
         requires room { length (on link self.old.lists) ≤ room_at (fate_on target) self.old.rooms }
-        ensures lists { self.new.lists ≡ settled link (fate_on target) self.old.lists }
-        ensures messages { self.new.messages ≡ restood (on link self.old.lists)
-            (fate_on target) self.old.messages }
-        ensures rooms { TakesRoom (fate_on target) (length
-            (on link self.old.lists)) self.old.rooms self.new.rooms }
-        ensures room { self.new.room ≡ self.old.room }
+        ensures { Moves (on link self.old.lists) (fate_on target) (settled link
+            (fate_on target) self.old.lists) self.old self.new }
     {
         let to = fate_on(target);
         self.pass_all(Fate::Unacked { link }, to);

@@ -1,8 +1,8 @@
 -- What is read of a set, a set of which nothing was asked, and what holds after each event.
-use Rattle.std.proofs.Common.{refl, arith, ◌≡◌, ap, ◌≤◌, ◌+◌, [], ◌∷◌, List, ℕ, suc, length, Option, Some, None, ◌<◌, ◌%◌, slice_get, option_map, true, false, IsOk, Result, subst, zero, ◌^◌, nat_lt, if◌then◌else◌, replicate}
+use Rattle.std.proofs.Common.{refl, arith, ◌≡◌, ap, ◌≤◌, ◌+◌, [], ◌∷◌, List, ℕ, suc, length, Option, Some, None, ◌<◌, ◌%◌, slice_get, option_map, true, false, IsOk, Result, subst, zero, ◌^◌, nat_lt, if◌then◌else◌, replicate, ◌∙◌}
 use Rattle.std.proofs.lemmas.Bool.Decides.{nat_tests}
-use Rattle.set_queues.specs.Buffers.{Lists, queue_at, last_at, no_lists}
-use Rattle.set_model.specs.Rows.{Fate, Unacked, numbers}
+use Rattle.set_queues.specs.Buffers.{Lists, is_standing, queue_at, last_at, no_lists}
+use Rattle.set_model.specs.Rows.{Fate, Unacked, numbers, Waiting}
 use Rattle.set_moves.specs.Agreement.{Kept, StandsFor, Agrees, Holds, HoldsFew, rows_at}
 use Rattle.std.proofs.lemmas.Option.{slice_get_past, slice_get-map}
 use Rattle.set_model.specs.State.{State, LinkState, unacked_of, unacked_in, settings_of, new_link, new_state}
@@ -10,7 +10,6 @@ use Rattle.set_model.proofs.Lists.{present}
 use Rattle.std.proofs.lemmas.List.{length-replicate}
 use Rattle.set_events.specs.declared.config.SetConfig.{SetConfig}
 use Rattle.set_queues.specs.Queues.{AreGiven, AreSound}
-use Rattle.set_queues.proofs.Soundness.{given_all}
 use Rattle.set_route.specs.Routing.{new_routing}
 use Rattle.set_model.specs.Sound.{IsAsked}
 use Rattle.set_model.specs.Step.{Event, Answer, step, stepped}
@@ -18,12 +17,9 @@ use Rattle.set_model.proofs.Soundness.{opened_sound, step_sound}
 use Rattle.set_model.proofs.Walk.{step_is}
 use Rattle.set_moves.specs.declared.parts.Parts.{Parts}
 use Rattle.set_step.specs.Answering.{AnswersFor, wants_none}
-use Rattle.set_moves.specs.Parts.{Answers, AreCounted, kept_of}
-use Rattle.set_queues.proofs.Standing.{occurs_here}
-use Rattle.std.proofs.Common.{◌∙◌}
-use Rattle.set_model.specs.Rows.{Waiting}
+use Rattle.set_moves.specs.Parts.{Answers, AreCounted, kept_of, Settled, IsHere}
+use Rattle.set_queues.proofs.Standing.{occurs_here, given_queue}
 use Rattle.set_model.proofs.Settling.{settled_empty}
-use Rattle.set_moves.specs.Parts.{Settled, IsHere}
 use Rattle.set_moves.specs.Room.{SameButRoom}
 use Rattle.set_moves.proofs.Links.{agrees_same, is_in, whole_of}
 use Rattle.set_traffic.proofs.Traffic.{queue_there}
@@ -32,7 +28,7 @@ use Rattle.set_traffic.proofs.Traffic.{queue_there}
 pub unacked_is : (k : Kept) (s : State) (n place : ℕ) (o : Option ℕ) → StandsFor k s → n < length k.links → slice_get (queue_at (Unacked n) k.lists) place ≡ o → unacked_in s n place ≡ option_map (λ number. record { number = number; fsn = (last_at n k.lists + 1 + place) % 128 }) o
 unacked_is k s n place o f low at =
     let l = present s.links n (omega (arith, low, ap length f.links)) in
-    grind (arith, nat_tests, l.1, slice_get-map, f.fsns n l.0 l.1, f.stands.queues (Unacked n))
+    grind (arith, nat_tests, l.1, slice_get-map, f.fsns n l.0 l.1, f.stands.queues (Unacked n) refl)
 
 -- there is none on a link that isn't there
 pub unacked_past : (k : Kept) (s : State) (n place : ℕ) → StandsFor k s → length k.links ≤ n → unacked_in s n place ≡ None
@@ -49,8 +45,8 @@ none_given : (ns : List ℕ) → AreGiven ns [] → ns ≡ []
 none_given [] given = refl
 none_given (n ∷ ns) given = absurd (omega (arith, given n (omega (arith, occurs_here n n refl))))
 
-none_stands : (q : Lists) → AreSound q [] → (fate : Fate) → queue_at fate q ≡ numbers (rows_at fate [])
-none_stands q sound fate = grind (arith, none_given (queue_at fate q), given_all q [] fate sound)
+none_stands : (q : Lists) → AreSound q [] → (fate : Fate) → is_standing fate ≡ true → queue_at fate q ≡ numbers (rows_at fate [])
+none_stands q sound fate stood = none_given (queue_at fate q) (given_queue q [] fate sound.tied stood)
 
 -- links that stand for new ones, sound queues with nothing, and nothing else
 pub opened : (config : SetConfig) (parts : Parts) → parts.config ≡ config → parts.links.items ≡ replicate config.links (new_link config.method) → parts.queues.lists.links ≡ replicate config.links no_lists → AreSound parts.queues.lists parts.queues.messages → parts.queues.messages ≡ [] → parts.bodies.items ≡ [] → parts.routes ≡ new_routing config.links → parts.inbox.items ≡ []
@@ -73,7 +69,7 @@ is_empty old parts n holds h same =
     let e = settled_empty holds.0 n i.link a.sound i.there i.phase_is in
     let routed = (whole_of parts (holds.0, a)).routed in
     let low = here.known in
-    record { known = queue_there parts n (holds.0, a) low; routed = omega (arith, routed, low); unacked = a.stands.stands.queues (Unacked n) ∙ ap numbers e.unack_none; unsent = a.stands.stands.queues (Waiting n) ∙ ap numbers e.wait_none }
+    record { known = queue_there parts n (holds.0, a) low; routed = omega (arith, routed, low); unacked = a.stands.stands.queues (Unacked n) refl ∙ ap numbers e.unack_none; unsent = a.stands.stands.queues (Waiting n) refl ∙ ap numbers e.wait_none }
 
 -- AFTER AN EVENT
 

@@ -1,4 +1,13 @@
 //! What a set keeps, as one event after another changes it.
+ghost use Rattle.std.specs.Prelude.{◌≡◌, ◌<◌, ◌^◌, true, length, IsOk, IfOk, IfErr, OnOk, OnErr};
+ghost use Rattle.set_model.specs.Rows.{place, counts_of, total_of, users};
+ghost use Rattle.set_model.specs.State.{State, new_state, link_count, is_up as is_up_in, is_settled as is_settled_in, unacked_in};
+ghost use Rattle.set_model.specs.History.{longest_history};
+ghost use Rattle.set_model.specs.Step.{step};
+ghost use Rattle.set_moves.specs.Agreement.{Kept, Agrees, StandsFor, Holds, HoldsFew};
+ghost use Rattle.set_step.specs.Answering.{AnswersFor, wants_none};
+ghost use Rattle.set_moves.specs.Parts.{kept_of};
+
 use super::step::carry_out;
 use l2_window::number_after;
 use set_events::{Answer, Counts, Event, Fate, SetConfig, SetFault};
@@ -23,11 +32,7 @@ pub struct Core {
 }
 
 impl Model for Core {
-    ghost use Rattle.set_moves.specs.Agreement.{Kept, Holds};
-
     ghost Value = { Kept };
-
-    ghost use Rattle.set_moves.specs.Parts.{kept_of};
 
     ghost view = { λ c. kept_of c.parts };
 
@@ -35,14 +40,6 @@ impl Model for Core {
 }
 
 impl Core {
-    ghost use Rattle.std.specs.Prelude.{◌≡◌, ◌<◌, ◌^◌, true, length, IsOk, IfOk, IfErr, OnOk, OnErr};
-    ghost use Rattle.set_model.specs.Rows.{place, counts_of, total_of, users};
-    ghost use Rattle.set_model.specs.State.{State, new_state, link_count, is_up as is_up_in, is_settled as is_settled_in, unacked_in};
-    ghost use Rattle.set_model.specs.History.{longest_history};
-    ghost use Rattle.set_model.specs.Step.{step};
-    ghost use Rattle.set_moves.specs.Agreement.{Agrees, StandsFor, Holds, HoldsFew};
-    ghost use Rattle.set_step.specs.Answering.{AnswersFor, wants_none};
-
     /// A set as this configuration has it: no messages, no link up.
     ///
     /// Fault: 1 [`SetFault::NoMemory`], only where memory was refused.

@@ -13,14 +13,14 @@ use Rattle.set_model.specs.State.{LinkState, State, window_of, target}
 use Rattle.set_model.specs.Step.{choice_in, SignalUnit, Msu, Sent, next as next_of, sends, chosen, unit_of, in_service, Took, Ignored, Message as MessageTaken, NothingTaken, takes, brought as accepted_body}
 use Rattle.set_moves.specs.declared.link.Link.{Link}
 use Rattle.set_moves.specs.declared.parts.Parts.{Parts}
-use Rattle.set_moves.specs.Agreement.{Holds, StandsFor, Message as KeptMessage, Kept, rows_at}
+use Rattle.set_moves.specs.Agreement.{Holds, StandsFor, Message as KeptMessage, Kept, is_there, rows_at}
 use Rattle.set_moves.specs.Parts.{Up, kept_of, Gives, Obeys}
 use Rattle.set_moves.proofs.Links.{IsHere, served, stands_for, same_ups, same_target, whole_of}
 use Rattle.set_traffic.specs.Traffic.{ReachesTo, KeepsSpace, Brought, Nothing, Message, OrderBrought, Unread, brought_by, HasSpaceFor}
 use Rattle.set_queues.specs.Messages.{octets_at, octets_of}
 use Rattle.set_model.proofs.Rows.{Found, found_by_number, row_in_filter}
-use Rattle.set_moves.proofs.RowsAt.{is_there, rows_as}
 use Rattle.std.proofs.lemmas.List.{length-map}
+use Rattle.std.proofs.lemmas.List.Sums.{sum_by-cons}
 use Rattle.set_queues.specs.Backs.{back_from}
 use Rattle.set_route.specs.Routing.{home_of}
 use Rattle.set_route.specs.Target.{target_of}
@@ -35,7 +35,7 @@ queue_there parts n holds known = let many = (whole_of parts holds).as_many in o
 pub told : (parts : Parts) (s : State) (n i : ℕ) (x : Link) (control : Control) (w : WindowState) (link : LinkState) → i ≡ n → n < length parts.links.items → x ≡ slice_index_or parts.links.items i x → control ≡ x.control → w.last ≡ last_at n parts.queues.lists → w.unacked ≡ queue_at (Unacked n) parts.queues.lists → w.unsent ≡ queue_at (Waiting n) parts.queues.lists
     → slice_get s.links n ≡ Some link → StandsFor (kept_of parts) s → (control ≡ link.control) × (w ≡ record (window_of n link s.rows) { room = w.room })
 told parts s n i x control w link is known read same last unacked unsent there f =
-    (same ∙ ap (λ (l : LinkState). l.control) (stands_for parts.links.items n i x is known read s.links link f.links there), grind (arith, f.fsns n link there, f.stands.queues (Unacked n), f.stands.queues (Waiting n)))
+    (same ∙ ap (λ (l : LinkState). l.control) (stands_for parts.links.items n i x is known read s.links link f.links there), grind (arith, f.fsns n link there, f.stands.queues (Unacked n) refl, f.stands.queues (Waiting n) refl))
 
 -- WHAT A HEARD UNIT TELLS: so many are acknowledged as the BSN reaches, or none.
 pub part_reaches : (c : Control) (w : WindowState) (head : Header) (msu : Bool) (q : Lists) (n : ℕ) → w.last ≡ last_at n q → w.unacked ≡ queue_at (Unacked n) q → 0 < (part_of c w head msu).acked → ReachesTo head.bsn (part_of c w head msu).acked n q
@@ -56,20 +56,20 @@ fit_at number (x ∷ rows) body fit e = grind (arith, fit_at number rows body fi
 
 sum_of : (xs : List Row) (ms : List KeptMessage) → ((i : ℕ) (row : Row) → slice_get xs i ≡ Some row → octets_at row.number ms ≡ length row.body) → octets_of (numbers xs) ms ≡ octets_in xs
 sum_of [] ms h = refl
-sum_of (x ∷ xs) ms h = let here = h 0 x refl in let rest = sum_of xs ms (λ i row e. h (suc i) row e) in omega (arith, here, rest)
+sum_of (x ∷ xs) ms h = let here = h 0 x refl in let rest = sum_of xs ms (λ i row e. h (suc i) row e) in omega (arith, here, rest, sum_by-cons (λ (n : ℕ). octets_at n ms) x.number (numbers xs))
 
 module _ (k : Kept) (s : State) (f : StandsFor k s) where
   -- at a place of a queue stands the row that the number there finds, with its body
   pub found_at : (fate : Fate) (i message : ℕ) → is_standing fate ≡ true → slice_get (queue_at fate k.lists) i ≡ Some message → Found (λ (row : Row). is_there fate row.fate) s.rows i message
-  found_at fate i message stands e = found_by_number _ s.rows i message f.stands.numbered (ap (λ (ns : List ℕ). slice_get ns i) (sym (f.stands.queues fate ∙ ap numbers (rows_as fate s.rows stands))) ∙ e)
+  found_at fate i message stands e = found_by_number _ s.rows i message f.stands.numbered (ap (λ (ns : List ℕ). slice_get ns i) (sym (f.stands.queues fate stands)) ∙ e)
 
   pub body_is : (fate : Fate) (i message : ℕ) → is_standing fate ≡ true → slice_get (queue_at fate k.lists) i ≡ Some message → option_map (λ (row : Row). row.body) (slice_get (rows_at fate s.rows) i) ≡ slice_get k.bodies message
-  body_is fate i message stands e = let at = found_at fate i message stands e in rw (rows_as fate s.rows stands, at.there) (sym (f.bodies message ∙ at.body_is))
+  body_is fate i message stands e = let at = found_at fate i message stands e in rw at.there (sym (f.bodies message ∙ at.body_is))
 
   -- the octets that are kept are the rows'
   pub weight_is : (n : ℕ) → octets_of (queue_at (Unacked n) k.lists) k.messages ≡ octets_in (unack n s.rows)
   weight_is n =
-      ap (λ (ns : List ℕ). octets_of ns k.messages) (f.stands.queues (Unacked n))
+      ap (λ (ns : List ℕ). octets_of ns k.messages) (f.stands.queues (Unacked n) refl)
       ∙ sum_of (unack n s.rows) k.messages (λ i row e. let found = row_in_filter (λ (r : Row). is_unacked n r.fate) s.rows i row.number row f.stands.numbered e refl in let label = f.stands.labels row.number in grind arith)
 
 -- THE INBOX

@@ -23,7 +23,7 @@ use std::alloc::AllocError;
 /// An LSSU is refused, since the error control has nothing to do with it.
 ///
 /// All memory that the body may want is taken first, so a fault leaves everything as it was.
-#[tactic(auto, using(set_moves::proofs::Links::whole_of, crate::proofs::Traffic::queue_there, crate::proofs::Traffic::space_still))]
+#[tactic(auto, using(set_moves::proofs::Links::whole_of, crate::proofs::Traffic::space_still))]
 pub fn hear(
     parts: &mut Parts,
     number: u8,

@@ -3,7 +3,6 @@ use Rattle.set_moves.proofs.Turns.{back_less}
 use Rattle.std.proofs.lemmas.Bool.Decides.{nat_tests}
 use Rattle.std.proofs.lemmas.Bool.{ne_eqb}
 use Rattle.set_queues.specs.Buffers.{Fate, is_standing, Waiting, Back, queue_at}
-use Rattle.set_queues.proofs.Standing.{length-updated}
 use Rattle.set_queues.proofs.Soundness.{room_left, passed_replaces}
 use Rattle.set_route.specs.Routing.{given_back}
 use Rattle.set_moves.specs.Parts.{kept_of}
@@ -18,8 +17,5 @@ returns-clause-fits c = rw (← c.home_of_code-home.ensures.value) (λ fit.
     let q = c.args.parts.now.queues.lists in
     let home = c.home_of_code-home.result in
     let then = λ (f : Fate) (stands : is_standing f ≡ true). ap (queue_at f) c.divert.ensures.lists ∙ passed_replaces q (Back c.args.code) (Waiting home) refl (omega arith) (omega arith) f stands in
-    let less = back_less c.args.code q c.divert.new.self.lists (λ other d. then (Back other) refl ∙ ap (λ (b : Bool). cond b [] (queue_at (Back other) q)) (ne_eqb c.args.code other d)) (length (queue_at (Back c.args.code) q)) (grind (arith, nat_tests, then (Back c.args.code) refl)) (16 * home) 16 (omega arith) (omega arith) in
-    omega (arith, less, fit, room_left (Waiting home) _ _ _ tt c.divert.ensures.rooms))
-
-pub returns-clause-whole : goal.returns-clause-whole
-returns-clause-whole c = grind (arith, length-updated)
+    let less = back_less c.args.code q c.divert.new.self.lists (λ other d. then (Back other) refl ∙ ap (λ (b : Bool). cond b [] (queue_at (Back other) q)) (ne_eqb c.args.code other d)) (length (queue_at (Back c.args.code) q)) (grind (arith, nat_tests, then (Back c.args.code) refl)) (16 * home) 16 (omega arith) in
+    grind (arith, nat_tests, less, fit, room_left (Waiting home) _ _ _ tt c.divert.ensures.rooms))

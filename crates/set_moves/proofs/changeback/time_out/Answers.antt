@@ -1,5 +1,4 @@
-use Rattle.set_model.specs.Step.{runs_out}
-use Rattle.set_moves.proofs.Links.{unknown, known_here}
+use Rattle.set_moves.proofs.Links.{known_here}
 use Rattle.std.proofs.Common.{arith, refl, sym, ◌≡◌, ◌∙◌, ◌*◌}
 use Rattle.set_queues.proofs.Tallies.{back_below}
 use Rattle.set_route.specs.Routing.{code_for, home_of}
@@ -7,11 +6,8 @@ use Rattle.set_model.specs.Changeover.{released_from, released}
 use Rattle.set_moves.proofs.Declaring.{becomes_next}
 use Rattle.set_moves.proofs.changeback.time_out.Goals as goal
 
-pub returns-then-from-len-clause-ok : goal.returns-then-from-len-clause-ok
-returns-then-from-len-clause-ok c = λ s a. unknown c.args.parts.now s a c.args.number (λ link. runs_out c.args.number s) (omega arith)
-
 pub returns-then-not-has_code_in_use-clause-ok : goal.returns-then-not-has_code_in_use-clause-ok
-returns-then-not-has_code_in_use-clause-ok c = λ s a. known_here c.args.parts.now c.args.parts.now s c.args.number _ _ a (omega arith) (rw (sym (c.has_code_in_use.ensures s a.stands) ∙ c.if-not-has_code_in_use.true) (record { answer_is = refl; stands = a.stands }))
+returns-then-not-has_code_in_use-clause-ok c = λ s a. known_here c.args.parts.now c.args.parts.now s c.args.number _ _ a (omega arith) (rw (sym (c.has_code_in_use.ensures s a.stands) ∙ c.if-not-has_code_in_use.true) (record { answer_is = c.into-then-not-has_code_in_use.ensures; stands = a.stands }))
 
 pub returns-clause-ok : goal.returns-clause-ok
 returns-clause-ok c = λ s a. let end : c.loop-alternative.alternative ≡ 16 = omega arith in

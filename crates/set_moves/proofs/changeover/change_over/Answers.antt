@@ -1,45 +1,42 @@
-use Rattle.std.proofs.Common.{refl, arith, ◌∙◌, ap, subst, ℕ, false}
-use Rattle.set_model.specs.Changeover.{Coa, changed_over, queued, left_by, left_link}
-use Rattle.set_model.specs.State.{last_accepted, target}
-use Rattle.set_model.proofs.Lists.{within, get_set_same}
+use Rattle.std.proofs.Common.{refl, arith, length, ◌≡◌, ◌∙◌, ap, subst, ℕ, false}
+use Rattle.set_model.specs.Changeover.{Coa, queued, left_by, left_link}
+use Rattle.set_model.specs.State.{last_accepted}
+use Rattle.set_model.proofs.Lists.{within, get_set_same, length_set}
 use Rattle.set_model.proofs.SoundBack.{leaves}
 use Rattle.set_model.proofs.SoundLink.{queues}
-use Rattle.set_model.proofs.Walk.{IsAt}
 use Rattle.set_moves.specs.Agreement.{StandsFor}
-use Rattle.set_moves.specs.Parts.{Up, Down, Settled, kept_of}
-use Rattle.set_moves.proofs.Links.{IsHere, IsLeft, ignores, obeys_at, here_room, stands_for, whole_of, has_room_left, beside_out, out_at, room_after, is_left}
+use Rattle.set_moves.specs.Parts.{Up, Down, Settled, AtLink, IsOut, kept_of}
+use Rattle.set_moves.proofs.Links.{IsHere, is_in, here_room, stands_for, whole_of, has_room_left, beside_out, beside_left, counted_set, out_at}
+use Rattle.set_queues.proofs.Soundness.{room_left}
 use Rattle.set_moves.proofs.changeover.change_over.Goals as goal
 use Rattle.set_moves.proofs.changeover.change_over.Goals.{After-leave}
-
-pub returns-in-None : goal.returns-in-None
-returns-in-None c = record { stands = ignores c.args.parts.now c.args.number (changed_over c.args.reached c.args.number) c.phase_of.ensures.value (λ phase e link s. let none = c.in-None.is in absurd cc) }
 
 -- A LINK THAT IS UP is left and answered for
 is_here : (c : After-leave) → IsHere c.args.parts.now.links.items c.args.number Up
 is_here c = rw c.in-Some-Up.field-0-is at c.in-Some-Up.ensures.here
 
-left : (c : After-leave) → IsLeft c.args.number c.args.parts.now c.leave.new.parts
-left c = is_left false c.args.number c.args.parts.now c.leave.new.parts (is_here c).known c.leave.ensures.links
-
 pub queue-requires-clause-room : goal.queue-requires-clause-room
 queue-requires-clause-room c =
-    let so = (goal.at.queue-requires-clause-room c).After-leave in
-    has_room_left c.args.number c.args.parts.now c.leave.new.parts (c.requires.room (is_here so).known) c.leave.ensures.turns c.leave.ensures.bodies (left so).target_is
+    let h = is_here (goal.at.queue-requires-clause-room c).After-leave in
+    has_room_left c.args.number c.args.parts.now c.leave.new.parts (c.requires.room h.known) c.leave.ensures.turns c.leave.ensures.bodies (beside_left _ _ c.args.number _ (c.leave.ensures.links h.link h.there) refl)
 
 pub settle-requires : goal.settle-requires
 settle-requires c =
     let n = c.args.number in
-    let so = (goal.at.settle-requires c).After-leave in
-    let low = (is_here so).known in
-    let l = left so in
-    let whole = whole_of c.args.parts.now c.requires.holds in
+    let h = is_here (goal.at.settle-requires c).After-leave in
+    let links = c.args.parts.now.links.items in
+    let is = c.leave.ensures.links h.link h.there in
+    let many : length c.leave.new.parts.links.items ≡ length links = rw is (length_set _ _ _) in
+    let out : AtLink n c.leave.new.parts.links.items IsOut = λ link there. grind (arith, is, get_set_same links n, h.known) in
+    let beside = beside_left links c.leave.new.parts.links.items n _ is refl in
+    let one = c.requires.counted n h.link h.there in
     record {
       whole = c.queue.ensures.whole;
-      counted = rw c.queue.ensures.links (l.counted _ c.requires.counted);
+      counted = rw c.queue.ensures.links (counted_set _ links c.leave.new.parts.links.items n _ c.requires.counted is (record { acked = one.acked; accepted = one.accepted }));
       reached = c.requires.reached;
-      known = rw (c.queue.ensures.links, l.many) low;
-      out = rw c.queue.ensures.links l.out;
-      room = room_after n c.args.parts.now c.leave.new.parts c.queue.new.parts (omega (arith, low, whole.as_many)) (c.requires.room low) c.leave.ensures.turns l.target_is (ap (λ links. target links.items) c.queue.ensures.links) (c.queue.ensures.elsewhere n (rw l.many low) l.out) c.queue.ensures.rooms;
+      known = rw (c.queue.ensures.links, many) h.known;
+      out = rw c.queue.ensures.links out;
+      room = grind (arith, room_left, c.requires.room h.known, c.leave.ensures.turns, beside, c.queue.ensures.links, c.queue.ensures.elsewhere n (rw many h.known) out, c.queue.ensures.rooms, (whole_of c.args.parts.now c.requires.holds).as_many);
     }
 
 pub returns-in-Some-Up : goal.returns-in-Some-Up
@@ -47,14 +44,15 @@ returns-in-Some-Up c =
     let n = c.args.number in
     let h = is_here (goal.at.returns-in-Some-Up c).After-leave in
     record {
-      stands = obeys_at c.args.parts.now (changed_over c.args.reached n) h (λ s link there up a.
-          let at : IsAt n link Up s = record { there = there; phase_is = up } in
-          let same = stands_for c.args.parts.now.links.items n c.from.result c.index.result.now c.from.ensures h.known c.index.ensures s.links link a.stands.links there in
+      stands = λ s a.
+          let at = is_in c.args.parts.now s n Up a h in
+          let link = at.link in
+          let same = stands_for c.args.parts.now.links.items n c.from.result c.index.result.now c.from.ensures h.known c.index.ensures s.links link a.stands.links at.there in
           let fsn = c.last_accepted.ensures.value ∙ ap last_accepted same in
           let mid = left_by false n link s in
-          let told = subst (λ (f : ℕ). StandsFor (kept_of c.queue.new.parts) (queued (Coa n f) mid)) fsn (c.queue.ensures.stands mid (c.leave.ensures.stands s link there a)) in
-          let sound = queues (Coa n (last_accepted link)) mid (leaves false n link s at a.sound) in
-          record { took_is = refl; stands = c.settle.ensures.stands (queued (Coa n (last_accepted link)) mid) (left_link false link) (get_set_same s.links n (left_link false link) (within s.links n link there)) refl (record { stands = told; sound = sound }) });
+          let told = subst (λ (f : ℕ). StandsFor (kept_of c.queue.new.parts) (queued (Coa n f) mid)) fsn (c.queue.ensures.stands mid (c.leave.ensures.stands s link at.there a)) in
+          let sound = queues (Coa n (last_accepted link)) mid (leaves false n link s (record { there = at.there; phase_is = at.phase_is }) a.sound) in
+          rw (at.there, at.phase_is) (record { took_is = refl; stands = c.settle.ensures.stands (queued (Coa n (last_accepted link)) mid) (left_link false link) (get_set_same s.links n (left_link false link) (within s.links n link at.there)) refl (record { stands = told; sound = sound }) });
     }
 
 -- one that was left settles
@@ -63,21 +61,9 @@ settle-requires-in-Some-Down-clause-room c =
     let h = rw c.in-Some-Down.field-0-is at c.in-Some-Down.ensures.here in
     here_room c.args.parts.now c.args.number 1 Down h refl (c.requires.room h.known)
 
-pub returns-in-Some-Down : goal.returns-in-Some-Down
-returns-in-Some-Down c = record { stands = obeys_at c.args.parts.now (changed_over c.args.reached c.args.number) (rw c.in-Some-Down.field-0-is at c.in-Some-Down.ensures.here) (λ s link there is a. record { took_is = refl; stands = c.settle-in-Some-Down.ensures.stands s link there is a }) }
-
 -- one that settled is answered for again
 pub queue-requires-in-Some-Settled-clause-room : goal.queue-requires-in-Some-Settled-clause-room
 queue-requires-in-Some-Settled-clause-room c =
     let h = rw c.in-Some-Settled.field-0-is at c.in-Some-Settled.ensures.here in
     let room = c.requires.room h.known in
     grind (arith, beside_out, out_at c.args.parts.now.links.items c.args.number Settled h refl, h.known, room)
-
-pub returns-in-Some-Settled : goal.returns-in-Some-Settled
-returns-in-Some-Settled c =
-    let h = rw c.in-Some-Settled.field-0-is at c.in-Some-Settled.ensures.here in
-    record {
-      stands = obeys_at c.args.parts.now (changed_over c.args.reached c.args.number) h (λ s link there is a.
-          let same = stands_for c.args.parts.now.links.items c.args.number c.from-in-Some-Settled.result c.index-in-Some-Settled.result.now c.from-in-Some-Settled.ensures h.known c.index-in-Some-Settled.ensures s.links link a.stands.links there in
-          record { took_is = refl; stands = rw (c.reply-order.ensures.order, same) at (c.queue-in-Some-Settled.ensures.stands s a.stands) });
-    }

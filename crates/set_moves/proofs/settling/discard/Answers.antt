@@ -1,7 +1,8 @@
 use Rattle.std.proofs.Common.{rules, refl, arith, []}
 use Rattle.set_queues.proofs.Standing.{links_stay}
 use Rattle.set_moves.specs.Parts.{kept_of}
-use Rattle.set_model.specs.Rows.{Unacked, Waiting, is_unacked, is_waiting}
+use Rattle.set_queues.specs.Buffers.{IsKnown}
+use Rattle.set_model.specs.Rows.{Unacked, Waiting}
 use Rattle.set_moves.proofs.States.{becomes, given_up_for}
 use Rattle.set_moves.proofs.Links.{cleared_less, on_less}
 use Rattle.set_moves.proofs.settling.discard.Goals as goal
@@ -9,19 +10,9 @@ use Rattle.set_moves.proofs.settling.discard.Goals as goal
 pub returns-clause-stands : goal.returns-clause-stands
 returns-clause-stands c = λ s f.
     let mid = kept_of (record c.args.parts.now { queues = c.discard.new.self }) in
-    let first = becomes {new = mid} (given_up_for (kept_of c.args.parts.now) s (Unacked c.args.number) (is_unacked c.args.number) c.args.cause f refl (omega arith) (λ fate. grind arith) refl) (search rules) in
-    becomes (given_up_for mid _ (Waiting c.args.number) (is_waiting c.args.number) c.args.cause first refl (grind arith) (λ fate. grind arith) refl) (search rules)
+    let first = becomes {new = mid} (given_up_for (kept_of c.args.parts.now) s (Unacked c.args.number) c.args.cause f refl (omega arith)) (search rules) in
+    becomes (given_up_for mid _ (Waiting c.args.number) c.args.cause first refl (grind arith)) (search rules)
 
 pub returns-clause-fewer : goal.returns-clause-fewer
-returns-clause-fewer c =
-    let n = c.args.number in
-    let q = c.args.parts.now.queues.lists in
-    let mid = c.discard.new.self.lists in
-    let many = links_stay (Unacked n) [] q in
-    on_less n q c.discard-2.new.self.lists (λ f. omega (arith, cleared_less (Unacked n) q mid c.discard.ensures.lists refl (omega arith) f, cleared_less (Waiting n) mid _ c.discard-2.ensures.lists refl (grind arith) f))
-
-pub discard-requires-2-clause-known : goal.discard-requires-2-clause-known
-discard-requires-2-clause-known c = let many = links_stay (Unacked c.args.number) [] c.args.parts.now.queues.lists in grind arith
-
-pub returns-clause-whole : goal.returns-clause-whole
-returns-clause-whole c = grind (arith, c.discard.ensures.lists, c.discard-2.ensures.lists, links_stay (Unacked c.args.number) [], links_stay (Waiting c.args.number) [])
+returns-clause-fewer c = let known : IsKnown (Waiting c.args.number) c.discard.new.self.lists = grind (arith, links_stay (Unacked c.args.number) []) in
+    omega (arith, on_less c.args.number _ _ (cleared_less (Unacked c.args.number) _ _ c.discard.ensures.lists refl (omega arith)), on_less c.args.number _ _ (cleared_less (Waiting c.args.number) _ _ c.discard-2.ensures.lists refl known))

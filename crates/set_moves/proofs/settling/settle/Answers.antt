@@ -1,25 +1,23 @@
-use Rattle.std.proofs.Common.{rules, refl, arith, ◌≡◌, ◌∙◌, ap, ◌<◌, length}
+use Rattle.std.proofs.Common.{rules, refl, sym, arith, IfSome, ◌≢◌, ◌≡◌, ◌∙◌, ap, ◌<◌, length}
 use Rattle.std.proofs.lemmas.List.{length-map}
 use Rattle.set_route.specs.Routing.{Routing, settled as streams_settled}
 use Rattle.set_model.specs.Changeover.{settled_link, fate_on, judged, judged_link}
 use Rattle.set_model.specs.State.{target}
 use Rattle.set_moves.specs.Parts.{kept_of}
 use Rattle.set_moves.proofs.States.{is_judged, becomes, settled_for}
-use Rattle.set_moves.proofs.Links.{IsPlace, link_set, place_for, phase_at}
+use Rattle.set_queues.proofs.Soundness.{IsAside}
+use Rattle.set_moves.proofs.Links.{link_set, place_for, same_target}
 use Rattle.set_moves.proofs.settling.settle.Goals as goal
-use Rattle.set_moves.proofs.settling.settle.Goals.{After-target_of-target}
+use Rattle.set_moves.proofs.settling.settle.Goals.{After-judge}
 
--- where it goes, once it's judged how far the far end got
-known : (c : After-target_of-target) → c.args.number < length c.judge.new.parts.links.items
-known c = grind (arith, length-map, c.judge.ensures.phases, c.requires.known)
-
-to_place : (c : After-target_of-target) → IsPlace c.args.number c.target_of-target.result (fate_on c.target_of-target.result) c.judge.new.parts.queues.lists
+-- where it goes
+to_place : (c : After-judge) → IsAside c.args.number (fate_on c.target_of-target.result) c.judge.new.parts.queues.lists × IfSome c.target_of-target.result (λ t. t ≢ c.args.number)
 to_place c =
-    place_for c.args.number c.target_of-target.result (fate_on c.target_of-target.result) c.judge.new.parts.queues.lists c.deref.ensures.value c.target_of-target.ensures.value c.target_of-target.ensures.below refl c.judge.ensures.whole.as_many (known c)
-    (λ l there. let x = phase_at c.args.parts.now.links.items c.judge.new.parts.links.items c.args.number l c.judge.ensures.phases there in let out = c.requires.out x.0 x.1 in grind arith)
+    let many : length c.judge.new.parts.queues.lists.links ≡ length c.args.parts.now.links.items = grind (arith, length-map, c.judge.ensures.phases, c.judge.ensures.whole) in
+    place_for c.args.number c.target_of-target.result (fate_on c.target_of-target.result) c.judge.new.parts.queues.lists c.deref.ensures.value c.target_of-target.ensures.value c.target_of-target.ensures.below refl many c.requires.known c.requires.out
 
 pub settle-requires-clause-apart : goal.settle-requires-clause-apart
-settle-requires-clause-apart c = (to_place (goal.at.settle-requires-clause-apart c).After-target_of-target).apart
+settle-requires-clause-apart c = (to_place (goal.at.settle-requires-clause-apart c).After-judge).1
 
 pub returns : goal.returns
 returns c = record {
@@ -31,9 +29,10 @@ returns c = record {
       let mid = judged c.args.reached n link s in
       let link' = judged_link c.args.reached n link s.rows in
       let f = c.judge.ensures.stands s link there a.stands in
-      let is : o ≡ target mid.links = c.target_of-target.ensures.value ∙ ap target (c.deref.ensures.value ∙ f.links) in
-      let place = to_place (goal.at.returns c).After-target_of-target in
-      let set = link_set c.judge.new.parts.links.items n c.from.result c.index_mut.result.now c.from.ensures (known (goal.at.returns c).After-target_of-target) c.index_mut.ensures.value settled_link _ mid.links link' c.behind-parts.view_is f.links j.there in
+      let is : o ≡ target mid.links = c.target_of-target.ensures.value ∙ ap target c.deref.ensures.value ∙ sym (same_target _ _ c.judge.ensures.phases) ∙ ap target f.links in
+      let place = to_place (goal.at.returns c).After-judge in
+      let known : n < length c.judge.new.parts.links.items = grind (arith, length-map, c.judge.ensures.phases, c.requires.known) in
+      let set = link_set c.judge.new.parts.links.items n c.from.result c.index_mut.result.now c.from.ensures known c.index_mut.ensures.value settled_link _ mid.links link' c.behind-parts.view_is f.links j.1 in
       let routes = c.settle-2.ensures ∙ ap (λ (r : Routing). streams_settled n o r) f.routing in
-      rw (← is) (becomes (settled_for (kept_of c.judge.new.parts) mid n o link' (settled_link link') (streams_settled n o mid.routing) f j.ordered.0 j.ordered.1 j.there refl place.aside place.off) (search (rules, c.settle.ensures.lists, c.settle.ensures.messages, set, routes)));
+      rw (← is) (becomes (settled_for (kept_of c.judge.new.parts) mid n o link' (settled_link link') (streams_settled n o mid.routing) f j.0.0 j.0.1 j.1 refl place.0) (search (rules, c.settle.ensures.lists, c.settle.ensures.messages, set, routes)));
 }

@@ -10,4 +10,5 @@ pub returns-clause-stands : goal.returns-clause-stands
 returns-clause-stands c = λ k s link counted there e f.
     let q = c.args.queues.now.lists in
     let reaches = c.requires.reach (grind (arith, nat_tests, c.if-acked-eq0.false)) in
-    rw (rw c.unwrap.ensures at c.acknowledge.ensures.lists, rw c.unwrap.ensures at c.acknowledge.ensures.messages, reaches.count_is) (acked_for (record k { lists = q; messages = c.args.queues.now.messages }) s c.args.number c.args.bsn link counted f there c.requires.bsn (e ∙ ap (λ (i : ℕ). link.acked + i) reaches.count_is))
+    let moves = rw c.unwrap.ensures at c.acknowledge.ensures.moves in
+    rw (moves.lists, moves.messages, reaches.count_is) (acked_for (record k { lists = q; messages = c.args.queues.now.messages }) s c.args.number c.args.bsn link counted f there c.requires.bsn (e ∙ ap (λ (i : ℕ). link.acked + i) reaches.count_is))

@@ -21,4 +21,4 @@ returns-in-First c = λ s a.
     let stands = rw c.in-First.is at (c.go_on-choice.ensures.stands s i.link i.there a.stands) in
     given c.args.number s _ i c.go_on-choice.result.0 c.go_on-choice.result.1 _ (c.go_on-choice.ensures.chosen s i.link i.there a.stands) (c.go_on-choice.ensures.head s i.link i.there a.stands)
     (rw c.in-First.is (with_body _ _ c.body_at-body-in-First.result (c.body_at-body-in-First.ensures _ stands)))
-    (rw c.in-First.is (becomes (sent_for (kept_of c.go_on-choice.new.parts) (goes_on c.args.number First i.link s) c.args.number c.unwrap.result.0 stands (a.sound.links c.args.number i.link i.there).in_order c.go_on-choice.ensures.queue sent.first) (grind (arith, sent, rw c.unwrap.ensures at c.send.ensures.messages))))
+    (rw c.in-First.is (becomes (sent_for (kept_of c.go_on-choice.new.parts) (goes_on c.args.number First i.link s) c.args.number stands (a.sound.links c.args.number i.link i.there).in_order c.go_on-choice.ensures.queue) (grind (arith, sent.lists, sent.messages))))

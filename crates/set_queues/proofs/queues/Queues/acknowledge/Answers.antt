@@ -1,5 +1,5 @@
 use Rattle.std.proofs.Common.{arith, refl, ◌<◌, length}
-use Rattle.set_queues.specs.Buffers.{Unacked}
+use Rattle.set_queues.specs.Buffers.{Unacked, Acked}
 use Rattle.set_queues.proofs.Linked.{of_link}
 use Rattle.set_queues.proofs.Soundness.{sound_passed, sound_with_last}
 use Rattle.set_queues.proofs.queues.Queues.acknowledge.Goals as goal
@@ -7,8 +7,7 @@ use Rattle.set_queues.proofs.queues.Queues.acknowledge.Goals as goal
 pub invariant_of-self : goal.invariant_of-self
 invariant_of-self c =
     let known : c.args.link < length c.self.inside.buffers.lists.links = rw (← c.self.view_is) at c.requires.known in (
-      rw (c.pass.ensures.messages, c.from-moved.ensures) (
-          sound_with_last _ _ _ c.args.link c.args.fsn (grind (arith, of_link)) (
-          sound_passed c.in-Some.count (Unacked c.args.link) _ _ _ c.self.invariant.0 (record { standing = refl; known = known; other = tt; apart = refl }) (λ s. absurd (cc)))),
+      sound_with_last _ _ _ c.args.link c.args.fsn (grind (arith, of_link)) (
+          sound_passed c.in_ok-count.count (Unacked c.args.link) (Acked c.args.link) _ _ _ _ c.self.invariant.0 refl known tt refl (λ s. absurd (cc)) refl (rw c.from-moved.ensures at c.pass.ensures.messages)),
       c.pass.ensures.counted,
     )
