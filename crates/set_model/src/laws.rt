@@ -58,7 +58,8 @@ pub fn a_changeover_diverts_the_rest()
 
 /// Each accepted message stands in one place more, and what is acknowledged stays so.
 pub fn a_step_gains()
-    ensures { (s : State) (event : Event) → IsManaged s.settings → Gains s event (step s event).answer (step s event).state }
+    ensures { (s : State) (event : Event) → IsManaged s.settings
+        → Gains s event (step s event).answer (step s event).state }
 {}
 
 /// An event sends at most one message on each link, and accepts at most one body there, so each whole number of a

@@ -4,7 +4,7 @@ use Rattle.std.specs.List.{drop-map}
 use Rattle.std.proofs.lemmas.Bool.Decides.{nat_tests}
 use Rattle.std.proofs.lemmas.List.{map-append, append-nil}
 use Rattle.set_queues.specs.Buffers.{is_standing, same_fate}
-use Rattle.set_model.specs.Rows.{Fate, Row, standing, numbers, turned, changed, moved, all_with, appended, IsNumbered, AreBefore, row_of, place}
+use Rattle.set_model.specs.Rows.{Fate, Row, standing, numbers, turned, moved, all_with, appended, IsNumbered, AreBefore, row_of, place}
 use Rattle.set_model.specs.Laws.{SameMessages}
 use Rattle.set_model.proofs.Events.{numbers_joined, appended_in, appended_out}
 use Rattle.set_model.proofs.Rows.{turned_same, turned_left, moved_same, moved_gone, moved_joined, fewer_filter, filter_within, filter_apart, with_number, at_most_one, row_is_first, place_moved, no_rows}

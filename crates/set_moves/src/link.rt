@@ -29,7 +29,13 @@ pub struct Link {
 impl Model for Link {
     ghost Value = { LinkState };
 
-    ghost view = { λ l. record { phase = l.phase; blind = l.blind; acked = l.acked; accepted = l.accepted; control = l.control } };
+    ghost view = { λ l. record {
+      phase = l.phase;
+      blind = l.blind;
+      acked = l.acked;
+      accepted = l.accepted;
+      control = l.control;
+    } };
 }
 
 impl Link {

@@ -1,5 +1,5 @@
 -- The queues in which messages stand, as lists of their numbers. Read this file first.
-use Rattle.std.specs.Prelude.{◌≡◌, ℕ, ◌+◌, ◌<◌, ◌≤◌, ◌==◌, Bool, true, false, List, [], ◌∷◌, zero, suc, length, replicate, slice_get, slice_index_or, if◌then◌else◌}
+use Rattle.std.specs.Prelude.{◌≡◌, ℕ, ◌+◌, ◌<◌, ◌≤◌, Bool, true, false, List, [], ◌∷◌, zero, suc, length, replicate, slice_get, slice_index_or, if◌then◌else◌}
 use Rattle.std.specs.Option.{option_map_or}
 use Rattle.l2_window.specs.Window.{fsn_before_first}
 pub use Rattle.set_events.specs.declared.answer.Fate.{Fate}

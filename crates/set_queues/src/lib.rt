@@ -18,11 +18,11 @@
 //!      +-------------------------------+---+---- Held(l) ------+---- discard ---> Discarded(cause)
 //! ```
 //!
-//! [`Queues::settle`] moves all of a link to the target, or parks them: sent, waiting, held; [`Queues::reset`] begins its
-//! new life. Only [`Queues::new`] and the calls that reserve take memory, here and in [`Bodies`]: a call that adds or
-//! moves needs its room reserved before. Each call costs the same however many messages there ever were; discarding,
-//! diverting and settling are linear in what moves. A number takes 8 octets, and 8 more while it stands in a queue; a
-//! queue of a code takes none for messages until one stands in it. A body takes 8 octets and its own.
+//! [`Queues::settle`] moves all of a link to the target, or parks them: sent, waiting, held; [`Queues::reset`] begins
+//! its new life. Only [`Queues::new`] and the calls that reserve take memory, here and in [`Bodies`]: a call that
+//! adds or moves needs its room reserved before. Each call costs the same however many messages there ever were;
+//! discarding, diverting and settling are linear in what moves. A number takes 8 octets, and 8 more while it stands
+//! in a queue; a queue of a code takes none for messages until one stands in it. A body takes 8 octets and its own.
 //!
 //! This crate decides nothing: which messages are sent, acknowledged or moved, and when, is the
 //! caller's to know. It reads no clock, does no IO and takes no lock.

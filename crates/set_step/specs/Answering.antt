@@ -9,7 +9,7 @@ pub record AnswersFor (outcome : Outcome) (answer : Answer) (k : Kept) : Type 0 
   pub answer_is : answer ≡ outcome.answer
   pub agrees : Agrees k outcome.state
 
--- the events that want no memory: a message is only taken, found or sent, and a unit without a body leaves nothing behind
+-- the events that want no memory: a message is only taken, found or sent, and a unit without a body leaves nothing
 abbrev pub wants_none : Event → Bool
 wants_none Take = true
 wants_none (Find number) = true

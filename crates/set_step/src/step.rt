@@ -15,8 +15,8 @@ use set_moves::{
 use set_traffic::{hear, offer, send_next};
 use std::alloc::AllocError;
 
-/// What is answered to an event is put into `answer`: an answer has room for a unit, and one that is handed on by value is
-/// copied each time. On a fault nothing of the parts has changed.
+/// What is answered to an event is put into `answer`: an answer has room for a unit, and one that is handed on by
+/// value is copied each time. On a fault nothing of the parts has changed.
 #[tactic(auto, using(crate::proofs::Kept::may_want))]
 pub(crate) fn carry_out(
     parts: &mut Parts,

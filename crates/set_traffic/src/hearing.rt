@@ -97,7 +97,8 @@ fn make_space(parts: &mut Parts, unit: &Unit) -> Result<Brought, AllocError>
     Ok(Brought::Order(order))
 }
 
-/// Takes room for what an order moves, and for the one that answers it. Nothing else changes, also where memory is refused.
+/// Takes room for what an order moves, and for the one that answers it. Nothing else changes, also where memory is
+/// refused.
 fn make_room_for(parts: &mut Parts, order: Order) -> Result<(), AllocError>
     requires whole { IsWhole parts.old }
     ensures room { OnOk result (IsSpaciousFor order parts.new) }

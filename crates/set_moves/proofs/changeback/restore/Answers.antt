@@ -1,11 +1,10 @@
-use Rattle.std.proofs.Common.{subst, ℕ, ◌-◌, ◌+◌}
+use Rattle.std.proofs.Common.{subst, ℕ, ◌-◌, ◌+◌, arith, ◌≡◌, ◌∙◌, refl, sym, length}
 use Rattle.std.proofs.lemmas.Bool.Decides.{nat_tests}
 use Rattle.set_queues.specs.Bodies.{CanHold}
 use Rattle.set_queues.specs.Buffers.{Waiting}
 use Rattle.set_model.specs.Step.{Done, comes_back}
 use Rattle.set_moves.specs.Parts.{Up}
 use Rattle.set_moves.proofs.Links.{served, is_in, whole_of}
-use Rattle.std.proofs.Common.{arith, ◌≡◌, ◌∙◌, refl, sym, length}
 use Rattle.set_model.specs.Changeover.{declared_from, declared_if}
 use Rattle.set_moves.proofs.Declaring.{count_is, becomes_next}
 use Rattle.set_moves.proofs.changeback.restore.Goals as goal
