@@ -61,7 +61,6 @@ pub(crate) fn carry_out(
 
 /// No answer came from the far end: a link that was left settles, and what was sent on it or waited
 /// is discarded (own).
-#[tactic(auto, using(set_moves::proofs::Links::whole_of, set_moves::proofs::Links::agrees_same, set_moves::proofs::Links::is_in))]
 fn give_up(parts: &mut Parts, number: u8, answer: &mut Answer) -> Result<(), AllocError>
     requires holds { Holds (kept_of parts.old) }
     requires counted { AreCounted (2 ^ 60) parts.old.links.items }
@@ -83,7 +82,6 @@ fn give_up(parts: &mut Parts, number: u8, answer: &mut Answer) -> Result<(), All
 
 /// The link is left, and an order tells the far end: a changeover order with the FSN last accepted,
 /// or blind an emergency changeover order without it.
-#[tactic(auto, using(set_moves::proofs::Links::whole_of, set_moves::proofs::Links::found))]
 fn take_down(
     parts: &mut Parts,
     number: u8,

@@ -12,6 +12,13 @@ use Rattle.set_step.proofs.step.bring_up.Goals as goal
 pub reset-requires-clause-unsent : goal.reset-requires-clause-unsent
 reset-requires-clause-unsent c = (is_empty c.args.parts.now _ c.args.number c.requires.holds (rw c.in-Some-Settled.field-0-is at c.in-Some-Settled.ensures.here) c.in_ok-make_room_parked-in-Some-Settled.ensures.same).unsent
 
+pub divert-requires-clause-room : goal.divert-requires-clause-room
+divert-requires-clause-room c =
+    let same = ap (λ (q : Lists). length q.parked) c.reset.ensures.lists in
+    let room = c.reset.ensures.rooms (Waiting c.args.number) in
+    let enough = c.in_ok-make_room_parked-in-Some-Settled.ensures.room in
+    omega (arith, same, room, enough)
+
 pub returns-in_ok-make_room_parked-in-Some-Settled-clause-ok : goal.returns-in_ok-make_room_parked-in-Some-Settled-clause-ok
 returns-in_ok-make_room_parked-in-Some-Settled-clause-ok c = λ s a.
     let n = c.args.number in
@@ -23,10 +30,3 @@ returns-in_ok-make_room_parked-in-Some-Settled-clause-ok c = λ s a.
       stands = becomes (risen_for (kept_of roomy) s n i.link (risen_link s.settings.method) (raised n s.routing) f i.there refl)
           (rw (c.divert.ensures.messages, c.divert.ensures.lists, c.reset.ensures.lists, c.reset.ensures.same.0, f.links, c.from.ensures, c.rise.ensures, ← f.settings, c.raise.ensures, f.routing) refl);
     })
-
-pub divert-requires-clause-room : goal.divert-requires-clause-room
-divert-requires-clause-room c =
-    let same = ap (λ (q : Lists). length q.parked) c.reset.ensures.lists in
-    let room = c.reset.ensures.rooms (Waiting c.args.number) in
-    let enough = c.in_ok-make_room_parked-in-Some-Settled.ensures.room in
-    omega (arith, same, room, enough)
