@@ -61,9 +61,20 @@ settle-requires-in-Some-Down-clause-room c =
     let h = rw c.in-Some-Down.field-0-is at c.in-Some-Down.ensures.here in
     here_room c.args.parts.now c.args.number 1 Down h refl (c.requires.room h.known)
 
+pub returns-in-Some-Down : goal.returns-in-Some-Down
+returns-in-Some-Down c =
+    let h = rw c.in-Some-Down.field-0-is at c.in-Some-Down.ensures.here in
+    record { stands = λ s a. let at = is_in c.args.parts.now s c.args.number Down a h in rw (at.there, at.phase_is) (record { took_is = refl; stands = c.settle-in-Some-Down.ensures.stands s at.link at.there at.phase_is a }) }
+
 -- one that settled is answered for again
 pub queue-requires-in-Some-Settled-clause-room : goal.queue-requires-in-Some-Settled-clause-room
 queue-requires-in-Some-Settled-clause-room c =
     let h = rw c.in-Some-Settled.field-0-is at c.in-Some-Settled.ensures.here in
     let room = c.requires.room h.known in
     grind (arith, beside_out, out_at c.args.parts.now.links.items c.args.number Settled h refl, h.known, room)
+
+pub returns-in-Some-Settled : goal.returns-in-Some-Settled
+returns-in-Some-Settled c =
+    let h = rw c.in-Some-Settled.field-0-is at c.in-Some-Settled.ensures.here in
+    let same = stands_for c.args.parts.now.links.items c.args.number c.from-in-Some-Settled.result c.index-in-Some-Settled.result.now c.from-in-Some-Settled.ensures h.known c.index-in-Some-Settled.ensures in
+    record { stands = λ s a. let at = is_in c.args.parts.now s c.args.number Settled a h in rw (at.there, at.phase_is) (record { took_is = refl; stands = rw (c.reply-order.ensures.order, same s.links at.link a.stands.links at.there) at (c.queue-in-Some-Settled.ensures.stands s a.stands) }) }
