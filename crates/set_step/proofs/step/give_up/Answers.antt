@@ -1,6 +1,6 @@
-use Rattle.std.proofs.Common.{refl}
+use Rattle.std.proofs.Common.{refl, arith}
 use Rattle.set_moves.specs.Parts.{Down}
-use Rattle.set_moves.proofs.Links.{agrees_same, is_in, here_room, whole_of}
+use Rattle.set_moves.proofs.Links.{agrees_same, is_in, here_room}
 use Rattle.set_step.proofs.step.give_up.Goals as goal
 
 pub returns-in_ok-make_room_beside-in-Some-Down-clause-ok : goal.returns-in_ok-make_room_beside-in-Some-Down-clause-ok
@@ -12,5 +12,5 @@ pub settle-requires-clause-room : goal.settle-requires-clause-room
 settle-requires-clause-room c =
     here_room c.make_room_beside.new.parts c.args.number 0 Down (rw c.in_ok-make_room_beside-in-Some-Down.ensures.same.links (rw c.in-Some-Down.field-0-is at c.in-Some-Down.ensures.here)) refl c.in_ok-make_room_beside-in-Some-Down.ensures.room
 
-pub make_room_beside-requires-clause-whole : goal.make_room_beside-requires-clause-whole
-make_room_beside-requires-clause-whole c = whole_of c.args.parts.now c.requires.holds
+pub returns-in-Some-Up : goal.returns-in-Some-Up
+returns-in-Some-Up c = record { ok = λ s a. let i = is_in c.args.parts.now s c.args.number _ a c.in-Some-Up.ensures.here in rw i.there (rw i.phase_is (grind arith)); err = tt }

@@ -1,23 +1,15 @@
-use Rattle.std.proofs.Common.{refl, arith, ◌≡◌, ◌<◌, ap, subst}
+use Rattle.std.proofs.Common.{refl, arith, ◌≡◌, ap, subst}
 use Rattle.set_model.specs.Changeover.{Coo, leaving_order, left_by, queued}
 use Rattle.set_model.specs.State.{last_accepted}
 use Rattle.set_model.specs.Step.{Done, falls}
 use Rattle.set_moves.specs.Agreement.{StandsFor}
 use Rattle.set_moves.specs.Parts.{Up, kept_of}
-use Rattle.set_moves.proofs.Links.{agrees_same, is_in, served, found, stands_for, whole_of, has_room_left, beside_left}
+use Rattle.set_moves.proofs.Links.{agrees_same, is_in, served, found, stands_for, has_room_left, beside_left}
 use Rattle.set_step.proofs.step.take_down.Goals as goal
 use Rattle.set_step.proofs.step.take_down.Goals.{then-blind, else-blind}
 
 pub last_accepted-requires : goal.last_accepted-requires
 last_accepted-requires c = let few = (c.requires.counted c.args.number _ (found c.args.parts.now.links.items c.args.number c.from.result c.index.result.now c.from.ensures c.in_default.ensures.here.known c.index.ensures)).accepted in omega (arith, few)
-
-pub make_room_beside-requires-clause-whole : goal.make_room_beside-requires-clause-whole
-make_room_beside-requires-clause-whole c = whole_of c.args.parts.now c.requires.holds
-
-pub queue-requires-clause-order : goal.queue-requires-clause-order
-queue-requires-clause-order c =
-    let low : c.args.number < 16 = omega (arith, (whole_of c.args.parts.now c.requires.holds).few, c.in_default.ensures.here.known) in
-    elim c.if-blind.branch [ then-blind w ↦ rw w.order-is low | else-blind w ↦ rw w.order-is (low, w.last_accepted.ensures.few) ]
 
 pub queue-requires-clause-room : goal.queue-requires-clause-room
 queue-requires-clause-room c =
