@@ -1,7 +1,9 @@
 -- THE PRINTED TEXTS: what a step of the world shows, and how an end stands, each ended by LF.
-use Rattle.std.specs.Prelude.{◌≡◌, ℕ, List, ◌++◌, length, take, Option, Some, None, Result, MatchResult, codes, decimal}
+use Rattle.std.specs.Prelude.{◌≡◌, ℕ, List, [], ◌++◌, length, take, Option, Some, None, Result, MatchResult, codes, decimal, if◌then◌else◌}
 use Rattle.l2_bits.specs.SealedText.{sealed_text}
-use Rattle.l2_units.specs.Grammar.{text}
+use Rattle.l2_units.specs.Grammar.{head_of, text}
+use Rattle.l2_units.specs.declared.unit.Unit.{Unit as SignalUnit}
+use Rattle.l2_units.specs.declared.profile.Profile.TheVariants.{Narrow}
 use Rattle.set_events.specs.Numbers.{refusal_number, ControlFault, fault_number, cause_number}
 use Rattle.set_events.specs.declared.answer.Fate.{Fate}
 use Rattle.set_events.specs.declared.answer.Fate.TheVariants.{Waiting, Unacked, Acked, Held, Parked, Back, Discarded}
@@ -12,6 +14,7 @@ use Rattle.set_events.specs.declared.answer.Counts.{Counts}
 use Rattle.set_events.specs.declared.answer.Answer.{Answer}
 use Rattle.set_events.specs.declared.answer.Answer.TheVariants.{Accepted, Taken, Found, Sent, Heard, Done, Refused}
 use Rattle.set_model.specs.Rows.{total_of}
+use Rattle.set_model.specs.Step.{has_numbers}
 use Rattle.world_steps.specs.declared.step.End.{End}
 use Rattle.world_steps.specs.declared.step.End.TheVariants.{A, B}
 use Rattle.world_steps.specs.declared.step.Shown.{Shown}
@@ -52,6 +55,11 @@ abbrev pub report_text : Report → List ℕ
 report_text r =
     codes "heard acked=" ++ (decimal r.acked ++ (codes " took=" ++ (took_text r.took ++ flags_text r)))
 
+-- a unit's octets, without check octets; one with a number of more than seven bits, which no set of the narrow profile
+-- has, has none (own)
+abbrev pub unit_octets : SignalUnit → List ℕ
+unit_octets unit = if has_numbers Narrow (head_of unit) then text Narrow unit else []
+
 -- a sent unit is printed with its check octets
 abbrev pub sent_line : List ℕ → List ℕ
 sent_line octets = codes "sent " ++ (hex_text (sealed_text octets) ++ codes "\n")
@@ -60,7 +68,7 @@ abbrev pub answer_text : Answer → List ℕ
 answer_text (Accepted number) = codes "accepted " ++ (decimal number ++ codes "\n")
 answer_text (Taken body) = codes "taken " ++ (hex_text body.items ++ codes "\n")
 answer_text (Found fate) = fate_text fate
-answer_text (Sent unit) = sent_line (text unit)
+answer_text (Sent unit) = sent_line (unit_octets unit)
 answer_text (Heard report) = report_text report
 answer_text Done = codes "done\n"
 answer_text (Refused why) = codes "refused " ++ (decimal (refusal_number why) ++ codes "\n")

@@ -6,10 +6,11 @@
 //! | [`set_events::Counts`] of an end | [`write_end`] |
 //!
 //! Each text is a line, ended by LF, and fails only where memory is wanted. Numbers are decimal, octets are
-//! hexadecimal in lower case, and a sent unit is printed with its check octets. [`code_of`] is the number by which a
-//! heard unit's fault is printed. `specs/Texts.antt` has the words. This crate knows no set and no script.
+//! hexadecimal in lower case, and a sent unit is printed with its check octets ([`unit_octets`] has those before them).
+//! [`code_of`] is the number by which a heard unit's fault is printed. `specs/Texts.antt` has the words. This crate knows no
+//! set and no script.
 #![tactic(auto)]
 
 mod texts;
 
-pub use texts::{code_of, push_shown, write_end, write_shown};
+pub use texts::{code_of, push_shown, unit_octets, write_end, write_shown};

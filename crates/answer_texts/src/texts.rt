@@ -1,13 +1,13 @@
 //! The printed texts.
 ghost use Rattle.std.specs.Prelude.{◌≡◌, ◌++◌, ◌+◌, ◌<◌, ◌^◌, IfOk, MatchResult, codes, decimal};
-ghost use Rattle.l2_units.specs.Grammar.{text};
 ghost use Rattle.set_model.specs.Rows.{total_of};
 ghost use Rattle.figures.specs.Figures.{hex_text};
-ghost use Rattle.answer_texts.specs.Texts.{Appends, fate_text, took_text, fault_code, flags_text, report_text, sent_line, answer_text, shown_line, shown_text, end_name, end_text, link_counts, other_counts};
+ghost use Rattle.answer_texts.specs.Texts.{Appends, unit_octets, fate_text, took_text, fault_code, flags_text, report_text, sent_line, answer_text, shown_line, shown_text, end_name, end_text, link_counts, other_counts};
 
+use arrayvec::ArrayVec;
 use figures::{bit_of, decimal_digit, push_hex, push_number};
 use l2_bits::seal;
-use l2_units::{Unit, write};
+use l2_units::{LONGEST_UNIT, Unit, header_in, write};
 use set_events::{Answer, ControlFault, Counts, Fate, Report, Took};
 use std::alloc::{AllocError, Global};
 use world_steps::{End, Shown};
@@ -87,9 +87,22 @@ fn push_fate(out: &mut Vec<u8>, fate: Fate) -> Result<(), AllocError>
 // on its own: whoever has the unit's octets in its frame fills them each time, whatever it's called for
 #[inline(never)]
 fn push_sent(out: &mut Vec<u8>, unit: &Unit) -> Result<(), AllocError>
-    ensures { Appends result out.old.items (sent_line (text unit.now)) out.new.items }
+    ensures { Appends result out.old.items (sent_line (unit_octets unit.now)) out.new.items }
 {
-    push_hex_line(out, b"sent ", seal(write(unit).as_slice()).as_slice())
+    push_hex_line(out, b"sent ", seal(unit_octets(unit).as_slice()).as_slice())
+}
+
+/// A unit's octets, without check octets. Of one that has a number of more than seven bits, as no set of the narrow profile
+/// has, there are none (own).
+pub fn unit_octets(unit: &Unit) -> ArrayVec<u8, LONGEST_UNIT>
+    ensures { result.items ≡ unit_octets unit.now }
+{
+    let head = header_in(unit);
+    if head.bsn < 128 && head.fsn < 128 {
+        write(unit)
+    } else {
+        ArrayVec::new()
+    }
 }
 
 /// Appends the text of what a heard unit did.

@@ -1,9 +1,11 @@
 -- THE FAULTS of a bank, by their numbers.
-use Rattle.std.specs.Prelude.{ℕ}
+use Rattle.std.specs.Prelude.{◌≡◌, ℕ}
+use Rattle.l2_units.specs.declared.profile.Profile.TheVariants.{Narrow}
+use Rattle.set_events.specs.declared.config.SetConfig.{SetConfig}
 use Rattle.set_crew.specs.declared.fault.CrewFault.{CrewFault}
 use Rattle.set_crew.specs.declared.fault.CrewFault.TheVariants as crew
 use Rattle.bank_core.specs.declared.fault.BankFault.{BankFault}
-use Rattle.bank_core.specs.declared.fault.BankFault.TheVariants.{NoMemory, Users, Sets, NoThread, Unclosed}
+use Rattle.bank_core.specs.declared.fault.BankFault.TheVariants.{NoMemory, Users, Sets, NoThread, Unclosed, Wide}
 
 abbrev pub fault_number : BankFault → ℕ
 fault_number NoMemory = 1
@@ -11,6 +13,11 @@ fault_number Users = 2
 fault_number Sets = 3
 fault_number NoThread = 4
 fault_number Unclosed = 5
+fault_number Wide = 6
+
+-- terminals have numbers of seven bits, so each set of a bank has them
+abbrev pub IsNarrow : SetConfig → Type 0
+IsNarrow config = config.profile ≡ Narrow
 
 -- why a set that was started doesn't come to its end
 abbrev pub EndsEarly : BankFault → Type 0
@@ -19,6 +26,7 @@ EndsEarly Users = ⊥
 EndsEarly Sets = ⊥
 EndsEarly NoThread = Unit {0}
 EndsEarly Unclosed = Unit {0}
+EndsEarly Wide = ⊥
 
 -- what the bank tells of a set that didn't
 abbrev pub fault_of : CrewFault → BankFault

@@ -1,10 +1,11 @@
 //! A bank of sets, and how it's started.
-ghost use Rattle.std.specs.Prelude.{◌≡◌, ◌<◌, ◌≤◌, ◌↔◌, ◌⊎◌, map, length, IfOk, IfErr};
-ghost use Rattle.bank_core.specs.Faults.{EndsEarly};
+ghost use Rattle.std.specs.Prelude.{◌≡◌, ◌<◌, ◌≤◌, ◌↔◌, ◌⊎◌, map, length, All, IfOk, IfErr, IsTrue};
+ghost use Rattle.bank_core.specs.Faults.{EndsEarly, IsNarrow};
 ghost use Rattle.bank_core.specs.Room.{IsRoomFor};
 
 use super::fault::BankFault;
 use super::running::Running;
+use l2_units::Profile;
 use line_ring::Line;
 use link_term::Gate;
 use set_crew::{Job, Orders, Plan, Work};
@@ -43,19 +44,25 @@ impl Bank {
     /// A bank of sets of these configurations, each with so many users, and each under a lock of its own.
     ///
     /// Refusals, in this order: 2 [`BankFault::Users`] exactly where there is no user or more than 64;
-    /// 3 [`BankFault::Sets`] where there is no set or more than 16; 1 [`BankFault::NoMemory`] only where memory was
-    /// refused.
+    /// 3 [`BankFault::Sets`] where there is no set or more than 16; 6 [`BankFault::Wide`] where a set is of the wide
+    /// profile, which terminals aren't; 1 [`BankFault::NoMemory`] only where memory was refused.
     pub fn create(alloc: Global, configs: &[SetConfig], users: u16) -> Result<Bank, BankFault>
         ensures bank { IfOk result (λ bank. bank ≡ record { configs = configs.now; users = users }) }
         ensures users { (result ≡ Err BankFault.Users) ↔ ((users ≡ 0) ⊎ (64 < users)) }
         ensures sets { (result ≡ Err BankFault.Sets) ↔ (((0 < users) × (users ≤ 64))
             × ((length configs.now ≡ 0) ⊎ (16 < length configs.now))) }
+        ensures wide { (result ≡ Err BankFault.Wide) ↔ (((0 < users) × (users ≤ 64))
+            × ((0 < length configs.now) × (length configs.now ≤ 16))
+            × (All IsNarrow configs.now → ⊥)) }
     {
         if users == 0 || users > MOST_USERS {
             return Err(BankFault::Users);
         }
         if configs.is_empty() || configs.len() > MOST_SETS {
             return Err(BankFault::Sets);
+        }
+        if !are_narrow(configs) {
+            return Err(BankFault::Wide);
         }
         Ok(Bank {
             configs: Vec::from_slice(alloc, configs)?,
@@ -148,4 +155,16 @@ impl Bank {
         }
         Ok(works)
     }
+}
+
+/// Whether each of these sets is of the narrow profile.
+fn are_narrow(configs: &[SetConfig]) -> bool
+    ensures { IsTrue result ↔ All IsNarrow configs.now }
+{
+    for config in configs {
+        if config.profile() == Profile::Wide {
+            return false;
+        }
+    }
+    true
 }

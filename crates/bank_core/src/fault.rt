@@ -24,10 +24,13 @@ pub enum BankFault {
     /// 5: a set wasn't closed: its seats weren't all there, or had other receipts than its history has entries.
     #[error("a set could not be closed")]
     Unclosed = 5,
+    /// 6: a set is of the wide profile, and terminals aren't.
+    #[error("a bank's sets have the narrow profile")]
+    Wide = 6,
 }
 
 impl BankFault {
-    /// The fault's number: 1 memory is wanted, 2 users, 3 sets, 4 no thread, 5 a set isn't closed.
+    /// The fault's number: 1 memory is wanted, 2 users, 3 sets, 4 no thread, 5 a set isn't closed, 6 a wide set.
     pub fn number(self) -> u8
         ensures { result ≡ fault_number self }
     {

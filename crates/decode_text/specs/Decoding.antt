@@ -7,6 +7,7 @@ use Rattle.l2_units.specs.declared.unit.Header.{Header}
 use Rattle.l2_units.specs.declared.unit.Unit.{Unit as SignalUnit}
 use Rattle.l2_units.specs.declared.unit.Unit.TheVariants.{Fisu, Lssu, Msu}
 use Rattle.l2_units.specs.Grammar.{unit_of}
+use Rattle.l2_units.specs.declared.profile.Profile.TheVariants.{Narrow}
 use Rattle.l3_orders.specs.declared.order.Order.{Order}
 use Rattle.l3_orders.specs.declared.order.Order.TheVariants.{Coo, Coa, Cbd, Cba, Eco, Eca}
 use Rattle.l3_orders.specs.Grammar.{order_of}
@@ -102,7 +103,7 @@ short_text octets = codes " body=" ++ (hex_text octets ++ codes "\n")
 
 abbrev pub body_text : List ℕ → List ℕ
 body_text (sio ∷ a ∷ b ∷ c ∷ d ∷ more) =
-    label_text sio a b c d ++ content_text (order_of (sio ∷ a ∷ b ∷ c ∷ d ∷ more)) (d / 16) more
+    label_text sio a b c d ++ content_text (order_of Narrow (sio ∷ a ∷ b ∷ c ∷ d ∷ more)) (d / 16) more
 body_text (sio ∷ a ∷ b ∷ c ∷ []) = short_text (sio ∷ a ∷ b ∷ c ∷ [])
 body_text (sio ∷ a ∷ b ∷ []) = short_text (sio ∷ a ∷ b ∷ [])
 body_text (sio ∷ a ∷ []) = short_text (sio ∷ a ∷ [])
@@ -138,7 +139,7 @@ octets_text None checked None indicator = codes "no unit\n"
 
 abbrev pub line_text : List ℕ → List ℕ
 line_text octets =
-    octets_text (unit_of (front_of octets)) (is_sealed octets) (unit_of octets)
+    octets_text (unit_of Narrow (front_of octets)) (is_sealed octets) (unit_of Narrow octets)
     (indicator_in octets)
 
 -- a line that isn't hexadecimal digits, two an octet, can't be read

@@ -63,8 +63,8 @@ pub fn write_order_words(alloc: Global, order: Order) -> Result<Vec<u8>, AllocEr
     match order {
         Order::Coo { link, number } => write_about(alloc, "COO", link, "fsn", number),
         Order::Coa { link, number } => write_about(alloc, "COA", link, "fsn", number),
-        Order::Cbd { link, code } => write_about(alloc, "CBD", link, "code", code),
-        Order::Cba { link, code } => write_about(alloc, "CBA", link, "code", code),
+        Order::Cbd { link, code } => write_about(alloc, "CBD", link, "code", u16::from(code)),
+        Order::Cba { link, code } => write_about(alloc, "CBA", link, "code", u16::from(code)),
         Order::Eco { link } => about_link(alloc, "ECO", link),
         Order::Eca { link } => about_link(alloc, "ECA", link),
     }
@@ -76,7 +76,7 @@ fn write_about(
     name: &str,
     link: u8,
     field: &str,
-    number: u8,
+    number: u16,
 ) -> Result<Vec<u8>, AllocError>
     ensures { IfOk result (λ text. text.items ≡ about name.now link field.now number) }
 {

@@ -1,7 +1,7 @@
 //! Where a list of entries leaves the history of a set.
-ghost use Rattle.std.specs.Prelude.{◌≡◌, ◌<◌, ◌≤◌, ◌↔◌, [], length, IfOk, IfErr, OnOk, MatchOption};
+ghost use Rattle.std.specs.Prelude.{◌≡◌, ◌<◌, ◌≤◌, ◌+◌, ◌↔◌, [], length, IfOk, IfErr, OnOk, MatchOption};
 ghost use Rattle.set_model.specs.State.{new_state};
-ghost use Rattle.set_model.specs.History.{IsLegal, books_of, longest_history};
+ghost use Rattle.set_model.specs.History.{IsLegal, books_of, entries_in, longest_history, opening_of};
 ghost use Rattle.history_audit.specs.FirstWrong.{IsFirstWrong};
 
 use set_core::{SetCore, SetFault, audit};
@@ -57,7 +57,7 @@ fn halved(alloc: Global, config: &SetConfig, entries: &[Entry]) -> Result<usize,
 pub fn add_up_books(alloc: Global, config: &SetConfig, entries: &[Entry]) -> Result<Books, SetFault>
     requires legal { IsLegal (new_state config.now) entries.now }
     requires few { length entries.now ≤ longest_history }
-    ensures books { IfOk result (λ books. books ≡ books_of (new_state config.now) entries.now) }
+    ensures books { IfOk result (λ books. books ≡ books_of (opening_of config.now) entries.now) }
     ensures fault { IfErr result (λ fault. fault ≡ SetFault.NoMemory) }
 {
     let mut set = SetCore::new(alloc, config)?;
@@ -69,8 +69,8 @@ pub fn add_up_books(alloc: Global, config: &SetConfig, entries: &[Entry]) -> Res
 fn repeat(set: &mut SetCore, entries: &[Entry]) -> Result<(), SetFault>
     requires new { set.old.history ≡ [] }
     requires legal { IsLegal set.old.state entries.now }
-    requires few { length entries.now ≤ longest_history }
-    ensures opening { set.new.opening ≡ set.old.opening }
+    requires few { entries_in set.old + length entries.now ≤ longest_history }
+    ensures base { set.new.base ≡ set.old.base }
     ensures history { OnOk result (set.new.history ≡ entries.now) }
     ensures fault { IfErr result (λ fault. fault ≡ SetFault.NoMemory) }
 {

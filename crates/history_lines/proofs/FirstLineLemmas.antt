@@ -14,7 +14,9 @@ use Rattle.history_text.proofs.FigureLemmas.{number_again, below_again, digit_ag
 use Rattle.play_script.specs.Script.{is_space, is_colon, first_word, other_words, SixWords, six_words, value_in, links_of, code_of, sio_of, method_of, limits_of, n1_of, n2_of, values_of, fitting, is_end_of, first_line}
 use Rattle.play_script.specs.declared.script.Values.{Values}
 use Rattle.set_events.specs.Config.{fault_of}
-use Rattle.set_events.specs.Method.{is_method, is_limit, most_messages, most_octets}
+use Rattle.l2_units.specs.declared.profile.Profile.TheVariants.{Narrow}
+use Rattle.l2_units.specs.Profile.{most_unacked}
+use Rattle.set_events.specs.Method.{is_method, is_limit, most_octets}
 use Rattle.set_events.specs.declared.config.Method.{Method}
 use Rattle.set_events.specs.declared.config.Method.TheVariants.{Basic, Cyclic}
 use Rattle.set_model.specs.State.{Settings}
@@ -81,16 +83,16 @@ number_no_space : (n : ℕ) → n < 2 ^ 64 → passes is_space (decimal n) ≡ t
 number_no_space n h = no_space (decimal n) (number_is_word n h)
 
 -- the limits of a method, as numbers
-limits_low : (n1 n2 : ℕ) → is_method (Cyclic n1 n2) ≡ true → (n1 < 2 ^ 8) × (n2 < 2 ^ 32)
+limits_low : (n1 n2 : ℕ) → is_method Narrow (Cyclic n1 n2) ≡ true → (n1 < 2 ^ 8) × (n2 < 2 ^ 32)
 limits_low n1 n2 h =
-    let parts : (is_limit most_messages n1 ≡ true) × (is_limit most_octets n2 ≡ true) = both_true (is_limit most_messages n1) (is_limit most_octets n2) h in
+    let parts : (is_limit (most_unacked Narrow) n1 ≡ true) × (is_limit (most_octets Narrow) n2 ≡ true) = both_true (is_limit (most_unacked Narrow) n1) (is_limit (most_octets Narrow) n2) h in
     let a = both_true (nat_le 1 n1) (nat_le n1 127) parts.0 in
     let b = both_true (nat_le 1 n2) (nat_le n2 34671) parts.1 in
     let x : n1 ≤ 127 = grind (arith, nat_tests, a.1) in
     let y : n2 ≤ 34671 = grind (arith, nat_tests, b.1) in
     (omega (arith, x), omega (arith, y))
 
-method_no_space : (m : Method) → is_method m ≡ true → passes is_space (codes "method=" ++ method_text m) ≡ true
+method_no_space : (m : Method) → is_method Narrow m ≡ true → passes is_space (codes "method=" ++ method_text m) ≡ true
 method_no_space Basic h = refl
 method_no_space (Cyclic n1 n2) h =
     let low = limits_low n1 n2 h in
@@ -112,7 +114,7 @@ sio_again n h =
     let back : 16 * (n / 16) + n % 16 ≡ n = omega arith in
     rw (digit_again (n / 16) (omega (arith, h)), digit_again (n % 16) (omega arith)) (ap Some back)
 
-method_again : (m : Method) → is_method m ≡ true → method_of (codes "method=" ++ method_text m) ≡ Some m
+method_again : (m : Method) → is_method Narrow m ≡ true → method_of (codes "method=" ++ method_text m) ≡ Some m
 method_again Basic h = refl
 method_again (Cyclic n1 n2) h =
     let low = limits_low n1 n2 h in
@@ -190,7 +192,7 @@ values_again s f =
       sio_again s.sio f.octet,
     ) refl
 
-no_fault : (s : Settings) (own far : ℕ) → SettingsFit s → own < 2 ^ 14 → far < 2 ^ 14 → fault_of s.links own far s.sio s.method ≡ None
+no_fault : (s : Settings) (own far : ℕ) → SettingsFit s → own < 2 ^ 14 → far < 2 ^ 14 → fault_of Narrow s.links own far s.sio s.method ≡ None
 no_fault s own far f o d =
     let some : nat_le 1 s.links ≡ true = grind (arith, nat_tests, f.has_links) in
     let few : nat_le s.links 16 ≡ true = grind (arith, nat_tests, f.links_in_range) in
@@ -202,10 +204,10 @@ no_fault s own far f o d =
 fit_again : (s : Settings) → SettingsFit s → fitting (values s) ≡ Some (values s)
 fit_again s f = rw (no_fault s s.opc s.dpc f f.opc_in_range f.dpc_in_range, no_fault s s.dpc s.opc f f.dpc_in_range f.opc_in_range) refl
 
-own_is : (s : Settings) → s.set ≡ 0 → own_settings (values s) ≡ s
-own_is s e = rw e refl
+own_is : (s : Settings) → s.set ≡ 0 → s.profile ≡ Narrow → own_settings (values s) ≡ s
+own_is s e narrow = rw (e, narrow) refl
 
 pub read_back_each : IsReadBack
 read_back_each s f =
     let read : first_line (settings_text s) ≡ Some (values s) = rw (six_again s f) (rw (values_again s f) (fit_again s f)) in
-    rw read (ap Some (own_is s f.numbered))
+    rw read (ap Some (own_is s f.numbered f.narrow))

@@ -2,6 +2,7 @@
 -- an end a that is this set.
 use Rattle.std.specs.Prelude.{◌≡◌, ◌<◌, ◌≤◌, ◌^◌, ◌%◌, ℕ, true, List, [], ◌∷◌, ◌++◌, Option, Some, codes, decimal}
 use Rattle.std.specs.Option.{option_map}
+use Rattle.l2_units.specs.declared.profile.Profile.TheVariants.{Narrow}
 use Rattle.set_events.specs.Method.{is_method}
 use Rattle.set_events.specs.declared.config.Method.{Method}
 use Rattle.set_events.specs.declared.config.Method.TheVariants.{Basic, Cyclic}
@@ -33,6 +34,7 @@ own_settings v = record {
   set = 0;
   links = v.links;
   method = v.method;
+  profile = Narrow;
   sio = v.sio;
   dpc = v.code_b;
   opc = v.code_a;
@@ -41,16 +43,18 @@ own_settings v = record {
 abbrev pub settings_in : List ℕ → Option Settings
 settings_in line = option_map own_settings (first_line line)
 
--- what a set can be opened with; the line doesn't tell its number, which is read as 0
+-- what a set can be opened with; the line tells neither its number, which is read as 0, nor its profile, which is the
+-- narrow one
 pub record SettingsFit (s : Settings) : Type 0 where
   pub numbered : s.set ≡ 0
+  pub narrow : s.profile ≡ Narrow
   pub has_links : 1 ≤ s.links
   pub links_in_range : s.links ≤ 16
   pub opc_in_range : s.opc < 2 ^ 14
   pub dpc_in_range : s.dpc < 2 ^ 14
   pub management : s.sio % 16 ≡ 0
   pub octet : s.sio < 2 ^ 8
-  pub limits_in_range : is_method s.method ≡ true
+  pub limits_in_range : is_method Narrow s.method ≡ true
 
 -- THE LAW: the line is read back as what was written, so no other configuration has it
 abbrev pub IsReadBack : Type 0

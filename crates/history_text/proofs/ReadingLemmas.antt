@@ -9,7 +9,8 @@ use Rattle.std.specs.Option.{option_map, option_and_then}
 use Rattle.std.specs.Str.{bytes_eq}
 use Rattle.l2_bits.proofs.SealedTextLemmas.{sealed_meets_check}
 use Rattle.l2_units.specs.declared.unit.Unit.{Unit as SignalUnit}
-use Rattle.l2_units.specs.Grammar.{text, unit_of, IsUnit, IsTheTextOf}
+use Rattle.l2_units.specs.Grammar.{head_of, text, unit_of, IsUnit, IsTheTextOf}
+use Rattle.l2_units.specs.declared.profile.Profile.TheVariants.{Narrow}
 use Rattle.l2_units.proofs.Texts.{stands_is}
 use Rattle.l2_signals.specs.declared.cause.ControlFault.{ControlFault}
 use Rattle.l2_signals.specs.declared.cause.ControlFault.TheVariants.{Bsn, Fib}
@@ -23,14 +24,14 @@ use Rattle.set_events.specs.declared.answer.Took.{Took}
 use Rattle.set_events.specs.declared.answer.Took.TheVariants.{Nothing as TookNothing, Message, Order, Ignored}
 use Rattle.set_events.specs.declared.answer.DiscardCause.TheVariants.{Emergency, Unreasonable, NoAnswer as NobodyAnswered}
 use Rattle.set_events.specs.declared.answer.Refusal.{Refusal as SetRefusal}
-use Rattle.set_events.specs.declared.answer.Refusal.TheVariants.{TooShort, TooLong, Reserved, StreamFull, NotUp, NotDown, Unsettled, UnknownNumber, Nothing, NoSuchLink}
+use Rattle.set_events.specs.declared.answer.Refusal.TheVariants.{TooShort, TooLong, Reserved, StreamFull, NotUp, NotDown, Unsettled, UnknownNumber, Nothing, NoSuchLink, Finished}
 use Rattle.set_events.specs.declared.answer.Report.{Report}
 use Rattle.set_events.specs.declared.answer.Answer.{Answer}
 use Rattle.set_events.specs.declared.answer.Answer.TheVariants.{Accepted, Taken, Found, Sent, Heard, Done, Refused}
 use Rattle.set_events.specs.declared.history.Entry.{Entry}
 use Rattle.set_events.specs.Numbers.{refusal_number}
 use Rattle.figures.specs.Figures.{number_of, number_below, octets_of, hex_text, bit}
-use Rattle.answer_texts.specs.Texts.{answer_text, fate_text, took_text, fault_code, report_text}
+use Rattle.answer_texts.specs.Texts.{answer_text, unit_octets, sent_line, fate_text, took_text, fault_code, report_text}
 use Rattle.history_text.specs.Entries.{numbered, actor_text, event_text, entry_text, AreOctets, IsOnLine, ActorFits, EventFits, FateFits, AnswerFits, EntryFits, EntriesFit, entries_text}
 use Rattle.play_script.specs.Script.{unit_of as unit_in}
 use Rattle.history_text.specs.Reading.{behind, is_gap, is_arrow, word, others, value, link_in, actor_in, body_in, link_event_in, linked_fate_in, refusal_in, took_in, yes_in, fault_in, heard_in, told, asked_in, told_in, entry_in}
@@ -84,13 +85,22 @@ behind_actor (Terminal n) more h =
 
 -- a law of units, as their crate tells it
 abbrev pub UnitsHaveOneText : Type 0
-UnitsHaveOneText = (unit : SignalUnit) → IsUnit unit → IsTheTextOf unit
+UnitsHaveOneText = (unit : SignalUnit) → IsUnit Narrow unit → IsTheTextOf Narrow unit
 
-unit_again : UnitsHaveOneText → (unit : SignalUnit) → IsOnLine unit → unit_of (text unit) ≡ Some unit
-unit_again law unit h = stands_is (text unit) unit (law unit h.0).stands
+unit_again : UnitsHaveOneText → (unit : SignalUnit) → IsOnLine unit → unit_of Narrow (text Narrow unit) ≡ Some unit
+unit_again law unit h = stands_is Narrow (text Narrow unit) unit (law unit h.0).stands
+
+-- a unit of the narrow profile has its octets
+on_line : (unit : SignalUnit) → IsUnit Narrow unit → unit_octets unit ≡ text Narrow unit
+on_line unit is =
+    let bsn = is.0.0 in
+    let fsn = is.0.1 in
+    let backward : nat_lt (head_of unit).bsn 128 ≡ true = grind (arith, nat_tests, bsn) in
+    let forward : nat_lt (head_of unit).fsn 128 ≡ true = grind (arith, nat_tests, fsn) in
+    rw (backward, forward) refl
 
 -- no unit has no octets
-unit_read : (w : List ℕ) → unit_in w ≡ option_and_then unit_of (octets_of w)
+unit_read : (w : List ℕ) → unit_in w ≡ option_and_then (unit_of Narrow) (octets_of w)
 unit_read [] = refl
 unit_read (c ∷ cs) = let some : (length (c ∷ cs) == 0) ≡ false = grind (arith, nat_tests) in rw some refl
 
@@ -113,14 +123,15 @@ offer_back o os more h =
 
 hear_back : UnitsHaveOneText → (link : ℕ) (unit : SignalUnit) (more : List ℕ) → link < 2 ^ 8 → IsOnLine unit → asked_in (event_text (Hear link unit) ++ more) ≡ Some (Hear link unit)
 hear_back law link unit more h is =
-    let units = hex_text (text unit) ++ 32 ∷ more in
-    ap asked_in (append_assoc (numbered (codes "hear ") link) (hex_text (text unit) ++ codes " ") more
-    ∙ ap (λ (l : List ℕ). numbered (codes "hear ") link ++ l) (append_assoc (hex_text (text unit)) (codes " ") more)
+    let units = hex_text (text Narrow unit) ++ 32 ∷ more in
+    ap (λ (os : List ℕ). asked_in ((numbered (codes "hear ") link ++ (hex_text os ++ codes " ")) ++ more)) (on_line unit is.0)
+    ∙ ap asked_in (append_assoc (numbered (codes "hear ") link) (hex_text (text Narrow unit) ++ codes " ") more
+    ∙ ap (λ (l : List ℕ). numbered (codes "hear ") link ++ l) (append_assoc (hex_text (text Narrow unit)) (codes " ") more)
     ∙ numbered_front (codes "hear ") link units)
     ∙ ap (λ (l : Option ℕ). option_and_then (λ k. option_map (Hear k) (unit_in (word (others (decimal link ++ 32 ∷ units))))) l) (link_read link 32 units h refl)
     ∙ ap (λ (l : List ℕ). option_map (Hear link) (unit_in (word l))) (number_others link 32 units (omega (arith, h)) refl)
     ∙ ap (option_map (Hear link)) (unit_read (word units))
-    ∙ ap (λ (o : Option (List ℕ)). option_map (Hear link) (option_and_then unit_of o)) (octets_read (text unit) 32 more is.1 refl)
+    ∙ ap (λ (o : Option (List ℕ)). option_map (Hear link) (option_and_then (unit_of Narrow) o)) (octets_read (text Narrow unit) 32 more is.1 refl)
     ∙ ap (option_map (Hear link)) (unit_again law unit is)
 
 asked_back : UnitsHaveOneText → (event : Event) (more : List ℕ) → EventFits event → asked_in (event_text event ++ (codes "-> " ++ more)) ≡ Some event
@@ -167,6 +178,7 @@ refusal_small Unsettled = omega arith
 refusal_small UnknownNumber = omega arith
 refusal_small Nothing = omega arith
 refusal_small NoSuchLink = omega arith
+refusal_small Finished = omega arith
 
 refusal_again : (why : SetRefusal) → refusal_in (refusal_number why) ≡ Some why
 refusal_again TooShort = refl
@@ -179,6 +191,7 @@ refusal_again Unsettled = refl
 refusal_again UnknownNumber = refl
 refusal_again Nothing = refl
 refusal_again NoSuchLink = refl
+refusal_again Finished = refl
 
 -- the check octets stand behind the octets
 octets_more : (os : List ℕ) (low high : ℕ) → AreOctets os → low < 2 ^ 8 → high < 2 ^ 8 → AreOctets (os ++ low ∷ high ∷ [])
@@ -194,13 +207,14 @@ without_two os low high = grind (arith, common_steps)
 
 sent_back : UnitsHaveOneText → (unit : SignalUnit) (more : List ℕ) → IsOnLine unit → told_in (answer_text (Sent unit) ++ more) ≡ Some (Sent unit)
 sent_back law unit more h =
-    let sealed = sealed_meets_check (text unit) in
-    let octets = text unit ++ sealed.low ∷ sealed.high ∷ [] in
-    let fit = octets_more (text unit) sealed.low sealed.high h.1 sealed.low_in_range sealed.high_in_range in
-    ap (λ (l : List ℕ). told_in (codes "sent " ++ ((hex_text l ++ codes "\n") ++ more))) sealed.followed
+    let sealed = sealed_meets_check (text Narrow unit) in
+    let octets = text Narrow unit ++ sealed.low ∷ sealed.high ∷ [] in
+    let fit = octets_more (text Narrow unit) sealed.low sealed.high h.1 sealed.low_in_range sealed.high_in_range in
+    ap (λ (os : List ℕ). told_in (sent_line os ++ more)) (on_line unit h.0)
+    ∙ ap (λ (l : List ℕ). told_in (codes "sent " ++ ((hex_text l ++ codes "\n") ++ more))) sealed.followed
     ∙ ap (λ (l : List ℕ). told_in (codes "sent " ++ l)) (append_assoc (hex_text octets) (codes "\n") more)
-    ∙ ap (λ (o : Option (List ℕ)). option_and_then (λ (octets : List ℕ). option_map Sent (unit_of (take (length octets - 2) octets))) o) (octets_read octets 10 more fit refl)
-    ∙ ap (λ (octets : List ℕ). option_map Sent (unit_of octets)) (without_two (text unit) sealed.low sealed.high)
+    ∙ ap (λ (o : Option (List ℕ)). option_and_then (λ (octets : List ℕ). option_map Sent (unit_of Narrow (take (length octets - 2) octets))) o) (octets_read octets 10 more fit refl)
+    ∙ ap (λ (octets : List ℕ). option_map Sent (unit_of Narrow octets)) (without_two (text Narrow unit) sealed.low sealed.high)
     ∙ ap (option_map Sent) (unit_again law unit h)
 
 taken_back : (body more : List ℕ) → AreOctets body → length body ≤ 273 → told_in (answer_text (Taken (record { items = body })) ++ more) ≡ Some (Taken (record { items = body }))
@@ -332,9 +346,10 @@ skip_event Take more h = refl
 skip_event (Find n) more h = skip_numbered (codes "find ") n more refl h
 skip_event (Next n) more h = skip_numbered (codes "next ") n more refl (wide n h)
 skip_event (Hear n unit) more h =
-    ap (behind is_arrow) (append_assoc (numbered (codes "hear ") n) (hex_text (text unit) ++ codes " ") more)
-    ∙ skip_numbered (codes "hear ") n ((hex_text (text unit) ++ codes " ") ++ more) refl (wide n h.0)
-    ∙ skip_octets (text unit) more h.1.1
+    ap (λ (os : List ℕ). behind is_arrow ((numbered (codes "hear ") n ++ (hex_text os ++ codes " ")) ++ more)) (on_line unit h.1.0)
+    ∙ ap (behind is_arrow) (append_assoc (numbered (codes "hear ") n) (hex_text (text Narrow unit) ++ codes " ") more)
+    ∙ skip_numbered (codes "hear ") n ((hex_text (text Narrow unit) ++ codes " ") ++ more) refl (wide n h.0)
+    ∙ skip_octets (text Narrow unit) more h.1.1
 skip_event (Up n) more h = skip_numbered (codes "up ") n more refl (wide n h)
 skip_event (Down n) more h = skip_numbered (codes "down ") n more refl (wide n h)
 skip_event (DownBlind n) more h = skip_numbered (codes "blind ") n more refl (wide n h)

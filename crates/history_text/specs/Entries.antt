@@ -1,6 +1,7 @@
 -- THE TEXT OF A HISTORY'S ENTRIES: who asked, what, and what was answered, a line each.
 use Rattle.std.specs.Prelude.{◌≡◌, ◌<◌, ◌≤◌, ◌^◌, ℕ, List, [], ◌∷◌, ◌++◌, length, All, codes, decimal}
 use Rattle.l2_units.specs.Grammar.{text, IsUnit}
+use Rattle.l2_units.specs.declared.profile.Profile.TheVariants.{Narrow}
 use Rattle.l2_units.specs.declared.unit.Unit.{Unit as SignalUnit}
 use Rattle.set_events.specs.declared.event.Actor.{Actor}
 use Rattle.set_events.specs.declared.event.Actor.TheVariants.{User, Terminal}
@@ -12,7 +13,7 @@ use Rattle.set_events.specs.declared.answer.Answer.{Answer}
 use Rattle.set_events.specs.declared.answer.Answer.TheVariants.{Accepted, Taken, Found, Sent, Heard, Done, Refused}
 use Rattle.set_events.specs.declared.history.Entry.{Entry}
 use Rattle.figures.specs.Figures.{hex_text}
-use Rattle.answer_texts.specs.Texts.{answer_text}
+use Rattle.answer_texts.specs.Texts.{answer_text, unit_octets}
 
 -- words, and a number behind them
 abbrev pub numbered : List ℕ → ℕ → List ℕ
@@ -33,7 +34,7 @@ event_text (Offer body) = codes "offer " ++ body_text body
 event_text Take = codes "take "
 event_text (Find number) = numbered (codes "find ") number
 event_text (Next link) = numbered (codes "next ") link
-event_text (Hear link unit) = numbered (codes "hear ") link ++ (hex_text (text unit) ++ codes " ")
+event_text (Hear link unit) = numbered (codes "hear ") link ++ (hex_text (unit_octets unit) ++ codes " ")
 event_text (Up link) = numbered (codes "up ") link
 event_text (Down link) = numbered (codes "down ") link
 event_text (DownBlind link) = numbered (codes "blind ") link
@@ -46,13 +47,13 @@ abbrev pub entry_text : Entry → List ℕ
 entry_text entry =
     actor_text entry.who ++ (event_text entry.event ++ (codes "-> " ++ answer_text entry.answer))
 
--- The values that the types of an entry hold, with units that octets of a line can stand for.
+-- The values that the types of an entry hold, with units that octets of a narrow line can stand for.
 
 abbrev pub AreOctets : List ℕ → Type 0
 AreOctets octets = All (λ octet. octet < 2 ^ 8) octets
 
 abbrev pub IsOnLine : SignalUnit → Type 0
-IsOnLine unit = IsUnit unit × AreOctets (text unit)
+IsOnLine unit = IsUnit Narrow unit × AreOctets (text Narrow unit)
 
 abbrev pub ActorFits : Actor → Type 0
 ActorFits (User number) = number < 2 ^ 16

@@ -4,6 +4,7 @@ use Rattle.std.specs.Prelude.{ℕ, Bool, ◌==◌, ◌-◌, ◌^◌, nat_le, Lis
 use Rattle.std.specs.Option.{option_map, option_and_then}
 use Rattle.std.specs.Str.{bytes_eq}
 use Rattle.l2_units.specs.Grammar.{unit_of}
+use Rattle.l2_units.specs.declared.profile.Profile.TheVariants.{Narrow}
 use Rattle.l2_signals.specs.declared.cause.ControlFault.{ControlFault}
 use Rattle.l2_signals.specs.declared.cause.ControlFault.TheVariants.{Bsn, Fib}
 use Rattle.set_events.specs.declared.event.Actor.{Actor}
@@ -17,7 +18,7 @@ use Rattle.set_events.specs.declared.answer.Took.TheVariants.{Nothing as TookNot
 use Rattle.set_events.specs.declared.answer.DiscardCause.{DiscardCause}
 use Rattle.set_events.specs.declared.answer.DiscardCause.TheVariants.{Emergency, Unreasonable, NoAnswer as NobodyAnswered}
 use Rattle.set_events.specs.declared.answer.Refusal.{Refusal as SetRefusal}
-use Rattle.set_events.specs.declared.answer.Refusal.TheVariants.{TooShort, TooLong, Reserved, StreamFull, NotUp, NotDown, Unsettled, UnknownNumber, Nothing, NoSuchLink}
+use Rattle.set_events.specs.declared.answer.Refusal.TheVariants.{TooShort, TooLong, Reserved, StreamFull, NotUp, NotDown, Unsettled, UnknownNumber, Nothing, NoSuchLink, Finished}
 use Rattle.set_events.specs.declared.answer.Answer.{Answer}
 use Rattle.set_events.specs.declared.answer.Answer.TheVariants.{Accepted, Taken, Found, Sent, Heard, Done, Refused}
 use Rattle.set_events.specs.declared.history.Entry.{Entry}
@@ -105,7 +106,8 @@ refusal_in n =
     if n == 7 then Some Unsettled else
     if n == 8 then Some UnknownNumber else
     if n == 9 then Some Nothing else
-    if n == 10 then Some NoSuchLink else None
+    if n == 10 then Some NoSuchLink else
+    if n == 11 then Some Finished else None
 
 abbrev pub taken_in : List ℕ → Option Answer
 taken_in w =
@@ -116,7 +118,7 @@ taken_in w =
 -- the last two octets are the check octets
 abbrev pub sent_in : List ℕ → Option Answer
 sent_in w =
-    option_and_then (λ octets. option_map Sent (unit_of (take (length octets - 2) octets)))
+    option_and_then (λ octets. option_map Sent (unit_of Narrow (take (length octets - 2) octets)))
     (octets_of w)
 
 abbrev pub took_in : List ℕ → Option Took

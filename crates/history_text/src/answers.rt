@@ -143,7 +143,7 @@ fn read_heard(words: &[u8]) -> Option<Answer>
     let (asked, words) = cut(words);
     let (resend, words) = cut(words);
     let (fault, _) = cut(words);
-    let acked = read_below_256(value_of(acked))?;
+    let acked = u16::from(read_below_256(value_of(acked))?);
     let took = read_took(value_of(took))?;
     let report = Report {
         acked,
@@ -209,6 +209,7 @@ fn refusal_of(number: u64) -> Option<Refusal>
         8 => Some(Refusal::UnknownNumber),
         9 => Some(Refusal::Nothing),
         10 => Some(Refusal::NoSuchLink),
+        11 => Some(Refusal::Finished),
         _ => None,
     }
 }

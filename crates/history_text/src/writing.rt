@@ -1,13 +1,12 @@
 //! An entry to its text.
 ghost use Rattle.std.specs.Prelude.{◌≡◌, ◌++◌, IfOk, codes};
-ghost use Rattle.l2_units.specs.Grammar.{text};
 ghost use Rattle.figures.specs.Figures.{hex_text};
-ghost use Rattle.answer_texts.specs.Texts.{answer_text};
+ghost use Rattle.answer_texts.specs.Texts.{answer_text, unit_octets};
 ghost use Rattle.history_text.specs.Entries.{numbered, actor_text, body_text, event_text, entry_text, entries_text};
 
-use answer_texts::write_shown;
+use answer_texts::{unit_octets, write_shown};
 use figures::push_hex;
-use l2_units::{Unit, write};
+use l2_units::Unit;
 use set_events::{Actor, Answer, Entry, Event};
 use set_history::Reader;
 use std::alloc::{AllocError, Global};
@@ -89,10 +88,10 @@ fn write_offer(alloc: Global, body: &[u8]) -> Result<Vec<u8>, AllocError>
 /// A unit that was heard, without its check octets.
 fn write_heard(alloc: Global, link: u8, unit: &Unit) -> Result<Vec<u8>, AllocError>
     ensures { IfOk result (λ line. line.items
-        ≡ numbered (codes "hear ") link ++ (hex_text (text unit.now) ++ codes " ")) }
+        ≡ numbered (codes "hear ") link ++ (hex_text (unit_octets unit.now) ++ codes " ")) }
 {
     let mut line = write_numbered(alloc, "hear ", link as u64)?;
-    push_hex(&mut line, write(unit).as_slice())?;
+    push_hex(&mut line, unit_octets(unit).as_slice())?;
     line.push(b' ')?;
     Ok(line)
 }

@@ -4,8 +4,9 @@ use Rattle.std.specs.Prelude.{slice_get, Some, if◌then◌else◌}
 use Rattle.std.proofs.lemmas.Bool.{ltb-true}
 use Rattle.std.proofs.lemmas.Bool.Decides.{nat_tests}
 use Rattle.l2_units.specs.declared.unit.Header.{Header}
-use Rattle.l2_window.specs.Window.{WindowState, Sends, fsn_at, last_fsn}
-use Rattle.l2_window.specs.Control.{fsn_of}
+use Rattle.l2_window.specs.Window.{WindowState, Sends, fsn_at, last_fsn, fsn_count, most_unacked}
+use Rattle.l2_window.specs.Control.{fsn_of, bsn_of}
+use Rattle.l2_window.proofs.Numbers.{below as in_cycle, in_header}
 use Rattle.l2_window.specs.declared.control.Choice.{Choice}
 use Rattle.l2_window.specs.declared.control.Choice.TheVariants.{Again, First, Fill}
 use Rattle.l2_window.specs.declared.control.HeardPart.{HeardPart}
@@ -37,23 +38,23 @@ some : (xs : List ℕ) → xs ≢ [] → nat_lt 0 (length xs) ≡ true
 some [] d = absurd (d refl)
 some (x ∷ xs) d = grind (arith, nat_tests)
 
-headed : (s : BasicState) (n : ℕ) (h : Header) → h.bsn ≡ s.accepted → n < 128 → h ≡ head_of s n → IsHead s n h
-headed s n h low low' e = record {
+headed : (s : BasicState) (w : WindowState) (n : ℕ) (h : Header) → h.bsn ≡ bsn_of s.expected w → n < fsn_count w.profile → h ≡ head_of s w n → IsHead s w n h
+headed s w n h low low' e = record {
   bsn = low;
   bib = ap (λ (k : Header). k.bib) e;
-  fsn = omega (arith, ap (λ (k : Header). k.fsn) e);
+  fsn = ap (λ (k : Header). k.fsn) e ∙ in_header w.profile n low';
   fib = ap (λ (k : Header). k.fib) e;
 }
 
-module _ (s s' : BasicState) (w w' : WindowState) (choice : Choice) (h : Header) (low : h.bsn ≡ s.accepted) (e : choice ≡ choice_of s w) (head : h ≡ head_of s (fsn_of choice w)) (after : s' ≡ control_after choice s w) where
+module _ (s s' : BasicState) (w w' : WindowState) (choice : Choice) (h : Header) (low : h.bsn ≡ bsn_of s.expected w) (e : choice ≡ choice_of s w) (head : h ≡ head_of s w (fsn_of choice w)) (after : s' ≡ control_after choice s w) where
   pub next_again : (place m : ℕ) → choice ≡ Again place → slice_get w.unacked place ≡ Some m → w' ≡ w → IsNext s s' w w' (Message m h)
   next_again place m f at same =
-      let t = again_at (nat_lt s.cursor (length w.unacked)) (nat_lt 0 (length w.unsent)) (nat_lt (length w.unacked) 127) s.cursor place (sym e ∙ f) in
+      let t = again_at (nat_lt s.cursor (length w.unacked)) (nat_lt 0 (length w.unsent)) (nat_lt (length w.unacked) (most_unacked w.profile)) s.cursor place (sym e ∙ f) in
       let below : s.cursor < length w.unacked = ltb-true s.cursor (length w.unacked) t.0 in
-      let head' : h ≡ head_of s (fsn_at w s.cursor) = rw (f, t.1) at head in
+      let head' : h ≡ head_of s w (fsn_at w s.cursor) = rw (f, t.1) at head in
       let after' : s' ≡ record s { cursor = s.cursor + 1 } = rw (f, t.1) at after in
       record {
-        repeats = λ p. record { at_cursor = rw (← t.1) at; header = headed s _ h low (omega arith) head'; moves_on = after'; same_window = same };
+        repeats = λ p. record { at_cursor = rw (← t.1) at; header = headed s w _ h low (in_cycle w.profile _) head'; moves_on = after'; same_window = same };
         sends = λ p. absurd (omega (arith, p, below));
         idle = λ p. absurd (omega (arith, p, below));
         full = λ p. absurd (omega (arith, p, below));
@@ -61,31 +62,31 @@ module _ (s s' : BasicState) (w w' : WindowState) (choice : Choice) (h : Header)
 
   pub next_first : (m : ℕ) → choice ≡ First → Sends m w w' → IsNext s s' w w' (Message m h)
   next_first m f sends =
-      let t = first_at (nat_lt s.cursor (length w.unacked)) (nat_lt 0 (length w.unsent)) (nat_lt (length w.unacked) 127) s.cursor (sym e ∙ f) in
+      let t = first_at (nat_lt s.cursor (length w.unacked)) (nat_lt 0 (length w.unsent)) (nat_lt (length w.unacked) (most_unacked w.profile)) s.cursor (sym e ∙ f) in
       let none : length w.unacked ≤ s.cursor = not_below s.cursor (length w.unacked) t.0 in
       let waits : 0 < length w.unsent = ltb-true 0 (length w.unsent) t.1 in
-      let few : length w.unacked < 127 = ltb-true (length w.unacked) 127 t.2 in
-      let head' : h ≡ head_of s (fsn_at w (length w.unacked)) = rw f at head in
+      let few : length w.unacked < most_unacked w.profile = ltb-true (length w.unacked) (most_unacked w.profile) t.2 in
+      let head' : h ≡ head_of s w (fsn_at w (length w.unacked)) = rw f at head in
       let after' : s' ≡ record s { cursor = length w.unacked + 1 } = rw f at after in
       record {
         repeats = λ p. absurd (omega (arith, p, none));
-        sends = λ p d q. record { first_unsent = sends; header = headed s _ h low (omega arith) head'; past_it = after' };
+        sends = λ p d q. record { first_unsent = sends; header = headed s w _ h low (in_cycle w.profile _) head'; past_it = after' };
         idle = λ p q. absurd (omega (arith, ap length q, waits));
         full = λ p q. absurd (omega (arith, q, few));
       }
 
   pub next_fill : choice ≡ Fill → w' ≡ w → IsNext s s' w w' (FillWith h)
   next_fill f same =
-      let t = fill_at (nat_lt s.cursor (length w.unacked)) (nat_lt 0 (length w.unsent)) (nat_lt (length w.unacked) 127) s.cursor (sym e ∙ f) in
+      let t = fill_at (nat_lt s.cursor (length w.unacked)) (nat_lt 0 (length w.unsent)) (nat_lt (length w.unacked) (most_unacked w.profile)) s.cursor (sym e ∙ f) in
       let none : length w.unacked ≤ s.cursor = not_below s.cursor (length w.unacked) t.0 in
-      let head' : h ≡ head_of s (last_fsn w) = rw f at head in
+      let head' : h ≡ head_of s w (last_fsn w) = rw f at head in
       let after' : s' ≡ s = rw f at after in
       record {
         repeats = λ p. absurd (omega (arith, p, none));
-        sends = λ p d q. (let y = some w.unsent d in let z : nat_lt (length w.unacked) 127 ≡ true = grind (arith, nat_tests) in
+        sends = λ p d q. (let y = some w.unsent d in let z : nat_lt (length w.unacked) (most_unacked w.profile) ≡ true = grind (arith, nat_tests) in
             absurd (let g : (true && true) ≡ false = rw (y, z) at t.1 in cc));
-        idle = λ p q. record { header = headed s _ h low (omega arith) head'; same_control = after'; same_window = same };
-        full = λ p q. record { header = headed s _ h low (omega arith) head'; same_control = after'; same_window = same };
+        idle = λ p q. record { header = headed s w _ h low (in_cycle w.profile _) head'; same_control = after'; same_window = same };
+        full = λ p q. record { header = headed s w _ h low (in_cycle w.profile _) head'; same_control = after'; same_window = same };
       }
 
 -- where nothing is acknowledged the window stays
@@ -94,7 +95,7 @@ hears_nothing s s' w head msu part same p q = rw (p, q) (record {
   acked = refl;
   acknowledges = sym same;
   accept = refl;
-  accepted = refl;
+  expected = refl;
   asked = refl;
   bib = refl;
   still_asked = refl;

@@ -3,7 +3,7 @@ use Rattle.std.proofs.Common.{refl, ◌≡◌, ◌<◌, ℕ, Bool, true, false, 
 use Rattle.std.specs.Prelude.{is_some}
 use Rattle.std.proofs.lemmas.Bool.{ltb-true}
 use Rattle.l2_units.specs.declared.unit.Header.{Header}
-use Rattle.l2_window.specs.Window.{WindowState}
+use Rattle.l2_window.specs.Window.{WindowState, most_unacked}
 use Rattle.l2_window.specs.Line.{Carried}
 use Rattle.l2_window.specs.declared.control.Choice.{Choice}
 use Rattle.l2_window.specs.declared.control.Choice.TheVariants.{Again, First, Fill}
@@ -20,13 +20,13 @@ InStep x y out back = Bits y.bib y.asked x.fib out back
 
 again : (s : BasicState) (w : WindowState) (place : ℕ) → choice_of s w ≡ Again place → place < length w.unacked
 again s w place e =
-    let t = again_at (nat_lt s.cursor (length w.unacked)) (nat_lt 0 (length w.unsent)) (nat_lt (length w.unacked) 127) s.cursor place e in
+    let t = again_at (nat_lt s.cursor (length w.unacked)) (nat_lt 0 (length w.unsent)) (nat_lt (length w.unacked) (most_unacked w.profile)) s.cursor place e in
     rw t.1 (ltb-true s.cursor (length w.unacked) t.0)
 
-first : (s : BasicState) (w : WindowState) → choice_of s w ≡ First → length w.unacked < 127
+first : (s : BasicState) (w : WindowState) → choice_of s w ≡ First → length w.unacked < most_unacked w.profile
 first s w e =
-    let t = first_at (nat_lt s.cursor (length w.unacked)) (nat_lt 0 (length w.unsent)) (nat_lt (length w.unacked) 127) s.cursor e in
-    ltb-true (length w.unacked) 127 t.2
+    let t = first_at (nat_lt s.cursor (length w.unacked)) (nat_lt 0 (length w.unsent)) (nat_lt (length w.unacked) (most_unacked w.profile)) s.cursor e in
+    ltb-true (length w.unacked) (most_unacked w.profile) t.2
 
 neither : (x y : Bool) → (not x && not y) ≡ true → (x ≡ false) × (y ≡ false)
 neither false false e = (refl, refl)
@@ -42,10 +42,10 @@ no_fault s w head e =
     nothing_told _ _ s n.0 n.1
 
 -- what is sent leaves the bits as they are
-same_accepted : (choice : Choice) (s : BasicState) (w : WindowState) → (control_after choice s w).accepted ≡ s.accepted
-same_accepted (Again place) s w = refl
-same_accepted First s w = refl
-same_accepted Fill s w = refl
+same_expected : (choice : Choice) (s : BasicState) (w : WindowState) → (control_after choice s w).expected ≡ s.expected
+same_expected (Again place) s w = refl
+same_expected First s w = refl
+same_expected Fill s w = refl
 
 same_fib : (choice : Choice) (s : BasicState) (w : WindowState) → (control_after choice s w).fib ≡ s.fib
 same_fib (Again place) s w = refl
@@ -62,20 +62,20 @@ same_asked (Again place) s w = refl
 same_asked First s w = refl
 same_asked Fill s w = refl
 
-emit : (x y : BasicState) (out back : List Carried) (choice : Choice) (fsn : ℕ) (w : WindowState) (message : Option ℕ) → InStep x y out back → InStep (control_after choice x w) y (out ++ record { head = head_of x fsn; message = message } ∷ []) back
+emit : (x y : BasicState) (out back : List Carried) (choice : Choice) (fsn : ℕ) (w : WindowState) (message : Option ℕ) → InStep x y out back → InStep (control_after choice x w) y (out ++ record { head = head_of x w fsn; message = message } ∷ []) back
 emit x y out back choice fsn w message h = rw (same_fib choice x w) (record {
   turned = h.turned;
-  fibs = fibs-push y.bib (not y.asked) out h.turned (record { head = head_of x fsn; message = message }) h.fibs h.last;
+  fibs = fibs-push y.bib (not y.asked) out h.turned (record { head = head_of x w fsn; message = message }) h.fibs h.last;
   last = h.last;
   bibs = h.bibs;
 })
 
-emit_back : (x y : BasicState) (out back : List Carried) (choice : Choice) (fsn : ℕ) (w : WindowState) (message : Option ℕ) → InStep x y out back → InStep x (control_after choice y w) out (back ++ record { head = head_of y fsn; message = message } ∷ [])
+emit_back : (x y : BasicState) (out back : List Carried) (choice : Choice) (fsn : ℕ) (w : WindowState) (message : Option ℕ) → InStep x y out back → InStep x (control_after choice y w) out (back ++ record { head = head_of y w fsn; message = message } ∷ [])
 emit_back x y out back choice fsn w message h = rw (same_bib choice y w, same_asked choice y w) (record {
   turned = h.turned;
   fibs = h.fibs;
   last = h.last;
-  bibs = bibs-push y.bib h.turned back (record { head = head_of y fsn; message = message }) h.bibs refl;
+  bibs = bibs-push y.bib h.turned back (record { head = head_of y w fsn; message = message }) h.bibs refl;
 })
 
 hear : (x y : BasicState) (unit : Carried) (out back : List Carried) (w : WindowState) → InStep x y (unit ∷ out) back → is_processed y w unit.head ≡ true → InStep x (control_heard y w unit.head (is_some unit.message)) out back
@@ -88,13 +88,13 @@ pub kept : AreKept rules InStep
 kept = record {
   again = λ o. again;
   first = λ o. first;
-  same = λ choice o. same_accepted choice;
-  bsn = λ s fsn. refl;
-  fsn = λ s fsn. refl;
+  same = λ choice o. same_expected choice;
+  bsn = λ s w fsn. refl;
+  fsn = λ s w fsn. refl;
   acked = λ s w head msu e. rw e refl;
   current = λ s head. same head.fib s.bib;
   accept = λ s w head msu e. rw e refl;
-  accepted = λ s w head msu. refl;
+  expected = λ s w head msu. refl;
   fault = λ s w head msu. no_fault s w head;
   processed = λ x y w unit out back h quiet. rw (quiet, calm y.bib y.asked x.fib unit out back h) refl;
   emit = λ x y out back choice o. emit x y out back choice;

@@ -1,8 +1,8 @@
 -- Basic error control (Q.703 5), as functions of its state and of the link's window.
 use Rattle.std.specs.Prelude.{◌≡◌, ◌≢◌, ℕ, ◌+◌, ◌-◌, ◌%◌, ◌<◌, ◌≤◌, Bool, true, false, not, ◌&&◌, ◌||◌, ◌==◌, nat_lt, if◌then◌else◌, Option, Some, None, [], drop, length, slice_get}
 use Rattle.l2_units.specs.declared.unit.Header.{Header}
-use Rattle.l2_window.specs.Window.{WindowState, Sends, fsn_at, last_fsn, distance_to, fsn_before_first, fsn_count, most_unacked}
-use Rattle.l2_window.specs.Control.{IsMessageAnd, IsFillAnd, has_new, header_of, acked_where, window_where}
+use Rattle.l2_window.specs.Window.{WindowState, Sends, fsn_at, last_fsn, distance_to, most_unacked}
+use Rattle.l2_window.specs.Control.{IsMessageAnd, IsFillAnd, has_new, header_of, bsn_of, fsn_after, acked_where, window_where}
 use Rattle.l2_window.specs.declared.control.Choice.{Choice}
 use Rattle.l2_window.specs.declared.control.Choice.TheVariants.{Again, First, Fill}
 use Rattle.l2_window.specs.declared.control.Sending.{Sending}
@@ -12,8 +12,8 @@ use Rattle.l2_signals.specs.declared.cause.ControlFault.TheVariants.{Bsn, Fib}
 
 -- what contracts see of one end's control, beside its window
 pub record BasicState : Type 0 where
-  -- the FSN last accepted: it is sent as BSN
-  pub accepted : ℕ
+  -- the FSN that is expected (FSNX), 0 at first: the number before it was last accepted, and is sent as BSN
+  pub expected : ℕ
   -- the indicator bits as they are sent
   pub bib : Bool
   pub fib : Bool
@@ -28,7 +28,7 @@ pub record BasicState : Type 0 where
 -- at the beginning of a link's life
 abbrev pub start : BasicState
 start = record {
-  accepted = fsn_before_first;
+  expected = 0;
   bib = true;
   fib = true;
   asked = false;
@@ -50,8 +50,8 @@ choice_of state window =
     else (if has_new window then First else Fill)
 
 -- the header of each unit sent (Q.703 5.2.2 to 5.2.4): the BSN is the FSN last accepted
-abbrev pub head_of : BasicState → ℕ → Header
-head_of state fsn = header_of state.accepted state.bib fsn state.fib
+abbrev pub head_of : BasicState → WindowState → ℕ → Header
+head_of state window fsn = header_of (bsn_of state.expected window) state.bib fsn state.fib
 
 -- the control when that is sent
 abbrev pub control_after : Choice → BasicState → WindowState → BasicState
@@ -62,8 +62,8 @@ control_after Fill state window = state
 -- The same as relations of a sending, of the control and of the window before and after.
 
 -- the header of each unit sent (Q.703 5.2.2 to 5.2.4): the BSN is the FSN last accepted
-pub record IsHead (state : BasicState) (number : ℕ) (head : Header) : Type 0 where
-  pub bsn : head.bsn ≡ state.accepted
+pub record IsHead (state : BasicState) (window : WindowState) (number : ℕ) (head : Header) : Type 0 where
+  pub bsn : head.bsn ≡ bsn_of state.expected window
   pub bib : head.bib ≡ state.bib
   pub fsn : head.fsn ≡ number
   pub fib : head.fib ≡ state.fib
@@ -71,31 +71,31 @@ pub record IsHead (state : BasicState) (number : ℕ) (head : Header) : Type 0 w
 -- the message at the cursor is sent again
 pub record Repeats (old new : BasicState) (window window' : WindowState) (message : ℕ) (head : Header) : Type 0 where
   pub at_cursor : slice_get window.unacked old.cursor ≡ Some message
-  pub header : IsHead old (fsn_at window old.cursor) head
+  pub header : IsHead old window (fsn_at window old.cursor) head
   pub moves_on : new ≡ record old { cursor = old.cursor + 1 }
   pub same_window : window' ≡ window
 
 -- the first unsent message is sent for the first time
 pub record SendsNew (old new : BasicState) (window window' : WindowState) (message : ℕ) (head : Header) : Type 0 where
   pub first_unsent : Sends message window window'
-  pub header : IsHead old (fsn_at window (length window.unacked)) head
+  pub header : IsHead old window (fsn_at window (length window.unacked)) head
   pub past_it : new ≡ record old { cursor = length window.unacked + 1 }
 
 -- a FISU with the FSN of the last message sent (Q.703 5.2.1)
 pub record Fills (old new : BasicState) (window window' : WindowState) (head : Header) : Type 0 where
-  pub header : IsHead old (last_fsn window) head
+  pub header : IsHead old window (last_fsn window) head
   pub same_control : new ≡ old
   pub same_window : window' ≡ window
 
 pub record IsNext (old new : BasicState) (window window' : WindowState) (sending : Sending) : Type 0 where
   -- (Q.703 5.3.2) while messages wait for retransmission, they are sent in sequence
   pub repeats : old.cursor < length window.unacked → IsMessageAnd sending (Repeats old new window window')
-  -- (Q.703 5.3.2) new messages follow the last of those, (Q.703 5.2.2) with at most 127 unacknowledged
-  pub sends : length window.unacked ≤ old.cursor → window.unsent ≢ [] → length window.unacked < most_unacked
+  -- (Q.703 5.3.2) new messages follow the last of those, (Q.703 5.2.2) with at most 127 unacknowledged (wide: 4,095)
+  pub sends : length window.unacked ≤ old.cursor → window.unsent ≢ [] → length window.unacked < most_unacked window.profile
       → IsMessageAnd sending (SendsNew old new window window')
   pub idle : length window.unacked ≤ old.cursor → window.unsent ≡ []
       → IsFillAnd sending (Fills old new window window')
-  pub full : length window.unacked ≤ old.cursor → most_unacked ≤ length window.unacked
+  pub full : length window.unacked ≤ old.cursor → most_unacked window.profile ≤ length window.unacked
       → IsFillAnd sending (Fills old new window window')
 
 -- WHAT A HEARD FISU OR MSU MEANS.
@@ -121,12 +121,12 @@ is_current state window head = is_processed state window head && same head.fib s
 abbrev pub wants_retransmission : BasicState → WindowState → Header → Bool
 wants_retransmission state window head = is_processed state window head && not (same head.bib state.fib)
 
--- (Q.703 5.2.2) the number after the one last accepted
-abbrev pub is_repeated : BasicState → Header → Bool
-is_repeated state head = head.fsn == state.accepted
+-- (Q.703 5.2.2) the number last accepted, and the one after it
+abbrev pub is_repeated : BasicState → WindowState → Header → Bool
+is_repeated state window head = head.fsn == bsn_of state.expected window
 
 abbrev pub is_successor : BasicState → Header → Bool
-is_successor state head = head.fsn == (state.accepted + 1) % fsn_count
+is_successor state head = head.fsn == state.expected
 
 -- (Q.703 5.2.2 c ii) an MSU is accepted
 abbrev pub is_accepted : BasicState → WindowState → Header → Bool → Bool
@@ -136,7 +136,7 @@ is_accepted state window head is_msu = is_current state window head && (is_msu &
 -- or a FISU sent after a message that never came
 abbrev pub is_missing_one : BasicState → WindowState → Header → Bool → Bool
 is_missing_one state window head is_msu =
-    is_current state window head && (not (is_repeated state head) && not (is_msu && is_successor state head))
+    is_current state window head && (not (is_repeated state window head) && not (is_msu && is_successor state head))
 
 -- two of three consecutive units: this one and one of the two before it
 abbrev pub is_second : Bool → Bool × Bool → Bool
@@ -167,7 +167,7 @@ window_heard state window head = window_where (is_processed state window head) w
 abbrev pub control_heard : BasicState → WindowState → Header → Bool → BasicState
 control_heard state window head is_msu = record {
   -- (Q.703 5.2.2, 5.2.3) the FSN of an accepted message is the BSN from now on
-  accepted = if is_accepted state window head is_msu then head.fsn else state.accepted;
+  expected = if is_accepted state window head is_msu then fsn_after head.fsn window else state.expected;
   -- (Q.703 5.2.4) a negative acknowledgement inverts the BIB
   bib = if is_missing_one state window head is_msu then not state.bib else state.bib;
   -- (Q.703 5.3.2) where the far end asks for retransmission, the FIB becomes the BIB heard
@@ -191,7 +191,7 @@ pub record Hears (head : Header) (is_msu : Bool) (old new : BasicState)
   }
   -- (Q.703 5.2.2, 5.2.3) the FSN of an accepted message is the BSN from now on
   pub accept : part.accept ≡ is_accepted old window head is_msu
-  pub accepted : new.accepted ≡ (if part.accept then head.fsn else old.accepted)
+  pub expected : new.expected ≡ (if part.accept then fsn_after head.fsn window else old.expected)
   -- (Q.703 5.2.4) a negative acknowledgement inverts the BIB
   pub asked : part.asked ≡ is_missing_one old window head is_msu
   pub bib : new.bib ≡ (if part.asked then not old.bib else old.bib)

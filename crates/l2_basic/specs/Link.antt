@@ -5,7 +5,7 @@ use Rattle.l2_basic.specs.Basic.{BasicState, start, choice_of, head_of, control_
 
 abbrev pub rules : Rules BasicState
 rules = record {
-  accepted = λ state. state.accepted;
+  expected = λ state. state.expected;
   choice = λ octets. choice_of;
   head = head_of;
   after = λ choice octets. control_after choice;

@@ -1,6 +1,6 @@
 //! The control: what is sent next, and what a heard unit does.
 use l2_units::Header;
-use l2_window::{Choice, ControlFault, HeardPart, Sending, Window, number_after};
+use l2_window::{Choice, ControlFault, HeardPart, Sending, Window};
 use std::marker::Model;
 
 /// Basic error control of one end, in one life of its link.
@@ -9,8 +9,8 @@ use std::marker::Model;
 /// for, the cursor, and of the last two units whether their BSN or FIB was abnormal.
 #[derive(Debug, Drop)]
 pub struct Basic {
-    /// The FSN last accepted, below 128: the BSN of each unit sent.
-    accepted: u8,
+    /// The FSN that is expected, below 4,096 (Q.703: FSNX); the number before it is the BSN of each unit sent.
+    expected: u16,
     bib: bool,
     fib: bool,
     /// No unit came whose FIB is the BIB since a retransmission was asked for.
@@ -24,13 +24,12 @@ pub struct Basic {
 
 impl Model for Basic {
     ghost use Rattle.std.specs.Prelude.{◌<◌};
-    ghost use Rattle.l2_window.specs.Window.{fsn_count};
     ghost use Rattle.l2_basic.specs.Basic.{BasicState};
 
     ghost Value = { BasicState };
 
     ghost view = { λ b. record {
-      accepted = b.accepted;
+      expected = b.expected;
       bib = b.bib;
       fib = b.fib;
       asked = b.asked;
@@ -39,23 +38,23 @@ impl Model for Basic {
       fibs = b.fibs;
     } };
 
-    ghost invariant = { λ b. b.accepted < fsn_count };
+    ghost invariant = { λ b. b.expected < 4096 };
 }
 
 impl Basic {
     ghost use Rattle.std.specs.Prelude.{◌≡◌, ◌-◌, ◌<◌, ◌&&◌, not, if◌then◌else◌};
-    ghost use Rattle.l2_window.specs.Control.{fsn_of};
-    ghost use Rattle.l2_window.specs.Window.{fsn_count};
+    ghost use Rattle.l2_units.specs.Grammar.{IsHeadOf};
+    ghost use Rattle.l2_window.specs.Control.{fsn_of, bsn_of, fsn_after};
     ghost use Rattle.l2_basic.specs.Basic.{start, same, told_fault, is_repeated, is_successor, IsNext, Hears};
     ghost use Rattle.l2_basic.specs.Basic.{choice_of, head_of, control_after, part_of, window_heard, control_heard};
 
-    /// The control at the beginning of a link's life: FSN 127 counts as accepted, both indicator
+    /// The control at the beginning of a link's life, in either profile: FSN 0 is expected, both indicator
     /// bits are 1 (Q.703 5.2.1).
     pub fn new() -> Basic
         ensures { result ≡ start }
     {
         Basic {
-            accepted: 127,
+            expected: 0,
             bib: true,
             fib: true,
             asked: false,
@@ -65,12 +64,12 @@ impl Basic {
         }
     }
 
-    /// The FSN last accepted, 0 to 127; 127 at the beginning.
-    pub fn accepted(&self) -> u8
-        ensures value { result ≡ self.now.accepted }
-        ensures in_range { result < fsn_count }
+    /// The FSN that is expected, 0 at the beginning: that of the message after the one last accepted.
+    pub fn expected(&self) -> u16
+        ensures value { result ≡ self.now.expected }
+        ensures in_range { result < 4096 }
     {
-        self.accepted
+        self.expected
     }
 
     /// What is to be sent next: a message that waits for retransmission, else the first unsent one
@@ -91,8 +90,8 @@ impl Basic {
     /// of the unit.
     pub fn send(&mut self, choice: Choice, window: &Window) -> Header
         requires { choice ≡ choice_of self.old window.now }
-        ensures header { result ≡ head_of self.old (fsn_of choice window.now) }
-        ensures bsn { result.bsn ≡ self.old.accepted }
+        ensures header { result ≡ head_of self.old window.now (fsn_of choice window.now) }
+        ensures bsn { result.bsn ≡ bsn_of self.old.expected window.now }
         ensures state { self.new ≡ control_after choice self.old window.now }
     {
         let messages = window.unacked_len();
@@ -102,7 +101,7 @@ impl Basic {
             Choice::Fill => {}
         }
         Header {
-            bsn: self.accepted,
+            bsn: window.number_before(self.expected),
             bib: self.bib,
             fsn: choice.fsn(window),
             fib: self.fib,
@@ -136,6 +135,7 @@ impl Basic {
     /// A unit with an abnormal BSN or FIB does nothing, but the second within three units is told
     /// as a fault.
     pub fn hear(&mut self, window: &Window, head: Header, is_msu: bool) -> HeardPart
+        requires { IsHeadOf window.now.profile head }
         ensures part { result ≡ part_of self.old window.now head is_msu }
         ensures state { self.new ≡ control_heard self.old window.now head is_msu }
         ensures nothing { result.acked ≡ 0 → window_heard self.old window.now head ≡ window.now }
@@ -153,7 +153,7 @@ impl Basic {
             };
         };
         let resend = self.answer(acked, head.bib);
-        let (accept, asked) = self.take(head, is_msu);
+        let (accept, asked) = self.take(window, head, is_msu);
         HeardPart {
             acked,
             accept,
@@ -168,6 +168,7 @@ impl Basic {
     /// A unit with an abnormal BSN or FIB does nothing, but the second within three units is told
     /// as a fault.
     pub fn heard(&mut self, window: &mut Window, head: Header, is_msu: bool) -> HeardPart
+        requires { IsHeadOf window.old.profile head }
         ensures { Hears head is_msu self.old self.new window.old window.new result }
     {
         let part = self.hear(window, head, is_msu);
@@ -209,7 +210,7 @@ impl Basic {
 
     /// What so many acknowledged messages and the BIB heard mean for retransmission: whether one
     /// starts (Q.703 5.3.1, 5.3.2).
-    fn answer(&mut self, acked: u8, bib: bool) -> bool
+    fn answer(&mut self, acked: u16, bib: bool) -> bool
         ensures resend { result ≡ not (same bib self.old.fib) }
         ensures state { self.new ≡ record self.old {
           fib = (if result then bib else self.old.fib);
@@ -227,12 +228,13 @@ impl Basic {
 
     /// Signal unit sequence control (Q.703 5.2.2): whether the unit is accepted, and whether a
     /// retransmission is asked for.
-    fn take(&mut self, head: Header, is_msu: bool) -> (bool, bool)
+    fn take(&mut self, window: &Window, head: Header, is_msu: bool) -> (bool, bool)
+        requires { IsHeadOf window.now.profile head }
         ensures accept { result.0 ≡ (same head.fib self.old.bib && (is_msu && is_successor self.old head)) }
         ensures asked { result.1 ≡ (same head.fib self.old.bib
-            && (not (is_repeated self.old head) && not (is_msu && is_successor self.old head))) }
+            && (not (is_repeated self.old window.now head) && not (is_msu && is_successor self.old head))) }
         ensures state { self.new ≡ record self.old {
-          accepted = (if result.0 then head.fsn else self.old.accepted);
+          expected = (if result.0 then fsn_after head.fsn window.now else self.old.expected);
           bib = (if result.1 then not self.old.bib else self.old.bib);
           asked = (if same head.fib self.old.bib then result.1 else self.old.asked);
         } }
@@ -242,11 +244,11 @@ impl Basic {
             return (false, false);
         }
         self.asked = false;
-        if head.fsn == self.accepted {
+        if head.fsn == window.number_before(self.expected) {
             return (false, false);
         }
-        if is_msu && head.fsn == number_after(self.accepted, 1) {
-            self.accepted = head.fsn;
+        if is_msu && head.fsn == self.expected {
+            self.expected = window.number_after(head.fsn);
             return (true, false);
         }
         // 5.2.4: a negative acknowledgement.

@@ -2,7 +2,7 @@
 use Rattle.std.proofs.Common.{refl, ◌≡◌, ◌<◌, ℕ, Bool, true, false, not, nat_lt, List, length, None}
 use Rattle.std.specs.Prelude.{Some, if◌then◌else◌}
 use Rattle.std.proofs.lemmas.Bool.{ltb-true}
-use Rattle.l2_window.specs.Window.{WindowState}
+use Rattle.l2_window.specs.Window.{WindowState, most_unacked}
 use Rattle.l2_window.specs.Line.{Carried}
 use Rattle.l2_window.specs.declared.control.Choice.{Choice}
 use Rattle.l2_window.specs.declared.control.Choice.TheVariants.{Again, First, Fill}
@@ -16,15 +16,15 @@ use Rattle.l2_pcr.proofs.Choosing.{again_within, first_at}
 abbrev pub InStep : PcrState → PcrState → List Carried → List Carried → Type 0
 InStep x y out back = Unit {0}
 
-first : (o : ℕ) (s : PcrState) (w : WindowState) → choice_of o s w ≡ First → length w.unacked < 127
+first : (o : ℕ) (s : PcrState) (w : WindowState) → choice_of o s w ≡ First → length w.unacked < most_unacked w.profile
 first o s w e =
-    let t = first_at (is_forced s w o) (nat_lt 0 (length w.unsent)) (nat_lt (length w.unacked) 127) (nat_lt 0 (length w.unacked)) (cycle_place (not s.forced) s w) (cycle_place false s w) e in
-    ltb-true (length w.unacked) 127 t.2
+    let t = first_at (is_forced s w o) (nat_lt 0 (length w.unsent)) (nat_lt (length w.unacked) (most_unacked w.profile)) (nat_lt 0 (length w.unacked)) (cycle_place (not s.forced) s w) (cycle_place false s w) e in
+    ltb-true (length w.unacked) (most_unacked w.profile) t.2
 
-same_accepted : (choice : Choice) (o : ℕ) (s : PcrState) (w : WindowState) → (control_after choice o s w).accepted ≡ s.accepted
-same_accepted (Again place) o s w = refl
-same_accepted First o s w = refl
-same_accepted Fill o s w = refl
+same_expected : (choice : Choice) (o : ℕ) (s : PcrState) (w : WindowState) → (control_after choice o s w).expected ≡ s.expected
+same_expected (Again place) o s w = refl
+same_expected First o s w = refl
+same_expected Fill o s w = refl
 
 nothing_told : (x : Bool) (before : Bool × Bool) → not x ≡ true → (if is_second x before then Some Bsn else None) ≡ None
 nothing_told true before e = absurd cc
@@ -34,13 +34,13 @@ pub kept : AreKept rules InStep
 kept = record {
   again = again_within;
   first = first;
-  same = same_accepted;
-  bsn = λ s fsn. refl;
-  fsn = λ s fsn. refl;
+  same = same_expected;
+  bsn = λ s w fsn. refl;
+  fsn = λ s w fsn. refl;
   acked = λ s w head msu e. rw e refl;
   current = λ s head. true;
   accept = λ s w head msu e. rw e refl;
-  accepted = λ s w head msu. refl;
+  expected = λ s w head msu. refl;
   fault = λ s w head msu e. nothing_told (has_abnormal_bsn w head) s.bsns e;
   processed = λ x y w unit out back h quiet. rw quiet refl;
   emit = λ x y out back choice o fsn w message h. tt;

@@ -6,7 +6,7 @@ use Rattle.l2_pcr.specs.Pcr.{PcrState, start, choice_of, head_of, control_after,
 
 abbrev pub rules : Rules PcrState
 rules = record {
-  accepted = λ state. state.accepted;
+  expected = λ state. state.expected;
   choice = choice_of;
   head = head_of;
   after = control_after;

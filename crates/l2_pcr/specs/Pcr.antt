@@ -2,8 +2,8 @@
 -- link's window.
 use Rattle.std.specs.Prelude.{◌≡◌, ◌≢◌, ℕ, ◌+◌, ◌-◌, ◌%◌, ◌<◌, ◌≤◌, Bool, true, false, not, ◌&&◌, ◌||◌, ◌==◌, nat_lt, nat_le, if◌then◌else◌, Some, None, [], drop, length, slice_get}
 use Rattle.l2_units.specs.declared.unit.Header.{Header}
-use Rattle.l2_window.specs.Window.{WindowState, Sends, fsn_at, last_fsn, distance_to, fsn_before_first, fsn_count, most_unacked}
-use Rattle.l2_window.specs.Control.{IsMessageAnd, IsFillAnd, has_new, header_of, acked_where, window_where}
+use Rattle.l2_window.specs.Window.{WindowState, Sends, fsn_at, last_fsn, distance_to, most_unacked}
+use Rattle.l2_window.specs.Control.{IsMessageAnd, IsFillAnd, has_new, header_of, bsn_of, fsn_after, acked_where, window_where}
 use Rattle.l2_window.specs.declared.control.Choice.{Choice}
 use Rattle.l2_window.specs.declared.control.Choice.TheVariants.{Again, First, Fill}
 use Rattle.l2_window.specs.declared.control.Sending.{Sending}
@@ -15,8 +15,8 @@ pub record PcrState : Type 0 where
   -- so many unacknowledged messages, or so many octets of them, force a retransmission (Q.703 6.4.2)
   pub n1 : ℕ
   pub n2 : ℕ
-  -- the FSN last accepted: it is sent as BSN
-  pub accepted : ℕ
+  -- the FSN that is expected (FSNX), 0 at first: the number before it was last accepted, and is sent as BSN
+  pub expected : ℕ
   -- the place of the unacknowledged message that is next in the cycle
   pub place : ℕ
   -- a forced cycle goes on
@@ -29,7 +29,7 @@ abbrev pub start : ℕ → ℕ → PcrState
 start n1 n2 = record {
   n1 = n1;
   n2 = n2;
-  accepted = fsn_before_first;
+  expected = 0;
   place = 0;
   forced = false;
   bsns = (false, false);
@@ -63,8 +63,8 @@ choice_of octets state window =
     else Fill))
 
 -- the header of each unit sent: the BSN is the FSN last accepted, the indicator bits are always 1 (Q.703 6)
-abbrev pub head_of : PcrState → ℕ → Header
-head_of state fsn = header_of state.accepted true fsn true
+abbrev pub head_of : PcrState → WindowState → ℕ → Header
+head_of state window fsn = header_of (bsn_of state.expected window) true fsn true
 
 -- the control when that is sent: a forced cycle ends with the last message
 abbrev pub control_after : Choice → ℕ → PcrState → WindowState → PcrState
@@ -78,8 +78,8 @@ control_after Fill octets state window = state
 -- The same as relations of a sending, of the control and of the window before and after.
 
 -- the header of each unit sent: the BSN is the FSN last accepted, the indicator bits are always 1 (Q.703 6)
-pub record IsHead (state : PcrState) (number : ℕ) (head : Header) : Type 0 where
-  pub bsn : head.bsn ≡ state.accepted
+pub record IsHead (state : PcrState) (window : WindowState) (number : ℕ) (head : Header) : Type 0 where
+  pub bsn : head.bsn ≡ bsn_of state.expected window
   pub bib : head.bib ≡ true
   pub fsn : head.fsn ≡ number
   pub fib : head.fib ≡ true
@@ -88,19 +88,19 @@ pub record IsHead (state : PcrState) (number : ℕ) (head : Header) : Type 0 whe
 pub record Repeats (place : ℕ) (forced : Bool) (old new : PcrState)
     (window window' : WindowState) (message : ℕ) (head : Header) : Type 0 where
   pub at_place : slice_get window.unacked place ≡ Some message
-  pub header : IsHead old (fsn_at window place) head
+  pub header : IsHead old window (fsn_at window place) head
   pub moves_on : new ≡ record old { place = round (length window.unacked) (place + 1); forced = forced }
   pub same_window : window' ≡ window
 
 -- the first unsent message is sent for the first time
 pub record SendsNew (old new : PcrState) (window window' : WindowState) (message : ℕ) (head : Header) : Type 0 where
   pub first_unsent : Sends message window window'
-  pub header : IsHead old (fsn_at window (length window.unacked)) head
+  pub header : IsHead old window (fsn_at window (length window.unacked)) head
   pub same_control : new ≡ old
 
 -- a FISU with the FSN of the last message sent
 pub record Fills (old new : PcrState) (window window' : WindowState) (head : Header) : Type 0 where
-  pub header : IsHead old (last_fsn window) head
+  pub header : IsHead old window (last_fsn window) head
   pub same_control : new ≡ old
   pub same_window : window' ≡ window
 
@@ -108,13 +108,13 @@ pub record IsNext (octets : ℕ) (old new : PcrState) (window window' : WindowSt
   -- (Q.703 6.4.1) a forced cycle sends all unacknowledged messages, and ends with the last
   pub forced : is_forced old window octets ≡ true → let place = cycle_place (not old.forced) old window in
       IsMessageAnd sending (Repeats place (nat_lt (place + 1) (length window.unacked)) old new window window')
-  -- (Q.703 6.3.2) else new messages go first, with at most 127 unacknowledged
-  pub sends : is_forced old window octets ≡ false → window.unsent ≢ [] → length window.unacked < most_unacked
+  -- (Q.703 6.3.2) else new messages go first, with at most 127 unacknowledged (wide: 4,095)
+  pub sends : is_forced old window octets ≡ false → window.unsent ≢ [] → length window.unacked < most_unacked window.profile
       → IsMessageAnd sending (SendsNew old new window window')
   -- (Q.703 6.3.2) with no new one the unacknowledged ones are sent cyclically
   pub cyclic : is_forced old window octets ≡ false → window.unsent ≡ [] → 0 < length window.unacked
       → IsMessageAnd sending (Repeats (cycle_place false old window) false old new window window')
-  pub full : is_forced old window octets ≡ false → most_unacked ≤ length window.unacked
+  pub full : is_forced old window octets ≡ false → most_unacked window.profile ≤ length window.unacked
       → IsMessageAnd sending (Repeats (cycle_place false old window) false old new window window')
   pub idle : is_forced old window octets ≡ false → window.unsent ≡ [] → window.unacked ≡ []
       → IsFillAnd sending (Fills old new window window')
@@ -133,7 +133,7 @@ is_processed window head = not (has_abnormal_bsn window head)
 -- bits are, and nothing is ever asked for
 abbrev pub is_accepted : PcrState → WindowState → Header → Bool → Bool
 is_accepted state window head is_msu =
-    not (has_abnormal_bsn window head) && (is_msu && (head.fsn == (state.accepted + 1) % fsn_count))
+    not (has_abnormal_bsn window head) && (is_msu && (head.fsn == state.expected))
 
 -- two of three consecutive units: this one and one of the two before it
 abbrev pub is_second : Bool → Bool × Bool → Bool
@@ -162,7 +162,7 @@ control_heard state window head is_msu =
     let due = state.place - acked_by window head in
     record state {
       -- (Q.703 6.2.2) the FSN of an accepted message is the BSN from now on
-      accepted = if is_accepted state window head is_msu then head.fsn else state.accepted;
+      expected = if is_accepted state window head is_msu then fsn_after head.fsn window else state.expected;
       -- the cycle goes on at the message that was due, or with the oldest where that one left
       place = if has_abnormal_bsn window head then state.place else round left due;
       -- a forced cycle ends where none of its messages is left
@@ -181,7 +181,7 @@ pub record Hears (head : Header) (is_msu : Bool) (old new : PcrState)
   }
   -- (Q.703 6.2.2) the FSN of an accepted message is the BSN from now on
   pub accept : part.accept ≡ is_accepted old window head is_msu
-  pub accepted : new.accepted ≡ (if part.accept then head.fsn else old.accepted)
+  pub expected : new.expected ≡ (if part.accept then fsn_after head.fsn window else old.expected)
   pub asked : part.asked ≡ false
   pub resend : part.resend ≡ false
   -- the cycle goes on at the message that was due, or with the oldest where that one left

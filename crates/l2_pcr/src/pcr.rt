@@ -1,6 +1,6 @@
 //! The control: what is sent next, and what a heard unit does.
 use l2_units::Header;
-use l2_window::{Choice, ControlFault, HeardPart, Sending, Window, number_after};
+use l2_window::{Choice, ControlFault, HeardPart, Sending, Window};
 use std::marker::Model;
 
 /// Preventive cyclic retransmission of one end, in one life of its link.
@@ -9,10 +9,10 @@ use std::marker::Model;
 /// forced cycle goes on, and of the last two units whether their BSN was abnormal.
 #[derive(Debug, Drop)]
 pub struct Pcr {
-    n1: u8,
+    n1: u16,
     n2: u32,
-    /// The FSN last accepted, below 128: the BSN of each unit sent.
-    accepted: u8,
+    /// The FSN that is expected, below 4,096 (Q.703: FSNX); the number before it is the BSN of each unit sent.
+    expected: u16,
     /// The place of the unacknowledged message that is due in the cycle.
     place: usize,
     /// A forced cycle goes on: nothing new is sent before its last message.
@@ -23,7 +23,6 @@ pub struct Pcr {
 
 impl Model for Pcr {
     ghost use Rattle.std.specs.Prelude.{◌<◌};
-    ghost use Rattle.l2_window.specs.Window.{fsn_count};
     ghost use Rattle.l2_pcr.specs.Pcr.{PcrState};
 
     ghost Value = { PcrState };
@@ -31,44 +30,44 @@ impl Model for Pcr {
     ghost view = { λ p. record {
       n1 = p.n1;
       n2 = p.n2;
-      accepted = p.accepted;
+      expected = p.expected;
       place = p.place;
       forced = p.forced;
       bsns = p.bsns;
     } };
 
-    ghost invariant = { λ p. p.accepted < fsn_count };
+    ghost invariant = { λ p. p.expected < 4096 };
 }
 
 impl Pcr {
     ghost use Rattle.std.specs.Prelude.{◌≡◌, ◌+◌, ◌-◌, ◌%◌, ◌<◌, ◌&&◌, ◌==◌, true, nat_lt, length, if◌then◌else◌};
-    ghost use Rattle.l2_window.specs.Control.{fsn_of};
-    ghost use Rattle.l2_window.specs.Window.{fsn_count};
+    ghost use Rattle.l2_units.specs.Grammar.{IsHeadOf};
+    ghost use Rattle.l2_window.specs.Control.{fsn_of, bsn_of, fsn_after};
     ghost use Rattle.l2_pcr.specs.Pcr.{start, is_forced, cycle_place, round, is_second, IsNext, Hears};
     ghost use Rattle.l2_pcr.specs.Pcr.{choice_of, head_of, control_after, part_of, window_heard, control_heard};
 
     /// The control at the beginning of a link's life: FSN 127 counts as accepted.
     ///
     /// `n1` unacknowledged messages, or `n2` octets of their bodies, force a cycle (Q.703 6.4.2).
-    pub fn new(n1: u8, n2: u32) -> Pcr
+    pub fn new(n1: u16, n2: u32) -> Pcr
         ensures { result ≡ start n1 n2 }
     {
         Pcr {
             n1,
             n2,
-            accepted: 127,
+            expected: 0,
             place: 0,
             forced: false,
             bsns: (false, false),
         }
     }
 
-    /// The FSN last accepted, 0 to 127; 127 at the beginning.
-    pub fn accepted(&self) -> u8
-        ensures value { result ≡ self.now.accepted }
-        ensures in_range { result < fsn_count }
+    /// The FSN that is expected, 0 at the beginning: that of the message after the one last accepted.
+    pub fn expected(&self) -> u16
+        ensures value { result ≡ self.now.expected }
+        ensures in_range { result < 4096 }
     {
-        self.accepted
+        self.expected
     }
 
     /// What is to be sent next, where the bodies of the unacknowledged messages have so many octets:
@@ -95,8 +94,8 @@ impl Pcr {
     /// of the unit.
     pub fn send(&mut self, choice: Choice, window: &Window, octets: u32) -> Header
         requires { choice ≡ choice_of octets self.old window.now }
-        ensures header { result ≡ head_of self.old (fsn_of choice window.now) }
-        ensures bsn { result.bsn ≡ self.old.accepted }
+        ensures header { result ≡ head_of self.old window.now (fsn_of choice window.now) }
+        ensures bsn { result.bsn ≡ bsn_of self.old.expected window.now }
         ensures state { self.new ≡ control_after choice octets self.old window.now }
     {
         let messages = window.unacked_len();
@@ -106,7 +105,7 @@ impl Pcr {
             self.place = if more { place + 1 } else { 0 };
         }
         Header {
-            bsn: self.accepted,
+            bsn: window.number_before(self.expected),
             bib: true,
             fsn: choice.fsn(window),
             fib: true,
@@ -162,6 +161,7 @@ impl Pcr {
     /// A unit with an abnormal BSN does nothing, but the second within three units is told as a
     /// fault.
     pub fn hear(&mut self, window: &Window, head: Header, is_msu: bool) -> HeardPart
+        requires { IsHeadOf window.now.profile head }
         ensures part { result ≡ part_of self.old window.now head is_msu }
         ensures state { self.new ≡ control_heard self.old window.now head is_msu }
         ensures nothing { result.acked ≡ 0 → window_heard window.now head ≡ window.now }
@@ -178,7 +178,7 @@ impl Pcr {
             };
         };
         self.step_back(acked, window.unacked_len() - usize::from(acked));
-        let accept = self.take(head, is_msu);
+        let accept = self.take(window, head, is_msu);
         HeardPart {
             acked,
             accept,
@@ -193,6 +193,7 @@ impl Pcr {
     /// A unit with an abnormal BSN does nothing, but the second within three units is told as a
     /// fault.
     pub fn heard(&mut self, window: &mut Window, head: Header, is_msu: bool) -> HeardPart
+        requires { IsHeadOf window.old.profile head }
         ensures { Hears head is_msu self.old self.new window.old window.new result }
     {
         let part = self.hear(window, head, is_msu);
@@ -217,7 +218,7 @@ impl Pcr {
     }
 
     /// Keeps the cycle at the message that was due after so many left, and `messages` are left.
-    fn step_back(&mut self, acked: u8, messages: usize)
+    fn step_back(&mut self, acked: u16, messages: usize)
         ensures { self.new ≡ record self.old {
           place = round messages (self.old.place - acked);
           forced = self.old.forced && nat_lt (self.old.place - acked) messages;
@@ -231,13 +232,15 @@ impl Pcr {
     }
 
     /// Signal unit sequence control (Q.703 6.2.2): whether the unit is accepted.
-    fn take(&mut self, head: Header, is_msu: bool) -> bool
-        ensures accept { result ≡ (is_msu && (head.fsn == (self.old.accepted + 1) % fsn_count)) }
-        ensures state { self.new ≡ record self.old { accepted = (if result then head.fsn else self.old.accepted) } }
+    fn take(&mut self, window: &Window, head: Header, is_msu: bool) -> bool
+        requires { IsHeadOf window.now.profile head }
+        ensures accept { result ≡ (is_msu && (head.fsn == self.old.expected)) }
+        ensures state { self.new
+            ≡ record self.old { expected = (if result then fsn_after head.fsn window.now else self.old.expected) } }
     {
-        let accept = is_msu && head.fsn == number_after(self.accepted, 1);
+        let accept = is_msu && head.fsn == self.expected;
         if accept {
-            self.accepted = head.fsn;
+            self.expected = window.number_after(head.fsn);
         }
         accept
     }

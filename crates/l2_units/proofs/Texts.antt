@@ -1,5 +1,8 @@
 -- Octets stand for one unit at most.
-use Rattle.std.proofs.Common.{refl, arith, ◌≡◌, ◌∙◌, ap, subst, sym, ◌<◌, ◌≤◌, ◌^◌, [], ◌∷◌, length, ℕ, ◌+◌, ◌*◌, ◌/◌, ◌%◌, Bool, true, false, List, drop, take, ◌-◌, slice_index, nat_le, ◌==◌, Some}
+use Rattle.std.proofs.Common.{refl, arith, zero, suc, get_or, ◌≡◌, ◌∙◌, ap, subst, sym, ◌<◌, ◌≤◌, ◌^◌, [], ◌∷◌, ◌++◌, length, ℕ, ◌+◌, ◌*◌, ◌/◌, ◌%◌, Bool, true, false, List, min, nat_le, ◌==◌, Option, Some, None, Result, Ok, Err, IfOk}
+use Rattle.std.specs.Prelude.{if◌then◌else◌}
+use Rattle.std.specs.Result.{result_ok}
+use Rattle.std.proofs.lemmas.Option.{same_Some, none-some}
 use Rattle.std.proofs.lemmas.Bool.Decides.{nat_tests}
 use Rattle.std.proofs.Props.{props}
 use Rattle.std.proofs.lemmas.Grind.{common_steps}
@@ -8,26 +11,28 @@ use Rattle.l2_signals.specs.Numbers.{status_number}
 use Rattle.l2_units.specs.declared.unit.Header.{Header}
 use Rattle.l2_units.specs.declared.unit.Unit.{Unit as SignalUnit}
 use Rattle.l2_units.specs.declared.unit.Unit.TheVariants.{Fisu, Lssu, Msu}
-use Rattle.l2_units.specs.Grammar.{StandsFor, IsBodyOf, header_text, sequence_octet, octets_with, length_indicator, status_of, unit_of, unit_with, header_in, head_of}
+use Rattle.l2_units.specs.declared.reading.UnitFault.{UnitFault}
+use Rattle.l2_units.specs.Profile.{Profile, Narrow, Wide, longest_body}
+use Rattle.l2_units.specs.Grammar.{StandsFor, IsHeadOf, IsBodyOf, header_text, sequence_octet, wide_number, four_octets, octets_with, length_indicator, status_of, unit_of, unit_if, unit_with, header_in, wide_header, head_of}
 
 -- a header of these fields
-header : (bsn : ℕ) → bsn < 2 ^ 7 → Bool → (fsn : ℕ) → fsn < 2 ^ 7 → Bool → Header
+header : (bsn : ℕ) → bsn < 2 ^ 12 → Bool → (fsn : ℕ) → fsn < 2 ^ 12 → Bool → Header
 header bsn p bib fsn q fib = record { bsn = bsn; bib = bib; fsn = fsn; fib = fib; bsn_in_range = p; fsn_in_range = q }
 
 below_is_prop : (m n : ℕ) → IsProp (m < n)
 below_is_prop m n = hlevel props
 
-same_bsn : (m n : ℕ) (p : m < 2 ^ 7) (q : n < 2 ^ 7) (bib : Bool) (fsn : ℕ) (r : fsn < 2 ^ 7) (fib : Bool) → m ≡ n → header m p bib fsn r fib ≡ header n q bib fsn r fib
+same_bsn : (m n : ℕ) (p : m < 2 ^ 12) (q : n < 2 ^ 12) (bib : Bool) (fsn : ℕ) (r : fsn < 2 ^ 12) (fib : Bool) → m ≡ n → header m p bib fsn r fib ≡ header n q bib fsn r fib
 unfolding header
 same_bsn m n p q bib fsn r fib e =
-    subst (λ (k : ℕ). (h : k < 2 ^ 7) → header m p bib fsn r fib ≡ header k h bib fsn r fib) e
-    (λ h. ap (λ (z : m < 2 ^ 7). header m z bib fsn r fib) (below_is_prop m (2 ^ 7) p h)) q
+    subst (λ (k : ℕ). (h : k < 2 ^ 12) → header m p bib fsn r fib ≡ header k h bib fsn r fib) e
+    (λ h. ap (λ (z : m < 2 ^ 12). header m z bib fsn r fib) (below_is_prop m (2 ^ 12) p h)) q
 
-same_fsn : (m n : ℕ) (p : m < 2 ^ 7) (q : n < 2 ^ 7) (bsn : ℕ) (r : bsn < 2 ^ 7) (bib fib : Bool) → m ≡ n → header bsn r bib m p fib ≡ header bsn r bib n q fib
+same_fsn : (m n : ℕ) (p : m < 2 ^ 12) (q : n < 2 ^ 12) (bsn : ℕ) (r : bsn < 2 ^ 12) (bib fib : Bool) → m ≡ n → header bsn r bib m p fib ≡ header bsn r bib n q fib
 unfolding header
 same_fsn m n p q bsn r bib fib e =
-    subst (λ (k : ℕ). (h : k < 2 ^ 7) → header bsn r bib m p fib ≡ header bsn r bib k h fib) e
-    (λ h. ap (λ (z : m < 2 ^ 7). header bsn r bib m z fib) (below_is_prop m (2 ^ 7) p h)) q
+    subst (λ (k : ℕ). (h : k < 2 ^ 12) → header bsn r bib m p fib ≡ header bsn r bib k h fib) e
+    (λ h. ap (λ (z : m < 2 ^ 12). header bsn r bib m z fib) (below_is_prop m (2 ^ 12) p h)) q
 
 -- headers with the same fields are the same
 pub same_header : (a b : Header) → a.bsn ≡ b.bsn → a.bib ≡ b.bib → a.fsn ≡ b.fsn → a.fib ≡ b.fib → a ≡ b
@@ -38,46 +43,8 @@ same_header a b e f g h =
     ∙ same_fsn a.fsn b.fsn a.fsn_in_range b.fsn_in_range b.bsn b.bsn_in_range b.bib a.fib g
     ∙ ap (λ (z : Bool). header b.bsn b.bsn_in_range b.bib b.fsn b.fsn_in_range z) h
 
--- an octet has one number below 128 and one indicator
-pub same_number : (m n : ℕ) (a b : Bool) → m < 2 ^ 7 → n < 2 ^ 7 → sequence_octet m a ≡ sequence_octet n b → m ≡ n
-same_number m n true true p q e = omega arith
-same_number m n true false p q e = omega arith
-same_number m n false true p q e = omega arith
-same_number m n false false p q e = omega arith
+-- NARROW: the header of two octets
 
-pub same_indicator : (m n : ℕ) (a b : Bool) → m < 2 ^ 7 → n < 2 ^ 7 → sequence_octet m a ≡ sequence_octet n b → a ≡ b
-same_indicator m n true true p q e = refl
-same_indicator m n true false p q e = absurd (omega arith)
-same_indicator m n false true p q e = absurd (omega arith)
-same_indicator m n false false p q e = refl
-
--- a header's text has one header
-pub same_head : (a b : Header) → sequence_octet a.bsn a.bib ≡ sequence_octet b.bsn b.bib → sequence_octet a.fsn a.fib ≡ sequence_octet b.fsn b.fib → a ≡ b
-same_head a b e f =
-    same_header a b
-    (same_number a.bsn b.bsn a.bib b.bib a.bsn_in_range b.bsn_in_range e)
-    (same_indicator a.bsn b.bsn a.bib b.bib a.bsn_in_range b.bsn_in_range e)
-    (same_number a.fsn b.fsn a.fib b.fib a.fsn_in_range b.fsn_in_range f)
-    (same_indicator a.fsn b.fsn a.fib b.fib a.fsn_in_range b.fsn_in_range f)
-
--- octets whose first two are this header's and whose third has the length indicator of the rest stand for a unit whose body the rest is
-pub text_stands : (octets rest : List ℕ) (h : Header) (unit : SignalUnit) → header_text h ≡ slice_index octets 0 ∷ slice_index octets 1 ∷ [] → 3 ≤ length octets → slice_index octets 2 < 256 → rest ≡ drop 3 octets → slice_index octets 2 % 64 ≡ length_indicator rest → head_of unit ≡ h → IsBodyOf unit rest → StandsFor octets unit
-text_stands (x ∷ y ∷ z ∷ octets) rest h unit e n small r m u is =
-    let third : length_indicator rest + 64 * (z / 64) ≡ z = omega (arith, m) in
-    let whole : x ∷ y ∷ z ∷ octets ≡ octets_with (z / 64) h rest = cc (third, r, e) in
-    record { spare = z / 64; body = rest; two_bits = omega (arith, small); body_is = is; octets_are = rw u whole }
-text_stands [] rest h unit e n small r m u is = absurd (omega (arith, n))
-text_stands (x ∷ []) rest h unit e n small r m u is = absurd (omega (arith, n))
-text_stands (x ∷ y ∷ []) rest h unit e n small r m u is = absurd (omega (arith, n))
-
--- the slice from the fourth octet on
-pub rest_is : (octets : List ℕ) → 3 ≤ length octets → take (length octets - 3) (drop 3 octets) ≡ drop 3 octets
-rest_is (x ∷ y ∷ z ∷ rest) n = grind (arith, common_steps)
-rest_is [] n = absurd (omega (arith, n))
-rest_is (x ∷ []) n = absurd (omega (arith, n))
-rest_is (x ∷ y ∷ []) n = absurd (omega (arith, n))
-
--- The unit that the grammar read from the left gives is the one that the octets stand for.
 header_in_text : (x y : ℕ) → x < 256 → y < 256 → header_text (header_in x y) ≡ x ∷ y ∷ []
 header_in_text x y p q = ap (λ (n : ℕ). n ∷ sequence_octet (y % 128) (nat_le 128 y) ∷ []) (whole x (nat_le 128 x) refl p) ∙ ap (λ (n : ℕ). x ∷ n ∷ []) (whole y (nat_le 128 y) refl q)
   where
@@ -85,22 +52,93 @@ header_in_text x y p q = ap (λ (n : ℕ). n ∷ sequence_octet (y % 128) (nat_l
     whole n true e p = let h : 128 ≤ n = grind (arith, nat_tests) in rw e (omega (arith, h))
     whole n false e p = let h : n < 128 = grind (arith, nat_tests) in rw e (omega (arith, h))
 
-octet_fits : (n : ℕ) (b : Bool) → n < 2 ^ 7 → sequence_octet n b < 256
-octet_fits n true p = omega arith
-octet_fits n false p = omega arith
+number_in : (n : ℕ) (b : Bool) → n < 128 → sequence_octet n b % 128 ≡ n
+number_in n true p = omega arith
+number_in n false p = omega arith
 
--- the header of a header's text
-header_again : (h : Header) → header_in (sequence_octet h.bsn h.bib) (sequence_octet h.fsn h.fib) ≡ h
-header_again h =
-    let text = header_in_text (sequence_octet h.bsn h.bib) (sequence_octet h.fsn h.fib) (octet_fits h.bsn h.bib h.bsn_in_range) (octet_fits h.fsn h.fib h.fsn_in_range) in
-    same_head (header_in (sequence_octet h.bsn h.bib) (sequence_octet h.fsn h.fib)) h (cc text) (cc text)
+indicator_in : (n : ℕ) (b : Bool) → n < 128 → nat_le 128 (sequence_octet n b) ≡ b
+indicator_in n true p = grind (arith, nat_tests)
+indicator_in n false p = grind (arith, nat_tests)
 
-third_is : (body : List ℕ) (spare : ℕ) → ((length_indicator body + 64 * spare) % 64 == length_indicator body) ≡ true
-third_is body spare = let e : (length_indicator body + 64 * spare) % 64 ≡ length_indicator body = omega arith in rw e (grind (arith, nat_tests))
+header_again : (h : Header) → IsHeadOf Narrow h → header_in (sequence_octet h.bsn h.bib) (sequence_octet h.fsn h.fib) ≡ h
+header_again h is =
+    same_header (header_in (sequence_octet h.bsn h.bib) (sequence_octet h.fsn h.fib)) h
+    (number_in h.bsn h.bib is.0) (indicator_in h.bsn h.bib is.0) (number_in h.fsn h.fib is.1) (indicator_in h.fsn h.fib is.1)
 
--- octets that stand with a body are read as that body
-read_with : (spare : ℕ) (h : Header) (body : List ℕ) → unit_of (octets_with spare h body) ≡ unit_with h body
-read_with spare h body = rw (third_is body spare, header_again h) refl
+-- WIDE: the header of 32 bits
+
+module _ (bsn fsn li : ℕ) (low : bsn < 4096) (low' : fsn < 4096) (few : li < 64) where
+  abbrev pub number : Bool → Bool → ℕ
+  number bib fib = bsn + (if bib then 0x1000 else 0) + 0x2000 * fsn + (if fib then 0x2000000 else 0) + 0x4000000 * li
+
+  bsn_is : (bib fib : Bool) → number bib fib % 4096 ≡ bsn
+  bsn_is true true = omega arith
+  bsn_is true false = omega arith
+  bsn_is false true = omega arith
+  bsn_is false false = omega arith
+
+  fsn_is : (bib fib : Bool) → number bib fib / 0x2000 % 4096 ≡ fsn
+  fsn_is true true = omega arith
+  fsn_is true false = omega arith
+  fsn_is false true = omega arith
+  fsn_is false false = omega arith
+
+  li_is : (bib fib : Bool) → number bib fib / 0x4000000 ≡ li
+  li_is true true = omega arith
+  li_is true false = omega arith
+  li_is false true = omega arith
+  li_is false false = omega arith
+
+  small : (bib fib : Bool) → number bib fib < 0x100000000
+  small true true = omega arith
+  small true false = omega arith
+  small false true = omega arith
+  small false false = omega arith
+
+  bib_is : (bib fib : Bool) → (number bib fib / 0x1000 % 2 == 1) ≡ bib
+  bib_is true true = let e : number true true / 0x1000 % 2 ≡ 1 = omega arith in rw e refl
+  bib_is true false = let e : number true false / 0x1000 % 2 ≡ 1 = omega arith in rw e refl
+  bib_is false true = let e : number false true / 0x1000 % 2 ≡ 0 = omega arith in rw e refl
+  bib_is false false = let e : number false false / 0x1000 % 2 ≡ 0 = omega arith in rw e refl
+
+  fib_is : (bib fib : Bool) → (number bib fib / 0x2000000 % 2 == 1) ≡ fib
+  fib_is true true = let e : number true true / 0x2000000 % 2 ≡ 1 = omega arith in rw e refl
+  fib_is true false = let e : number true false / 0x2000000 % 2 ≡ 0 = omega arith in rw e refl
+  fib_is false true = let e : number false true / 0x2000000 % 2 ≡ 1 = omega arith in rw e refl
+  fib_is false false = let e : number false false / 0x2000000 % 2 ≡ 0 = omega arith in rw e refl
+
+wide_again : (h : Header) (li : ℕ) → li < 64 → wide_header (wide_number h li) ≡ h
+wide_again h li few =
+    same_header (wide_header (wide_number h li)) h
+    (bsn_is h.bsn h.fsn li h.bsn_in_range h.fsn_in_range few h.bib h.fib) (bib_is h.bsn h.fsn li h.bsn_in_range h.fsn_in_range few h.bib h.fib)
+    (fsn_is h.bsn h.fsn li h.bsn_in_range h.fsn_in_range few h.bib h.fib) (fib_is h.bsn h.fsn li h.bsn_in_range h.fsn_in_range few h.bib h.fib)
+
+-- 32 bits in four octets, and back
+in_four : (a b c d : ℕ) → a < 256 → b < 256 → c < 256 → d < 256 → four_octets (a + 0x100 * b + 0x10000 * c + 0x1000000 * d) ≡ a ∷ b ∷ c ∷ d ∷ []
+in_four a b c d p q r s =
+    let n = a + 0x100 * b + 0x10000 * c + 0x1000000 * d in
+    ap (λ (x : ℕ). x ∷ n / 0x100 % 256 ∷ n / 0x10000 % 256 ∷ n / 0x1000000 % 256 ∷ []) (omega arith)
+    ∙ ap (λ (x : ℕ). a ∷ x ∷ n / 0x10000 % 256 ∷ n / 0x1000000 % 256 ∷ []) (omega arith)
+    ∙ ap (λ (x : ℕ). a ∷ b ∷ x ∷ n / 0x1000000 % 256 ∷ []) (omega arith)
+    ∙ ap (λ (x : ℕ). a ∷ b ∷ c ∷ x ∷ []) (omega arith)
+
+of_four : (n : ℕ) → n < 0x100000000 → n % 256 + 0x100 * (n / 0x100 % 256) + 0x10000 * (n / 0x10000 % 256) + 0x1000000 * (n / 0x1000000 % 256) ≡ n
+of_four n p = omega arith
+
+not_one : (k : ℕ) → (k % 2 == 1) ≡ false → k % 2 ≡ 0
+not_one k e = grind (arith, nat_tests)
+
+-- the number of the header read is the number
+whole_by : (n : ℕ) (bib fib : Bool) → (n / 0x1000 % 2 == 1) ≡ bib → (n / 0x2000000 % 2 == 1) ≡ fib → n % 4096 + (if bib then 0x1000 else 0) + 0x2000 * (n / 0x2000 % 4096) + (if fib then 0x2000000 else 0) + 0x4000000 * (n / 0x4000000) ≡ n
+whole_by n true true e f = let b : n / 0x1000 % 2 ≡ 1 = grind (arith, nat_tests) in let c : n / 0x2000000 % 2 ≡ 1 = grind (arith, nat_tests) in omega (arith, b, c)
+whole_by n true false e f = let b : n / 0x1000 % 2 ≡ 1 = grind (arith, nat_tests) in let c : n / 0x2000000 % 2 ≡ 0 = not_one (n / 0x2000000) f in omega (arith, b, c)
+whole_by n false true e f = let b : n / 0x1000 % 2 ≡ 0 = not_one (n / 0x1000) e in let c : n / 0x2000000 % 2 ≡ 1 = grind (arith, nat_tests) in omega (arith, b, c)
+whole_by n false false e f = let b : n / 0x1000 % 2 ≡ 0 = not_one (n / 0x1000) e in let c : n / 0x2000000 % 2 ≡ 0 = not_one (n / 0x2000000) f in omega (arith, b, c)
+
+-- BOTH
+
+pub li_small : (body : List ℕ) → length_indicator body < 64
+li_small body = omega arith
 
 -- the status of a status' number
 status_again : (status : Status) → status_of (status_number status) ≡ status
@@ -113,28 +151,144 @@ status_again Status.Busy = refl
 status_again Status.Unassigned6 = refl
 status_again Status.Unassigned7 = refl
 
-status_read : (h : Header) (status : Status) (field : List ℕ) → IsBodyOf (Lssu h status) field → unit_with h field ≡ Some (Lssu h status)
-status_read h status [] is = absurd (omega (arith, is.0))
-status_read h status (x ∷ []) is = rw (is.2, status_again status) refl
-status_read h status (x ∷ y ∷ []) is = rw (is.2, status_again status) refl
-status_read h status (x ∷ y ∷ z ∷ field) is = absurd (omega (arith, is.1))
+-- a unit of this body is read from it
+body_read : (unit : SignalUnit) (field : List ℕ) → IsBodyOf unit field → unit_with (head_of unit) field ≡ unit
+body_read (Fisu h) field is = rw is refl
+body_read (Lssu h status) [] is = absurd (omega (arith, is.0))
+body_read (Lssu h status) (x ∷ []) is = rw (is.2, status_again status) refl
+body_read (Lssu h status) (x ∷ y ∷ []) is = rw (is.2, status_again status) refl
+body_read (Lssu h status) (x ∷ y ∷ z ∷ field) is = absurd (omega (arith, is.1))
+body_read (Msu h body) (x ∷ y ∷ z ∷ field) is = rw (sym is.0) refl
+body_read (Msu h body) [] is = absurd (omega (arith, is.1))
+body_read (Msu h body) (x ∷ []) is = absurd (omega (arith, is.1))
+body_read (Msu h body) (x ∷ y ∷ []) is = absurd (omega (arith, is.1))
 
-message_read : (h : Header) (body : List ℕ) → 3 ≤ length body → length body ≤ 273 → unit_with h body ≡ Some (Msu h (record { items = body }))
-message_read h (x ∷ y ∷ z ∷ body) p q = let high : nat_le (length body) 270 ≡ true = grind (arith, nat_tests) in rw high refl
-message_read h [] p q = absurd (omega (arith, p))
-message_read h (x ∷ []) p q = absurd (omega (arith, p))
-message_read h (x ∷ y ∷ []) p q = absurd (omega (arith, p))
+status_number_of : (n : ℕ) → n < 8 → status_number (status_of n) ≡ n
+status_number_of zero p = refl
+status_number_of (suc zero) p = refl
+status_number_of (suc (suc zero)) p = refl
+status_number_of (suc (suc (suc zero))) p = refl
+status_number_of (suc (suc (suc (suc zero)))) p = refl
+status_number_of (suc (suc (suc (suc (suc zero))))) p = refl
+status_number_of (suc (suc (suc (suc (suc (suc zero)))))) p = refl
+status_number_of (suc (suc (suc (suc (suc (suc (suc zero))))))) p = refl
+status_number_of (suc (suc (suc (suc (suc (suc (suc (suc n)))))))) p = absurd (omega arith)
 
-body_read : (unit : SignalUnit) (field : List ℕ) → IsBodyOf unit field → unit_with (head_of unit) field ≡ Some unit
-body_read (Fisu h) field is = ap (unit_with h) is
-body_read (Lssu h status) field is = status_read h status field is
-body_read (Msu h body) field is = rw (sym is.0) (message_read h field is.1 is.2)
+-- and the unit read from a body has it
+has_body : (h : Header) (field : List ℕ) → IsBodyOf (unit_with h field) field
+has_body h [] = refl
+has_body h (x ∷ []) = (omega arith, omega arith, sym (status_number_of (x % 8) (omega arith)))
+has_body h (x ∷ y ∷ []) = (omega arith, omega arith, sym (status_number_of (x % 8) (omega arith)))
+has_body h (x ∷ y ∷ z ∷ field) = (refl, omega arith)
 
--- the grammar read from the left gives the unit that octets stand for
-pub stands_is : (octets : List ℕ) (unit : SignalUnit) → StandsFor octets unit → unit_of octets ≡ Some unit
-stands_is octets unit stands =
-    ap unit_of stands.octets_are ∙ read_with stands.spare (head_of unit) stands.body ∙ body_read unit stands.body stands.body_is
+has_head : (h : Header) (field : List ℕ) → head_of (unit_with h field) ≡ h
+has_head h [] = refl
+has_head h (x ∷ []) = refl
+has_head h (x ∷ y ∷ []) = refl
+has_head h (x ∷ y ∷ z ∷ field) = refl
+
+-- what the grammar read from the left finds of a header and a body
+pub record Behind (profile : Profile) (indicator : ℕ) (h : Header) (body : List ℕ) (unit : SignalUnit) : Type 0 where
+  pub not_long : length body ≤ longest_body profile
+  pub says : indicator ≡ length_indicator body
+  pub is : unit_with h body ≡ unit
+
+behind : (profile : Profile) (n : ℕ) (h : Header) (body : List ℕ) (unit : SignalUnit) → unit_if profile n h body ≡ Some unit → Behind profile n h body unit
+behind profile n h body unit e = go (nat_le (length body) (longest_body profile)) (n == length_indicator body) refl refl e
+  where
+    go : (p q : Bool) → nat_le (length body) (longest_body profile) ≡ p → (n == length_indicator body) ≡ q → (if p then (if q then Some (unit_with h body) else None) else None) ≡ Some unit → Behind profile n h body unit
+    go true true a b f = record { not_long = grind (arith, nat_tests); says = grind (arith, nat_tests); is = same_Some _ _ f }
+    go true false a b f = absurd (none-some unit f)
+    go false q a b f = absurd (none-some unit f)
+
+found_behind : (profile : Profile) (n : ℕ) (h : Header) (body : List ℕ) → length body ≤ longest_body profile → n ≡ length_indicator body → unit_if profile n h body ≡ Some (unit_with h body)
+found_behind profile n h body short says =
+    let a : nat_le (length body) (longest_body profile) ≡ true = grind (arith, nat_tests) in
+    let b : (n == length_indicator body) ≡ true = grind (arith, nat_tests) in
+    rw (a, b) refl
+
+-- THE GRAMMAR READ FROM THE LEFT gives the unit that octets stand for
+narrow_is : (unit : SignalUnit) (spare : ℕ) (body : List ℕ) → IsHeadOf Narrow (head_of unit) → IsBodyOf unit body → length body ≤ 273 → unit_of Narrow (octets_with Narrow spare (head_of unit) body) ≡ Some unit
+narrow_is unit spare body head is short =
+    let third : (length_indicator body + 64 * spare) % 64 ≡ length_indicator body = omega arith in
+    ap (λ (h : Header). unit_if Narrow ((length_indicator body + 64 * spare) % 64) h body) (header_again (head_of unit) head)
+    ∙ found_behind Narrow ((length_indicator body + 64 * spare) % 64) (head_of unit) body short third
+    ∙ ap Some (body_read unit body is)
+
+wide_is : (unit : SignalUnit) (body : List ℕ) → IsBodyOf unit body → length body ≤ 272 → unit_of Wide (octets_with Wide 0 (head_of unit) body) ≡ Some unit
+wide_is unit body is short =
+    let h = head_of unit in
+    let n = wide_number h (length_indicator body) in
+    let few = li_small body in
+    let again = of_four n (small h.bsn h.fsn (length_indicator body) h.bsn_in_range h.fsn_in_range few h.bib h.fib) in
+    ap (λ (m : ℕ). unit_if Wide (m / 0x4000000) (wide_header m) body) again
+    ∙ ap (λ (k : Header). unit_if Wide (n / 0x4000000) k body) (wide_again h (length_indicator body) few)
+    ∙ found_behind Wide (n / 0x4000000) h body short (li_is h.bsn h.fsn (length_indicator body) h.bsn_in_range h.fsn_in_range few h.bib h.fib)
+    ∙ ap Some (body_read unit body is)
+
+pub stands_is : (profile : Profile) (octets : List ℕ) (unit : SignalUnit) → StandsFor profile octets unit → unit_of profile octets ≡ Some unit
+stands_is Narrow octets unit stands = ap (unit_of Narrow) stands.octets_are ∙ narrow_is unit stands.spare stands.body stands.head_is stands.body_is stands.not_long
+stands_is Wide octets unit stands = ap (unit_of Wide) stands.octets_are ∙ wide_is unit stands.body stands.body_is stands.not_long
 
 -- octets stand for one unit at most
-pub same_unit : (octets : List ℕ) (u v : SignalUnit) → StandsFor octets u → StandsFor octets v → u ≡ v
-same_unit octets u v p q = let e : Some u ≡ Some v = sym (stands_is octets u p) ∙ stands_is octets v q in cc e
+pub same_unit : (profile : Profile) (octets : List ℕ) (u v : SignalUnit) → StandsFor profile octets u → StandsFor profile octets v → u ≡ v
+same_unit profile octets u v p q = same_Some u v (sym (stands_is profile octets u p) ∙ stands_is profile octets v q)
+
+-- AND BACK: octets from which a unit is read stand for it
+abbrev pub EachOctet : List ℕ → Type 0
+EachOctet octets = (i : ℕ) → get_or octets i 0 < 256
+
+narrow_stands : (x y z : ℕ) (body : List ℕ) (unit : SignalUnit) → x < 256 → y < 256 → z < 256 → unit_of Narrow (x ∷ y ∷ z ∷ body) ≡ Some unit → StandsFor Narrow (x ∷ y ∷ z ∷ body) unit
+narrow_stands x y z body unit p q r e =
+    let h = header_in x y in
+    let b = behind Narrow (z % 64) h body unit e in
+    let head : head_of unit ≡ h = ap head_of (sym b.is) ∙ has_head h body in
+    let third : length_indicator body + 64 * (z / 64) ≡ z = omega (arith, b.says) in record {
+      spare = z / 64;
+      body = body;
+      in_range = omega arith;
+      head_is = subst (IsHeadOf Narrow) (sym head) (omega arith, omega arith);
+      body_is = subst (λ (u : SignalUnit). IsBodyOf u body) b.is (has_body h body);
+      not_long = b.not_long;
+      octets_are = sym (ap (λ (k : Header). octets_with Narrow (z / 64) k body) head
+          ∙ ap (λ (m : ℕ). header_text h ++ m ∷ body) third
+          ∙ ap (λ (xs : List ℕ). xs ++ z ∷ body) (header_in_text x y p q));
+    }
+
+wide_stands : (a b c d : ℕ) (body : List ℕ) (unit : SignalUnit) → a < 256 → b < 256 → c < 256 → d < 256 → unit_of Wide (a ∷ b ∷ c ∷ d ∷ body) ≡ Some unit → StandsFor Wide (a ∷ b ∷ c ∷ d ∷ body) unit
+wide_stands a b c d body unit p q r s e =
+    let n = a + 0x100 * b + 0x10000 * c + 0x1000000 * d in
+    let h = wide_header n in
+    let k = behind Wide (n / 0x4000000) h body unit e in
+    let head : head_of unit ≡ h = ap head_of (sym k.is) ∙ has_head h body in
+    let number : wide_number h (length_indicator body) ≡ n = ap (wide_number h) (sym k.says) ∙ whole_by n (n / 0x1000 % 2 == 1) (n / 0x2000000 % 2 == 1) refl refl in record {
+      spare = 0;
+      body = body;
+      in_range = omega arith;
+      head_is = subst (IsHeadOf Wide) (sym head) (omega arith, omega arith);
+      body_is = subst (λ (u : SignalUnit). IsBodyOf u body) k.is (has_body h body);
+      not_long = k.not_long;
+      octets_are = sym (ap (λ (m : Header). octets_with Wide 0 m body) head
+          ∙ ap (λ (m : ℕ). four_octets m ++ body) number
+          ∙ ap (λ (xs : List ℕ). xs ++ body) (in_four a b c d p q r s));
+    }
+
+read_stands : (profile : Profile) (octets : List ℕ) (unit : SignalUnit) → EachOctet octets → unit_of profile octets ≡ Some unit → StandsFor profile octets unit
+read_stands Narrow (x ∷ y ∷ z ∷ body) unit each e = narrow_stands x y z body unit (each 0) (each 1) (each 2) e
+read_stands Narrow [] unit each e = absurd (none-some unit e)
+read_stands Narrow (x ∷ []) unit each e = absurd (none-some unit e)
+read_stands Narrow (x ∷ y ∷ []) unit each e = absurd (none-some unit e)
+read_stands Wide (a ∷ b ∷ c ∷ d ∷ body) unit each e = wide_stands a b c d body unit (each 0) (each 1) (each 2) (each 3) e
+read_stands Wide [] unit each e = absurd (none-some unit e)
+read_stands Wide (x ∷ []) unit each e = absurd (none-some unit e)
+read_stands Wide (x ∷ y ∷ []) unit each e = absurd (none-some unit e)
+read_stands Wide (x ∷ y ∷ z ∷ []) unit each e = absurd (none-some unit e)
+
+-- what a call that reads by the grammar finds
+pub found_stands : (profile : Profile) (octets : List ℕ) (result : Result SignalUnit UnitFault) → EachOctet octets → result_ok result ≡ unit_of profile octets → IfOk result (λ unit. StandsFor profile octets unit)
+found_stands profile octets (Ok unit) each e = read_stands profile octets unit each (sym e)
+found_stands profile octets (Err fault) each e = tt
+
+pub only_stands : (profile : Profile) (octets : List ℕ) (result : Result SignalUnit UnitFault) (unit : SignalUnit) → result_ok result ≡ unit_of profile octets → StandsFor profile octets unit → result ≡ Ok unit
+only_stands profile octets (Ok u) unit e stands = ap Ok (same_Some u unit (e ∙ stands_is profile octets unit stands))
+only_stands profile octets (Err fault) unit e stands = absurd (none-some unit (e ∙ stands_is profile octets unit stands))

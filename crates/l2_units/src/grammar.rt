@@ -1,5 +1,6 @@
 //! What the grammar tells of a unit, and a law that speaks of definitions alone.
 ghost use Rattle.std.specs.Prelude.{◌≡◌, ◌↔◌, IsTrue};
+ghost use Rattle.l2_units.specs.Profile.{Profile};
 ghost use Rattle.l2_units.specs.Grammar.{IsUnit, IsTheTextOf, head_of};
 ghost use Rattle.l2_units.specs.declared.unit.Unit.{Unit as SignalUnit};
 
@@ -67,7 +68,7 @@ fn same_head(head: &Header, other: &Header) -> bool
     head.fib == other.fib
 }
 
-/// The text of a unit stands for that unit, and for no other.
+/// In both profiles the text of a unit stands for that unit, and for no other.
 pub fn one_text()
-    ensures { (unit : SignalUnit) → IsUnit unit → IsTheTextOf unit }
+    ensures { (profile : Profile) (unit : SignalUnit) → IsUnit profile unit → IsTheTextOf profile unit }
 {}

@@ -19,11 +19,13 @@
 #![tactic(auto)]
 
 mod grammar;
+mod profile;
 mod reading;
 mod unit;
 mod writing;
 
 pub use grammar::{copy_of_unit, header_in, one_text, same_unit};
-pub use reading::{UnitFault, body_of, read};
+pub use profile::Profile;
+pub use reading::{UnitFault, body_of, read, read_wide};
 pub use unit::{Header, LONGEST_BODY, LONGEST_UNIT, SHORTEST_BODY, Unit};
-pub use writing::write;
+pub use writing::{write, write_wide};

@@ -1,8 +1,9 @@
 //! Octets to a unit.
-ghost use Rattle.std.specs.Prelude.{◌≡◌, ◌<◌, ◌≤◌, ◌↔◌, [], ◌∷◌, IfOk, length};
+ghost use Rattle.std.specs.Prelude.{◌≡◌, ◌<◌, ◌≤◌, ◌+◌, ◌*◌, ◌^◌, ◌↔◌, [], ◌∷◌, IfOk, length, Some};
 ghost use Rattle.std.specs.Result.{result_ok};
+ghost use Rattle.l2_units.specs.Profile.{Narrow, Wide};
 ghost use Rattle.l2_units.specs.declared.unit.Unit.{Unit as SignalUnit};
-ghost use Rattle.l2_units.specs.Grammar.{StandsFor, header_text, unit_of};
+ghost use Rattle.l2_units.specs.Grammar.{StandsFor, IsHeadOf, IsBodyOf, head_of, header_in, wide_header, unit_of, unit_with};
 ghost use Rattle.l2_units.specs.Fault.{number_of};
 
 use super::unit::{Header, LONGEST_BODY, Unit};
@@ -10,11 +11,14 @@ use arrayvec::ArrayVec;
 use l2_signals::Status;
 use thiserror::Error;
 
+/// The most octets of a body in the wide profile, whose header has one octet more.
+const LONGEST_WIDE_BODY: usize = 272;
+
 /// Why octets are no signal unit. The first that applies, in this order, is answered.
 #[derive(Clone, Copy, Debug, Drop, PartialEq, Eq, Error)]
 pub enum UnitFault {
-    /// Fewer than 3 octets: no room for the header and the length indicator.
-    #[error("fewer than 3 octets")]
+    /// Fewer octets than a header and a length indicator have: 3, or 4 in the wide profile.
+    #[error("fewer octets than a header has")]
     Short = 1,
     /// More than 276 octets.
     #[error("more than 276 octets")]
@@ -40,9 +44,9 @@ impl UnitFault {
 /// bits beside the length indicator aren't looked at (own). A status field of one or two octets is
 /// read by the low three bits of its first (own).
 pub fn read(octets: &[u8]) -> Result<Unit, UnitFault>
-    ensures found { IfOk result (λ unit. StandsFor octets.now unit) }
-    ensures only { (unit : SignalUnit) → StandsFor octets.now unit → result ≡ Ok unit }
-    ensures exact { result_ok result ≡ unit_of octets.now }
+    ensures exact { result_ok result ≡ unit_of Narrow octets.now }
+    ensures found { IfOk result (λ unit. StandsFor Narrow octets.now unit) }
+    ensures only { (unit : SignalUnit) → StandsFor Narrow octets.now unit → result ≡ Ok unit }
     ensures short { (result ≡ Err UnitFault.Short) ↔ (length octets.now < 3) }
     ensures long { (result ≡ Err UnitFault.Long) ↔ (276 < length octets.now) }
 {
@@ -55,29 +59,79 @@ pub fn read(octets: &[u8]) -> Result<Unit, UnitFault>
     if (*third % 64) as usize != rest.len().min(63) {
         return Err(UnitFault::Length);
     }
-    let head = header_of(*backward, *forward);
-    match rest.len() {
-        0 => Ok(Unit::Fisu { head }),
-        1 | 2 => Ok(Unit::Lssu {
-            head,
-            status: Status::of(rest[0]),
-        }),
-        _ => Ok(Unit::Msu {
-            head,
-            body: body_of(rest),
-        }),
+    Ok(with_field(header_of(*backward, *forward), rest))
+}
+
+/// The same in the wide profile, whose header has four octets.
+///
+/// Refusals, in this order: 1 [`UnitFault::Short`] under 4 octets, 2 [`UnitFault::Long`] over 276,
+/// 3 [`UnitFault::Length`].
+pub fn read_wide(octets: &[u8]) -> Result<Unit, UnitFault>
+    ensures exact { result_ok result ≡ unit_of Wide octets.now }
+    ensures found { IfOk result (λ unit. StandsFor Wide octets.now unit) }
+    ensures only { (unit : SignalUnit) → StandsFor Wide octets.now unit → result ≡ Ok unit }
+    ensures short { (result ≡ Err UnitFault.Short) ↔ (length octets.now < 4) }
+    ensures long { (result ≡ Err UnitFault.Long) ↔ (276 < length octets.now) }
+{
+    let [a, b, c, d, rest @ ..] = octets else {
+        return Err(UnitFault::Short);
+    };
+    if rest.len() > LONGEST_WIDE_BODY {
+        return Err(UnitFault::Long);
     }
+    let whole = word_of(*a, *b, *c, *d);
+    if (whole / 0x400_0000) as usize != rest.len().min(63) {
+        return Err(UnitFault::Length);
+    }
+    Ok(with_field(wide_header_of(whole), rest))
+}
+
+/// The number of these four octets, least significant first.
+fn word_of(a: u8, b: u8, c: u8, d: u8) -> u32
+    ensures { result ≡ a + 0x100 * b + 0x10000 * c + 0x1000000 * d }
+{
+    u32::from(a) + 0x100 * u32::from(b) + 0x1_0000 * u32::from(c) + 0x100_0000 * u32::from(d)
 }
 
 /// The header of the two octets: the number in the low seven bits, the indicator in the highest.
 fn header_of(backward: u8, forward: u8) -> Header
-    ensures { header_text result ≡ backward ∷ forward ∷ [] }
+    ensures { result ≡ header_in backward forward }
 {
     Header {
-        bsn: backward % 128,
+        bsn: u16::from(backward % 128),
         bib: backward >= 128,
-        fsn: forward % 128,
+        fsn: u16::from(forward % 128),
         fib: forward >= 128,
+    }
+}
+
+/// The header of the 32 bits: the number in the low twelve bits, the indicator above it, and both again.
+fn wide_header_of(whole: u32) -> Header
+    ensures { result ≡ wide_header whole }
+{
+    Header {
+        bsn: (whole % 4096) as u16,
+        bib: whole / 0x1000 % 2 == 1,
+        fsn: (whole / 0x2000 % 4096) as u16,
+        fib: whole / 0x200_0000 % 2 == 1,
+    }
+}
+
+/// The unit with this header and these octets behind the length indicator.
+fn with_field(head: Header, field: &[u8]) -> Unit
+    requires { length field.now ≤ 273 }
+    ensures { result ≡ unit_with head field.now }
+{
+    match field {
+        [] => Unit::Fisu { head },
+        [first] | [first, _] => Unit::Lssu {
+            head,
+            status: Status::of(*first),
+        },
+        _ => Unit::Msu {
+            head,
+            body: body_of(field),
+        },
     }
 }
 

@@ -17,16 +17,16 @@ pub const LONGEST_UNIT: usize = 276;
 /// The sequence numbers and indicator bits that every unit has (Q.703 2.2).
 #[derive(Clone, Copy, Debug, PartialEq, Eq)]
 pub struct Header {
-    /// Backward sequence number: the last message accepted from the other end, 0 to 127.
-    pub bsn: u8,
+    /// Backward sequence number: the last message accepted from the other end, 0 to 127 (wide: 4,095).
+    pub bsn: u16,
     /// Backward indicator bit: inverted, it asks for retransmission.
     pub bib: bool,
-    /// Forward sequence number: this message's, or in a FISU the last message's, 0 to 127.
-    pub fsn: u8,
+    /// Forward sequence number: this message's, or in a FISU the last message's, 0 to 127 (wide: 4,095).
+    pub fsn: u16,
     /// Forward indicator bit: equal to the BIB last accepted.
     pub fib: bool,
-    pub ghost bsn_in_range: { bsn < 2 ^ 7 },
-    pub ghost fsn_in_range: { fsn < 2 ^ 7 },
+    pub ghost bsn_in_range: { bsn < 2 ^ 12 },
+    pub ghost fsn_in_range: { fsn < 2 ^ 12 },
 }
 
 /// A signal unit (Q.703 2.1).

@@ -1,6 +1,7 @@
 //! A unit to octets.
 ghost use Rattle.std.specs.Prelude.{◌≡◌, ◌+◌, ◌*◌, ◌≤◌, ◌<◌, ◌^◌, ◌++◌, if◌then◌else◌, length};
-ghost use Rattle.l2_units.specs.Grammar.{text, octets_with, sequence_octet as octet_of};
+ghost use Rattle.l2_units.specs.Profile.{Narrow, Wide};
+ghost use Rattle.l2_units.specs.Grammar.{IsHeadOf, head_of, body_of, text, octets_with, wide_number, four_octets, sequence_octet as octet_of};
 
 use super::unit::{Header, LONGEST_UNIT, Unit};
 use arrayvec::ArrayVec;
@@ -8,10 +9,11 @@ use arrayvec::ArrayVec;
 /// The octets of a unit, without check octets: its one text with spare bits 0. An LSSU is sent
 /// with a status field of one octet (own).
 ///
-/// A unit whose body has fewer than 3 octets is written as it stands, though no octets are read
-/// back as such a unit.
+/// Condition: numbers below 128. A unit whose body has fewer than 3 octets is written as it stands, though no octets
+/// are read back as such a unit.
 pub fn write(unit: &Unit) -> ArrayVec<u8, LONGEST_UNIT>
-    ensures { result.items ≡ text unit.now }
+    requires { IsHeadOf Narrow (head_of unit.now) }
+    ensures { result.items ≡ text Narrow unit.now }
 {
     match unit {
         Unit::Fisu { head } => with_body(head, &[]),
@@ -20,10 +22,25 @@ pub fn write(unit: &Unit) -> ArrayVec<u8, LONGEST_UNIT>
     }
 }
 
+/// The octets of a unit in the wide profile, without check octets.
+///
+/// Condition: a body of at most 272 octets.
+pub fn write_wide(unit: &Unit) -> ArrayVec<u8, LONGEST_UNIT>
+    requires { length (body_of unit.now) ≤ 272 }
+    ensures { result.items ≡ text Wide unit.now }
+{
+    match unit {
+        Unit::Fisu { head } => with_wide_body(head, &[]),
+        Unit::Lssu { head, status } => with_wide_body(head, &[status.number()]),
+        Unit::Msu { head, body } => with_wide_body(head, body.as_slice()),
+    }
+}
+
 /// The octets of a header, a length indicator and a body, with spare bits 0.
 fn with_body(head: &Header, body: &[u8]) -> ArrayVec<u8, LONGEST_UNIT>
-    requires { length body.now ≤ 273 }
-    ensures { result.items ≡ octets_with 0 head.now body.now }
+    requires numbers { IsHeadOf Narrow head.now }
+    requires body { length body.now ≤ 273 }
+    ensures { result.items ≡ octets_with Narrow 0 head.now body.now }
 {
     let mut octets = ArrayVec::new();
     octets.push(sequence_octet(head.bsn, head.bib));
@@ -35,10 +52,36 @@ fn with_body(head: &Header, body: &[u8]) -> ArrayVec<u8, LONGEST_UNIT>
     }
 }
 
+/// The octets of a wide header and a body.
+fn with_wide_body(head: &Header, body: &[u8]) -> ArrayVec<u8, LONGEST_UNIT>
+    requires { length body.now ≤ 272 }
+    ensures { result.items ≡ octets_with Wide 0 head.now body.now }
+{
+    let mut octets = ArrayVec::new();
+    match octets.try_extend_from_slice(&word_of(*head, body.len().min(63) as u32).to_le_bytes()) {
+        Ok(()) => {}
+        Err(_) => unreachable!(),
+    }
+    match octets.try_extend_from_slice(body) {
+        Ok(()) => octets,
+        Err(_) => unreachable!(),
+    }
+}
+
+/// A header and a length indicator in 32 bits.
+fn word_of(head: Header, indicator: u32) -> u32
+    requires { indicator < 64 }
+    ensures { result ≡ wide_number head indicator }
+{
+    let bib = if head.bib { 0x1000 } else { 0 };
+    let fib = if head.fib { 0x200_0000 } else { 0 };
+    u32::from(head.bsn) + bib + 0x2000 * u32::from(head.fsn) + fib + 0x400_0000 * indicator
+}
+
 /// A sequence number with its indicator bit above it.
-fn sequence_octet(number: u8, indicator: bool) -> u8
+fn sequence_octet(number: u16, indicator: bool) -> u8
     requires { number < 2 ^ 7 }
     ensures { result ≡ octet_of number indicator }
 {
-    if indicator { number + 128 } else { number }
+    (if indicator { number + 128 } else { number }) as u8
 }

@@ -1,5 +1,6 @@
 pub mod Heard
 pub mod Line
+pub mod Numbers
 pub mod Rules
 pub mod Runs
 pub mod Way

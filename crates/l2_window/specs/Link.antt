@@ -2,8 +2,9 @@
 -- control (Q.703 5 and 6).
 use Rattle.std.specs.Prelude.{◌≡◌, ℕ, ◌+◌, ◌≤◌, Bool, true, Option, None, List, [], ◌∷◌, ◌++◌, take, drop, length, slice_get, is_some, if◌then◌else◌}
 use Rattle.std.specs.Option.{option_to_list}
+use Rattle.l2_units.specs.Grammar.{IsHeadOf}
 use Rattle.l2_units.specs.declared.unit.Header.{Header}
-use Rattle.l2_window.specs.Window.{WindowState, Pushes, Sends, fsn_before_first}
+use Rattle.l2_window.specs.Window.{Profile, WindowState, Pushes, Sends, fsn_before_first}
 use Rattle.l2_window.specs.Control.{fsn_of, window_where}
 use Rattle.l2_window.specs.Line.{Carried}
 use Rattle.l2_window.specs.declared.control.Choice.{Choice}
@@ -12,12 +13,12 @@ use Rattle.l2_window.specs.declared.control.HeardPart.{HeardPart}
 
 -- THE RULES OF AN ERROR CONTROL, as functions of its state and of the link's window.
 pub record Rules (State : Type 0) : Type 0 where
-  -- the FSN last accepted
-  pub accepted : State → ℕ
+  -- the FSN that is expected, the one after that last accepted (Q.703 figure 14: FSNX)
+  pub expected : State → ℕ
   -- what is sent next, where the bodies of the unacknowledged messages have so many octets
   pub choice : ℕ → State → WindowState → Choice
   -- the header of a unit with this FSN
-  pub head : State → ℕ → Header
+  pub head : State → WindowState → ℕ → Header
   -- the state when that is sent
   pub after : Choice → ℕ → State → WindowState → State
   -- a heard unit that isn't processed is discarded whole
@@ -69,7 +70,7 @@ module _ {State : Type 0} (rules : Rules State) where
 
   abbrev pub unit_of : ℕ → End State → Carried
   unit_of octets end = record {
-    head = rules.head end.control (fsn_of (chosen octets end) end.window);
+    head = rules.head end.control end.window (fsn_of (chosen octets end) end.window);
     message = message_of (chosen octets end) end.window;
   }
 
@@ -140,23 +141,24 @@ module _ {State : Type 0} (rules : Rules State) where
         → Loses before unit after old new → Step old new
 
   -- an end at the beginning of its life, its control in this state
-  pub record Begins (start : State) (end : End State) : Type 0 where
+  pub record Begins (profile : Profile) (start : State) (end : End State) : Type 0 where
     pub control : end.control ≡ start
-    pub last : end.window.last ≡ fsn_before_first
+    pub profile_is : end.window.profile ≡ profile
+    pub last : end.window.last ≡ fsn_before_first profile
     pub unacked : end.window.unacked ≡ []
     pub sent : end.sent ≡ []
     pub took : end.took ≡ []
     pub acked : end.acked ≡ 0
 
-  pub data Run (near far : State) : World State → Type 0 where
-    begins : (world : World State) → Begins near world.near → Begins far world.far
-        → world.out ≡ [] → world.back ≡ [] → Run near far world
-    steps : (old new : World State) → Run near far old → Step old new → Run near far new
-    steps_far : (old new : World State) → Run near far old → Step (flip old) (flip new)
-        → Run near far new
+  pub data Run (profile : Profile) (near far : State) : World State → Type 0 where
+    begins : (world : World State) → Begins profile near world.near → Begins profile far world.far
+        → world.out ≡ [] → world.back ≡ [] → Run profile near far world
+    steps : (old new : World State) → Run profile near far old → Step old new → Run profile near far new
+    steps_far : (old new : World State) → Run profile near far old → Step (flip old) (flip new)
+        → Run profile near far new
 
   -- LAW, from near to far
-  pub record IsFaithful (world : World State) : Type 0 where
+  pub record IsFaithful (profile : Profile) (world : World State) : Type 0 where
     -- what was accepted is a prefix of what was first sent
     pub prefix : world.far.took ≡ take (length world.far.took) world.near.sent
     -- what counts as acknowledged was accepted
@@ -168,8 +170,11 @@ module _ {State : Type 0} (rules : Rules State) where
         → is_processed unit world.far ≡ true
     pub no_fault : (unit : Carried) (rest : List Carried) → world.out ≡ unit ∷ rest
         → (part_of unit world.far).fault ≡ None
+    pub profile_is : world.near.window.profile ≡ profile
+    -- and has numbers of the profile
+    pub fits : (unit : Carried) (rest : List Carried) → world.out ≡ unit ∷ rest → IsHeadOf profile unit.head
 
-  -- over all runs from these two states
+  -- in both profiles, over all runs from these two states
   abbrev pub OneLink : State → State → Type 0
-  OneLink near far = (world : World State) → Run near far world
-      → IsFaithful world × IsFaithful (flip world)
+  OneLink near far = (profile : Profile) (world : World State) → Run profile near far world
+      → IsFaithful profile world × IsFaithful profile (flip world)

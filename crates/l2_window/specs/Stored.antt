@@ -3,8 +3,8 @@ use Rattle.std.specs.Prelude.{◌≡◌, ◌<◌, ◌≤◌, length}
 use Rattle.l2_window.specs.declared.window.Window.TheInside.{Inside}
 use Rattle.l2_window.specs.Window.{fsn_count, most_unacked}
 
--- there is storage for 127 unacknowledged messages
+-- there is storage for all unacknowledged messages
 pub record IsStored (fields : Inside) : Type 0 where
-  pub last_in_range : fields.last < fsn_count
-  pub at_most_127 : length fields.unacked.items ≤ most_unacked
-  pub storage : fields.unacked.capacity ≡ most_unacked
+  pub last_in_range : fields.last < fsn_count fields.profile
+  pub few : length fields.unacked.items ≤ most_unacked fields.profile
+  pub storage : fields.unacked.capacity ≡ most_unacked fields.profile

@@ -5,10 +5,7 @@ ghost use Rattle.l2_window.specs.Window.{fsn_count};
 
 use super::window::Window;
 use l2_signals::ControlFault;
-use l2_units::Header;
-
-/// How many FSNs there are: they have seven bits (Q.703 2.2).
-pub(crate) const FSN_COUNT: u8 = 128;
+use l2_units::{Header, Profile};
 
 /// What an error control chooses to send next.
 #[derive(Clone, Copy, Debug, PartialEq, Eq)]
@@ -24,16 +21,17 @@ pub enum Choice {
 impl Choice {
     /// The FSN of what is sent: the message's own, or in a FISU that of the last message sent
     /// (Q.703 5.2.1).
-    pub fn fsn(self, window: &Window) -> u8
+    pub fn fsn(self, window: &Window) -> u16
         ensures value { result ≡ fsn_of self window.now }
-        ensures in_range { result < fsn_count }
+        ensures in_range { result < fsn_count window.now.profile }
     {
+        let profile = window.profile();
         let places = match self {
-            Choice::Again { place } => place % usize::from(FSN_COUNT) + 1,
+            Choice::Again { place } => usize::from(cycled(profile, place)) + 1,
             Choice::First => window.unacked_len() + 1,
             Choice::Fill => window.unacked_len(),
         };
-        number_after(window.last(), places)
+        number_after(profile, window.last(), places)
     }
 }
 
@@ -49,8 +47,8 @@ pub enum Sending {
 /// What a heard unit means to the end that hears it.
 #[derive(Clone, Copy, Debug, PartialEq, Eq)]
 pub struct HeardPart {
-    /// How many messages it acknowledged, at most 127.
-    pub acked: u8,
+    /// How many messages it acknowledged, at most 127 (wide: 4,095).
+    pub acked: u16,
     /// Whether its message is accepted.
     pub accept: bool,
     /// Whether it makes this end ask for retransmission.
@@ -61,12 +59,34 @@ pub struct HeardPart {
     pub fault: Option<ControlFault>,
 }
 
-/// The sequence number so many places after this one, cyclically from 0 to 127.
-pub fn number_after(number: u8, places: usize) -> u8
-    requires number { number < fsn_count }
-    requires places { places ≤ fsn_count }
-    ensures value { result ≡ (number + places) % fsn_count }
-    ensures in_range { result < fsn_count }
+/// The sequence number so many places after this one, cyclically.
+pub fn number_after(profile: Profile, number: u16, places: usize) -> u16
+    requires number { number < fsn_count profile }
+    requires places { places ≤ fsn_count profile }
+    ensures value { result ≡ (number + places) % fsn_count profile }
+    ensures in_range { result < fsn_count profile }
 {
-    ((usize::from(number) + places) % usize::from(FSN_COUNT)) as u8
+    cycled(profile, usize::from(number) + places)
+}
+
+/// This number of the cycle: modulo 128, or modulo 4,096.
+pub(crate) fn cycled(profile: Profile, number: usize) -> u16
+    ensures value { result ≡ number % fsn_count profile }
+    ensures in_range { result < fsn_count profile }
+{
+    match profile {
+        Profile::Narrow => (number % 128) as u16,
+        Profile::Wide => (number % 4096) as u16,
+    }
+}
+
+/// The same of a number of 16 bits.
+pub(crate) fn in_cycle(profile: Profile, number: u16) -> u16
+    ensures value { result ≡ number % fsn_count profile }
+    ensures in_range { result < fsn_count profile }
+{
+    match profile {
+        Profile::Narrow => number % 128,
+        Profile::Wide => number % 4096,
+    }
 }

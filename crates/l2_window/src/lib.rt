@@ -37,6 +37,7 @@ mod window;
 pub use control::{Choice, HeardPart, Sending, number_after};
 pub use fault::WindowFault;
 pub use l2_signals::ControlFault;
+pub use l2_units::Profile;
 pub use law::{numbers_never_mislead, numbers_tell_places};
 pub use queue::Queue;
-pub use window::{MOST_UNACKED, NoMemory, Window};
+pub use window::{NoMemory, Window};

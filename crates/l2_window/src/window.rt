@@ -1,16 +1,11 @@
 //! The window: what was sent and isn't acknowledged, and what waits to be sent.
-use super::control::{FSN_COUNT, number_after};
+use super::control::{in_cycle, number_after};
 use super::fault::WindowFault;
 use super::queue::Queue;
 use circular_buffer::HeapCircularBuffer;
+use l2_units::Profile;
 use std::alloc::{AllocError, Global};
 use std::marker::Model;
-
-/// The most messages that may be unacknowledged: one less than there are FSNs (Q.703 5.2.2).
-pub const MOST_UNACKED: usize = 127;
-
-/// The FSN that counts as acknowledged at the start, so that the first message has FSN 0.
-const BEFORE_FIRST: u8 = 127;
 
 /// Memory was refused.
 pub type NoMemory = AllocError;
@@ -21,7 +16,8 @@ pub type NoMemory = AllocError;
 /// ones, and a room: so many pushes can't fail. After a refusal the window is unchanged.
 #[derive(Debug, Drop)]
 pub struct Window {
-    last: u8,
+    profile: Profile,
+    last: u16,
     unacked: HeapCircularBuffer<u64>,
     unsent: Queue,
 }
@@ -32,6 +28,7 @@ impl Model for Window {
     ghost Value = { WindowState };
 
     ghost view = { λ w. record {
+      profile = w.profile;
       last = w.last;
       unacked = w.unacked.items;
       unsent = w.unsent.messages;
@@ -47,31 +44,72 @@ impl Window {
     ghost use Rattle.std.specs.Prelude.{◌≡◌, ◌≢◌, ◌↔◌, ◌-◌, ◌<◌, ◌≤◌, ◌++◌, [], length, drop, slice_get, IsOk, IfOk, OnOk, OnErr, IfSome, IsNone, MatchOption};
     ghost use Rattle.std.specs.Option.{SomeIff};
     ghost use Rattle.std.specs.Result.{OkIff};
-    ghost use Rattle.l2_window.specs.Control.{has_new};
+    ghost use Rattle.l2_window.specs.Control.{has_new, bsn_of, fsn_after};
     ghost use Rattle.l2_window.specs.Window.{IsWindow, IsEmpty, IsReasonable, SameMessages, Pushes, Sends, Pops};
-    ghost use Rattle.l2_window.specs.Window.{fsn_at, distance_to, fsn_count, most_unacked, fsn_before_first};
+    ghost use Rattle.l2_window.specs.Window.{Narrow, Wide, fsn_at, distance_to, fsn_count, most_unacked, fsn_before_first};
 
     /// A window with no messages. It takes the storage of all unacknowledged messages, so that
     /// [`Window::send`] takes none.
     pub fn new(alloc: Global) -> Result<Window, NoMemory>
-        ensures { IfOk result IsEmpty }
+        ensures { IfOk result (IsEmpty Narrow) }
     {
+        Window::of(alloc, Profile::Narrow)
+    }
+
+    /// A window with no messages whose numbers count from 0 to 4,095 (own).
+    pub fn new_wide(alloc: Global) -> Result<Window, NoMemory>
+        ensures { IfOk result (IsEmpty Wide) }
+    {
+        Window::of(alloc, Profile::Wide)
+    }
+
+    /// A window with no messages, of this profile.
+    pub fn of(alloc: Global, profile: Profile) -> Result<Window, NoMemory>
+        ensures { IfOk result (IsEmpty profile) }
+    {
+        let most = profile.most_unacked();
         Ok(Window {
-            last: BEFORE_FIRST,
-            unacked: HeapCircularBuffer::with_capacity(alloc, MOST_UNACKED)?,
+            profile,
+            last: most,
+            unacked: HeapCircularBuffer::with_capacity(alloc, usize::from(most))?,
             unsent: Queue::new(alloc)?,
         })
     }
 
-    /// The FSN last acknowledged, 0 to 127; 127 at the start.
-    pub fn last(&self) -> u8
+    /// The profile: how many numbers there are.
+    pub fn profile(&self) -> Profile
+        ensures { result ≡ self.now.profile }
+    {
+        self.profile
+    }
+
+    /// The FSN last acknowledged, 0 to 127 (wide: 4,095); the greatest at the start.
+    pub fn last(&self) -> u16
         ensures value { result ≡ self.now.last }
         ensures sound { IsWindow self.now }
     {
         self.last
     }
 
-    /// How many messages are unacknowledged, at most 127.
+    /// The number after this one, cyclically.
+    pub fn number_after(&self, number: u16) -> u16
+        requires { number < 4096 }
+        ensures value { result ≡ fsn_after number self.now }
+        ensures in_range { result < fsn_count self.now.profile }
+    {
+        in_cycle(self.profile, number + 1)
+    }
+
+    /// The number before this one, cyclically.
+    pub fn number_before(&self, number: u16) -> u16
+        requires { number < 4096 }
+        ensures value { result ≡ bsn_of number self.now }
+        ensures in_range { result < fsn_count self.now.profile }
+    {
+        in_cycle(self.profile, number + self.profile.most_unacked())
+    }
+
+    /// How many messages are unacknowledged, at most 127 (wide: 4,095).
     pub fn unacked_len(&self) -> usize
         ensures value { result ≡ length self.now.unacked }
         ensures sound { IsWindow self.now }
@@ -105,7 +143,7 @@ impl Window {
     pub fn has_new(&self) -> bool
         ensures { result ≡ has_new self.now }
     {
-        !self.unsent.is_empty() && self.unacked.len() < MOST_UNACKED
+        !self.unsent.is_empty() && self.unacked.len() < usize::from(self.profile.most_unacked())
     }
 
     /// Makes room for `pushes` more pushes, which then can't fail. The messages stay as they are.
@@ -132,34 +170,34 @@ impl Window {
     ///
     /// Refusals, in this order: 1 [`WindowFault::Empty`] with nothing unsent, 2
     /// [`WindowFault::Full`] with 127 unacknowledged.
-    pub fn send(&mut self) -> Result<(u64, u8), WindowFault>
+    pub fn send(&mut self) -> Result<(u64, u16), WindowFault>
         ensures empty { (result ≡ Err WindowFault.Empty) ↔ (self.old.unsent ≡ []) }
         ensures full { (result ≡ Err WindowFault.Full)
-            ↔ ((self.old.unsent ≢ []) × (most_unacked ≤ length self.old.unacked)) }
-        ensures succeeds { self.old.unsent ≢ [] → length self.old.unacked < most_unacked → IsOk result }
+            ↔ ((self.old.unsent ≢ []) × (most_unacked self.old.profile ≤ length self.old.unacked)) }
+        ensures succeeds { self.old.unsent ≢ [] → length self.old.unacked < most_unacked self.old.profile → IsOk result }
         ensures sent { IfOk result (λ sent. Sends sent.0 self.old self.new) }
         ensures fsn { IfOk result (λ sent. sent.1 ≡ fsn_at self.old (length self.old.unacked)) }
         ensures err { OnErr result (self.new ≡ self.old) }
     {
         let place = self.unacked.len();
-        if place >= MOST_UNACKED && !self.unsent.is_empty() {
+        if place >= usize::from(self.profile.most_unacked()) && !self.unsent.is_empty() {
             return Err(WindowFault::Full);
         }
         let message = self.unsent.pop().ok_or(WindowFault::Empty)?;
         match self.unacked.try_push_back(message) {
-            Ok(()) => Ok((message, number_after(self.last, place + 1))),
+            Ok(()) => Ok((message, number_after(self.profile, self.last, place + 1))),
             Err(_) => unreachable!(),
         }
     }
 
     /// How many messages an acknowledgement of this number acknowledges, or nothing where the
     /// number is unreasonable: neither that last acknowledged nor that of an unacknowledged message.
-    pub fn distance(&self, number: u8) -> Option<u8>
-        requires { number < fsn_count }
+    pub fn distance(&self, number: u16) -> Option<u16>
+        requires { number < fsn_count self.now.profile }
         ensures value { SomeIff result (IsReasonable self.now number) (distance_to self.now number) }
         ensures sound { IsWindow self.now }
     {
-        let distance = (number + FSN_COUNT - self.last) % FSN_COUNT;
+        let distance = in_cycle(self.profile, number + self.profile.fsn_count() - self.last);
         (usize::from(distance) <= self.unacked.len()).then_some(distance)
     }
 
@@ -167,8 +205,8 @@ impl Window {
     /// last acknowledged.
     ///
     /// Refusal: 3 [`WindowFault::Unreasonable`].
-    pub fn ack(&mut self, number: u8) -> Result<u8, WindowFault>
-        requires { number < fsn_count }
+    pub fn ack(&mut self, number: u16) -> Result<u16, WindowFault>
+        requires { number < fsn_count self.old.profile }
         ensures acked { OkIff result (IsReasonable self.old number) (distance_to self.old number) }
         ensures ok { OnOk result (self.new ≡ record self.old {
           last = number;
@@ -207,6 +245,7 @@ impl Window {
 
     /// The unsent messages leave the window: what becomes of them is the caller's to know.
     pub fn clear_unsent(&mut self)
+        ensures profile { self.new.profile ≡ self.old.profile }
         ensures last { self.new.last ≡ self.old.last }
         ensures unacked { self.new.unacked ≡ self.old.unacked }
         ensures unsent { self.new.unsent ≡ [] }
@@ -219,15 +258,15 @@ impl Window {
     pub fn reset(&mut self)
         requires unacked { self.old.unacked ≡ [] }
         requires unsent { self.old.unsent ≡ [] }
-        ensures { self.new ≡ record self.old { last = fsn_before_first } }
+        ensures { self.new ≡ record self.old { last = fsn_before_first self.old.profile } }
     {
-        self.last = BEFORE_FIRST;
+        self.last = self.profile.most_unacked();
     }
 
     /// The two rings themselves, that of the unacknowledged messages first.
     pub fn into_rings(self) -> (HeapCircularBuffer<u64>, HeapCircularBuffer<u64>)
         ensures unacked { result.0.items ≡ self.unacked }
-        ensures capacity { result.0.capacity ≡ most_unacked }
+        ensures capacity { result.0.capacity ≡ most_unacked self.profile }
         ensures unsent { result.1.items ≡ self.unsent }
         ensures room { result.1.capacity - length result.1.items ≡ self.room }
     {

@@ -1,6 +1,8 @@
 -- Which bodies are refused as an order, and why.
 use Rattle.std.specs.Prelude.{ℕ, Bool, ◌%◌, ◌==◌, ◌||◌, not, nat_lt, Option, Some, None, List, length, slice_index, drop, if◌then◌else◌}
-use Rattle.l3_orders.specs.Grammar.{heading}
+use Rattle.l2_units.specs.declared.profile.Profile.{Profile}
+use Rattle.l2_units.specs.declared.profile.Profile.TheVariants.{Narrow, Wide}
+use Rattle.l3_orders.specs.Grammar.{heading, is_numbered}
 use Rattle.l3_orders.specs.declared.reading.OrderFault.{OrderFault}
 use Rattle.l3_orders.specs.declared.reading.OrderFault.TheVariants.{NotManagement, Unknown, Length}
 
@@ -21,15 +23,23 @@ is_heading code =
     || is_emergency code
 
 -- a heading code with these octets after it is refused: it is none of the six, or has another length
-abbrev pub refusal_with : ℕ → List ℕ → Option OrderFault
-refusal_with code content =
+abbrev pub number_octets : Profile → ℕ
+number_octets Narrow = 1
+number_octets Wide = 2
+
+abbrev pub content_octets : Profile → ℕ → ℕ
+content_octets profile code =
+    if is_emergency code then 0 else (if is_numbered code then number_octets profile else 1)
+
+abbrev pub refusal_with : Profile → ℕ → List ℕ → Option OrderFault
+refusal_with profile code content =
     if not (is_heading code) then Some Unknown
-    else (if not (length content == (if is_emergency code then 0 else 1)) then Some Length
+    else (if not (length content == content_octets profile code) then Some Length
     else None)
 
 -- the first refusal that holds, in the order of their numbers
-abbrev pub refusal_of : List ℕ → Option OrderFault
-refusal_of octets =
+abbrev pub refusal_of : Profile → List ℕ → Option OrderFault
+refusal_of profile octets =
     if (length octets == 0) || not (slice_index octets 0 % 16 == 0) then Some NotManagement
     else (if nat_lt (length octets) 6 then Some Unknown
-    else refusal_with (slice_index octets 5) (drop 6 octets))
+    else refusal_with profile (slice_index octets 5) (drop 6 octets))

@@ -1,5 +1,9 @@
 -- The grammar of changeover and changeback orders (Q.704 15.2 to 15.6): which bodies stand for which order.
-use Rattle.std.specs.Prelude.{◌≡◌, ◌↔◌, ℕ, ◌+◌, ◌*◌, ◌/◌, ◌%◌, ◌^◌, ◌==◌, ◌<◌, Option, Some, None, List, [], ◌∷◌, ◌++◌, All, if◌then◌else◌}
+use Rattle.std.specs.Prelude.{◌≡◌, ◌↔◌, ℕ, Bool, ◌||◌, ◌+◌, ◌*◌, ◌/◌, ◌%◌, ◌^◌, ◌==◌, ◌<◌, Option, Some, None, List, [], ◌∷◌, ◌++◌, All, if◌then◌else◌}
+use Rattle.l2_units.specs.declared.profile.Profile.{Profile}
+use Rattle.l2_units.specs.declared.profile.Profile.TheVariants.{Narrow, Wide}
+use Rattle.l2_units.specs.Profile.{fsn_count}
+use Rattle.l2_units.specs.Grammar.{four_octets}
 use Rattle.l3_orders.specs.declared.order.Order.{Order}
 use Rattle.l3_orders.specs.declared.order.Order.TheVariants.{Coo, Coa, Cbd, Cba, Eco, Eca}
 
@@ -8,10 +12,6 @@ use Rattle.l3_orders.specs.declared.order.Order.TheVariants.{Coo, Coa, Cbd, Cba,
 -- DPC in 14 bits, OPC in 14 bits, SLC in 4 bits, least significant first
 abbrev pub label_number : ℕ → ℕ → ℕ → ℕ
 label_number dpc opc slc = dpc + 0x4000 * opc + 0x10000000 * slc
-
--- a number of 32 bits in four octets, least significant first
-abbrev pub four_octets : ℕ → List ℕ
-four_octets n = n % 256 ∷ n / 0x100 % 256 ∷ n / 0x10000 % 256 ∷ n / 0x1000000 % 256 ∷ []
 
 abbrev pub label : ℕ → ℕ → ℕ → List ℕ
 label dpc opc slc = four_octets (label_number dpc opc slc)
@@ -41,23 +41,34 @@ link_of (Cba link code) = link
 link_of (Eco link) = link
 link_of (Eca link) = link
 
--- the octets after the heading code, with this spare bit above an FSN (Q.704 15.4 to 15.6)
-abbrev pub content_with : ℕ → Order → List ℕ
-content_with spare (Coo link number) = (number + 128 * spare) ∷ []
-content_with spare (Coa link number) = (number + 128 * spare) ∷ []
-content_with spare (Cbd link code) = code ∷ []
-content_with spare (Cba link code) = code ∷ []
-content_with spare (Eco link) = []
-content_with spare (Eca link) = []
+-- NARROW: an FSN in 7 bits with a spare bit above it (Q.704 15.4). WIDE (own): in 12 bits with four spare bits above
+-- it, in two octets, least significant first.
+abbrev pub number_with : Profile → ℕ → ℕ → List ℕ
+number_with Narrow spare number = (number + 128 * spare) ∷ []
+number_with Wide spare number = (number + 4096 * spare) % 256 ∷ (number + 4096 * spare) / 256 ∷ []
+
+-- the spare bits have so many values
+abbrev pub spares : Profile → ℕ
+spares Narrow = 2
+spares Wide = 16
+
+-- the octets after the heading code, with these spare bits above an FSN (Q.704 15.4 to 15.6)
+abbrev pub content_with : Profile → ℕ → Order → List ℕ
+content_with profile spare (Coo link number) = number_with profile spare number
+content_with profile spare (Coa link number) = number_with profile spare number
+content_with profile spare (Cbd link code) = code ∷ []
+content_with profile spare (Cba link code) = code ∷ []
+content_with profile spare (Eco link) = []
+content_with profile spare (Eca link) = []
 
 -- every field fits its bits
-abbrev pub IsOrder : Order → Type 0
-IsOrder (Coo link number) = (link < 16) × (number < 128)
-IsOrder (Coa link number) = (link < 16) × (number < 128)
-IsOrder (Cbd link code) = (link < 16) × (code < 256)
-IsOrder (Cba link code) = (link < 16) × (code < 256)
-IsOrder (Eco link) = link < 16
-IsOrder (Eca link) = link < 16
+abbrev pub IsOrder : Profile → Order → Type 0
+IsOrder profile (Coo link number) = (link < 16) × (number < fsn_count profile)
+IsOrder profile (Coa link number) = (link < 16) × (number < fsn_count profile)
+IsOrder profile (Cbd link code) = (link < 16) × (code < 256)
+IsOrder profile (Cba link code) = (link < 16) × (code < 256)
+IsOrder profile (Eco link) = link < 16
+IsOrder profile (Eca link) = link < 16
 
 -- what stands round an order: an SIO with service indicator 0, and two point codes
 pub record IsEnvelope (sio dpc opc : ℕ) : Type 0 where
@@ -66,57 +77,83 @@ pub record IsEnvelope (sio dpc opc : ℕ) : Type 0 where
   pub to : dpc < 2 ^ 14
   pub from : opc < 2 ^ 14
 
--- the body of an order with this spare bit
-abbrev pub text_with : ℕ → Order → ℕ → ℕ → ℕ → List ℕ
-text_with spare order sio dpc opc =
-    sio ∷ label dpc opc (link_of order) ++ heading_of order ∷ content_with spare order
+-- the body of an order with these spare bits
+abbrev pub text_with : Profile → ℕ → Order → ℕ → ℕ → ℕ → List ℕ
+text_with profile spare order sio dpc opc =
+    sio ∷ label dpc opc (link_of order) ++ heading_of order ∷ content_with profile spare order
 
--- an order as it is sent: spare bit 0
-abbrev pub text : Order → ℕ → ℕ → ℕ → List ℕ
-text order sio dpc opc = text_with 0 order sio dpc opc
+-- an order as it is sent: spare bits 0
+abbrev pub text : Profile → Order → ℕ → ℕ → ℕ → List ℕ
+text profile order sio dpc opc = text_with profile 0 order sio dpc opc
 
--- THE GRAMMAR: a body stands for an order if it is its text with some envelope and some spare bit
-pub record StandsFor (octets : List ℕ) (order : Order) : Type 0 where
+-- THE GRAMMAR: a body stands for an order if it is its text with some envelope and some spare bits
+pub record StandsFor (profile : Profile) (octets : List ℕ) (order : Order) : Type 0 where
   pub sio : ℕ
   pub dpc : ℕ
   pub opc : ℕ
   pub spare : ℕ
-  pub fits : IsOrder order
+  pub fits : IsOrder profile order
   pub envelope : IsEnvelope sio dpc opc
-  pub one_bit : spare < 2
-  pub is : octets ≡ text_with spare order sio dpc opc
+  pub in_range : spare < spares profile
+  pub is : octets ≡ text_with profile spare order sio dpc opc
 
 -- The grammar read from the left: which order a body stands for, if any.
 
--- the order about this link with this heading code and these octets after it
-abbrev pub order_with : ℕ → ℕ → List ℕ → Option Order
-order_with link code [] =
+-- the order about this link with this heading code and without an octet after it
+abbrev pub bare_order : ℕ → ℕ → Option Order
+bare_order link code =
     if code == heading 2 1 then Some (Eco link)
     else (if code == heading 2 2 then Some (Eca link) else None)
-order_with link code (field ∷ []) =
-    if code == heading 1 1 then Some (Coo link (field % 128))
-    else (if code == heading 1 2 then Some (Coa link (field % 128))
-    else (if code == heading 1 5 then Some (Cbd link field)
-    else (if code == heading 1 6 then Some (Cba link field) else None)))
-order_with link code (field ∷ more ∷ rest) = None
 
-abbrev pub order_of : List ℕ → Option Order
-order_of (sio ∷ a ∷ b ∷ c ∷ slc ∷ code ∷ content) = if sio % 16 == 0 then order_with (slc / 16) code content else None
-order_of (sio ∷ a ∷ b ∷ c ∷ slc ∷ []) = None
-order_of (sio ∷ a ∷ b ∷ c ∷ []) = None
-order_of (sio ∷ a ∷ b ∷ []) = None
-order_of (sio ∷ a ∷ []) = None
-order_of (sio ∷ []) = None
-order_of [] = None
+-- and with this FSN or code after it
+abbrev pub numbered_order : ℕ → ℕ → ℕ → Option Order
+numbered_order link code number =
+    if code == heading 1 1 then Some (Coo link number)
+    else (if code == heading 1 2 then Some (Coa link number) else None)
+
+abbrev pub coded_order : ℕ → ℕ → ℕ → Option Order
+coded_order link code field =
+    if code == heading 1 5 then Some (Cbd link field)
+    else (if code == heading 1 6 then Some (Cba link field) else None)
+
+abbrev pub is_numbered : ℕ → Bool
+is_numbered code = (code == heading 1 1) || (code == heading 1 2)
+
+abbrev pub order_with : Profile → ℕ → ℕ → List ℕ → Option Order
+order_with profile link code [] = bare_order link code
+order_with Narrow link code (field ∷ []) =
+    if is_numbered code then numbered_order link code (field % 128) else coded_order link code field
+order_with Wide link code (field ∷ []) = coded_order link code field
+order_with Wide link code (low ∷ high ∷ []) = numbered_order link code ((low + 256 * high) % 4096)
+order_with Narrow link code (low ∷ high ∷ []) = None
+order_with profile link code (low ∷ high ∷ more ∷ rest) = None
+
+abbrev pub order_of : Profile → List ℕ → Option Order
+order_of profile (sio ∷ a ∷ b ∷ c ∷ slc ∷ code ∷ content) =
+    if sio % 16 == 0 then order_with profile (slc / 16) code content else None
+order_of profile (sio ∷ a ∷ b ∷ c ∷ slc ∷ []) = None
+order_of profile (sio ∷ a ∷ b ∷ c ∷ []) = None
+order_of profile (sio ∷ a ∷ b ∷ []) = None
+order_of profile (sio ∷ a ∷ []) = None
+order_of profile (sio ∷ []) = None
+order_of profile [] = None
+
+-- THE ORDER THAT A BODY IS, whichever the profile: a COO has 7 octets or 8, never both, and the others are alike
+abbrev pub first_of : Option Order → Option Order → Option Order
+first_of (Some order) other = Some order
+first_of None other = other
+
+abbrev pub order_any : List ℕ → Option Order
+order_any octets = first_of (order_of Narrow octets) (order_of Wide octets)
 
 -- LAW: read from the left or as a relation, the grammar says the same of whole octets
 abbrev pub IsOneGrammar : Type 0
 IsOneGrammar =
-    (octets : List ℕ) (order : Order) → All (λ octet. octet < 256) octets
-    → (order_of octets ≡ Some order) ↔ StandsFor octets order
+    (profile : Profile) (octets : List ℕ) (order : Order) → All (λ octet. octet < 256) octets
+    → (order_of profile octets ≡ Some order) ↔ StandsFor profile octets order
 
 -- the text of an order stands for it, and for no other
-pub record IsTheTextOf (order : Order) (sio dpc opc : ℕ) : Type 0 where
-  pub stands : StandsFor (text order sio dpc opc) order
-  pub alone : (other : Order) → StandsFor (text order sio dpc opc) other → other ≡ order
-  pub again : order_of (text order sio dpc opc) ≡ Some order
+pub record IsTheTextOf (profile : Profile) (order : Order) (sio dpc opc : ℕ) : Type 0 where
+  pub stands : StandsFor profile (text profile order sio dpc opc) order
+  pub alone : (other : Order) → StandsFor profile (text profile order sio dpc opc) other → other ≡ order
+  pub again : order_of profile (text profile order sio dpc opc) ≡ Some order

@@ -41,5 +41,5 @@ mod writing;
 
 pub use grammar::{one_grammar, one_text};
 pub use order::Order;
-pub use reading::{OrderFault, read_order};
-pub use writing::write_order;
+pub use reading::{OrderFault, read_order, read_order_wide};
+pub use writing::{write_order, write_order_wide};

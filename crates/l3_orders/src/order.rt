@@ -3,10 +3,10 @@
 /// An order about one link of the set. The SLC of its label names the link, 0 to 15.
 #[derive(Clone, Copy, Debug, Drop, PartialEq, Eq)]
 pub enum Order {
-    /// Changeover order: the link is left; up to this FSN, 0 to 127, its messages were accepted.
-    Coo { link: u8, number: u8 },
-    /// Changeover acknowledgement, with the FSN last accepted at that end, 0 to 127.
-    Coa { link: u8, number: u8 },
+    /// Changeover order: the link is left; up to this FSN, 0 to 127 (wide: 4,095), its messages were accepted.
+    Coo { link: u8, number: u16 },
+    /// Changeover acknowledgement, with the FSN last accepted at that end, 0 to 127 (wide: 4,095).
+    Coa { link: u8, number: u16 },
     /// Changeback declaration: no more messages follow on the alternative that this code names.
     Cbd { link: u8, code: u8 },
     /// Changeback acknowledgement, with the code of its declaration.

@@ -1,5 +1,7 @@
 //! An order to a body.
-ghost use Rattle.std.specs.Prelude.{◌≡◌, ◌<◌, ◌+◌, ◌*◌, ◌^◌};
+ghost use Rattle.std.specs.Prelude.{◌≡◌, ◌<◌, ◌≤◌, ◌+◌, ◌*◌, ◌^◌, ◌∷◌, ◌++◌, length};
+ghost use Rattle.l2_units.specs.Grammar.{four_octets};
+ghost use Rattle.l2_units.specs.declared.profile.Profile.TheVariants.{Narrow, Wide};
 ghost use Rattle.l3_orders.specs.Grammar.{IsEnvelope, IsOrder, text, label_number};
 
 use super::order::{CBA, CBD, COA, COO, ECA, ECO, Order};
@@ -11,30 +13,66 @@ use arrayvec::ArrayVec;
 /// Conditions: a link below 16, a number below 128, a service indicator 0 in `sio`, and point codes
 /// of at most 16,383.
 pub fn write_order(order: &Order, sio: u8, dpc: u16, opc: u16) -> ArrayVec<u8, 273>
-    requires order { IsOrder order.now }
+    requires order { IsOrder Narrow order.now }
     requires envelope { IsEnvelope sio dpc opc }
-    ensures { result.items ≡ text order.now sio dpc opc }
+    ensures { result.items ≡ text Narrow order.now sio dpc opc }
 {
-    // Q.704 15.3 to 15.6: H1 stands above H0.
-    let (link, heading, field) = match *order {
-        Order::Coo { link, number } => (link, COO, Some(number)),
-        Order::Coa { link, number } => (link, COA, Some(number)),
-        Order::Cbd { link, code } => (link, CBD, Some(code)),
-        Order::Cba { link, code } => (link, CBA, Some(code)),
-        Order::Eco { link } => (link, ECO, None),
-        Order::Eca { link } => (link, ECA, None),
-    };
+    match *order {
+        Order::Coo { link, number } => body_of(sio, label(dpc, opc, link), COO, &[number as u8]),
+        Order::Coa { link, number } => body_of(sio, label(dpc, opc, link), COA, &[number as u8]),
+        Order::Cbd { link, code } => body_of(sio, label(dpc, opc, link), CBD, &[code]),
+        Order::Cba { link, code } => body_of(sio, label(dpc, opc, link), CBA, &[code]),
+        Order::Eco { link } => body_of(sio, label(dpc, opc, link), ECO, &[]),
+        Order::Eca { link } => body_of(sio, label(dpc, opc, link), ECA, &[]),
+    }
+}
+
+/// The same in the wide profile: the number of a COO or COA has two octets, and is below 4,096.
+pub fn write_order_wide(order: &Order, sio: u8, dpc: u16, opc: u16) -> ArrayVec<u8, 273>
+    requires order { IsOrder Wide order.now }
+    requires envelope { IsEnvelope sio dpc opc }
+    ensures { result.items ≡ text Wide order.now sio dpc opc }
+{
+    match *order {
+        Order::Coo { link, number } => {
+            body_of(
+                sio,
+                label(dpc, opc, link),
+                COO,
+                &[(number % 256) as u8, (number / 256) as u8],
+            )
+        }
+        Order::Coa { link, number } => {
+            body_of(
+                sio,
+                label(dpc, opc, link),
+                COA,
+                &[(number % 256) as u8, (number / 256) as u8],
+            )
+        }
+        Order::Cbd { link, code } => body_of(sio, label(dpc, opc, link), CBD, &[code]),
+        Order::Cba { link, code } => body_of(sio, label(dpc, opc, link), CBA, &[code]),
+        Order::Eco { link } => body_of(sio, label(dpc, opc, link), ECO, &[]),
+        Order::Eca { link } => body_of(sio, label(dpc, opc, link), ECA, &[]),
+    }
+}
+
+/// SIO, label, heading code and what the order carries.
+fn body_of(sio: u8, label: u32, heading: u8, content: &[u8]) -> ArrayVec<u8, 273>
+    requires { length content.now ≤ 2 }
+    ensures { result.items ≡ sio ∷ four_octets label ++ heading ∷ content.now }
+{
     let mut body = ArrayVec::new();
     body.push(sio);
-    match body.try_extend_from_slice(&label(dpc, opc, link).to_le_bytes()) {
+    match body.try_extend_from_slice(&label.to_le_bytes()) {
         Ok(()) => {}
         Err(_) => unreachable!(),
     }
     body.push(heading);
-    if let Some(field) = field {
-        body.push(field);
+    match body.try_extend_from_slice(content) {
+        Ok(()) => body,
+        Err(_) => unreachable!(),
     }
-    body
 }
 
 /// The label as a number: DPC in 14 bits, OPC in 14 bits, SLC in 4 bits (Q.704 15.2).

@@ -1,9 +1,9 @@
 //! Situations on one link, worked out by hand from Q.703 6. Units are written as their octets.
-use super::bench::{filled, head_of, is_head};
+use super::bench::{ack, filled_in, has_numbers, head_of, is_head, number_of};
 use super::holds;
 use l2_pcr::*;
 use l2_units::Header;
-use l2_window::{Choice, ControlFault, HeardPart, Window};
+use l2_window::{Choice, ControlFault, HeardPart, Profile, Window};
 use std::alloc::{AllocError, Global};
 use std::test::Fail;
 
@@ -14,19 +14,39 @@ struct End {
     control: Pcr,
 }
 
-fn end_with(alloc: Global, messages: u64, n1: u8, n2: u32) -> Result<End, AllocError> {
+/// A unit that has no numbers of this window tells nothing.
+const NOT_HEARD: HeardPart = HeardPart {
+    acked: 0,
+    accept: false,
+    resend: false,
+    asked: false,
+    fault: None,
+};
+
+fn end_with(alloc: Global, messages: u64, n1: u16, n2: u32) -> Result<End, AllocError> {
     Ok(End {
-        window: filled(alloc, messages)?,
+        window: filled_in(alloc, Profile::Narrow, messages)?,
         control: Pcr::new(n1, n2),
+    })
+}
+
+/// An end of the wide profile, with limits that aren't met.
+fn wide_end(alloc: Global, messages: u64) -> Result<End, AllocError> {
+    Ok(End {
+        window: filled_in(alloc, Profile::Wide, messages)?,
+        control: Pcr::new(4_095, 1_113_840),
     })
 }
 
 impl End {
     /// What the heard unit means. All tests ask through here, so that the prover meets the contract once.
     fn hears(&mut self, head: Header, is_msu: bool) -> HeardPart {
+        if !has_numbers(&self.window, head) {
+            return NOT_HEARD;
+        }
         let part = self.control.hear(&self.window, head, is_msu);
         if part.acked > 0 {
-            let _ = self.window.ack(head.bsn);
+            let _ = ack(&mut self.window, head.bsn);
         }
         part
     }
@@ -44,14 +64,14 @@ impl End {
         (head, message)
     }
 
-    fn sends_message(&mut self, message: u64, fsn: u8) -> Option<Header> {
+    fn sends_message(&mut self, message: u64, fsn: u16) -> Option<Header> {
         match self.sends() {
             (head, Some(number)) if number == message && head.fsn == fsn => Some(head),
             _ => None,
         }
     }
 
-    fn sends_fill(&mut self, fsn: u8) -> Option<Header> {
+    fn sends_fill(&mut self, fsn: u16) -> Option<Header> {
         match self.sends() {
             (head, None) if head.fsn == fsn => Some(head),
             _ => None,
@@ -59,7 +79,7 @@ impl End {
     }
 
     /// Sends these messages, whose numbers on the line are theirs.
-    fn sends_all(&mut self, messages: &[u8]) -> bool {
+    fn sends_all(&mut self, messages: &[u16]) -> bool {
         for fsn in messages {
             if self.sends_message(u64::from(*fsn), *fsn).is_none() {
                 return false;
@@ -75,7 +95,7 @@ impl End {
     }
 
     /// A FISU of these two octets acknowledges so many.
-    fn hears_of(&mut self, acked: u8, backward: u8, forward: u8) -> bool {
+    fn hears_of(&mut self, acked: u16, backward: u8, forward: u8) -> bool {
         match self.hears_fill(backward, forward) {
             Some(part) => part.acked == acked,
             None => false,
@@ -157,7 +177,7 @@ fn takes_both(far: &mut End, first: Header, second: Header) -> bool {
 
 fn acknowledges_both(far: &mut End) -> bool {
     match far.sends_fill(127) {
-        Some(head) => far.control.accepted() == 1 && is_head(head, 0x81, 0xFF),
+        Some(head) => far.control.expected() == 2 && is_head(head, 0x81, 0xFF),
         None => false,
     }
 }
@@ -178,24 +198,39 @@ fn has_abnormal_bsns(end: &mut End) -> bool {
 fn numbers_go_round_twice(rt: HostRuntime) -> Result<(), Fail> {
     let mut near = end_with(rt.alloc(), 300, 127, 1000)?;
     let mut far = end_with(rt.alloc(), 0, 127, 1000)?;
-    holds(go_round(&mut near, &mut far))
+    holds(go_round(&mut near, &mut far, 300, 127) && rests_at(&mut near, 43))
 }
 
-fn go_round(near: &mut End, far: &mut End) -> bool {
-    for message in 0..300u64 {
-        if !is_answered(near, far, message) {
+/// 5,000 messages one after another in the wide profile: numbers go round once.
+#[test]
+fn wide_numbers_go_round(rt: HostRuntime) -> Result<(), Fail> {
+    let mut near = wide_end(rt.alloc(), 5_000)?;
+    let mut far = wide_end(rt.alloc(), 0)?;
+    holds(go_round(&mut near, &mut far, 5_000, 4_095) && rests_at(&mut near, 903))
+}
+
+/// So many messages go, each with its acknowledgement; the far end sends none, so its FISUs have the FSN before the first.
+fn go_round(near: &mut End, far: &mut End, messages: u64, none_sent: u16) -> bool {
+    for message in 0..messages {
+        if !is_answered(near, far, message, none_sent) {
             return false;
         }
     }
-    near.window.last() == 43 && near.sends_fill(43).is_some()
+    true
 }
 
-fn is_answered(near: &mut End, far: &mut End, message: u64) -> bool {
-    let Some(unit) = near.sends_message(message, (message % 128) as u8) else {
+/// All up to this FSN is acknowledged, and there is nothing more to send.
+fn rests_at(end: &mut End, fsn: u16) -> bool {
+    end.window.last() == fsn && end.sends_fill(fsn).is_some()
+}
+
+fn is_answered(near: &mut End, far: &mut End, message: u64, none_sent: u16) -> bool {
+    let fsn = number_of(near.window.profile(), message);
+    let Some(unit) = near.sends_message(message, fsn) else {
         return false;
     };
     let accepted = far.hears(unit, true).accept;
-    let Some(answer) = far.sends_fill(127) else {
+    let Some(answer) = far.sends_fill(none_sent) else {
         return false;
     };
     accepted && near.hears(answer, false).acked == 1

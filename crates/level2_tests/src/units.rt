@@ -1,4 +1,7 @@
-//! Units worked out by hand from Q.703 2.2 and 2.3.
+//! Units worked out by hand from Q.703 2.2 and 2.3; wide ones by the same rules with numbers of twelve bits.
+ghost use Rattle.std.specs.Prelude.{◌≤◌, length, IsTrue};
+ghost use Rattle.l2_units.specs.Grammar.{body_of};
+
 use super::holds;
 use arrayvec::ArrayVec;
 use l2_signals::Status;
@@ -49,7 +52,101 @@ fn refuses(octets: &[u8], why: UnitFault) -> bool {
 
 /// The unit is sent as these octets.
 fn writes(unit: &Unit, octets: &[u8]) -> bool {
-    write(unit).as_slice() == octets
+    let head = header_in(unit);
+    head.bsn < 128 && head.fsn < 128 && write(unit).as_slice() == octets
+}
+
+/// The unit is sent as these octets in the wide profile, and they are read as it.
+fn goes_wide(unit: &Unit, octets: &[u8]) -> bool {
+    fits_wide(unit) && write_wide(unit).as_slice() == octets && reads_wide(octets, unit)
+}
+
+/// Whether the unit's body isn't too long for the wide profile.
+fn fits_wide(unit: &Unit) -> bool
+    ensures { IsTrue result → length (body_of unit.now) ≤ 272 }
+{
+    match unit {
+        Unit::Msu { body, .. } => body.len() <= 272,
+        Unit::Fisu { .. } | Unit::Lssu { .. } => true,
+    }
+}
+
+/// These octets are read as this unit in the wide profile.
+fn reads_wide(octets: &[u8], wanted: &Unit) -> bool {
+    match read_wide(octets) {
+        Ok(unit) => unit == *wanted,
+        Err(_) => false,
+    }
+}
+
+/// These octets are no unit of the wide profile, for this reason.
+fn refuses_wide(octets: &[u8], why: UnitFault) -> bool {
+    match read_wide(octets) {
+        Ok(_) => false,
+        Err(fault) => fault == why,
+    }
+}
+
+/// A header of the greatest wide numbers, both indicators 1.
+fn wide_head_of_ones() -> Header {
+    Header {
+        bsn: 4_095,
+        bib: true,
+        fsn: 4_095,
+        fib: true,
+    }
+}
+
+/// 12 ones, 1, 12 ones, 1, and LI 0 in 6 bits: 26 ones, which are FF FF FF 03 with the lowest octet first.
+#[test]
+fn a_wide_fisu_has_four_octets() -> Result<(), Fail> {
+    let fisu = Unit::Fisu {
+        head: wide_head_of_ones(),
+    };
+    holds(
+        goes_wide(&fisu, &[0xFF, 0xFF, 0xFF, 0x03])
+            && refuses_wide(&[0xFF, 0xFF, 0xFF], UnitFault::Short),
+    )
+}
+
+/// BSN 4095 and BIB 1 are FF 1F; FSN 0, FIB 1 and LI 5 are 2^25 + 5 * 2^26, 00 00 00 16 from the bottom.
+#[test]
+fn a_wide_message_has_four_octets_and_its_body() -> Result<(), Fail> {
+    let head = Header {
+        bsn: 4_095,
+        bib: true,
+        fsn: 0,
+        fib: true,
+    };
+    let body = body_of(&[0x85, 1, 0x80, 0, 0x30]);
+    let message = Unit::Msu { head, body };
+    let text = [0xFF, 0x1F, 0x00, 0x16, 0x85, 1, 0x80, 0, 0x30];
+    holds(goes_wide(&message, &text) && refuses_wide(&text[..8], UnitFault::Length))
+}
+
+/// A status field follows the four octets: LI 1, which is 04 in the last of them.
+#[test]
+fn a_wide_lssu_has_its_status_behind_the_header() -> Result<(), Fail> {
+    let lssu = Unit::Lssu {
+        head: wide_head_of_ones(),
+        status: Status::Busy,
+    };
+    holds(
+        goes_wide(&lssu, &[0xFF, 0xFF, 0xFF, 0x07, 5])
+            && reads_wide(&[0xFF, 0xFF, 0xFF, 0x0B, 5, 0], &lssu),
+    )
+}
+
+/// A unit has at most 276 octets in either profile, so a wide body has at most 272.
+#[test]
+fn a_wide_body_has_at_most_272_octets() -> Result<(), Fail> {
+    let mut longest = [7u8; 276];
+    longest[3] = 0xFC;
+    let read = match read_wide(&longest) {
+        Ok(Unit::Msu { body, .. }) => body.len() == 272,
+        _ => false,
+    };
+    holds(read && refuses_wide(&[0xFCu8; 277], UnitFault::Long))
 }
 
 /// The FISU of that header is sent with its spare bits 0.

@@ -1,33 +1,63 @@
 //! Situations at the ends of a window, worked out by hand from Q.703 5.2 and 5.3.
-use super::bench::{fill, filled};
+use super::bench::{ack, distance, fill, filled, filled_in, number_of};
 use super::holds;
 use l2_window::*;
 use std::test::Fail;
 
-/// Sends so many messages; they are those from this one on, and have the FSNs of their numbers modulo 128.
+/// Sends so many messages; they are those from this one on, and have the FSNs of their numbers.
 fn sends(window: &mut Window, first: u64, count: u64) -> bool {
     for message in first..first.saturating_add(count) {
-        if window.send() != Ok((message, (message % 128) as u8)) {
+        if window.send() != Ok((message, number_of(window.profile(), message))) {
             return false;
         }
     }
     true
 }
 
-/// There is nothing to send, and no FSN but 127 is reasonable.
+/// There is nothing to send, and no FSN but the last one is reasonable.
 fn is_empty(window: &mut Window) -> bool {
-    window.send() == Err(WindowFault::Empty) && window.ack(5) == Err(WindowFault::Unreasonable)
+    window.send() == Err(WindowFault::Empty) && ack(window, 5) == Err(WindowFault::Unreasonable)
 }
 
 /// Of 128 messages 127 go out, and the last one once all those are acknowledged.
 fn goes_round(window: &mut Window) -> bool {
     sends(window, 0, 127)
         && window.send() == Err(WindowFault::Full)
-        && window.distance(127) == Some(0)
-        && window.distance(126) == Some(127)
-        && window.ack(126) == Ok(127)
+        && distance(window, 127) == Some(0)
+        && distance(window, 126) == Some(127)
+        && ack(window, 126) == Ok(127)
         && sends(window, 127, 1)
         && window.send() == Err(WindowFault::Empty)
+}
+
+/// Of 4,096 messages 4,095 go out, with FSN 0 to 4094, and the last one once all those are acknowledged.
+fn goes_round_wide(window: &mut Window) -> bool {
+    sends(window, 0, 4_095)
+        && window.send() == Err(WindowFault::Full)
+        && distance(window, 4_095) == Some(0)
+        && distance(window, 4_094) == Some(4_095)
+        && ack(window, 4_094) == Ok(4_095)
+        && window.send() == Ok((4_095, 4_095))
+        && window.send() == Err(WindowFault::Empty)
+}
+
+#[test]
+fn wide_numbers_go_round_at_4095(rt: HostRuntime) -> Result<(), Fail> {
+    let mut window = filled_in(rt.alloc(), Profile::Wide, 0)?;
+    let empty = is_empty(&mut window);
+    let filled = fill(&mut window, 4_096).is_ok();
+    let round = goes_round_wide(&mut window);
+    holds(empty && filled && round)
+}
+
+/// Two rings of messages: a wide one has room for 4,095.
+#[test]
+fn a_new_wide_window_has_the_last_number_before_its_first(rt: HostRuntime) -> Result<(), Fail> {
+    let mut window = Window::new_wide(rt.alloc())?;
+    let last = window.last() == 4_095 && window.profile() == Profile::Wide;
+    let sent = window.push(7).is_ok() && window.send() == Ok((7, 0));
+    let (unacked, _unsent) = window.into_rings();
+    holds(last && sent && unacked.capacity() == 4_095)
 }
 
 #[test]
@@ -46,16 +76,16 @@ fn lies_across(window: &Window) -> bool {
         && window.unsent_len() == 1
         && window.unacked_at(1) == Some(127)
         && window.unacked_at(4).is_none()
-        && window.distance(125) == Some(0)
-        && window.distance(2).is_none()
+        && distance(window, 125) == Some(0)
+        && distance(window, 2).is_none()
 }
 
 #[test]
 fn a_window_lies_across_number_127(rt: HostRuntime) -> Result<(), Fail> {
     let mut window = filled(rt.alloc(), 131)?;
-    let sent = sends(&mut window, 0, 126) && window.ack(125) == Ok(126);
+    let sent = sends(&mut window, 0, 126) && ack(&mut window, 125) == Ok(126);
     let across = sends(&mut window, 126, 4) && lies_across(&window);
-    let acked = window.ack(127) == Ok(2) && window.unacked_at(0) == Some(128);
+    let acked = ack(&mut window, 127) == Ok(2) && window.unacked_at(0) == Some(128);
     holds(sent && across && acked)
 }
 
@@ -72,7 +102,7 @@ fn gives_back(window: &mut Window) -> bool {
 #[test]
 fn a_link_that_goes_down_gives_its_messages_back_in_order(rt: HostRuntime) -> Result<(), Fail> {
     let mut window = filled(rt.alloc(), 3)?;
-    let sent = sends(&mut window, 0, 2) && window.ack(0) == Ok(1);
+    let sent = sends(&mut window, 0, 2) && ack(&mut window, 0) == Ok(1);
     let back = gives_back(&mut window);
     holds(sent && back)
 }
@@ -88,7 +118,7 @@ fn gives_up(window: &mut Window) -> bool {
 #[test]
 fn the_messages_of_a_link_are_given_up(rt: HostRuntime) -> Result<(), Fail> {
     let mut window = filled(rt.alloc(), 3)?;
-    let sent = sends(&mut window, 0, 2) && window.ack(0) == Ok(1);
+    let sent = sends(&mut window, 0, 2) && ack(&mut window, 0) == Ok(1);
     let up = gives_up(&mut window);
     holds(sent && up)
 }
@@ -96,9 +126,9 @@ fn the_messages_of_a_link_are_given_up(rt: HostRuntime) -> Result<(), Fail> {
 #[test]
 fn a_window_hands_out_its_rings(rt: HostRuntime) -> Result<(), Fail> {
     let mut window = filled(rt.alloc(), 130)?;
-    let sent = sends(&mut window, 0, 127) && window.ack(1) == Ok(2);
+    let sent = sends(&mut window, 0, 127) && ack(&mut window, 1) == Ok(2);
     let (unacked, unsent) = window.into_rings();
-    let first = unacked.capacity() == MOST_UNACKED && unacked.len() == 125;
+    let first = unacked.capacity() == 127 && unacked.len() == 125;
     let second = unacked.front() == Some(&2) && unsent.front() == Some(&127);
     let last = unsent.back() == Some(&129);
     holds(sent && first && second && last)

@@ -4,6 +4,7 @@ use Rattle.std.specs.Option.{option_map, option_and_then}
 use Rattle.std.specs.Str.{bytes_eq}
 use Rattle.set_events.specs.declared.config.Method.{Method as SafeMethod}
 use Rattle.set_events.specs.declared.config.ConfigFault.TheVariants.{Links as LinksFault, PointCode, Sio as SioFault, Cyclic}
+use Rattle.l2_units.specs.declared.profile.Profile.TheVariants.{Narrow}
 use Rattle.set_events.specs.Method.{is_method}
 use Rattle.play_script.specs.declared.script.Values.{Values}
 use Rattle.play_script.specs.Script.{first_word, other_words, SixWords, six_words, values_of, fitting, links_of, method_of, code_of, sio_of, first_line}
@@ -54,7 +55,7 @@ valued (Some l) (Some m) (Some x) (Some y) None =
     ∙ ap (λ z. has_links (Some l) && (is_met (Some m) && z)) (and_false (is_point_code (Some x)))
     ∙ ap (λ z. has_links (Some l) && z) (and_false (is_met (Some m))) ∙ and_false (has_links (Some l)))
 valued (Some l) (Some m) (Some x) (Some y) (Some s) =
-    fit (has_links (Some l)) (is_method m) (is_point_code (Some x)) (is_point_code (Some y)) (s % 16 == 0) _
+    fit (has_links (Some l)) (is_method Narrow m) (is_point_code (Some x)) (is_point_code (Some y)) (s % 16 == 0) _
 
 -- a word, and what follows it
 beside : (b : Bool) (mistake : Mistake) (size : ℕ) (words : List ℕ) (rest : Option Blame)

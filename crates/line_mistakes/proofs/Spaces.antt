@@ -4,6 +4,7 @@ use Rattle.std.proofs.lemmas.List.{take_all, take-append-drop}
 use Rattle.std.proofs.lemmas.Slice.Eq.{bytes_eq-Decides}
 use Rattle.std.specs.List.{list_any, position_or_len, after_first}
 use Rattle.l2_units.specs.Grammar.{unit_of as unit_in}
+use Rattle.l2_units.specs.declared.profile.Profile.TheVariants.{Narrow}
 use Rattle.std.specs.Option.{option_map, option_and_then}
 use Rattle.figures.specs.Figures.{number_of, octet_of, digits_behind, below_2_64, hex_value, octets_of, octet_before, is_digit}
 use Rattle.play_script.specs.Script.{is_space, first_word, other_words, link_of, some_octets, unit_of, sio_of}
@@ -105,7 +106,7 @@ some_octets_alone (c ∷ cs) h = let no : (length (c ∷ cs) == 0) ≡ false = g
 pub unit_alone : (w : List ℕ) → is_some (unit_of w) ≡ true → list_any is_space w ≡ false
 unit_alone w h = some_octets_alone w (by (some_octets w) h)
   where
-    by : (o : Option (List ℕ)) → is_some (option_and_then unit_in o) ≡ true → is_some o ≡ true
+    by : (o : Option (List ℕ)) → is_some (option_and_then (unit_in Narrow) o) ≡ true → is_some o ≡ true
     by None g = g
     by (Some n) g = refl
 

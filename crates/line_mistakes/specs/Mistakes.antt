@@ -2,6 +2,7 @@
 use Rattle.std.specs.Prelude.{ℕ, Bool, false, ◌==◌, ◌%◌, ◌&&◌, nat_lt, nat_le, List, length, Option, Some, None, if◌then◌else◌, codes, is_some, unwrap_or}
 use Rattle.std.specs.List.{list_any, list_all}
 use Rattle.set_events.specs.Config.{most_links, point_codes}
+use Rattle.l2_units.specs.declared.profile.Profile.TheVariants.{Narrow}
 use Rattle.set_events.specs.Method.{is_method}
 use Rattle.set_events.specs.declared.config.Method.{Method as SafeMethod}
 use Rattle.figures.specs.Figures.{number_of, hex_value}
@@ -30,7 +31,7 @@ is_orders_sio (Some sio) = sio % 16 == 0
 -- limits that can be met
 abbrev pub is_met : Option SafeMethod → Bool
 is_met None = false
-is_met (Some method) = is_method method
+is_met (Some method) = is_method Narrow method
 
 abbrev pub is_kind : Kind → List ℕ → Bool
 is_kind Links word = has_links (links_of word)

@@ -1,59 +1,105 @@
 -- Step 5 of a turn, as it's carried out.
 use Rattle.std.proofs.Common.{refl, sym, subst, ap, ◌≡◌, ◌∙◌, true, false, nat_lt, length, List, [], ◌∷◌, ◌++◌, Some, None, Result, Ok, Err, if◌then◌else◌}
+use Rattle.std.specs.Result.{IsErrAnd}
 use Rattle.l2_units.specs.declared.unit.Unit.{Unit as SignalUnit}
 use Rattle.l2_units.specs.Grammar.{head_of}
 use Rattle.set_events.specs.declared.fault.SetFault.{SetFault}
 use Rattle.set_events.specs.declared.history.Entry.{Entry}
-use Rattle.term_model.specs.Choosing.{Filled, chosen, filled, sends}
+use Rattle.term_model.specs.Choosing.{Filled, chosen, counts_sent, filled, given, held_back, is_narrow, sends}
 use Rattle.term_model.specs.OctetOut.{Appends}
 use Rattle.term_model.specs.Talk.{Talk, done, and_then}
 use Rattle.term_model.specs.Terminal.{Terminal}
-use Rattle.link_term.specs.Filling.{FillsBits, Sends}
-use Rattle.link_term.specs.Talking.{Gains}
-use Rattle.link_term.proofs.Talking.{gains_none, gains_joined, breaks_at_last}
+use Rattle.link_term.specs.declared.counts.Filling.{Filling}
+use Rattle.link_term.specs.Filling.{FillsBits, Fills}
+use Rattle.link_term.specs.Talking.{Gains, Breaks}
+use Rattle.link_term.proofs.Talking.{gains_none, gains_joined, breaks_at_first, breaks_at_last}
 
 -- eight bits or more are left
 pub none_chosen : (t : Terminal) (made : List Entry) → nat_lt (length t.bits) 8 ≡ false
-    → FillsBits (filled t) false made made t
+    → FillsBits (filled t) Filling.Enough made made t
 none_chosen t made long = record {
-  chosen = record { unit = None; after = t };
-  gains = subst (λ b. Gains (if b then chosen t.state t else done (record { unit = None; after = t })) made made (record { unit = None; after = t }))
-      (sym long) (gains_none (record { unit = None; after = t }) made);
+  chosen = record { unit = None; narrow = true; after = t };
+  gains = subst (λ b. Gains (if b then chosen t.state t else done (record { unit = None; narrow = true; after = t })) made made (record { unit = None; narrow = true; after = t }))
+      (sym long) (gains_none (record { unit = None; narrow = true; after = t }) made);
   appends = refl;
   after_is = refl;
-  sent_is = refl;
+  filling_is = refl;
+  unchanged = λ wide. refl;
 }
 
 -- a unit that the set wasn't asked for
 pub own_sent : (unit : SignalUnit) (t after : Terminal) (made : List Entry) → Appends (Some unit) t.bits after.bits
-    → after ≡ record t { bits = after.bits; last = Some (head_of unit) } → FillsBits (sends unit t) true made made after
+    → after ≡ record t { bits = after.bits; last = Some (head_of unit) } → FillsBits (sends unit t) Filling.Chosen made made after
 own_sent unit t after made appends is =
-    let sent : Filled = record { unit = Some unit; after = record t { last = Some (head_of unit) } } in
-    record { chosen = sent; gains = gains_none sent made; appends = appends; after_is = is; sent_is = refl }
+    let sent : Filled = record { unit = Some unit; narrow = true; after = record t { last = Some (head_of unit) } } in
+    record { chosen = sent; gains = gains_none sent made; appends = appends; after_is = is; filling_is = refl; unchanged = λ wide. absurd cc }
 
 -- a talk went before, and then the choice
-pub fills_then : (talk : Talk Terminal) (next : Terminal → Talk Filled) (made mid made' : List Entry) (t after : Terminal)
-    → Gains talk made mid t → FillsBits (next t) true mid made' after → FillsBits (and_then talk next) true made made' after
-fills_then talk next made mid made' t after first fills = record {
+pub fills_then : (talk : Talk Terminal) (next : Terminal → Talk Filled) (filling : Filling) (made mid made' : List Entry)
+    (t after : Terminal)
+    → Gains talk made mid t → FillsBits (next t) filling mid made' after → FillsBits (and_then talk next) filling made made' after
+fills_then talk next filling made mid made' t after first fills = record {
   chosen = fills.chosen;
   gains = gains_joined talk next made mid made' t fills.chosen first fills.gains;
   appends = fills.appends;
   after_is = fills.after_is;
-  sent_is = fills.sent_is;
+  filling_is = fills.filling_is;
+  unchanged = fills.unchanged;
 }
 
 -- which may break off
-pub sends_then : (talk : Talk Terminal) (next : Terminal → Talk Filled) (result : Result (Unit {0}) SetFault)
+pub sends_then : (talk : Talk Terminal) (next : Terminal → Talk Filled) (result : Result Filling SetFault)
     (made mid made' : List Entry) (faults faults_mid faults' : List SetFault) (t after : Terminal)
     → Gains talk made mid t → faults_mid ≡ faults
-    → Sends (next t) result mid made' faults_mid faults' after
-    → Sends (and_then talk next) result made made' faults faults' after
+    → Fills (next t) result mid made' faults_mid faults' after
+    → Fills (and_then talk next) result made made' faults faults' after
 sends_then talk next (Ok it) made mid made' faults faults_mid faults' t after first same second =
-    (fills_then talk next made mid made' t after first second.0, second.1 ∙ same)
+    (fills_then talk next it made mid made' t after first second.0, second.1 ∙ same)
 sends_then talk next (Err fault) made mid made' faults faults_mid faults' t after first same second =
     (breaks_at_last talk next made mid made' t first second.0, second.1 ∙ ap (λ (fs : List SetFault). fs ++ fault ∷ []) same)
 
+-- the call that answers a fault of the door tells that one
+pub fills_broken : (talk : Talk Filled) (result : Result Filling SetFault) (fault : SetFault) (made made' : List Entry)
+    (faults faults' : List SetFault) (after : Terminal) → IsErrAnd result (λ e. e ≡ fault) → Breaks talk made made'
+    → faults' ≡ faults ++ fault ∷ [] → Fills talk result made made' faults faults' after
+fills_broken talk (Ok it) fault made made' faults faults' after is broke told = absurd is
+fills_broken talk (Err other) fault made made' faults faults' after is broke told =
+    (broke, told ∙ ap (λ (f : SetFault). faults ++ f ∷ []) (sym is))
+
 -- a choice that comes to this one
-pub as_chosen : (talk choice : Talk Filled) (made : List Entry) (after : Terminal) → choice ≡ talk
-    → FillsBits talk true made made after → FillsBits choice true made made after
-as_chosen talk choice made after same fills = subst (λ t. FillsBits t true made made after) (sym same) fills
+pub as_chosen : (talk choice : Talk Filled) (filling : Filling) (made made' : List Entry) (after : Terminal) → choice ≡ talk
+    → FillsBits talk filling made made' after → FillsBits choice filling made made' after
+as_chosen talk choice filling made made' after same fills = subst (λ t. FillsBits t filling made made' after) (sym same) fills
+
+-- a unit of the wide profile
+pub wide_given : (t : Terminal) (made : List Entry)
+    → FillsBits (done (record { unit = None; narrow = false; after = t })) Filling.Wide made made t
+wide_given t made = record {
+  chosen = record { unit = None; narrow = false; after = t };
+  gains = gains_none (record { unit = None; narrow = false; after = t }) made;
+  appends = refl;
+  after_is = refl;
+  filling_is = refl;
+  unchanged = λ wide. refl;
+}
+
+-- which is told apart by the unit's header
+pub given_wide : (unit : SignalUnit) (t : Terminal) (made : List Entry) → is_narrow (head_of unit) ≡ false
+    → FillsBits (given unit t) Filling.Wide made made t
+given_wide unit t made wide =
+    subst (λ b. FillsBits (if b then and_then (counts_sent unit t) (λ t. sends (held_back t unit) t) else done (record { unit = None; narrow = false; after = t })) Filling.Wide made made t)
+    (sym wide) (wide_given t made)
+
+pub given_narrow : (unit : SignalUnit) (t after : Terminal) (made made' : List Entry) → is_narrow (head_of unit) ≡ true
+    → FillsBits (and_then (counts_sent unit t) (λ t. sends (held_back t unit) t)) Filling.Chosen made made' after
+    → FillsBits (given unit t) Filling.Chosen made made' after
+given_narrow unit t after made made' narrow fills =
+    subst (λ b. FillsBits (if b then and_then (counts_sent unit t) (λ t. sends (held_back t unit) t) else done (record { unit = None; narrow = false; after = t })) Filling.Chosen made made' after)
+    (sym narrow) fills
+
+-- a message breaks off where it's counted
+pub given_broken : (unit : SignalUnit) (t : Terminal) (made made' : List Entry) → is_narrow (head_of unit) ≡ true
+    → Breaks (counts_sent unit t) made made' → Breaks (given unit t) made made'
+given_broken unit t made made' narrow broke =
+    subst (λ b. Breaks (if b then and_then (counts_sent unit t) (λ t. sends (held_back t unit) t) else done (record { unit = None; narrow = false; after = t })) made made')
+    (sym narrow) (breaks_at_first (counts_sent unit t) (λ t. sends (held_back t unit) t) made made' broke)

@@ -1,12 +1,13 @@
 -- The steps of a turn, one after another.
-use Rattle.std.proofs.Common.{refl, sym, ap, subst, ◌≡◌, ◌∙◌, ℕ, Bool, List, [], ◌∷◌, ◌++◌, Option, Some, None, Result, Ok, Err, IfErr, IfSome, IsNone, append-nil}
+use Rattle.std.proofs.Common.{refl, sym, ap, subst, ◌≡◌, ◌∙◌, ℕ, Bool, true, false, List, [], ◌∷◌, ◌++◌, Option, Some, None, Result, Ok, Err, IfErr, IfSome, IsNone, append-nil, if◌then◌else◌}
 use mathlib.Core.List.{IsPrefix}
 use Rattle.std.specs.Option.{option_to_list}
 use Rattle.std.specs.Result.{IsErrAnd}
 use Rattle.l2_bits.specs.LineBits.{line_bits}
 use Rattle.set_events.specs.declared.history.Entry.{Entry}
 use Rattle.set_events.specs.declared.fault.SetFault.{SetFault}
-use Rattle.term_model.specs.Choosing.{filled}
+use Rattle.l2_units.specs.declared.unit.Unit.{Unit as SignalUnit}
+use Rattle.term_model.specs.Choosing.{Filled, filled}
 use Rattle.term_model.specs.Hearing.{all_marked}
 use Rattle.term_model.specs.Obeying.{commanded}
 use Rattle.term_model.specs.OctetIn.{bits_in}
@@ -16,9 +17,12 @@ use Rattle.term_model.specs.Terminal.{Terminal}
 use Rattle.term_model.specs.Timing.{timed}
 use Rattle.link_term.specs.declared.counts.MarkCounts.{MarkCounts}
 use Rattle.link_term.specs.declared.counts.Turned.{Turned}
-use Rattle.link_term.specs.Filling.{FillsBits}
+use Rattle.link_term.specs.declared.counts.Filling.{Filling}
+use Rattle.link_term.specs.declared.fault.TermFault.{TermFault}
+use Rattle.link_term.specs.Faults.{fault_of}
+use Rattle.link_term.specs.Filling.{FillsBits, filling_of, with_unit}
 use Rattle.link_term.specs.Talking.{Gains, Breaks}
-use Rattle.link_term.specs.Turning.{HearsMarks, BreaksMarks, from_marks, Steps, BrokenSteps, StepsTo, PutsOut, TurnsOnce, TurnBreaks}
+use Rattle.link_term.specs.Turning.{HearsMarks, BreaksMarks, from_marks, Steps, BrokenSteps, StepsTo, PutsOut, TurnsOnce, TurnBreaks, TurnFails, by_fault, by_profile}
 use Rattle.link_term.proofs.Talking.{gains_joined, breaks_at_first, breaks_at_last}
 
 -- the call that answers a fault of the door tells that one
@@ -61,10 +65,10 @@ module _ (past : List Bool) (octet : Option ℕ) (t u : Terminal) (counts : Mark
   }
 
   -- nowhere
-  pub steps_went : (v after : Terminal) (sent : Bool) (later made' : List Entry) → Gains (timed u) mid later v
-      → FillsBits (filled v) sent later made' after
-      → Steps past octet t (record { marks = counts; sent = sent }) made made' after
-  steps_went v after sent later made' timers fills = record {
+  pub steps_went : (v after : Terminal) (filling : Filling) (later made' : List Entry) → Gains (timed u) mid later v
+      → FillsBits (filled v) filling later made' after
+      → Steps past octet t (record { marks = counts; filling = filling }) made made' after
+  steps_went v after filling later made' timers fills = record {
     marks = heard.marks;
     gives = heard.are;
     chosen = fills.chosen;
@@ -73,19 +77,38 @@ module _ (past : List Bool) (octet : Option ℕ) (t u : Terminal) (counts : Mark
     appends = fills.appends;
     after_is = fills.after_is;
     counts_are = heard.counts_are;
-    sent_is = fills.sent_is;
+    filling_is = fills.filling_is;
+    unchanged = fills.unchanged;
   }
 
 -- STEPS 1 AND 6.
 
-pub turn_broken : {R : Type 0} (result : Result R SetFault) (fault : SetFault) (taken taken' : List ℕ) (t : Terminal)
+pub turn_broken : {R : Type 0} (result : Result R TermFault) (told : SetFault) (taken taken' : List ℕ) (t after : Terminal)
     (made made' : List Entry) (given given' put put' : List ℕ) (faults faults' : List SetFault)
-    → IsErrAnd result (λ e. e ≡ fault) → TurnBreaks taken taken' t made made' given given' put put'
-    → faults' ≡ faults ++ fault ∷ []
-    → IfErr result (λ e. TurnBreaks taken taken' t made made' given given' put put' × (faults' ≡ faults ++ e ∷ []))
-turn_broken (Ok turned) fault taken taken' t made made' given given' put put' faults faults' is broke told = absurd is
-turn_broken (Err other) fault taken taken' t made made' given given' put put' faults faults' is broke told =
-    (broke, told ∙ ap (λ (f : SetFault). faults ++ f ∷ []) (sym is))
+    → IsErrAnd result (λ e. e ≡ fault_of told) → TurnBreaks taken taken' t made made' given given' put put'
+    → faults' ≡ faults ++ told ∷ []
+    → IfErr result (λ e. TurnFails e faults faults' taken taken' t made made' given given' put put' after)
+turn_broken (Ok turned) told taken taken' t after made made' given given' put put' faults faults' is broke noted = absurd is
+turn_broken (Err fault) told taken taken' t after made made' given given' put put' faults faults' is broke noted =
+    by_fault (record { told = told; fault_is = is; faults_are = noted }) broke
+
+-- a unit of the wide profile is told apart by what came of the choice
+narrow_of : (f : Filled) (filling : Filling) → filling ≡ filling_of f → (filling ≡ Filling.Wide → ⊥) → f.narrow ≡ true
+narrow_of f filling is not = go f.narrow refl
+  where
+    go : (b : Bool) → f.narrow ≡ b → f.narrow ≡ true
+    go true e = e
+    go false e = absurd (not (is ∙ ap (λ b. if b then with_unit f.unit else Filling.Wide) e))
+
+wide_of : (f : Filled) (filling : Filling) → filling ≡ filling_of f → filling ≡ Filling.Wide → f.narrow ≡ false
+wide_of f filling is wide = go f.narrow f.unit refl refl
+  where
+    go : (b : Bool) (unit : Option SignalUnit) → f.narrow ≡ b → f.unit ≡ unit → f.narrow ≡ false
+    go false unit e u = e
+    go true None e u =
+        let no : Filling.Enough ≡ Filling.Wide = sym (is ∙ ap (λ b. if b then with_unit f.unit else Filling.Wide) e ∙ ap with_unit u) ∙ wide in cc
+    go true (Some unit) e u =
+        let no : Filling.Chosen ≡ Filling.Wide = sym (is ∙ ap (λ b. if b then with_unit f.unit else Filling.Wide) e ∙ ap with_unit u) ∙ wide in cc
 
 -- a fault at a command: no octet was taken
 pub breaks_at_command : (taken : List ℕ) (t : Terminal) (made made' : List Entry) (given put : List ℕ)
@@ -124,9 +147,9 @@ pub turn_went : (taken taken' : List ℕ) (octet : Option ℕ) (t u v after : Te
     (made mid made' : List Entry) (given given' waiting put put_mid put' : List ℕ) (free : ℕ)
     → Gains (commanded t) made mid u → Steps (line_bits taken) octet u turned mid made' v
     → PutsOut v after put_mid put' free → put_mid ≡ put → taken' ≡ taken ++ option_to_list octet → given' ≡ given ++ option_to_list octet
-    → (octet ≡ None → waiting ≡ [])
+    → (octet ≡ None → waiting ≡ []) → (turned.filling ≡ Filling.Wide → ⊥)
     → TurnsOnce taken taken' t turned made made' given given' waiting put put' free after
-turn_went taken taken' octet t u v after turned made mid made' given given' waiting put put_mid put' free obeyed steps puts same took gave none =
+turn_went taken taken' octet t u v after turned made mid made' given given' waiting put put_mid put' free obeyed steps puts same took gave none not =
     let all = gains_joined (commanded t) (λ w. from_marks steps.marks w) made mid made' u steps.chosen obeyed steps.gains in record {
       octet = octet;
       entries = all.entries;
@@ -136,6 +159,7 @@ turn_went taken taken' octet t u v after turned made mid made' given given' wait
         gives = steps.gives;
         chosen = steps.chosen;
         went = all.went;
+        narrow = narrow_of steps.chosen turned.filling steps.filling_is not;
         puts = record {
           bits = v.bits;
           appends = steps.appends;
@@ -151,8 +175,29 @@ turn_went taken taken' octet t u v after turned made mid made' given given' wait
       none_waited = none;
       was_full = puts.was_full;
       counts_are = steps.counts_are;
-      sent_is = steps.sent_is;
+      filling_is = steps.filling_is;
     }
+
+-- a unit of the wide profile was given
+pub turn_wide : (taken taken' : List ℕ) (octet : Option ℕ) (t u after : Terminal) (turned : Turned)
+    (made mid made' : List Entry) (given given' put put' : List ℕ) (faults faults' : List SetFault)
+    → Gains (commanded t) made mid u → Steps (line_bits taken) octet u turned mid made' after
+    → put' ≡ put → taken' ≡ taken ++ option_to_list octet → given' ≡ given ++ option_to_list octet
+    → turned.filling ≡ Filling.Wide → faults' ≡ faults
+    → TurnFails TermFault.Profile faults faults' taken taken' t made made' given given' put put' after
+turn_wide taken taken' octet t u after turned made mid made' given given' put put' faults faults' obeyed steps same took gave is none =
+    let all = gains_joined (commanded t) (λ w. from_marks steps.marks w) made mid made' u steps.chosen obeyed steps.gains in
+    let wide = wide_of steps.chosen turned.filling steps.filling_is is in
+    by_profile refl none (record {
+      octet = octet;
+      entries = all.entries;
+      turn = record { marks = steps.marks; gives = steps.gives; chosen = steps.chosen; went = all.went; wide = wide };
+      taken_is = took;
+      made_is = all.made_is;
+      given_is = gave;
+      put_is = same;
+      after_is = steps.unchanged wide;
+    })
 
 -- what the line gave
 pub took : (octet : Option ℕ) (given given' waiting waiting' : List ℕ)

@@ -1,7 +1,8 @@
 -- One turn more, and its counts.
-use Rattle.std.proofs.Common.{refl, sym, ap, subst, arith, ◌≡◌, ◌∙◌, ℕ, ◌+◌, ◌≤◌, ◌<◌, Bool, true, false, List, [], ◌∷◌, ◌++◌, length, Option, Some, None, if◌then◌else◌, append_assoc, append-nil, length-append}
+use Rattle.std.proofs.Common.{refl, sym, ap, subst, arith, ◌≡◌, ◌∙◌, ℕ, ◌+◌, ◌≤◌, ◌<◌, Bool, true, false, List, [], ◌∷◌, ◌++◌, length, Option, Some, None, Result, Ok, Err, IfErr, append_assoc, append-nil, length-append}
 use Rattle.std.proofs.lemmas.Grind.{flat_map-append}
 use Rattle.std.specs.List.{flat_map}
+use Rattle.std.specs.Result.{IsErrAnd}
 use Rattle.std.specs.Option.{option_to_list}
 use Rattle.l2_bits.specs.declared.marks.Mark.{Mark}
 use Rattle.l2_bits.specs.LineBits.{bits_of, line_bits}
@@ -13,9 +14,13 @@ use Rattle.term_model.specs.Terminal.{Terminal}
 use Rattle.term_model.proofs.RunSteps.{runs_join}
 use Rattle.link_term.specs.declared.counts.MarkCounts.{MarkCounts}
 use Rattle.link_term.specs.declared.counts.Turned.{Turned}
-use Rattle.link_term.specs.Filling.{has_unit}
-use Rattle.link_term.specs.Running.{Runs, RunBreaks}
-use Rattle.link_term.specs.Turning.{TurnsOnce, TurnBreaks}
+use Rattle.link_term.specs.declared.counts.Filling.{Filling}
+use Rattle.link_term.specs.declared.fault.TermFault.{TermFault}
+use Rattle.link_term.specs.Filling.{filling_of, with_unit}
+use Rattle.set_events.specs.declared.fault.SetFault.{SetFault}
+use Rattle.term_model.specs.Choosing.{Filled}
+use Rattle.link_term.specs.Running.{Runs, RunFails}
+use Rattle.link_term.specs.Turning.{TurnsOnce, TurnFails, one_if_chosen}
 
 -- what the turns so far did, but for the cause
 pub record RanSo (taken taken' : List ℕ) (before : Terminal) (made made' : List Entry)
@@ -64,9 +69,13 @@ grown f xs x start mid last so now =
     now ∙ ap (λ (m : List _). m ++ f x) so ∙ append_assoc start (flat_map f xs) (f x)
     ∙ ap (λ (m : List _). start ++ m) (sym (one_more_mapped f xs x))
 
-sent_one : (unit : Option SignalUnit) → (if has_unit unit then 1 else 0) ≡ length (option_to_list unit)
+sent_one : (unit : Option SignalUnit) → one_if_chosen (with_unit unit) ≡ length (option_to_list unit)
 sent_one None = refl
 sent_one (Some unit) = refl
+
+-- a unit that was chosen is counted
+chosen_one : (f : Filled) → f.narrow ≡ true → one_if_chosen (filling_of f) ≡ length (option_to_list f.unit)
+chosen_one f narrow = rw narrow (sent_one f.unit)
 
 -- ONE TURN MORE.
 module _ (taken taken_mid taken' : List ℕ) (before mid after : Terminal) (made made_mid made' : List Entry)
@@ -99,7 +108,7 @@ module _ (taken taken_mid taken' : List ℕ) (before mid after : Terminal) (made
       ∙ counted_then such (marks_of so.doings) once.marks in
       omega (arith, were, is, sum, split)
 
-  pub ran_more : report'.turns ≡ report.turns + 1 → report'.sent ≡ report.sent + (if turned.sent then 1 else 0)
+  pub ran_more : report'.turns ≡ report.turns + 1 → report'.sent ≡ report.sent + one_if_chosen turned.filling
       → report'.good ≡ report.good + turned.marks.good → report'.bad ≡ report.bad + turned.marks.bad
       → report'.sixteen ≡ report.sixteen + turned.marks.sixteen
       → RanSo taken taken' before made made' given given' put put' report' after
@@ -116,8 +125,8 @@ module _ (taken taken_mid taken' : List ℕ) (before mid after : Terminal) (made
         let split : length (units_of (so.doings ++ did ∷ [])) ≡ length (units_of so.doings) + length (option_to_list once.turn.chosen.unit) =
         ap length (one_more_mapped (λ (d : Doing). option_to_list d.unit) so.doings did)
         ∙ length-append (units_of so.doings) (option_to_list once.turn.chosen.unit) in
-        let one : (if turned.sent then 1 else 0) ≡ length (option_to_list once.turn.chosen.unit) =
-        ap (λ (s : Bool). (if s then 1 else 0)) once.sent_is ∙ sent_one once.turn.chosen.unit in
+        let one : one_if_chosen turned.filling ≡ length (option_to_list once.turn.chosen.unit) =
+        ap one_if_chosen once.filling_is ∙ chosen_one once.turn.chosen once.turn.narrow in
         omega (arith, sent, so.sent_are, split, one);
     good_are = more_marks is_good report.good report'.good turned.marks.good so.good_are
         (ap (λ (c : MarkCounts). c.good) once.counts_are) good;
@@ -165,18 +174,24 @@ ran_all turns taken taken' before made made' given given' put put' report last a
   put_is = so.put_is;
 }
 
-pub at_most_one : (b : Bool) → (if b then 1 else 0) ≤ 1
-at_most_one false = omega arith
-at_most_one true = omega arith
+pub at_most_one : (filling : Filling) → one_if_chosen filling ≤ 1
+at_most_one Filling.Enough = omega arith
+at_most_one Filling.Chosen = omega arith
+at_most_one Filling.Wide = omega arith
 
--- A TURN THAT A FAULT BROKE OFF, behind those that went whole
-pub run_broken : (turns whole : ℕ) (taken mid taken' : List ℕ) (before between : Terminal) (made made_mid made' : List Entry)
+-- A TURN THAT FAILED, behind those that went whole
+pub run_failed : (result : Result TermReport TermFault) (told : TermFault) (faults faults_mid faults' : List SetFault)
+    (turns whole : ℕ) (taken mid taken' : List ℕ) (before between after : Terminal) (made made_mid made' : List Entry)
     (given given_mid given' put put_mid put' : List ℕ) (report : TermReport)
+    → IsErrAnd result (λ e. e ≡ told)
     → RanSo taken mid before made made_mid given given_mid put put_mid report between → report.turns ≡ whole → whole < turns
-    → TurnBreaks mid taken' between made_mid made' given_mid given' put_mid put'
-    → RunBreaks turns taken taken' before made made' given given' put put'
-run_broken turns whole taken mid taken' before between made made_mid made' given given_mid given' put put_mid put' report so are few
-    breaks = record {
+    → faults_mid ≡ faults
+    → TurnFails told faults_mid faults' mid taken' between made_mid made' given_mid given' put_mid put' after
+    → IfErr result (λ fault. RunFails fault faults faults' turns taken taken' before made made' given given' put put' after)
+run_failed (Ok done) told faults faults_mid faults' turns whole taken mid taken' before between after made made_mid made' given given_mid given'
+    put put_mid put' report is so are few same fails = absurd is
+run_failed (Err fault) told faults faults_mid faults' turns whole taken mid taken' before between after made made_mid made' given given_mid given'
+    put put_mid put' report is so are few same fails = record {
       whole = whole;
       fewer = few;
       taken_by_then = mid;
@@ -186,5 +201,6 @@ run_broken turns whole taken mid taken' before between made made_mid made' given
       report = record report { cause = cause_or_0 between.cause };
       between = between;
       runs = ran_all whole taken mid before made made_mid given given_mid put put_mid report _ between so are refl;
-      breaks = breaks;
+      fails = subst (λ f. TurnFails f faults faults' mid taken' between made_mid made' given_mid given' put_mid put' after) (sym is)
+          (subst (λ (fs : List SetFault). TurnFails told fs faults' mid taken' between made_mid made' given_mid given' put_mid put' after) same fails);
     }

@@ -8,6 +8,7 @@ abbrev pub fault_number : TermFault → ℕ
 fault_number TermFault.NoMemory = 1
 fault_number TermFault.Failed = 2
 fault_number TermFault.Exhausted = 3
+fault_number TermFault.Profile = 4
 
 -- what a fault of the set is to its terminal
 abbrev pub fault_of : SetFault → TermFault

@@ -5,7 +5,9 @@ use Rattle.set_events.specs.declared.history.Entry.{Entry}
 use Rattle.term_model.specs.declared.report.TermReport.{TermReport}
 use Rattle.term_model.specs.Runs.{IsRun}
 use Rattle.term_model.specs.Terminal.{Terminal}
-use Rattle.link_term.specs.Turning.{TurnBreaks}
+use Rattle.link_term.specs.declared.fault.TermFault.{TermFault}
+use Rattle.link_term.specs.Turning.{TurnFails}
+use Rattle.set_events.specs.declared.fault.SetFault.{SetFault}
 
 -- A RUN WENT: the octets taken, what the door made, what the line gave and took, the terminal then, and the report
 pub record Runs (turns : ℕ) (taken taken' : List ℕ) (before : Terminal) (made made' : List Entry)
@@ -19,9 +21,9 @@ pub record Runs (turns : ℕ) (taken taken' : List ℕ) (before : Terminal) (mad
   pub given_is : given' ≡ given ++ octets
   pub put_is : put' ≡ put ++ out
 
--- a fault broke it off: fewer turns than were asked for went whole, and a fault broke off the one behind them
-pub record RunBreaks (turns : ℕ) (taken taken' : List ℕ) (before : Terminal) (made made' : List Entry)
-    (given given' put put' : List ℕ) : Type 0 where
+-- it failed: fewer turns than were asked for went whole, and the one behind them failed so
+pub record RunFails (fault : TermFault) (faults faults' : List SetFault) (turns : ℕ) (taken taken' : List ℕ)
+    (before : Terminal) (made made' : List Entry) (given given' put put' : List ℕ) (after : Terminal) : Type 0 where
   pub whole : ℕ
   pub fewer : whole < turns
   pub taken_by_then : List ℕ
@@ -31,4 +33,5 @@ pub record RunBreaks (turns : ℕ) (taken taken' : List ℕ) (before : Terminal)
   pub report : TermReport
   pub between : Terminal
   pub runs : Runs whole taken taken_by_then before made made_by_then given given_by_then put put_by_then report between
-  pub breaks : TurnBreaks taken_by_then taken' between made_by_then made' given_by_then given' put_by_then put'
+  pub fails : TurnFails fault faults faults' taken_by_then taken' between made_by_then made' given_by_then given'
+      put_by_then put' after

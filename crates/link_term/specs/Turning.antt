@@ -14,10 +14,13 @@ use Rattle.term_model.specs.OctetOut.{Appends, put_of, left_of}
 use Rattle.term_model.specs.Talk.{Talk, and_then}
 use Rattle.term_model.specs.Terminal.{Terminal}
 use Rattle.term_model.specs.Timing.{timed}
-use Rattle.term_model.specs.Turn.{IsTurn, IsBrokenTurn}
+use Rattle.term_model.specs.Turn.{IsTurn, IsBrokenTurn, IsWideTurn}
+use Rattle.link_term.specs.declared.counts.Filling.{Filling}
 use Rattle.link_term.specs.declared.counts.MarkCounts.{MarkCounts}
 use Rattle.link_term.specs.declared.counts.Turned.{Turned}
-use Rattle.link_term.specs.Filling.{has_unit}
+use Rattle.link_term.specs.declared.fault.TermFault.{TermFault}
+use Rattle.link_term.specs.Failing.{HasBroken}
+use Rattle.link_term.specs.Filling.{filling_of}
 use Rattle.link_term.specs.Octets.{counts_of}
 use Rattle.link_term.specs.Talking.{Gains, Breaks}
 
@@ -54,7 +57,8 @@ pub record Steps (past : List Bool) (octet : Option ℕ) (before : Terminal) (tu
   pub appends : Appends chosen.unit chosen.after.bits after.bits
   pub after_is : after ≡ record chosen.after { bits = after.bits }
   pub counts_are : turned.marks ≡ counts_of marks
-  pub sent_is : turned.sent ≡ has_unit chosen.unit
+  pub filling_is : turned.filling ≡ filling_of chosen
+  pub unchanged : chosen.narrow ≡ false → after ≡ chosen.after
 
 -- a fault broke them off
 pub record BrokenSteps (past : List Bool) (octet : Option ℕ) (before : Terminal) (made made' : List Entry) : Type 0 where
@@ -75,6 +79,11 @@ pub record PutsOut (before after : Terminal) (put put' : List ℕ) (free : ℕ) 
   pub after_is : after ≡ record before { bits = left_of has_room before.bits }
   pub was_full : has_room ≡ false → free ≡ 0
 
+-- a report counts a unit that was appended
+abbrev pub one_if_chosen : Filling → ℕ
+one_if_chosen Filling.Chosen = 1
+one_if_chosen _ = 0
+
 -- A TURN WENT: the octets taken, what the door made, what the line gave and took, the terminal then, and what the turn
 -- tells. Where no octet was taken none waited; where none was put the line is full.
 pub record TurnsOnce (taken taken' : List ℕ) (before : Terminal) (turned : Turned) (made made' : List Entry)
@@ -91,7 +100,7 @@ pub record TurnsOnce (taken taken' : List ℕ) (before : Terminal) (turned : Tur
   pub none_waited : octet ≡ None → waiting ≡ []
   pub was_full : turn.puts.has_room ≡ false → free ≡ 0
   pub counts_are : turned.marks ≡ counts_of marks
-  pub sent_is : turned.sent ≡ has_unit turn.chosen.unit
+  pub filling_is : turned.filling ≡ filling_of turn.chosen
 
 -- a fault broke it off: what the line gave by then; it took nothing
 pub record TurnBreaks (taken taken' : List ℕ) (before : Terminal) (made made' : List Entry)
@@ -104,3 +113,24 @@ pub record TurnBreaks (taken taken' : List ℕ) (before : Terminal) (made made' 
   pub made_is : made' ≡ made ++ entries
   pub given_is : given' ≡ given ++ option_to_list octet
   pub put_is : put' ≡ put
+
+-- a unit of the wide profile ended it: what the line gave by then; it took nothing, and nothing of what's sent changed
+pub record TurnIsWide (taken taken' : List ℕ) (before : Terminal) (made made' : List Entry)
+    (given given' put put' : List ℕ) (after : Terminal) : Type 0 where
+  pub octet : Option ℕ
+  pub entries : List Entry
+  pub turn : IsWideTurn (line_bits taken) before octet entries
+  pub taken_is : taken' ≡ taken ++ option_to_list octet
+  pub made_is : made' ≡ made ++ entries
+  pub given_is : given' ≡ given ++ option_to_list octet
+  pub put_is : put' ≡ put
+  pub after_is : after ≡ turn.chosen.after
+
+-- A TURN FAILED: the door answered a fault, which is told, or gave a unit of the wide profile, whose entry stays there
+pub data TurnFails (fault : TermFault) (faults faults' : List SetFault) (taken taken' : List ℕ) (before : Terminal)
+    (made made' : List Entry) (given given' put put' : List ℕ) (after : Terminal) : Type 0 where
+  by_fault : HasBroken fault faults faults' → TurnBreaks taken taken' before made made' given given' put put'
+      → TurnFails fault faults faults' taken taken' before made made' given given' put put' after
+  by_profile : fault ≡ TermFault.Profile → faults' ≡ faults
+      → TurnIsWide taken taken' before made made' given given' put put' after
+      → TurnFails fault faults faults' taken taken' before made made' given given' put put' after

@@ -1,41 +1,45 @@
 //! What a terminal sends next (Q.703 11.2, 12.1).
-ghost use Rattle.std.specs.Prelude.{◌≡◌, ◌<◌, ◌==◌, List, true, length, IfOk};
+ghost use Rattle.std.specs.Prelude.{◌≡◌, ◌<◌, List, length, IfOk, IsTrue};
+ghost use Rattle.l2_units.specs.declared.profile.Profile.TheVariants.{Narrow};
 ghost use Rattle.l2_units.specs.declared.unit.Unit.TheVariants.{Fisu as FisuUnit};
-ghost use Rattle.link_term.specs.Filling.{next_asked, message_counted, served, Fills, FillsBits, Sends};
+ghost use Rattle.l2_units.specs.Grammar.{IsHeadOf, head_of};
+ghost use Rattle.link_term.specs.declared.counts.Filling.TheVariants.{Chosen};
+ghost use Rattle.link_term.specs.Filling.{next_asked, served, Fills, FillsBits};
 ghost use Rattle.link_term.specs.Talking.{Talks};
 ghost use Rattle.set_events.specs.declared.history.Entry.{Entry};
-ghost use Rattle.term_model.specs.Choosing.{chosen, counts_sent, filled, sends, sends_fisu, sends_status, sent_by, serves, up_first};
+ghost use Rattle.term_model.specs.Choosing.{chosen, counts_sent, filled, given, is_narrow, sends, sends_fisu, sends_status, sent_by, serves, up_first};
 ghost use Rattle.term_model.specs.Terminal.{start_head};
 
+use super::counts::Filling;
 use super::door::Door;
 use super::machines::{ask_up, input_flow};
 use l2_flow::FlowIn;
 use l2_signals::Status;
 use l2_state::State;
-use l2_units::Unit;
+use l2_units::{Unit, header_in};
 use set_events::{Answer, Event, Refusal};
 use set_shared::SetFault;
 use term_core::{Inside, first_header};
 
-/// Where fewer than eight bits are left to send, a unit is chosen and appended; says whether one was.
-pub(crate) fn fill<D: Door>(inside: &mut Inside, door: &mut D) -> Result<bool, SetFault>
+/// Where fewer than eight bits are left to send, a unit is chosen and appended, unless the set gives one of the wide
+/// profile.
+pub(crate) fn fill<D: Door>(inside: &mut Inside, door: &mut D) -> Result<Filling, SetFault>
     requires { D.number door.old ≡ inside.old.link }
     ensures fills { Fills (filled inside.old) result (D.made door.old) (D.made door.new)
         (D.faults door.old) (D.faults door.new) inside.new }
     ensures at { D.number door.new ≡ inside.new.link }
 {
     if !inside.is_short() {
-        return Ok(false);
+        return Ok(Filling::Enough);
     }
-    choose(inside, door)?;
-    Ok(true)
+    choose(inside, door)
 }
 
 /// A unit is chosen, by where the link stands (Q.703 7.2, 12.1), and appended.
-fn choose<D: Door>(inside: &mut Inside, door: &mut D) -> Result<(), SetFault>
+fn choose<D: Door>(inside: &mut Inside, door: &mut D) -> Result<Filling, SetFault>
     requires at { D.number door.old ≡ inside.old.link }
     requires short { length inside.old.bits < 8 }
-    ensures sends { Sends (chosen inside.old.state inside.old) result (D.made door.old)
+    ensures sends { Fills (chosen inside.old.state inside.old) result (D.made door.old)
         (D.made door.new) (D.faults door.old) (D.faults door.new) inside.new }
     ensures at { D.number door.new ≡ inside.new.link }
 {
@@ -48,13 +52,14 @@ fn choose<D: Door>(inside: &mut Inside, door: &mut D) -> Result<(), SetFault>
         State::Ready => send_own(inside, &start_fisu()),
         State::InService { paused } => return serve(inside, door, paused),
     }
-    Ok(())
+    Ok(Filling::Chosen)
 }
 
 /// A unit that the set wasn't asked for is appended.
 fn send_own(inside: &mut Inside, unit: &Unit)
-    requires { length inside.old.bits < 8 }
-    ensures sends { (made : List Entry) → FillsBits (sends unit.now inside.old) true made made inside.new }
+    requires short { length inside.old.bits < 8 }
+    requires narrow { IsHeadOf Narrow (head_of unit.now) }
+    ensures sends { (made : List Entry) → FillsBits (sends unit.now inside.old) Chosen made made inside.new }
     ensures link { inside.new.link ≡ inside.old.link }
 {
     inside.append(unit);
@@ -63,7 +68,7 @@ fn send_own(inside: &mut Inside, unit: &Unit)
 /// An LSSU of this status is appended, with the header of the last unit before (own).
 fn send_status(inside: &mut Inside, status: Status)
     requires { length inside.old.bits < 8 }
-    ensures sends { (made : List Entry) → FillsBits (sends_status status inside.old) true made made inside.new }
+    ensures sends { (made : List Entry) → FillsBits (sends_status status inside.old) Chosen made made inside.new }
     ensures link { inside.new.link ≡ inside.old.link }
 {
     let unit = Unit::Lssu {
@@ -76,7 +81,7 @@ fn send_status(inside: &mut Inside, status: Status)
 /// A FISU is appended, with the header of the last unit before (own).
 fn send_fisu(inside: &mut Inside)
     requires { length inside.old.bits < 8 }
-    ensures sends { (made : List Entry) → FillsBits (sends_fisu inside.old) true made made inside.new }
+    ensures sends { (made : List Entry) → FillsBits (sends_fisu inside.old) Chosen made made inside.new }
     ensures link { inside.new.link ≡ inside.old.link }
 {
     let unit = Unit::Fisu {
@@ -87,7 +92,8 @@ fn send_fisu(inside: &mut Inside)
 
 /// The FISU of a link on which nothing was sent or accepted (Q.703 12.1).
 fn start_fisu() -> Unit
-    ensures { result ≡ FisuUnit start_head }
+    ensures value { result ≡ FisuUnit start_head }
+    ensures narrow { IsHeadOf Narrow (head_of result) }
 {
     Unit::Fisu {
         head: first_header(),
@@ -95,10 +101,10 @@ fn start_fisu() -> Unit
 }
 
 /// What is sent in service; while the set refuses Up it's asked again before each unit.
-fn serve<D: Door>(inside: &mut Inside, door: &mut D, paused: bool) -> Result<(), SetFault>
+fn serve<D: Door>(inside: &mut Inside, door: &mut D, paused: bool) -> Result<Filling, SetFault>
     requires at { D.number door.old ≡ inside.old.link }
     requires short { length inside.old.bits < 8 }
-    ensures sends { Sends (served paused inside.old) result (D.made door.old) (D.made door.new)
+    ensures sends { Fills (served paused inside.old) result (D.made door.old) (D.made door.new)
         (D.faults door.old) (D.faults door.new) inside.new }
     ensures at { D.number door.new ≡ inside.new.link }
 {
@@ -122,34 +128,34 @@ fn ask_up_first<D: Door>(inside: &mut Inside, door: &mut D) -> Result<(), SetFau
 
 /// The start FISU while the set refuses Up; else SIB where it's due (Q.703 9.3); else a FISU in a processor outage of the
 /// far end (8.2, own); else what the set's error control gives (5, 6).
-fn serve_up<D: Door>(inside: &mut Inside, door: &mut D, paused: bool) -> Result<(), SetFault>
+fn serve_up<D: Door>(inside: &mut Inside, door: &mut D, paused: bool) -> Result<Filling, SetFault>
     requires at { D.number door.old ≡ inside.old.link }
     requires short { length inside.old.bits < 8 }
-    ensures sends { Sends (serves paused inside.old) result (D.made door.old) (D.made door.new)
+    ensures sends { Fills (serves paused inside.old) result (D.made door.old) (D.made door.new)
         (D.faults door.old) (D.faults door.new) inside.new }
     ensures at { D.number door.new ≡ inside.new.link }
 {
     if !inside.is_up() {
         send_own(inside, &start_fisu());
-        return Ok(());
+        return Ok(Filling::Chosen);
     }
     if inside.is_b_due() {
         inside.drop_b();
         send_status(inside, Status::Busy);
-        return Ok(());
+        return Ok(Filling::Chosen);
     }
     if paused {
         send_fisu(inside);
-        return Ok(());
+        return Ok(Filling::Chosen);
     }
     ask_next(inside, door)
 }
 
 /// The set is asked for the next unit.
-fn ask_next<D: Door>(inside: &mut Inside, door: &mut D) -> Result<(), SetFault>
+fn ask_next<D: Door>(inside: &mut Inside, door: &mut D) -> Result<Filling, SetFault>
     requires at { D.number door.old ≡ inside.old.link }
     requires short { length inside.old.bits < 8 }
-    ensures sends { Sends (next_asked inside.old) result (D.made door.old) (D.made door.new)
+    ensures sends { Fills (next_asked inside.old) result (D.made door.old) (D.made door.new)
         (D.faults door.old) (D.faults door.new) inside.new }
     ensures at { D.number door.new ≡ inside.new.link }
 {
@@ -164,10 +170,10 @@ fn ask_next<D: Door>(inside: &mut Inside, door: &mut D) -> Result<(), SetFault>
 /// What the set answers to Next: a unit; that the link isn't up there, so that it's stopped here, and SIOS goes out; or
 /// anything else, as if paused (own).
 #[tactic(auto, using(crate::proofs::Links::quiet_link, crate::proofs::Links::quiet_bits))]
-fn send<D: Door>(inside: &mut Inside, door: &mut D, answer: &Answer) -> Result<(), SetFault>
+fn send<D: Door>(inside: &mut Inside, door: &mut D, answer: &Answer) -> Result<Filling, SetFault>
     requires at { D.number door.old ≡ inside.old.link }
     requires short { length inside.old.bits < 8 }
-    ensures sends { Sends (sent_by answer.now inside.old) result (D.made door.old) (D.made door.new)
+    ensures sends { Fills (sent_by answer.now inside.old) result (D.made door.old) (D.made door.new)
         (D.faults door.old) (D.faults door.new) inside.new }
     ensures at { D.number door.new ≡ inside.new.link }
 {
@@ -181,20 +187,32 @@ fn send<D: Door>(inside: &mut Inside, door: &mut D, answer: &Answer) -> Result<(
         }
         _ => send_fisu(inside),
     }
-    Ok(())
+    Ok(Filling::Chosen)
 }
 
-/// A unit that the set gives, as it's sent (Q.703 5.2, 9.3).
-fn send_given<D: Door>(inside: &mut Inside, door: &mut D, unit: &Unit) -> Result<(), SetFault>
+/// A unit that the set gives, as it's sent (Q.703 5.2, 9.3); one of the wide profile isn't, and changes nothing here.
+fn send_given<D: Door>(inside: &mut Inside, door: &mut D, unit: &Unit) -> Result<Filling, SetFault>
     requires at { D.number door.old ≡ inside.old.link }
     requires short { length inside.old.bits < 8 }
-    ensures sends { Sends (message_counted unit.now inside.old) result (D.made door.old)
+    ensures sends { Fills (given unit.now inside.old) result (D.made door.old)
         (D.made door.new) (D.faults door.old) (D.faults door.new) inside.new }
     ensures at { D.number door.new ≡ inside.new.link }
 {
+    if !has_narrow_numbers(unit) {
+        return Ok(Filling::Wide);
+    }
     count_sent(inside, door, unit)?;
     inside.append_given(unit);
-    Ok(())
+    Ok(Filling::Chosen)
+}
+
+/// Whether the unit's numbers have seven bits, as those of a terminal's line have.
+fn has_narrow_numbers(unit: &Unit) -> bool
+    ensures value { result ≡ is_narrow (head_of unit.now) }
+    ensures range { IsTrue result → IsHeadOf Narrow (head_of unit.now) }
+{
+    let head = header_in(unit);
+    head.bsn < 128 && head.fsn < 128
 }
 
 /// T7 runs from the first message on that isn't acknowledged (Q.703 9.3).

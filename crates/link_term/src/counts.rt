@@ -53,6 +53,16 @@ impl MarkCounts {
 #[derive(Clone, Copy, Debug, PartialEq, Eq)]
 pub(crate) struct Turned {
     pub(crate) marks: MarkCounts,
+    pub(crate) filling: Filling,
+}
+
+/// What came of the choice of a unit to send.
+#[derive(Clone, Copy, Debug, PartialEq, Eq)]
+pub(crate) enum Filling {
+    /// Enough was left to send.
+    Enough,
     /// A unit was appended to what is left to send.
-    pub(crate) sent: bool,
+    Chosen,
+    /// The set gave a unit of the wide profile, which isn't sent: the turn ends there.
+    Wide,
 }

@@ -17,10 +17,14 @@ pub enum TermFault {
     /// 3: the set's history is full.
     #[error("the history is full")]
     Exhausted = 3,
+    /// 4: the set gave a unit with a number of more than seven bits.
+    #[error("a unit of the wide profile can't be sent")]
+    Profile = 4,
 }
 
 impl TermFault {
-    /// The fault's number: 1 memory is wanted, 2 a turn before wasn't finished, 3 the history is full.
+    /// The fault's number: 1 memory is wanted, 2 a turn before wasn't finished, 3 the history is full, 4 a unit of the
+    /// wide profile can't be sent.
     pub fn number(self) -> u8
         ensures { result ≡ fault_number self }
     {

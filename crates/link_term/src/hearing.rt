@@ -174,7 +174,7 @@ fn report<D: Door>(
     inside: &mut Inside,
     door: &mut D,
     answer: &Answer,
-    bsn: u8,
+    bsn: u16,
 ) -> Result<(), SetFault>
     requires { D.number door.old ≡ inside.old.link }
     ensures talks { Talks (reported answer.now bsn inside.old) result (D.made door.old)
@@ -198,7 +198,7 @@ fn obey_report<D: Door>(
     inside: &mut Inside,
     door: &mut D,
     report: Report,
-    bsn: u8,
+    bsn: u16,
 ) -> Result<(), SetFault>
     requires { D.number door.old ≡ inside.old.link }
     ensures talks { Talks (report_heard report bsn inside.old) result (D.made door.old)
@@ -215,7 +215,7 @@ fn tell_acks<D: Door>(
     inside: &mut Inside,
     door: &mut D,
     report: Report,
-    bsn: u8,
+    bsn: u16,
 ) -> Result<(), SetFault>
     requires { D.number door.old ≡ inside.old.link }
     ensures talks { Talks (acks report bsn inside.old) result (D.made door.old)
@@ -223,7 +223,7 @@ fn tell_acks<D: Door>(
     ensures at { D.number door.new ≡ inside.new.link }
 {
     if report.acked > 0 || report.resend {
-        let more = bsn != inside.top();
+        let more = bsn != u16::from(inside.top());
         return input_flow(inside, door, FlowIn::Acked { more });
     }
     Ok(())

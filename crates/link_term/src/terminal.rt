@@ -1,14 +1,13 @@
 //! A terminal with its door, its line and its gate.
-ghost use Rattle.std.specs.Prelude.{◌≡◌, ◌+◌, ◌^◌, ◌<◌, ◌≤◌, [], true, false, if◌then◌else◌, IfOk, IfErr, OnOk, OnErr};
-ghost use Rattle.link_term.specs.Turning.{TurnsOnce, TurnBreaks};
-ghost use Rattle.link_term.specs.Failing.{HasBroken};
-ghost use Rattle.link_term.specs.Running.{Runs, RunBreaks};
+ghost use Rattle.std.specs.Prelude.{◌≡◌, ◌+◌, ◌^◌, ◌<◌, ◌≤◌, [], true, false, IfOk, IfErr, OnOk, OnErr};
+ghost use Rattle.link_term.specs.Turning.{TurnsOnce, TurnFails, one_if_chosen};
+ghost use Rattle.link_term.specs.Running.{Runs, RunFails};
 ghost use Rattle.term_model.specs.Runs.{cause_or_0};
 ghost use Rattle.link_term.specs.declared.counts.Turned.{Turned as WasTurned};
 ghost use Rattle.link_term.specs.declared.fault.TermFault.TheVariants.{Failed};
 ghost use Rattle.term_model.specs.Terminal.{opened, told};
 
-use super::counts::Turned;
+use super::counts::{Filling, Turned};
 use super::door::{Door, Gate};
 use super::fault::TermFault;
 use super::receiver::Receiver;
@@ -68,7 +67,8 @@ impl<D: Door, L: Line, G: Gate> Terminal<D, L, G> {
 
     /// One turn, an octet time: commands, one octet in, marks, timers, what is sent next, one octet out.
     ///
-    /// Faults, where the door answered so: 1 [`TermFault::NoMemory`], 3 [`TermFault::Exhausted`]; the turn was broken off
+    /// Faults, where the door answered so: 1 [`TermFault::NoMemory`], 3 [`TermFault::Exhausted`]; 4 [`TermFault::Profile`]
+    /// where it gave a unit that has a number of more than seven bits, whose entry stays with the door. The turn was broken off
     /// there, and nothing was put. After one, 2 [`TermFault::Failed`], and nothing is done.
     pub fn turn(&mut self) -> Result<(), TermFault>
         ensures turns { IfOk result (λ done. (turned : WasTurned) × (self.old.failed ≡ false)
@@ -78,12 +78,12 @@ impl<D: Door, L: Line, G: Gate> Terminal<D, L, G> {
             (L.put_so_far self.old.line) (L.put_so_far self.new.line) (L.free self.new.line)
             self.new.inside
             × (D.faults self.new.door ≡ D.faults self.old.door)) }
-        ensures breaks { self.old.failed ≡ false → IfErr result (λ fault. HasBroken fault
+        ensures breaks { self.old.failed ≡ false → IfErr result (λ fault. TurnFails fault
             (D.faults self.old.door) (D.faults self.new.door)
-            × TurnBreaks self.old.receiver self.new.receiver self.old.inside (D.made self.old.door)
+            self.old.receiver self.new.receiver self.old.inside (D.made self.old.door)
             (D.made self.new.door)
             (L.taken_so_far self.old.line) (L.taken_so_far self.new.line)
-            (L.put_so_far self.old.line) (L.put_so_far self.new.line)) }
+            (L.put_so_far self.old.line) (L.put_so_far self.new.line) self.new.inside) }
         ensures failed { self.old.failed ≡ true → (result ≡ Err Failed)
             × (self.new.door ≡ self.old.door)
             × (self.new.line ≡ self.old.line) × (self.new.inside ≡ self.old.inside)
@@ -106,13 +106,12 @@ impl<D: Door, L: Line, G: Gate> Terminal<D, L, G> {
             (L.taken_so_far self.old.line) (L.taken_so_far self.new.line)
             (L.put_so_far self.old.line) (L.put_so_far self.new.line) report self.new.inside
             × (D.faults self.new.door ≡ D.faults self.old.door)) }
-        ensures breaks { self.old.failed ≡ false → IfErr result (λ fault. HasBroken fault
-            (D.faults self.old.door) (D.faults self.new.door)) }
-        ensures whole { self.old.failed ≡ false → OnErr result (RunBreaks turns
+        ensures breaks { self.old.failed ≡ false → IfErr result (λ fault. RunFails fault
+            (D.faults self.old.door) (D.faults self.new.door) turns
             self.old.receiver self.new.receiver self.old.inside
             (D.made self.old.door) (D.made self.new.door)
             (L.taken_so_far self.old.line) (L.taken_so_far self.new.line)
-            (L.put_so_far self.old.line) (L.put_so_far self.new.line)) }
+            (L.put_so_far self.old.line) (L.put_so_far self.new.line) self.new.inside) }
         ensures failed { self.old.failed ≡ true → (result ≡ Err Failed)
             × (self.new.door ≡ self.old.door)
             × (self.new.line ≡ self.old.line) × (self.new.inside ≡ self.old.inside)
@@ -150,12 +149,12 @@ impl<D: Door, L: Line, G: Gate> Terminal<D, L, G> {
             (L.put_so_far self.old.line) (L.put_so_far self.new.line) (L.free self.new.line)
             self.new.inside
             × (D.faults self.new.door ≡ D.faults self.old.door)) }
-        ensures breaks { self.old.failed ≡ false → IfErr result (λ fault. HasBroken fault
+        ensures breaks { self.old.failed ≡ false → IfErr result (λ fault. TurnFails fault
             (D.faults self.old.door) (D.faults self.new.door)
-            × TurnBreaks self.old.receiver self.new.receiver self.old.inside (D.made self.old.door)
+            self.old.receiver self.new.receiver self.old.inside (D.made self.old.door)
             (D.made self.new.door)
             (L.taken_so_far self.old.line) (L.taken_so_far self.new.line)
-            (L.put_so_far self.old.line) (L.put_so_far self.new.line)) }
+            (L.put_so_far self.old.line) (L.put_so_far self.new.line) self.new.inside) }
         ensures failed { self.old.failed ≡ true → (result ≡ Err Failed)
             × (self.new.door ≡ self.old.door)
             × (self.new.line ≡ self.old.line) × (self.new.inside ≡ self.old.inside)
@@ -176,7 +175,7 @@ impl<D: Door, L: Line, G: Gate> Terminal<D, L, G> {
             Ok(turned) => Ok(turned),
             Err(fault) => {
                 self.failed = true;
-                Err(TermFault::from(fault))
+                Err(fault)
             }
         }
     }
@@ -200,7 +199,7 @@ fn and_one(report: TermReport, turned: Turned) -> TermReport
     requires bad { report.bad < 2 ^ 48 }
     requires sixteen { report.sixteen < 2 ^ 48 }
     ensures turns { result.turns ≡ report.turns + 1 }
-    ensures sent { result.sent ≡ report.sent + (if turned.sent then 1 else 0) }
+    ensures sent { result.sent ≡ report.sent + one_if_chosen turned.filling }
     ensures good { (result.good ≡ report.good + turned.marks.good) × (turned.marks.good < 256) }
     ensures bad { (result.bad ≡ report.bad + turned.marks.bad) × (turned.marks.bad < 256) }
     ensures sixteen { (result.sixteen ≡ report.sixteen + turned.marks.sixteen)
@@ -208,11 +207,21 @@ fn and_one(report: TermReport, turned: Turned) -> TermReport
 {
     TermReport {
         turns: report.turns + 1,
-        sent: report.sent + u64::from(turned.sent),
+        sent: report.sent + one_if_chosen(turned.filling),
         good: report.good + u64::from(turned.marks.good),
         bad: report.bad + u64::from(turned.marks.bad),
         sixteen: report.sixteen + u64::from(turned.marks.sixteen),
         cause: report.cause,
+    }
+}
+
+/// 1 where a unit was appended to what is left to send.
+fn one_if_chosen(filling: Filling) -> u64
+    ensures { result ≡ one_if_chosen filling }
+{
+    match filling {
+        Filling::Chosen => 1,
+        Filling::Enough | Filling::Wide => 0,
     }
 }
 

@@ -1,13 +1,15 @@
 //! The steps of a turn, between the octet that is taken and the one that is put.
-ghost use Rattle.std.specs.Prelude.{◌≡◌, [], ◌∷◌, ◌++◌, IfOk, IfErr};
+ghost use Rattle.std.specs.Prelude.{◌≡◌, [], ◌∷◌, ◌++◌, IfOk, IfErr, IsTrue, ◌↔◌};
 ghost use Rattle.std.specs.Option.{option_to_list};
 ghost use Rattle.l2_bits.specs.LineBits.{line_bits};
-ghost use Rattle.link_term.specs.Turning.{HearsOctet, StepsTo, PutsOut, TurnsOnce, TurnBreaks};
+ghost use Rattle.link_term.specs.declared.counts.Filling.TheVariants.{Wide};
+ghost use Rattle.link_term.specs.Turning.{HearsOctet, StepsTo, PutsOut, TurnsOnce, TurnFails};
 ghost use Rattle.term_model.specs.OctetIn.{bits_in};
 
 use super::choosing::fill;
-use super::counts::{MarkCounts, Turned};
+use super::counts::{Filling, MarkCounts, Turned};
 use super::door::Door;
+use super::fault::TermFault;
 use super::obeying::obey;
 use super::receiver::Receiver;
 use super::timing::end_timers;
@@ -16,29 +18,42 @@ use set_shared::SetFault;
 use term_core::Inside;
 
 /// A turn: commands, one octet in, marks, timers, what is sent next, one octet out.
+///
+/// Faults: those of the door; 4 [`TermFault::Profile`] where the set gives a unit of the wide profile: it's tested before
+/// anything of what is sent changes, and nothing is put.
 pub(crate) fn take_turn<D: Door, L: Line>(
     receiver: &mut Receiver,
     inside: &mut Inside,
     door: &mut D,
     line: &mut L,
-) -> Result<Turned, SetFault>
+) -> Result<Turned, TermFault>
     requires { D.number door.old ≡ inside.old.link }
     ensures turns { IfOk result (λ turned. TurnsOnce receiver.old receiver.new inside.old turned
         (D.made door.old) (D.made door.new) (L.taken_so_far line.old) (L.taken_so_far line.new)
         (L.waiting line.old)
         (L.put_so_far line.old) (L.put_so_far line.new) (L.free line.new) inside.new
         × (D.faults door.new ≡ D.faults door.old)) }
-    ensures breaks { IfErr result (λ fault. TurnBreaks receiver.old receiver.new inside.old
+    ensures fails { IfErr result (λ fault. TurnFails fault (D.faults door.old) (D.faults door.new)
+        receiver.old receiver.new inside.old
         (D.made door.old) (D.made door.new) (L.taken_so_far line.old) (L.taken_so_far line.new)
-        (L.put_so_far line.old) (L.put_so_far line.new)
-        × (D.faults door.new ≡ D.faults door.old ++ fault ∷ [])) }
+        (L.put_so_far line.old) (L.put_so_far line.new) inside.new) }
     ensures at { D.number door.new ≡ inside.new.link }
 {
     obey(inside, door)?;
     let octet = line.take();
     let turned = from_octet(receiver, inside, door, octet)?;
+    if is_wide(turned.filling) {
+        return Err(TermFault::Profile);
+    }
     put_octet(inside, line);
     Ok(turned)
+}
+
+/// Whether the set gave a unit of the wide profile.
+fn is_wide(filling: Filling) -> bool
+    ensures { IsTrue result ↔ (filling ≡ Wide) }
+{
+    matches!(filling, Filling::Wide)
 }
 
 /// The next octet is put; where the line is full it stays for the next turn.
@@ -68,8 +83,8 @@ pub(crate) fn from_octet<D: Door>(
 {
     let marks = hear_octet(receiver, inside, door, octet)?;
     end_timers(inside, door)?;
-    let sent = fill(inside, door)?;
-    Ok(Turned { marks, sent })
+    let filling = fill(inside, door)?;
+    Ok(Turned { marks, filling })
 }
 
 /// The marks of the octet that was taken, if one was.

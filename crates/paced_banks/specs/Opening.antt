@@ -1,5 +1,6 @@
 -- WHAT TWO BANKS ARE OPENED WITH, and what their sets came to.
 use Rattle.std.specs.Prelude.{◌≡◌, ℕ, Bool, true, false, zero, suc, List, [], ◌∷◌, ◌++◌, map, All}
+use Rattle.l2_units.specs.declared.profile.Profile.TheVariants.{Narrow}
 use Rattle.set_events.specs.declared.config.SetConfig.{SetConfig}
 use Rattle.set_events.specs.declared.config.Method.{Method}
 use Rattle.set_events.specs.declared.config.Method.TheVariants.{Basic, Cyclic}
@@ -15,7 +16,7 @@ numbers_below (suc n) = numbers_below n ++ n ∷ []
 -- the sets 0, 1, .., each of so many links, at the end of point code `opc`; the SIO of orders is 0x80
 pub record AreConfigs (sets links opc dpc : ℕ) (method : Method) (configs : List SetConfig) : Type 0 where
   pub numbers : map (λ (config : SetConfig). config.set) configs ≡ numbers_below sets
-  pub alike : All (λ (config : SetConfig). IsConfigOf config config.set links opc dpc 128 method) configs
+  pub alike : All (λ (config : SetConfig). IsConfigOf config Narrow config.set links opc dpc 128 method) configs
 
 -- set by set, an end of such a configuration
 abbrev pub AreEndsOf : ℕ → ℕ → ℕ → ℕ → Method → List SetEnd → Type 0

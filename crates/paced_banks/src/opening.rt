@@ -1,6 +1,7 @@
 //! What two banks are opened with.
 ghost use Rattle.std.specs.Prelude.{◌≡◌, ◌<◌, ◌≤◌, ◌^◌, true, IfOk};
 ghost use Rattle.paced_banks.specs.Opening.{AreConfigs, method_of};
+ghost use Rattle.l2_units.specs.declared.profile.Profile.TheVariants.{Narrow};
 ghost use Rattle.set_events.specs.Method.{is_method};
 
 use bank_core::Job;
@@ -33,7 +34,7 @@ pub(crate) fn configs_of(
 ) -> Result<Vec<SetConfig>, AllocError>
     requires links { (1 ≤ links) × (links ≤ 16) }
     requires codes { (opc < 2 ^ 14) × (dpc < 2 ^ 14) }
-    requires method { is_method method ≡ true }
+    requires method { is_method Narrow method ≡ true }
     ensures { IfOk result (λ configs. AreConfigs sets links opc dpc method configs.items) }
 {
     let mut configs = Vec::new(alloc);

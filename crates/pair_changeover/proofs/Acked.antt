@@ -20,12 +20,12 @@ use Rattle.set_model.specs.Changeover.{fate_on, queued, left_by, left_link, out_
 use Rattle.set_model.specs.Control.{Choice, again, first, fill, choice_of, part_of}
 use Rattle.set_model.specs.Rows.{Row, all_with, is_waiting, is_unacked, is_on, is_back, is_back_to, is_parked, stands_back, octets_in, stream_of, turned, changed, moved, appended, with_fate, place, unack, wait, IsNumbered, IsInOrder}
 use Rattle.set_model.specs.Sound.{IsSound}
-use Rattle.set_model.specs.State.{LinkState, State, Settings, has_phase_settled, is_settled, is_up, link_is_settled, new_link, opened_with, fate_at, target, window_of}
+use Rattle.set_model.specs.State.{FinishedCounts, all_finished, given, LinkState, State, Settings, has_phase_settled, is_settled, is_up, link_is_settled, new_link, opened_with, fate_at, target, window_of}
 use Rattle.set_model.specs.Step.{with_known, is_msu, after_control, next, offered, rises, rows_sent, step, takes}
 use Rattle.std.proofs.lemmas.Bool.{cond_both}
-use Rattle.set_model.proofs.Events.{ChangesOn, acknowledged, appended_out, unparked}
+use Rattle.set_model.proofs.Events.{sent_by, ChangesOn, acknowledged, appended_out, unparked}
 use Rattle.set_model.proofs.Events as events
-use Rattle.set_model.proofs.Rows.{with_number, numbered_appended, turned_there, turned_left, turned_same, changed_left, at_most_one, moved_numbered, moved_same}
+use Rattle.set_model.proofs.Rows.{with_number, numbered_appended, turned_there, turned_left, turned_same, changed_left, at_most_one, moved_length, moved_numbered, moved_same, new_row}
 use Rattle.set_model.proofs.Lists.{get_set_same, get_set_other, same_at, within}
 use Rattle.set_model.proofs.Places.{false_true, itself, apart_back, on_other, not_on_unacked, back_not_on, code_back, home_back}
 use Rattle.set_model.proofs.Staying.{acked_few, not_sent, offered_out}
@@ -47,7 +47,7 @@ abbrev pub IsRest : ℕ → LinkState → List Row → List Message → Type 0
 IsRest l link rows sent = (messages (unack l rows) ≡ drop link.acked sent) ⊎ ((link.phase ≡ Down) × (unack l rows ≡ []))
 
 pub record AckedFirst (l : ℕ) (sent : List Message) (s : State) : Type 0 where
-  pub numbered : IsNumbered s.rows
+  pub numbered : IsNumbered (given s) s.rows
   pub few : acked_on l s ≤ length sent
   pub first : AreAcked l s.rows (take (acked_on l s) sent)
   pub going : (link : LinkState) → slice_get s.links l ≡ Some link → has_phase_settled link.phase ≡ false → IsRest l link s.rows sent
@@ -122,12 +122,12 @@ pub record Grown (l acked : ℕ) (sent : List Message) (rows : List Row) : Type 
   pub first : AreAcked l rows (take acked sent)
   pub rest : messages (unack l rows) ≡ drop acked sent
 
-grown : (l acked count : ℕ) (sent : List Message) (rows : List Row) → IsNumbered rows → acked ≤ length sent → AreAcked l rows (take acked sent) → messages (unack l rows) ≡ drop acked sent → count ≤ length (unack l rows) → Grown l (acked + count) sent (turned (is_unacked l) (Acked l) count rows)
+grown : (given l acked count : ℕ) (sent : List Message) (rows : List Row) → IsNumbered given rows → acked ≤ length sent → AreAcked l rows (take acked sent) → messages (unack l rows) ≡ drop acked sent → count ≤ length (unack l rows) → Grown l (acked + count) sent (turned (is_unacked l) (Acked l) count rows)
 unfolding AreApart
-grown l acked count sent rows numbered few are rest enough =
+grown given l acked count sent rows numbered few are rest enough =
     let new = turned (is_unacked l) (Acked l) count rows in
     let one_part = still l rows new (turned_stay (Acked l) (is_unacked l) refl (Acked l) count rows) (take acked sent) are in
-    let other_part = first_turned l count rows (λ number. at_most_one number rows numbered) in
+    let other_part = first_turned l count rows (λ number. at_most_one given number rows numbered) in
     let many : length (unack l rows) ≡ length sent - acked = sym (length-map (unack l rows) message_of) ∙ ap length rest ∙ length-drop acked sent in
     record {
       few = omega (arith, few, enough, many);
@@ -136,9 +136,13 @@ grown l acked count sent rows numbered few are rest enough =
     }
 
 -- ONE END.
+-- numbers given out, where as many rows are there
+pub numbered_on : (s t : State) → t.finished ≡ s.finished → length t.rows ≡ length s.rows → IsNumbered (given s) t.rows → IsNumbered (given t) t.rows
+numbered_on s t gone long numbered = subst (λ (n : ℕ). IsNumbered n t.rows) (sym (ap (λ (f : FinishedCounts). all_finished f + length t.rows) gone ∙ ap (λ (n : ℕ). all_finished s.finished + n) long)) numbered
+
 module _ (l : ℕ) (sent : List Message) where
   -- nothing that is told of the link changed
-  goes_on : (s t : State) → IsNumbered t.rows → Stays (Acked l) s.rows t.rows → slice_get t.links l ≡ slice_get s.links l → unack l t.rows ≡ unack l s.rows → AckedFirst l sent s → AckedFirst l sent t
+  goes_on : (s t : State) → IsNumbered (given t) t.rows → Stays (Acked l) s.rows t.rows → slice_get t.links l ≡ slice_get s.links l → unack l t.rows ≡ unack l s.rows → AckedFirst l sent s → AckedFirst l sent t
   goes_on s t numbered stay same unacked a =
       let count : acked_on l t ≡ acked_on l s = ap acked_of same in
       record {
@@ -149,7 +153,7 @@ module _ (l : ℕ) (sent : List Message) where
       }
 
   -- the link itself is set
-  own_set : (s t : State) (link after : LinkState) → slice_get s.links l ≡ Some link → t.links ≡ slice_set s.links l after → IsNumbered t.rows → after.acked ≤ length sent → AreAcked l t.rows (take after.acked sent) → (has_phase_settled after.phase ≡ false → IsRest l after t.rows sent) → AckedFirst l sent t
+  own_set : (s t : State) (link after : LinkState) → slice_get s.links l ≡ Some link → t.links ≡ slice_set s.links l after → IsNumbered (given t) t.rows → after.acked ≤ length sent → AreAcked l t.rows (take after.acked sent) → (has_phase_settled after.phase ≡ false → IsRest l after t.rows sent) → AckedFirst l sent t
   own_set s t link after there links numbered few are rest =
       let found : slice_get t.links l ≡ Some after = ap (λ (ls : List LinkState). slice_get ls l) links ∙ get_set_same s.links l after (within s.links l link there) in
       let count : acked_on l t ≡ after.acked = ap acked_of found in
@@ -169,19 +173,19 @@ module _ (l : ℕ) (sent : List Message) where
       (omega (arith, count, few), subst (λ (n : ℕ). AreAcked l s.rows (take n sent)) count a.first)
 
   -- so many of its unacknowledged messages are acknowledged
-  own_acked : (count : ℕ) (link after : LinkState) (s t : State) → slice_get s.links l ≡ Some link → t.links ≡ slice_set s.links l after → t.rows ≡ turned (is_unacked l) (Acked l) count s.rows → after.acked ≡ link.acked + count → after.phase ≡ link.phase → has_phase_settled link.phase ≡ false → count ≤ length (unack l s.rows) → AckedFirst l sent s → AckedFirst l sent t
-  own_acked count link after s t there links rows acked phase unsettled enough a = go (a.going link there unsettled)
+  own_acked : (count : ℕ) (link after : LinkState) (s t : State) → t.finished ≡ s.finished → slice_get s.links l ≡ Some link → t.links ≡ slice_set s.links l after → t.rows ≡ turned (is_unacked l) (Acked l) count s.rows → after.acked ≡ link.acked + count → after.phase ≡ link.phase → has_phase_settled link.phase ≡ false → count ≤ length (unack l s.rows) → AckedFirst l sent s → AckedFirst l sent t
+  own_acked count link after s t gone there links rows acked phase unsettled enough a = go (a.going link there unsettled)
     where
       new : List Row
       new = turned (is_unacked l) (Acked l) count s.rows
 
-      numbered : IsNumbered t.rows
-      numbered = rw rows ((acknowledged l count s.rows).kept.numbered a.numbered)
+      numbered : IsNumbered (given t) t.rows
+      numbered = numbered_on s t gone (rw rows (acknowledged l count s.rows).kept.count) (rw rows ((acknowledged l count s.rows).kept.numbered (given s) a.numbered))
 
       go : IsRest l link s.rows sent → AckedFirst l sent t
       go (inl rest) =
           let now = at_link s link there a in
-          let g = grown l link.acked count sent s.rows a.numbered now.0 now.1 rest enough in
+          let g = grown (given s) l link.acked count sent s.rows a.numbered now.0 now.1 rest enough in
           own_set s t link after there links numbered (rw acked g.few) (rw (acked, rows) g.first) (λ e. inl (rw (acked, rows) g.rest))
       go (inr none) =
           let now = at_link s link there a in
@@ -203,13 +207,17 @@ module _ (l : ℕ) (sent : List Message) where
       go false e = others e
 
   -- THE SMALL CHANGES
-  appends : (s t : State) (body : List ℕ) (fate : Fate) → is_unacked l fate ≡ false → t.rows ≡ appended s.rows body fate → slice_get t.links l ≡ slice_get s.links l → AckedFirst l sent s → AckedFirst l sent t
-  appends s t body fate unsent rows links a = goes_on s t (rw rows (numbered_appended s.rows body fate a.numbered)) (rw rows (joined_stay (Acked l) s.rows _)) links (ap (unack l) rows ∙ appended_out s.rows body fate (is_unacked l) unsent) a
+  appends : (s t : State) (body : List ℕ) (fate : Fate) → t.finished ≡ s.finished → is_unacked l fate ≡ false → t.rows ≡ appended (given s) s.rows body fate → slice_get t.links l ≡ slice_get s.links l → AckedFirst l sent s → AckedFirst l sent t
+  appends s t body fate gone unsent rows links a =
+      let long : length t.rows ≡ length s.rows + 1 = ap length rows ∙ length-append s.rows (new_row (given s) body fate ∷ []) in
+      let more : given t ≡ given s + 1 = omega (arith, long, ap all_finished gone) in
+      let numbered : IsNumbered (given s + 1) t.rows = rw rows (numbered_appended (given s) s.rows body fate a.numbered) in
+      goes_on s t (subst (λ (n : ℕ). IsNumbered n t.rows) (sym more) numbered) (rw rows (joined_stay (Acked l) s.rows _)) links (ap (unack l) rows ∙ appended_out (given s) s.rows body fate (is_unacked l) unsent) a
 
   -- what stood back goes elsewhere
-  turns : (test : Fate → Bool) (fate : Row → Fate) (s t : State) → test (Acked l) ≡ false → ((f : Fate) → test f ≡ true → stands_back f ≡ true) → ((row : Row) → is_unacked l (fate row) ≡ false) → t.rows ≡ moved test fate s.rows → t.links ≡ s.links → AckedFirst l sent s → AckedFirst l sent t
-  turns test fate s t w back unsent rows links a =
-      goes_on s t (rw rows (moved_numbered test fate s.rows a.numbered)) (rw rows (moved_stay (Acked l) test w fate s.rows a.numbered)) (ap (λ (ks : List LinkState). slice_get ks l) links)
+  turns : (test : Fate → Bool) (fate : Row → Fate) (s t : State) → t.finished ≡ s.finished → test (Acked l) ≡ false → ((f : Fate) → test f ≡ true → stands_back f ≡ true) → ((row : Row) → is_unacked l (fate row) ≡ false) → t.rows ≡ moved test fate s.rows → t.links ≡ s.links → AckedFirst l sent s → AckedFirst l sent t
+  turns test fate s t gone w back unsent rows links a =
+      goes_on s t (numbered_on s t gone (rw rows (moved_length test fate s.rows)) (rw rows (moved_numbered test fate (given s) s.rows a.numbered))) (rw rows (moved_stay (Acked l) test w (given s) fate s.rows a.numbered)) (ap (λ (ks : List LinkState). slice_get ks l) links)
       (ap (unack l) rows ∙ moved_same test (is_unacked l) fate s.rows unsent (λ f e. not_on_unacked l f (back_not_on l f (back f e)))) a
 
   leaves_own : (blind : Bool) (link : LinkState) (s : State) → IsAt l link Up s → AckedFirst l sent s → AckedFirst l sent (out_of_service blind l link s)
@@ -222,19 +230,19 @@ module _ (l : ℕ) (sent : List Message) where
   leaves_any : (blind : Bool) (n : ℕ) (link : LinkState) (s : State) → IsAt n link Up s → AckedFirst l sent s → AckedFirst l sent (left_by blind n link s)
   leaves_any blind n link s at a =
       let out = out_of_service blind n link s in
-      turns (is_back_to n) _ out (left_by blind n link s) refl (home_back n) (λ row. offered_out l _ out) refl refl
+      turns (is_back_to n) _ out (left_by blind n link s) refl refl (home_back n) (λ row. offered_out l _ out) refl refl
       (by_link n (λ m. IsAt m link Up s → AckedFirst l sent (out_of_service blind m link s)) (λ here. leaves_own blind link s here a) (λ d here. goes_on s out a.numbered (λ number e. e) (other_set n (left_link blind link) s.links d) refl a) at)
 
-  acknowledges_any : (count n : ℕ) (link after : LinkState) (s t : State) → slice_get s.links n ≡ Some link → t.links ≡ slice_set s.links n after → t.rows ≡ turned (is_unacked n) (Acked n) count s.rows → after.acked ≡ link.acked + count → after.phase ≡ link.phase → has_phase_settled link.phase ≡ false → count ≤ length (unack n s.rows) → AckedFirst l sent s → AckedFirst l sent t
-  acknowledges_any count n link after s t there links rows acked phase unsettled enough a =
+  acknowledges_any : (count n : ℕ) (link after : LinkState) (s t : State) → t.finished ≡ s.finished → slice_get s.links n ≡ Some link → t.links ≡ slice_set s.links n after → t.rows ≡ turned (is_unacked n) (Acked n) count s.rows → after.acked ≡ link.acked + count → after.phase ≡ link.phase → has_phase_settled link.phase ≡ false → count ≤ length (unack n s.rows) → AckedFirst l sent s → AckedFirst l sent t
+  acknowledges_any count n link after s t gone there links rows acked phase unsettled enough a =
       by_link n (λ m. slice_get s.links m ≡ Some link → t.links ≡ slice_set s.links m after → t.rows ≡ turned (is_unacked m) (Acked m) count s.rows → count ≤ length (unack m s.rows) → AckedFirst l sent t)
-      (λ at ls rs few. own_acked count link after s t at ls rs acked phase unsettled few a)
-      (λ d at ls rs few. goes_on s t (rw rs ((acknowledged n count s.rows).kept.numbered a.numbered)) (rw rs (turned_stay (Acked l) (is_unacked n) refl (Acked n) count s.rows)) (ap (λ (ks : List LinkState). slice_get ks l) ls ∙ other_set n after s.links d) (ap (unack l) rs ∙ ((acknowledged n count s.rows).others l d).unack_same) a)
+      (λ at ls rs few. own_acked count link after s t gone at ls rs acked phase unsettled few a)
+      (λ d at ls rs few. goes_on s t (numbered_on s t gone (rw rs (acknowledged n count s.rows).kept.count) (rw rs ((acknowledged n count s.rows).kept.numbered (given s) a.numbered))) (rw rs (turned_stay (Acked l) (is_unacked n) refl (Acked n) count s.rows)) (ap (λ (ks : List LinkState). slice_get ks l) ls ∙ other_set n after s.links d) (ap (unack l) rs ∙ ((acknowledged n count s.rows).others l d).unack_same) a)
       there links rows enough
 
   gives_up_own : (cause : DiscardCause) (link : LinkState) (s : State) → IsAt l link Down s → AckedFirst l sent s → AckedFirst l sent (record s { rows = changed (is_unacked l) (Discarded cause) s.rows })
   gives_up_own cause link s at a = record {
-    numbered = (events.given_up l true cause s.rows).kept.numbered a.numbered;
+    numbered = numbered_on s (record s { rows = changed (is_unacked l) (Discarded cause) s.rows }) refl (events.given_up l true cause s.rows).kept.count ((events.given_up l true cause s.rows).kept.numbered (given s) a.numbered);
     few = a.few;
     first = still l s.rows (changed (is_unacked l) (Discarded cause) s.rows) (changed_stay (Acked l) (is_unacked l) refl (Discarded cause) s.rows) (take (acked_on l s) sent) a.first;
     going = λ other there unsettled. inr (ap (λ (k : LinkState). k.phase) (same_at s.links l link other at.there there) ∙ at.phase_is, changed_left (is_unacked l) (Discarded cause) refl s.rows);
@@ -247,11 +255,11 @@ module _ (l : ℕ) (sent : List Message) where
       (λ d there. goes_on s (moved_over n link s) (numbered n) (stay n) (other_set n (settled_link link) s.links d) (moved_same (is_on n) (is_unacked l) (all_with (fate_on (target s.links))) s.rows (λ x. not_sent l (target s.links)) (λ f e. not_on_unacked l f (on_other l n (apart_back n l d) f e))) a)
       at
     where
-      numbered : (m : ℕ) → IsNumbered (moved (is_on m) (all_with (fate_on (target s.links))) s.rows)
-      numbered m = moved_numbered (is_on m) (all_with (fate_on (target s.links))) s.rows a.numbered
+      numbered : (m : ℕ) → IsNumbered (given (moved_over m link s)) (moved (is_on m) (all_with (fate_on (target s.links))) s.rows)
+      numbered m = numbered_on s (moved_over m link s) refl (moved_length (is_on m) (all_with (fate_on (target s.links))) s.rows) (moved_numbered (is_on m) (all_with (fate_on (target s.links))) (given s) s.rows a.numbered)
 
       stay : (m : ℕ) → Stays (Acked l) s.rows (moved (is_on m) (all_with (fate_on (target s.links))) s.rows)
-      stay m = moved_stay (Acked l) (is_on m) refl (all_with (fate_on (target s.links))) s.rows a.numbered
+      stay m = moved_stay (Acked l) (is_on m) refl (given s) (all_with (fate_on (target s.links))) s.rows a.numbered
 
   -- whatever small change is made
   pub small : (Known : ℕ → Type 0) (May : Type 0) → KeptBy Known May (λ s t. AckedFirst l sent s → AckedFirst l sent t)
@@ -259,15 +267,15 @@ module _ (l : ℕ) (sent : List Message) where
     same = λ s a. a;
     after = λ s t u p q a. q (p a);
     delivers = λ body s a. record { numbered = a.numbered; few = a.few; first = a.first; going = a.going };
-    queues = λ order s a. appends s (queued order s) (text order s.settings.sio s.settings.dpc s.settings.opc) (fate_on (target s.links)) (not_sent l (target s.links)) refl refl a;
+    queues = λ order s a. appends s (queued order s) (text s.settings.profile order s.settings.sio s.settings.dpc s.settings.opc) (fate_on (target s.links)) refl (not_sent l (target s.links)) refl refl a;
     leaves = λ blind n link s known at a. leaves_any blind n link s at a;
-    acknowledges = λ count n link s known at enough g a. acknowledges_any count n link (acknowledged_link count link) s (acknowledged_by count n link s) at.there refl refl refl refl (ap has_phase_settled at.phase_is) enough a;
+    acknowledges = λ count n link s known at enough g a. acknowledges_any count n link (acknowledged_link count link) s (acknowledged_by count n link s) refl at.there refl refl refl refl (ap has_phase_settled at.phase_is) enough a;
     gives_up = λ was_sent cause n link s known at g. cond_both was_sent (is_unacked n) (is_waiting n) (λ test. ChangesOn n s.rows (changed test (Discarded cause) s.rows) → AckedFirst l sent s → AckedFirst l sent (record s { rows = changed test (Discarded cause) s.rows })) (λ e g a. by_link n (λ m. IsAt m link Down s → AckedFirst l sent (record s { rows = changed (is_unacked m) (Discarded cause) s.rows })) (λ here. gives_up_own cause link s here a)
-        (λ d here. goes_on s (record s { rows = changed (is_unacked n) (Discarded cause) s.rows }) (g.kept.numbered a.numbered) (changed_stay (Acked l) (is_unacked n) refl (Discarded cause) s.rows) refl ((g.others l d).unack_same) a) at)
-        (λ e g a. goes_on s (record s { rows = changed (is_waiting n) (Discarded cause) s.rows }) (g.kept.numbered a.numbered) (changed_stay (Acked l) (is_waiting n) refl (Discarded cause) s.rows) refl (turned_same (is_waiting n) (is_unacked l) (Discarded cause) refl (λ f e. grind arith) (length s.rows) s.rows) a) g;
+        (λ d here. goes_on s (record s { rows = changed (is_unacked n) (Discarded cause) s.rows }) (numbered_on s (record s { rows = changed (is_unacked n) (Discarded cause) s.rows }) refl g.kept.count (g.kept.numbered (given s) a.numbered)) (changed_stay (Acked l) (is_unacked n) refl (Discarded cause) s.rows) refl ((g.others l d).unack_same) a) at)
+        (λ e g a. goes_on s (record s { rows = changed (is_waiting n) (Discarded cause) s.rows }) (numbered_on s (record s { rows = changed (is_waiting n) (Discarded cause) s.rows }) refl g.kept.count (g.kept.numbered (given s) a.numbered)) (changed_stay (Acked l) (is_waiting n) refl (Discarded cause) s.rows) refl (turned_same (is_waiting n) (is_unacked l) (Discarded cause) refl (λ f e. grind arith) (length s.rows) s.rows) a) g;
     moves_off = λ n link s known at a. moves_off_any n link s at a;
-    declares = λ may home alternative s up can a. appends s (declared home alternative s) _ (Waiting alternative) refl refl refl a;
-    releases = λ code s known a. turns (is_back code) (all_with (Waiting _)) s (released code s) refl (code_back code) (λ row. refl) refl refl a;
+    declares = λ may home alternative s up can a. appends s (declared home alternative s) _ (Waiting alternative) refl refl refl refl a;
+    releases = λ code s known a. turns (is_back code) (all_with (Waiting _)) s (released code s) refl refl (code_back code) (λ row. refl) refl refl a;
   }
 
   pub settles_kept : (reached : Reached) (n : ℕ) (link : LinkState) (s : State) → IsAt n link Down s → AckedFirst l sent s → AckedFirst l sent (settled reached n link s)
@@ -288,18 +296,13 @@ module _ (l : ℕ) (sent : List Message) where
   pub hears_part : (n : ℕ) (unit : SignalUnit) (link : LinkState) (s : State) → IsAt n link Up s → AckedFirst l sent s → AckedFirst l sent (after_control (part_of link.control (window_of n link s.rows) (header_in unit) (is_msu unit)) (header_in unit) unit n s link)
   hears_part n unit link s at a =
       let part = part_of link.control (window_of n link s.rows) (header_in unit) (is_msu unit) in
-      acknowledges_any part.acked n link _ s (after_control part (header_in unit) unit n s link) at.there refl refl refl refl (ap has_phase_settled at.phase_is) (acked_few n link s.rows (header_in unit) (is_msu unit)) a
+      acknowledges_any part.acked n link _ s (after_control part (header_in unit) unit n s link) refl at.there refl refl refl refl (ap has_phase_settled at.phase_is) (acked_few n link s.rows (header_in unit) (is_msu unit)) a
 
 -- A UNIT IS SENT. What the link's unacknowledged messages gain stands behind them.
 sent_more : (choice : Choice) (l : ℕ) (rows : List Row) → IsInOrder l rows → (more : List Row) × (unack l (rows_sent choice l rows) ≡ unack l rows ++ more)
 sent_more (again place) l rows order = ([], sym (append-nil (unack l rows)))
 sent_more first l rows order = (map (with_fate (Unacked l)) (take 1 (wait l rows)), (events.sent l rows).unack_is order)
 sent_more fill l rows order = ([], sym (append-nil (unack l rows)))
-
-sent_numbered : (choice : Choice) (n : ℕ) (rows : List Row) → IsNumbered rows → IsNumbered (rows_sent choice n rows)
-sent_numbered (again place) n rows numbered = numbered
-sent_numbered first n rows numbered = (events.sent n rows).kept.numbered numbered
-sent_numbered fill n rows numbered = numbered
 
 sent_stay : (choice : Choice) (l n : ℕ) (rows : List Row) → Stays (Acked l) rows (rows_sent choice n rows)
 sent_stay (again place) l n rows = λ number e. e
@@ -321,7 +324,7 @@ module _ (l : ℕ) (sent : List Message) (s : State) where
       let now = at_link l sent s link at.there a in
       let gained : first_sent l s t ≡ messages more.0 = ap (λ (rows : List Row). messages (drop (length (unack l s.rows)) rows)) more.1 ∙ ap messages (drop-append_seam (unack l s.rows) more.0) in
       let longer = length-append sent (first_sent l s t) in
-      own_set l (sent ++ first_sent l s t) s t link _ at.there refl (sent_numbered choice l s.rows a.numbered) (omega (arith, now.0, longer))
+      own_set l (sent ++ first_sent l s t) s t link _ at.there refl (numbered_on s (next l s link).state refl (sent_by choice l s.rows).kept.count ((sent_by choice l s.rows).kept.numbered (given s) a.numbered)) (omega (arith, now.0, longer))
       (subst (AreAcked l t.rows) (sym (take-append-le link.acked sent (first_sent l s t) now.0)) (still l s.rows t.rows (sent_stay choice l l s.rows) (take link.acked sent) now.1))
       (λ e. inl (ap messages more.1 ∙ map-append message_of (unack l s.rows) more.0 ∙ ap (λ (ms : List Message). ms ++ messages more.0) (rest_up l sent link s at a) ∙ ap (λ (ms : List Message). drop link.acked sent ++ ms) (sym gained) ∙ sym (drop-append-le link.acked sent (first_sent l s t) now.0)))
 
@@ -333,7 +336,7 @@ module _ (l : ℕ) (sent : List Message) (s : State) where
       go false e =
           let choice = choice_of (octets_in (unack n s.rows)) link.control (window_of n link s.rows) in
           let d = apart_back l n e in
-          goes_on l sent s (next n s link).state (sent_numbered choice n s.rows a.numbered) (sent_stay choice l n s.rows) (other_set l sent n _ s.links d) (sent_apart choice l n s.rows d) a
+          goes_on l sent s (next n s link).state (numbered_on s (next n s link).state refl (sent_by choice n s.rows).kept.count ((sent_by choice n s.rows).kept.numbered (given s) a.numbered)) (sent_stay choice l n s.rows) (other_set l sent n _ s.links d) (sent_apart choice l n s.rows d) a
 
   -- one that isn't in service sends nothing
   sends_none : (n : ℕ) → AckedFirst l sent s → AckedFirst l (if l == n then sent ++ first_sent n s s else sent) s
@@ -363,13 +366,13 @@ module _ (l : ℕ) (sent : List Message) (s : State) where
       own : IsAt l link Settled s → AckedFirst l [] (rises l s Settled).state
       own here =
           let none : unack l (rises l s Settled).state.rows ≡ [] = (unparked l s.rows).unack_same ∙ (settled_empty s l link sound here.there here.phase_is).unack_none in
-          own_set l [] s (rises l s Settled).state link _ here.there refl ((unparked l s.rows).kept.numbered a.numbered) (omega arith) (All-nil _) (λ e. inl (ap messages none))
+          own_set l [] s (rises l s Settled).state link _ here.there refl (numbered_on s (rises l s Settled).state refl (unparked l s.rows).kept.count ((unparked l s.rows).kept.numbered (given s) a.numbered)) (omega arith) (All-nil _) (λ e. inl (ap messages none))
 
       go : (b : Bool) → (l == n) ≡ b → AckedFirst l (if b then [] else sent) (rises n s Settled).state
       go true e = subst (λ (m : ℕ). IsAt m link Settled s → AckedFirst l [] (rises m s Settled).state) (eqb-true l n e) own at
       go false e =
           let d = apart_back l n e in
-          goes_on l sent s (rises n s Settled).state ((unparked n s.rows).kept.numbered a.numbered) (moved_stay (Acked l) is_parked refl (all_with (Waiting n)) s.rows a.numbered) (other_set l sent n _ s.links d) (((unparked n s.rows).others l d).unack_same) a
+          goes_on l sent s (rises n s Settled).state (numbered_on s (rises n s Settled).state refl (unparked n s.rows).kept.count ((unparked n s.rows).kept.numbered (given s) a.numbered)) (moved_stay (Acked l) is_parked refl (given s) (all_with (Waiting n)) s.rows a.numbered) (other_set l sent n _ s.links d) (((unparked n s.rows).others l d).unack_same) a
 
   up_kept : (n : ℕ) → IsSound s → AckedFirst l sent s → AckedFirst l (if is_settled n s then (if l == n then [] else sent) else sent) (step s (UpEvent n)).state
   unfolding step
@@ -390,10 +393,10 @@ module _ (l : ℕ) (sent : List Message) (s : State) where
     small = small l sent _ _;
     unmoved = a;
     rests = λ t u b keeps. keeps b;
-    offers = λ body e none. appends l sent s (offered None s body).state body (fate_at (place_of (stream_of body) s.routing) s) (offered_out l (place_of (stream_of body) s.routing) s) refl refl a;
+    offers = λ body e none. appends l sent s (offered None s body).state body (fate_at (place_of (stream_of body) s.routing) s) refl (offered_out l (place_of (stream_of body) s.routing) s) refl refl a;
     takes = λ body rest e there. record { numbered = a.numbered; few = a.few; first = a.first; going = a.going };
     sends = λ n link e at g. absurd (not_next n e);
-    hears = λ n unit link e at g. hears_part l sent n unit link s at a;
+    hears = λ n unit link e fits at g. hears_part l sent n unit link s at a;
     rises = λ n link e at u. absurd (not_up n e);
   })
 
@@ -425,9 +428,9 @@ none_acked (suc l) (suc count) link e = none_acked l count link e
 
 pub new_acked_first : (l : ℕ) (settings : Settings) → AckedFirst l [] (opened_with settings)
 new_acked_first l settings =
-    let none = none_acked l settings.links (new_link settings.method) refl in
+    let none = none_acked l settings.links (new_link settings.profile settings.method) refl in
     record {
-      numbered = λ number. sym (ap (λ (b : Bool). cond b 1 0) (le-ltb number 0 (omega arith)));
+      numbered = λ number. omega arith;
       few = omega (arith, none);
       first = subst (λ (n : ℕ). AreAcked l [] (take n [])) (sym none) (All-nil _);
       going = λ link there unsettled. inl (sym (drop-nil link.acked));

@@ -1,4 +1,5 @@
 -- A UNIT IS HEARD, or a link comes up: what holds of both ends is kept, and a link that settles diverts exactly the rest.
+use Rattle.l2_window.specs.Window.{fsn_count, fsn_before_first, most_unacked}
 use Rattle.std.proofs.Common.{refl, arith, ◌≡◌, ◌∙◌, ap, sym, subst, ℕ, zero, suc, ◌<◌, ◌==◌, ◌+◌, ◌-◌, ◌%◌, Bool, true, false, List, [], ◌∷◌, ◌++◌, All, length, take, drop, slice_get, Option, Some, None, append_assoc}
 use Rattle.std.proofs.lemmas.Bool.{eqb-true}
 use Rattle.l2_units.specs.declared.unit.Unit.{Unit as SignalUnit}
@@ -239,7 +240,7 @@ module _ (mx my : Method) (one : IsOneMethod mx my) (p : Two) (h : HoldsOf mx my
   any_tells TookOrder t = t
   any_tells Ignored t = tt
 
-  number_is : (fsn : ℕ) (order : Order) (v : View) → IsFsnIn fsn order → Tells false v order → fsn ≡ (v.accepted (link_of order) + 127) % 128
+  number_is : (fsn : ℕ) (order : Order) (v : View) → IsFsnIn fsn order → Tells false v order → fsn ≡ v.accepted (link_of order)
   number_is fsn (Coo l n) v e t = e ∙ t
   number_is fsn (Coa l n) v e t = e ∙ t
   number_is fsn (Cbd l n) v e t = absurd t
@@ -257,13 +258,13 @@ module _ (mx my : Method) (one : IsOneMethod mx my) (p : Two) (h : HoldsOf mx my
 
   some_tells : (body : List ℕ) → brought (hearing.part mx my one p h w.both k few unit rest front link at).accept unit ≡ Some body → IsToldBy unit p.near p.far_past
   some_tells body e order fsn state is fsn_in there going =
-      let is_order : order_of body ≡ Some order = ap order_of (sym (hearing.is_body mx my one p h w.both k few unit rest front link at body e)) ∙ is in
+      let is_order : order_of p.near.settings.profile body ≡ Some order = ap (order_of p.near.settings.profile) (sym (hearing.is_body mx my one p h w.both k few unit rest front link at body e)) ∙ is in
       let fsn_is = number_is fsn order (view p.far p.near) fsn_in (hearing.tells mx my one p h w.both k few unit rest front link at body e order is_order (is_over fsn order fsn_in)) in
       let t = hearing.told_before mx my one p h w.both k few unit rest front link at body e order is_order (is_over fsn order fsn_in) fsn fsn_is state there going in
       let other = present p.far.links (link_of order) (omega (arith, within p.near.links (link_of order) state there, h.far_links)) in
       let counted : accepted_on (link_of order) p.far ≡ length (p.far_past.taken (link_of order)) = ap accepted_of other.1 ∙ (kept_on mx my one p h (link_of order)).accepted other.0 other.1 in
       record {
-        last = fsn_is ∙ ap (λ (n : ℕ). (n + 127) % 128) counted;
+        last = t.last ∙ ap (λ (n : ℕ). (n + fsn_before_first state.profile) % fsn_count state.profile) counted;
         reasonable = told_reasonable fsn (link_of order) state p.near p.far ((h.near_sound.links (link_of order) state there).window) t;
       }
 
@@ -283,8 +284,8 @@ module _ (k : ℕ) (s : State) (sound : IsSound s) (link : LinkState) (at : IsAt
   abbrev risen : State
   risen = (rises k s Settled).state
 
-  risen_there : slice_get risen.links k ≡ Some (risen_link s.settings.method)
-  risen_there = get_set_same s.links k (risen_link s.settings.method) (within s.links k link at.there)
+  risen_there : slice_get risen.links k ≡ Some (risen_link s.settings.profile s.settings.method)
+  risen_there = get_set_same s.links k (risen_link s.settings.profile s.settings.method) (within s.links k link at.there)
 
   rises_so : Rises k s risen
   rises_so =
@@ -298,7 +299,7 @@ module _ (k : ℕ) (s : State) (sound : IsSound s) (link : LinkState) (at : IsAt
         own = λ count. let empty : queue count k s.rows ≡ [] = rw (none.unack_none, none.wait_none, none.held_none, drop_none {X = Row} count) refl in queue_rises count k s.rows none.held_none ∙ ap (λ (x : List Message). x ++ messages (parked s.rows)) empty;
         others = u.others;
         none_aside = u.parked_none;
-        links = λ l d. get_set_other s.links k l (risen_link s.settings.method) (λ same. false_true (k == l) d (rw same (itself l)));
+        links = λ l d. get_set_other s.links k l (risen_link s.settings.profile s.settings.method) (λ same. false_true (k == l) d (rw same (itself l)));
       }
 
   pub rises_at : Rises k s (step s (UpEvent k)).state

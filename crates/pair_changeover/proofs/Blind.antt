@@ -1,5 +1,7 @@
 -- A LINK SETTLES WITHOUT A NUMBER, in an emergency: what was sent on it and isn't acknowledged is discarded, and then it
 -- settles as by the number of the message last acknowledged.
+use Rattle.l2_window.specs.Window.{fsn_count, fsn_before_first, most_unacked}
+use Rattle.l2_window.proofs.Numbers.{distance_is}
 use Rattle.std.proofs.Common.{length, refl, arith, ◌≡◌, ◌∙◌, ap, sym, subst, ℕ, ◌==◌, ◌+◌, ◌-◌, ◌%◌, Bool, true, false, List, [], ◌∷◌, ◌++◌, drop, append_assoc, inl, inr}
 use Rattle.std.proofs.lemmas.Bool.{eqb-true}
 use Rattle.std.proofs.lemmas.Bool.Decides.{nat_tests}
@@ -9,7 +11,7 @@ use Rattle.set_model.specs.declared.phase.Phase.TheVariants.{Down}
 use Rattle.set_model.specs.declared.reached.Reached.TheVariants.{Upto, Unknown}
 use Rattle.set_model.specs.Rows.{Row, is_unacked, is_waiting, unack, wait, held, changed}
 use Rattle.set_model.specs.Sound.{IsSound}
-use Rattle.set_model.specs.State.{LinkState, State, is_up}
+use Rattle.set_model.specs.State.{given, LinkState, State, is_up}
 use Rattle.set_model.specs.Changeover.{reached_by, is_reasonable, settled, settled_link}
 use Rattle.set_model.proofs.Events.{ChangesOn, given_up as given_up_of}
 use Rattle.set_model.proofs.Lists.{set_same}
@@ -81,10 +83,10 @@ module _ (n : ℕ) (link : LinkState) (s f : State) (sound : IsSound s) (at : Is
 
   -- THE NUMBER of the message last acknowledged
   abbrev pub last_number : ℕ
-  last_number = (link.acked + 127) % 128
+  last_number = (link.acked + fsn_before_first link.profile) % fsn_count link.profile
 
   reached_none : reached_by last_number n link given_up.rows ≡ 0
-  reached_none = omega arith
+  reached_none = let e = distance_is link.profile last_number link.acked link.acked (most_unacked link.profile) refl (omega arith) (omega arith) (omega arith) in omega (arith, e)
 
   reasonable : is_reasonable last_number n link given_up.rows ≡ true
   reasonable = let e = reached_none in grind (arith, nat_tests, e)

@@ -2,18 +2,18 @@
 use Rattle.std.proofs.Common.{refl, ◌≡◌, ◌≢◌, ◌∙◌, ap, sym, subst, ℕ, ◌==◌, ◌-◌, Bool, true, false, List, [], ◌∷◌, ◌++◌, slice_get, slice_set, Option, Some, None, ◌⊎◌, inl, inr}
 use Rattle.std.proofs.lemmas.Bool.{eqb-true}
 use Rattle.l3_orders.specs.declared.order.Order.{Order}
-use Rattle.l3_orders.specs.Grammar.{text, order_of, link_of}
+use Rattle.l3_orders.specs.Grammar.{text, order_any, link_of}
 use Rattle.set_events.specs.declared.answer.Fate.{Fate}
 use Rattle.set_events.specs.declared.answer.Fate.TheVariants.{Waiting, Unacked, Acked, Held, Parked, Back, Discarded}
 use Rattle.set_model.specs.Rows.{Row, is_on, is_waiting, is_unacked, is_held, is_parked, held, unack, appended}
 use Rattle.set_model.specs.Sound.{IsSound}
-use Rattle.set_model.specs.State.{LinkState, State, is_up, is_settled, link_is_up, link_is_settled, target}
+use Rattle.set_model.specs.State.{given, LinkState, State, is_up, is_settled, link_is_up, link_is_settled, target}
 use Rattle.set_model.specs.Changeover.{fate_on, queued}
 use Rattle.set_model.proofs.Lists.{get_set_same, get_set_other, within, target_up}
 use Rattle.set_model.proofs.Places.{false_true, itself}
 use Rattle.pair_model.specs.Run.{Message, messages}
 use Rattle.pair_changeover.proofs.Table.{new_message, queue_waits, queue_holds, queue_apart, aside_joins, aside_apart}
-use Rattle.pair_changeover.proofs.Views.{view, pending, aside, queue, acked_on, accepted_of, accepted_on, Among, among_joined, stands_on, stands_aside, IsNoOrder, NoneAbout, Tells, Orders, Came, plain, stayed, moved, CameAside, plain_aside, was_in, plain_not, Passes, carries, Queues, queued_in}
+use Rattle.pair_changeover.proofs.Views.{view, pending, aside, queue, acked_on, accepted_of, accepted_on, last_of, last_on, Among, among_joined, stands_on, stands_aside, IsNoOrder, NoneAbout, Tells, Orders, Came, plain, stayed, moved, CameAside, plain_aside, was_in, plain_not, Passes, carries, Queues, queued_in}
 
 -- the orders of both
 pub record Both (emergencies : Bool) (s f : State) : Type 0 where
@@ -29,7 +29,7 @@ pub record Acts (s t f : State) : Type 0 where
   pub came_aside : (m : Message) → Among m (aside t) → CameAside (view s f) m
   pub up_less : (link : ℕ) → is_up link t ≡ true → is_up link s ≡ true
   pub settled_more : (link : ℕ) → is_settled link t ≡ true → (is_settled link s ≡ true) ⊎ ((is_up link f ≡ false) × NoneAbout link (view f s))
-  pub accepted : (link : ℕ) → (accepted_on link t ≡ accepted_on link s) ⊎ (is_up link s ≡ true)
+  pub accepted : (link : ℕ) → (last_on link t ≡ last_on link s) ⊎ (is_up link s ≡ true)
   pub far_came : (link : ℕ) (m : Message) → Among m (pending link f t) → Among m (pending link f s)
 
 down_if : (a b : Bool) → (b ≡ true → a ≡ true) → a ≡ false → b ≡ false
@@ -47,7 +47,7 @@ module _ {emergencies : Bool} (s t f : State) (a : Acts s t f) (o : Both emergen
     apart = λ link settled. apart_case link (a.settled_more link settled);
   }
     where
-      accepted_case : (link : ℕ) → (accepted_on link t ≡ accepted_on link s) ⊎ (is_up link s ≡ true) → (accepted_on link t ≡ accepted_on link s) ⊎ NoneAbout link (view s f)
+      accepted_case : (link : ℕ) → (last_on link t ≡ last_on link s) ⊎ (is_up link s ≡ true) → (last_on link t ≡ last_on link s) ⊎ NoneAbout link (view s f)
       accepted_case link (inl same) = inl same
       accepted_case link (inr up) = inr (o.near.none_up link up)
 
@@ -86,7 +86,7 @@ stands_still s t f rows links = record {
   came_aside = λ m among. was_in (stands_aside (subst (λ (q : List Message). Among m q) (rw rows refl) among));
   up_less = λ link up. ap (λ (ls : List LinkState). link_is_up (slice_get ls link)) (sym links) ∙ up;
   settled_more = λ link settled. inl (ap (λ (ls : List LinkState). link_is_settled (slice_get ls link)) (sym links) ∙ settled);
-  accepted = λ link. inl (ap (λ (ls : List LinkState). accepted_of (slice_get ls link)) links);
+  accepted = λ link. inl (ap (λ (ls : List LinkState). last_of (slice_get ls link)) links);
   far_came = far_same s t f (λ link. ap (λ (ls : List LinkState). accepted_of (slice_get ls link)) links);
 }
 
@@ -95,14 +95,14 @@ pub data Grows (z : Message) (is_there : Bool) (old new : List Message) : Type 0
   grown : is_there ≡ true → new ≡ old ++ z ∷ [] → Grows z is_there old new
   ungrown : is_there ≡ false → new ≡ old → Grows z is_there old new
 
-module _ (count link : ℕ) (rows : List Row) (body : List ℕ) where
-  waits_so : (k : ℕ) (b : Bool) → (k == link) ≡ b → (b ≡ true → held link rows ≡ []) → Grows (new_message rows body) b (queue count link rows) (queue count link (appended rows body (Waiting k)))
-  waits_so k true e none = grown refl (queue_waits count link rows body (Waiting k) e refl refl (none refl))
-  waits_so k false e none = ungrown refl (queue_apart count link rows body (Waiting k) e)
+module _ (count link number : ℕ) (rows : List Row) (body : List ℕ) where
+  waits_so : (k : ℕ) (b : Bool) → (k == link) ≡ b → (b ≡ true → held link rows ≡ []) → Grows (new_message number body) b (queue count link rows) (queue count link (appended number rows body (Waiting k)))
+  waits_so k true e none = grown refl (queue_waits count link number rows body (Waiting k) e refl refl (none refl))
+  waits_so k false e none = ungrown refl (queue_apart count link number rows body (Waiting k) e)
 
-  holds_so : (k : ℕ) (b : Bool) → (k == link) ≡ b → Grows (new_message rows body) b (queue count link rows) (queue count link (appended rows body (Held k)))
-  holds_so k true e = grown refl (queue_holds count link rows body (Held k) refl refl e)
-  holds_so k false e = ungrown refl (queue_apart count link rows body (Held k) e)
+  holds_so : (k : ℕ) (b : Bool) → (k == link) ≡ b → Grows (new_message number body) b (queue count link rows) (queue count link (appended number rows body (Held k)))
+  holds_so k true e = grown refl (queue_holds count link number rows body (Held k) refl refl e)
+  holds_so k false e = ungrown refl (queue_apart count link number rows body (Held k) e)
 
   -- one that waits, is held, is parked or stands back
   pub data IsNew : Fate → Type 0 where
@@ -111,13 +111,13 @@ module _ (count link : ℕ) (rows : List Row) (body : List ℕ) where
     to_park : IsNew Parked
     to_back : (code : ℕ) → IsNew (Back code)
 
-  pub grows : (fate : Fate) → IsNew fate → Grows (new_message rows body) (is_on link fate) (queue count link rows) (queue count link (appended rows body fate))
+  pub grows : (fate : Fate) → IsNew fate → Grows (new_message number body) (is_on link fate) (queue count link rows) (queue count link (appended number rows body fate))
   grows (Waiting l) (to_wait k none) = waits_so k (k == link) refl none
   grows (Held l) (to_hold k) = holds_so k (k == link) refl
-  grows Parked to_park = ungrown refl (queue_apart count link rows body Parked refl)
+  grows Parked to_park = ungrown refl (queue_apart count link number rows body Parked refl)
   grows (Unacked l) new = elim new [ ]
   grows (Acked l) new = elim new [ ]
-  grows (Back code) (to_back c) = ungrown refl (queue_apart count link rows body (Back code) refl)
+  grows (Back code) (to_back c) = ungrown refl (queue_apart count link number rows body (Back code) refl)
   grows (Discarded cause) new = elim new [ ]
 
 -- a link that is up holds nothing
@@ -129,26 +129,26 @@ held_none s link sound up = go (slice_get s.links link) refl
     go (Some state) e = (sound.links link state e).none_held (sym (ap link_is_up e) ∙ up)
 
 -- A NEW MESSAGE that is no order
-module _ (s f : State) (body : List ℕ) (fate : Fate) (t : State) (rows : t.rows ≡ appended s.rows body fate) (links : t.links ≡ s.links) (new : (link : ℕ) → IsNew 0 link s.rows body fate) (no_order : IsNoOrder body) where
+module _ (s f : State) (body : List ℕ) (fate : Fate) (t : State) (rows : t.rows ≡ appended (given s) s.rows body fate) (links : t.links ≡ s.links) (new : (link : ℕ) → IsNew 0 link (given s) s.rows body fate) (no_order : IsNoOrder body) where
   abbrev count_at : ℕ → ℕ
   count_at link = accepted_on link f - acked_on link s
 
-  offer_came : (link : ℕ) (m : Message) → Grows (new_message s.rows body) (is_on link fate) (pending link s f) (queue (count_at link) link (appended s.rows body fate)) → Among m (queue (count_at link) link (appended s.rows body fate)) → Came (view s f) link m
+  offer_came : (link : ℕ) (m : Message) → Grows (new_message (given s) body) (is_on link fate) (pending link s f) (queue (count_at link) link (appended (given s) s.rows body fate)) → Among m (queue (count_at link) link (appended (given s) s.rows body fate)) → Came (view s f) link m
   offer_came link m (ungrown e q) among = stayed (subst (λ (x : List Message). Among m x) q among)
-  offer_came link m (grown e q) among = go (among_joined m (pending link s f) (new_message s.rows body ∷ []) (subst (λ (x : List Message). Among m x) q among))
+  offer_came link m (grown e q) among = go (among_joined m (pending link s f) (new_message (given s) body ∷ []) (subst (λ (x : List Message). Among m x) q among))
     where
-      go : Among m (pending link s f) ⊎ Among m (new_message s.rows body ∷ []) → Came (view s f) link m
+      go : Among m (pending link s f) ⊎ Among m (new_message (given s) body ∷ []) → Came (view s f) link m
       go (inl a) = stayed a
-      go (inr (inl e)) = plain (λ order is over. no_order order (ap (λ (x : Message). order_of x.body) (sym e) ∙ is) over)
+      go (inr (inl e)) = plain (λ order is over. no_order order (ap (λ (x : Message). order_any x.body) (sym e) ∙ is) over)
       go (inr (inr a)) = absurd a
 
-  offer_aside : (m : Message) (b : Bool) → is_parked fate ≡ b → Among m (messages (Rattle.set_model.specs.Rows.parked (appended s.rows body fate))) → CameAside (view s f) m
-  offer_aside m false e among = was_in (stands_aside (subst (λ (x : List Message). Among m x) (aside_apart 0 0 s.rows body fate e) among))
-  offer_aside m true e among = go (among_joined m (aside s) (new_message s.rows body ∷ []) (subst (λ (x : List Message). Among m x) (aside_joins 0 0 s.rows body fate e) among))
+  offer_aside : (m : Message) (b : Bool) → is_parked fate ≡ b → Among m (messages (Rattle.set_model.specs.Rows.parked (appended (given s) s.rows body fate))) → CameAside (view s f) m
+  offer_aside m false e among = was_in (stands_aside (subst (λ (x : List Message). Among m x) (aside_apart 0 0 (given s) s.rows body fate e) among))
+  offer_aside m true e among = go (among_joined m (aside s) (new_message (given s) body ∷ []) (subst (λ (x : List Message). Among m x) (aside_joins 0 0 (given s) s.rows body fate e) among))
     where
-      go : Among m (aside s) ⊎ Among m (new_message s.rows body ∷ []) → CameAside (view s f) m
+      go : Among m (aside s) ⊎ Among m (new_message (given s) body ∷ []) → CameAside (view s f) m
       go (inl a) = was_in (stands_aside a)
-      go (inr (inl e)) = plain_aside (λ order is over. no_order order (ap (λ (x : Message). order_of x.body) (sym e) ∙ is) over)
+      go (inr (inl e)) = plain_aside (λ order is over. no_order order (ap (λ (x : Message). order_any x.body) (sym e) ∙ is) over)
       go (inr (inr a)) = absurd a
 
   pub offers_acts : Acts s t f
@@ -157,14 +157,14 @@ module _ (s f : State) (body : List ℕ) (fate : Fate) (t : State) (rows : t.row
     came_aside = λ m among. offer_aside m (is_parked fate) refl (subst (λ (x : List Message). Among m x) (rw rows refl) among);
     up_less = λ link up. ap (λ (ls : List LinkState). link_is_up (slice_get ls link)) (sym links) ∙ up;
     settled_more = λ link settled. inl (ap (λ (ls : List LinkState). link_is_settled (slice_get ls link)) (sym links) ∙ settled);
-    accepted = λ link. inl (ap (λ (ls : List LinkState). accepted_of (slice_get ls link)) links);
+    accepted = λ link. inl (ap (λ (ls : List LinkState). last_of (slice_get ls link)) links);
     far_came = far_same s t f (λ link. ap (λ (ls : List LinkState). accepted_of (slice_get ls link)) links);
   }
     where
-      grows_at : (link : ℕ) → Grows (new_message s.rows body) (is_on link fate) (pending link s f) (queue (count_at link) link (appended s.rows body fate))
-      grows_at link = grows (count_at link) link s.rows body fate (again fate (new link))
+      grows_at : (link : ℕ) → Grows (new_message (given s) body) (is_on link fate) (pending link s f) (queue (count_at link) link (appended (given s) s.rows body fate))
+      grows_at link = grows (count_at link) link (given s) s.rows body fate (again fate (new link))
         where
-          again : (fate : Fate) → IsNew 0 link s.rows body fate → IsNew (count_at link) link s.rows body fate
+          again : (fate : Fate) → IsNew 0 link (given s) s.rows body fate → IsNew (count_at link) link (given s) s.rows body fate
           again (Waiting l) (to_wait k none) = to_wait k none
           again (Held l) (to_hold k) = to_hold k
           again Parked to_park = to_park
@@ -174,17 +174,17 @@ module _ (s f : State) (body : List ℕ) (fate : Fate) (t : State) (rows : t.row
           again (Discarded cause) new = elim new [ ]
 
 -- AN ORDER IS QUEUED
-module _ {emergencies : Bool} (s f : State) (order : Order) (sound : IsSound s) (o : Both emergencies s f) (is : order_of (text order s.settings.sio s.settings.dpc s.settings.opc) ≡ Some order) (tells : Tells emergencies (view s f) order) (fresh : NoneAbout (link_of order) (view s f)) (down : is_up (link_of order) s ≡ false) (unsettled : is_settled (link_of order) f ≡ false) where
+module _ {emergencies : Bool} (s f : State) (order : Order) (sound : IsSound s) (o : Both emergencies s f) (is : order_any (text s.settings.profile order s.settings.sio s.settings.dpc s.settings.opc) ≡ Some order) (tells : Tells emergencies (view s f) order) (fresh : NoneAbout (link_of order) (view s f)) (down : is_up (link_of order) s ≡ false) (unsettled : is_settled (link_of order) f ≡ false) where
   abbrev body : List ℕ
-  body = text order s.settings.sio s.settings.dpc s.settings.opc
+  body = text s.settings.profile order s.settings.sio s.settings.dpc s.settings.opc
 
   abbrev z : Message
-  z = new_message s.rows body
+  z = new_message (given s) body
 
   up_at : (to : ℕ) → target s.links ≡ Some to → is_up to s ≡ true
   up_at to e = let up = target_up s.links to e in ap link_is_up up.1 ∙ up.2
 
-  new_at : (link : ℕ) (to : Option ℕ) → target s.links ≡ to → IsNew (accepted_on link f - acked_on link s) link s.rows body (fate_on to)
+  new_at : (link : ℕ) (to : Option ℕ) → target s.links ≡ to → IsNew (accepted_on link f - acked_on link s) link (given s) s.rows body (fate_on to)
   new_at link None e = to_park
   new_at link (Some to) e = to_wait to (λ same. held_none s link sound (subst (λ (k : ℕ). is_up k s ≡ true) (eqb-true to link same) (up_at to e)))
 
@@ -206,8 +206,8 @@ module _ {emergencies : Bool} (s f : State) (order : Order) (sound : IsSound s) 
       go (inr (inr a)) = absurd a
 
   queue_aside : (m : Message) (b : Bool) → is_parked (fate_on (target s.links)) ≡ b → Among m (aside (queued order s)) → (m ≡ z) ⊎ Among m (aside s)
-  queue_aside m false e among = inr (subst (λ (x : List Message). Among m x) (aside_apart 0 0 s.rows body (fate_on (target s.links)) e) among)
-  queue_aside m true e among = go (among_joined m (aside s) (z ∷ []) (subst (λ (x : List Message). Among m x) (aside_joins 0 0 s.rows body (fate_on (target s.links)) e) among))
+  queue_aside m false e among = inr (subst (λ (x : List Message). Among m x) (aside_apart 0 0 (given s) s.rows body (fate_on (target s.links)) e) among)
+  queue_aside m true e among = go (among_joined m (aside s) (z ∷ []) (subst (λ (x : List Message). Among m x) (aside_joins 0 0 (given s) s.rows body (fate_on (target s.links)) e) among))
     where
       go : Among m (aside s) ⊎ Among m (z ∷ []) → (m ≡ z) ⊎ Among m (aside s)
       go (inl a) = inr a
@@ -221,7 +221,7 @@ module _ {emergencies : Bool} (s f : State) (order : Order) (sound : IsSound s) 
     fresh = fresh;
     down = down;
     unsettled = unsettled;
-    came = λ link m among. queue_came link m (grows (accepted_on link f - acked_on link s) link s.rows body (fate_on (target s.links)) (new_at link (target s.links) refl)) among;
+    came = λ link m among. queue_came link m (grows (accepted_on link f - acked_on link s) link (given s) s.rows body (fate_on (target s.links)) (new_at link (target s.links) refl)) among;
     came_aside = λ m among. queue_aside m (is_parked (fate_on (target s.links))) refl among;
     up_same = λ link. refl;
     settled_same = λ link. refl;

@@ -7,7 +7,9 @@ use Rattle.l2_units.specs.declared.unit.Unit.TheVariants.{Fisu, Lssu, Msu}
 use Rattle.l2_window.specs.declared.control.HeardPart.{HeardPart}
 use Rattle.l3_orders.specs.declared.order.Order.{Order}
 use Rattle.l3_orders.specs.declared.order.Order.TheVariants.{Coo, Coa, Cbd, Cba, Eco, Eca}
-use Rattle.l3_orders.specs.Grammar.{order_of, link_of}
+use Rattle.l3_orders.specs.Grammar.{order_of, order_any, link_of}
+use Rattle.l3_orders.proofs.Texts.{any_of}
+use Rattle.set_model.specs.State.{last_accepted}
 use Rattle.link_lines.specs.Lines.{units_on}
 use Rattle.set_events.specs.declared.config.Method.{Method}
 use Rattle.set_model.specs.declared.phase.Phase.{Phase}
@@ -19,7 +21,7 @@ use Rattle.set_route.specs.Routing.{code_of}
 use Rattle.set_model.specs.Changeover.{Obeyed, order_obeyed, at_link, changed_over, answered, acknowledged_back, obeyed}
 use Rattle.set_model.specs.Rows.{unack, parked, service_indicator, IsNumbered}
 use Rattle.set_model.specs.Sound.{IsSound}
-use Rattle.set_model.specs.State.{LinkState, State, is_up, is_settled, link_is_up, link_is_settled, has_phase_up, has_phase_settled, window_of}
+use Rattle.set_model.specs.State.{given, LinkState, State, is_up, is_settled, link_is_up, link_is_settled, has_phase_up, has_phase_settled, window_of}
 use Rattle.set_model.specs.Step.{brought, takes, one_if}
 use Rattle.set_model.proofs.Events.{acknowledged}
 use Rattle.set_model.proofs.Lists.{get_set_same, present, within}
@@ -37,8 +39,8 @@ use Rattle.pair_changeover.proofs.Obeying.{Told, Heard, TellsNoBack, TellsOver, 
 use Rattle.pair_changeover.proofs.Passing.{passing, far_stays, far_loses, was_first}
 use Rattle.pair_changeover.proofs.Reaching.{Reaches, reaches, Due, due, due_message, not_queued, not_aside}
 use Rattle.pair_changeover.proofs.Table.{queue_acked, queue_untouched}
-use Rattle.pair_changeover.proofs.Texts.{plain_body}
-use Rattle.pair_changeover.proofs.Views.{view, pending, queue, acked_of, acked_on, accepted_of, accepted_on, Among, In, stands_on, stands_aside, About, IsChangeover, Tells}
+use Rattle.pair_changeover.proofs.Texts.{plain_in}
+use Rattle.pair_changeover.proofs.Views.{view, pending, queue, acked_of, acked_on, accepted_of, accepted_on, last_of, last_on, Among, In, stands_on, stands_aside, About, IsChangeover, Tells}
 
 unsettled_up : (a b : Bool) → (a ≡ true → b ≡ false) → b ≡ true → a ≡ false
 unsettled_up false b w e = refl
@@ -55,31 +57,31 @@ module _ {emergencies : Bool} (mx my : Method) (one : IsOneMethod mx my) (p : Tw
   y = side k p.far p.far_past
 
   abbrev pub part : HeardPart
-  part = hearing.part k mx my one x y (units_on k p.out) rest unit link h.near_sound at
+  part = hearing.part k mx my one x y (units_on k p.out) rest unit link h.near_sound at h.profiles h.far_sound.fit
 
   abbrev pub mid : State
-  mid = hearing.mid k mx my one x y (units_on k p.out) rest unit link h.near_sound at
+  mid = hearing.mid k mx my one x y (units_on k p.out) rest unit link h.near_sound at h.profiles h.far_sound.fit
 
   abbrev pub mid_link : LinkState
-  mid_link = hearing.mid_link k mx my one x y (units_on k p.out) rest unit link h.near_sound at
+  mid_link = hearing.mid_link k mx my one x y (units_on k p.out) rest unit link h.near_sound at h.profiles h.far_sound.fit
 
   abbrev pub taken : Obeyed
-  taken = hearing.taken k mx my one x y (units_on k p.out) rest unit link h.near_sound at
+  taken = hearing.taken k mx my one x y (units_on k p.out) rest unit link h.near_sound at h.profiles h.far_sound.fit
 
   abbrev heard_side : Side
-  heard_side = hearing.hearing k mx my one x y (units_on k p.out) rest unit link h.near_sound at
+  heard_side = hearing.hearing k mx my one x y (units_on k p.out) rest unit link h.near_sound at h.profiles h.far_sound.fit
 
   tied : Tied k mx my x y (units_on k p.out) (unit ∷ rest)
   tied = subst (λ (us : List SignalUnit). Tied k mx my x y (units_on k p.out) us) front (h.ties k)
 
   mid_tied : Tied k mx my heard_side y (units_on k p.out) rest
-  mid_tied = hearing.mid_tied k mx my one x y (units_on k p.out) rest unit link h.near_sound at tied
+  mid_tied = hearing.mid_tied k mx my one x y (units_on k p.out) rest unit link h.near_sound at h.profiles h.far_sound.fit tied
 
   pub mid_sound : IsSound mid
   mid_sound = sounds.hears_sound k link p.near at h.near_sound unit
 
-  mid_numbered : IsNumbered mid.rows
-  mid_numbered = (acknowledged k part.acked p.near.rows).kept.numbered h.near_sound.numbered
+  mid_numbered : IsNumbered (given mid) mid.rows
+  mid_numbered = mid_sound.numbered
 
   kept_out : IsKeptOn k (past_of heard_side) (past_of y) mid p.far
   kept_out = kept_tied k mx my one heard_side y (units_on k p.out) rest mid_numbered mid_tied
@@ -201,12 +203,12 @@ module _ {emergencies : Bool} (mx my : Method) (one : IsOneMethod mx my) (p : Tw
 
     -- it stands nowhere at the far end then
     pub gone : (m : Message) → In m (view p.far mid) → m.number ≢ first.number
-    gone m (stands_on l a) = not_queued k (link.accepted - acked_on k p.far) p.far.rows h.far_sound.numbered next_due.row next_due.there (accepted_on l mid - acked_on l p.far) l (λ same. behind l same) m a
+    gone m (stands_on l a) = not_queued (given p.far) k (link.accepted - acked_on k p.far) p.far.rows h.far_sound.numbered next_due.row next_due.there (accepted_on l mid - acked_on l p.far) l (λ same. behind l same) m a
       where
         behind : (l : ℕ) → (k == l) ≡ true → link.accepted - acked_on k p.far < accepted_on l mid - acked_on l p.far
         behind l same = subst (λ (n : ℕ). link.accepted - acked_on k p.far < accepted_on n mid - acked_on n p.far) (eqb-true k l same)
             (let now : accepted_on k mid ≡ mid_link.accepted = ap accepted_of mid_at.there in omega (arith, now, one_more, far_due))
-    gone m (stands_aside a) = not_aside k (link.accepted - acked_on k p.far) p.far.rows h.far_sound.numbered next_due.row next_due.there m a
+    gone m (stands_aside a) = not_aside (given p.far) k (link.accepted - acked_on k p.far) p.far.rows h.far_sound.numbered next_due.row next_due.there m a
 
     pub was_in_far : (m : Message) → In m (view p.far mid) → In m (view p.far p.near)
     was_in_far m (stands_on l a) = stands_on l (far_came l m a)
@@ -214,9 +216,9 @@ module _ {emergencies : Bool} (mx my : Method) (one : IsOneMethod mx my) (p : Tw
 
     -- AN ORDER OF A CHANGEOVER IS HEARD: it was the only one about its link, which its end left; and it tells what that end
     -- counts
-    module _ (order : Order) (is : order_of body ≡ Some order) (over : IsChangeover order) where
-      first_order : order_of first.body ≡ Some order
-      first_order = ap order_of next_due.body_is ∙ is
+    module _ (order : Order) (is : order_of p.near.settings.profile body ≡ Some order) (over : IsChangeover order) where
+      first_order : order_any first.body ≡ Some order
+      first_order = ap order_any next_due.body_is ∙ any_of p.near.settings.profile body order is
 
       about : About (link_of order) first
       about = record { order = order; is = first_order; over = over; of = refl }
@@ -251,38 +253,41 @@ module _ {emergencies : Bool} (mx my : Method) (one : IsOneMethod mx my) (p : Tw
       same_link : slice_get mid.links (link_of order) ≡ slice_get p.near.links (link_of order)
       same_link = other_then k link mid_link p.near mid at.there refl (link_of order) other
 
-      module _ (fsn : ℕ) (fsn_is : fsn ≡ (accepted_on (link_of order) p.far + 127) % 128) (state : LinkState) (there : slice_get p.near.links (link_of order) ≡ Some state) (going : has_phase_settled state.phase ≡ false) where
+      module _ (fsn : ℕ) (fsn_is : fsn ≡ last_on (link_of order) p.far) (state : LinkState) (there : slice_get p.near.links (link_of order) ≡ Some state) (going : has_phase_settled state.phase ≡ false) where
         far_there : (far : LinkState) × (slice_get p.far.links (link_of order) ≡ Some far)
         far_there = present p.far.links (link_of order) (omega (arith, within p.near.links (link_of order) state there, h.far_links))
 
         pub told_before : Told fsn (link_of order) state p.near p.far
         told_before =
             let r = reaches (link_of order) p.near_past p.far_past p.near p.far (kept_on mx my one p h (link_of order)) state there going far_there.0 far_there.1 in
-            record { last = fsn_is; due = r.due; within = r.within }
+            let other_profile : far_there.0.profile ≡ state.profile = (h.far_sound.links (link_of order) far_there.0 far_there.1).profile ∙ h.profiles ∙ sym ((h.near_sound.links (link_of order) state there).profile) in
+            let told : last_on (link_of order) p.far ≡ last_accepted far_there.0 = ap last_of far_there.1 in
+            let count : accepted_on (link_of order) p.far ≡ far_there.0.accepted = ap accepted_of far_there.1 in
+            record { last = fsn_is ∙ told ∙ rw (other_profile, count) refl; due = r.due; within = r.within }
 
         told_then : Told fsn (link_of order) state mid p.far
-        told_then = record { last = fsn_is; due = told_before.due; within = rw (((acknowledged k part.acked p.near.rows).others (link_of order) other).unack_same) (told_before.within) }
+        told_then = record { last = told_before.last; due = told_before.due; within = rw (((acknowledged k part.acked p.near.rows).others (link_of order) other).unack_same) (told_before.within) }
 
       going_at : (state : LinkState) → slice_get mid.links (link_of order) ≡ Some state → has_phase_settled state.phase ≡ false
       going_at state there = ap link_is_settled (sym there ∙ same_link) ∙ unsettled
 
-    over_is : (order : Order) → order_of body ≡ Some order → IsChangeover order → TellsOver body
-    over_is order is over = record { order = order; is = is; over = over }
+    over_is : (order : Order) → order_of p.near.settings.profile body ≡ Some order → IsChangeover order → TellsOver body
+    over_is order is over = record { order = order; is = any_of p.near.settings.profile body order is; over = over }
 
     -- it tells nothing of a changeback
-    no_back : (order : Order) → order_of body ≡ Some order → IsChangeover order → TellsNoBack body mid
+    no_back : (order : Order) → order_of p.near.settings.profile body ≡ Some order → IsChangeover order → TellsNoBack body mid
     no_back order is over = record {
       none_declared = λ l code e. subst IsChangeover (same_Some order (Cbd l code) (sym is ∙ e)) over;
       none_in_use = λ l code e. absurd (subst IsChangeover (same_Some order (Cba l code) (sym is ∙ e)) over);
     }
 
-    no_order : order_of body ≡ None → TellsNoBack body mid
+    no_order : order_of p.near.settings.profile body ≡ None → TellsNoBack body mid
     no_order is = record {
       none_declared = λ l code e. let no : None ≡ Some (Cbd l code) = sym is ∙ e in absurd cc;
       none_in_use = λ l code e. let no : None ≡ Some (Cba l code) = sym is ∙ e in absurd cc;
     }
 
-    module _ (l fsn : ℕ) (is : order_of body ≡ Some (Coo l fsn)) where
+    module _ (l fsn : ℕ) (is : order_of p.near.settings.profile body ≡ Some (Coo l fsn)) where
       coo_told : (state : LinkState) → slice_get mid.links l ≡ Some state → Told fsn l state mid p.far
       coo_told state there = told_then (Coo l fsn) is tt fsn (tells (Coo l fsn) is tt) state (sym (same_link (Coo l fsn) is tt) ∙ there) (going_at (Coo l fsn) is tt state there)
 
@@ -291,7 +296,7 @@ module _ {emergencies : Bool} (mx my : Method) (one : IsOneMethod mx my) (p : Tw
       coo_obeyed state there Down e = settles fsn l state (other (Coo l fsn) is tt) (record { there = there; phase_is = e }) (coo_told state there) (heard (Coo l fsn) is tt) (over_is (Coo l fsn) is tt)
       coo_obeyed state there Settled e = absurd (let no : true ≡ false = sym (ap has_phase_settled e) ∙ going_at (Coo l fsn) is tt state there in cc)
 
-    module _ (l fsn : ℕ) (is : order_of body ≡ Some (Coa l fsn)) where
+    module _ (l fsn : ℕ) (is : order_of p.near.settings.profile body ≡ Some (Coa l fsn)) where
       coa_told : (state : LinkState) → slice_get mid.links l ≡ Some state → Told fsn l state mid p.far
       coa_told state there = told_then (Coa l fsn) is tt fsn (tells (Coa l fsn) is tt) state (sym (same_link (Coa l fsn) is tt) ∙ there) (going_at (Coa l fsn) is tt state there)
 
@@ -301,13 +306,13 @@ module _ {emergencies : Bool} (mx my : Method) (one : IsOneMethod mx my) (p : Tw
       coa_obeyed state there Settled e = keeps mid refl refl refl (no_back (Coa l fsn) is tt)
 
     -- an emergency, in which no number is told
-    module _ (l : ℕ) (is : order_of body ≡ Some (Eco l)) where
+    module _ (l : ℕ) (is : order_of p.near.settings.profile body ≡ Some (Eco l)) where
       eco_obeyed : (state : LinkState) → slice_get mid.links l ≡ Some state → (phase : Phase) → state.phase ≡ phase → Obeys emergencies k body mid p.far (changed_over Unknown l state phase mid).state
       eco_obeyed state there Up e = answers_blind l state (tells (Eco l) is tt) (other (Eco l) is tt) (record { there = there; phase_is = e }) (heard (Eco l) is tt) (over_is (Eco l) is tt)
       eco_obeyed state there Down e = settles_blind l state (tells (Eco l) is tt) (other (Eco l) is tt) (record { there = there; phase_is = e }) (heard (Eco l) is tt) (over_is (Eco l) is tt)
       eco_obeyed state there Settled e = absurd (let no : true ≡ false = sym (ap has_phase_settled e) ∙ going_at (Eco l) is tt state there in cc)
 
-    cba_obeyed : (l code : ℕ) → order_of body ≡ Some (Cba l code) → (c : Code) → code_of code mid.routing ≡ c → Obeys emergencies k body mid p.far (acknowledged_back code c mid).state
+    cba_obeyed : (l code : ℕ) → order_of p.near.settings.profile body ≡ Some (Cba l code) → (c : Code) → code_of code mid.routing ≡ c → Obeys emergencies k body mid p.far (acknowledged_back code c mid).state
     cba_obeyed l code is Free e = keeps mid refl refl refl (record {
       none_declared = λ m d f. let no : Some (Cba l code) ≡ Some (Cbd m d) = sym is ∙ f in absurd cc;
       none_in_use = λ m d f. let same : Some (Cba l code) ≡ Some (Cba m d) = sym is ∙ f in let one : code ≡ d = cc in subst (λ (n : ℕ). code_of n mid.routing ≡ Free) one e;
@@ -315,7 +320,7 @@ module _ {emergencies : Bool} (mx my : Method) (one : IsOneMethod mx my) (p : Tw
     cba_obeyed l code is Asked e = releases l code is
     cba_obeyed l code is Spent e = releases l code is
 
-    order_is_obeyed : (order : Order) → order_of body ≡ Some order → Obeys emergencies k body mid p.far (order_obeyed order mid).state
+    order_is_obeyed : (order : Order) → order_of p.near.settings.profile body ≡ Some order → Obeys emergencies k body mid p.far (order_obeyed order mid).state
     order_is_obeyed (Coo l fsn) is = go (slice_get mid.links l) refl
       where
         go : (there : Option LinkState) → slice_get mid.links l ≡ there → Obeys emergencies k body mid p.far (at_link l mid (λ state. changed_over (Upto fsn) l state state.phase mid) there).state
@@ -338,13 +343,13 @@ module _ {emergencies : Bool} (mx my : Method) (one : IsOneMethod mx my) (p : Tw
     pub some_obeyed : Obeys emergencies k body mid p.far taken.state
     some_obeyed = rw e (go (service_indicator body == 0) refl)
       where
-        obeyed_so : (order : Option Order) → order_of body ≡ order → Obeys emergencies k body mid p.far (obeyed order mid).state
+        obeyed_so : (order : Option Order) → order_of p.near.settings.profile body ≡ order → Obeys emergencies k body mid p.far (obeyed order mid).state
         obeyed_so None g = keeps mid refl refl refl (no_order g)
         obeyed_so (Some order) g = order_is_obeyed order g
 
         go : (b : Bool) → (service_indicator body == 0) ≡ b → Obeys emergencies k body mid p.far (takes (Some body) mid).state
-        go true g = rw g (obeyed_so (order_of body) refl)
-        go false g = rw g (keeps _ refl refl refl (no_order (plain_body body g)))
+        go true g = rw g (obeyed_so (order_of p.near.settings.profile body) refl)
+        go false g = rw g (keeps _ refl refl refl (no_order (plain_in p.near.settings.profile body g)))
 
   -- the body that it accepts, or none
   abbrev pub body_of : Option (List ℕ) → List ℕ

@@ -2,7 +2,11 @@
 use Rattle.std.proofs.Common.{refl, arith, ◌≡◌, ◌∙◌, ap, sym, subst, ℕ, zero, suc, ◌<◌, ◌≤◌, ◌==◌, ◌+◌, ◌-◌, ◌%◌, Bool, true, false, nat_lt, nat_le, List, [], ◌∷◌, length, slice_get, Option, Some, None, cond}
 use Rattle.std.proofs.lemmas.Bool.{eqb-true}
 use Rattle.l3_orders.specs.declared.order.Order.TheVariants.{Cbd}
-use Rattle.l3_orders.specs.Grammar.{text, order_of, link_of}
+use Rattle.l3_orders.specs.Grammar.{text, order_any, link_of}
+use Rattle.l2_units.specs.declared.profile.Profile.{Profile}
+use Rattle.l2_units.specs.Profile.{longest_body}
+use Rattle.l2_window.specs.Window.{fsn_count, fsn_before_first, most_unacked}
+use Rattle.l2_window.proofs.Numbers.{below as cycle}
 use Rattle.set_events.specs.declared.answer.Fate.{Fate}
 use Rattle.set_events.specs.declared.answer.Fate.TheVariants.{Waiting, Unacked, Acked, Held, Parked, Back, Discarded}
 use Rattle.set_events.specs.declared.answer.Refusal.{Refusal as SetRefusal}
@@ -15,7 +19,7 @@ use Rattle.set_model.specs.declared.phase.Phase.{Phase}
 use Rattle.set_model.specs.declared.phase.Phase.TheVariants.{Up, Down, Settled}
 use Rattle.set_model.specs.Rows.{Row, is_waiting, was_discarded, standing, unack, parked, place, stream_of, service_indicator, unsent, octets_in}
 use Rattle.set_model.specs.Sound.{IsSound}
-use Rattle.set_model.specs.State.{LinkState, State, Settings, link_count, is_up, is_settled, link_is_up, link_is_settled, has_phase_up, has_phase_settled, last_accepted, fate_at, target, window_of}
+use Rattle.set_model.specs.State.{given, LinkState, State, Settings, link_count, is_up, is_settled, link_is_up, link_is_settled, has_phase_up, has_phase_settled, last_accepted, fate_at, target, window_of}
 use Rattle.set_model.specs.Control.{Choice, again, first, fill, choice_of, control_after}
 use Rattle.set_model.specs.Changeover.{fate_on, queued, leaving_order, left_link, left_by, can_declare, declared, declared_from, some_declare}
 use Rattle.set_model.specs.Step.{Outcome, refused, offer_refusal, offered, taken, found, with_known, in_service, falls, comes_back, next, rows_sent, step}
@@ -29,7 +33,7 @@ use Rattle.pair_changeover.proofs.Obeying.{below, not_settled, not_discarded}
 use Rattle.pair_changeover.proofs.Passing.{passing, passing_queues, far_stays}
 use Rattle.pair_changeover.proofs.Table.{queue_sent}
 use Rattle.pair_changeover.proofs.Texts.{AreCodes, coo_read, eco_read, cbd_plain, users_no_order}
-use Rattle.pair_changeover.proofs.Views.{view, queue, pending, acked_of, acked_on, accepted_of, accepted_on, NoneAbout, Tells}
+use Rattle.pair_changeover.proofs.Views.{view, queue, pending, acked_of, acked_on, accepted_of, accepted_on, last_of, last_on, NoneAbout, Tells}
 
 pub record Keeps (emergencies : Bool) (s t f : State) : Type 0 where
   pub both : Both emergencies s f → Both emergencies t f
@@ -49,8 +53,8 @@ keeps_still s t f rows links = record {
 }
 
 -- OFFER
-pub users_body : (rows : List Row) (body : List ℕ) → offer_refusal rows body ≡ None → (service_indicator body == 0) ≡ false
-users_body rows body e = go (nat_lt (length body) 5) (nat_lt 273 (length body)) (service_indicator body == 0) (nat_le 1024 (length (unsent (stream_of body) rows))) e
+pub users_body : (p : Profile) (rows : List Row) (body : List ℕ) → offer_refusal p rows body ≡ None → (service_indicator body == 0) ≡ false
+users_body p rows body e = go (nat_lt (length body) 5) (nat_lt (longest_body p) (length body)) (service_indicator body == 0) (nat_le 1024 (length (unsent (stream_of body) rows))) e
   where
     go : (a b c d : Bool) → ◌≡◌ {A = Option SetRefusal} (cond a (Some TooShort) (cond b (Some TooLong) (cond c (Some Reserved) (cond d (Some StreamFull) None)))) None → c ≡ false
     go true b c d e = absurd cc
@@ -58,30 +62,30 @@ users_body rows body e = go (nat_lt (length body) 5) (nat_lt 273 (length body)) 
     go false false true d e = absurd cc
     go false false false d e = refl
 
-fate_new : (s : State) (body : List ℕ) (link : ℕ) → IsSound s → (place : Place) → IsNew 0 link s.rows body (fate_at place s)
+fate_new : (s : State) (body : List ℕ) (link : ℕ) → IsSound s → (place : Place) → IsNew 0 link (given s) s.rows body (fate_at place s)
 fate_new s body link sound Nowhere = to_park
 fate_new s body link sound (Changing to code via) = to_back code
 fate_new s body link sound (On k) = go (is_up k s) refl
   where
-    go : (b : Bool) → is_up k s ≡ b → IsNew 0 link s.rows body (cond b (Waiting k) (Held k))
+    go : (b : Bool) → is_up k s ≡ b → IsNew 0 link (given s) s.rows body (cond b (Waiting k) (Held k))
     go true e = to_wait k (λ same. held_none s link sound (subst (λ (n : ℕ). is_up n s ≡ true) (eqb-true k link same) e))
     go false e = to_hold k
 
-offer_keeps : {emergencies : Bool} (s f : State) (body : List ℕ) → IsSound s → (o : Option SetRefusal) → offer_refusal s.rows body ≡ o → Keeps emergencies s (offered o s body).state f
+offer_keeps : {emergencies : Bool} (s f : State) (body : List ℕ) → IsSound s → (o : Option SetRefusal) → offer_refusal s.settings.profile s.rows body ≡ o → Keeps emergencies s (offered o s body).state f
 offer_keeps s f body sound (Some why) e = keeps_still s s f refl refl
 offer_keeps s f body sound None e =
     let fate = fate_at (place_of (stream_of body) s.routing) s in
     record {
-      both = acts s (offered None s body).state f (offers_acts s f body fate (offered None s body).state refl refl (λ link. fate_new s body link sound (place_of (stream_of body) s.routing)) (users_no_order body (users_body s.rows body e)));
+      both = acts s (offered None s body).state f (offers_acts s f body fate (offered None s body).state refl refl (λ link. fate_new s body link sound (place_of (stream_of body) s.routing)) (users_no_order body (users_body s.settings.profile s.rows body e)));
       settled = λ l. refl;
       acked = λ l g. refl;
       accepted = λ l. refl;
-      discards = appended_out s.rows body fate was_discarded (place_not_discarded (place_of (stream_of body) s.routing) s);
+      discards = appended_out (given s) s.rows body fate was_discarded (place_not_discarded (place_of (stream_of body) s.routing) s);
     }
 
 pub offer_kept : {emergencies : Bool} (s f : State) (body : List ℕ) → IsSound s → Keeps emergencies s (step s (Offer body)).state f
 unfolding step
-offer_kept s f body sound = offer_keeps s f body sound (offer_refusal s.rows body) refl
+offer_kept s f body sound = offer_keeps s f body sound (offer_refusal s.settings.profile s.rows body) refl
 
 -- TAKE and FIND
 take_keeps : {emergencies : Bool} (s f : State) (inbox : List (List ℕ)) → Keeps emergencies s (taken inbox s).state f
@@ -92,13 +96,13 @@ pub take_kept : {emergencies : Bool} (s f : State) → Keeps emergencies s (step
 unfolding step
 take_kept s f = take_keeps s f s.inbox
 
-find_keeps : {emergencies : Bool} (s f : State) (fate : Option Fate) → Keeps emergencies s (found fate s).state f
-find_keeps s f None = keeps_still s s f refl refl
-find_keeps s f (Some fate) = keeps_still s s f refl refl
+find_keeps : {emergencies : Bool} (s f : State) (number : ℕ) (fate : Option Fate) → Keeps emergencies s (found fate number s).state f
+find_keeps s f number None = keeps_still s s f refl refl
+find_keeps s f number (Some fate) = keeps_still s s f refl refl
 
 pub find_kept : {emergencies : Bool} (s f : State) (number : ℕ) → Keeps emergencies s (step s (Find number)).state f
 unfolding step
-find_kept s f number = find_keeps s f (place number s.rows)
+find_kept s f number = find_keeps s f number (place number s.rows)
 
 -- an event of a link in service
 up_is : (phase : Phase) → has_phase_up phase ≡ true → phase ≡ Up
@@ -118,13 +122,13 @@ in_keeps {emergencies = emergencies} k s f act all = go (slice_get s.links k) re
     go (Some link) e = at link e (has_phase_up link.phase) refl
 
 -- DOWN, and blindly where there may be emergencies
-order_tells : (emergencies blind : Bool) (k : ℕ) (link : LinkState) (s f : State) → (blind ≡ true → emergencies ≡ true) → accepted_on k s ≡ link.accepted → Tells emergencies (view s f) (leaving_order blind k link)
-order_tells emergencies false k link s f may same = ap (λ (m : ℕ). (m + 127) % 128) (sym same)
+order_tells : (emergencies blind : Bool) (k : ℕ) (link : LinkState) (s f : State) → (blind ≡ true → emergencies ≡ true) → last_on k s ≡ last_accepted link → Tells emergencies (view s f) (leaving_order blind k link)
+order_tells emergencies false k link s f may same = sym same
 order_tells emergencies true k link s f may same = may refl
 
-order_is_read : (blind : Bool) (k : ℕ) (link : LinkState) (settings : Settings) → AreCodes settings → k < 16 → order_of (text (leaving_order blind k link) settings.sio settings.dpc settings.opc) ≡ Some (leaving_order blind k link)
-order_is_read false k link settings codes few = coo_read settings k (last_accepted link) codes few (omega arith)
-order_is_read true k link settings codes few = eco_read settings k codes few
+order_is_read : (blind : Bool) (k : ℕ) (link : LinkState) (settings : Settings) → AreCodes settings → k < 16 → link.profile ≡ settings.profile → order_any (text settings.profile (leaving_order blind k link) settings.sio settings.dpc settings.opc) ≡ Some (leaving_order blind k link)
+order_is_read false k link settings codes few same = coo_read settings k (last_accepted link) codes few (rw (← same) (cycle link.profile (link.accepted + fsn_before_first link.profile)))
+order_is_read true k link settings codes few same = eco_read settings k codes few
 
 link_is_left : (blind : Bool) (k : ℕ) (link : LinkState) → link_of (leaving_order blind k link) ≡ k
 link_is_left false k link = refl
@@ -142,15 +146,15 @@ down_at {emergencies = emergencies} blind k link s f may sound codes at =
     let of = link_is_left blind k link in
     record {
       both = λ o. queues_both left f order (leaves blind k link s at sound) (acts s left f left_does o)
-          (order_is_read blind k link s.settings codes (below k link s f sound codes at))
-          (order_tells emergencies blind k link left f may (ap accepted_of there))
+          (order_is_read blind k link s.settings codes (below k link s f sound codes at) ((sound.links k link at.there).profile))
+          (order_tells emergencies blind k link left f may (ap last_of there))
           (subst (λ (n : ℕ). NoneAbout n (view left f)) (sym of) (acts_none s left f left_does k (o.near.none_up k up)))
           (subst (λ (n : ℕ). is_up n left ≡ false) (sym of) (ap link_is_up there))
           (subst (λ (n : ℕ). is_settled n f ≡ false) (sym of) (not_settled k link s f sound codes at (is_settled k f) (is_up k s) (o.far.apart k) up));
       settled = all (λ n old new. link_is_settled new ≡ link_is_settled old) (sym was) (λ n old d. refl);
       acked = λ l e. all (λ n old new. acked_of new ≡ acked_of old) refl (λ n old d. refl) l;
       accepted = all (λ n old new. accepted_of new ≡ accepted_of old) refl (λ n old d. refl);
-      discards = appended_out left.rows (text order s.settings.sio s.settings.dpc s.settings.opc) (fate_on (target left.links)) was_discarded (not_discarded (target left.links)) ∙ leaves_discards blind k link s f sound at;
+      discards = appended_out (given left) left.rows (text s.settings.profile order s.settings.sio s.settings.dpc s.settings.opc) (fate_on (target left.links)) was_discarded (not_discarded (target left.links)) ∙ leaves_discards blind k link s f sound at;
     }
 
 pub down_kept : {emergencies : Bool} (k : ℕ) (s f : State) → IsSound s → AreCodes s.settings → Keeps emergencies s (step s (DownEvent k)).state f
@@ -173,7 +177,7 @@ keeps_then s t u f p q = record {
 
 declared_keeps : {emergencies : Bool} (home alternative : ℕ) (s f : State) → IsSound s → can_declare home alternative s ≡ true → Keeps emergencies s (declared home alternative s) f
 declared_keeps home alternative s f sound can =
-    let body = text (Cbd home (code_for home alternative)) s.settings.sio s.settings.dpc s.settings.opc in
+    let body = text s.settings.profile (Cbd home (code_for home alternative)) s.settings.sio s.settings.dpc s.settings.opc in
     record {
       both = acts s (declared home alternative s) f (offers_acts s f body (Waiting alternative) (declared home alternative s) refl refl
           (λ link. to_wait alternative (λ same. held_none s link sound (subst (λ (n : ℕ). is_up n s ≡ true) (eqb-true alternative link same) (alternative_up home alternative s can))))
@@ -181,7 +185,7 @@ declared_keeps home alternative s f sound can =
       settled = λ l. refl;
       acked = λ l g. refl;
       accepted = λ l. refl;
-      discards = appended_out s.rows body (Waiting alternative) was_discarded refl;
+      discards = appended_out (given s) s.rows body (Waiting alternative) was_discarded refl;
     }
 
 declares_keep : {emergencies : Bool} (home alternative n : ℕ) (s f : State) → IsSound s → is_up home s ≡ true → Keeps emergencies s (declared_from home alternative n s) f

@@ -21,7 +21,7 @@ use Rattle.pair_model.specs.Run.{messages}
 use Rattle.pair_changeover.proofs.Changes.{Acts, stands_still, by_link, held_none}
 use Rattle.pair_changeover.proofs.Turning.{gained, turned_rows, IsEither, turned_parked, turned_pending, turned_aside, turned_acts}
 use Rattle.pair_changeover.proofs.Table.{joined}
-use Rattle.pair_changeover.proofs.Views.{pending, aside, acked_of, acked_on, accepted_of}
+use Rattle.pair_changeover.proofs.Views.{pending, aside, acked_of, acked_on, accepted_of, last_of}
 
 -- what goes from where it stood back isn't discarded by that
 pub back_kept : (test : Fate → Bool) → ((f : Fate) → test f ≡ true → stands_back f ≡ true) → (f : Fate) → test f ≡ true → was_discarded f ≡ false
@@ -85,6 +85,7 @@ module _ (blind : Bool) (k : ℕ) (link : LinkState) (s f : State) (sound : IsSo
   leaves_acts = turned_acts (is_back_to k) goes_to s left f (home_back k) unsent refl acked either sound.backs up_less
       (all (λ n old new. link_is_settled new ≡ true → link_is_settled old ≡ true) (λ e. absurd cc) (λ n old d e. e))
       (all (λ n old new. accepted_of new ≡ accepted_of old) refl (λ n old d. refl))
+      (all (λ n old new. last_of new ≡ last_of old) refl (λ n old d. refl))
 
   pub leaves_discards : standing was_discarded left.rows ≡ standing was_discarded s.rows
   leaves_discards = moved_same (is_back_to k) was_discarded goes_to s.rows (λ row. place_not_discarded (place_of (stream_of row.body) out.routing) out) (back_kept (is_back_to k) (home_back k))
@@ -120,7 +121,7 @@ module _ (code : ℕ) (s f : State) (sound : IsSound s) where
   releases_acts = go (is_up home s) refl
     where
       go : (b : Bool) → is_up home s ≡ b → Acts s gone f
-      go true up = turned_acts (is_back code) (all_with (Waiting home)) s gone f (code_back code) unsent_home refl (λ l. refl) (either_home up) sound.backs (λ l e. e) (λ l e. e) (λ l. refl)
+      go true up = turned_acts (is_back code) (all_with (Waiting home)) s gone f (code_back code) unsent_home refl (λ l. refl) (either_home up) sound.backs (λ l e. e) (λ l e. e) (λ l. refl) (λ l. refl)
       go false down = stands_still s gone f (none_back code s sound down) refl
 
   pub releases_discards : standing was_discarded gone.rows ≡ standing was_discarded s.rows

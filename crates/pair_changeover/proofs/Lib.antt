@@ -3,6 +3,7 @@ pub mod Alike
 pub mod Arriving
 pub mod Blind
 pub mod Changes
+pub mod Counted
 pub mod Hearing
 pub mod Keeping
 pub mod Leaving
@@ -13,6 +14,7 @@ pub mod Reaching
 pub mod Runs
 pub mod Staying
 pub mod Table
+pub mod Telling
 pub mod Texts
 pub mod Turning
 pub mod Views

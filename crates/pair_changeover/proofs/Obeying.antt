@@ -6,7 +6,9 @@ use Rattle.std.proofs.lemmas.Bool.Decides.{nat_tests}
 use Rattle.std.proofs.lemmas.List.{append-nil}
 use Rattle.l3_orders.specs.declared.order.Order.{Order}
 use Rattle.l3_orders.specs.declared.order.Order.TheVariants.{Coa, Cbd, Cba}
-use Rattle.l3_orders.specs.Grammar.{text, order_of}
+use Rattle.l3_orders.specs.Grammar.{text, order_of, order_any}
+use Rattle.l2_window.specs.Window.{fsn_count, fsn_before_first, most_unacked}
+use Rattle.l2_window.proofs.Numbers.{distance_is, below as cycle}
 use Rattle.set_events.specs.declared.answer.Fate.{Fate}
 use Rattle.set_events.specs.declared.answer.Fate.TheVariants.{Waiting, Unacked, Acked, Held, Parked, Back, Discarded}
 use Rattle.set_route.specs.Target.{target_of}
@@ -16,8 +18,8 @@ use Rattle.set_model.specs.declared.phase.Phase.TheVariants.{Up, Down}
 use Rattle.set_model.specs.declared.reached.Reached.TheVariants.{Upto, Unknown}
 use Rattle.set_model.specs.Rows.{Row, is_back_to, is_on, is_unacked, is_waiting, was_discarded, standing, unack, wait, parked, appended, turned, all_with, moved}
 use Rattle.set_model.specs.Sound.{IsSound}
-use Rattle.set_model.specs.State.{LinkState, State, is_up, is_settled, link_is_up, link_is_settled, has_phase_up, last_accepted, target}
-use Rattle.set_model.specs.Changeover.{fate_on, queued, left_link, left_by, out_of_service, released, reached_by, is_reasonable, settled}
+use Rattle.set_model.specs.State.{has_phase_settled, all_finished, given, LinkState, State, is_up, is_settled, link_is_up, link_is_settled, has_phase_up, last_accepted, target}
+use Rattle.set_model.specs.Changeover.{settled_link, fate_on, queued, left_link, left_by, out_of_service, released, reached_by, is_reasonable, settled}
 use Rattle.set_model.proofs.Events.{appended_in, appended_out}
 use Rattle.set_model.proofs.Rows.{turned_same, moved_length, moved_same}
 use Rattle.set_model.proofs.Lists.{within, map_set_same, same_at, target_up}
@@ -36,17 +38,19 @@ use Rattle.pair_changeover.proofs.Passing.{IsReached, settles_acts, links_then, 
 use Rattle.pair_changeover.proofs.Texts.{AreCodes, coa_read, cba_plain}
 use Rattle.pair_changeover.proofs.Table.{joined, aside_settled, wait_settled, aside_joins, queue_apart}
 use Rattle.pair_changeover.proofs.Turning.{unack_same}
-use Rattle.pair_changeover.proofs.Views.{view, queue, pending, acked_of, acked_on, accepted_of, accepted_on, IsChangeover, NoneAbout}
+use Rattle.pair_changeover.proofs.Views.{view, queue, pending, acked_of, acked_on, accepted_of, accepted_on, last_of, last_on, IsChangeover, NoneAbout}
 
 -- the number that was told, and how far the far end is
 pub record Told (fsn l : ℕ) (link : LinkState) (s f : State) : Type 0 where
-  pub last : fsn ≡ (accepted_on l f + 127) % 128
+  pub last : fsn ≡ (accepted_on l f + fsn_before_first link.profile) % fsn_count link.profile
   pub due : link.acked ≤ accepted_on l f
   pub within : accepted_on l f ≤ link.acked + length (unack l s.rows)
 
-module _ (fsn l : ℕ) (link : LinkState) (s f : State) (few : length (unack l s.rows) ≤ 127) (t : Told fsn l link s f) where
+module _ (fsn l : ℕ) (link : LinkState) (s f : State) (few : length (unack l s.rows) ≤ most_unacked link.profile) (t : Told fsn l link s f) where
   pub told_reached : reached_by fsn l link s.rows ≡ accepted_on l f - link.acked
-  told_reached = rw (t.last) (omega (arith, few, t.due, t.within))
+  told_reached =
+      let e = distance_is link.profile ((link.acked + fsn_before_first link.profile) % fsn_count link.profile) link.acked (accepted_on l f) (length (unack l s.rows)) refl t.due t.within few in
+      rw (t.last) (omega (arith, e))
 
   pub told_reasonable : is_reasonable fsn l link s.rows ≡ true
   told_reasonable = let e = told_reached in grind (arith, nat_tests, e, t.within)
@@ -67,12 +71,12 @@ left_and_told l link s = queued (Coa l (last_accepted link)) (left_by false l li
 
 -- a body that isn't a declaration, nor the acknowledgement of one whose code is in use
 pub record TellsNoBack (body : List ℕ) (s : State) : Type 0 where
-  pub none_declared : (l code : ℕ) → order_of body ≡ Some (Cbd l code) → ⊥
-  pub none_in_use : (l code : ℕ) → order_of body ≡ Some (Cba l code) → code_of code s.routing ≡ Free
+  pub none_declared : (l code : ℕ) → order_of s.settings.profile body ≡ Some (Cbd l code) → ⊥
+  pub none_in_use : (l code : ℕ) → order_of s.settings.profile body ≡ Some (Cba l code) → code_of code s.routing ≡ Free
 
 pub record TellsOver (body : List ℕ) : Type 0 where
   pub order : Order
-  pub is : order_of body ≡ Some order
+  pub is : order_any body ≡ Some order
   pub over : IsChangeover order
 
 -- what the body leads to, heard on a link; an empty one stands for none
@@ -82,8 +86,8 @@ pub data Obeys (emergencies : Bool) (k : ℕ) (body : List ℕ) (s f : State) : 
   answers : (fsn l : ℕ) (link : LinkState) → (k == l) ≡ false → IsAt l link Up s → Told fsn l link s f → Heard l s f → TellsOver body → Obeys emergencies k body s f (settled (Upto fsn) l (left_link false link) (left_and_told l link s))
   settles_blind : (l : ℕ) (link : LinkState) → emergencies ≡ true → (k == l) ≡ false → IsAt l link Down s → Heard l s f → TellsOver body → Obeys emergencies k body s f (settled Unknown l link s)
   answers_blind : (l : ℕ) (link : LinkState) → emergencies ≡ true → (k == l) ≡ false → IsAt l link Up s → Heard l s f → TellsOver body → Obeys emergencies k body s f (settled Unknown l (left_link false link) (left_and_told l link s))
-  acknowledges : (l code : ℕ) → order_of body ≡ Some (Cbd l code) → Obeys emergencies k body s f (queued (Cba l code) s)
-  releases : (l code : ℕ) → order_of body ≡ Some (Cba l code) → Obeys emergencies k body s f (released code s)
+  acknowledges : (l code : ℕ) → order_of s.settings.profile body ≡ Some (Cbd l code) → Obeys emergencies k body s f (queued (Cba l code) s)
+  releases : (l code : ℕ) → order_of s.settings.profile body ≡ Some (Cba l code) → Obeys emergencies k body s f (released code s)
 
 -- what moves, and what is acknowledged, isn't discarded
 pub not_discarded : (to : Option ℕ) → was_discarded (fate_on to) ≡ false
@@ -131,6 +135,13 @@ module _ (fsn l : ℕ) (link : LinkState) (s f : State) (sound : IsSound s) (at 
       let reached = told_reached fsn l link s f ((sound.links l link at.there).window) t in
       by_link l link link_after s settled_then at.there links_after
       (λ n old new. (link_is_settled old ≡ true → acked_of old ≡ accepted_on n f) → link_is_settled new ≡ true → acked_of new ≡ accepted_on n f)
+      (λ before e. omega (arith, reached, t.due)) (λ n old d before e. before e)
+
+  pub settles_less : Told fsn l link s f → (n : ℕ) → (is_settled n s ≡ true → acked_on n s ≤ accepted_on n f) → is_settled n settled_then ≡ true → acked_on n settled_then ≤ accepted_on n f
+  settles_less t =
+      let reached = told_reached fsn l link s f ((sound.links l link at.there).window) t in
+      by_link l link link_after s settled_then at.there links_after
+      (λ n old new. (link_is_settled old ≡ true → acked_of old ≤ accepted_on n f) → link_is_settled new ≡ true → acked_of new ≤ accepted_on n f)
       (λ before e. omega (arith, reached, t.due)) (λ n old d before e. before e)
 
   -- only it does
@@ -193,8 +204,8 @@ module _ (l : ℕ) (link : LinkState) (s f : State) (sound : IsSound s) (codes :
   pub below : l < 16
   below = omega (arith, within s.links l link at.there, sound.count, sound.routed, sound.routing.at_most_16)
 
-  pub coa_is : order_of (text (Coa l (last_accepted link)) s.settings.sio s.settings.dpc s.settings.opc) ≡ Some (Coa l (last_accepted link))
-  coa_is = coa_read s.settings l (last_accepted link) codes below (omega arith)
+  pub coa_is : order_any (text s.settings.profile (Coa l (last_accepted link)) s.settings.sio s.settings.dpc s.settings.opc) ≡ Some (Coa l (last_accepted link))
+  coa_is = coa_read s.settings l (last_accepted link) codes below (rw (← (sound.links l link at.there).profile) (cycle link.profile (link.accepted + fsn_before_first link.profile)))
 
   pub not_settled : (a b : Bool) → (a ≡ true → b ≡ false) → b ≡ true → a ≡ false
   not_settled false b w e = refl
@@ -204,7 +215,7 @@ module _ (l : ℕ) (link : LinkState) (s f : State) (sound : IsSound s) (codes :
   told_both o =
       let up : is_up l s ≡ true = ap link_is_up at.there ∙ ap has_phase_up at.phase_is in
       queues_both left f (Coa l (last_accepted link)) left_sound (acts s left f left_acts o) coa_is
-      (ap (λ (n : ℕ). (n + 127) % 128) (sym (ap accepted_of (own_then l link (left_link false link) s left at.there refl))))
+      (sym (ap last_of (own_then l link (left_link false link) s left at.there refl)))
       (acts_none s left f left_acts l (o.near.none_up l up))
       (ap link_is_up (own_then l link (left_link false link) s left at.there refl))
       (not_settled (is_settled l f) (is_up l s) (o.far.apart l) up)
@@ -220,10 +231,10 @@ module _ (l : ℕ) (link : LinkState) (s f : State) (sound : IsSound s) (codes :
   unack_left n = unack_same (is_back_to l) (goes_to false l link s f sound at) (home_back l) s.rows (λ m row. offered_out m _ (out_of_service false l link s)) n
 
   unack_told : unack l told.rows ≡ unack l s.rows
-  unack_told = appended_out left.rows (text (Coa l (last_accepted link)) s.settings.sio s.settings.dpc s.settings.opc) (fate_on (target left.links)) (is_unacked l) (unsent (target left.links)) ∙ unack_left l
+  unack_told = appended_out (given left) left.rows (text s.settings.profile (Coa l (last_accepted link)) s.settings.sio s.settings.dpc s.settings.opc) (fate_on (target left.links)) (is_unacked l) (unsent (target left.links)) ∙ unack_left l
 
-  same_number : length left.rows ≡ length s.rows
-  same_number = moved_length (is_back_to l) (goes_to false l link s f sound at) s.rows
+  same_number : given left ≡ given s
+  same_number = ap (λ (n : ℕ). all_finished s.finished + n) (moved_length (is_back_to l) (goes_to false l link s f sound at) s.rows)
 
   pub told_still : (fsn : ℕ) → Told fsn l link s f → Told fsn l (left_link false link) told f
   told_still fsn t = record { last = t.last; due = t.due; within = rw unack_told (t.within) }
@@ -234,17 +245,17 @@ module _ (l : ℕ) (link : LinkState) (s f : State) (sound : IsSound s) (codes :
   pub told_accepted : (n : ℕ) → accepted_on n told ≡ accepted_on n s
   told_accepted = by_link l link (left_link false link) s left at.there refl (λ m old new. accepted_of new ≡ accepted_of old) refl (λ m old d. refl)
 
-  answer_is : (q : List Message) → q ++ record { number = length left.rows; body = text (Coa l (last_accepted link)) s.settings.sio s.settings.dpc s.settings.opc } ∷ [] ≡ q ++ answer_on l (Some link) s
+  answer_is : (q : List Message) → q ++ record { number = given left; body = text s.settings.profile (Coa l (last_accepted link)) s.settings.sio s.settings.dpc s.settings.opc } ∷ [] ≡ q ++ answer_on l (Some link) s
   answer_is q = rw (at.phase_is, same_number) refl
 
   told_target : (to : Option ℕ) → target left.links ≡ to → messages (queue_for to told.rows) ≡ messages (queue_for to left.rows) ++ answer_on l (Some link) s
   told_target None e =
-      ap (λ (to : Option ℕ). messages (parked (appended left.rows (text (Coa l (last_accepted link)) s.settings.sio s.settings.dpc s.settings.opc) (fate_on to)))) e
-      ∙ aside_joins 0 0 left.rows (text (Coa l (last_accepted link)) s.settings.sio s.settings.dpc s.settings.opc) Parked refl
+      ap (λ (to : Option ℕ). messages (parked (appended (given left) left.rows (text s.settings.profile (Coa l (last_accepted link)) s.settings.sio s.settings.dpc s.settings.opc) (fate_on to)))) e
+      ∙ aside_joins 0 0 (given left) left.rows (text s.settings.profile (Coa l (last_accepted link)) s.settings.sio s.settings.dpc s.settings.opc) Parked refl
       ∙ answer_is (messages (parked left.rows))
   told_target (Some to) e =
-      ap (λ (o : Option ℕ). messages (wait to (appended left.rows (text (Coa l (last_accepted link)) s.settings.sio s.settings.dpc s.settings.opc) (fate_on o)))) e
-      ∙ ap messages (appended_in left.rows (text (Coa l (last_accepted link)) s.settings.sio s.settings.dpc s.settings.opc) (Waiting to) (is_waiting to) (itself to))
+      ap (λ (o : Option ℕ). messages (wait to (appended (given left) left.rows (text s.settings.profile (Coa l (last_accepted link)) s.settings.sio s.settings.dpc s.settings.opc) (fate_on o)))) e
+      ∙ ap messages (appended_in (given left) left.rows (text s.settings.profile (Coa l (last_accepted link)) s.settings.sio s.settings.dpc s.settings.opc) (Waiting to) (is_waiting to) (itself to))
       ∙ joined (wait to left.rows) _
       ∙ answer_is (messages (wait to left.rows))
 
@@ -261,17 +272,17 @@ module _ (l : ℕ) (link : LinkState) (s f : State) (sound : IsSound s) (codes :
 
   pub told_pending : pending l told f ≡ pending l left f
   told_pending =
-      queue_apart (accepted_on l f - acked_on l left) l left.rows (text (Coa l (last_accepted link)) s.settings.sio s.settings.dpc s.settings.opc) (fate_on (target left.links)) (elsewhere (target left.links) refl (is_on l (fate_on (target left.links))) refl)
+      queue_apart (accepted_on l f - acked_on l left) l (given left) left.rows (text s.settings.profile (Coa l (last_accepted link)) s.settings.sio s.settings.dpc s.settings.opc) (fate_on (target left.links)) (elsewhere (target left.links) refl (is_on l (fate_on (target left.links))) refl)
 
   pub told_discards : standing was_discarded told.rows ≡ standing was_discarded s.rows
-  told_discards = appended_out left.rows (text (Coa l (last_accepted link)) s.settings.sio s.settings.dpc s.settings.opc) (fate_on (target left.links)) was_discarded (not_discarded (target left.links)) ∙ leaves_discards false l link s f sound at
+  told_discards = appended_out (given left) left.rows (text s.settings.profile (Coa l (last_accepted link)) s.settings.sio s.settings.dpc s.settings.opc) (fate_on (target left.links)) was_discarded (not_discarded (target left.links)) ∙ leaves_discards false l link s f sound at
 
 -- A DECLARATION IS HEARD, and acknowledged; the acknowledgement is no order of a changeover
 module _ (l code : ℕ) (s f : State) (sound : IsSound s) where
   abbrev body_back : List ℕ
-  body_back = text (Cba l code) s.settings.sio s.settings.dpc s.settings.opc
+  body_back = text s.settings.profile (Cba l code) s.settings.sio s.settings.dpc s.settings.opc
 
-  new_back : (link : ℕ) (to : Option ℕ) → target s.links ≡ to → IsNew 0 link s.rows body_back (fate_on to)
+  new_back : (link : ℕ) (to : Option ℕ) → target s.links ≡ to → IsNew 0 link (given s) s.rows body_back (fate_on to)
   new_back link None e = to_park
   new_back link (Some to) e = let up = target_up s.links to e in to_wait to (λ same. held_none s link sound (subst (λ (n : ℕ). is_up n s ≡ true) (eqb-true to link same) (ap link_is_up up.1 ∙ up.2)))
 
@@ -279,7 +290,7 @@ module _ (l code : ℕ) (s f : State) (sound : IsSound s) where
   acknowledges_acts = offers_acts s f body_back (fate_on (target s.links)) (queued (Cba l code) s) refl refl (λ link. new_back link (target s.links) refl) (cba_plain s.settings l code)
 
   pub acknowledges_discards : standing was_discarded (queued (Cba l code) s).rows ≡ standing was_discarded s.rows
-  acknowledges_discards = appended_out s.rows body_back (fate_on (target s.links)) was_discarded (not_discarded (target s.links))
+  acknowledges_discards = appended_out (given s) s.rows body_back (fate_on (target s.links)) was_discarded (not_discarded (target s.links))
 
 -- ALL OF IT
 pub record Moved (k n : ℕ) (s f t : State) : Type 0 where
@@ -311,6 +322,34 @@ module _ {emergencies : Bool} (k : ℕ) (body : List ℕ) (s f : State) (sound :
       ∙ told_accepted l link s f sound codes at n
   obeys_accepted _ (acknowledges l code is) n = refl
   obeys_accepted _ (releases l code is) n = refl
+
+-- a link that settles without a number counts what it counted
+blind_less : (l : ℕ) (link : LinkState) (s f : State) → slice_get s.links l ≡ Some link → link.acked ≤ accepted_on l f → (n : ℕ) → (is_settled n s ≡ true → acked_on n s ≤ accepted_on n f) → is_settled n (settled Unknown l link s) ≡ true → acked_on n (settled Unknown l link s) ≤ accepted_on n f
+blind_less l link s f there due =
+    by_link l link (settled_link link) s (settled Unknown l link s) there refl
+    (λ n old new. (link_is_settled old ≡ true → acked_of old ≤ accepted_on n f) → link_is_settled new ≡ true → acked_of new ≤ accepted_on n f)
+    (λ before e. due) (λ n old d before e. before e)
+
+-- one that is left isn't settled
+still_less : (s f : State) (l : ℕ) (link : LinkState) → slice_get s.links l ≡ Some link → (n : ℕ) → (is_settled n s ≡ true → acked_on n s ≤ accepted_on n f) → is_settled n (left_by false l link s) ≡ true → acked_on n (left_by false l link s) ≤ accepted_on n f
+still_less s f l link there =
+    by_link l link (left_link false link) s (left_by false l link s) there refl
+    (λ m old new. (link_is_settled old ≡ true → acked_of old ≤ accepted_on m f) → link_is_settled new ≡ true → acked_of new ≤ accepted_on m f)
+    (λ before g. absurd cc) (λ m old d before g. before g)
+
+-- what a settled link counts as acknowledged was accepted, with emergencies or without
+module _ {emergencies : Bool} (k : ℕ) (body : List ℕ) (s f : State) (sound : IsSound s) (codes : AreCodes s.settings) (due : (n : ℕ) (link : LinkState) → (k == n) ≡ false → slice_get s.links n ≡ Some link → has_phase_settled link.phase ≡ false → link.acked ≤ accepted_on n f) where
+  pub obeys_less : ((n : ℕ) → is_settled n s ≡ true → acked_on n s ≤ accepted_on n f) → (t : State) → Obeys emergencies k body s f t → (n : ℕ) → is_settled n t ≡ true → acked_on n t ≤ accepted_on n f
+  obeys_less less t (keeps _ rows links routing none) n e = subst (λ (ls : List LinkState). acked_of (slice_get ls n) ≤ accepted_on n f) (sym links) (less n (ap (λ (ls : List LinkState). link_is_settled (slice_get ls n)) (sym links) ∙ e))
+  obeys_less less _ (settles fsn l link other at told_so heard over) n e = settles_less fsn l link s f sound at (is_reached fsn l link s f sound at told_so) told_so n (less n) e
+  obeys_less less _ (answers fsn l link other at told_so heard over) n e =
+      settles_less fsn l (left_link false link) (told l link s f sound codes at) f (told_sound l link s f sound codes at) (told_at l link s f sound codes at) (told_reached_so l link s f sound codes at fsn told_so) (told_still l link s f sound codes at fsn told_so) n
+      (still_less s f l link at.there n (less n)) e
+  obeys_less less _ (settles_blind l link may other at heard over) n e = blind_less l link s f at.there (due l link other at.there (ap has_phase_settled at.phase_is)) n (less n) e
+  obeys_less less _ (answers_blind l link may other at heard over) n e =
+      blind_less l (left_link false link) (told l link s f sound codes at) f (told_at l link s f sound codes at).there (due l link other at.there (ap has_phase_settled at.phase_is)) n (still_less s f l link at.there n (less n)) e
+  obeys_less less _ (acknowledges l code is) n e = less n e
+  obeys_less less _ (releases l code is) n e = less n e
 
 -- where there are no emergencies
 module _ (k : ℕ) (body : List ℕ) (s f : State) (sound : IsSound s) (codes : AreCodes s.settings) where

@@ -17,7 +17,7 @@ use Rattle.set_model.proofs.Walk.{IsAt}
 use Rattle.pair_model.specs.Run.{Message, messages}
 use Rattle.pair_changeover.proofs.Changes.{Both, Acts, far_same, by_link, own_then, other_then, held_none}
 use Rattle.pair_changeover.proofs.Table.{drop_none, queue_untouched, queue_settled, aside_settled, queue_accepted}
-use Rattle.pair_changeover.proofs.Views.{view, pending, aside, queue, acked_of, acked_on, accepted_of, accepted_on, Among, among_joined, In, stands_on, stands_aside, NoneAbout, Orders, Came, stayed, moved, CameAside, was_in, Passes, carries}
+use Rattle.pair_changeover.proofs.Views.{view, pending, aside, queue, acked_of, acked_on, accepted_of, accepted_on, last_of, last_on, Among, among_joined, In, stands_on, stands_aside, NoneAbout, Orders, Came, stayed, moved, CameAside, was_in, Passes, carries}
 
 -- A CHANGE ON A LINK THAT IS UP, by which no queue of this end changes: it sends, or hears
 module _ (k : ℕ) (link link' : LinkState) (s t f : State) (at : IsAt k link Up s) (links : t.links ≡ slice_set s.links k link') (up : link'.phase ≡ Up) (own : queue (accepted_on k f - link'.acked) k t.rows ≡ queue (accepted_on k f - link.acked) k s.rows) (others : (l : ℕ) → (k == l) ≡ false → Untouched l s.rows t.rows) (parked_same : parked t.rows ≡ parked s.rows) (far_came : (l : ℕ) (m : Message) → Among m (pending l f t) → Among m (pending l f s)) where
@@ -41,8 +41,8 @@ module _ (k : ℕ) (link link' : LinkState) (s t f : State) (at : IsAt k link Up
       was_up : link_is_up (Some link) ≡ true
       was_up = ap Rattle.set_model.specs.State.has_phase_up at.phase_is
 
-      accepted_at : (l : ℕ) → (accepted_on l t ≡ accepted_on l s) ⊎ (is_up l s ≡ true)
-      accepted_at l = all (λ n old new. (accepted_of new ≡ accepted_of old) ⊎ (link_is_up old ≡ true)) (inr was_up) (λ n old d. inl refl) l
+      accepted_at : (l : ℕ) → (last_on l t ≡ last_on l s) ⊎ (is_up l s ≡ true)
+      accepted_at l = all (λ n old new. (last_of new ≡ last_of old) ⊎ (link_is_up old ≡ true)) (inr was_up) (λ n old d. inl refl) l
 
 -- what the other's queues lose when this end accepts the first of one
 module _ (k : ℕ) (link link' : LinkState) (s t f : State) (there : slice_get s.links k ≡ Some link) (links : t.links ≡ slice_set s.links k link') where
@@ -210,7 +210,7 @@ module _ (fsn n : ℕ) (link : LinkState) (s f : State) (sound : IsSound s) (at 
       came_aside = λ m among. came_aside_at (target s.links) refl m (subst (λ (q : List Message). Among m q) (ap (λ (rows : List Row). messages (parked rows)) rows_then) among);
       up_less = λ l up. all_links (λ i old new. link_is_up new ≡ true → link_is_up old ≡ true) (λ e. absurd cc) (λ i old d e. e) l up;
       settled_more = λ l e. all_links (λ i old new. link_is_settled new ≡ true → (link_is_settled old ≡ true) ⊎ ((is_up i f ≡ false) × NoneAbout i (view f s))) (λ g. inr (far_down, none)) (λ i old d g. inl g) l e;
-      accepted = λ l. inl (all_links (λ i old new. accepted_of new ≡ accepted_of old) refl (λ i old d. refl) l);
+      accepted = λ l. inl (all_links (λ i old new. last_of new ≡ last_of old) refl (λ i old d. refl) l);
       far_came = far_same s after f (all_links (λ i old new. accepted_of new ≡ accepted_of old) refl (λ i old d. refl));
     }
 
@@ -242,7 +242,7 @@ module _ {emergencies : Bool} (k : ℕ) (s t f g : State) (a : Rises k s t) (b :
     came_aside = λ m among. absurd (subst (λ (q : List Message). Among m q) (ap messages a.none_aside) among);
     none_up = split (λ l. is_up l t ≡ true → NoneAbout l (view s f)) (λ e. o.none_settled k b.settled_was) (λ l d e. o.none_up l (ap link_is_up (sym (a.links l d)) ∙ e));
     none_settled = split (λ l. is_settled l g ≡ true → NoneAbout l (view s f)) (λ e. o.none_settled k b.settled_was) (λ l d e. o.none_settled l (ap link_is_settled (sym (b.links l d)) ∙ e));
-    accepted = split (λ l. (accepted_on l t ≡ accepted_on l s) ⊎ NoneAbout l (view s f)) (inr (o.none_settled k b.settled_was)) (λ l d. inl (ap accepted_of (a.links l d)));
+    accepted = split (λ l. (last_on l t ≡ last_on l s) ⊎ NoneAbout l (view s f)) (inr (o.none_settled k b.settled_was)) (λ l d. inl (ap last_of (a.links l d)));
     apart = split (λ l. is_settled l t ≡ true → is_up l g ≡ false) (λ e. absurd (let no : false ≡ true = sym a.unsettled_then ∙ e in cc)) (λ l d e. ap link_is_up (b.links l d) ∙ o.apart l (ap link_is_settled (sym (a.links l d)) ∙ e));
   }
     where

@@ -139,14 +139,14 @@ get_rest zero i xs = let same : i ≡ 0 + i = omega arith in ap (slice_get xs) s
 get_rest (suc n) i [] = refl
 get_rest (suc n) i (x ∷ xs) = let same : suc (n + i) ≡ suc n + i = omega arith in get_rest n i xs ∙ ap (slice_get (x ∷ xs)) same
 
-module _ (k count : ℕ) (rows : List Row) (numbered : IsNumbered rows) (row : Row) (there : slice_get (unack k rows) count ≡ Some row) where
+module _ (given k count : ℕ) (rows : List Row) (numbered : IsNumbered given rows) (row : Row) (there : slice_get (unack k rows) count ≡ Some row) where
   is_row : row_of row.number rows ≡ Some row
-  is_row = row_in_filter (λ (r : Row). is_unacked k r.fate) rows count row.number row numbered there refl
+  is_row = row_in_filter given (λ (r : Row). is_unacked k r.fate) rows count row.number row numbered there refl
 
   -- a row with its number that stands where a test tells is the row
   same_row : (test : Fate → Bool) (i : ℕ) (other : Row) → slice_get (standing test rows) i ≡ Some other → other.number ≡ row.number → test row.fate ≡ true
   same_row test i other e n =
-      let is : Some row ≡ Some other = sym is_row ∙ row_in_filter (λ (r : Row). test r.fate) rows i row.number other numbered e n in
+      let is : Some row ≡ Some other = sym is_row ∙ row_in_filter given (λ (r : Row). test r.fate) rows i row.number other numbered e n in
       let one : other ≡ row = cc in
       subst (λ (r : Row). test r.fate ≡ true) one (filtered (λ (r : Row). test r.fate) rows i other e)
 
@@ -214,7 +214,7 @@ module _ (k count : ℕ) (rows : List Row) (numbered : IsNumbered rows) (row : R
 
       twice : (w : RowOf m (drop from (unack l rows))) → (k == l) ≡ true → ⊥
       twice w same =
-          let one = at_most_one row.number rows numbered in
+          let one = at_most_one given row.number rows numbered in
           let there_too : slice_get (unack k rows) (from + w.place) ≡ Some w.row = subst (λ (n : ℕ). slice_get (unack n rows) (from + w.place) ≡ Some w.row) (sym (eqb-true k l same)) (sent_there w) in
           let two = two_there (λ (r : Row). is_unacked k r.fate) row.number rows count (from + w.place) row w.row (let more = behind same in omega (arith, more)) there there_too refl (sym w.number_is ∙ e) in
           absurd (omega (arith, one, two))

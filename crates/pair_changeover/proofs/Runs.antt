@@ -1,4 +1,5 @@
 -- EVERY SOUND RUN DIVERTS THE REST: one induction over its steps, beside that of the links.
+use Rattle.l2_units.specs.declared.profile.Profile.{Profile}
 use Rattle.std.proofs.Common.{refl, arith, ◌≡◌, ◌∙◌, ap, sym, subst, ℕ, zero, suc, ◌<◌, ◌-◌, Bool, true, false, ◌||◌, nat_lt, List, [], ◌∷◌, ◌++◌, length, slice_get, replicate, Option, Some, None, cond}
 use Rattle.std.proofs.lemmas.Bool.{ltb-true}
 use Rattle.l2_units.specs.declared.unit.Unit.{Unit as SignalUnit}
@@ -235,15 +236,15 @@ module _ (ma mb : Method) (one : IsOneMethod ma mb) where
       record { lost_nothing = (lost_nothing g h w, rest.0); diverted = rest.1 }
 
 -- AT FIRST
-no_link_up : (n l : ℕ) (method : Method) → link_is_up (slice_get (replicate n (new_link method)) l) ≡ false
-no_link_up zero l method = refl
-no_link_up (suc n) zero method = refl
-no_link_up (suc n) (suc l) method = no_link_up n l method
+no_link_up : (n l : ℕ) (p : Profile) (method : Method) → link_is_up (slice_get (replicate n (new_link p method)) l) ≡ false
+no_link_up zero l p method = refl
+no_link_up (suc n) zero p method = refl
+no_link_up (suc n) (suc l) p method = no_link_up n l p method
 
-none_counted : (n l : ℕ) (method : Method) (count : Option LinkState → ℕ) → count None ≡ 0 → count (Some (new_link method)) ≡ 0 → count (slice_get (replicate n (new_link method)) l) ≡ 0
-none_counted zero l method count a b = a
-none_counted (suc n) zero method count a b = b
-none_counted (suc n) (suc l) method count a b = none_counted n l method count a b
+pub none_counted : (n l : ℕ) (p : Profile) (method : Method) (count : Option LinkState → ℕ) → count None ≡ 0 → count (Some (new_link p method)) ≡ 0 → count (slice_get (replicate n (new_link p method)) l) ≡ 0
+none_counted zero l p method count a b = a
+none_counted (suc n) zero p method count a b = b
+none_counted (suc n) (suc l) p method count a b = none_counted n l p method count a b
 
 pub nothing_in : (a b : Settings) (m : Message) → In m (view (opened_with a) (opened_with b)) → ⊥
 nothing_in a b m (stands_on l among) = subst (λ (q : List Row). Among m (messages (q ++ [] ++ []))) (drop_none {X = Row} (accepted_on l (opened_with b) - acked_on l (opened_with a))) among
@@ -256,7 +257,7 @@ first_orders a b = record {
   none_settled = λ link settled m i about. nothing_in a b m i;
   one = λ link m n i j x y. absurd (nothing_in a b m i);
   own = λ link m among about. nothing_in a b m (stands_on link among);
-  apart = λ link settled. no_link_up b.links link b.method;
+  apart = λ link settled. no_link_up b.links link b.profile b.method;
 }
 
 pub first_codes : (config : SetConfig) → AreCodes (settings_of config)
@@ -264,7 +265,7 @@ first_codes config = record { management = config.management; dpc = config.dpc_i
 
 first_half : (config other : SetConfig) → Half (opened_with (settings_of config)) (opened_with (settings_of other)) no_past
 first_half config other = record {
-  equal = λ l e. none_counted config.links l config.method acked_of refl refl ∙ sym (none_counted other.links l other.method accepted_of refl refl);
+  equal = λ l e. none_counted config.links l config.profile config.method acked_of refl refl ∙ sym (none_counted other.links l other.profile other.method accepted_of refl refl);
   acked = λ l. new_acked_first l (settings_of config);
   none_discarded = refl;
   codes = first_codes config;
@@ -278,4 +279,4 @@ whole_at_first a b = record {
 }
 
 pub every_sound_run : (a b : SetConfig) (steps : List Step) → AreSteps IsAskedStep steps → IsSoundRun a b steps → ChangesOver (begun a b) steps
-every_sound_run a b steps asked sound = along a.method b.method sound.one_method (begun a b) (at_first a b sound.links) (whole_at_first a b) steps sound.steps asked
+every_sound_run a b steps asked sound = along a.method b.method sound.one_method (begun a b) (at_first a b sound.links sound.profiles) (whole_at_first a b) steps sound.steps asked

@@ -37,8 +37,8 @@ module _ (kept : Fate) (test : Fate → Bool) (w : test kept ≡ false) where
     pub changed_stay : (rows : List Row) → Stays kept rows (changed test fate rows)
     changed_stay rows = turned_stay (length rows) rows
 
-  pub moved_stay : (fate : Row → Fate) (rows : List Row) → IsNumbered rows → Stays kept rows (moved test fate rows)
-  moved_stay fate rows numbered number e = place_moved test fate number rows numbered ∙ go (row_of number rows) e
+  pub moved_stay : (given : ℕ) (fate : Row → Fate) (rows : List Row) → IsNumbered given rows → Stays kept rows (moved test fate rows)
+  moved_stay given fate rows numbered number e = place_moved test fate given number rows numbered ∙ go (row_of number rows) e
     where
       go : (o : Option Row) → option_map (λ r. r.fate) o ≡ Some kept → option_map (λ r. cond (test r.fate) (fate r) r.fate) o ≡ Some kept
       go None f = absurd cc

@@ -44,28 +44,28 @@ joins_waiting sent waiting more =
 pub joins_held : (sent waiting kept more : List Row) → messages (sent ++ waiting ++ (kept ++ more)) ≡ messages (sent ++ waiting ++ kept) ++ messages more
 joins_held sent waiting kept more = ap messages (sym (append_assoc (sent ++ waiting) kept more)) ∙ joined (sent ++ waiting ++ kept) more
 
-abbrev pub new_message : List Row → List ℕ → Message
-new_message rows body = record { number = length rows; body = body }
+abbrev pub new_message : ℕ → List ℕ → Message
+new_message number body = record { number = number; body = body }
 
-module _ (count link : ℕ) (rows : List Row) (body : List ℕ) (fate : Fate) where
-  pub queue_waits : is_waiting link fate ≡ true → is_unacked link fate ≡ false → is_held link fate ≡ false → held link rows ≡ [] → queue count link (appended rows body fate) ≡ queue count link rows ++ new_message rows body ∷ []
+module _ (count link number : ℕ) (rows : List Row) (body : List ℕ) (fate : Fate) where
+  pub queue_waits : is_waiting link fate ≡ true → is_unacked link fate ≡ false → is_held link fate ≡ false → held link rows ≡ [] → queue count link (appended number rows body fate) ≡ queue count link rows ++ new_message number body ∷ []
   queue_waits w u h none =
-      rw (appended_out rows body fate (is_unacked link) u, appended_in rows body fate (is_waiting link) w, appended_out rows body fate (is_held link) h, none)
-      (joins_waiting (drop count (unack link rows)) (wait link rows) (new_row (length rows) body fate ∷ []))
+      rw (appended_out number rows body fate (is_unacked link) u, appended_in number rows body fate (is_waiting link) w, appended_out number rows body fate (is_held link) h, none)
+      (joins_waiting (drop count (unack link rows)) (wait link rows) (new_row number body fate ∷ []))
 
-  pub queue_holds : is_waiting link fate ≡ false → is_unacked link fate ≡ false → is_held link fate ≡ true → queue count link (appended rows body fate) ≡ queue count link rows ++ new_message rows body ∷ []
+  pub queue_holds : is_waiting link fate ≡ false → is_unacked link fate ≡ false → is_held link fate ≡ true → queue count link (appended number rows body fate) ≡ queue count link rows ++ new_message number body ∷ []
   queue_holds w u h =
-      rw (appended_out rows body fate (is_unacked link) u, appended_out rows body fate (is_waiting link) w, appended_in rows body fate (is_held link) h)
-      (joins_held (drop count (unack link rows)) (wait link rows) (held link rows) (new_row (length rows) body fate ∷ []))
+      rw (appended_out number rows body fate (is_unacked link) u, appended_out number rows body fate (is_waiting link) w, appended_in number rows body fate (is_held link) h)
+      (joins_held (drop count (unack link rows)) (wait link rows) (held link rows) (new_row number body fate ∷ []))
 
-  pub queue_apart : is_on link fate ≡ false → queue count link (appended rows body fate) ≡ queue count link rows
-  queue_apart o = queue_untouched count link rows (appended rows body fate) (untouched link rows (appended rows body fate) (appended_out rows body fate (is_on link) o))
+  pub queue_apart : is_on link fate ≡ false → queue count link (appended number rows body fate) ≡ queue count link rows
+  queue_apart o = queue_untouched count link rows (appended number rows body fate) (untouched link rows (appended number rows body fate) (appended_out number rows body fate (is_on link) o))
 
-  pub aside_joins : is_parked fate ≡ true → messages (parked (appended rows body fate)) ≡ messages (parked rows) ++ new_message rows body ∷ []
-  aside_joins p = ap messages (appended_in rows body fate is_parked p) ∙ joined (parked rows) (new_row (length rows) body fate ∷ [])
+  pub aside_joins : is_parked fate ≡ true → messages (parked (appended number rows body fate)) ≡ messages (parked rows) ++ new_message number body ∷ []
+  aside_joins p = ap messages (appended_in number rows body fate is_parked p) ∙ joined (parked rows) (new_row number body fate ∷ [])
 
-  pub aside_apart : is_parked fate ≡ false → messages (parked (appended rows body fate)) ≡ messages (parked rows)
-  aside_apart p = ap messages (appended_out rows body fate is_parked p)
+  pub aside_apart : is_parked fate ≡ false → messages (parked (appended number rows body fate)) ≡ messages (parked rows)
+  aside_apart p = ap messages (appended_out number rows body fate is_parked p)
 
 -- A FIRST SENDING: the first that waits is the last that was sent
 sends_on : (count : ℕ) (sent waiting kept : List Row) (fate : Fate) → count ≤ length sent → messages (drop count (sent ++ map (with_fate fate) (take 1 waiting)) ++ drop 1 waiting ++ kept) ≡ messages (drop count sent ++ waiting ++ kept)

@@ -1,7 +1,7 @@
 -- WHAT STOOD BACK TURNS TO LINKS, all together and in its order: what that does to what is pending.
 use Rattle.std.proofs.Common.{Some, None, refl, ◌≡◌, ◌∙◌, ap, sym, subst, ℕ, ◌==◌, Bool, true, false, not, ◌-◌, List, [], ◌∷◌, ◌++◌, map, drop, ◌⊎◌, inl, inr, cond}
 use Rattle.std.proofs.lemmas.List.{append-nil}
-use Rattle.l3_orders.specs.Grammar.{order_of}
+use Rattle.l3_orders.specs.Grammar.{order_any}
 use Rattle.set_events.specs.declared.answer.Fate.{Fate}
 use Rattle.set_events.specs.declared.answer.Fate.TheVariants.{Waiting, Unacked, Acked, Held, Parked, Back, Discarded}
 use Rattle.set_route.specs.Routing.{Routing}
@@ -14,7 +14,7 @@ use Rattle.pair_model.specs.Run.{Message, messages}
 use Rattle.pair_changeover.proofs.Changes.{Acts, far_same}
 use Rattle.pair_changeover.proofs.Table.{joined, joins_waiting, joins_held}
 use Rattle.pair_changeover.proofs.Texts.{plain_body}
-use Rattle.pair_changeover.proofs.Views.{view, pending, aside, queue, acked_on, accepted_on, Among, among_joined, stands_aside, IsPlain, Came, plain, stayed, CameAside, plain_aside, was_in}
+use Rattle.pair_changeover.proofs.Views.{view, pending, aside, queue, acked_on, accepted_on, last_on, Among, among_joined, stands_aside, IsPlain, Came, plain, stayed, CameAside, plain_aside, was_in}
 
 not_false : (b : Bool) → not b ≡ true → b ≡ false
 not_false true e = absurd cc
@@ -22,7 +22,7 @@ not_false false e = refl
 
 module _ (test : Fate → Bool) (fate : Row → Fate) (back : (f : Fate) → test f ≡ true → stands_back f ≡ true) where
   -- they are messages of the users
-  plain_row : (routing : Routing) (row : Row) (f : Fate) → test f ≡ true → IsBackOf routing row f → order_of row.body ≡ None
+  plain_row : (routing : Routing) (row : Row) (f : Fate) → test f ≡ true → IsBackOf routing row f → order_any row.body ≡ None
   plain_row routing row (Back code) e b = plain_body row.body (not_false (service_indicator row.body == 0) b.0)
   plain_row routing row (Waiting l) e b = absurd (let no : false ≡ true = back (Waiting l) e in cc)
   plain_row routing row (Unacked l) e b = absurd (let no : false ≡ true = back (Unacked l) e in cc)
@@ -31,16 +31,16 @@ module _ (test : Fate → Bool) (fate : Row → Fate) (back : (f : Fate) → tes
   plain_row routing row Parked e b = absurd (let no : false ≡ true = back Parked e in cc)
   plain_row routing row (Discarded cause) e b = absurd (let no : false ≡ true = back (Discarded cause) e in cc)
 
-  pub turned_users : (routing : Routing) (other : Fate → Bool) (rows : List Row) → AreBack routing rows → (m : Message) → Among m (messages (standing other (map (fated fate) (standing test rows)))) → order_of m.body ≡ None
+  pub turned_users : (routing : Routing) (other : Fate → Bool) (rows : List Row) → AreBack routing rows → (m : Message) → Among m (messages (standing other (map (fated fate) (standing test rows)))) → order_any m.body ≡ None
   turned_users routing other [] b m among = absurd among
   turned_users routing other (row ∷ rows) b m among = go (λ a. turned_users routing other rows b.1 m a) (test row.fate) refl among
     where
-      kept : (Among m (messages (standing other (map (fated fate) (standing test rows)))) → order_of m.body ≡ None) → test row.fate ≡ true → (c : Bool) → Among m (messages (cond c (fated fate row ∷ standing other (map (fated fate) (standing test rows))) (standing other (map (fated fate) (standing test rows))))) → order_of m.body ≡ None
-      kept rest e true (inl same) = ap (λ (x : Message). order_of x.body) same ∙ plain_row routing row row.fate e b.0
+      kept : (Among m (messages (standing other (map (fated fate) (standing test rows)))) → order_any m.body ≡ None) → test row.fate ≡ true → (c : Bool) → Among m (messages (cond c (fated fate row ∷ standing other (map (fated fate) (standing test rows))) (standing other (map (fated fate) (standing test rows))))) → order_any m.body ≡ None
+      kept rest e true (inl same) = ap (λ (x : Message). order_any x.body) same ∙ plain_row routing row row.fate e b.0
       kept rest e true (inr a) = rest a
       kept rest e false a = rest a
 
-      go : (Among m (messages (standing other (map (fated fate) (standing test rows)))) → order_of m.body ≡ None) → (c : Bool) → test row.fate ≡ c → Among m (messages (standing other (map (fated fate) (cond c (row ∷ standing test rows) (standing test rows))))) → order_of m.body ≡ None
+      go : (Among m (messages (standing other (map (fated fate) (standing test rows)))) → order_any m.body ≡ None) → (c : Bool) → test row.fate ≡ c → Among m (messages (standing other (map (fated fate) (cond c (row ∷ standing test rows) (standing test rows))))) → order_any m.body ≡ None
       go rest true e a = kept rest e (other (fate row)) a
       go rest false e a = rest a
 
@@ -76,14 +76,14 @@ module _ (test : Fate → Bool) (fate : Row → Fate) (back : (f : Fate) → tes
     pub turned_parked : parked (moved test fate rows) ≡ parked rows ++ parked turned_rows
     turned_parked = moved_more test is_parked fate rows (λ f e. back_not_parked f (back f e))
 
-    pub gained_users : (routing : Routing) → AreBack routing rows → (l : ℕ) (m : Message) → Among m (gained l) → order_of m.body ≡ None
+    pub gained_users : (routing : Routing) → AreBack routing rows → (l : ℕ) (m : Message) → Among m (gained l) → order_any m.body ≡ None
     gained_users routing b l m among = go (among_joined m (messages (wait l turned_rows)) (messages (held l turned_rows)) (subst (Among m) (joined (wait l turned_rows) (held l turned_rows)) among))
       where
-        go : Among m (messages (wait l turned_rows)) ⊎ Among m (messages (held l turned_rows)) → order_of m.body ≡ None
+        go : Among m (messages (wait l turned_rows)) ⊎ Among m (messages (held l turned_rows)) → order_any m.body ≡ None
         go (inl a) = turned_users routing (is_waiting l) rows b m a
         go (inr a) = turned_users routing (is_held l) rows b m a
 
-no_plain : (m : Message) → order_of m.body ≡ None → IsPlain m
+no_plain : (m : Message) → order_any m.body ≡ None → IsPlain m
 no_plain m none order is over = let no : None ≡ Some order = sym none ∙ is in absurd cc
 
 -- AN END whose rows turn so
@@ -98,13 +98,13 @@ module _ (test : Fate → Bool) (fate : Row → Fate) (s t f : State) (back : (g
   turned_aside = ap (λ (rs : List Row). messages (parked rs)) rows ∙ ap messages (turned_parked test fate back s.rows unsent) ∙ joined (parked s.rows) (parked (turned_rows test fate back s.rows unsent))
 
   -- in which no order is made
-  pub turned_acts : AreBack s.routing s.rows → ((l : ℕ) → is_up l t ≡ true → is_up l s ≡ true) → ((l : ℕ) → is_settled l t ≡ true → is_settled l s ≡ true) → ((l : ℕ) → accepted_on l t ≡ accepted_on l s) → Acts s t f
-  turned_acts b up settled accepted = record {
+  pub turned_acts : AreBack s.routing s.rows → ((l : ℕ) → is_up l t ≡ true → is_up l s ≡ true) → ((l : ℕ) → is_settled l t ≡ true → is_settled l s ≡ true) → ((l : ℕ) → accepted_on l t ≡ accepted_on l s) → ((l : ℕ) → last_on l t ≡ last_on l s) → Acts s t f
+  turned_acts b up settled accepted last = record {
     came = λ l m among. came_case l m (among_joined m (pending l s f) (gained test fate back s.rows unsent l) (subst (Among m) (turned_pending l) among));
     came_aside = λ m among. aside_case m (among_joined m (aside s) (messages (parked (turned_rows test fate back s.rows unsent))) (subst (Among m) turned_aside among));
     up_less = up;
     settled_more = λ l e. inl (settled l e);
-    accepted = λ l. inl (accepted l);
+    accepted = λ l. inl (last l);
     far_came = far_same s t f accepted;
   }
     where

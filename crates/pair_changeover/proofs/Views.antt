@@ -3,10 +3,10 @@
 use Rattle.std.proofs.Common.{refl, ◌≡◌, ◌≢◌, ◌∙◌, ap, sym, subst, ℕ, ◌+◌, ◌%◌, Bool, true, false, List, [], ◌∷◌, ◌++◌, Some, ◌⊎◌, inl, inr}
 use Rattle.l3_orders.specs.declared.order.Order.{Order}
 use Rattle.l3_orders.specs.declared.order.Order.TheVariants.{Coo, Coa, Cbd, Cba, Eco, Eca}
-use Rattle.l3_orders.specs.Grammar.{order_of, link_of}
+use Rattle.l3_orders.specs.Grammar.{order_any, link_of}
 use Rattle.set_model.specs.State.{State, is_up, is_settled}
 use Rattle.pair_model.specs.Run.{Message}
-pub use Rattle.pair_changeover.specs.Pending.{acked_of, acked_on, accepted_of, accepted_on, queue, pending, aside}
+pub use Rattle.pair_changeover.specs.Pending.{acked_of, acked_on, accepted_of, accepted_on, last_of, last_on, queue, pending, aside}
 
 -- AN END as the other sees it
 pub record View : Type 0 where
@@ -20,7 +20,7 @@ abbrev pub view : State → State → View
 view near far = record {
   up = λ link. is_up link near;
   settled = λ link. is_settled link near;
-  accepted = λ link. accepted_on link near;
+  accepted = λ link. last_on link near;
   on = λ link. pending link near far;
   aside = aside near;
 }
@@ -53,14 +53,14 @@ IsChangeover (Cbd link code) = ⊥
 IsChangeover (Cba link code) = ⊥
 
 abbrev pub IsNoOrder : List ℕ → Type 0
-IsNoOrder body = (order : Order) → order_of body ≡ Some order → IsChangeover order → ⊥
+IsNoOrder body = (order : Order) → order_any body ≡ Some order → IsChangeover order → ⊥
 
 abbrev pub IsPlain : Message → Type 0
 IsPlain m = IsNoOrder m.body
 
 pub record About (link : ℕ) (m : Message) : Type 0 where
   pub order : Order
-  pub is : order_of m.body ≡ Some order
+  pub is : order_any m.body ≡ Some order
   pub over : IsChangeover order
   pub of : link_of order ≡ link
 
@@ -73,8 +73,8 @@ NoneAbout link v = (m : Message) → In m v → About link m → ⊥
 -- it's a changeover order or its acknowledgement, with the FSN last accepted; or an emergency changeover order, where there
 -- may be emergencies
 abbrev pub Tells : Bool → View → Order → Type 0
-Tells emergencies v (Coo link fsn) = fsn ≡ (v.accepted link + 127) % 128
-Tells emergencies v (Coa link fsn) = fsn ≡ (v.accepted link + 127) % 128
+Tells emergencies v (Coo link fsn) = fsn ≡ v.accepted link
+Tells emergencies v (Coa link fsn) = fsn ≡ v.accepted link
 Tells emergencies v (Eco link) = emergencies ≡ true
 Tells emergencies v _ = ⊥
 
@@ -82,7 +82,7 @@ Tells emergencies v _ = ⊥
 -- link at most one, and none on the link that it's about; each with the number that its end counts. And a link that
 -- settled here isn't up there.
 pub record Orders (emergencies : Bool) (x y : View) : Type 0 where
-  pub tells : (m : Message) → In m x → (order : Order) → order_of m.body ≡ Some order → IsChangeover order → Tells emergencies x order
+  pub tells : (m : Message) → In m x → (order : Order) → order_any m.body ≡ Some order → IsChangeover order → Tells emergencies x order
   pub none_up : (link : ℕ) → x.up link ≡ true → NoneAbout link x
   pub none_settled : (link : ℕ) → y.settled link ≡ true → NoneAbout link x
   pub one : (link : ℕ) (m n : Message) → In m x → In n x → About link m → About link n → m.number ≡ n.number
@@ -121,9 +121,9 @@ module _ {emergencies : Bool} (x x' y y' : View) (p : Passes x x' y') (o : Order
   about_was link m about (plain_aside q) = absurd (plain_not link m q about)
   about_was link m about (was_in i) = i
 
-  still : (m : Message) (order : Order) → order_of m.body ≡ Some order → In m x → ((x'.accepted (link_of order) ≡ x.accepted (link_of order)) ⊎ NoneAbout (link_of order) x) → Tells emergencies x order → Tells emergencies x' order
-  still m (Coo link fsn) e i (inl same) t = t ∙ ap (λ (k : ℕ). (k + 127) % 128) (sym same)
-  still m (Coa link fsn) e i (inl same) t = t ∙ ap (λ (k : ℕ). (k + 127) % 128) (sym same)
+  still : (m : Message) (order : Order) → order_any m.body ≡ Some order → In m x → ((x'.accepted (link_of order) ≡ x.accepted (link_of order)) ⊎ NoneAbout (link_of order) x) → Tells emergencies x order → Tells emergencies x' order
+  still m (Coo link fsn) e i (inl same) t = t ∙ sym same
+  still m (Coa link fsn) e i (inl same) t = t ∙ sym same
   still m (Cbd link code) e i same t = absurd t
   still m (Cba link code) e i same t = absurd t
   still m (Eco link) e i same t = t
@@ -148,7 +148,7 @@ module _ {emergencies : Bool} (x x' y y' : View) (p : Passes x x' y') (o : Order
 
 -- AN ORDER IS QUEUED about a link that was just left: none stood there about it
 pub record Queues (emergencies : Bool) (z : Message) (order : Order) (x x' y : View) : Type 0 where
-  pub is : order_of z.body ≡ Some order
+  pub is : order_any z.body ≡ Some order
   pub tells : Tells emergencies x order
   pub fresh : NoneAbout (link_of order) x
   pub down : x.up (link_of order) ≡ false
@@ -175,13 +175,13 @@ module _ {emergencies : Bool} (z : Message) (order : Order) (x x' y : View) (q :
   -- the new one is about its link alone
   of_new : (link : ℕ) (m : Message) → m ≡ z → About link m → link ≡ link_of order
   of_new link m e about =
-      let same : Some about.order ≡ Some order = sym about.is ∙ ap (λ (k : Message). order_of k.body) e ∙ q.is in
+      let same : Some about.order ≡ Some order = sym about.is ∙ ap (λ (k : Message). order_any k.body) e ∙ q.is in
       let one : about.order ≡ order = cc in
       sym about.of ∙ ap link_of one
 
   tells_on : (other : Order) → Tells emergencies x other → Tells emergencies x' other
-  tells_on (Coo link fsn) t = t ∙ ap (λ (k : ℕ). (k + 127) % 128) (sym (q.accepted_same link))
-  tells_on (Coa link fsn) t = t ∙ ap (λ (k : ℕ). (k + 127) % 128) (sym (q.accepted_same link))
+  tells_on (Coo link fsn) t = t ∙ sym (q.accepted_same link)
+  tells_on (Coa link fsn) t = t ∙ sym (q.accepted_same link)
   tells_on (Cbd link code) t = absurd t
   tells_on (Cba link code) t = absurd t
   tells_on (Eco link) t = t
@@ -204,9 +204,9 @@ module _ {emergencies : Bool} (z : Message) (order : Order) (x x' y : View) (q :
     apart = λ link settled. o.apart link (sym (q.settled_same link) ∙ settled);
   }
     where
-      tells_case : (m : Message) (other : Order) → order_of m.body ≡ Some other → IsChangeover other → (m ≡ z) ⊎ In m x → Tells emergencies x' other
+      tells_case : (m : Message) (other : Order) → order_any m.body ≡ Some other → IsChangeover other → (m ≡ z) ⊎ In m x → Tells emergencies x' other
       tells_case m other e over (inl same) =
-          let two : Some other ≡ Some order = sym e ∙ ap (λ (k : Message). order_of k.body) same ∙ q.is in
+          let two : Some other ≡ Some order = sym e ∙ ap (λ (k : Message). order_any k.body) same ∙ q.is in
           let one : other ≡ order = cc in
           subst (Tells emergencies x') (sym one) (tells_on order q.tells)
       tells_case m other e over (inr i) = tells_on other (o.tells m i other e over)

@@ -1,5 +1,6 @@
 -- WHAT A CHANGEOVER DIVERTS between two ends, in every sound run (Q.704 5). Here n of a link is how many bodies the far
 -- end accepted on it in its present life, or its last one.
+use Rattle.l2_window.specs.Window.{fsn_count, fsn_before_first}
 use Rattle.std.specs.Prelude.{◌≡◌, ◌≤◌, ℕ, true, false, ◌+◌, ◌%◌, List, [], ◌∷◌, ◌++◌, All, length, take, drop, slice_get, Option, Some, None, if◌then◌else◌}
 use Rattle.l2_units.specs.declared.unit.Unit.{Unit as SignalUnit}
 use Rattle.l3_orders.specs.declared.order.Order.{Order}
@@ -11,7 +12,7 @@ use Rattle.set_events.specs.declared.answer.Took.{Took}
 use Rattle.set_events.specs.declared.answer.Took.TheVariants.{Order as TookOrder}
 use Rattle.set_events.specs.declared.config.SetConfig.{SetConfig}
 use Rattle.set_model.specs.Rows.{Row, wait, held, parked, place, standing, was_discarded}
-use Rattle.set_model.specs.State.{LinkState, State, has_phase_up, has_phase_settled, is_settled, last_accepted, target}
+use Rattle.set_model.specs.State.{given, LinkState, State, has_phase_up, has_phase_settled, is_settled, last_accepted, target}
 use Rattle.set_model.specs.Changeover.{is_reasonable, left_by}
 use Rattle.world_steps.specs.declared.step.End.{End}
 use Rattle.world_steps.specs.declared.step.Step.{Step}
@@ -38,12 +39,12 @@ IsFsnIn fsn (Coa link number) = fsn ≡ number
 IsFsnIn fsn _ = ⊥
 
 pub record TellsTheLast (fsn link : ℕ) (state : LinkState) (rows : List Row) (taken : List (List ℕ)) : Type 0 where
-  pub last : fsn ≡ (length taken + 127) % 128
+  pub last : fsn ≡ (length taken + fsn_before_first state.profile) % fsn_count state.profile
   pub reasonable : is_reasonable fsn link state rows ≡ true
 
 abbrev pub IsToldBy : SignalUnit → State → Past → Type 0
 IsToldBy unit s far =
-    (order : Order) (fsn : ℕ) (state : LinkState) → order_of (body_in unit) ≡ Some order → IsFsnIn fsn order
+    (order : Order) (fsn : ℕ) (state : LinkState) → order_of s.settings.profile (body_in unit) ≡ Some order → IsFsnIn fsn order
     → slice_get s.links (link_of order) ≡ Some state → has_phase_settled state.phase ≡ false
     → TellsTheLast fsn (link_of order) state s.rows (far.taken (link_of order))
 
@@ -76,8 +77,8 @@ answer_on link None s = []
 answer_on link (Some state) s =
     if has_phase_up state.phase
     then record {
-      number = length s.rows;
-      body = text (Coa link (last_accepted state)) s.settings.sio s.settings.dpc s.settings.opc;
+      number = given s;
+      body = text s.settings.profile (Coa link (last_accepted state)) s.settings.sio s.settings.dpc s.settings.opc;
     } ∷ []
     else []
 

@@ -2,7 +2,7 @@
 -- nothing of it.
 use Rattle.std.specs.Prelude.{ℕ, ◌-◌, List, ◌++◌, drop, slice_get, Option, Some, None}
 use Rattle.set_model.specs.Rows.{Row, unack, wait, held, parked, back}
-use Rattle.set_model.specs.State.{LinkState, State}
+use Rattle.set_model.specs.State.{LinkState, State, last_accepted}
 use Rattle.pair_model.specs.Run.{Message, messages}
 
 -- what an end counts on a link: its own messages that are acknowledged, and the far end's that it accepted
@@ -19,6 +19,14 @@ accepted_of (Some link) = link.accepted
 
 abbrev pub accepted_on : ℕ → State → ℕ
 accepted_on link s = accepted_of (slice_get s.links link)
+
+-- the FSN that its end tells: that last accepted
+abbrev pub last_of : Option LinkState → ℕ
+last_of None = 0
+last_of (Some link) = last_accepted link
+
+abbrev pub last_on : ℕ → State → ℕ
+last_on link s = last_of (slice_get s.links link)
 
 -- PENDING: the messages of a link but the first so many of the unacknowledged, in the order of sending
 abbrev pub queue : ℕ → ℕ → List Row → List Message

@@ -2,7 +2,8 @@
 use Rattle.std.proofs.Common.{refl, ◌≡◌, ◌<◌, ◌+◌, ◌%◌, ℕ, Bool, true, false, ◌&&◌, ◌==◌, nat_lt, List, [], ◌∷◌, ◌++◌, length, Option, None}
 use Rattle.std.specs.Prelude.{is_some, if◌then◌else◌}
 use Rattle.l2_units.specs.declared.unit.Header.{Header}
-use Rattle.l2_window.specs.Window.{WindowState, distance_to}
+use Rattle.l2_window.specs.Window.{WindowState, distance_to, most_unacked}
+use Rattle.l2_window.specs.Control.{bsn_of, fsn_after}
 use Rattle.l2_window.specs.Line.{Carried}
 use Rattle.l2_window.specs.Link.{Rules, OneLink}
 use Rattle.l2_window.specs.declared.control.Choice.{Choice}
@@ -13,12 +14,12 @@ use Rattle.l2_basic.proofs.Kept as basic
 use Rattle.l2_pcr.proofs.Kept as cyclic
 use Rattle.set_events.specs.declared.config.Method.{Method}
 use Rattle.set_events.specs.declared.config.Method.TheVariants.{Basic as BasicMethod, Cyclic as CyclicMethod}
-use Rattle.set_model.specs.Control.{Control, Basic, Cyclic, start_of, accepted_of, choice_of, head_of, control_after, is_processed, part_of, control_heard}
+use Rattle.set_model.specs.Control.{Control, Basic, Cyclic, start_of, expected_of, choice_of, head_of, control_after, is_processed, part_of, control_heard}
 use Rattle.pair_model.specs.Promises.{IsOneMethod}
 
 abbrev pub rules : Rules Control
 rules = record {
-  accepted = accepted_of;
+  expected = expected_of;
   choice = choice_of;
   head = head_of;
   after = control_after;
@@ -38,21 +39,21 @@ again : (o : ℕ) (s : Control) (w : WindowState) (place : ℕ) → choice_of o 
 again o (Basic s) w place e = basic.kept.again o s w place e
 again o (Cyclic s) w place e = cyclic.kept.again o s w place e
 
-first : (o : ℕ) (s : Control) (w : WindowState) → choice_of o s w ≡ First → length w.unacked < 127
+first : (o : ℕ) (s : Control) (w : WindowState) → choice_of o s w ≡ First → length w.unacked < most_unacked w.profile
 first o (Basic s) w e = basic.kept.first o s w e
 first o (Cyclic s) w e = cyclic.kept.first o s w e
 
-same : (choice : Choice) (o : ℕ) (s : Control) (w : WindowState) → accepted_of (control_after choice o s w) ≡ accepted_of s
+same : (choice : Choice) (o : ℕ) (s : Control) (w : WindowState) → expected_of (control_after choice o s w) ≡ expected_of s
 same choice o (Basic s) w = basic.kept.same choice o s w
 same choice o (Cyclic s) w = cyclic.kept.same choice o s w
 
-bsn : (s : Control) (fsn : ℕ) → (head_of s fsn).bsn ≡ accepted_of s % 128
-bsn (Basic s) fsn = refl
-bsn (Cyclic s) fsn = refl
+bsn : (s : Control) (w : WindowState) (fsn : ℕ) → (head_of s w fsn).bsn ≡ bsn_of (expected_of s) w % 4096
+bsn (Basic s) w fsn = refl
+bsn (Cyclic s) w fsn = refl
 
-fsn_sent : (s : Control) (fsn : ℕ) → (head_of s fsn).fsn ≡ fsn % 128
-fsn_sent (Basic s) fsn = refl
-fsn_sent (Cyclic s) fsn = refl
+fsn_sent : (s : Control) (w : WindowState) (fsn : ℕ) → (head_of s w fsn).fsn ≡ fsn % 4096
+fsn_sent (Basic s) w fsn = refl
+fsn_sent (Cyclic s) w fsn = refl
 
 acked : (s : Control) (w : WindowState) (head : Header) (msu : Bool) → is_processed s w head ≡ true → (part_of s w head msu).acked ≡ distance_to w head.bsn
 acked (Basic s) w head msu e = basic.kept.acked s w head msu e
@@ -62,13 +63,13 @@ abbrev current : Control → Header → Bool
 current (Basic s) head = basic.kept.current s head
 current (Cyclic s) head = cyclic.kept.current s head
 
-accept : (s : Control) (w : WindowState) (head : Header) (msu : Bool) → is_processed s w head ≡ true → (part_of s w head msu).accept ≡ (current s head && (msu && (head.fsn == (accepted_of s + 1) % 128)))
+accept : (s : Control) (w : WindowState) (head : Header) (msu : Bool) → is_processed s w head ≡ true → (part_of s w head msu).accept ≡ (current s head && (msu && (head.fsn == expected_of s)))
 accept (Basic s) w head msu e = basic.kept.accept s w head msu e
 accept (Cyclic s) w head msu e = cyclic.kept.accept s w head msu e
 
-accepted : (s : Control) (w : WindowState) (head : Header) (msu : Bool) → accepted_of (control_heard s w head msu) ≡ (if (part_of s w head msu).accept then head.fsn else accepted_of s)
-accepted (Basic s) w head msu = refl
-accepted (Cyclic s) w head msu = refl
+expected : (s : Control) (w : WindowState) (head : Header) (msu : Bool) → expected_of (control_heard s w head msu) ≡ (if (part_of s w head msu).accept then fsn_after head.fsn w else expected_of s)
+expected (Basic s) w head msu = refl
+expected (Cyclic s) w head msu = refl
 
 fault : (s : Control) (w : WindowState) (head : Header) (msu : Bool) → is_processed s w head ≡ true → (part_of s w head msu).fault ≡ None
 fault (Basic s) w head msu e = basic.kept.fault s w head msu e
@@ -80,13 +81,13 @@ processed (Basic x) (Cyclic y) w unit out back h quiet = absurd h
 processed (Cyclic x) (Basic y) w unit out back h quiet = absurd h
 processed (Cyclic x) (Cyclic y) w unit out back h quiet = cyclic.kept.processed x y w unit out back h quiet
 
-emit : (x y : Control) (out back : List Carried) (choice : Choice) (o fsn : ℕ) (w : WindowState) (message : Option ℕ) → InStep x y out back → InStep (control_after choice o x w) y (out ++ record { head = head_of x fsn; message = message } ∷ []) back
+emit : (x y : Control) (out back : List Carried) (choice : Choice) (o fsn : ℕ) (w : WindowState) (message : Option ℕ) → InStep x y out back → InStep (control_after choice o x w) y (out ++ record { head = head_of x w fsn; message = message } ∷ []) back
 emit (Basic x) (Basic y) out back choice o fsn w message h = basic.kept.emit x y out back choice o fsn w message h
 emit (Basic x) (Cyclic y) out back choice o fsn w message h = absurd h
 emit (Cyclic x) (Basic y) out back choice o fsn w message h = absurd h
 emit (Cyclic x) (Cyclic y) out back choice o fsn w message h = tt
 
-emit_back : (x y : Control) (out back : List Carried) (choice : Choice) (o fsn : ℕ) (w : WindowState) (message : Option ℕ) → InStep x y out back → InStep x (control_after choice o y w) out (back ++ record { head = head_of y fsn; message = message } ∷ [])
+emit_back : (x y : Control) (out back : List Carried) (choice : Choice) (o fsn : ℕ) (w : WindowState) (message : Option ℕ) → InStep x y out back → InStep x (control_after choice o y w) out (back ++ record { head = head_of y w fsn; message = message } ∷ [])
 emit_back (Basic x) (Basic y) out back choice o fsn w message h = basic.kept.emit_back x y out back choice o fsn w message h
 emit_back (Basic x) (Cyclic y) out back choice o fsn w message h = absurd h
 emit_back (Cyclic x) (Basic y) out back choice o fsn w message h = absurd h
@@ -126,7 +127,7 @@ kept = record {
   acked = acked;
   current = current;
   accept = accept;
-  accepted = accepted;
+  expected = expected;
   fault = fault;
   processed = processed;
   emit = emit;
@@ -137,9 +138,9 @@ kept = record {
   lose_back = lose_back;
 }
 
-start_127 : (method : Method) → accepted_of (start_of method) ≡ 127
-start_127 BasicMethod = refl
-start_127 (CyclicMethod n1 n2) = refl
+start_0 : (method : Method) → expected_of (start_of method) ≡ 0
+start_0 BasicMethod = refl
+start_0 (CyclicMethod n1 n2) = refl
 
 start_in_step : (near far : Method) → IsOneMethod near far → InStep (start_of near) (start_of far) [] []
 start_in_step BasicMethod BasicMethod one = record { turned = true; fibs = refl; last = refl; bibs = tt }
@@ -154,4 +155,4 @@ one_back (CyclicMethod n1 n2) BasicMethod one = absurd one
 one_back (CyclicMethod n1 n2) (CyclicMethod m1 m2) one = tt
 
 pub one_link : (near far : Method) → IsOneMethod near far → OneLink rules (start_of near) (start_of far)
-one_link near far one = runs.one_link rules InStep kept (start_of near) (start_of far) (start_127 near) (start_127 far) (start_in_step near far one) (start_in_step far near (one_back near far one))
+one_link near far one = runs.one_link rules InStep kept (start_of near) (start_of far) (start_0 near) (start_0 far) (start_in_step near far one) (start_in_step far near (one_back near far one))

@@ -66,7 +66,7 @@ count_stays l s event apart = step_walks s (CountStays l) (CountStays l s) event
   offers = λ body e none. same_links l s.links;
   takes = λ body rest e there. same_links l s.links;
   sends = λ m link e at g. set_links l m link _ s.links at.there refl;
-  hears = λ m unit link e at g. other m (subst (IsApart l) e apart) _;
+  hears = λ m unit link e fits at g. other m (subst (IsApart l) e apart) _;
   rises = λ m link e at u. other m (subst (IsApart l) e apart) _;
 })
   where

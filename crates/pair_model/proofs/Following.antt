@@ -1,4 +1,5 @@
 -- HOW A LINK GOES ON at an end by what isn't its own sending, hearing or coming up.
+use Rattle.set_model.specs.Step.{is_heard}
 use Rattle.std.proofs.Common.{refl, ◌≡◌, ◌≢◌, ◌∙◌, ap, sym, subst, ℕ, zero, suc, ◌<◌, ◌==◌, Bool, true, false, List, [], ◌∷◌, ◌++◌, length, map, slice_get, slice_set, Option, Some, None, append_assoc, cond, inl, inr}
 use Rattle.std.proofs.lemmas.Bool.{eqb-true}
 use Rattle.std.proofs.lemmas.List.{append-nil}
@@ -23,7 +24,7 @@ use Rattle.set_model.specs.declared.phase.Phase.TheVariants.{Up, Down, Settled}
 use Rattle.set_model.specs.declared.reached.Reached.{Reached}
 use Rattle.set_model.specs.declared.reached.Reached.TheVariants.{Upto, Unknown, Unanswered}
 use Rattle.set_model.specs.Rows.{Row, standing, is_waiting, is_unacked, is_back, is_back_to, stands_back, unack, wait, on, all_with, appended, moved, fated, with_fate, service_indicator, stream_of}
-use Rattle.set_model.specs.State.{LinkState, State, link_count, link_is_up, has_phase_up, has_phase_settled, is_up, fate_at, target, window_of}
+use Rattle.set_model.specs.State.{given, LinkState, State, link_count, link_is_up, has_phase_up, has_phase_settled, is_up, fate_at, target, window_of}
 use Rattle.set_model.specs.Control.{part_of}
 use Rattle.set_model.specs.Changeover.{Obeyed, fate_on, left_link, acknowledged as acknowledged_link, settled_link, moved_over, queued, out_of_service, left_by, leaving_order, declared, some_declare, released, released_from, some_in_use, acknowledged_back, is_reasonable, judged, settled, changed_over, answered, at_link, order_obeyed, obeyed, reply_of}
 use Rattle.set_model.specs.Step.{Outcome, refused, offer_refusal, offered, is_msu, brought, takes, after_control, controls, heard, falls, gives_up, comes_back, runs_out, with_known, in_service, step}
@@ -43,6 +44,7 @@ pub record GoesOn (l : ℕ) (s t : State) (after : LinkState) : Type 0 where
   pub there : slice_get s.links l ≡ Some link
   pub unsettled : has_phase_settled link.phase ≡ false
   pub control : after.control ≡ link.control
+  pub profile : after.profile ≡ link.profile
   pub acked : after.acked ≡ link.acked
   pub unack_same : unack l t.rows ≡ unack l s.rows
   pub more : List Row
@@ -58,6 +60,7 @@ follows_by l s t more same unacked waiting = λ link there unsettled. record {
   there = sym same ∙ there;
   unsettled = unsettled;
   control = refl;
+  profile = refl;
   acked = refl;
   unack_same = unacked;
   more = more;
@@ -82,6 +85,7 @@ follows_then l a b c p q = λ link there unsettled.
       there = x.there;
       unsettled = x.unsettled;
       control = y.control ∙ x.control;
+      profile = y.profile ∙ x.profile;
       acked = y.acked ∙ x.acked;
       unack_same = y.unack_same ∙ x.unack_same;
       more = x.more ++ y.more;
@@ -99,22 +103,22 @@ follows_set : (l m : ℕ) (link : LinkState) (s t : State) → (m == l) ≡ fals
 follows_set l m link s t d links u = follows_untouched l s t (ap (λ (ls : List LinkState). slice_get ls l) links ∙ get_set_other s.links m l link (λ same. false_true (m == l) d (rw same (itself l)))) u
 
 -- a new message that wasn't sent
-follows_new : (l : ℕ) (body : List ℕ) (fate : Fate) (s t : State) → is_unacked l fate ≡ false → slice_get t.links l ≡ slice_get s.links l → t.rows ≡ appended s.rows body fate → Follows l s t
+follows_new : (l : ℕ) (body : List ℕ) (fate : Fate) (s t : State) → is_unacked l fate ≡ false → slice_get t.links l ≡ slice_get s.links l → t.rows ≡ appended (given s) s.rows body fate → Follows l s t
 follows_new l body fate s t unsent links rows = go (is_waiting l fate) refl
   where
     unacked : unack l t.rows ≡ unack l s.rows
-    unacked = ap (unack l) rows ∙ appended_out s.rows body fate (is_unacked l) unsent
+    unacked = ap (unack l) rows ∙ appended_out (given s) s.rows body fate (is_unacked l) unsent
 
     go : (b : Bool) → is_waiting l fate ≡ b → Follows l s t
-    go true e = follows_by l s t (new_row (length s.rows) body fate ∷ []) links unacked (ap (wait l) rows ∙ appended_in s.rows body fate (is_waiting l) e)
-    go false e = follows_by l s t [] links unacked (ap (wait l) rows ∙ appended_out s.rows body fate (is_waiting l) e ∙ sym (append-nil (wait l s.rows)))
+    go true e = follows_by l s t (new_row (given s) body fate ∷ []) links unacked (ap (wait l) rows ∙ appended_in (given s) s.rows body fate (is_waiting l) e)
+    go false e = follows_by l s t [] links unacked (ap (wait l) rows ∙ appended_out (given s) s.rows body fate (is_waiting l) e ∙ sym (append-nil (wait l s.rows)))
 
 waits_or_parked : (l : ℕ) (to : Option ℕ) → is_unacked l (fate_on to) ≡ false
 waits_or_parked l None = refl
 waits_or_parked l (Some to) = refl
 
 pub follows_queued : (l : ℕ) (order : Order) (s : State) → Follows l s (queued order s)
-follows_queued l order s = follows_new l (text order s.settings.sio s.settings.dpc s.settings.opc) (fate_on (target s.links)) s (queued order s) (waits_or_parked l (target s.links)) refl refl
+follows_queued l order s = follows_new l (text s.settings.profile order s.settings.sio s.settings.dpc s.settings.opc) (fate_on (target s.links)) s (queued order s) (waits_or_parked l (target s.links)) refl refl
 
 -- what stood back comes to wait for it, or for others
 follows_turned : (l : ℕ) (test : Fate → Bool) (fate : Row → Fate) (s t : State) → ((f : Fate) → test f ≡ true → stands_back f ≡ true) → ((row : Row) → is_unacked l (fate row) ≡ false) → t.links ≡ s.links → t.rows ≡ moved test fate s.rows → Follows l s t
@@ -140,6 +144,7 @@ out_follows l blind m link s at = go (m == l) refl
           there = subst (λ (k : ℕ). slice_get s.links k ≡ Some link) same at.there;
           unsettled = ap has_phase_settled at.phase_is;
           control = ap (λ (k : LinkState). k.control) is;
+          profile = ap (λ (k : LinkState). k.profile) is;
           acked = ap (λ (k : LinkState). k.acked) is;
           unack_same = refl;
           more = [];
@@ -257,7 +262,7 @@ takes_follows l None s = follows_same l s
 takes_follows l (Some body) s = go (service_indicator body == 0) refl
   where
     go : (b : Bool) → (service_indicator body == 0) ≡ b → Follows l s (takes (Some body) s).state
-    go true e = rw e (obeyed_follows l (order_of body) s)
+    go true e = rw e (obeyed_follows l (order_of s.settings.profile body) s)
     go false e = rw e (follows_untouched l s _ refl (untouched l s.rows s.rows refl))
 
 -- EVENTS
@@ -276,7 +281,7 @@ offer_goes l s body (Some why) = follows_same l s
 
 pub offer_follows : (l : ℕ) (s : State) (body : List ℕ) → Follows l s (step s (Offer body)).state
 unfolding step
-offer_follows l s body = offer_goes l s body (offer_refusal s.rows body)
+offer_follows l s body = offer_goes l s body (offer_refusal s.settings.profile s.rows body)
 
 pub take_follows : (l : ℕ) (s : State) → Follows l s (step s Take).state
 take_follows l s = follows_alone l s _ (leaves_alone l s Take (λ c. c))
@@ -379,9 +384,11 @@ controls_follow l m unit s link d =
     follows_then l s mid (controls unit m s link).state (follows_set l m _ s mid d refl ((acknowledged m part.acked s.rows).others l d)) (takes_follows l (brought part.accept unit) mid)
 
 heard_goes : (l m : ℕ) (unit : SignalUnit) (s : State) (link : LinkState) → (m == l) ≡ false → Follows l s (heard unit m s link).state
-heard_goes l m (Fisu head) s link d = controls_follow l m (Fisu head) s link d
-heard_goes l m (Lssu head status) s link d = follows_same l s
-heard_goes l m (Msu head body) s link d = controls_follow l m (Msu head body) s link d
+heard_goes l m unit s link d = go (is_heard s.settings.profile unit) refl
+  where
+    go : (b : Bool) → is_heard s.settings.profile unit ≡ b → Follows l s (heard unit m s link).state
+    go true e = rw e (controls_follow l m unit s link d)
+    go false e = rw e (follows_same l s)
 
 pub heard_follows : (l m : ℕ) (unit : SignalUnit) (s : State) → (m == l) ≡ false → Follows l s (step s (Heard m unit)).state
 unfolding step

@@ -1,4 +1,11 @@
 -- WHAT AN END HEARS: the unit that arrives on a link in service is heard as the law's end hears it.
+use Rattle.std.specs.Prelude.{◌≤◌, ◌<◌, nat_lt, nat_le}
+use Rattle.l2_units.specs.declared.profile.Profile.{Profile}
+use Rattle.l2_units.specs.Profile.{fsn_count, longest_body}
+use Rattle.l2_units.specs.Grammar.{IsHeadOf}
+use Rattle.std.proofs.lemmas.Bool.Decides.{nat_tests}
+use Rattle.set_model.specs.Step.{is_heard, has_numbers}
+use Rattle.set_model.specs.Rows.{AreFit}
 use Rattle.std.proofs.Common.{refl, ◌≡◌, ◌∙◌, ap, sym, subst, ℕ, ◌+◌, ◌==◌, Bool, true, false, List, [], ◌∷◌, ◌++◌, slice_get, Option, Some, None, is_some, option_to_list, arith, ◌%◌, ◌&&◌, not, length, length-append}
 use Rattle.std.specs.Prelude.{if◌then◌else◌}
 use Rattle.l2_units.specs.declared.unit.Header.{Header}
@@ -28,7 +35,7 @@ use Rattle.set_model.specs.Control.{Control, Basic, Cyclic, start_of, part_of, c
 use Rattle.set_model.specs.Laws.{KeepsMessages}
 use Rattle.set_model.specs.Rows.{Row, body_at, service_indicator}
 use Rattle.set_model.specs.Sound.{IsSound}
-use Rattle.set_model.specs.State.{LinkState, State, has_phase_settled, window_of}
+use Rattle.set_model.specs.State.{given, LinkState, State, has_phase_settled, window_of}
 use Rattle.set_model.specs.Step.{Outcome, is_msu, one_if, brought, takes, after_control, controls, step}
 use Rattle.set_model.proofs.Events.{acknowledged}
 use Rattle.set_model.proofs.Framing.{window_moves}
@@ -79,7 +86,7 @@ pub took_some : (body : List ℕ) (s : State) → taken_by (takes (Some body) s)
 took_some body s = go (service_indicator body == 0) refl
   where
     go : (b : Bool) → (service_indicator body == 0) ≡ b → taken_by (takes (Some body) s).took body ≡ body ∷ []
-    go true e = rw e (obeyed_took (order_of body) s body)
+    go true e = rw e (obeyed_took (order_of s.settings.profile body) s body)
     go false e = rw e refl
 
 took_bodies : (rows : List Row) (unit : SignalUnit) (message : Option ℕ) (accept : Bool) (s : State) → IsUnitOf rows (record { head = header_in unit; message = message }) unit → AreBodies rows (if accept then option_to_list message else []) (taken_by (takes (brought accept unit) s).took (body_in unit))
@@ -96,7 +103,7 @@ only_messages (Basic s) w head = and_false (is_current s w head) (is_successor s
     and_false : (b c : Bool) → (b && (false && c)) ≡ false
     and_false true c = refl
     and_false false c = refl
-only_messages (Cyclic s) w head = and_false (not (has_abnormal_bsn w head)) (head.fsn == (s.accepted + 1) % 128)
+only_messages (Cyclic s) w head = and_false (not (has_abnormal_bsn w head)) (head.fsn == s.expected)
   where
     and_false : (b c : Bool) → (b && (false && c)) ≡ false
     and_false true c = refl
@@ -112,11 +119,29 @@ took_many control w (Lssu head status) s = rw (only_messages control w head) ref
 took_many control w (Msu head body) s = body_took body.items (part_of control w head true).accept s
 
 -- THE STEP
-pub heard_is : (l : ℕ) (unit : SignalUnit) (link : LinkState) (s : State) (rows : List Row) (c : Carried) → IsUnitOf rows c unit → IsAt l link Up s → step s (Heard l unit) ≡ controls unit l s link
+pub heard_is : (l : ℕ) (unit : SignalUnit) (link : LinkState) (s : State) → is_heard s.settings.profile unit ≡ true → IsAt l link Up s → step s (Heard l unit) ≡ controls unit l s link
 unfolding step
-heard_is l (Fisu head) link s rows c is at = rw (at.there, at.phase_is) refl
-heard_is l (Lssu head status) link s rows c is at = absurd is
-heard_is l (Msu head body) link s rows c is at = rw (at.there, at.phase_is) refl
+heard_is l unit link s fits at = rw (at.there, at.phase_is, fits) refl
+
+fit_at : (p : Profile) (number : ℕ) (rows : List Row) (body : List ℕ) → AreFit p rows → body_at number rows ≡ Some body → length body ≤ longest_body p
+fit_at p number [] body fit e = absurd (cc)
+fit_at p number (x ∷ rows) body fit e = grind (arith, fit_at p number rows body fit.1)
+
+-- a unit with numbers of the profile, whose body is a row's, is heard
+has_numbers_if : (p : Profile) (head : Header) → IsHeadOf p head → has_numbers p head ≡ true
+has_numbers_if p head h =
+    let a : nat_lt head.bsn (fsn_count p) ≡ true = grind (arith, nat_tests, h.0) in
+    let b : nat_lt head.fsn (fsn_count p) ≡ true = grind (arith, nat_tests, h.1) in
+    rw (a, b) refl
+
+heard_so : (p : Profile) (rows : List Row) (c : Carried) (unit : SignalUnit) → IsUnitOf rows c unit → IsHeadOf p (header_in unit) → AreFit p rows → is_heard p unit ≡ true
+heard_so p rows c (Fisu head) is h fit = has_numbers_if p head h
+heard_so p rows c (Lssu head status) is h fit = absurd is
+heard_so p rows c (Msu head body) is h fit =
+    let a = has_numbers_if p head h in
+    let low = fit_at p is.0 rows body.items fit is.3 in
+    let b : nat_le (length body.items) (longest_body p) ≡ true = grind (arith, nat_tests) in
+    rw (a, b) refl
 
 same_head : (rows : List Row) (c : Carried) (unit : SignalUnit) → IsUnitOf rows c unit → c.head ≡ header_in unit
 same_head rows c (Fisu head) is = is.0
@@ -128,7 +153,7 @@ same_msu rows c (Fisu head) is = rw (is.1) refl
 same_msu rows c (Lssu head status) is = absurd is
 same_msu rows c (Msu head body) is = rw (is.2) refl
 
-module _ (l : ℕ) (mx my : Method) (one : IsOneMethod mx my) (x y : Side) (out rest : List SignalUnit) (unit : SignalUnit) (link : LinkState) (sound : IsSound x.state) (at : IsAt l link Up x.state) where
+module _ (l : ℕ) (mx my : Method) (one : IsOneMethod mx my) (x y : Side) (out rest : List SignalUnit) (unit : SignalUnit) (link : LinkState) (sound : IsSound x.state) (at : IsAt l link Up x.state) (same : y.state.settings.profile ≡ x.state.settings.profile) (fit : AreFit y.state.settings.profile y.state.rows) where
   abbrev rows : List Row
   rows = x.state.rows
 
@@ -153,14 +178,14 @@ module _ (l : ℕ) (mx my : Method) (one : IsOneMethod mx my) (x y : Side) (out 
   mid_there : slice_get mid.links l ≡ Some mid_link
   mid_there = get_set_same x.state.links l mid_link (within x.state.links l link at.there)
 
-  window_is : window_of l mid_link mid.rows ≡ window_heard link.control window head
-  window_is =
-      let m = (window_moves l link x.state sound at.there at.phase_is).heard unit in
+  window_is : is_heard x.state.settings.profile unit ≡ true → window_of l mid_link mid.rows ≡ window_heard link.control window head
+  window_is fits =
+      let m = (window_moves l link x.state sound at.there at.phase_is).heard unit fits in
       let same : m.0 ≡ mid_link = same_at mid.links l mid_link m.0 mid_there m.1 in
       subst (λ (k : LinkState). window_of l k mid.rows ≡ window_heard link.control window head) same m.3
 
   mid_same : (number : ℕ) → body_at number mid.rows ≡ body_at number rows
-  mid_same number = (acknowledged l part.acked rows).kept.bodies sound.numbered number
+  mid_same number = (acknowledged l part.acked rows).kept.bodies (given x.state) sound.numbered number
 
   -- the law's world then
   abbrev heard_at : Option ℕ → List Carried → LinkWorld Control → LinkWorld Control
@@ -188,20 +213,29 @@ module _ (l : ℕ) (mx my : Method) (one : IsOneMethod mx my) (x y : Side) (out 
       back = refl;
     }
 
-    hears_run : Run rules (start_of mx) (start_of my) (standing_at l link rows w) → Run rules (start_of mx) (start_of my) (heard_at message behind w)
-    hears_run r = steps_far (standing_at l link rows w) (heard_at message behind w) r (arrives (flip (standing_at l link rows w)) (flip (heard_at message behind w)) (record { head = head; message = message }) arrival)
+    hears_run : (p : Profile) → Run rules p (start_of mx) (start_of my) (standing_at l link rows w) → Run rules p (start_of mx) (start_of my) (heard_at message behind w)
+    hears_run p r = steps_far (standing_at l link rows w) (heard_at message behind w) r (arrives (flip (standing_at l link rows w)) (flip (heard_at message behind w)) (record { head = head; message = message }) arrival)
 
-    no_fault_at : Run rules (start_of mx) (start_of my) (standing_at l link rows w) → part.fault ≡ None
-    no_fault_at r =
-        let f = (one_link mx my one (standing_at l link rows w) r).1.no_fault (record { head = head; message = message }) behind comes in
+    no_fault_at : (p : Profile) → Run rules p (start_of mx) (start_of my) (standing_at l link rows w) → part.fault ≡ None
+    no_fault_at p r =
+        let f = (one_link mx my one p (standing_at l link rows w) r).1.no_fault (record { head = head; message = message }) behind comes in
         rw msu at f
+
+    -- the unit that comes is of the set's profile
+    unit_fits : (p : Profile) → Run rules p (start_of mx) (start_of my) (standing_at l link rows w) → IsUnitOf y.state.rows (record { head = head; message = message }) unit → is_heard x.state.settings.profile unit ≡ true
+    unit_fits p r is =
+        let law = one_link mx my one p (standing_at l link rows w) r in
+        let numbers = law.1.fits (record { head = head; message = message }) behind comes in
+        let here : link.profile ≡ p = law.0.profile_is in
+        let whole : x.state.settings.profile ≡ p = sym ((sound.links l link at.there).profile) ∙ here in
+        rw whole (heard_so p y.state.rows (record { head = head; message = message }) unit is numbers (rw (sym (same ∙ whole)) fit))
 
     -- before the body is taken
     abbrev mid_side : Side
     mid_side = record { state = mid; sent = x.sent; taken = x.taken ++ taken_by taken.took (body_in unit) }
 
-    mid_ties : IsUnitOf y.state.rows (record { head = head; message = message }) unit → AreUnits y.state.rows behind rest → Ties l w x y out (unit ∷ rest) → Ties l (heard_at message behind w) mid_side y out rest
-    mid_ties is left t =
+    mid_ties : is_heard x.state.settings.profile unit ≡ true → IsUnitOf y.state.rows (record { head = head; message = message }) unit → AreUnits y.state.rows behind rest → Ties l w x y out (unit ∷ rest) → Ties l (heard_at message behind w) mid_side y out rest
+    mid_ties fits is left t =
         let keep : KeepBodies rows mid.rows = λ number body e. mid_same number ∙ e in
         let many = took_many link.control window unit mid in
         let before = t.near_counts link at.there in
@@ -215,7 +249,7 @@ module _ (l : ℕ) (mx my : Method) (one : IsOneMethod mx my) (x y : Side) (out 
           far = record { sent_is = t.far.sent_is; stand = t.far.stand; took_is = bodies_kept rows mid.rows keep w.far.took y.taken t.far.took_is };
           near_goes = λ other found unsettled.
               let same : mid_link ≡ other = sym (same_at mid.links l mid_link other mid_there found) in
-              subst (λ (k : LinkState). IsGoing l (heard_at message behind w).near k mid.rows) same (record { control = refl; window = sym window_is; acked = refl });
+              subst (λ (k : LinkState). IsGoing l (heard_at message behind w).near k mid.rows) same (record { control = refl; window = sym (window_is fits); acked = refl });
           far_goes = t.far_goes;
           near_counts = λ other found. ap (λ (k : LinkState). k.accepted) (same_at mid.links l mid_link other mid_there found) ∙ counted;
           far_counts = t.far_counts;
@@ -246,8 +280,8 @@ module _ (l : ℕ) (mx my : Method) (one : IsOneMethod mx my) (x y : Side) (out 
         left = are.1;
       }
 
-  runs_at : (t : Tied l mx my x y out (unit ∷ rest)) → Run rules (start_of mx) (start_of my) (standing_at l link rows t.world)
-  runs_at t = subst (λ (v : LinkWorld Control). Run rules (start_of mx) (start_of my) v) (stands_so l link rows t.world (t.ties.near_goes link at.there (ap has_phase_settled at.phase_is))) t.run
+  runs_at : (t : Tied l mx my x y out (unit ∷ rest)) → Run rules t.profile (start_of mx) (start_of my) (standing_at l link rows t.world)
+  runs_at t = subst (λ (v : LinkWorld Control). Run rules t.profile (start_of mx) (start_of my) v) (stands_so l link rows t.world (t.ties.near_goes link at.there (ap has_phase_settled at.phase_is))) t.run
 
   abbrev pub hearer : Side
   hearer = record { state = taken.state; sent = x.sent; taken = x.taken ++ taken_by taken.took (body_in unit) }
@@ -261,9 +295,10 @@ module _ (l : ℕ) (mx my : Method) (one : IsOneMethod mx my) (x y : Side) (out 
       let w = t.world in
       let c = comes_so w w.back refl t.ties.back in
       record {
+        profile = t.profile;
         world = heard_at c.message c.behind w;
-        run = hears_run w c.message c.behind c.comes c.msu (runs_at t);
-        ties = mid_ties w c.message c.behind c.comes c.msu c.is c.left t.ties;
+        run = hears_run w c.message c.behind c.comes c.msu t.profile (runs_at t);
+        ties = mid_ties w c.message c.behind c.comes c.msu (unit_fits w c.message c.behind c.comes c.msu t.profile (runs_at t) c.is) c.is c.left t.ties;
       }
 
   -- and then
@@ -271,18 +306,18 @@ module _ (l : ℕ) (mx my : Method) (one : IsOneMethod mx my) (x y : Side) (out 
   hears t =
       let w = t.world in
       let c = comes_so w w.back refl t.ties.back in
-      let stepped = subst (λ (o : Outcome). KeepsMessages rows o.state.rows) (heard_is l unit link x.state y.state.rows (record { head = head; message = c.message }) c.is at) (keeps_messages x.state (Heard l unit) sound.numbered) in
-      let keep : KeepBodies mid.rows taken.state.rows = λ number body e. keep_bodies rows taken.state.rows sound.numbered stepped number body (sym (mid_same number) ∙ e) in
+      let stepped = subst (λ (o : Outcome). KeepsMessages x.state o.state) (heard_is l unit link x.state (unit_fits w c.message c.behind c.comes c.msu t.profile (runs_at t) c.is) at) (keeps_messages x.state (Heard l unit) sound.numbered) in
+      let keep : KeepBodies mid.rows taken.state.rows = λ number body e. keep_bodies x.state taken.state sound.numbered stepped number body (sym (mid_same number) ∙ e) in
       follows l mx my hearing y out rest taken.state keep (takes_count l (brought part.accept unit) mid) (takes_follows l (brought part.accept unit) mid) (mid_tied t)
 
   pub no_fault : Tied l mx my x y out (unit ∷ rest) → part.fault ≡ None
   no_fault t =
       let w = t.world in
       let c = comes_so w w.back refl t.ties.back in
-      no_fault_at w c.message c.behind c.comes c.msu (runs_at t)
+      no_fault_at w c.message c.behind c.comes c.msu t.profile (runs_at t)
 
   -- the event is this
   pub step_is : Tied l mx my x y out (unit ∷ rest) → step x.state (Heard l unit) ≡ controls unit l x.state link
   step_is t =
       let c = comes_so t.world t.world.back refl t.ties.back in
-      heard_is l unit link x.state y.state.rows (record { head = head; message = c.message }) c.is at
+      heard_is l unit link x.state (unit_fits t.world c.message c.behind c.comes c.msu t.profile (runs_at t) c.is) at

@@ -8,7 +8,7 @@ use Rattle.set_events.specs.declared.config.Method.{Method}
 use Rattle.set_events.specs.declared.config.SetConfig.{SetConfig}
 use Rattle.set_model.specs.Rows.{Row, body_at, is_unacked, unack, IsNumbered}
 use Rattle.set_model.specs.Sound.{IsSettings}
-use Rattle.set_model.specs.State.{LinkState, Settings, has_phase_settled, new_link, opened_with, settings_of}
+use Rattle.set_model.specs.State.{given, LinkState, Settings, has_phase_settled, new_link, opened_with, settings_of}
 use Rattle.set_model.proofs.Soundness.{opened_sound}
 use Rattle.pair_model.specs.Promises.{IsOneMethod, IsKeptOn}
 use Rattle.pair_model.specs.Run.{Message, Past, messages, bodies, no_past, begun}
@@ -62,9 +62,9 @@ rest_numbers (suc n) (x ∷ xs) = rest_numbers n xs
 abbrev pub past_of : Side → Past
 past_of x = record { sent = λ link. x.sent; taken = λ link. x.taken; offered = λ stream. []; got = λ stream. [] }
 
-pub kept_tied : (l : ℕ) (mx my : Method) (one : IsOneMethod mx my) (x y : Side) (out back : List SignalUnit) → IsNumbered x.state.rows → Tied l mx my x y out back → IsKeptOn l (past_of x) (past_of y) x.state y.state
+pub kept_tied : (l : ℕ) (mx my : Method) (one : IsOneMethod mx my) (x y : Side) (out back : List SignalUnit) → IsNumbered (given x.state) x.state.rows → Tied l mx my x y out back → IsKeptOn l (past_of x) (past_of y) x.state y.state
 kept_tied l mx my one x y out back numbered t =
-    let f = (one_link mx my one t.world t.run).0 in
+    let f = (one_link mx my one t.profile t.world t.run).0 in
     record {
       prefix = first_bodies x.state.rows t.world.far.took y.taken x.sent t.ties.far.took_is t.ties.near.stand (f.prefix ∙ ap (take (length t.world.far.took)) t.ties.near.sent_is);
       accepted = t.ties.far_counts;
@@ -74,7 +74,7 @@ kept_tied l mx my one x y out back numbered t =
           record {
             acked = omega (arith, g.acked, f.acked, many);
             unacked = same_messages x.state.rows (messages (unack l x.state.rows)) (drop link.acked x.sent)
-                (stand_each x.state.rows (unack l x.state.rows) (λ i row e. body_there (λ r. is_unacked l r.fate) x.state.rows i row numbered e))
+                (stand_each x.state.rows (unack l x.state.rows) (λ i row e. body_there (given x.state) (λ r. is_unacked l r.fate) x.state.rows i row numbered e))
                 (stand_rest x.state.rows link.acked x.sent t.ties.near.stand)
                 (numbers_of_messages (unack l x.state.rows)
                 ∙ sym (ap (λ (v : WindowState). v.unacked) g.window)
@@ -109,18 +109,19 @@ nothing_on (suc n) zero = refl
 nothing_on (suc n) (suc l) = nothing_on n l
 
 new_settled : (settings : Settings) (l : ℕ) (link : LinkState) → slice_get (opened_with settings).links l ≡ Some link → has_phase_settled link.phase ≡ true
-new_settled settings l link there = ap (λ (k : LinkState). has_phase_settled k.phase) (same_there settings.links l (new_link settings.method) link there)
+new_settled settings l link there = ap (λ (k : LinkState). has_phase_settled k.phase) (same_there settings.links l (new_link settings.profile settings.method) link there)
 
 new_counts : (settings : Settings) (l : ℕ) (link : LinkState) → slice_get (opened_with settings).links l ≡ Some link → link.accepted ≡ 0
-new_counts settings l link there = ap (λ (k : LinkState). k.accepted) (same_there settings.links l (new_link settings.method) link there)
+new_counts settings l link there = ap (λ (k : LinkState). k.accepted) (same_there settings.links l (new_link settings.profile settings.method) link there)
 
-pub at_first : (a b : SetConfig) → a.links ≡ b.links → HoldsOf a.method b.method (record { near = opened_with (settings_of a); far = opened_with (settings_of b); near_past = no_past; far_past = no_past; out = (begun a b).world.to_b; back = (begun a b).world.to_a })
-at_first a b same = record {
+pub at_first : (a b : SetConfig) → a.links ≡ b.links → a.profile ≡ b.profile → HoldsOf a.method b.method (record { near = opened_with (settings_of a); far = opened_with (settings_of b); near_past = no_past; far_past = no_past; out = (begun a b).world.to_b; back = (begun a b).world.to_a })
+at_first a b same profiles = record {
   near_sound = opened_sound (settings_of a) (settings_sound a);
   far_sound = opened_sound (settings_of b) (settings_sound b);
   near_method = refl;
   far_method = refl;
-  far_links = count_of b.links (new_link b.method) ∙ sym same ∙ sym (count_of a.links (new_link a.method));
+  profiles = sym profiles;
+  far_links = count_of b.links (new_link b.profile b.method) ∙ sym same ∙ sym (count_of a.links (new_link a.profile a.method));
   out_lines = count_of (length (opened_with (settings_of a)).links) [];
   back_lines = count_of (length (opened_with (settings_of a)).links) [];
   ties = λ l. rw (nothing_on (length (opened_with (settings_of a)).links) l) (unborn l a.method b.method (opened_with (settings_of a)) (opened_with (settings_of b)) (new_settled (settings_of a) l) (new_settled (settings_of b) l) (new_counts (settings_of a) l) (new_counts (settings_of b) l));

@@ -111,6 +111,7 @@ loses mx my p h k place few within = record {
   far_sound = h.far_sound;
   near_method = h.near_method;
   far_method = h.far_method;
+  profiles = h.profiles;
   far_links = h.far_links;
   out_lines = length_set p.out k _ ∙ h.out_lines;
   back_lines = h.back_lines;
@@ -127,7 +128,7 @@ module _ (mx my : Method) (one : IsOneMethod mx my) (p : Two) (h : HoldsOf mx my
   hearer_then = (step p.near (Heard k unit)).state
 
   abbrev pub report : Report
-  report = report_of (hearing.part k mx my one (side k p.near p.near_past) (side k p.far p.far_past) (units_on k p.out) rest unit link h.near_sound at) (hearing.taken k mx my one (side k p.near p.near_past) (side k p.far p.far_past) (units_on k p.out) rest unit link h.near_sound at).took
+  report = report_of (hearing.part k mx my one (side k p.near p.near_past) (side k p.far p.far_past) (units_on k p.out) rest unit link h.near_sound at h.profiles h.far_sound.fit) (hearing.taken k mx my one (side k p.near p.near_past) (side k p.far p.far_past) (units_on k p.out) rest unit link h.near_sound at h.profiles h.far_sound.fit).took
 
   abbrev heard_past : Past
   heard_past = past_heard k unit (p.far_past.sent k) (Answered (HeardBack report)) p.near_past
@@ -136,12 +137,12 @@ module _ (mx my : Method) (one : IsOneMethod mx my) (p : Two) (h : HoldsOf mx my
   front_tied = subst (λ (us : List SignalUnit). Tied k mx my (side k p.near p.near_past) (side k p.far p.far_past) (units_on k p.out) us) front (h.ties k)
 
   pub event_is : step p.near (Heard k unit) ≡ controls unit k p.near link
-  event_is = hearing.step_is k mx my one (side k p.near p.near_past) (side k p.far p.far_past) (units_on k p.out) rest unit link h.near_sound at front_tied
+  event_is = hearing.step_is k mx my one (side k p.near p.near_past) (side k p.far p.far_past) (units_on k p.out) rest unit link h.near_sound at h.profiles h.far_sound.fit front_tied
 
   heard_here : Tied k mx my (side k hearer_then heard_past) (side k p.far p.far_past) (units_on k p.out) (units_on k (with_units k rest p.back))
   heard_here = like k mx my _ (side k hearer_then heard_past) _ _ _ _ _ _ (same_side (ap (λ (o : Outcome). o.state) event_is) refl (added_here k (taken_by report.took (body_in unit)) p.near_past.taken)) refl refl
       (on_set k rest p.back (omega (arith, few, h.back_lines)))
-      (hearing.hears k mx my one (side k p.near p.near_past) (side k p.far p.far_past) (units_on k p.out) rest unit link h.near_sound at front_tied)
+      (hearing.hears k mx my one (side k p.near p.near_past) (side k p.far p.far_past) (units_on k p.out) rest unit link h.near_sound at h.profiles h.far_sound.fit front_tied)
 
   heard_there : (l : ℕ) → (k == l) ≡ false → Tied l mx my (side l hearer_then heard_past) (side l p.far p.far_past) (units_on l p.out) (units_on l (with_units k rest p.back))
   heard_there l d = like l mx my _ (side l hearer_then heard_past) _ _ _ _ _ _ (same_side refl refl (added_other k l _ p.near_past.taken d)) refl refl (on_other l k rest p.back d) (goes_on mx my p h (Heard k unit) l d (heard_follows l k unit p.near d))
@@ -157,7 +158,7 @@ module _ (mx my : Method) (one : IsOneMethod mx my) (p : Two) (h : HoldsOf mx my
   answers_heard = ap (λ (o : Outcome). o.answer) event_is
 
   pub tells_none : report.fault ≡ None
-  tells_none = rw (hearing.no_fault k mx my one (side k p.near p.near_past) (side k p.far p.far_past) (units_on k p.out) rest unit link h.near_sound at front_tied) refl
+  tells_none = rw (hearing.no_fault k mx my one (side k p.near p.near_past) (side k p.far p.far_past) (units_on k p.out) rest unit link h.near_sound at h.profiles h.far_sound.fit front_tied) refl
 
 -- A LINK COMES UP at both ends
 module _ (mx my : Method) (p : Two) (h : HoldsOf mx my p) (k : ℕ) (few : k < length p.near.links) (near_settled : is_settled k p.near ≡ true) (far_settled : is_settled k p.far ≡ true) where
@@ -185,12 +186,12 @@ module _ (mx my : Method) (p : Two) (h : HoldsOf mx my p) (k : ℕ) (few : k < l
       (same_side refl (cleared_here p.far_past.sent) (cleared_here p.far_past.taken))
       (on_set k [] p.out (omega (arith, few, h.out_lines)))
       (on_set k [] p.back (omega (arith, few, h.back_lines)))
-      (rises_tied k mx my near_then far_then
-      (fresh k mx p.near h.near_sound h.near_method a.0 a.1) (fresh k my p.far h.far_sound h.far_method b.0 b.1)
-      (fresh_begins k mx p.near h.near_sound h.near_method a.0 a.1) (fresh_begins k my p.far h.far_sound h.far_method b.0 b.1)
+      (rises_tied p.near.settings.profile k mx my near_then far_then
+      (fresh k p.near.settings.profile mx p.near h.near_sound refl h.near_method a.0 a.1) (fresh k p.near.settings.profile my p.far h.far_sound h.profiles h.far_method b.0 b.1)
+      (fresh_begins k p.near.settings.profile mx p.near h.near_sound refl h.near_method a.0 a.1) (fresh_begins k p.near.settings.profile my p.far h.far_sound h.profiles h.far_method b.0 b.1)
       refl refl refl refl
-      (fresh_goes k mx p.near h.near_sound h.near_method a.0 a.1) (fresh_goes k my p.far h.far_sound h.far_method b.0 b.1)
-      (fresh_counts k mx p.near h.near_sound h.near_method a.0 a.1) (fresh_counts k my p.far h.far_sound h.far_method b.0 b.1))
+      (fresh_goes k p.near.settings.profile mx p.near h.near_sound refl h.near_method a.0 a.1) (fresh_goes k p.near.settings.profile my p.far h.far_sound h.profiles h.far_method b.0 b.1)
+      (fresh_counts k p.near.settings.profile mx p.near h.near_sound refl h.near_method a.0 a.1) (fresh_counts k p.near.settings.profile my p.far h.far_sound h.profiles h.far_method b.0 b.1))
 
   risen_there : (l : ℕ) → (k == l) ≡ false → TiedAt l mx my risen
   risen_there l d =
@@ -213,6 +214,7 @@ module _ (mx my : Method) (p : Two) (h : HoldsOf mx my p) (k : ℕ) (few : k < l
         far_sound = step_sound p.far (UpEvent k) tt h.far_sound;
         near_method = ap (λ (s : Settings). s.method) (settings_stay p.near (UpEvent k)) ∙ h.near_method;
         far_method = ap (λ (s : Settings). s.method) (settings_stay p.far (UpEvent k)) ∙ h.far_method;
+        profiles = ap (λ (s : Settings). s.profile) (settings_stay p.far (UpEvent k)) ∙ h.profiles ∙ sym (ap (λ (s : Settings). s.profile) (settings_stay p.near (UpEvent k)));
         far_links = far_count ∙ h.far_links ∙ sym count;
         out_lines = length_set p.out k [] ∙ h.out_lines ∙ sym count;
         back_lines = length_set p.back k [] ∙ h.back_lines ∙ sym count;

@@ -42,6 +42,7 @@ pub record HoldsOf (mx my : Method) (p : Two) : Type 0 where
   pub far_sound : IsSound p.far
   pub near_method : p.near.settings.method ≡ mx
   pub far_method : p.far.settings.method ≡ my
+  pub profiles : p.far.settings.profile ≡ p.near.settings.profile
   pub far_links : length p.far.links ≡ length p.near.links
   pub out_lines : length p.out ≡ length p.near.links
   pub back_lines : length p.back ≡ length p.near.links
@@ -53,6 +54,7 @@ swap mx my p h = record {
   far_sound = h.near_sound;
   near_method = h.far_method;
   far_method = h.near_method;
+  profiles = sym h.profiles;
   far_links = sym h.far_links;
   out_lines = h.back_lines ∙ sym h.far_links;
   back_lines = h.out_lines ∙ sym h.far_links;
@@ -95,7 +97,7 @@ settings_stay s event = step_walks s (λ t u. u.settings ≡ t.settings) (λ t. 
   offers = λ body e none. refl;
   takes = λ body rest e there. refl;
   sends = λ n link e at g. refl;
-  hears = λ n unit link e at g. refl;
+  hears = λ n unit link e fits at g. refl;
   rises = λ n link e at u. refl;
 })
 
@@ -106,7 +108,7 @@ module _ (mx my : Method) (p : Two) (h : HoldsOf mx my p) where
     then_near = (step p.near event).state
 
     pub keeps : KeepBodies p.near.rows then_near.rows
-    keeps = keep_bodies p.near.rows then_near.rows h.near_sound.numbered (keeps_messages p.near event h.near_sound.numbered)
+    keeps = keep_bodies p.near then_near h.near_sound.numbered (keeps_messages p.near event h.near_sound.numbered)
 
     pub goes_on : (l : ℕ) → IsApart l event → Follows l p.near then_near → Tied l mx my (side l then_near p.near_past) (side l p.far p.far_past) (units_on l p.out) (units_on l p.back)
     goes_on l apart f = follows l mx my (side l p.near p.near_past) (side l p.far p.far_past) (units_on l p.out) (units_on l p.back) then_near keeps (count_stays l p.near event apart) f (h.ties l)
@@ -122,6 +124,7 @@ module _ (mx my : Method) (p : Two) (h : HoldsOf mx my p) where
           far_sound = h.far_sound;
           near_method = ap (λ (s : Settings). s.method) (settings_stay p.near event) ∙ h.near_method;
           far_method = h.far_method;
+          profiles = h.profiles ∙ sym (ap (λ (s : Settings). s.profile) (settings_stay p.near event));
           far_links = h.far_links ∙ sym count;
           out_lines = lo ∙ h.out_lines ∙ sym count;
           back_lines = lb ∙ h.back_lines ∙ sym count;

@@ -1,4 +1,7 @@
 -- A LINK THAT COMES UP at both ends begins a world of the law.
+use Rattle.l2_units.specs.declared.profile.Profile.{Profile}
+use Rattle.l2_units.specs.declared.profile.Profile.TheVariants.{Narrow}
+use Rattle.l2_window.proofs.Numbers.{from_zero}
 use Rattle.std.proofs.Common.{refl, ◌≡◌, ◌∙◌, ap, sym, subst, ℕ, true, false, [], slice_get, Option, Some, None}
 use Rattle.l2_window.specs.Link.{End as LinkEnd, World as LinkWorld, Begins, begins}
 use Rattle.set_events.specs.declared.config.Method.{Method}
@@ -29,7 +32,7 @@ settled_at l s e = go (slice_get s.links l) refl
     go None f = absurd (let no : false ≡ true = ap link_is_settled (sym f) ∙ e in cc)
     go (Some link) f = (link, record { there = f; phase_is = settled_phase link.phase (ap link_is_settled (sym f) ∙ e) })
 
-module _ (l : ℕ) (m : Method) (s : State) (sound : IsSound s) (is_of : s.settings.method ≡ m) (link : LinkState) (at : IsAt l link Settled s) where
+module _ (l : ℕ) (q : Profile) (m : Method) (s : State) (sound : IsSound s) (profile_of : s.settings.profile ≡ q) (is_of : s.settings.method ≡ m) (link : LinkState) (at : IsAt l link Settled s) where
   step_is : step s (UpEvent l) ≡ rises l s Settled
   unfolding step
   step_is = rw (at.there, at.phase_is) refl
@@ -38,33 +41,34 @@ module _ (l : ℕ) (m : Method) (s : State) (sound : IsSound s) (is_of : s.setti
   risen = (rises l s Settled).state
 
   abbrev pub fresh : LinkEnd Control
-  fresh = record { control = start_of m; window = window_of l (risen_link m) risen.rows; sent = []; took = []; acked = 0 }
+  fresh = record { control = start_of m; window = window_of l (risen_link q m) risen.rows; sent = []; took = []; acked = 0 }
 
-  risen_there : slice_get risen.links l ≡ Some (risen_link m)
-  risen_there = subst (λ (k : Method). slice_get risen.links l ≡ Some (risen_link k)) is_of (get_set_same s.links l (risen_link s.settings.method) (within s.links l link at.there))
+  risen_there : slice_get risen.links l ≡ Some (risen_link q m)
+  risen_there = rw (← profile_of, ← is_of) (get_set_same s.links l (risen_link s.settings.profile s.settings.method) (within s.links l link at.there))
 
   none_sent : unack l risen.rows ≡ []
   none_sent = (unparked l s.rows).unack_same ∙ (settled_empty s l link sound at.there at.phase_is).unack_none
 
-  pub fresh_begins : Begins rules (start_of m) fresh
-  fresh_begins = record { control = refl; last = refl; unacked = ap numbers none_sent; sent = refl; took = refl; acked = refl }
+  pub fresh_begins : Begins rules q (start_of m) fresh
+  fresh_begins = record { control = refl; profile_is = refl; last = sym (from_zero q); unacked = ap numbers none_sent; sent = refl; took = refl; acked = refl }
 
   pub fresh_goes : Goes l fresh (step s (UpEvent l)).state
   fresh_goes = rw step_is (λ other found unsettled.
-      let same : risen_link m ≡ other = sym (same_at risen.links l (risen_link m) other risen_there found) in
+      let same : risen_link q m ≡ other = sym (same_at risen.links l (risen_link q m) other risen_there found) in
       subst (λ (k : LinkState). IsGoing l fresh k risen.rows) same (record { control = refl; window = refl; acked = refl }))
 
   pub fresh_counts : Counts l (step s (UpEvent l)).state []
-  fresh_counts = rw step_is (λ other found. ap (λ (k : LinkState). k.accepted) (same_at risen.links l (risen_link m) other risen_there found))
+  fresh_counts = rw step_is (λ other found. ap (λ (k : LinkState). k.accepted) (same_at risen.links l (risen_link q m) other risen_there found))
 
 -- both ends then, with empty lines
 abbrev pub new_side : State → Side
 new_side s = record { state = s; sent = []; taken = [] }
 
-pub rises_tied : (l : ℕ) (mx my : Method) (x y : State) (near far : LinkEnd Control) → Begins rules (start_of mx) near → Begins rules (start_of my) far → near.sent ≡ [] → near.took ≡ [] → far.sent ≡ [] → far.took ≡ [] → Goes l near x → Goes l far y → Counts l x [] → Counts l y [] → Tied l mx my (new_side x) (new_side y) [] []
-rises_tied l mx my x y near far a b ns nt fs ft goes far_goes counts far_counts =
+pub rises_tied : (q : Profile) (l : ℕ) (mx my : Method) (x y : State) (near far : LinkEnd Control) → Begins rules q (start_of mx) near → Begins rules q (start_of my) far → near.sent ≡ [] → near.took ≡ [] → far.sent ≡ [] → far.took ≡ [] → Goes l near x → Goes l far y → Counts l x [] → Counts l y [] → Tied l mx my (new_side x) (new_side y) [] []
+rises_tied q l mx my x y near far a b ns nt fs ft goes far_goes counts far_counts =
     let w : LinkWorld Control = record { near = near; far = far; out = []; back = [] } in
     record {
+      profile = q;
       world = w;
       run = begins w a b refl refl;
       ties = record {
@@ -82,6 +86,6 @@ rises_tied l mx my x y near far a b ns nt fs ft goes far_goes counts far_counts 
 -- a link that isn't up at either end, and has no past
 pub unborn : (l : ℕ) (mx my : Method) (x y : State) → ((link : LinkState) → slice_get x.links l ≡ Some link → has_phase_settled link.phase ≡ true) → ((link : LinkState) → slice_get y.links l ≡ Some link → has_phase_settled link.phase ≡ true) → Counts l x [] → Counts l y [] → Tied l mx my (new_side x) (new_side y) [] []
 unborn l mx my x y a b counts far_counts =
-    let end : (m : Method) → LinkEnd Control = λ m. record { control = start_of m; window = record { last = 127; unacked = []; unsent = []; room = 0 }; sent = []; took = []; acked = 0 } in
-    let start : (m : Method) → Begins rules (start_of m) (end m) = λ m. record { control = refl; last = refl; unacked = refl; sent = refl; took = refl; acked = refl } in
-    rises_tied l mx my x y (end mx) (end my) (start mx) (start my) refl refl refl refl (λ link found unsettled. absurd (let no : true ≡ false = sym (a link found) ∙ unsettled in cc)) (λ link found unsettled. absurd (let no : true ≡ false = sym (b link found) ∙ unsettled in cc)) counts far_counts
+    let end : (m : Method) → LinkEnd Control = λ m. record { control = start_of m; window = record { profile = Narrow; last = 127; unacked = []; unsent = []; room = 0 }; sent = []; took = []; acked = 0 } in
+    let start : (m : Method) → Begins rules Narrow (start_of m) (end m) = λ m. record { control = refl; profile_is = refl; last = refl; unacked = refl; sent = refl; took = refl; acked = refl } in
+    rises_tied Narrow l mx my x y (end mx) (end my) (start mx) (start my) refl refl refl refl (λ link found unsettled. absurd (let no : true ≡ false = sym (a link found) ∙ unsettled in cc)) (λ link found unsettled. absurd (let no : true ≡ false = sym (b link found) ∙ unsettled in cc)) counts far_counts

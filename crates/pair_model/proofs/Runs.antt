@@ -66,9 +66,9 @@ take_tells : (s : State) (inbox : List (List ℕ)) → TellsNoFault (Answered (t
 take_tells s [] = tt
 take_tells s (body ∷ rest) = tt
 
-find_tells : (s : State) (o : Option Fate) → TellsNoFault (Answered (found o s).answer)
-find_tells s None = tt
-find_tells s (Some fate) = tt
+find_tells : (s : State) (number : ℕ) (o : Option Fate) → TellsNoFault (Answered (found o number s).answer)
+find_tells s number None = tt
+find_tells s number (Some fate) = tt
 
 on_tells : (k : ℕ) (s : State) (f : LinkState → SetOutcome) → ((link : LinkState) → TellsNoFault (Answered (f link).answer)) → TellsNoFault (Answered (with_known (slice_get s.links k) s f).answer)
 on_tells k s f all = go (slice_get s.links k)
@@ -98,9 +98,9 @@ runs_tells k s = go (some_in_use (code_for k 0) 16 s)
 
 answer_tells : (s : State) (event : Event) → has_own_step event ≡ false → TellsNoFault (Answered (step s event).answer)
 unfolding step
-answer_tells s (Offer body) own = offer_tells s body (offer_refusal s.rows body)
+answer_tells s (Offer body) own = offer_tells s body (offer_refusal s.settings.profile s.rows body)
 answer_tells s Take own = take_tells s s.inbox
-answer_tells s (Find number) own = find_tells s (place number s.rows)
+answer_tells s (Find number) own = find_tells s number (place number s.rows)
 answer_tells s (Next k) own = absurd cc
 answer_tells s (Heard k unit) own = absurd cc
 answer_tells s (UpEvent k) own = absurd cc
@@ -329,4 +329,4 @@ module _ (ma mb : Method) (one : IsOneMethod ma mb) where
       record { links = (links_keep g h, rest.0); no_fault = rest.1 }
 
 pub every_honest_run : (a b : SetConfig) (steps : List Step) → AreSteps IsAskedStep steps → IsHonestRun a b steps → KeepsLinks (begun a b) steps
-every_honest_run a b steps asked sound = along a.method b.method sound.one_method (begun a b) (at_first a b sound.links) steps sound.steps asked
+every_honest_run a b steps asked sound = along a.method b.method sound.one_method (begun a b) (at_first a b sound.links sound.profiles) steps sound.steps asked

@@ -16,7 +16,7 @@ use Rattle.set_model.specs.Frame.{window_after}
 use Rattle.set_model.specs.Laws.{KeepsMessages}
 use Rattle.set_model.specs.Rows.{Row, body_at, numbers, octets_in, is_unacked, is_waiting, unack, IsNumbered}
 use Rattle.set_model.specs.Sound.{IsSound}
-use Rattle.set_model.specs.State.{LinkState, State, has_phase_settled, window_of}
+use Rattle.set_model.specs.State.{given, LinkState, State, has_phase_settled, window_of}
 use Rattle.set_model.specs.Step.{Outcome, next, chosen, unit_of, step}
 use Rattle.set_model.proofs.SoundLink.{first_chosen}
 use Rattle.set_model.proofs.Framing.{window_moves, numbers-drop}
@@ -29,8 +29,8 @@ use Rattle.pair_model.proofs.Controls.{rules}
 use Rattle.pair_model.proofs.Tied.{StandIn, IsUnitOf, KeepBodies, keep_bodies, stand_kept, bodies_kept, units_kept, stand_joined, units_joined, Side, IsGoing, Ties, Tied}
 
 -- Rows that are there stand there with their bodies.
-pub body_there : (p : Row → Bool) (rows : List Row) (i : ℕ) (row : Row) → IsNumbered rows → slice_get (filter p rows) i ≡ Some row → body_at row.number rows ≡ Some row.body
-body_there p rows i row numbered e = ap (option_map (λ (r : Row). r.body)) (row_in_filter p rows i row.number row numbered e refl)
+pub body_there : (given : ℕ) (p : Row → Bool) (rows : List Row) (i : ℕ) (row : Row) → IsNumbered given rows → slice_get (filter p rows) i ≡ Some row → body_at row.number rows ≡ Some row.body
+body_there given p rows i row numbered e = ap (option_map (λ (r : Row). r.body)) (row_in_filter given p rows i row.number row numbered e refl)
 
 pub stand_each : (rows ys : List Row) → ((i : ℕ) (row : Row) → slice_get ys i ≡ Some row → body_at row.number rows ≡ Some row.body) → StandIn rows (messages ys)
 stand_each rows [] all = tt
@@ -48,7 +48,7 @@ numbers_of_messages (row ∷ rows) = ap (λ (ns : List ℕ). row.number ∷ ns) 
 -- how the window moves
 first_moves : (w : WindowState) (unsent : List ℕ) → w.unsent ≡ unsent → 0 < length unsent → Moves first w (window_after first w)
 first_moves w [] e some = absurd (omega arith)
-first_moves w (message ∷ rest) e some = (message, record { last = refl; unacked = rw e refl; unsent = rw e refl; room = omega arith })
+first_moves w (message ∷ rest) e some = (message, record { profile = refl; last = refl; unacked = rw e refl; unsent = rw e refl; room = omega arith })
 
 moves_so : (choice : Choice) (w : WindowState) → (choice ≡ first → 0 < length w.unsent) → Moves choice w (window_after choice w)
 moves_so (again place) w some = refl
@@ -56,17 +56,17 @@ moves_so first w some = first_moves w w.unsent refl (some refl)
 moves_so fill w some = refl
 
 -- the unit that tells the chosen row
-told_at : (p : Row → Bool) (rows new : List Row) (i : ℕ) (head : Header) → IsNumbered rows → KeepBodies rows new → IsUnitOf new (record { head = head; message = slice_get (numbers (filter p rows)) i }) (unit_of (slice_get (filter p rows) i) head)
-told_at p rows new i head numbered keep = go (slice_get (filter p rows) i) refl
+told_at : (given : ℕ) (p : Row → Bool) (rows new : List Row) (i : ℕ) (head : Header) → IsNumbered given rows → KeepBodies rows new → IsUnitOf new (record { head = head; message = slice_get (numbers (filter p rows)) i }) (unit_of (slice_get (filter p rows) i) head)
+told_at given p rows new i head numbered keep = go (slice_get (filter p rows) i) refl
   where
     go : (o : Option Row) → slice_get (filter p rows) i ≡ o → IsUnitOf new (record { head = head; message = slice_get (numbers (filter p rows)) i }) (unit_of o head)
     go None e = (refl, slice_get-map (λ (r : Row). r.number) (filter p rows) i ∙ ap (option_map (λ (r : Row). r.number)) e)
-    go (Some row) e = (row.number, refl, slice_get-map (λ (r : Row). r.number) (filter p rows) i ∙ ap (option_map (λ (r : Row). r.number)) e, keep row.number row.body (body_there p rows i row numbered e))
+    go (Some row) e = (row.number, refl, slice_get-map (λ (r : Row). r.number) (filter p rows) i ∙ ap (option_map (λ (r : Row). r.number)) e, keep row.number row.body (body_there given p rows i row numbered e))
 
-told : (l : ℕ) (link : LinkState) (rows new : List Row) (choice : Choice) (head : Header) → IsNumbered rows → KeepBodies rows new → IsUnitOf new (record { head = head; message = message_of choice (window_of l link rows) }) (unit_of (chosen choice l rows) head)
-told l link rows new (again place) head numbered keep = told_at (λ row. is_unacked l row.fate) rows new place head numbered keep
-told l link rows new first head numbered keep = told_at (λ row. is_waiting l row.fate) rows new 0 head numbered keep
-told l link rows new fill head numbered keep = (refl, refl)
+told : (given l : ℕ) (link : LinkState) (rows new : List Row) (choice : Choice) (head : Header) → IsNumbered given rows → KeepBodies rows new → IsUnitOf new (record { head = head; message = message_of choice (window_of l link rows) }) (unit_of (chosen choice l rows) head)
+told given l link rows new (again place) head numbered keep = told_at given (λ row. is_unacked l row.fate) rows new place head numbered keep
+told given l link rows new first head numbered keep = told_at given (λ row. is_waiting l row.fate) rows new 0 head numbered keep
+told given l link rows new fill head numbered keep = (refl, refl)
 
 pub next_is : (l : ℕ) (link : LinkState) (s : State) → IsAt l link Up s → step s (Next l) ≡ next l s link
 unfolding step
@@ -93,7 +93,7 @@ module _ (l : ℕ) (mx my : Method) (x y : Side) (out back : List SignalUnit) (l
   choice = choice_of octets link.control window
 
   abbrev pub unit : SignalUnit
-  unit = unit_of (chosen choice l rows) (head_of link.control (fsn_of choice window))
+  unit = unit_of (chosen choice l rows) (head_of link.control window (fsn_of choice window))
 
   abbrev after : State
   after = (next l x.state link).state
@@ -102,10 +102,10 @@ module _ (l : ℕ) (mx my : Method) (x y : Side) (out back : List SignalUnit) (l
   sent_link = record link { control = control_after choice octets link.control window }
 
   kept : KeepBodies rows after.rows
-  kept = keep_bodies rows after.rows sound.numbered (subst (λ (o : Outcome). KeepsMessages rows o.state.rows) (next_is l link x.state at) (keeps_messages x.state (Next l) sound.numbered))
+  kept = keep_bodies x.state after sound.numbered (subst (λ (o : Outcome). KeepsMessages x.state o.state) (next_is l link x.state at) (keeps_messages x.state (Next l) sound.numbered))
 
-  numbered_after : IsNumbered after.rows
-  numbered_after = (subst (λ (o : Outcome). KeepsMessages rows o.state.rows) (next_is l link x.state at) (keeps_messages x.state (Next l) sound.numbered)).numbered
+  numbered_after : IsNumbered (given after) after.rows
+  numbered_after = (subst (λ (o : Outcome). KeepsMessages x.state o.state) (next_is l link x.state at) (keeps_messages x.state (Next l) sound.numbered)).numbered
 
   -- the link then
   sent_there : slice_get after.links l ≡ Some sent_link
@@ -126,7 +126,7 @@ module _ (l : ℕ) (mx my : Method) (x y : Side) (out back : List SignalUnit) (l
       sent = w.near.sent ++ drop (length window.unacked) (window_after choice window).unacked;
       acked = link.acked;
     };
-    out = w.out ++ record { head = head_of link.control (fsn_of choice window); message = message_of choice window } ∷ [];
+    out = w.out ++ record { head = head_of link.control window (fsn_of choice window); message = message_of choice window } ∷ [];
   }
 
   emission : (w : LinkWorld Control) → Emits rules octets (standing_at l link rows w) (emitted w)
@@ -158,7 +158,7 @@ module _ (l : ℕ) (mx my : Method) (x y : Side) (out back : List SignalUnit) (l
       sent_is = ap (λ (ns : List ℕ). ns ++ drop (length window.unacked) (window_after choice window).unacked) t.near.sent_is
           ∙ ap (λ (ns : List ℕ). map (λ (m : Message). m.number) x.sent ++ ns) gained
           ∙ sym (map-append (λ (m : Message). m.number) x.sent (first_sent l x.state after));
-      stand = stand_joined after.rows x.sent (first_sent l x.state after) (stand_kept rows after.rows kept x.sent t.near.stand) (stand_dropped after.rows (length (unack l rows)) (unack l after.rows) (stand_each after.rows (unack l after.rows) (λ i row e. body_there (λ r. is_unacked l r.fate) after.rows i row numbered_after e)));
+      stand = stand_joined after.rows x.sent (first_sent l x.state after) (stand_kept rows after.rows kept x.sent t.near.stand) (stand_dropped after.rows (length (unack l rows)) (unack l after.rows) (stand_each after.rows (unack l after.rows) (λ i row e. body_there (given after) (λ r. is_unacked l r.fate) after.rows i row numbered_after e)));
       took_is = t.near.took_is;
     };
     far = record { sent_is = t.far.sent_is; stand = t.far.stand; took_is = bodies_kept rows after.rows kept w.far.took y.taken t.far.took_is };
@@ -168,7 +168,7 @@ module _ (l : ℕ) (mx my : Method) (x y : Side) (out back : List SignalUnit) (l
     far_goes = t.far_goes;
     near_counts = λ other found. ap (λ (k : LinkState). k.accepted) (same_at after.links l sent_link other sent_there found) ∙ t.near_counts link at.there;
     far_counts = t.far_counts;
-    out = units_joined after.rows w.out _ out (unit ∷ []) (units_kept rows after.rows kept w.out out t.out) (told l link rows after.rows choice _ sound.numbered kept, tt);
+    out = units_joined after.rows w.out _ out (unit ∷ []) (units_kept rows after.rows kept w.out out t.out) (told (given x.state) l link rows after.rows choice _ sound.numbered kept, tt);
     back = t.back;
   }
 
@@ -177,8 +177,8 @@ module _ (l : ℕ) (mx my : Method) (x y : Side) (out back : List SignalUnit) (l
   sends t =
       let w = t.world in
       let g = t.ties.near_goes link at.there (ap has_phase_settled at.phase_is) in
-      let at_link = subst (λ (v : LinkWorld Control). Run rules (start_of mx) (start_of my) v) (stands_so l link rows w g) t.run in
-      record { world = emitted w; run = steps (standing_at l link rows w) (emitted w) at_link (emits (standing_at l link rows w) (emitted w) octets (emission w)); ties = emitted_ties w t.ties }
+      let at_link = subst (λ (v : LinkWorld Control). Run rules t.profile (start_of mx) (start_of my) v) (stands_so l link rows w g) t.run in
+      record { profile = t.profile; world = emitted w; run = steps (standing_at l link rows w) (emitted w) at_link (emits (standing_at l link rows w) (emitted w) octets (emission w)); ties = emitted_ties w t.ties }
 
 -- what a link in service answers
 pub sent_answer : (l : ℕ) (link : LinkState) (s : State) → IsAt l link Up s → (unit : SignalUnit) × ((step s (Next l)).answer ≡ Sent unit)

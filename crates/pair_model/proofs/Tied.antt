@@ -1,5 +1,7 @@
 -- THE TIE of a link of two ends to the law of one link: a world of the law that a run leads to, whose messages are the
 -- numbers of the rows that are sent on the link.
+use Rattle.l2_units.specs.declared.profile.Profile.{Profile}
+use Rattle.l2_window.specs.Window.{fsn_before_first, fsn_count}
 use Rattle.std.proofs.Common.{refl, arith, ◌≡◌, ◌∙◌, ap, sym, subst, ℕ, zero, suc, ◌<◌, ◌+◌, ◌%◌, Bool, true, false, nat_lt, List, [], ◌∷◌, ◌++◌, length, map, take, drop, slice_get, Option, Some, None, append_assoc}
 use Rattle.std.proofs.lemmas.Bool.{ltb-true}
 use Rattle.std.proofs.lemmas.List.{append-nil}
@@ -14,7 +16,7 @@ use Rattle.set_events.specs.declared.config.Method.{Method}
 use Rattle.set_model.specs.Control.{Control, start_of}
 use Rattle.set_model.specs.Laws.{KeepsMessages}
 use Rattle.set_model.specs.Rows.{Row, body_at, numbers, wait, IsNumbered}
-use Rattle.set_model.specs.State.{LinkState, State, has_phase_settled, window_of}
+use Rattle.set_model.specs.State.{given, LinkState, State, has_phase_settled, window_of}
 use Rattle.set_model.proofs.Rows.{row_is_first}
 use Rattle.pair_model.specs.Run.{Message}
 use Rattle.pair_model.proofs.Controls.{rules}
@@ -54,18 +56,19 @@ empty : {X : Type 0} (xs : List X) → length xs ≡ 0 → xs ≡ []
 empty [] e = refl
 empty (x ∷ xs) e = absurd (omega (arith, e))
 
-there_below : (number : ℕ) (rows : List Row) (body : List ℕ) → IsNumbered rows → body_at number rows ≡ Some body → number < length rows
-there_below number rows body numbered there = go (nat_lt number (length rows)) refl
+there_below : (given number : ℕ) (rows : List Row) (body : List ℕ) → IsNumbered given rows → body_at number rows ≡ Some body → number < given
+there_below given number rows body numbered there = go (nat_lt number given) refl
   where
-    go : (b : Bool) → nat_lt number (length rows) ≡ b → number < length rows
-    go true e = ltb-true number (length rows) e
+    go : (b : Bool) → nat_lt number given ≡ b → number < given
+    go true e = ltb-true number given e
     go false e =
-        let none = empty _ (rw e at (numbered number)) in
+        let low = rw e at (numbered number) in
+        let none = empty _ (omega (arith, low)) in
         let no : None ≡ Some body = sym (ap (option_map (λ (row : Row). row.body)) (row_is_first number rows ∙ ap (λ (xs : List Row). slice_get xs 0) none)) ∙ there in
         absurd cc
 
-pub keep_bodies : (rows new : List Row) → IsNumbered rows → KeepsMessages rows new → KeepBodies rows new
-keep_bodies rows new numbered kept number body there = kept.bodies number (there_below number rows body numbered there) ∙ there
+pub keep_bodies : (s t : State) → IsNumbered (given s) s.rows → KeepsMessages s t → KeepBodies s.rows t.rows
+keep_bodies s t numbered kept number body there = kept.bodies number (there_below (given s) number s.rows body numbered there) ∙ there
 
 module _ (rows new : List Row) (keep : KeepBodies rows new) where
   pub stand_kept : (messages : List Message) → StandIn rows messages → StandIn new messages
@@ -159,20 +162,22 @@ pub record Ties (l : ℕ) (w : LinkWorld Control) (x y : Side) (there back_again
   pub back : AreUnits y.state.rows w.back back_again
 
 pub record Tied (l : ℕ) (mx my : Method) (x y : Side) (out back : List SignalUnit) : Type 0 where
+  pub profile : Profile
   pub world : LinkWorld Control
-  pub run : Run rules (start_of mx) (start_of my) world
+  pub run : Run rules profile (start_of mx) (start_of my) world
   pub ties : Ties l world x y out back
 
 -- seen from the other end
-run_back : (near far : Control) (w : LinkWorld Control) → Run rules near far w → Run rules far near (flip w)
-run_back near far _ (begins w a b out back) = begins (flip w) b a back out
-run_back near far _ (steps old new r s) = steps_far (flip old) (flip new) (run_back near far old r) s
-run_back near far _ (steps_far old new r s) = steps (flip old) (flip new) (run_back near far old r) s
+run_back : (p : Profile) (near far : Control) (w : LinkWorld Control) → Run rules p near far w → Run rules p far near (flip w)
+run_back p near far _ (begins w a b out back) = begins (flip w) b a back out
+run_back p near far _ (steps old new r s) = steps_far (flip old) (flip new) (run_back p near far old r) s
+run_back p near far _ (steps_far old new r s) = steps (flip old) (flip new) (run_back p near far old r) s
 
 pub turned : (l : ℕ) (mx my : Method) (x y : Side) (out back : List SignalUnit) → Tied l mx my x y out back → Tied l my mx y x back out
 turned l mx my x y out back t = record {
+  profile = t.profile;
   world = flip t.world;
-  run = run_back (start_of mx) (start_of my) t.world t.run;
+  run = run_back t.profile (start_of mx) (start_of my) t.world t.run;
   ties = record { near = t.ties.far; far = t.ties.near; near_goes = t.ties.far_goes; far_goes = t.ties.near_goes; near_counts = t.ties.far_counts; far_counts = t.ties.near_counts; out = t.ties.back; back = t.ties.out };
 }
 
@@ -180,19 +185,19 @@ pub numbers_append : (xs ys : List Row) → numbers (xs ++ ys) ≡ numbers xs ++
 numbers_append [] ys = refl
 numbers_append (row ∷ xs) ys = ap (λ (ns : List ℕ). row.number ∷ ns) (numbers_append xs ys)
 
-pub same_window : {last last' : ℕ} {unacked unacked' unsent unsent' : List ℕ} → last ≡ last' → unacked ≡ unacked' → unsent ≡ unsent' → ◌≡◌ {A = WindowState} (record { last = last; unacked = unacked; unsent = unsent; room = 0 }) (record { last = last'; unacked = unacked'; unsent = unsent'; room = 0 })
-same_window a b c = rw (a, b, c) refl
+pub same_window : {p p' : Profile} {last last' : ℕ} {unacked unacked' unsent unsent' : List ℕ} → p ≡ p' → last ≡ last' → unacked ≡ unacked' → unsent ≡ unsent' → ◌≡◌ {A = WindowState} (record { profile = p; last = last; unacked = unacked; unsent = unsent; room = 0 }) (record { profile = p'; last = last'; unacked = unacked'; unsent = unsent'; room = 0 })
+same_window d a b c = rw (d, a, b, c) refl
 
 -- A LINK THAT GOES ON: each message that comes to wait is offered.
 abbrev pub pushed : List ℕ → LinkWorld Control → LinkWorld Control
 pushed more w = record w { near = record w.near { window = record w.near.window { unsent = w.near.window.unsent ++ more } } }
 
-push_all : (near far : Control) (more : List ℕ) (w : LinkWorld Control) → Run rules near far w → Run rules near far (pushed more w)
-push_all near far [] w r = rw (append-nil w.near.window.unsent) r
-push_all near far (n ∷ more) w r =
+push_all : (p : Profile) (near far : Control) (more : List ℕ) (w : LinkWorld Control) → Run rules p near far w → Run rules p near far (pushed more w)
+push_all p near far [] w r = rw (append-nil w.near.window.unsent) r
+push_all p near far (n ∷ more) w r =
     let one = pushed (n ∷ []) w in
-    let offer : Offers rules n w one = record { pushes = record { last = refl; unacked = refl; unsent = refl; room = omega arith }; near = refl; far = refl; out = refl; back = refl } in
-    rw (append_assoc w.near.window.unsent (n ∷ []) more) at (push_all near far more one (steps w one r (offers w one n offer)))
+    let offer : Offers rules n w one = record { pushes = record { profile = refl; last = refl; unacked = refl; unsent = refl; room = omega arith }; near = refl; far = refl; out = refl; back = refl } in
+    rw (append_assoc w.near.window.unsent (n ∷ []) more) at (push_all p near far more one (steps w one r (offers w one n offer)))
 
 module _ (l : ℕ) (mx my : Method) (x y : Side) (out back : List SignalUnit) (s : State) (keep : KeepBodies x.state.rows s.rows) (count : CountStays l x.state s) where
   abbrev moved : Side
@@ -212,7 +217,7 @@ module _ (l : ℕ) (mx my : Method) (x y : Side) (out back : List SignalUnit) (s
   }
 
   ends : (t : Tied l mx my x y out back) → (more : List ℕ) → Goes l (pushed more t.world).near s → Tied l mx my moved y out back
-  ends t more goes = record { world = pushed more t.world; run = push_all (start_of mx) (start_of my) more t.world t.run; ties = tells_on more t.world t.ties goes }
+  ends t more goes = record { profile = t.profile; world = pushed more t.world; run = push_all t.profile (start_of mx) (start_of my) more t.world t.run; ties = tells_on more t.world t.ties goes }
 
   pub follows : Follows l x.state s → Tied l mx my x y out back → Tied l mx my moved y out back
   follows f t = go (slice_get s.links l) refl
@@ -230,7 +235,8 @@ module _ (l : ℕ) (mx my : Method) (x y : Side) (out back : List SignalUnit) (s
           subst (λ (k : LinkState). IsGoing l (pushed (numbers g.more) t.world).near k s.rows) same (record {
             control = old.control ∙ sym g.control;
             window = ap (λ (v : WindowState). record v { unsent = v.unsent ++ numbers g.more }) old.window ∙ same_window
-                (ap (λ (k : ℕ). (k + 127) % 128) (sym g.acked))
+                (sym g.profile)
+                (rw (← g.profile) (ap (λ (k : ℕ). (k + fsn_before_first link.profile) % fsn_count link.profile) (sym g.acked)))
                 (sym (ap numbers g.unack_same))
                 (sym (ap numbers g.wait_more ∙ numbers_append (wait l x.state.rows) g.more));
             acked = old.acked ∙ sym g.acked;
@@ -248,6 +254,7 @@ lost l mx my x y out back place few t =
     let new = record w { out = s.before ++ s.behind } in
     let loss : Loses rules s.before s.one s.behind w new = record { near = refl; far = refl; was = s.are; out = refl; back = refl } in
     record {
+      profile = t.profile;
       world = new;
       run = steps w new t.run (loses w new s.before s.one s.behind loss);
       ties = record { near = t.ties.near; far = t.ties.far; near_goes = t.ties.near_goes; far_goes = t.ties.far_goes; near_counts = t.ties.near_counts; far_counts = t.ties.far_counts; out = s.rest; back = t.ties.back };

@@ -54,16 +54,19 @@ AreSteps P (step ∷ steps) = P step × AreSteps P steps
 
 pub record IsHonestRun (a b : SetConfig) (run : List Step) : Type 0 where
   pub links : a.links ≡ b.links
+  pub profiles : a.profile ≡ b.profile
   pub one_method : IsOneMethod a.method b.method
   pub steps : AreSteps IsHonestStep run
 
 pub record IsSoundRun (a b : SetConfig) (run : List Step) : Type 0 where
   pub links : a.links ≡ b.links
+  pub profiles : a.profile ≡ b.profile
   pub one_method : IsOneMethod a.method b.method
   pub steps : AreSteps IsSoundStep run
 
 pub record IsQuietRun (a b : SetConfig) (run : List Step) : Type 0 where
   pub links : a.links ≡ b.links
+  pub profiles : a.profile ≡ b.profile
   pub one_method : IsOneMethod a.method b.method
   pub steps : AreSteps IsQuietStep run
 

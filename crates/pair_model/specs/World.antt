@@ -10,8 +10,8 @@ use Rattle.set_events.specs.declared.answer.Answer.{Answer}
 use Rattle.set_events.specs.declared.answer.Counts.{Counts}
 use Rattle.set_events.specs.declared.answer.Answer.TheVariants.{Accepted, Taken, Found, Sent, Heard, Done, Refused}
 use Rattle.set_model.specs.State.{link_count, is_up, is_settled}
-use Rattle.set_model.specs.History.{LinkSet}
-use Rattle.set_model.specs.Rows.{counts_of}
+use Rattle.set_model.specs.Checkpoint.{counts_in}
+use Rattle.set_model.specs.History.{LinkSet, entries_in}
 use Rattle.set_model.specs.Step.{step}
 use Rattle.world_steps.specs.declared.step.End.{End}
 use Rattle.world_steps.specs.declared.step.End.TheVariants.{A, B}
@@ -47,7 +47,7 @@ at_end w B = w.b
 
 -- how the messages of an end stand
 abbrev pub counts_at : World → End → Counts
-counts_at w end = counts_of (at_end w end).state.rows
+counts_at w end = counts_in (at_end w end).state
 
 abbrev pub with_end : World → End → LinkSet → World
 with_end w A set = record w { a = set }
@@ -91,14 +91,14 @@ answer_to set event = (step set.state event).answer
 
 abbrev pub after : LinkSet → Event → LinkSet
 after set event = record {
-  opening = set.opening;
+  base = set.base;
   state = (step set.state event).state;
   history = set.history ++ record { who = actor_of event; event = event; answer = answer_to set event } ∷ [];
 }
 
 -- a set with 2^48 entries takes no more
 abbrev pub is_full : LinkSet → Bool
-is_full set = nat_le (2 ^ 48) (length set.history)
+is_full set = nat_le (2 ^ 48) (entries_in set)
 
 -- What a step does: it shows something and the world goes on, it can't be done, or a history is full.
 pub data Outcome : Type 0 where

@@ -17,7 +17,7 @@ use Rattle.set_model.specs.Changeover.{leaving_order, left_by, left_link}
 use Rattle.set_model.specs.Control.{Choice, again, first, fill, choice_of}
 use Rattle.set_model.specs.Rows.{unack, place, stream_of, standing, is_waiting, is_parked, is_back, octets_in, all_with}
 use Rattle.set_model.specs.Sound.{IsSound, IsAsked}
-use Rattle.set_model.specs.State.{LinkState, State, is_up, is_settled, link_is_up, has_phase_up, window_of}
+use Rattle.set_model.specs.State.{given, LinkState, State, is_up, is_settled, link_is_up, has_phase_up, window_of}
 use Rattle.set_model.specs.Step.{Outcome, refused, offer_refusal, offered, taken, found, falls, comes_back, with_known, in_service, next, rows_sent, step}
 use Rattle.set_model.proofs.Rows.{turned_same, moved_same}
 use Rattle.set_model.proofs.Places.{itself}
@@ -152,9 +152,9 @@ module _ (s f : State) (sound : IsSound s) (offered_here got lost : ℕ → List
   take_keeps [] = keeps_self
   take_keeps (body ∷ rest) = keeps_same (record s { inbox = rest }) refl refl refl
 
-  find_keeps : (fate : Option Fate) → Keeps' (found fate s).state
-  find_keeps None = keeps_self
-  find_keeps (Some fate) = keeps_self
+  find_keeps : (number : ℕ) (fate : Option Fate) → Keeps' (found fate number s).state
+  find_keeps number None = keeps_self
+  find_keeps number (Some fate) = keeps_self
 
   in_keeps : (k : ℕ) (act : LinkState → Outcome) → ((link : LinkState) → IsAt k link Up s → Keeps' (act link).state) → Keeps' (in_service k s act).state
   in_keeps k act each = go (slice_get s.links k) refl
@@ -173,10 +173,10 @@ module _ (s f : State) (sound : IsSound s) (offered_here got lost : ℕ → List
       let left = left_by blind k link s in
       let left_sound = leaves blind k link s at sound in
       record {
-        out = queues_flow (leaving_order blind k link) left f left_sound (λ c d. leaving_declares s.settings k blind link (length left.rows) c d) offered_here got lost
+        out = queues_flow (leaving_order blind k link) left f left_sound (λ c d. leaving_declares s.settings k blind link (given left) c d) offered_here got lost
             (leaves_flow blind k link s f sound at offered_here got lost w (λ c m i a. far_in s left f (left_accepted link at) m i));
         acks = λ c m i a. left_orders blind k link s f sound at (Cba a.link c) m
-            (queues_acks (leaving_order blind k link) left f left_sound (λ d x. leaving_acknowledges s.settings k blind link (length left.rows) d x) c m i a) a.is;
+            (queues_acks (leaving_order blind k link) left f left_sound (λ d x. leaving_acknowledges s.settings k blind link (given left) d x) c m i a) a.is;
       }
     where
       left_accepted : (link : LinkState) (at : IsAt k link Up s) → (l : ℕ) → accepted_on l (left_by blind k link s) ≡ accepted_on l s
@@ -193,7 +193,7 @@ module _ (s f : State) (sound : IsSound s) (offered_here got lost : ℕ → List
   unfolding step
   event_keeps emergencies (Offer body) end own safe other = absurd (other body refl)
   event_keeps emergencies Take end own safe other = take_keeps s.inbox
-  event_keeps emergencies (Find number) end own safe other = find_keeps (place number s.rows)
+  event_keeps emergencies (Find number) end own safe other = find_keeps number (place number s.rows)
   event_keeps emergencies (Next k) end own safe other = absurd cc
   event_keeps emergencies (HeardEvent k unit) end own safe other = absurd cc
   event_keeps emergencies (UpEvent k) end own safe other = absurd cc
@@ -204,21 +204,21 @@ module _ (s f : State) (sound : IsSound s) (offered_here got lost : ℕ → List
   event_keeps emergencies (BackTimeout k) end own safe other = absurd (never_timed_out emergencies end k safe)
 
   -- OFFER
-  offer_out : (body : List ℕ) → stream_of body < 16 → (o : Option SetRefusal) → offer_refusal s.rows body ≡ o → Flows (offered o s body).state f (past_asked (Offer body) (Answered (offered o s body).answer) (record { sent = λ l. []; taken = λ l. []; offered = offered_here; got = λ l. [] })).offered got lost
-  offer_out body low None e = offers_flow s f sound body low (users_body s.rows body e) offered_here got lost w
+  offer_out : (body : List ℕ) → stream_of body < 16 → (o : Option SetRefusal) → offer_refusal s.settings.profile s.rows body ≡ o → Flows (offered o s body).state f (past_asked (Offer body) (Answered (offered o s body).answer) (record { sent = λ l. []; taken = λ l. []; offered = offered_here; got = λ l. [] })).offered got lost
+  offer_out body low None e = offers_flow s f sound body low (users_body s.settings.profile s.rows body e) offered_here got lost w
   offer_out body low (Some why) e = none_more (stream_of body) s f offered_here got lost w
 
-  offer_acks : (body : List ℕ) → stream_of body < 16 → (o : Option SetRefusal) → offer_refusal s.rows body ≡ o → NewAcknowledges (view (offered o s body).state f) (view s f)
-  offer_acks body low None e = offers_acks s f sound body low (users_body s.rows body e)
+  offer_acks : (body : List ℕ) → stream_of body < 16 → (o : Option SetRefusal) → offer_refusal s.settings.profile s.rows body ≡ o → NewAcknowledges (view (offered o s body).state f) (view s f)
+  offer_acks body low None e = offers_acks s f sound body low (users_body s.settings.profile s.rows body e)
   offer_acks body low (Some why) e = λ c m i a. i
 
   pub offers_out : (body : List ℕ) → stream_of body < 16 → Flows (step s (Offer body)).state f (past_asked (Offer body) (Answered (step s (Offer body)).answer) (record { sent = λ l. []; taken = λ l. []; offered = offered_here; got = λ l. [] })).offered got lost
   unfolding step
-  offers_out body low = offer_out body low (offer_refusal s.rows body) refl
+  offers_out body low = offer_out body low (offer_refusal s.settings.profile s.rows body) refl
 
   pub offers_back : (body : List ℕ) → stream_of body < 16 → NewAcknowledges (view (step s (Offer body)).state f) (view s f)
   unfolding step
-  offers_back body low = offer_acks body low (offer_refusal s.rows body) refl
+  offers_back body low = offer_acks body low (offer_refusal s.settings.profile s.rows body) refl
 
 -- WHAT IT HOLDS was offered
 among_last : (m : Message) (xs : List Message) → Among m (xs ++ m ∷ [])
@@ -239,12 +239,12 @@ covers_more stream more past lost t c = record { managed = c.managed; numbered =
 
 offer_covers : (s : State) (past : Past) (lost : ℕ → List Message) (body : List ℕ) (o : Option SetRefusal) → Covered past lost s → Covered (past_asked (Offer body) (Answered (offered o s body).answer) past) lost (offered o s body).state
 offer_covers s past lost body None c =
-    covers_appended _ _ s (offered None s body).state body _ refl refl (λ e. rw (itself (stream_of body)) (among_last (new_message s.rows body) (past.offered (stream_of body)))) (covers_more (stream_of body) (new_message s.rows body ∷ []) past lost s c)
+    covers_appended _ _ s (offered None s body).state body _ refl refl refl (λ e. rw (itself (stream_of body)) (among_last (new_message (given s) body) (past.offered (stream_of body)))) (covers_more (stream_of body) (new_message (given s) body ∷ []) past lost s c)
 offer_covers s past lost body (Some why) c = covers_more (stream_of body) [] past lost s c
 
 offers_cover : (s : State) (past : Past) (lost : ℕ → List Message) (body : List ℕ) → Covered past lost s → Covered (past_asked (Offer body) (Answered (step s (Offer body)).answer) past) lost (step s (Offer body)).state
 unfolding step
-offers_cover s past lost body c = offer_covers s past lost body (offer_refusal s.rows body) c
+offers_cover s past lost body c = offer_covers s past lost body (offer_refusal s.settings.profile s.rows body) c
 
 -- AN EVENT THAT HAS NO STEP OF ITS OWN
 module _ {emergencies : Bool} (p : Two) (sound : IsSound p.near) (w : Streams emergencies p) where

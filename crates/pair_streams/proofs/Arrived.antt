@@ -2,7 +2,8 @@
 use Rattle.std.proofs.Common.{refl, arith, ◌≡◌, ◌∙◌, ap, sym, subst, ℕ, suc, ◌==◌, ◌-◌, Bool, true, false, List, [], ◌∷◌, ◌++◌, length, drop}
 use Rattle.set_events.specs.declared.answer.Fate.{Fate}
 use Rattle.set_events.specs.declared.answer.Fate.TheVariants.{Waiting, Unacked, Acked, Held, Parked, Back, Discarded}
-use Rattle.set_model.specs.Rows.{Row, is_unacked, is_waiting, is_held, is_parked, stands_back, is_users, waits, was_sent, was_held, standing, users, counts_of, unack, wait, held, stream_of}
+use Rattle.set_model.specs.Rows.{Row, is_unacked, is_waiting, is_held, is_parked, stands_back, is_users, waits, was_sent, was_held, standing, users, unack, wait, held, stream_of}
+use Rattle.set_model.specs.Checkpoint.{counts_in}
 use Rattle.set_model.specs.State.{State}
 use Rattle.world_steps.specs.declared.step.Step.{Step}
 use Rattle.pair_model.specs.Run.{Message, messages, bodies, Stage, begun, passed, OnShows, HoldsAlong}
@@ -55,7 +56,7 @@ held_within l Parked e = absurd cc
 held_within l (Back code) e = absurd cc
 held_within l (Discarded cause) e = absurd cc
 
-module _ (stream : ℕ) (s f : State) (done : AreDone (counts_of s.rows)) where
+module _ (stream : ℕ) (s f : State) (done : AreDone (counts_in s)) where
   none_pending : (l : ℕ) → those_of stream (pending l s f) ≡ []
   none_pending l =
       let count = accepted_on l f - acked_on l s in

@@ -8,7 +8,7 @@ use Rattle.set_model.specs.declared.reached.Reached.TheVariants.{Upto, Unknown}
 use Rattle.set_model.specs.Changeover.{fate_on, settled}
 use Rattle.set_model.specs.Rows.{Row, is_on, is_unacked, all_with, turned, place, row_of, unack}
 use Rattle.set_model.specs.Sound.{IsSound}
-use Rattle.set_model.specs.State.{LinkState, State, target}
+use Rattle.set_model.specs.State.{given, LinkState, State, target}
 use Rattle.set_model.proofs.Rows.{row_in_filter}
 use Rattle.set_model.proofs.Walk.{IsAt}
 use Rattle.pair_model.specs.Run.{Message, messages}
@@ -59,9 +59,9 @@ module _ (l : ℕ) (link : LinkState) (s f : State) (sound : IsSound s) (at : Is
   stands_given_up count m a =
       let w = row_among m (drop count (unack l s.rows)) a in
       let there : slice_get (unack l s.rows) (count + w.place) ≡ Some w.row = sym (get_rest count w.place (unack l s.rows)) ∙ w.there in
-      let row_is = row_in_filter (λ (r : Row). is_unacked l r.fate) s.rows (count + w.place) m.number w.row sound.numbered there (sym w.number_is) in
+      let row_is = row_in_filter (given s) (λ (r : Row). is_unacked l r.fate) s.rows (count + w.place) m.number w.row sound.numbered there (sym w.number_is) in
       let unacked = filtered (λ (r : Row). is_unacked l r.fate) s.rows (count + w.place) w.row there in
-      moved_stay given_up (is_on l) refl (all_with (fate_on (target s.links))) mid.rows mid_sound.numbered m.number
+      moved_stay given_up (is_on l) refl (given mid) (all_with (fate_on (target s.links))) mid.rows mid_sound.numbered m.number
       (placed_turned (is_unacked l) given_up m.number (length s.rows) s.rows w.row (le_refl (length s.rows)) row_is unacked)
 
   pub blind_was_in : (m : Message) → In m (view after f) → In m (view s f)

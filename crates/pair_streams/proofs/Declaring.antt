@@ -12,7 +12,7 @@ use Rattle.set_route.specs.Routing.{place_of, code_of, code_for, is_free, some_a
 use Rattle.set_route.proofs.Alone as route
 use Rattle.set_model.specs.Changeover.{can_declare, declared, declared_from, some_declare}
 use Rattle.set_model.specs.Sound.{IsSound}
-use Rattle.set_model.specs.State.{LinkState, State, link_count, is_up, link_is_up}
+use Rattle.set_model.specs.State.{given, LinkState, State, link_count, is_up, link_is_up}
 use Rattle.set_model.specs.Step.{comes_back, refused}
 use Rattle.set_events.specs.declared.answer.Answer.TheVariants.{Done}
 use Rattle.set_events.specs.declared.answer.Refusal.TheVariants.{Nothing}
@@ -61,10 +61,10 @@ module _ (home alternative : ℕ) (s f : State) (sound : IsSound s) (home_up : i
   code = code_for home alternative
 
   abbrev body : List ℕ
-  body = text (Cbd home code) s.settings.sio s.settings.dpc s.settings.opc
+  body = text s.settings.profile (Cbd home code) s.settings.sio s.settings.dpc s.settings.opc
 
   abbrev z : Message
-  z = new_message s.rows body
+  z = new_message (given s) body
 
   alternative_is_up : is_up alternative s ≡ true
   alternative_is_up = alternative_up home alternative s can
@@ -78,14 +78,14 @@ module _ (home alternative : ℕ) (s f : State) (sound : IsSound s) (home_up : i
   few : code < 256
   few = omega (arith, up_below home s sound home_up, up_below alternative s sound alternative_is_up)
 
-  new_at : (l : ℕ) → IsNew (accepted_on l f - acked_on l s) l s.rows body (Waiting alternative)
+  new_at : (l : ℕ) → IsNew (accepted_on l f - acked_on l s) l (given s) s.rows body (Waiting alternative)
   new_at l = to_wait alternative (λ same. held_none s l sound (subst (λ (n : ℕ). is_up n s ≡ true) (eqb-true alternative l same) alternative_is_up))
 
   of_none : (stream : ℕ) → is_of stream z ≡ false
-  of_none stream = no_stream stream s.settings.sio (length s.rows) (label s.settings.dpc s.settings.opc home ++ heading_of (Cbd home code) ∷ content_with 0 (Cbd home code)) sound.managed
+  of_none stream = no_stream stream s.settings.sio (given s) (label s.settings.dpc s.settings.opc home ++ heading_of (Cbd home code) ∷ content_with s.settings.profile 0 (Cbd home code)) sound.managed
 
   tells : (c : ℕ) → Declares c z → c ≡ code
-  tells c d = cbd_other s.settings home (length s.rows) code c d
+  tells c d = cbd_other s.settings home (given s) code c d
 
   was_there : (m : Message) → In m (view then_s f) → In m (view s f) ⊎ (m ≡ z)
   was_there = in_new s then_s f body (Waiting alternative) refl refl new_at
@@ -112,7 +112,7 @@ module _ (home alternative : ℕ) (s f : State) (sound : IsSound s) (home_up : i
     where
       go : In m (view s f) ⊎ (m ≡ z) → In m (view s f)
       go (inl j) = j
-      go (inr same) = absurd (cbd_acknowledges s.settings home (length s.rows) code c (subst (Acknowledges c) same a))
+      go (inr same) = absurd (cbd_acknowledges s.settings home (given s) code c (subst (Acknowledges c) same a))
 
   module _ (offered got lost : ℕ → List Message) (w : Flows s f offered got lost) where
     none_declared : NoneDeclares code (pending alternative s f)

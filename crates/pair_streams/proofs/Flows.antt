@@ -12,7 +12,7 @@ use Rattle.set_route.proofs.Alone as route
 use Rattle.set_model.specs.Changeover.{fate_on, queued}
 use Rattle.set_model.specs.Rows.{stream_of, service_indicator, is_on, is_back, is_parked}
 use Rattle.set_model.specs.Sound.{IsSound}
-use Rattle.set_model.specs.State.{State, is_up, link_is_up, fate_at, target}
+use Rattle.set_model.specs.State.{given, State, is_up, link_is_up, fate_at, target}
 use Rattle.set_model.specs.Step.{offered as offered_step}
 use Rattle.set_model.proofs.Places.{itself, apart_back}
 use Rattle.set_model.proofs.Lists.{target_up}
@@ -35,25 +35,25 @@ pub no_stream : (stream : ℕ) (sio number : ℕ) (rest : List ℕ) → sio % 16
 no_stream stream sio number rest e = rw (eq-eqb (sio % 16) 0 e) refl
 
 -- AN ORDER IS QUEUED that declares nothing
-pub order_new : (s f : State) (l : ℕ) (body : List ℕ) → IsSound s → (to : Option ℕ) → target s.links ≡ to → IsNew (accepted_on l f - acked_on l s) l s.rows body (fate_on to)
+pub order_new : (s f : State) (l : ℕ) (body : List ℕ) → IsSound s → (to : Option ℕ) → target s.links ≡ to → IsNew (accepted_on l f - acked_on l s) l (given s) s.rows body (fate_on to)
 order_new s f l body sound None e = to_park
 order_new s f l body sound (Some to) e = to_wait to (λ same. held_none s l sound (subst (λ (k : ℕ). is_up k s ≡ true) (eqb-true to l same) (let up = target_up s.links to e in ap link_is_up up.1 ∙ up.2)))
 
 module _ (order : Order) (s f : State) (sound : IsSound s) where
   abbrev body : List ℕ
-  body = text order s.settings.sio s.settings.dpc s.settings.opc
+  body = text s.settings.profile order s.settings.sio s.settings.dpc s.settings.opc
 
   abbrev pub order_z : Message
-  order_z = new_message s.rows body
+  order_z = new_message (given s) body
 
-  new_at : (l : ℕ) → IsNew (accepted_on l f - acked_on l s) l s.rows body (fate_on (target s.links))
+  new_at : (l : ℕ) → IsNew (accepted_on l f - acked_on l s) l (given s) s.rows body (fate_on (target s.links))
   new_at l = order_new s f l body sound (target s.links) refl
 
   pub order_in : (m : Message) → In m (view (queued order s) f) → In m (view s f) ⊎ (m ≡ order_z)
   order_in = in_new s (queued order s) f body (fate_on (target s.links)) refl refl new_at
 
   of_none : (stream : ℕ) → is_of stream order_z ≡ false
-  of_none stream = no_stream stream s.settings.sio (length s.rows) (label s.settings.dpc s.settings.opc (link_of order) ++ heading_of order ∷ content_with 0 order) sound.managed
+  of_none stream = no_stream stream s.settings.sio (given s) (label s.settings.dpc s.settings.opc (link_of order) ++ heading_of order ∷ content_with s.settings.profile 0 order) sound.managed
 
   pub queues_flow : ((c : ℕ) → Declares c order_z → ⊥) → (offered got lost : ℕ → List Message) → Flows s f offered got lost → Flows (queued order s) f offered got lost
   queues_flow none offered got lost w = carried s (queued order s) f f offered got lost w
@@ -83,16 +83,16 @@ module _ (s f : State) (sound : IsSound s) (body : List ℕ) (low : stream_of bo
   then_s = (offered_step None s body).state
 
   abbrev z : Message
-  z = new_message s.rows body
+  z = new_message (given s) body
 
-  new_for : (l : ℕ) → IsNew (accepted_on l f - acked_on l s) l s.rows body fate
+  new_for : (l : ℕ) → IsNew (accepted_on l f - acked_on l s) l (given s) s.rows body fate
   new_for l = go place
     where
-      on_link : (k : ℕ) (b : Bool) → is_up k s ≡ b → IsNew (accepted_on l f - acked_on l s) l s.rows body (cond b (Waiting k) (Held k))
+      on_link : (k : ℕ) (b : Bool) → is_up k s ≡ b → IsNew (accepted_on l f - acked_on l s) l (given s) s.rows body (cond b (Waiting k) (Held k))
       on_link k true e = to_wait k (λ same. held_none s l sound (subst (λ (n : ℕ). is_up n s ≡ true) (eqb-true k l same) e))
       on_link k false e = to_hold k
 
-      go : (p : Place) → IsNew (accepted_on l f - acked_on l s) l s.rows body (fate_at p s)
+      go : (p : Place) → IsNew (accepted_on l f - acked_on l s) l (given s) s.rows body (fate_at p s)
       go Nowhere = to_park
       go (Changing to code via) = to_back code
       go (On k) = on_link k (is_up k s) refl

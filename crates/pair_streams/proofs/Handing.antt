@@ -365,11 +365,11 @@ quiet_honest (Inject end k unit ∷ steps) quiet = absurd quiet.0
 module _ (Say : Stage → Type 0) (says : (g : Stage) → UsersTakeAll g → StreamsArrive g → Say g) where
   pub sound_says : (a b : SetConfig) (steps : List Step) → AreSteps IsAskedStep steps → IsSoundRun a b steps → HoldsAlong Say (begun a b) steps
   sound_says a b steps asked sound =
-      both_along StreamsArrive Say says (begun a b) steps (every_honest_run_hands_out a b steps asked (record { links = sound.links; one_method = sound.one_method; steps = sound_honest steps sound.steps })) (every_sound_run a b steps asked sound)
+      both_along StreamsArrive Say says (begun a b) steps (every_honest_run_hands_out a b steps asked (record { links = sound.links; profiles = sound.profiles; one_method = sound.one_method; steps = sound_honest steps sound.steps })) (every_sound_run a b steps asked sound)
 
 pub every_sound_run_hands_out : EverySoundRunHandsOutInOrder
 every_sound_run_hands_out = sound_says UsersTakeFirst take_first
 
 pub every_quiet_run_hands_out : EveryQuietRunHandsOutAPart
 every_quiet_run_hands_out a b steps asked quiet =
-    both_along PartsArrive UsersTakePart take_part (begun a b) steps (every_honest_run_hands_out a b steps asked (record { links = quiet.links; one_method = quiet.one_method; steps = quiet_honest steps quiet.steps })) (every_quiet_run a b steps asked quiet)
+    both_along PartsArrive UsersTakePart take_part (begun a b) steps (every_honest_run_hands_out a b steps asked (record { links = quiet.links; profiles = quiet.profiles; one_method = quiet.one_method; steps = quiet_honest steps quiet.steps })) (every_quiet_run a b steps asked quiet)

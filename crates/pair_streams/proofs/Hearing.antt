@@ -4,7 +4,8 @@ use Rattle.std.proofs.lemmas.Bool.{eqb-true, eq-eqb}
 use Rattle.l2_units.specs.declared.unit.Unit.{Unit as SignalUnit}
 use Rattle.l3_orders.specs.declared.order.Order.{Order}
 use Rattle.l3_orders.specs.declared.order.Order.TheVariants.{Coo, Coa, Cbd, Cba, Eco, Eca}
-use Rattle.l3_orders.specs.Grammar.{order_of}
+use Rattle.l3_orders.specs.Grammar.{order_of, order_any}
+use Rattle.l3_orders.proofs.Texts.{any_of}
 use Rattle.link_lines.specs.Lines.{units_on}
 use Rattle.set_events.specs.declared.answer.Fate.{Fate}
 use Rattle.set_events.specs.declared.answer.Fate.TheVariants.{Unacked, Acked}
@@ -24,7 +25,7 @@ use Rattle.set_model.specs.declared.reached.Reached.TheVariants.{Upto, Unknown}
 use Rattle.set_model.specs.Changeover.{Obeyed, changed_over, answered, at_link, acknowledged_back, order_obeyed, obeyed, left_link, left_by, released, queued, settled}
 use Rattle.set_model.specs.Rows.{is_unacked, is_back, place, stream_of, service_indicator}
 use Rattle.set_model.specs.Sound.{IsSound}
-use Rattle.set_model.specs.State.{LinkState, State, last_accepted}
+use Rattle.set_model.specs.State.{given, LinkState, State, last_accepted}
 use Rattle.set_model.specs.Step.{brought, step}
 use Rattle.set_model.proofs.Rows.{turned_same}
 use Rattle.set_model.proofs.Places.{apart_back}
@@ -113,12 +114,12 @@ module _ (emergencies : Bool) (k : ℕ) (body : List ℕ) (s f : State) (sound :
     there = told l link s f sound codes at
 
     there_out : Flows there f offered got lost
-    there_out = queues_flow (Coa l (last_accepted link)) left f (left_sound l link s f sound codes at) (λ c d. coa_declares s.settings l (length left.rows) (last_accepted link) c d) offered got lost
+    there_out = queues_flow (Coa l (last_accepted link)) left f (left_sound l link s f sound codes at) (λ c d. coa_declares s.settings l (given left) (last_accepted link) c d) offered got lost
         (leaves_flow false l link s f sound at offered got lost w (λ c m i a. far_in s left f (by_link l link (left_link false link) s left at.there refl (λ n old new. accepted_of new ≡ accepted_of old) refl (λ n old d. refl)) m i))
 
     there_acks : (c : ℕ) (m : Message) → In m (view there f) → Acknowledges c m → In m (view s f)
     there_acks c m i a = left_orders false l link s f sound at (Cba a.link c) m
-        (queues_acks (Coa l (last_accepted link)) left f (left_sound l link s f sound codes at) (λ d x. coa_acknowledges s.settings l (length left.rows) (last_accepted link) d x) c m i a) a.is
+        (queues_acks (Coa l (last_accepted link)) left f (left_sound l link s f sound codes at) (λ d x. coa_acknowledges s.settings l (given left) (last_accepted link) d x) c m i a) a.is
 
     answered_so : (fsn : ℕ) → Told fsn l link s f → Both' (settled (Upto fsn) l (left_link false link) there)
     answered_so fsn told_so =
@@ -154,8 +155,8 @@ module _ (emergencies : Bool) (k : ℕ) (body : List ℕ) (s f : State) (sound :
       lost_then = lost;
       of = λ stream m a. inl a;
       none = λ e stream. refl;
-      out = queues_flow (Cba l code) s f sound (λ c d. cba_declares s.settings l (length s.rows) code c d) offered got lost w;
-      back = acked_flow s (queued (Cba l code) s) f (λ n. refl) code _ few far_offered far_got far_lost v (order_in (Cba l code) s f sound) (λ c a. cba_other s.settings l (length s.rows) code c a) none_declared none_acked in_use empty;
+      out = queues_flow (Cba l code) s f sound (λ c d. cba_declares s.settings l (given s) code c d) offered got lost w;
+      back = acked_flow s (queued (Cba l code) s) f (λ n. refl) code _ few far_offered far_got far_lost v (order_in (Cba l code) s f sound) (λ c a. cba_other s.settings l (given s) code c a) none_declared none_acked in_use empty;
     }
 
   -- what waited for an acknowledgement goes home
@@ -409,7 +410,7 @@ module _ {emergencies : Bool} (mx my : Method) (one : IsOneMethod mx my) (p : Tw
     -- an order, or what the management ignores
     own_got : (service_indicator body == 0) ≡ true → Got
     own_got own stream low =
-        none_got (got_by taken.took (slice_get (p.far_past.sent k) (length (p.near_past.taken k))) (body_in unit)) (rw (e, own) (obeyed_got (slice_get (p.far_past.sent k) (length (p.near_past.taken k))) (body_in unit) (order_of body) mid)) stream
+        none_got (got_by taken.took (slice_get (p.far_past.sent k) (length (p.near_past.taken k))) (body_in unit)) (rw (e, own) (obeyed_got (slice_get (p.far_past.sent k) (length (p.near_past.taken k))) (body_in unit) (order_of p.near.settings.profile body) mid)) stream
         (here_stays stream (rw (ap (λ (b : List ℕ). service_indicator b == 0) first_body ∙ own) refl))
 
     got_some : Got
@@ -442,9 +443,9 @@ module _ {emergencies : Bool} (mx my : Method) (one : IsOneMethod mx my) (p : Tw
     }
 
     -- a declaration is heard: none of its code is left, and nothing of its streams
-    module _ (l code : ℕ) (is : order_of body ≡ Some (Cbd l code)) where
+    module _ (l code : ℕ) (is : order_of p.near.settings.profile body ≡ Some (Cbd l code)) where
       declares_first : Declares code first
-      declares_first = record { link = l; is = ap order_of first_body ∙ is }
+      declares_first = record { link = l; is = ap order_any first_body ∙ any_of p.near.settings.profile body _ is }
 
       none_more : (m : Message) → In m (view p.far mid) → Declares code m → ⊥
       none_more m i d = far_gone m i (v.back.backing.one_declared code m first (far_was m i) first_in d declares_first)
@@ -470,9 +471,9 @@ module _ {emergencies : Bool} (mx my : Method) (one : IsOneMethod mx my) (p : Tw
           stands_here clear false d = absurd (clear.only k d first (subst (Among first) (sym first_is) (inl refl)) declares_first)
 
     -- an acknowledgement is heard
-    module _ (l code : ℕ) (is : order_of body ≡ Some (Cba l code)) where
+    module _ (l code : ℕ) (is : order_of p.near.settings.profile body ≡ Some (Cba l code)) where
       acks_first : Acknowledges code first
-      acks_first = record { link = l; is = ap order_of first_body ∙ is }
+      acks_first = record { link = l; is = ap order_any first_body ∙ any_of p.near.settings.profile body _ is }
 
       none_declared : (m : Message) → In m (view mid p.far) → Declares code m → ⊥
       none_declared m i d = v.out.backing.either code m first (mid_in m i) first_in d acks_first

@@ -1,4 +1,5 @@
 -- THE INBOX of a set: what an event delivers joins it, what Take hands out leaves it, and nothing else changes it.
+use Rattle.set_model.specs.Step.{is_heard, controls}
 use Rattle.std.proofs.Common.{refl, ◌≡◌, ◌∙◌, ap, sym, ℕ, zero, suc, ◌==◌, Bool, true, false, List, [], ◌∷◌, ◌++◌, slice_get, Option, Some, None, cond, append_assoc}
 use Rattle.std.proofs.lemmas.List.{append-nil}
 use Rattle.l2_units.specs.declared.unit.Unit.{Unit as SignalUnit}
@@ -119,9 +120,9 @@ module _ (s : State) (event : Event) where
   take_passes [] e = append-nil s.inbox
   take_passes (body ∷ rest) e = append-nil s.inbox ∙ e
 
-  find_passes : (o : Option Fate) → Passes (found o s)
-  find_passes None = append-nil s.inbox
-  find_passes (Some fate) = append-nil s.inbox
+  find_passes : (number : ℕ) (o : Option Fate) → Passes (found o number s)
+  find_passes number None = append-nil s.inbox
+  find_passes number (Some fate) = append-nil s.inbox
 
   rise_passes : (n : ℕ) (phase : Phase) → Passes (rises n s phase)
   rise_passes n Up = append-nil s.inbox
@@ -152,22 +153,29 @@ take_in : (accept : Bool) (unit : SignalUnit) (body : List ℕ) (s : State) → 
 take_in false unit body s e = rw e (append-nil s.inbox)
 take_in true unit body s e = rw e (go (service_indicator body == 0))
   where
-    go : (b : Bool) → s.inbox ++ message_of (cond b (obeyed (order_of body) s) (record { took = Rattle.set_events.specs.declared.answer.Took.TheVariants.Message; state = record s { inbox = s.inbox ++ body ∷ [] } })).took body ≡ (cond b (obeyed (order_of body) s) (record { took = Rattle.set_events.specs.declared.answer.Took.TheVariants.Message; state = record s { inbox = s.inbox ++ body ∷ [] } })).state.inbox
-    go true = let alone = obeyed_leaves (order_of body) s in ap (λ (more : List (List ℕ)). s.inbox ++ more) (alone.none body) ∙ append-nil s.inbox ∙ sym alone.inbox
+    go : (b : Bool) → s.inbox ++ message_of (cond b (obeyed (order_of s.settings.profile body) s) (record { took = Rattle.set_events.specs.declared.answer.Took.TheVariants.Message; state = record s { inbox = s.inbox ++ body ∷ [] } })).took body ≡ (cond b (obeyed (order_of s.settings.profile body) s) (record { took = Rattle.set_events.specs.declared.answer.Took.TheVariants.Message; state = record s { inbox = s.inbox ++ body ∷ [] } })).state.inbox
+    go true = let alone = obeyed_leaves (order_of s.settings.profile body) s in ap (λ (more : List (List ℕ)). s.inbox ++ more) (alone.none body) ∙ append-nil s.inbox ∙ sym alone.inbox
     go false = refl
 
-hear_passes : (s : State) (n : ℕ) (unit : SignalUnit) (link : LinkState) → Passes s (Heard n unit) (heard unit n s link)
-hear_passes s n (Fisu head) link = append-nil s.inbox
-hear_passes s n (Lssu head status) link = append-nil s.inbox
-hear_passes s n (Msu head body) link =
+control_passes : (s : State) (n : ℕ) (unit : SignalUnit) (link : LinkState) → is_heard s.settings.profile unit ≡ true → Passes s (Heard n unit) (controls unit n s link)
+control_passes s n (Fisu head) link fits = append-nil s.inbox
+control_passes s n (Lssu head status) link fits = absurd cc
+control_passes s n (Msu head body) link fits =
     let part = part_of link.control (window_of n link s.rows) head true in
     take_in part.accept (Msu head body) body.items (after_control part head (Msu head body) n s link) refl
 
+hear_passes : (s : State) (n : ℕ) (unit : SignalUnit) (link : LinkState) → Passes s (Heard n unit) (heard unit n s link)
+hear_passes s n unit link = go (is_heard s.settings.profile unit) refl
+  where
+    go : (b : Bool) → is_heard s.settings.profile unit ≡ b → Passes s (Heard n unit) (heard unit n s link)
+    go true e = rw e (control_passes s n unit link e)
+    go false e = rw e (append-nil s.inbox)
+
 pub event_passes : (s : State) (event : Event) → Passes s event (step s event)
 unfolding step
-event_passes s (Offer body) = offer_passes s (Offer body) body (offer_refusal s.rows body)
+event_passes s (Offer body) = offer_passes s (Offer body) body (offer_refusal s.settings.profile s.rows body)
 event_passes s Take = take_passes s Take s.inbox refl
-event_passes s (Find number) = find_passes s (Find number) (place number s.rows)
+event_passes s (Find number) = find_passes s (Find number) number (place number s.rows)
 event_passes s (Next n) = in_passes s (Next n) n (next n s) (λ link. append-nil s.inbox)
 event_passes s (Heard n unit) = in_passes s (Heard n unit) n (heard unit n s) (λ link. hear_passes s n unit link)
 event_passes s (UpEvent n) = on_passes s (UpEvent n) n (λ link. rises n s link.phase) (λ link. rise_passes s (UpEvent n) n link.phase)

@@ -11,16 +11,18 @@ use Rattle.set_events.specs.declared.answer.DiscardCause.TheVariants.{Emergency}
 use Rattle.set_route.specs.Routing.{code_for}
 use Rattle.set_events.specs.declared.event.Event.{Event}
 use Rattle.set_events.specs.declared.event.Event.TheVariants.{Offer}
-use Rattle.set_model.specs.Changeover.{fate_on, left_by, moved_over, declared, released}
+use Rattle.set_model.specs.Changeover.{queued, fate_on, left_by, moved_over, declared, released}
 use Rattle.l2_units.specs.Grammar.{head_of}
 use Rattle.set_model.specs.Control.{Choice, again, first, fill, choice_of, part_of}
 use Rattle.set_model.specs.Rows.{Row, is_on, is_back, is_back_to, is_unacked, is_waiting, is_parked, all_with, appended, moved, unack, octets_in, place, body_at, service_indicator, IsNumbered}
 use Rattle.set_model.specs.Sound.{IsManaged}
-use Rattle.set_model.specs.State.{LinkState, State, target, window_of}
+use Rattle.set_model.specs.State.{given, LinkState, State, target, window_of}
 use Rattle.set_model.specs.Step.{is_msu, sends, step}
 use Rattle.std.proofs.lemmas.Bool.{cond_both}
 use Rattle.set_model.proofs.Events.{sent}
-use Rattle.set_model.proofs.Rows.{numbered_appended, new_row, body_moved, moved_numbered}
+use Rattle.set_model.proofs.Rows.{numbered_appended, new_row, body_moved, moved_length, moved_numbered}
+use Rattle.pair_changeover.proofs.Acked.{numbered_on}
+use Rattle.pair_streams.proofs.Rising.{one_more}
 use Rattle.set_model.proofs.Walk.{KeptBy, step_walks}
 use Rattle.pair_changeover.proofs.Staying.{Stays, turned_stay, changed_stay, moved_stay, joined_stay}
 
@@ -31,15 +33,15 @@ given_up = Discarded Emergency
 module _ (P : ℕ → List ℕ → Type 0) (Q : ℕ → Type 0) where
   pub record Covers (s : State) : Type 0 where
     pub managed : IsManaged s.settings
-    pub numbered : IsNumbered s.rows
+    pub numbered : IsNumbered (given s) s.rows
     pub known : (number : ℕ) (body : List ℕ) → body_at number s.rows ≡ Some body → (service_indicator body == 0) ≡ false → P number body
     pub gone : (number : ℕ) → Q number → place number s.rows ≡ Some given_up
 
   -- rows that keep their bodies
-  covers_kept : (s t : State) → t.settings ≡ s.settings → IsNumbered t.rows → ((number : ℕ) → body_at number t.rows ≡ body_at number s.rows) → Stays given_up s.rows t.rows → Covers s → Covers t
-  covers_kept s t settings numbered bodies stays c = record {
+  covers_kept : (s t : State) → t.settings ≡ s.settings → t.finished ≡ s.finished → length t.rows ≡ length s.rows → IsNumbered (given s) t.rows → ((number : ℕ) → body_at number t.rows ≡ body_at number s.rows) → Stays given_up s.rows t.rows → Covers s → Covers t
+  covers_kept s t settings left long numbered bodies stays c = record {
     managed = subst IsManaged (sym settings) c.managed;
-    numbered = numbered;
+    numbered = numbered_on s t left long numbered;
     known = λ number body e users. c.known number body (sym (bodies number) ∙ e) users;
     gone = λ number q. stays number (c.gone number q);
   }
@@ -61,48 +63,48 @@ module _ (P : ℕ → List ℕ → Type 0) (Q : ℕ → Type 0) where
           cases (inl f) = inl (rw h f)
           cases (inr f) = inr f
 
-  pub covers_appended : (s t : State) (body : List ℕ) (fate : Fate) → t.settings ≡ s.settings → t.rows ≡ appended s.rows body fate → ((service_indicator body == 0) ≡ false → P (length s.rows) body) → Covers s → Covers t
-  covers_appended s t body fate settings rows new c = record {
+  pub covers_appended : (s t : State) (body : List ℕ) (fate : Fate) → t.settings ≡ s.settings → t.finished ≡ s.finished → t.rows ≡ appended (given s) s.rows body fate → ((service_indicator body == 0) ≡ false → P (given s) body) → Covers s → Covers t
+  covers_appended s t body fate settings left rows new c = record {
     managed = subst IsManaged (sym settings) c.managed;
-    numbered = rw rows (numbered_appended s.rows body fate c.numbered);
-    known = λ number other e users. go number other users (last_row number (new_row (length s.rows) body fate) s.rows other (ap (body_at number) (sym rows) ∙ e));
+    numbered = subst (λ (n : ℕ). IsNumbered n t.rows) (sym (one_more s t body fate left rows)) (rw rows (numbered_appended (given s) s.rows body fate c.numbered));
+    known = λ number other e users. go number other users (last_row number (new_row (given s) body fate) s.rows other (ap (body_at number) (sym rows) ∙ e));
     gone = λ number q. rw rows (joined_stay given_up s.rows _ number (c.gone number q));
   }
     where
-      go : (number : ℕ) (other : List ℕ) → (service_indicator other == 0) ≡ false → (body_at number s.rows ≡ Some other) ⊎ ((length s.rows ≡ number) × (body ≡ other)) → P number other
+      go : (number : ℕ) (other : List ℕ) → (service_indicator other == 0) ≡ false → (body_at number s.rows ≡ Some other) ⊎ ((given s ≡ number) × (body ≡ other)) → P number other
       go number other users (inl e) = c.known number other e users
-      go number other users (inr e) = subst (λ (n : ℕ). P n other) e.0 (subst (λ (b : List ℕ). P (length s.rows) b) e.1 (new (ap (λ (b : List ℕ). service_indicator b == 0) e.1 ∙ users)))
+      go number other users (inr e) = subst (λ (n : ℕ). P n other) e.0 (subst (λ (b : List ℕ). P (given s) b) e.1 (new (ap (λ (b : List ℕ). service_indicator b == 0) e.1 ∙ users)))
 
-  order_covers : (order : Order) (s t : State) (fate : Fate) → t.settings ≡ s.settings → t.rows ≡ appended s.rows (text order s.settings.sio s.settings.dpc s.settings.opc) fate → Covers s → Covers t
-  order_covers order s t fate settings rows c = covers_appended s t (text order s.settings.sio s.settings.dpc s.settings.opc) fate settings rows
+  order_covers : (order : Order) (s t : State) (fate : Fate) → t.settings ≡ s.settings → t.finished ≡ s.finished → t.rows ≡ appended (given s) s.rows (text s.settings.profile order s.settings.sio s.settings.dpc s.settings.opc) fate → Covers s → Covers t
+  order_covers order s t fate settings left rows c = covers_appended s t (text s.settings.profile order s.settings.sio s.settings.dpc s.settings.opc) fate settings left rows
       (λ users. let own : (s.settings.sio % 16 == 0) ≡ true = eq-eqb (s.settings.sio % 16) 0 c.managed in let no : true ≡ false = sym own ∙ users in absurd cc) c
 
-  moved_covers : (test : Fate → Bool) (fate : Row → Fate) (s t : State) → test given_up ≡ false → t.settings ≡ s.settings → t.rows ≡ moved test fate s.rows → Covers s → Covers t
-  moved_covers test fate s t off settings rows c =
-      covers_kept s t settings (rw rows (moved_numbered test fate s.rows c.numbered)) (λ number. ap (body_at number) rows ∙ body_moved test fate number s.rows c.numbered)
-      (rw rows (moved_stay given_up test off fate s.rows c.numbered)) c
+  moved_covers : (test : Fate → Bool) (fate : Row → Fate) (s t : State) → test given_up ≡ false → t.settings ≡ s.settings → t.finished ≡ s.finished → t.rows ≡ moved test fate s.rows → Covers s → Covers t
+  moved_covers test fate s t off settings left rows c =
+      covers_kept s t settings left (rw rows (moved_length test fate s.rows)) (rw rows (moved_numbered test fate (given s) s.rows c.numbered)) (λ number. ap (body_at number) rows ∙ body_moved test fate (given s) number s.rows c.numbered)
+      (rw rows (moved_stay given_up test off (given s) fate s.rows c.numbered)) c
 
   small : (Known : ℕ → Type 0) (May : Type 0) → KeptBy Known May (λ s t. Covers s → Covers t)
   small Known May = record {
     same = λ s c. c;
     after = λ a b d p q c. q (p c);
     delivers = λ body s c. record { managed = c.managed; numbered = c.numbered; known = c.known; gone = c.gone };
-    queues = λ order s c. order_covers order s _ (fate_on (target s.links)) refl refl c;
-    leaves = λ blind n link s known at c. moved_covers (is_back_to n) _ s (left_by blind n link s) refl refl refl c;
+    queues = λ order s c. order_covers order s (queued order s) (fate_on (target s.links)) refl refl refl c;
+    leaves = λ blind n link s known at c. moved_covers (is_back_to n) _ s (left_by blind n link s) refl refl refl refl c;
     acknowledges = λ count n link s known at few g c.
-        covers_kept s _ refl (g.kept.numbered c.numbered) (g.kept.bodies c.numbered) (turned_stay given_up (is_unacked n) refl (Acked n) count s.rows) c;
+        covers_kept s _ refl refl g.kept.count (g.kept.numbered (given s) c.numbered) (g.kept.bodies (given s) c.numbered) (turned_stay given_up (is_unacked n) refl (Acked n) count s.rows) c;
     gives_up = λ was_sent cause n link s known at g c.
         let off = cond_both was_sent (is_unacked n) (is_waiting n) (λ test. test given_up ≡ false) (λ e. refl) (λ e. refl) in
-        covers_kept s _ refl (g.kept.numbered c.numbered) (g.kept.bodies c.numbered) (changed_stay given_up (cond was_sent (is_unacked n) (is_waiting n)) off (Discarded cause) s.rows) c;
-    moves_off = λ n link s known at c. moved_covers (is_on n) _ s (moved_over n link s) refl refl refl c;
-    declares = λ may home alternative s up can c. order_covers (Cbd home (code_for home alternative)) s (declared home alternative s) (Waiting alternative) refl refl c;
-    releases = λ code s known c. moved_covers (is_back code) _ s (released code s) refl refl refl c;
+        covers_kept s _ refl refl g.kept.count (g.kept.numbered (given s) c.numbered) (g.kept.bodies (given s) c.numbered) (changed_stay given_up (cond was_sent (is_unacked n) (is_waiting n)) off (Discarded cause) s.rows) c;
+    moves_off = λ n link s known at c. moved_covers (is_on n) _ s (moved_over n link s) refl refl refl refl c;
+    declares = λ may home alternative s up can c. order_covers (Cbd home (code_for home alternative)) s (declared home alternative s) (Waiting alternative) refl refl refl c;
+    releases = λ code s known c. moved_covers (is_back code) _ s (released code s) refl refl refl refl c;
   }
 
   sends_covers : (choice : Choice) (n : ℕ) (link : LinkState) (s : State) → Covers s → Covers (sends choice n s link).state
-  sends_covers (again place) n link s c = covers_kept s _ refl c.numbered (λ number. refl) (λ number e. e) c
-  sends_covers fill n link s c = covers_kept s _ refl c.numbered (λ number. refl) (λ number e. e) c
-  sends_covers first n link s c = let k = (sent n s.rows).kept in covers_kept s _ refl (k.numbered c.numbered) (k.bodies c.numbered) (turned_stay given_up (is_waiting n) refl (Unacked n) 1 s.rows) c
+  sends_covers (again place) n link s c = covers_kept s _ refl refl refl c.numbered (λ number. refl) (λ number e. e) c
+  sends_covers fill n link s c = covers_kept s _ refl refl refl c.numbered (λ number. refl) (λ number e. e) c
+  sends_covers first n link s c = let k = (sent n s.rows).kept in covers_kept s _ refl refl k.count (k.numbered (given s) c.numbered) (k.bodies (given s) c.numbered) (turned_stay given_up (is_waiting n) refl (Unacked n) 1 s.rows) c
 
   -- every event but an offer
   pub covers_on : (s : State) (event : Event) → ((body : List ℕ) → event ≡ Offer body → ⊥) → Covers s → Covers (step s event).state
@@ -113,9 +115,9 @@ module _ (P : ℕ → List ℕ → Type 0) (Q : ℕ → Type 0) where
     offers = λ body e none. absurd (apart body e);
     takes = λ body rest e there. record { managed = c.managed; numbered = c.numbered; known = c.known; gone = c.gone };
     sends = λ n link e at g. sends_covers (choice_of (octets_in (unack n s.rows)) link.control (window_of n link s.rows)) n link s c;
-    hears = λ n unit link e at g.
+    hears = λ n unit link e fits at g.
         let count = (part_of link.control (window_of n link s.rows) (head_of unit) (is_msu unit)).acked in
-        covers_kept s _ refl (g.kept.numbered c.numbered) (g.kept.bodies c.numbered) (turned_stay given_up (is_unacked n) refl (Acked n) count s.rows) c;
+        covers_kept s _ refl refl g.kept.count (g.kept.numbered (given s) c.numbered) (g.kept.bodies (given s) c.numbered) (turned_stay given_up (is_unacked n) refl (Acked n) count s.rows) c;
     rises = λ n link e at u.
-        covers_kept s _ refl (u.kept.numbered c.numbered) (u.kept.bodies c.numbered) (moved_stay given_up is_parked refl (all_with (Waiting n)) s.rows c.numbered) c;
+        covers_kept s _ refl refl u.kept.count (u.kept.numbered (given s) c.numbered) (u.kept.bodies (given s) c.numbered) (moved_stay given_up is_parked refl (given s) (all_with (Waiting n)) s.rows c.numbered) c;
   })

@@ -2,6 +2,7 @@ pub mod Acting
 pub mod Arrived
 pub mod Blindly
 pub mod Codes
+pub mod Counting
 pub mod Declared
 pub mod Declaring
 pub mod Filtered
@@ -19,4 +20,5 @@ pub mod Risen
 pub mod Rising
 pub mod Runs
 pub mod Settled
+pub mod Telling
 pub mod Turned

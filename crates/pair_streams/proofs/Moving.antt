@@ -5,7 +5,7 @@ use Rattle.set_route.specs.declared.place.Place.{Place}
 use Rattle.set_route.specs.declared.place.Place.TheVariants.{On, Changing, Nowhere}
 use Rattle.set_route.specs.Routing.{place_of, code_of, has_messages}
 use Rattle.set_model.specs.Rows.{is_on, is_back, is_parked, standing, parked, appended}
-use Rattle.set_model.specs.State.{State}
+use Rattle.set_model.specs.State.{given, State}
 use Rattle.set_model.proofs.Events.{appended_in, appended_out}
 use Rattle.pair_model.specs.Run.{Message, messages}
 use Rattle.pair_changeover.specs.Pending.{pending, aside, acked_on, accepted_on}
@@ -85,26 +85,26 @@ grows_among z b old new (grown e q) m a = go (among_joined m old (z ∷ []) (sub
     go (inr (inl same)) = inr (same, e)
     go (inr (inr x)) = absurd x
 
-module _ (s t f : State) (body : List ℕ) (fate : Fate) (rows : t.rows ≡ appended s.rows body fate) (links : t.links ≡ s.links) (new : (l : ℕ) → IsNew (accepted_on l f - acked_on l s) l s.rows body fate) where
+module _ (s t f : State) (body : List ℕ) (fate : Fate) (rows : t.rows ≡ appended (given s) s.rows body fate) (links : t.links ≡ s.links) (new : (l : ℕ) → IsNew (accepted_on l f - acked_on l s) l (given s) s.rows body fate) where
   abbrev pub z : Message
-  z = new_message s.rows body
+  z = new_message (given s) body
 
   pub grows_on : (l : ℕ) → Grows z (is_on l fate) (pending l s f) (pending l t f)
-  grows_on l = subst (λ (q : List Message). Grows z (is_on l fate) (pending l s f) q) (rw (rows, links) refl) (grows (accepted_on l f - acked_on l s) l s.rows body fate (new l))
+  grows_on l = subst (λ (q : List Message). Grows z (is_on l fate) (pending l s f) q) (rw (rows, links) refl) (grows (accepted_on l f - acked_on l s) l (given s) s.rows body fate (new l))
 
   pub grows_aside : Grows z (is_parked fate) (aside s) (aside t)
   grows_aside = subst (λ (q : List Message). Grows z (is_parked fate) (aside s) q) (rw rows refl) (go (is_parked fate) refl)
     where
-      go : (b : Bool) → is_parked fate ≡ b → Grows z (is_parked fate) (aside s) (messages (parked (appended s.rows body fate)))
-      go true e = grown e (aside_joins 0 0 s.rows body fate e)
-      go false e = ungrown e (aside_apart 0 0 s.rows body fate e)
+      go : (b : Bool) → is_parked fate ≡ b → Grows z (is_parked fate) (aside s) (messages (parked (appended (given s) s.rows body fate)))
+      go true e = grown e (aside_joins 0 0 (given s) s.rows body fate e)
+      go false e = ungrown e (aside_apart 0 0 (given s) s.rows body fate e)
 
   pub grows_back : (c : ℕ) → Grows z (is_back c fate) (back_by c s) (back_by c t)
   grows_back c = subst (λ (q : List Message). Grows z (is_back c fate) (back_by c s) q) (rw rows refl) (go (is_back c fate) refl)
     where
-      go : (b : Bool) → is_back c fate ≡ b → Grows z (is_back c fate) (back_by c s) (messages (standing (is_back c) (appended s.rows body fate)))
-      go true e = grown e (ap messages (appended_in s.rows body fate (is_back c) e) ∙ joined (standing (is_back c) s.rows) _)
-      go false e = ungrown e (ap messages (appended_out s.rows body fate (is_back c) e))
+      go : (b : Bool) → is_back c fate ≡ b → Grows z (is_back c fate) (back_by c s) (messages (standing (is_back c) (appended (given s) s.rows body fate)))
+      go true e = grown e (ap messages (appended_in (given s) s.rows body fate (is_back c) e) ∙ joined (standing (is_back c) s.rows) _)
+      go false e = ungrown e (ap messages (appended_out (given s) s.rows body fate (is_back c) e))
 
   pub in_new : (m : Message) → In m (view t f) → In m (view s f) ⊎ (m ≡ z)
   in_new m (stands_on l a) = go (grows_among z (is_on l fate) (pending l s f) (pending l t f) (grows_on l) m a)

@@ -4,7 +4,7 @@ use Rattle.std.proofs.lemmas.Bool.{eqb-true}
 use Rattle.std.proofs.lemmas.List.{append-nil}
 use Rattle.l3_orders.specs.declared.order.Order.{Order}
 use Rattle.l3_orders.specs.declared.order.Order.TheVariants.{Cbd}
-use Rattle.l3_orders.specs.Grammar.{order_of}
+use Rattle.l3_orders.specs.Grammar.{order_any}
 use Rattle.set_events.specs.declared.answer.Fate.{Fate}
 use Rattle.set_events.specs.declared.answer.Fate.TheVariants.{Waiting, Unacked, Acked, Held, Parked, Back, Discarded}
 use Rattle.set_route.specs.declared.place.Place.{Place}
@@ -78,10 +78,10 @@ module _ (code : ℕ) (s f : State) (sound : IsSound s) where
     queues : (l : ℕ) → pending l gone f ≡ pending l s f ++ adds l
     queues = releases_queues code s f sound up
 
-    users_added : (l : ℕ) (m : Message) → Among m (adds l) → order_of m.body ≡ None
+    users_added : (l : ℕ) (m : Message) → Among m (adds l) → order_any m.body ≡ None
     users_added l m a = gained_users (is_back code) (all_with (Waiting to_home)) (code_back code) s.rows (unsent_home code s f sound) s.routing sound.backs l m a
 
-    users_parked : (m : Message) → Among m (messages (parked rows_turned)) → order_of m.body ≡ None
+    users_parked : (m : Message) → Among m (messages (parked rows_turned)) → order_any m.body ≡ None
     users_parked m a = turned_users (is_back code) (all_with (Waiting to_home)) (code_back code) s.routing is_parked s.rows sound.backs m a
 
   -- where it isn't, nothing changes
@@ -95,7 +95,7 @@ module _ (code : ℕ) (s f : State) (sound : IsSound s) where
   aside_stays down = rw (rows_same down) refl
 
   -- no order comes to stand there
-  pub gone_orders : (order : Order) (m : Message) → In m (view gone f) → order_of m.body ≡ Some order → In m (view s f)
+  pub gone_orders : (order : Order) (m : Message) → In m (view gone f) → order_any m.body ≡ Some order → In m (view s f)
   gone_orders order m i is = go (is_up to_home s) refl
     where
       go : (b : Bool) → is_up to_home s ≡ b → In m (view s f)

@@ -22,7 +22,7 @@ use Rattle.set_route.specs.Routing.{place_of}
 use Rattle.set_model.specs.declared.phase.Phase.TheVariants.{Up}
 use Rattle.set_model.specs.Rows.{Row, is_unacked, is_waiting, is_held, is_parked, standing, unack, wait, held, parked, place, body_at, row_of, service_indicator, stream_of, is_back, stands_back}
 use Rattle.set_model.specs.Sound.{IsAsked}
-use Rattle.set_model.specs.State.{LinkState, State, Settings, is_up, is_settled, link_count, opened_with, settings_of}
+use Rattle.set_model.specs.State.{given, LinkState, State, Settings, is_up, is_settled, link_count, opened_with, settings_of}
 use Rattle.set_model.specs.Step.{Outcome as SetOutcome, step}
 use Rattle.set_model.proofs.Rows.{row_in_filter}
 use Rattle.set_model.proofs.Soundness.{opened_sound, opened_new}
@@ -78,7 +78,7 @@ module _ (stream : ℕ) (low : stream < 16) (s f : State) (near far : Past) (los
   module _ (link : ℕ) (m : Message) (placed : place m.number s.rows ≡ Some (Acked link)) where
     acked_in : (test : Fate → Bool) → test (Acked link) ≡ false → (at : ℕ) (row : Row) → slice_get (standing test s.rows) at ≡ Some row → m.number ≡ row.number → ⊥
     acked_in test off at row there number =
-        let row_is : row_of m.number s.rows ≡ Some row = row_in_filter (λ (r : Row). test r.fate) s.rows at m.number row covers.numbered there (sym number) in
+        let row_is : row_of m.number s.rows ≡ Some row = row_in_filter (given s) (λ (r : Row). test r.fate) s.rows at m.number row covers.numbered there (sym number) in
         let fate : Some row.fate ≡ Some (Acked link) = ap (option_map (λ (r : Row). r.fate)) (sym row_is) ∙ placed in
         let is : row.fate ≡ Acked link = cc in
         let no : true ≡ false = sym (filtered (λ (r : Row). test r.fate) s.rows at row there) ∙ ap test is ∙ off in
@@ -142,7 +142,7 @@ module _ (stream : ℕ) (low : stream < 16) (s f : State) (near far : Past) (los
   part_of = part_first (far.got stream) (here stream s f) (near.offered stream) (mixed_part (far.got stream ++ here stream s f) (lost stream) (near.offered stream) (w.flow stream low))
 
   once_each : RiseFrom 0 (far.got stream)
-  once_each = rise_part 0 0 (far.got stream) (near.offered stream) (length s.rows) (omega arith) part_of (rising stream)
+  once_each = rise_part 0 0 (far.got stream) (near.offered stream) (given s) (omega arith) part_of (rising stream)
 
   -- where nothing is lost
   pub arrives_so : lost stream ≡ [] → Arrives stream near far s f
@@ -173,7 +173,7 @@ module _ (stream : ℕ) (low : stream < 16) (s f : State) (near far : Past) (los
           go (inr a) = inr (covers.gone m.number (stream, m, a, refl))
 
 -- EACH STEP
-is_safe_honest : (emergencies : Bool) (step : Step) → IsSafe emergencies step → IsHonestStep step
+pub is_safe_honest : (emergencies : Bool) (step : Step) → IsSafe emergencies step → IsHonestStep step
 is_safe_honest false step safe = is_honest step safe
 is_safe_honest true (Act end event) safe = tt
 is_safe_honest true (Emit end k) safe = tt
@@ -203,7 +203,7 @@ on_lines p out back v = record {
 }
 
 module _ (emergencies : Bool) (ma mb : Method) (one : IsOneMethod ma mb) where
-  abbrev Keeps : Stage → Step → Outcome → Type 0
+  abbrev pub Keeps : Stage → Step → Outcome → Type 0
   Keeps g step outcome = OnShows outcome (λ shown new. Streams emergencies (seen A (passed g step shown new)))
 
   module _ (g : Stage) (h : Holds ma mb one g) (v : Streams emergencies (seen A g)) where
@@ -351,7 +351,7 @@ module _ (emergencies : Bool) (ma mb : Method) (one : IsOneMethod ma mb) where
     done_keeps (Together k) safe asked = together_keeps k
     done_keeps (Inject end k unit) safe asked = absurd (no_injection emergencies end k unit safe)
 
-  step_keeps : (g : Stage) → Holds ma mb one g → Streams emergencies (seen A g) → (step : Step) → IsSafe emergencies step → IsAskedStep step → Keeps g step (carried_out g.world step)
+  pub step_keeps : (g : Stage) → Holds ma mb one g → Streams emergencies (seen A g) → (step : Step) → IsSafe emergencies step → IsAskedStep step → Keeps g step (carried_out g.world step)
   unfolding carried_out
   step_keeps g h v step safe asked = done_keeps g h v step safe asked
 
@@ -426,7 +426,7 @@ first_covers config = record {
   gone = λ number q. absurd q.2;
 }
 
-first_streams : (emergencies : Bool) (a b : SetConfig) → Streams emergencies (seen A (begun a b))
+pub first_streams : (emergencies : Bool) (a b : SetConfig) → Streams emergencies (seen A (begun a b))
 first_streams emergencies a b = record {
   ordered = record {
     both = record { near = first_orders (settings_of a) (settings_of b); far = first_orders (settings_of b) (settings_of a) };
@@ -446,7 +446,7 @@ first_streams emergencies a b = record {
 }
 
 pub every_sound_run : (a b : SetConfig) (steps : List Step) → AreSteps IsAskedStep steps → IsSoundRun a b steps → HoldsAlong StreamsArrive (begun a b) steps
-every_sound_run a b steps asked sound = along false a.method b.method sound.one_method StreamsArrive streams_arrive (begun a b) (at_first a b sound.links) (first_streams false a b) steps sound.steps asked
+every_sound_run a b steps asked sound = along false a.method b.method sound.one_method StreamsArrive streams_arrive (begun a b) (at_first a b sound.links sound.profiles) (first_streams false a b) steps sound.steps asked
 
 pub every_quiet_run : (a b : SetConfig) (steps : List Step) → AreSteps IsAskedStep steps → IsQuietRun a b steps → HoldsAlong PartsArrive (begun a b) steps
-every_quiet_run a b steps asked quiet = along true a.method b.method quiet.one_method PartsArrive parts_arrive (begun a b) (at_first a b quiet.links) (first_streams true a b) steps quiet.steps asked
+every_quiet_run a b steps asked quiet = along true a.method b.method quiet.one_method PartsArrive parts_arrive (begun a b) (at_first a b quiet.links quiet.profiles) (first_streams true a b) steps quiet.steps asked

@@ -3,7 +3,7 @@ use Rattle.std.proofs.Common.{refl, ◌≡◌, ◌∙◌, ap, ap₂, Some, None,
 use Rattle.std.proofs.lemmas.List.{append-nil}
 use Rattle.l3_orders.specs.declared.order.Order.{Order}
 use Rattle.l3_orders.specs.declared.order.Order.TheVariants.{Cbd}
-use Rattle.l3_orders.specs.Grammar.{order_of}
+use Rattle.l3_orders.specs.Grammar.{order_any}
 use Rattle.set_events.specs.declared.answer.Fate.{Fate}
 use Rattle.set_events.specs.declared.answer.Fate.TheVariants.{Waiting, Unacked, Acked, Held, Parked, Back, Discarded}
 use Rattle.set_route.specs.declared.place.Place.{Place}
@@ -40,8 +40,8 @@ turns (Changing to code via) k = to == k
 turns Nowhere k = false
 
 -- users' messages that join queues declare nothing
-module _ (s t f : State) (adds : ℕ → List Message) (adds_aside : List Message) (queues : (l : ℕ) → pending l t f ≡ pending l s f ++ adds l) (aside_is : aside t ≡ aside s ++ adds_aside) (users : (l : ℕ) (m : Message) → Among m (adds l) → order_of m.body ≡ None) (users_aside : (m : Message) → Among m adds_aside → order_of m.body ≡ None) where
-  pub added_order : (order : Order) (m : Message) → In m (view t f) → order_of m.body ≡ Some order → In m (view s f)
+module _ (s t f : State) (adds : ℕ → List Message) (adds_aside : List Message) (queues : (l : ℕ) → pending l t f ≡ pending l s f ++ adds l) (aside_is : aside t ≡ aside s ++ adds_aside) (users : (l : ℕ) (m : Message) → Among m (adds l) → order_any m.body ≡ None) (users_aside : (m : Message) → Among m adds_aside → order_any m.body ≡ None) where
+  pub added_order : (order : Order) (m : Message) → In m (view t f) → order_any m.body ≡ Some order → In m (view s f)
   added_order order m (stands_on l a) is = go (among_joined m (pending l s f) (adds l) (subst (Among m) (queues l) a))
     where
       go : Among m (pending l s f) ⊎ Among m (adds l) → In m (view s f)
@@ -212,14 +212,14 @@ module _ (blind : Bool) (k : ℕ) (link : LinkState) (s f : State) (sound : IsSo
         not_both Parked e h = refl
         not_both (Discarded cause) e h = refl
 
-  users_added : (l : ℕ) (m : Message) → Among m (adds l) → order_of m.body ≡ None
+  users_added : (l : ℕ) (m : Message) → Among m (adds l) → order_any m.body ≡ None
   users_added l m a = gained_users (is_back_to k) goes (home_back k) s.rows (unsent blind k link s f sound at) s.routing sound.backs l m a
 
-  users_parked : (m : Message) → Among m (messages (parked rows_turned)) → order_of m.body ≡ None
+  users_parked : (m : Message) → Among m (messages (parked rows_turned)) → order_any m.body ≡ None
   users_parked m a = turned_users (is_back_to k) goes (home_back k) s.routing is_parked s.rows sound.backs m a
 
   -- no order comes to stand there
-  pub left_orders : (order : Order) (m : Message) → In m (view left f) → order_of m.body ≡ Some order → In m (view s f)
+  pub left_orders : (order : Order) (m : Message) → In m (view left f) → order_any m.body ≡ Some order → In m (view s f)
   left_orders = added_order s left f adds (messages (parked rows_turned)) (leaves_queues blind k link s f sound at) (leaves_aside blind k link s f sound at) users_added users_parked
 
   module _ (offered got lost : ℕ → List Message) (w : Flows s f offered got lost) where

@@ -4,10 +4,11 @@ use Rattle.set_events.specs.declared.answer.Fate.TheVariants.{Acked, Discarded}
 use Rattle.set_events.specs.declared.answer.DiscardCause.TheVariants.{Emergency}
 use Rattle.set_events.specs.declared.config.SetConfig.{SetConfig}
 use Rattle.set_model.specs.Rows.{stream_of, service_indicator, place, body_at}
-use Rattle.set_model.specs.State.{State}
+use Rattle.set_model.specs.State.{LinkState, State}
 use Rattle.world_steps.specs.declared.step.Step.{Step}
 use Rattle.pair_model.specs.Promises.{IsAskedStep, AreSteps, IsSoundRun, IsQuietRun}
-use Rattle.pair_model.specs.Run.{Message, Past, Stage, begun, HoldsAlong}
+use Rattle.pair_model.specs.Run.{Message, Past, Stage, begun, HoldsAlong, HoldsAtEach}
+use Rattle.pair_changeover.specs.Diverted.{OrdersTell}
 use Rattle.pair_changeover.specs.Pending.{pending, aside, kept_back}
 
 -- a user's message of the stream, and all such in a list
@@ -83,3 +84,26 @@ abbrev pub EveryQuietRunKeepsOrder : Type 0
 EveryQuietRunKeepsOrder =
     (a b : SetConfig) (steps : List Step) → AreSteps IsAskedStep steps → IsQuietRun a b steps
     → HoldsAlong PartsArrive (begun a b) steps
+
+-- in emergencies too the number of an order that is heard about a link that hasn't settled isn't unreasonable: it's that
+-- of the last message that its end accepted there
+abbrev pub NumbersTell : Stage → List Step → Type 0
+NumbersTell g steps = HoldsAtEach (λ before step shown after. OrdersTell before step shown) g steps
+
+abbrev pub EveryQuietRunTellsNumbers : Type 0
+EveryQuietRunTellsNumbers =
+    (a b : SetConfig) (steps : List Step) → AreSteps IsAskedStep steps → IsQuietRun a b steps
+    → NumbersTell (begun a b) steps
+
+-- and of each link, settled or not, what counts as acknowledged was accepted
+abbrev pub AreTaken : State → Past → Type 0
+AreTaken s far =
+    (link : ℕ) (state : LinkState) → slice_get s.links link ≡ Some state → state.acked ≤ length (far.taken link)
+
+abbrev pub AckedAreTaken : Stage → Type 0
+AckedAreTaken g = AreTaken g.world.a.state g.b × AreTaken g.world.b.state g.a
+
+abbrev pub EveryQuietRunAcksTheTaken : Type 0
+EveryQuietRunAcksTheTaken =
+    (a b : SetConfig) (steps : List Step) → AreSteps IsAskedStep steps → IsQuietRun a b steps
+    → HoldsAlong AckedAreTaken (begun a b) steps

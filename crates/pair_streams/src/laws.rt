@@ -1,6 +1,6 @@
 //! The laws of streams, over definitions alone.
 ghost use Rattle.pair_streams.specs.Handed.{EveryHistoryHandsOutInOrder, EveryHonestRunHandsOutAll, EverySoundRunHandsOutInOrder, EveryQuietRunHandsOutAPart};
-ghost use Rattle.pair_streams.specs.Streams.{EverySoundRunKeepsStreams, EveryQuietRunKeepsOrder};
+ghost use Rattle.pair_streams.specs.Streams.{EverySoundRunKeepsStreams, EveryQuietRunAcksTheTaken, EveryQuietRunKeepsOrder, EveryQuietRunTellsNumbers};
 
 /// In every sound run, after every step of it, for each of the 16 streams and in both directions: what the far
 /// end's users got is a prefix of what was offered here, numbers and octets, no number twice, and holds each message of
@@ -40,4 +40,16 @@ pub fn every_sound_run_hands_out_in_order()
 /// users took are those of some of the messages that were offered here, in their order.
 pub fn every_quiet_run_hands_out_a_part()
     ensures { EveryQuietRunHandsOutAPart }
+{}
+
+/// In every quiet run, at every step of it: the number of an order that is heard about a link that hasn't settled
+/// isn't unreasonable: it's that of the last message that its end accepted there (Q.704 5.4, 5.6).
+pub fn every_quiet_run_tells_numbers()
+    ensures { EveryQuietRunTellsNumbers }
+{}
+
+/// In every quiet run, after every step of it, at both ends: of each link, settled or not, what counts as acknowledged
+/// was accepted by the far end.
+pub fn every_quiet_run_acks_the_taken()
+    ensures { EveryQuietRunAcksTheTaken }
 {}

@@ -10,6 +10,7 @@ mod laws;
 
 pub use laws::{
     every_history_hands_out_in_order, every_honest_run_hands_out_all,
-    every_quiet_run_hands_out_a_part, every_quiet_run_keeps_order,
-    every_sound_run_hands_out_in_order, every_sound_run_keeps_streams,
+    every_quiet_run_acks_the_taken, every_quiet_run_hands_out_a_part, every_quiet_run_keeps_order,
+    every_quiet_run_tells_numbers, every_sound_run_hands_out_in_order,
+    every_sound_run_keeps_streams,
 };

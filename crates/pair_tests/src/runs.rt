@@ -163,6 +163,67 @@ fn one_link_against_two(rt: HostRuntime) -> Result<(), Fail> {
     holds(first && fails(rt.alloc(), [2, 1], &[], PlayFault::Links))
 }
 
+/// An end of the wide profile.
+fn wide_end_of(links: u8, own: u16, far: u16) -> Option<SetConfig> {
+    SetConfig::new_wide(0, links, own, far, 0x80, Method::Basic).ok()
+}
+
+/// The fault in which a run of no steps ends, where end a alone is of the wide profile.
+fn ends_unlike(alloc: Global, links: [u8; 2]) -> Option<PlayFault> {
+    let a = wide_end_of(links[0], 2, 1)?;
+    let b = end_of(links[1], 1, 2)?;
+    let ended = World::play(alloc, &a, &b, &[]);
+    fault_of(&ended)
+}
+
+/// The fault that is told instead of a new world, where end b alone is of the wide profile.
+fn begins_unlike(alloc: Global, links: [u8; 2]) -> Option<PlayFault> {
+    let a = end_of(links[0], 2, 1)?;
+    let b = wide_end_of(links[1], 1, 2)?;
+    let made = World::new(alloc, &a, &b);
+    fault_of(&made)
+}
+
+fn fault_of(ended: &Result<World, PlayFault>) -> Option<PlayFault> {
+    match ended {
+        Ok(_) => None,
+        Err(fault) => Some(*fault),
+    }
+}
+
+#[test]
+fn two_ends_have_one_profile(rt: HostRuntime) -> Result<(), Fail> {
+    let played = ends_unlike(rt.alloc(), [1, 1]) == Some(PlayFault::Profile);
+    let made = begins_unlike(rt.alloc(), [1, 1]) == Some(PlayFault::Profile);
+    let links = ends_unlike(rt.alloc(), [1, 2]) == Some(PlayFault::Links);
+    let new_links = begins_unlike(rt.alloc(), [2, 1]) == Some(PlayFault::Links);
+    holds(played && made && links && new_links && PlayFault::Profile.number() == 5)
+}
+
+/// A run of these steps from two ends of the wide profile leads to a world that is so.
+fn leads_wide(alloc: Global, lines: &[&str], fates: &[Fate]) -> Option<bool> {
+    let mut steps = Vec::new(alloc);
+    let read = add_steps(alloc, lines, &mut steps);
+    let a = wide_end_of(1, 2, 1)?;
+    let b = wide_end_of(1, 1, 2)?;
+    let ended = World::play(alloc, &a, &b, &steps);
+    Some(read && told_of(&ended, fates, &[true]) == Ok(true))
+}
+
+#[test]
+fn a_message_goes_between_wide_ends(rt: HostRuntime) -> Result<(), Fail> {
+    let lines = [
+        "together 0",
+        "offer a 8501800030",
+        "emit a 0",
+        "arrive b 0",
+        "emit b 0",
+        "arrive a 0",
+    ];
+    let fates = [Fate::Acked { link: 0 }];
+    holds(leads_wide(rt.alloc(), &lines, &fates) == Some(true))
+}
+
 #[test]
 fn no_steps_leave_two_new_ends(rt: HostRuntime) -> Result<(), Fail> {
     holds(leads(rt.alloc(), 2, &[], &[], &[false, false]))

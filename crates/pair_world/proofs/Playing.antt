@@ -5,7 +5,7 @@ use Rattle.world_steps.specs.declared.step.Step.{Step}
 use Rattle.pair_model.specs.World.{World}
 use Rattle.pair_model.specs.Run.{leads_to, played_from}
 use Rattle.pair_world.specs.declared.fault.PlayFault.{PlayFault}
-use Rattle.pair_world.specs.declared.fault.PlayFault.TheVariants.{NoMemory, Impossible, Exhausted, Links}
+use Rattle.pair_world.specs.declared.fault.PlayFault.TheVariants.{NoMemory, Impossible, Exhausted, Links, Profile}
 use Rattle.pair_world.specs.Carried.{IsBegun, FailsAlong, played, LeadsTo, FailsToPlay}
 
 -- what is left of the steps completes the run
@@ -18,10 +18,11 @@ module _ (a b : SetConfig) (steps : List Step) (start : World) (is : IsBegun a b
   same = ap (λ (w : World). played_from 0 w steps) (sym is.world_is)
 
   pub leads : (world : World) → played_from 0 start steps ≡ leads_to world → LeadsTo a b steps world
-  leads world e = record { links = is.links; world_is = same ∙ e }
+  leads world e = record { pair = is.pair; world_is = same ∙ e }
 
   pub fails : (fault : PlayFault) → FailsAlong fault (played_from 0 start steps) → FailsToPlay fault a b steps
-  fails NoMemory f = is.links
-  fails (Impossible place) f = (is.links, same ∙ f)
-  fails Exhausted f = (is.links, (f.0, same ∙ f.1))
+  fails NoMemory f = is.pair
+  fails (Impossible place) f = (is.pair, same ∙ f)
+  fails Exhausted f = (is.pair, (f.0, same ∙ f.1))
   fails Links f = absurd f
+  fails Profile f = absurd f

@@ -1,5 +1,6 @@
 -- Steps of the world.
-use Rattle.std.proofs.Common.{◌≡◌, ◌∙◌, ap, sym, ℕ, true, List, [], ◌∷◌, Some, slice_get, Result, Ok, Err, OnOk, OnErr}
+use Rattle.std.proofs.Common.{refl, ◌≡◌, ◌∙◌, ◌⊎◌, ◌||◌, inl, inr, ap, subst, sym, ℕ, Bool, true, false, List, [], ◌∷◌, Some, slice_get, Result, Ok, Err, OnOk, OnErr}
+use Rattle.std.specs.Result.{IsErrAnd}
 use Rattle.l2_units.specs.declared.unit.Unit.{Unit as SignalUnit}
 use Rattle.link_lines.specs.Lines.{without}
 use Rattle.set_events.specs.declared.event.Event.{Event}
@@ -8,11 +9,14 @@ use Rattle.set_events.specs.declared.event.Actor.{Actor}
 use Rattle.set_model.specs.History.{LinkSet, IsStep}
 use Rattle.set_model.specs.State.{State, link_count}
 use Rattle.set_events.specs.declared.fault.SetFault.{SetFault}
+use Rattle.set_events.specs.declared.fault.SetFault.TheVariants.{NoMemory as SetNoMemory, Exhausted as SetExhausted}
 use Rattle.set_model.proofs.Walk.{link_count_stays}
 use Rattle.std.proofs.lemmas.Option.{same_Some}
 use Rattle.world_steps.specs.declared.step.End.{End}
-use Rattle.pair_model.specs.World.{World, has_link, with_line, line_to, reaches, front_arrives, arrives}
-use Rattle.pair_world.specs.Carried.{LeavesTo}
+use Rattle.world_steps.specs.declared.step.Shown.{Shown}
+use Rattle.pair_model.specs.World.{World, exhausted, is_full, at_end, actor_of, acts, has_actor, has_link, is_settled_at_both, rises, with_line, line_to, reaches, front_arrives, arrives}
+use Rattle.pair_world.specs.declared.fault.PlayFault.{PlayFault}
+use Rattle.pair_world.specs.Carried.{Fails, FailsAt, IsCarriedOut, LeavesTo, PlayFaultOf}
 
 -- An event changes no number of links.
 pub kept_by : (result : Result (Unit {0}) SetFault) (old new : LinkSet) (who : Actor) (event : Event) (answer : Answer)
@@ -37,3 +41,30 @@ pub arrives_so : (w mid : World) (end : End) (link : ℕ) (unit : SignalUnit)
 arrives_so w mid end link unit known taken =
     rw known (front w end link (line_to w end link) unit taken.there
     ∙ ap (λ (v : World). reaches v end link unit) (sym taken.rest_is))
+
+-- A set that made no step, since memory was wanted or its history is full.
+
+pub act_fails : (result : Result (Unit {0}) PlayFault) (fault : SetFault) (w : World) (end : End) (event : Event) (shown : Shown) (new : World)
+    → IsErrAnd result (λ told. PlayFaultOf fault told) → has_actor w (actor_of event) ≡ true → FailsAt fault (at_end w end)
+    → IsCarriedOut result (acts w end event) shown new
+act_fails (Ok done) fault w end event shown new is known fails = absurd is
+act_fails (Err told) SetNoMemory w end event shown new is known fails = subst (λ f. Fails f (acts w end event)) (sym is) tt
+act_fails (Err told) SetExhausted w end event shown new is known fails =
+    let full : acts w end event ≡ exhausted = rw (known, fails) refl in subst (λ f. Fails f (acts w end event)) (sym is) full
+
+-- the same of a link that comes up, at either end
+pub rise_fails : (result : Result (Unit {0}) PlayFault) (fault : SetFault) (w : World) (link : ℕ) (shown : Shown) (new : World)
+    → IsErrAnd result (λ told. PlayFaultOf fault told) → has_link w link ≡ true → is_settled_at_both w link ≡ true
+    → (FailsAt fault w.a ⊎ FailsAt fault w.b) → IsCarriedOut result (rises w link) shown new
+rise_fails (Ok done) fault w link shown new is known settled fails = absurd is
+rise_fails (Err told) SetNoMemory w link shown new is known settled fails = subst (λ f. Fails f (rises w link)) (sym is) tt
+rise_fails (Err told) SetExhausted w link shown new is known settled fails = subst (λ f. Fails f (rises w link)) (sym is) (by fails)
+  where
+    either : (a b : Bool) → (a ≡ true) ⊎ (b ≡ true) → (a || b) ≡ true
+    either true b e = refl
+    either false true e = refl
+    either false false (inl e) = e
+    either false false (inr e) = e
+
+    by : FailsAt SetExhausted w.a ⊎ FailsAt SetExhausted w.b → rises w link ≡ exhausted
+    by fails = rw (known, settled, either (is_full w.a) (is_full w.b) fails) refl

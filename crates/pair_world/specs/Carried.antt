@@ -8,7 +8,7 @@ use Rattle.set_events.specs.declared.fault.SetFault.{SetFault}
 use Rattle.set_events.specs.declared.fault.SetFault.TheVariants.{NoMemory as SetNoMemory, Exhausted as SetExhausted}
 use Rattle.l2_units.specs.declared.unit.Unit.{Unit as SignalUnit}
 use Rattle.pair_world.specs.declared.fault.PlayFault.{PlayFault}
-use Rattle.pair_world.specs.declared.fault.PlayFault.TheVariants.{NoMemory, Impossible, Exhausted, Links}
+use Rattle.pair_world.specs.declared.fault.PlayFault.TheVariants.{NoMemory, Impossible, Exhausted, Links, Profile}
 use Rattle.world_steps.specs.declared.step.End.{End}
 use Rattle.world_steps.specs.declared.step.Shown.{Shown}
 use Rattle.world_steps.specs.declared.step.Shown.TheVariants.{Answered, Up, Lost}
@@ -25,18 +25,25 @@ fault_number NoMemory = 1
 fault_number (Impossible place) = 2
 fault_number Exhausted = 3
 fault_number Links = 4
+fault_number Profile = 5
+
+-- the two ends have as many links, and one profile
+pub record ArePair (a b : SetConfig) : Type 0 where
+  pub links : a.links ≡ b.links
+  pub profiles : a.profile ≡ b.profile
 
 -- a world of these configurations: both ends are new, and nothing is under way
 pub record IsBegun (a b : SetConfig) (world : World) : Type 0 where
-  pub links : a.links ≡ b.links
+  pub pair : ArePair a b
   pub world_is : world ≡ world_of (new_set a) (new_set b)
 
--- why there is none
+-- why there is none: the links are tested first, then the profiles
 abbrev pub FailsToBegin : PlayFault → SetConfig → SetConfig → Type 0
-FailsToBegin NoMemory a b = a.links ≡ b.links
+FailsToBegin NoMemory a b = ArePair a b
 FailsToBegin (Impossible place) a b = ⊥
 FailsToBegin Exhausted a b = ⊥
 FailsToBegin Links a b = a.links ≢ b.links
+FailsToBegin Profile a b = (a.links ≡ b.links) × (a.profile ≢ b.profile)
 
 -- the fault of a step says what the definition says, unless memory was wanted
 abbrev pub Fails : PlayFault → Outcome → Type 0
@@ -44,6 +51,7 @@ Fails NoMemory outcome = Unit {0}
 Fails (Impossible place) outcome = (place ≡ 0) × (outcome ≡ impossible)
 Fails Exhausted outcome = outcome ≡ exhausted
 Fails Links outcome = ⊥
+Fails Profile outcome = ⊥
 
 -- what is shown then, and the world
 abbrev pub IsCarriedOut : Result (Unit {0}) PlayFault → Outcome → Shown → World → Type 0
@@ -61,6 +69,7 @@ fault_at place NoMemory = NoMemory
 fault_at place (Impossible step) = Impossible place
 fault_at place Exhausted = Exhausted
 fault_at place Links = Links
+fault_at place Profile = Profile
 
 -- what steps led to, one after another, says what the definition says, unless memory was wanted
 abbrev pub FailsAlong : PlayFault → Played → Type 0
@@ -68,6 +77,7 @@ FailsAlong NoMemory outcome = Unit {0}
 FailsAlong (Impossible place) outcome = outcome ≡ stops_at place
 FailsAlong Exhausted outcome = (place : ℕ) × (outcome ≡ is_full_at place)
 FailsAlong Links outcome = ⊥
+FailsAlong Profile outcome = ⊥
 
 abbrev pub AreCarriedOut : Result (Unit {0}) PlayFault → Played → World → Type 0
 AreCarriedOut result outcome new =
@@ -78,15 +88,16 @@ abbrev pub played : SetConfig → SetConfig → List Step → Played
 played a b steps = played_from 0 (begun a b).world steps
 
 pub record LeadsTo (a b : SetConfig) (steps : List Step) (world : World) : Type 0 where
-  pub links : a.links ≡ b.links
+  pub pair : ArePair a b
   pub world_is : played a b steps ≡ leads_to world
 
--- why it leads to no world: the links are tested first, then step by step
+-- why it leads to no world: the links are tested first, then the profiles, then step by step
 abbrev pub FailsToPlay : PlayFault → SetConfig → SetConfig → List Step → Type 0
-FailsToPlay NoMemory a b steps = a.links ≡ b.links
-FailsToPlay (Impossible place) a b steps = (a.links ≡ b.links) × (played a b steps ≡ stops_at place)
-FailsToPlay Exhausted a b steps = (a.links ≡ b.links) × ((place : ℕ) × (played a b steps ≡ is_full_at place))
+FailsToPlay NoMemory a b steps = ArePair a b
+FailsToPlay (Impossible place) a b steps = ArePair a b × (played a b steps ≡ stops_at place)
+FailsToPlay Exhausted a b steps = ArePair a b × ((place : ℕ) × (played a b steps ≡ is_full_at place))
 FailsToPlay Links a b steps = a.links ≢ b.links
+FailsToPlay Profile a b steps = (a.links ≡ b.links) × (a.profile ≢ b.profile)
 
 abbrev pub IsPlayed : Result World PlayFault → SetConfig → SetConfig → List Step → Type 0
 IsPlayed result a b steps =

@@ -22,6 +22,9 @@ pub enum PlayFault {
     /// 4: the two ends haven't as many links.
     #[error("the ends have different links")]
     Links,
+    /// 5: the two ends haven't one profile.
+    #[error("the ends have different profiles")]
+    Profile,
 }
 
 impl From<SetFault> for PlayFault {
@@ -56,7 +59,7 @@ impl<T: Drop> From<AllocFailed<T>> for PlayFault {
 impl PlayFault {
     ghost use Rattle.pair_world.specs.Carried.{fault_at, fault_number};
 
-    /// The fault's number: 1 memory, 2 impossible, 3 a full history, 4 links.
+    /// The fault's number: 1 memory, 2 impossible, 3 a full history, 4 links, 5 profile.
     pub fn number(self) -> u8
         ensures { result ≡ fault_number self }
     {
@@ -65,6 +68,7 @@ impl PlayFault {
             PlayFault::Impossible { .. } => 2,
             PlayFault::Exhausted => 3,
             PlayFault::Links => 4,
+            PlayFault::Profile => 5,
         }
     }
 

@@ -18,7 +18,7 @@ use std::alloc::Global;
 use std::marker::Model;
 use world_steps::{End, Shown, Step};
 
-/// Two ends with the same links, and the units under way to each on each link, oldest first.
+/// Two ends with the same links and one profile, and the units under way to each on each link, oldest first.
 ///
 /// A set takes some thousands of octets and a world is handed on with each step, so the sets stay where they are.
 #[derive(Drop)]
@@ -45,18 +45,20 @@ impl World {
     ghost use Rattle.std.specs.Prelude.{◌≡◌, ◌<◌, ◌^◌, ◌↔◌, IfErr, IfSome, IsTrue, OnOk, MatchResult, is_some, true};
     ghost use Rattle.set_model.specs.Rows.{total_of};
     ghost use Rattle.set_model.specs.State.{is_up};
-    ghost use Rattle.pair_model.specs.World.{carried_out, done_by, asks, acts, has_actor, with_sent, emits, arrives, loses, has_link, rises, at_end, line_to, counts_at};
+    ghost use Rattle.set_model.specs.History.{new_set};
+    ghost use Rattle.pair_model.specs.World.{world_of, carried_out, done_by, asks, acts, has_actor, with_sent, emits, arrives, loses, has_link, rises, at_end, line_to, counts_at};
     ghost use Rattle.pair_model.specs.Run.{begun, played_from, HoldsAlong};
     ghost use Rattle.pair_model.specs.Promises.{IsHonestRun, IsQuietRun, IsSoundRun, KeepsLinks};
     ghost use Rattle.pair_changeover.specs.Diverted.{ChangesOver};
-    ghost use Rattle.pair_streams.specs.Streams.{PartsArrive, StreamsArrive};
+    ghost use Rattle.pair_streams.specs.Streams.{AckedAreTaken, NumbersTell, PartsArrive, StreamsArrive};
     ghost use Rattle.pair_streams.specs.Arrived.{IsIdle, AllArrived, AllTaken, AllAccounted};
     ghost use Rattle.pair_world.specs.Carried.{IsBegun, FailsToBegin, IsCarriedOut, IsStepped, AreCarriedOut, IsPlayed, IsTakenFrom};
 
     /// The world of these configurations: no messages, no link up, nothing under way.
     ///
-    /// Faults: 4 [`PlayFault::Links`] exactly where the configurations differ in links, tested first;
-    /// 1 [`PlayFault::NoMemory`] only where memory was refused.
+    /// Faults: 4 [`PlayFault::Links`] exactly where the configurations differ in links, tested first; then
+    /// 5 [`PlayFault::Profile`] exactly where they differ in their profile; 1 [`PlayFault::NoMemory`] only where memory was
+    /// refused.
     pub fn new(alloc: Global, a: &SetConfig, b: &SetConfig) -> Result<World, PlayFault>
         ensures { MatchResult result (IsBegun a.now b.now)
             (λ fault. FailsToBegin fault a.now b.now) }
@@ -64,6 +66,18 @@ impl World {
         if a.links != b.links {
             return Err(PlayFault::Links);
         }
+        if a.profile() != b.profile() {
+            return Err(PlayFault::Profile);
+        }
+        World::of_pair(alloc, a, b)
+    }
+
+    /// The world of two configurations with as many links.
+    fn of_pair(alloc: Global, a: &SetConfig, b: &SetConfig) -> Result<World, PlayFault>
+        requires { a.now.links ≡ b.now.links }
+        ensures { MatchResult result (λ world. world ≡ world_of (new_set a.now) (new_set b.now))
+            (λ fault. fault ≡ PlayFault.NoMemory) }
+    {
         let to_a = Lines::new(alloc, a.links)?;
         let to_b = Lines::new(alloc, a.links)?;
         let a = Box::new(alloc, new_end(alloc, a)?)?;
@@ -97,8 +111,8 @@ impl World {
 
     /// The world of these configurations after these steps, one after another.
     ///
-    /// Faults: 4 [`PlayFault::Links`] exactly where the configurations differ in links, tested first, whatever
-    /// the steps are; then 2 [`PlayFault::Impossible`] and 3 [`PlayFault::Exhausted`] exactly where a step is, with
+    /// Faults: 4 [`PlayFault::Links`] exactly where the configurations differ in links, tested first, then
+    /// 5 [`PlayFault::Profile`] exactly where they differ in their profile, whatever the steps are; then 2 [`PlayFault::Impossible`] and 3 [`PlayFault::Exhausted`] exactly where a step is, with
     /// the place of the first one; 1 [`PlayFault::NoMemory`] only where memory was refused.
     ///
     /// Of every honest run, one in which no unit is heard that wasn't sent, it's proved here that each link keeps what
@@ -114,7 +128,10 @@ impl World {
     /// numbers and octets, with each message that is acknowledged. Of every quiet run, in which a link may also be left
     /// blindly, that each stream arrives in part and in order (`PartsArrive`): what the users of an end got is an in-order
     /// part of what the other's users offered, with each message that is acknowledged; what they didn't get was
-    /// discarded in an emergency, once nothing of the stream is under way.
+    /// discarded in an emergency, once nothing of the stream is under way. Of every quiet run too, that of each link,
+    /// settled or not, what counts as acknowledged was accepted (`AckedAreTaken`), and that an order that is heard about
+    /// a link that hasn't settled tells the number of the last message that its end accepted there, so it isn't
+    /// unreasonable (`NumbersTell`).
     pub fn play(
         alloc: Global,
         a: &SetConfig,
@@ -130,6 +147,10 @@ impl World {
             → HoldsAlong StreamsArrive (begun a.now b.now) steps.now }
         ensures parts { IsQuietRun a.now b.now steps.now
             → HoldsAlong PartsArrive (begun a.now b.now) steps.now }
+        ensures numbers { IsQuietRun a.now b.now steps.now
+            → NumbersTell (begun a.now b.now) steps.now }
+        ensures acks { IsQuietRun a.now b.now steps.now
+            → HoldsAlong AckedAreTaken (begun a.now b.now) steps.now }
     {
         are_asked(steps);
         let mut world = World::new(alloc, a, b)?;

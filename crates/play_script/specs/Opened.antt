@@ -1,5 +1,6 @@
 -- What the first line's reader gave, beside the definition.
 use Rattle.std.specs.Prelude.{◌≡◌, ℕ, List, Some}
+use Rattle.l2_units.specs.declared.profile.Profile.TheVariants.{Narrow}
 use Rattle.set_events.specs.declared.config.SetConfig.{SetConfig}
 use Rattle.play_script.specs.declared.opening.SixWords.{SixWords as Words}
 use Rattle.play_script.specs.declared.script.Opening.{Opening}
@@ -16,8 +17,9 @@ six_of w = record {
   sio = w.sio.now;
 }
 
--- an end, set 0, with its own point code and the far end's
+-- an end, set 0, of the narrow profile, with its own point code and the far end's
 pub record IsEnd (values : Values) (own far : ℕ) (config : SetConfig) : Type 0 where
+  pub profile_is : config.profile ≡ Narrow
   pub set_is : config.set ≡ 0
   pub links_is : config.links ≡ values.links
   pub method_is : config.method ≡ values.method

@@ -5,6 +5,7 @@ use Rattle.std.specs.List.{position_or_len, before_first, after_first}
 use Rattle.std.specs.Str.{bytes_eq}
 use Rattle.l2_units.specs.declared.unit.Unit.{Unit as SignalUnit}
 use Rattle.l2_units.specs.Grammar.{unit_of as unit_of_octets}
+use Rattle.l2_units.specs.declared.profile.Profile.TheVariants.{Narrow}
 use Rattle.set_events.specs.Config.{fault_of}
 use Rattle.set_events.specs.declared.event.Event.{Event}
 use Rattle.set_events.specs.declared.event.Event.TheVariants.{Offer, Take, Find, Down, DownBlind, NoAnswer, Restore, BackTimeout}
@@ -42,9 +43,9 @@ link_of word = option_map (λ number. if nat_lt number 256 then number else 255)
 abbrev pub some_octets : List ℕ → Option (List ℕ)
 some_octets word = if length word == 0 then None else octets_of word
 
--- the unit that a word gives: its octets, without check octets
+-- the unit that a word gives: its octets, without check octets, of the narrow profile
 abbrev pub unit_of : List ℕ → Option SignalUnit
-unit_of word = option_and_then unit_of_octets (some_octets word)
+unit_of word = option_and_then (unit_of_octets Narrow) (some_octets word)
 
 -- The steps, by the words behind the name, and behind the end where there is one.
 
@@ -194,7 +195,7 @@ values_of w =
 
 -- an end with the first of these point codes can be made, whose far end has the other
 abbrev pub is_end_of : Values → ℕ → ℕ → Bool
-is_end_of v own far = is_none (fault_of v.links own far v.sio v.method)
+is_end_of v own far = is_none (fault_of Narrow v.links own far v.sio v.method)
 
 -- values of which both ends can be made
 abbrev pub fitting : Values → Option Values

@@ -125,7 +125,7 @@ fn read_limits(word: &[u8]) -> Option<Method>
     ensures { result ≡ limits_of word.now }
 {
     let colon = colon_in(word)?;
-    let n1 = read_below_256(&word[..colon])?;
+    let n1 = u16::from(read_below_256(&word[..colon])?);
     let n2 = read_number(&word[colon + 1..])?;
     if n2 < 0x1_0000_0000 {
         Some(Method::Cyclic { n1, n2: n2 as u32 })

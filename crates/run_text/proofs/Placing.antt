@@ -1,13 +1,12 @@
 -- What a legal history accepted stands in so many places: each message in one.
 use Rattle.std.proofs.Common.{refl, arith, ◌≡◌, ◌∙◌, ap, sym, ℕ, ◌+◌, ◌<◌, ◌≤◌, ◌^◌, ◌↔◌, ◌⊎◌, inl, inr, Bool, List, [], ◌∷◌, length, Result, Ok, Err}
 use Rattle.set_events.specs.declared.config.SetConfig.{SetConfig}
-use Rattle.set_events.specs.declared.event.Event.{Event}
 use Rattle.set_events.specs.declared.history.Entry.{Entry}
 use Rattle.std.proofs.lemmas.Bool.{cases_lt}
 use Rattle.set_events.specs.declared.books.Books.{Books}
 use Rattle.set_events.specs.declared.fault.SetFault.{SetFault}
 use Rattle.set_events.specs.declared.fault.SetFault.TheVariants.{Exhausted}
-use Rattle.set_core.proofs.Keeping.{messages_few}
+use Rattle.set_core.proofs.Keeping.{counts_told, messages_few}
 use Rattle.set_crew.specs.declared.end.SetEnd.{SetEnd}
 use Rattle.run_text.specs.Running.{IsAnEnd}
 use Rattle.set_model.specs.Rows.{counts_of, total_of}
@@ -15,35 +14,7 @@ use Rattle.set_model.specs.State.{State, new_state}
 use Rattle.set_model.specs.Sound.{IsManaged}
 use Rattle.set_model.specs.Step.{step, messages_in}
 use Rattle.set_model.specs.History.{IsLegal, after, messages_of, longest_history}
-use Rattle.set_model.proofs.Staying.{step_gains}
-use Rattle.set_model.proofs.Walk.{KeptBy, step_walks}
-
--- the settings stay
-small_settings : (Known : ℕ → Type 0) (May : Type 0) → KeptBy Known May (λ s t. t.settings ≡ s.settings)
-small_settings Known May = record {
-  same = λ s. refl;
-  after = λ a b c p q. q ∙ p;
-  delivers = λ body s. refl;
-  queues = λ order s. refl;
-  leaves = λ blind n link s known at. refl;
-  acknowledges = λ count n link s known at few g. refl;
-  gives_up = λ sent cause n link s known at g. refl;
-  moves_off = λ n link s known at. refl;
-  declares = λ may home alternative s up can. refl;
-  releases = λ code s known. refl;
-}
-
-settings_stay : (s : State) (event : Event) → (step s event).state.settings ≡ s.settings
-settings_stay s event = step_walks s (λ t u. u.settings ≡ t.settings) (λ t. t.settings ≡ s.settings) event (record {
-  small = small_settings _ _;
-  unmoved = refl;
-  rests = λ t u p q. q ∙ p;
-  offers = λ body e none. refl;
-  takes = λ body rest e there. refl;
-  sends = λ n link e at g. refl;
-  hears = λ n unit link e at g. refl;
-  rises = λ n link e at u. refl;
-})
+use Rattle.set_model.proofs.Staying.{step_gains, step_grows}
 
 -- each entry that accepts a message puts it in one place, and none is lost
 placed_after : (s : State) (history : List Entry) → IsManaged s.settings → IsLegal s history
@@ -51,7 +22,7 @@ placed_after : (s : State) (history : List Entry) → IsManaged s.settings → I
 placed_after s [] managed legal = omega arith
 placed_after s (entry ∷ history) managed legal =
     let gains = step_gains s entry.event managed in
-    let still : IsManaged (step s entry.event).state.settings = rw (settings_stay s entry.event) managed in
+    let still : IsManaged (step s entry.event).state.settings = rw (step_grows s entry.event).settings_same managed in
     let rest = placed_after (step s entry.event).state history still legal.2 in
     let same : messages_in entry.answer ≡ messages_in (step s entry.event).answer = ap messages_in legal.1 in
     let one = gains.messages in
@@ -76,7 +47,10 @@ end_facts end is =
     let messages = ap (λ (books : Books). books.messages) closed.books_are in
     record {
       legal = rw closed.config_is closed.legal;
-      placed_all = ap total_of closed.counts_are ∙ (placed is.0 end.closed.history.items closed.legal ∙ sym messages);
+      placed_all =
+          let places = ap total_of (closed.counts_are ∙ counts_told is.0 end.closed.history.items) in
+          let accepted = placed is.0 end.closed.history.items closed.legal in
+          omega (arith, places, accepted, messages);
       few = omega (arith, messages, messages_few end.closed.history.items);
     }
 

@@ -1,11 +1,11 @@
 -- THE CAPTURE of a script: a pcap file of link type 140 (MTP2), which holds each unit that its ends send.
 use Rattle.std.specs.Prelude.{ℕ, List, [], ◌∷◌, ◌++◌, ◌*◌, ◌/◌, ◌%◌, length, Option, Some, None}
-use Rattle.l2_units.specs.Grammar.{text}
 use Rattle.set_events.specs.declared.answer.Answer.{Answer}
 use Rattle.set_events.specs.declared.answer.Answer.TheVariants.{Accepted, Taken, Found, Sent, Heard, Done, Refused}
 use Rattle.world_steps.specs.declared.step.Shown.{Shown}
 use Rattle.world_steps.specs.declared.step.Shown.TheVariants.{Up, Lost, Answered}
 use Rattle.pair_model.specs.World.{World}
+use Rattle.answer_texts.specs.Texts.{unit_octets}
 use Rattle.printing.specs.Printing.{Printed}
 use Rattle.script_text.specs.declared.fault.ScriptFault.{ScriptFault}
 use Rattle.script_text.specs.Scripts.{Told, IsScriptText}
@@ -31,7 +31,7 @@ record_of n octets =
 
 -- a sent unit has a record, without its check octets
 abbrev pub answer_record : ℕ → Answer → List ℕ
-answer_record n (Sent unit) = record_of n (text unit)
+answer_record n (Sent unit) = record_of n (unit_octets unit)
 answer_record n (Accepted number) = []
 answer_record n (Taken body) = []
 answer_record n (Found fate) = []

@@ -1,9 +1,10 @@
 //! The parts of a pcap file.
 ghost use Rattle.std.specs.Prelude.{◌≡◌, IfOk};
-ghost use Rattle.l2_units.specs.Grammar.{text};
+ghost use Rattle.answer_texts.specs.Texts.{unit_octets};
 ghost use Rattle.script_capture.specs.Capture.{four, record_of};
 
-use l2_units::{Unit, write};
+use answer_texts::unit_octets;
+use l2_units::Unit;
 use std::alloc::{AllocError, Global};
 
 /// What the file begins with, in its low octet first: the magic number of microseconds, version 2.4, no offset and no
@@ -26,9 +27,9 @@ fn split_in_four(number: u64) -> [u8; 4]
 
 /// The record of a unit that the line of this number sent.
 pub(crate) fn write_record(alloc: Global, number: u64, unit: &Unit) -> Result<Vec<u8>, AllocError>
-    ensures { IfOk result (λ made. made.items ≡ record_of number (text unit.now)) }
+    ensures { IfOk result (λ made. made.items ≡ record_of number (unit_octets unit.now)) }
 {
-    let octets = write(unit);
+    let octets = unit_octets(unit);
     let length = split_in_four(octets.len() as u64);
     let mut record = Vec::from_slice(alloc, &split_in_four(number / 1_000))?;
     record.extend_from_slice(&split_in_four(number % 1_000 * 1_000))?;

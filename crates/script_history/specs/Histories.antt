@@ -10,7 +10,7 @@ use Rattle.script_text.specs.Scripts.{Told, IsScriptText}
 
 -- all that a set was asked and answered
 abbrev pub set_text : LinkSet → List ℕ
-set_text set = history_text set.opening.settings set.history
+set_text set = history_text set.base.state.settings set.history
 
 -- a script that makes no world has no history
 abbrev pub at_the_end : End → Option World → List ℕ

@@ -5,6 +5,7 @@ use Rattle.l2_units.specs.declared.unit.Unit.{Unit as SignalUnit}
 use Rattle.l2_units.specs.declared.unit.Unit.TheVariants.{Fisu, Lssu, Msu}
 use Rattle.l3_orders.specs.declared.order.Order.{Order}
 use Rattle.l3_orders.specs.declared.order.Order.TheVariants.{Coo, Coa, Cbd, Cba, Eco, Eca}
+use Rattle.l2_units.specs.declared.profile.Profile.TheVariants.{Narrow}
 use Rattle.l3_orders.specs.Grammar.{order_of}
 use Rattle.decode_text.specs.Decoding.{order_words}
 use Rattle.set_events.specs.declared.event.Event.{Event}
@@ -141,7 +142,7 @@ message_words head None body = codes "MSU" ++ (numbers_of head ++ stream_words (
 abbrev pub unit_words : SignalUnit → List ℕ
 unit_words (Fisu head) = codes "FISU" ++ numbers_of head
 unit_words (Lssu head status) = codes "LSSU" ++ numbers_of head
-unit_words (Msu head body) = message_words head (order_of body.items) body.items
+unit_words (Msu head body) = message_words head (order_of Narrow body.items) body.items
 
 -- the unit that a step is about, in the world before it
 abbrev pub affected : World → Step → Option SignalUnit
@@ -279,7 +280,7 @@ abbrev pub order_in : Option SignalUnit → Option Order
 order_in None = None
 order_in (Some (Fisu head)) = None
 order_in (Some (Lssu head status)) = None
-order_in (Some (Msu head body)) = order_of body.items
+order_in (Some (Msu head body)) = order_of Narrow body.items
 
 abbrev pub settled_words : World → End → Took → Option ℕ → List ℕ
 settled_words w end OrderTaken (Some link) =

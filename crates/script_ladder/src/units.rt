@@ -1,5 +1,6 @@
 //! A unit in the words of the trade.
 ghost use Rattle.std.specs.Prelude.{◌≡◌, ◌++◌, IfOk};
+ghost use Rattle.l2_units.specs.declared.profile.Profile.TheVariants.{Narrow};
 ghost use Rattle.l3_orders.specs.Grammar.{order_of};
 ghost use Rattle.script_ladder.specs.Ladder.{message_words, numbers_of, order_in, stream_words, unit_words, words_of};
 
@@ -40,7 +41,7 @@ fn write_kind(alloc: Global, kind: &str, head: Header) -> Result<Vec<u8>, AllocE
 
 /// The words of a message: an order's own, or its numbers and its stream.
 fn write_message(alloc: Global, head: Header, body: &[u8]) -> Result<Vec<u8>, AllocError>
-    ensures { IfOk result (λ words. words.items ≡ message_words head (order_of body.now) body.now) }
+    ensures { IfOk result (λ words. words.items ≡ message_words head (order_of Narrow body.now) body.now) }
 {
     match read_order(body) {
         Ok(order) => write_order_words(alloc, order),

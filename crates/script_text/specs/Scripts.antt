@@ -2,8 +2,9 @@
 use Rattle.std.specs.Prelude.{ℕ, List, [], Option, Some, None}
 use Rattle.script_text.specs.declared.fault.ScriptFault.{ScriptFault}
 use Rattle.script_text.specs.declared.fault.ScriptFault.TheVariants.{Text, Step, Exhausted}
+use Rattle.l2_units.specs.declared.profile.Profile.TheVariants.{Narrow}
 use Rattle.set_model.specs.State.{Settings, opened_with}
-use Rattle.set_model.specs.History.{LinkSet}
+use Rattle.set_model.specs.History.{LinkSet, no_books}
 use Rattle.world_steps.specs.declared.step.End.{End}
 use Rattle.world_steps.specs.declared.step.End.TheVariants.{A, B}
 use Rattle.world_steps.specs.declared.step.Step.{Step as WorldStep}
@@ -26,12 +27,13 @@ pub record Told : Type 0 where
 abbrev pub ScriptOutcome : Type 0
 ScriptOutcome = LineOutcome (Option World) ScriptFault
 
--- what each end is opened with: its own point code is the far end's for the other
+-- what each end is opened with, of the narrow profile: its own point code is the far end's for the other
 abbrev pub settings_at : Values → End → Settings
 settings_at v A = record {
   set = 0;
   links = v.links;
   method = v.method;
+  profile = Narrow;
   sio = v.sio;
   dpc = v.code_b;
   opc = v.code_a;
@@ -40,6 +42,7 @@ settings_at v B = record {
   set = 0;
   links = v.links;
   method = v.method;
+  profile = Narrow;
   sio = v.sio;
   dpc = v.code_a;
   opc = v.code_b;
@@ -48,7 +51,11 @@ settings_at v B = record {
 -- a set that nothing was asked of
 abbrev pub opened_set : Settings → LinkSet
 opened_set settings =
-    record { opening = opened_with settings; state = opened_with settings; history = [] }
+    record {
+      base = record { state = opened_with settings; books = no_books };
+      state = opened_with settings;
+      history = [];
+    }
 
 -- two ends that nothing was asked of
 abbrev pub opened_world : Values → World

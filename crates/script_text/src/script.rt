@@ -174,7 +174,8 @@ fn carry_out_step<A: Account>(
 
 /// Why a step that fails so stops the script at this line.
 fn stop_of(fault: PlayFault, number: u64) -> Stop<ScriptFault>
-    requires { fault ≢ PlayFault.Links }
+    requires links { fault ≢ PlayFault.Links }
+    requires profiles { fault ≢ PlayFault.Profile }
     ensures { (t : Told) (w : ModelWorld) (step : ModelStep) (outcome : Outcome) → Fails fault outcome
         → Tells result (outcome_of t number w step outcome) }
 {
@@ -182,6 +183,6 @@ fn stop_of(fault: PlayFault, number: u64) -> Stop<ScriptFault>
         PlayFault::NoMemory => Stop::Memory,
         PlayFault::Impossible { .. } => Stop::Input(ScriptFault::Step { line: number }),
         PlayFault::Exhausted => Stop::Input(ScriptFault::Exhausted),
-        PlayFault::Links => unreachable!(),
+        PlayFault::Links | PlayFault::Profile => unreachable!(),
     }
 }

@@ -1,40 +1,14 @@
 -- The calls of actors, entry by entry.
-use Rattle.std.proofs.Common.{refl, arith, ◌≡◌, ◌∙◌, ap, ◌<◌, ◌≤◌, [], ◌∷◌, length, ℕ, zero, suc, ◌+◌, Bool, true, false, List, ◌++◌, ◌==◌, All, replicate, slice_index, ◌*◌, sum}
+use Rattle.std.proofs.Common.{refl, arith, ◌≡◌, ◌∙◌, ap, sym, ◌<◌, ◌≤◌, [], ◌∷◌, length, ℕ, zero, suc, ◌+◌, Bool, true, false, List, ◌++◌, ◌==◌, All, replicate, slice_index, ◌*◌, sum}
 use Rattle.std.specs.Prelude.{if◌then◌else◌}
 use Rattle.std.proofs.lemmas.Bool.Decides.{nat_tests}
 use Rattle.set_events.specs.declared.event.Actor.{Actor}
 use Rattle.set_events.specs.declared.history.Entry.{Entry}
 use Rattle.set_events.specs.declared.event.Actor.TheVariants.{User, Terminal}
-use Rattle.std.proofs.lemmas.List.Sums.{sum_by-set}
+use Rattle.std.proofs.lemmas.List.Sums.{sum_by-set, sum_by-cons, get_or-le-sum_by}
 use Rattle.std.proofs.lemmas.List.Folds.{sum_by-replicate}
 use Rattle.set_core.specs.Gaining.{one_more, users_after, terminals_after}
-use Rattle.set_model.specs.History.{IsActor, is_user, is_terminal, calls_of, calls_from}
-
-pub none_yet : (is_it : ℕ → Actor → Bool) (k n : ℕ) → calls_from is_it k n [] ≡ replicate n 0
-unfolding calls_from
-none_yet is_it k zero = refl
-none_yet is_it k (suc n) = ap (λ (xs : List ℕ). 0 ∷ xs) (none_yet is_it (suc k) n)
-
--- no actor made more calls than there are entries
-at_most_one : (b : Bool) (m n : ℕ) → m ≤ n → (if b then 1 else 0) + m ≤ suc n
-at_most_one true m n h = omega (arith, h)
-at_most_one false m n h = omega (arith, h)
-
-pub calls_few : (is_it : Actor → Bool) (history : List Entry) → calls_of is_it history ≤ length history
-calls_few is_it [] = omega arith
-calls_few is_it (entry ∷ entries) = at_most_one (is_it entry.who) (calls_of is_it entries) (length entries) (calls_few is_it entries)
-
-pub any_few : (is_it : ℕ → Actor → Bool) (k n : ℕ) (history : List Entry) (i : ℕ) → slice_index (calls_from is_it k n history) i ≤ length history
-unfolding calls_from
-any_few is_it k zero history i = omega arith
-any_few is_it k (suc n) history zero = calls_few (is_it k) history
-any_few is_it k (suc n) history (suc i) = any_few is_it (suc k) n history i
-
-pub all_few : (is_it : ℕ → Actor → Bool) (k n : ℕ) (history : List Entry) (bound : ℕ) → length history ≤ bound → All (λ (calls : ℕ). calls ≤ bound) (calls_from is_it k n history)
-unfolding calls_from
-all_few is_it k zero history bound h i d g = absurd (omega (arith, g))
-all_few is_it k (suc n) history bound h zero d g = omega (arith, calls_few (is_it k) history, h)
-all_few is_it k (suc n) history bound h (suc i) d g = all_few is_it (suc k) n history bound h i d (omega (arith, g))
+use Rattle.set_model.specs.History.{IsActor, added, calls_of, calls_from}
 
 -- one entry more
 pub calls_more : (is_it : Actor → Bool) (history : List Entry) (entry : Entry) → calls_of is_it (history ++ entry ∷ []) ≡ calls_of is_it history + (if is_it entry.who then 1 else 0)
@@ -66,7 +40,7 @@ module _ (is_it : ℕ → Actor → Bool) (history : List Entry) (entry : Entry)
       let other : (m == k) ≡ false = grind (arith, nat_tests, e) in
       rw (none_of k (h k ∙ other), its_own m h (suc k) n j (omega (arith, e)) (omega (arith, q))) refl
 
--- The sum of all calls.
+-- THE SUM of all calls.
 pub length-calls : (is_it : ℕ → Actor → Bool) (k n : ℕ) (history : List Entry) → length (calls_from is_it k n history) ≡ n
 unfolding calls_from
 length-calls is_it k zero history = refl
@@ -79,8 +53,41 @@ pub sums_more : (who : Actor) (users terminals : List ℕ) → length users ≡ 
 sums_more (User number) users terminals u t a = omega (arith, sum_more number users (omega (arith, u, a)))
 sums_more (Terminal link) users terminals u t a = omega (arith, sum_more link terminals (omega (arith, t, a)))
 
-pub no_calls : sum (calls_from is_user 0 64 []) + sum (calls_from is_terminal 0 16 []) ≡ 0
-no_calls =
-    let users : sum (calls_from is_user 0 64 []) ≡ 64 * 0 = ap sum (none_yet is_user 0 64) ∙ sum_by-replicate (λ n. n) 64 0 in
-    let terminals : sum (calls_from is_terminal 0 16 []) ≡ 16 * 0 = ap sum (none_yet is_terminal 0 16) ∙ sum_by-replicate (λ n. n) 16 0 in
-    omega (arith, users, terminals)
+-- no actor made more calls than all did
+pub in_sum : (calls : List ℕ) (i : ℕ) → slice_index calls i ≤ sum calls
+in_sum [] i = omega arith
+in_sum (x ∷ xs) zero = omega (arith, sum_by-cons (λ n. n) x xs)
+in_sum (x ∷ xs) (suc i) = omega (arith, sum_by-cons (λ n. n) x xs, in_sum xs i)
+
+pub all_in_sum : (calls : List ℕ) (bound : ℕ) → sum calls ≤ bound → All (λ (n : ℕ). n ≤ bound) calls
+all_in_sum calls bound few i d low = omega (arith, get_or-le-sum_by (λ n. n) calls i d low, few)
+
+-- THE CALLS of an earlier history, with those that came since added to them.
+pub sum-added : (before since : List ℕ) → sum (added before since) ≡ sum before + sum since
+sum-added [] ns = omega arith
+sum-added (m ∷ ms) [] = omega arith
+sum-added (m ∷ ms) (n ∷ ns) = omega (arith, sum_by-cons (λ n. n) (m + n) (added ms ns), sum_by-cons (λ n. n) m ms, sum_by-cons (λ n. n) n ns, sum-added ms ns)
+
+added_more : (number : ℕ) (before since : List ℕ) → length before ≡ length since → number < length since → added before (one_more number since) ≡ one_more number (added before since)
+added_more j [] [] e low = absurd (omega (arith, low))
+added_more j [] (n ∷ ns) e low = absurd (omega (arith, e))
+added_more j (m ∷ ms) [] e low = absurd (omega (arith, low))
+added_more zero (m ∷ ms) (n ∷ ns) e low = ap (λ (k : ℕ). k ∷ added ms ns) (omega arith)
+added_more (suc j) (m ∷ ms) (n ∷ ns) e low = ap (λ (xs : List ℕ). (m + n) ∷ xs) (added_more j ms ns (omega (arith, e)) (omega (arith, low)))
+
+pub users_added : (who : Actor) (before since : List ℕ) → length before ≡ 64 → length since ≡ 64 → IsActor who → added before (users_after who since) ≡ users_after who (added before since)
+users_added (User number) before since b s a = added_more number before since (b ∙ sym s) (omega (arith, s, a))
+users_added (Terminal link) before since b s a = refl
+
+pub terminals_added : (who : Actor) (before since : List ℕ) → length before ≡ 16 → length since ≡ 16 → IsActor who → added before (terminals_after who since) ≡ terminals_after who (added before since)
+terminals_added (User number) before since b s a = refl
+terminals_added (Terminal link) before since b s a = added_more link before since (b ∙ sym s) (omega (arith, s, a))
+
+-- of an empty history
+pub none_added : (is_it : ℕ → Actor → Bool) (k n : ℕ) → added (replicate n 0) (calls_from is_it k n []) ≡ replicate n 0
+unfolding calls_from
+none_added is_it k zero = refl
+none_added is_it k (suc n) = ap (λ (xs : List ℕ). 0 ∷ xs) (none_added is_it (suc k) n)
+
+pub no_sum : (n : ℕ) → sum (replicate n 0) ≡ 0
+no_sum n = omega (arith, sum_by-replicate (λ n. n) n 0)

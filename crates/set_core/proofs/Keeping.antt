@@ -1,9 +1,10 @@
 -- What a set keeps, entry by entry.
 use Rattle.std.proofs.Common.{refl, arith, ◌≡◌, ◌∙◌, ap, sym, subst, take, drop, get_or, ◌<◌, ◌≤◌, ◌^◌, [], ◌∷◌, length, ℕ, ◌+◌, sum, List, ◌++◌, ◌↔◌}
-use Rattle.std.proofs.lemmas.List.{length-append, drop_more, take_more}
+use Rattle.std.proofs.lemmas.List.{length-append, length-replicate, drop_more, take_more}
 use Rattle.std.proofs.lemmas.List.Elements.{filter-append}
 use Rattle.set_events.specs.declared.answer.Answer.{Answer}
 use Rattle.set_events.specs.declared.answer.Answer.TheVariants.{Accepted}
+use Rattle.set_events.specs.declared.books.Books.{Books}
 use Rattle.set_events.specs.declared.answer.Counts.{Counts}
 use Rattle.set_events.specs.declared.event.Actor.{Actor}
 use Rattle.set_events.specs.declared.event.Actor.TheVariants.{User, Terminal}
@@ -12,18 +13,19 @@ use Rattle.set_events.specs.declared.event.Event.TheVariants.{Offer, Take, Find,
 use Rattle.set_events.specs.declared.history.Entry.{Entry}
 use Rattle.set_core.specs.declared.tally.Tally.{Tally}
 use Rattle.set_events.specs.declared.config.SetConfig.{SetConfig}
-use Rattle.set_model.specs.State.{State, new_state, settings_of}
+use Rattle.set_model.specs.State.{State, FinishedCounts, none_finished, new_state, settings_of}
+use Rattle.set_model.specs.Checkpoint.{counts_in}
 use Rattle.set_model.specs.Sound.{AreFew}
 use Rattle.set_model.specs.Rows.{counts_of, total_of}
 use Rattle.set_model.specs.Step.{Gains, step, messages_in, octets_of}
-use Rattle.set_model.proofs.Staying.{step_gains, AcceptsNone, accepts_none, step_at_most}
+use Rattle.set_model.proofs.Staying.{step_gains, step_grows, AcceptsNone, accepts_none, step_at_most}
 use Rattle.set_model.proofs.Soundness.{opened_new}
 use Rattle.set_moves.specs.Agreement.{Kept, Agrees}
 use Rattle.set_step.specs.Answering.{AnswersFor}
 use Rattle.set_core.specs.Gaining.{BooksGain, IsOwn, GainsNoOther, AreBounded, users_after, terminals_after}
-use Rattle.set_model.specs.History.{IsActor, IsStep, IsLegal, after, books_of, is_user, is_terminal, calls_from, messages_of, octets_in_all}
+use Rattle.set_model.specs.History.{Base, IsActor, IsStep, IsLegal, after, added, no_books, opening_of, books_of, entries_of, is_user, is_terminal, calls_from, messages_of, octets_in_all}
 use Rattle.set_core.specs.Keeping.{with_history, IsTally, IsKept}
-use Rattle.set_core.proofs.Calls.{all_few, others, its_own, length-calls, sums_more}
+use Rattle.set_core.proofs.Calls.{all_in_sum, others, its_own, length-calls, no_sum, none_added, sum-added, sums_more, terminals_added, users_added}
 
 pub legal_more : (s : State) (history : List Entry) (entry : Entry) → IsLegal s history → IsActor entry.who → entry.answer ≡ (step (after s history) entry.event).answer → IsLegal s (history ++ entry ∷ [])
 legal_more s [] entry l a e = (a, e, tt)
@@ -65,15 +67,24 @@ terminals_more history entry a = go entry.who refl a
     go (User number) e a = others is_terminal history entry 0 16 (λ i g. ap (is_terminal i) e)
     go (Terminal link) e a = its_own is_terminal history entry link (λ i. ap (is_terminal i) e) 0 16 link (omega arith) a
 
-calls_more : (history : List Entry) (entry : Entry) → sum (calls_from is_user 0 64 history) + sum (calls_from is_terminal 0 16 history) ≡ length history → IsActor entry.who
-    → sum (calls_from is_user 0 64 (history ++ entry ∷ [])) + sum (calls_from is_terminal 0 16 (history ++ entry ∷ [])) ≡ length (history ++ entry ∷ [])
-calls_more history entry e a =
-    rw (users_more history entry a, terminals_more history entry a) (omega (
+calls_more : (base : Base) (history : List Entry) (entry : Entry) → sum (books_of base history).user_calls + sum (books_of base history).term_calls ≡ entries_of base history → IsActor entry.who
+    → sum (books_of base (history ++ entry ∷ [])).user_calls + sum (books_of base (history ++ entry ∷ [])).term_calls ≡ entries_of base (history ++ entry ∷ [])
+calls_more base history entry e a =
+    let users = calls_from is_user 0 64 history in
+    let terminals = calls_from is_terminal 0 16 history in
+    let more : List Entry = history ++ entry ∷ [] in
+    omega (
       arith,
       e,
       length-append history (entry ∷ []),
-      sums_more entry.who (calls_from is_user 0 64 history) (calls_from is_terminal 0 16 history) (length-calls is_user 0 64 history) (length-calls is_terminal 0 16 history) a,
-    ))
+      sum-added base.books.user_calls users,
+      sum-added base.books.term_calls terminals,
+      sum-added base.books.user_calls (calls_from is_user 0 64 more),
+      sum-added base.books.term_calls (calls_from is_terminal 0 16 more),
+      ap sum (users_more history entry a),
+      ap sum (terminals_more history entry a),
+      sums_more entry.who users terminals (length-calls is_user 0 64 history) (length-calls is_terminal 0 16 history) a,
+    )
 
 -- the tally counted an entry
 pub record Counted (old : Tally) (entry : Entry) (new : Tally) : Type 0 where
@@ -82,12 +93,12 @@ pub record Counted (old : Tally) (entry : Entry) (new : Tally) : Type 0 where
   pub messages : new.messages ≡ old.messages + messages_in entry.answer
   pub octets : new.octets ≡ old.octets + octets_of entry.event entry.answer
 
-pub tally_more : (old new : Tally) (history : List Entry) (entry : Entry) → IsTally old history → IsActor entry.who → Counted old entry new → IsTally new (history ++ entry ∷ [])
-tally_more old new history entry t a c = record {
-  user_calls = c.user_calls ∙ ap (users_after entry.who) t.user_calls ∙ sym (users_more history entry a);
-  term_calls = c.term_calls ∙ ap (terminals_after entry.who) t.term_calls ∙ sym (terminals_more history entry a);
-  messages = omega (arith, c.messages, t.messages, messages_more history entry);
-  octets = omega (arith, c.octets, t.octets, octets_more history entry);
+tally_more : (old new : Tally) (books books' : Books) (entry : Entry) → IsTally old books → Counted old entry new → BooksGain books entry.who entry.event entry.answer books' → IsTally new books'
+tally_more old new books books' entry t c g = record {
+  user_calls = c.user_calls ∙ ap (users_after entry.who) t.user_calls ∙ sym g.user_calls;
+  term_calls = c.term_calls ∙ ap (terminals_after entry.who) t.term_calls ∙ sym g.term_calls;
+  messages = c.messages ∙ ap (λ (n : ℕ). n + messages_in entry.answer) t.messages ∙ sym g.messages;
+  octets = c.octets ∙ ap (λ (n : ℕ). n + octets_of entry.event entry.answer) t.octets ∙ sym g.octets;
 }
 
 -- what users ask acknowledges nothing
@@ -112,49 +123,102 @@ tells_accept_none s link (NoAnswer n) own = accepts_none s (NoAnswer n) refl
 tells_accept_none s link (Restore n) own = accepts_none s (Restore n) refl
 tells_accept_none s link (BackTimeout n) own = accepts_none s (BackTimeout n) refl
 
+-- The counts: the rows', and those of what left them.
+abbrev given_up : FinishedCounts → ℕ
+given_up f = f.emergency + f.unreasonable + f.no_answer
+
+total_in : (s : State) → total_of (counts_in s) ≡ s.finished.acked + given_up s.finished + total_of (counts_of s.rows)
+total_in s = omega arith
+
+-- no entry takes a message out of the rows
+none_gone : (s : State) (history : List Entry) → (after s history).finished ≡ s.finished
+none_gone s [] = refl
+none_gone s (entry ∷ entries) = none_gone (step s entry.event).state entries ∙ (step_grows s entry.event).gone_same
+
+without_gone : (s : State) → s.finished ≡ none_finished → counts_in s ≡ counts_of s.rows
+without_gone s e = grind (arith, e)
+
+-- so after an opening all stand there
+pub counts_told : (config : SetConfig) (history : List Entry) → counts_in (after (new_state config) history) ≡ counts_of (after (new_state config) history).rows
+counts_told config history = without_gone (after (new_state config) history) (none_gone (new_state config) history)
+
+pub opened_entries : (config : SetConfig) (history : List Entry) → entries_of (opening_of config) history ≡ length history
+opened_entries config history = omega (arith, no_sum 64, no_sum 16)
+
 -- The step was made, and its entry stands last.
-module _ (opening : State) (old new : Kept) (history : List Entry) (entry : Entry) (actor : IsActor entry.who) (agrees : Agrees old (after opening history)) (answers : AnswersFor (step (after opening history) entry.event) entry.answer new) where
-  pub agrees_more : Agrees new (after opening (history ++ entry ∷ []))
-  agrees_more = rw (after_more opening history entry) answers.agrees
+module _ (base : Base) (old new : Kept) (history : List Entry) (entry : Entry) (actor : IsActor entry.who) (agrees : Agrees old (after base.state history)) (answers : AnswersFor (step (after base.state history) entry.event) entry.answer new) where
+  pub agrees_more : Agrees new (after base.state (history ++ entry ∷ []))
+  agrees_more = rw (after_more base.state history entry) answers.agrees
 
-  pub gains_more : Gains (after opening history) entry.event entry.answer (after opening (history ++ entry ∷ []))
-  gains_more = rw (after_more opening history entry, answers.answer_is) (step_gains (after opening history) entry.event agrees.sound.managed)
+  pub gains_more : Gains (after base.state history) entry.event entry.answer (after base.state (history ++ entry ∷ []))
+  gains_more = rw (after_more base.state history entry, answers.answer_is) (step_gains (after base.state history) entry.event agrees.sound.managed)
 
-  pub is_step : IsStep (with_history opening history) entry.who entry.event entry.answer (with_history opening (history ++ entry ∷ []))
-  is_step = record { opening_is = refl; answer_is = answers.answer_is; state_is = after_more opening history entry; history_is = refl }
+  gone_same : (after base.state (history ++ entry ∷ [])).finished ≡ (after base.state history).finished
+  gone_same = rw (after_more base.state history entry) ((step_grows (after base.state history) entry.event).gone_same)
 
-  pub gained : BooksGain (books_of opening history) entry.who entry.event entry.answer (books_of opening (history ++ entry ∷ []))
-  gained = record {
-    user_calls = users_more history entry actor;
-    term_calls = terminals_more history entry actor;
-    messages = messages_more history entry;
-    octets = octets_more history entry;
-    acknowledged = gains_more.acknowledged;
-    own = λ own. no_other entry.who refl own;
-  }
-    where
-      no_other : (who : Actor) → entry.who ≡ who → IsOwn who entry.event → GainsNoOther who (books_of opening history) (books_of opening (history ++ entry ∷ []))
-      no_other (User number) e own = rw (after_more opening history entry) (asks_acknowledge_none (after opening history) number entry.event own)
-      no_other (Terminal link) e own =
-          let none = tells_accept_none (after opening history) link entry.event own in
-          let message : messages_in entry.answer ≡ 0 = ap messages_in answers.answer_is ∙ none.0 in
-          let octet : octets_of entry.event entry.answer ≡ 0 = ap (octets_of entry.event) answers.answer_is ∙ none.1 in
-          (omega (arith, messages_more history entry, message), omega (arith, octets_more history entry, octet))
+  pub is_step : IsStep (with_history base history) entry.who entry.event entry.answer (with_history base (history ++ entry ∷ []))
+  is_step = record { base_is = refl; answer_is = answers.answer_is; state_is = after_more base.state history entry; history_is = refl }
 
-  pub kept_more : (tally tally' : Tally) → IsKept opening old tally history → length history < 2 ^ 48 → Counted tally entry tally' → IsKept opening new tally' (history ++ entry ∷ [])
+  -- the books of a set that keeps a number of calls for each actor
+  module _ (users : length base.books.user_calls ≡ 64) (terminals : length base.books.term_calls ≡ 16) where
+    pub gained : BooksGain (books_of base history) entry.who entry.event entry.answer (books_of base (history ++ entry ∷ []))
+    gained =
+        let acked = gains_more.acknowledged in
+        record {
+          user_calls = ap (added base.books.user_calls) (users_more history entry actor) ∙ users_added entry.who base.books.user_calls (calls_from is_user 0 64 history) users (length-calls is_user 0 64 history) actor;
+          term_calls = ap (added base.books.term_calls) (terminals_more history entry actor) ∙ terminals_added entry.who base.books.term_calls (calls_from is_terminal 0 16 history) terminals (length-calls is_terminal 0 16 history) actor;
+          messages = omega (arith, messages_more history entry);
+          octets = omega (arith, octets_more history entry);
+          acknowledged = omega (arith, acked, ap (λ (f : FinishedCounts). f.acked) gone_same);
+          own = λ own. no_other entry.who refl own;
+        }
+      where
+        no_other : (who : Actor) → entry.who ≡ who → IsOwn who entry.event → GainsNoOther who (books_of base history) (books_of base (history ++ entry ∷ []))
+        no_other (User number) e own =
+            let none : (counts_of (after base.state (history ++ entry ∷ [])).rows).acked ≡ (counts_of (after base.state history).rows).acked = rw (after_more base.state history entry) (asks_acknowledge_none (after base.state history) number entry.event own) in
+            omega (arith, none, ap (λ (f : FinishedCounts). f.acked) gone_same)
+        no_other (Terminal link) e own =
+            let none = tells_accept_none (after base.state history) link entry.event own in
+            let message : messages_in entry.answer ≡ 0 = ap messages_in answers.answer_is ∙ none.0 in
+            let octet : octets_of entry.event entry.answer ≡ 0 = ap (octets_of entry.event) answers.answer_is ∙ none.1 in
+            (omega (arith, messages_more history entry, message), omega (arith, octets_more history entry, octet))
+
+  pub kept_more : (tally tally' : Tally) → IsKept base old tally history → entries_of base history < 2 ^ 48 → Counted tally entry tally' → IsKept base new tally' (history ++ entry ∷ [])
   kept_more tally tally' k room counted =
-      let long : length (history ++ entry ∷ []) ≡ length history + 1 = length-append history (entry ∷ []) in
+      let long : entries_of base (history ++ entry ∷ []) ≡ entries_of base history + 1 = omega (arith, length-append history (entry ∷ [])) in
       let gains = gains_more in
+      let brought = gains.messages in
+      let octets = gains.octets in
+      let gone = gone_same in
+      let placed = k.placed in
+      let messages = k.messages in
+      let was = k.octets in
       record {
-        legal = legal_more opening history entry k.legal actor answers.answer_is;
+        legal = legal_more base.state history entry k.legal actor answers.answer_is;
         agrees = agrees_more;
-        counted = tally_more tally tally' history entry k.counted actor counted;
-        calls = calls_more history entry k.calls actor;
-        placed = gains.messages ∙ ap (λ (n : ℕ). n + messages_in entry.answer) k.placed ∙ sym (messages_more history entry);
+        counted = tally_more tally tally' (books_of base history) (books_of base (history ++ entry ∷ [])) entry k.counted counted (gained k.users k.terminals);
+        users = k.users;
+        terminals = k.terminals;
+        calls = calls_more base history entry k.calls actor;
+        placed = omega (
+          arith,
+          brought,
+          placed,
+          messages_more history entry,
+          total_in (after base.state history),
+          total_in (after base.state (history ++ entry ∷ [])),
+          ap (λ (f : FinishedCounts). f.acked + given_up f) gone,
+        );
         short = omega (arith, long, room);
-        octets = omega (arith, long, octets_more history entry, k.octets, gains.octets);
-        few = rw (long, after_more opening history entry) (step_at_most (after opening history) entry.event (λ n. record { sent = length history; accepted = length history }) k.few);
+        messages = omega (arith, long, messages, messages_more history entry, one_message entry.answer);
+        octets = omega (arith, long, octets_more history entry, was, octets);
+        few = rw (long, after_more base.state history entry) (step_at_most (after base.state history) entry.event (λ n. record { sent = entries_of base history; accepted = entries_of base history }) k.few);
       }
+
+-- what the tally has, and how many are acknowledged, are the books
+pub books_told : (tally : Tally) (books : Books) (acked : ℕ) → IsTally tally books → acked ≡ books.acknowledged
+    → ◌≡◌ {A = Books} (record { user_calls = tally.user_calls; term_calls = tally.term_calls; messages = tally.messages; octets = tally.octets; acknowledged = acked }) books
+books_told tally books acked t a = rw (t.user_calls, t.term_calls, t.messages, t.octets, a) refl
 
 -- The bounds.
 pub few_more : (events more : ℕ) (s : State) → events ≤ more → AreFew events s → AreFew more s
@@ -165,17 +229,48 @@ few_more events more s h a = λ number link there.
 pub within : (c : Counts) → c.acked ≤ total_of c
 within c = omega arith
 
-pub bounded : (opening : State) (kept : Kept) (tally : Tally) (history : List Entry) → IsKept opening kept tally history → AreBounded (books_of opening history)
-bounded opening kept tally history k = record {
-  user_calls = all_few is_user 0 64 history (2 ^ 48) k.short;
-  term_calls = all_few is_terminal 0 16 history (2 ^ 48) k.short;
-  messages = omega (arith, messages_few history, k.short);
-  octets = omega (arith, k.octets, k.short);
-  acknowledged = omega (arith, k.placed, within (counts_of (after opening history).rows), messages_few history, k.short);
-}
+pub bounded : (base : Base) (kept : Kept) (tally : Tally) (history : List Entry) → IsKept base kept tally history → AreBounded (books_of base history)
+bounded base kept tally history k =
+    let calls = k.calls in
+    let short = k.short in
+    let placed = k.placed in
+    let messages = k.messages in
+    let octets = k.octets in
+    record {
+      user_calls = all_in_sum (books_of base history).user_calls (2 ^ 48) (omega (arith, calls, short));
+      term_calls = all_in_sum (books_of base history).term_calls (2 ^ 48) (omega (arith, calls, short));
+      messages = omega (arith, messages, short);
+      octets = omega (arith, octets, short);
+      acknowledged = omega (arith, placed, within (counts_in (after base.state history)));
+    }
 
 pub new_few : (config : SetConfig) → AreFew 0 (new_state config)
 new_few config = (opened_new (settings_of config) (record { some_link = config.has_links; at_most_16 = config.links_in_range; managed = config.management })).few
+
+-- a set that was opened just now
+pub kept_new : (config : SetConfig) (kept : Kept) (tally : Tally) → Agrees kept (new_state config) → IsTally tally no_books → IsKept (opening_of config) kept tally []
+kept_new config kept tally agrees counted =
+    let none = opened_entries config [] in
+    let users = none_added is_user 0 64 in
+    let terminals = none_added is_terminal 0 16 in
+    record {
+      legal = tt;
+      agrees = agrees;
+      counted = record {
+        user_calls = counted.user_calls ∙ sym users;
+        term_calls = counted.term_calls ∙ sym terminals;
+        messages = counted.messages;
+        octets = counted.octets;
+      };
+      users = length-replicate {A = ℕ} 64 0;
+      terminals = length-replicate {A = ℕ} 16 0;
+      calls = omega (arith, ap sum users, ap sum terminals, no_sum 64, no_sum 16);
+      placed = refl;
+      short = omega (arith, none);
+      messages = omega arith;
+      octets = omega arith;
+      few = rw none (new_few config);
+    }
 
 -- A REPLAY. So many entries were replayed, and the rest is left: what is kept agrees with the state after them, and the
 -- rest decides from there.

@@ -1,34 +1,39 @@
 -- What every set keeps beside the model: its history is legal, what it keeps agrees with the state after it, and its
 -- tally is that history's.
 use Rattle.std.specs.Prelude.{◌≡◌, ◌≤◌, ◌+◌, ◌*◌, List, length, sum}
+use Rattle.set_events.specs.declared.books.Books.{Books}
 use Rattle.set_events.specs.declared.history.Entry.{Entry}
 use Rattle.set_core.specs.declared.tally.Tally.{Tally}
-use Rattle.set_model.specs.State.{State}
 use Rattle.set_model.specs.Sound.{AreFew}
-use Rattle.set_model.specs.Rows.{counts_of, total_of}
-use Rattle.set_model.specs.History.{LinkSet, IsLegal, after, is_user, is_terminal, calls_from, messages_of, octets_in_all, longest_history}
+use Rattle.set_model.specs.Rows.{total_of}
+use Rattle.set_model.specs.Checkpoint.{counts_in}
+use Rattle.set_model.specs.History.{Base, LinkSet, IsLegal, after, books_of, entries_of, longest_history}
 use Rattle.set_moves.specs.Agreement.{Kept, Agrees}
 
--- what the set held when it was opened, all that was asked and answered since, and what it holds after that
-abbrev pub with_history : State → List Entry → LinkSet
-with_history opening history = record { opening = opening; state = after opening history; history = history }
+-- what the set held at first, all that was asked and answered since, and what it holds after that
+abbrev pub with_history : Base → List Entry → LinkSet
+with_history base history = record { base = base; state = after base.state history; history = history }
 
--- the running sums are those of the history
-pub record IsTally (tally : Tally) (history : List Entry) : Type 0 where
-  pub user_calls : tally.user_calls ≡ calls_from is_user 0 64 history
-  pub term_calls : tally.term_calls ≡ calls_from is_terminal 0 16 history
-  pub messages : tally.messages ≡ messages_of history
-  pub octets : tally.octets ≡ octets_in_all history
+-- the running sums are those of the books
+pub record IsTally (tally : Tally) (books : Books) : Type 0 where
+  pub user_calls : tally.user_calls ≡ books.user_calls
+  pub term_calls : tally.term_calls ≡ books.term_calls
+  pub messages : tally.messages ≡ books.messages
+  pub octets : tally.octets ≡ books.octets
 
-pub record IsKept (opening : State) (kept : Kept) (tally : Tally) (history : List Entry) : Type 0 where
-  pub legal : IsLegal opening history
-  pub agrees : Agrees kept (after opening history)
-  pub counted : IsTally tally history
+pub record IsKept (base : Base) (kept : Kept) (tally : Tally) (history : List Entry) : Type 0 where
+  pub legal : IsLegal base.state history
+  pub agrees : Agrees kept (after base.state history)
+  pub counted : IsTally tally (books_of base history)
+  -- the books have a number of calls for each actor
+  pub users : length base.books.user_calls ≡ 64
+  pub terminals : length base.books.term_calls ≡ 16
   -- each entry is the call of one actor
-  pub calls : sum (calls_from is_user 0 64 history) + sum (calls_from is_terminal 0 16 history) ≡ length history
+  pub calls : sum (books_of base history).user_calls + sum (books_of base history).term_calls ≡ entries_of base history
   -- each accepted message stands in one place
-  pub placed : total_of (counts_of (after opening history).rows) ≡ messages_of history
+  pub placed : total_of (counts_in (after base.state history)) ≡ (books_of base history).messages
   -- the bounds
-  pub short : length history ≤ longest_history
-  pub octets : octets_in_all history ≤ 273 * length history
-  pub few : AreFew (length history) (after opening history)
+  pub short : entries_of base history ≤ longest_history
+  pub messages : (books_of base history).messages ≤ entries_of base history
+  pub octets : (books_of base history).octets ≤ 273 * entries_of base history
+  pub few : AreFew (entries_of base history) (after base.state history)

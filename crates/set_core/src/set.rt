@@ -34,22 +34,23 @@ impl Model for SetCore {
 
     ghost Value = { LinkSet };
 
-    ghost use Rattle.set_model.specs.State.{new_state};
+    ghost use Rattle.set_model.specs.History.{opening_of};
     ghost use Rattle.set_core.specs.Keeping.{with_history, IsKept};
 
-    ghost view = { λ s. with_history (new_state s.config) s.history.items };
+    ghost view = { λ s. with_history (opening_of s.config) s.history.items };
 
-    ghost invariant = { λ s. IsKept (new_state s.config) s.core s.tally s.history.items };
+    ghost invariant = { λ s. IsKept (opening_of s.config) s.core s.tally s.history.items };
 }
 
 impl SetCore {
     ghost use Rattle.std.specs.Prelude.{◌≡◌, ◌<◌, ◌≤◌, ◌^◌, ◌↔◌, ◌+◌, IfOk, IfErr, OnOk, OnErr, length, sum};
-    ghost use Rattle.set_model.specs.State.{new_state, link_count, is_up as is_up_in, is_settled as is_settled_in, unacked_in};
+    ghost use Rattle.set_model.specs.State.{link_count, is_up as is_up_in, is_settled as is_settled_in, unacked_in};
     ghost use Rattle.set_model.specs.Sound.{IsSound};
-    ghost use Rattle.set_model.specs.Rows.{place, counts_of, total_of};
+    ghost use Rattle.set_model.specs.Rows.{place, total_of};
+    ghost use Rattle.set_model.specs.Checkpoint.{counts_in};
     ghost use Rattle.set_core.specs.Gaining.{BooksGain, AreBounded};
     ghost use Rattle.set_moves.specs.Agreement.{Agrees};
-    ghost use Rattle.set_model.specs.History.{new_set, IsStep, IsActor, IsLegal, after, books_in, messages_of, longest_history};
+    ghost use Rattle.set_model.specs.History.{new_set, opening_of, IsStep, IsActor, IsLegal, after, books_in, entries_in, longest_history};
 
     /// A set as this configuration has it: no messages, no link up, no history.
     ///
@@ -80,7 +81,7 @@ impl SetCore {
             (λ answer. BooksGain (books_in self.old) who event.now answer (books_in self.new)) }
         ensures bounded { IfOk result (λ answer. AreBounded (books_in self.new)) }
         ensures exhausted { (result ≡ Err SetFault.Exhausted)
-            ↔ (longest_history ≤ length self.old.history) }
+            ↔ (longest_history ≤ entries_in self.old) }
         ensures err { OnErr result (self.new ≡ self.old) }
     {
         let mut answer = Answer::Done;
@@ -104,10 +105,10 @@ impl SetCore {
             (BooksGain (books_in self.old) who event.now answer.new (books_in self.new)) }
         ensures bounded { OnOk result (AreBounded (books_in self.new)) }
         ensures exhausted { (result ≡ Err SetFault.Exhausted)
-            ↔ (longest_history ≤ length self.old.history) }
+            ↔ (longest_history ≤ entries_in self.old) }
         ensures err { OnErr result (self.new ≡ self.old) }
     {
-        if self.history.len() >= LONGEST_HISTORY {
+        if self.entries() >= LONGEST_HISTORY {
             return Err(SetFault::Exhausted);
         }
         self.history.reserve(event)?;
@@ -120,7 +121,7 @@ impl SetCore {
     /// The configuration that the set was opened with, from which [`crate::audit`] replays its history.
     /// Contracts see of it what the opening shows.
     pub fn config(&self) -> &SetConfig
-        ensures { new_state result.now ≡ self.now.opening }
+        ensures { opening_of result.now ≡ self.now.base }
     {
         &self.config
     }
@@ -156,8 +157,8 @@ impl SetCore {
 
     /// How many messages stand in each place; each message that was accepted stands in one.
     pub fn counts(&self) -> Counts
-        ensures value { result ≡ counts_of self.now.state.rows }
-        ensures all { total_of result ≡ messages_of self.now.history }
+        ensures value { result ≡ counts_in self.now.state }
+        ensures all { total_of result ≡ (books_in self.now).messages }
         ensures few { total_of result < 2 ^ 64 }
     {
         self.core.counts()
@@ -166,7 +167,7 @@ impl SetCore {
     /// The message at this place of the link's unacknowledged ones, the oldest at 0: the number of
     /// its row, and the FSN that it carries. Past the last one, or on a link that the set hasn't:
     /// `None`.
-    pub fn unacked_at(&self, link: u8, place: u8) -> Option<Numbered>
+    pub fn unacked_at(&self, link: u8, place: u16) -> Option<Numbered>
         ensures { result ≡ unacked_in self.now.state link place }
     {
         self.core.unacked_at(link, place)
@@ -177,8 +178,8 @@ impl SetCore {
     pub fn books(&self) -> Books
         ensures value { result ≡ books_in self.now }
         ensures bounded { AreBounded result }
-        ensures placed { total_of (counts_of self.now.state.rows) ≡ result.messages }
-        ensures calls { sum result.user_calls + sum result.term_calls ≡ length self.now.history }
+        ensures placed { total_of (counts_in self.now.state) ≡ result.messages }
+        ensures calls { sum result.user_calls + sum result.term_calls ≡ entries_in self.now }
     {
         Books {
             user_calls: self.tally.user_calls,
@@ -194,6 +195,14 @@ impl SetCore {
         ensures { result ≡ (books_in self.now).acknowledged }
     {
         self.core.counts().acked
+    }
+
+    /// How many calls of actors there were since the opening: each has an entry.
+    #[tactic(auto, using(crate::proofs::Keeping::opened_entries))]
+    fn entries(&self) -> usize
+        ensures { result ≡ entries_in self.now }
+    {
+        self.history.len()
     }
 
     /// All that was asked and answered, in order.
@@ -213,9 +222,9 @@ impl SetCore {
     /// A law: the history is legal, and what the set holds is what it leads to. To contracts it is that by
     /// definition; that what is kept agrees with it, [`SetCore::kept`] says.
     pub fn replays(&self)
-        ensures legal { IsLegal self.now.opening self.now.history }
-        ensures agrees { self.now.state ≡ after self.now.opening self.now.history }
-        ensures short { length self.now.history ≤ longest_history }
+        ensures legal { IsLegal self.now.base.state self.now.history }
+        ensures agrees { self.now.state ≡ after self.now.base.state self.now.history }
+        ensures short { entries_in self.now ≤ longest_history }
     {
         let _ = &self.core;
     }
@@ -229,7 +238,7 @@ impl SetCore {
     }
 
     /// A law: the numbers 0, 1, .. stand in one row each, no link has more than 127 unacknowledged
-    /// messages, and the BSN that a link sends is the number of the body it last accepted.
+    /// messages (4,095 in the wide profile), and the BSN that a link sends is the number of the body it last accepted.
     pub fn is_sound(&self)
         ensures { IsSound self.now.state }
     {

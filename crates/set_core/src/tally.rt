@@ -1,7 +1,7 @@
 //! What a set adds up as its history grows.
-ghost use Rattle.std.specs.Prelude.{◌≡◌, ◌+◌, ◌<◌, ◌≤◌, ◌^◌, ℕ, [], slice_index};
+ghost use Rattle.std.specs.Prelude.{◌≡◌, ◌+◌, ◌<◌, ◌≤◌, ◌^◌, ℕ, slice_index};
 ghost use Rattle.set_core.specs.Gaining.{users_after, terminals_after};
-ghost use Rattle.set_model.specs.History.{IsActor};
+ghost use Rattle.set_model.specs.History.{IsActor, no_books};
 ghost use Rattle.set_core.specs.Keeping.{IsTally};
 ghost use Rattle.set_model.specs.Step.{messages_in, octets_of, octets_offered};
 
@@ -21,9 +21,9 @@ pub struct Tally {
 }
 
 impl Tally {
-    /// The tally of an empty history.
+    /// The tally of a set that nothing was asked of.
     pub(crate) fn new() -> Tally
-        ensures { IsTally result [] }
+        ensures { IsTally result no_books }
     {
         Tally {
             user_calls: [0; 64],

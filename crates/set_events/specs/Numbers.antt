@@ -1,7 +1,7 @@
 -- The numbers of refusals and faults.
 use Rattle.std.specs.Prelude.{ℕ}
 use Rattle.set_events.specs.declared.answer.Refusal.{Refusal as SetRefusal}
-use Rattle.set_events.specs.declared.answer.Refusal.TheVariants.{TooShort, TooLong, Reserved, StreamFull, NotUp, NotDown, Unsettled, UnknownNumber, Nothing, NoSuchLink}
+use Rattle.set_events.specs.declared.answer.Refusal.TheVariants.{TooShort, TooLong, Reserved, StreamFull, NotUp, NotDown, Unsettled, UnknownNumber, Nothing, NoSuchLink, Finished}
 use Rattle.set_events.specs.declared.answer.DiscardCause.{DiscardCause}
 use Rattle.set_events.specs.declared.answer.DiscardCause.TheVariants.{Emergency, Unreasonable, NoAnswer}
 use Rattle.set_events.specs.declared.config.ConfigFault.{ConfigFault}
@@ -23,6 +23,7 @@ refusal_number Unsettled = 7
 refusal_number UnknownNumber = 8
 refusal_number Nothing = 9
 refusal_number NoSuchLink = 10
+refusal_number Finished = 11
 
 -- why messages were given up
 abbrev pub cause_number : DiscardCause → ℕ

@@ -68,7 +68,7 @@ pub enum Took {
 #[derive(Clone, Copy, Debug, PartialEq, Eq)]
 pub struct Report {
     /// How many messages it acknowledged, 0 to 127.
-    pub acked: u8,
+    pub acked: u16,
     /// What became of its body.
     pub took: Took,
     /// This end now asks for retransmission.
@@ -106,10 +106,12 @@ pub enum Refusal {
     Nothing,
     /// 10: the set has no such link.
     NoSuchLink,
+    /// 11: the message of this number was finished when a checkpoint was taken, and has no row since.
+    Finished,
 }
 
 impl Refusal {
-    /// The refusal's number, 1 to 10, as beside each case.
+    /// The refusal's number, 1 to 11, as beside each case.
     pub fn number(self) -> u8
         ensures { result ≡ refusal_number self }
     {
@@ -124,6 +126,7 @@ impl Refusal {
             Refusal::UnknownNumber => 8,
             Refusal::Nothing => 9,
             Refusal::NoSuchLink => 10,
+            Refusal::Finished => 11,
         }
     }
 }

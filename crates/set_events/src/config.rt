@@ -1,18 +1,24 @@
 //! What a set is opened with.
 ghost use Rattle.std.specs.Prelude.{◌≡◌, ◌<◌, ◌≤◌, ◌%◌, ◌^◌, true};
 ghost use Rattle.std.proofs.Props.{props};
-ghost use Rattle.set_events.specs.Method.{is_method};
+ghost use Rattle.set_events.specs.Method.{is_method, most_octets};
 
+use l2_units::Profile;
 use thiserror::Error;
 
 /// The most links of a set: a signalling link code has four bits (Q.704 15.2).
 const MOST_LINKS: u8 = 16;
 
-/// The most messages that can be unacknowledged (Q.703 5.2.2).
-const MOST_MESSAGES: u8 = 127;
-
-/// The most octets that their bodies can have.
-const MOST_OCTETS: u32 = 34_671;
+/// The most octets that the bodies of all messages can have that are unacknowledged at once: 127 of 273 octets, or, in
+/// the wide profile, 4,095 of 272.
+fn most_octets(profile: Profile) -> u32
+    ensures { result ≡ most_octets profile }
+{
+    match profile {
+        Profile::Narrow => 34_671,
+        Profile::Wide => 1_113_840,
+    }
+}
 
 /// How a link's messages are kept safe.
 #[derive(Clone, Copy, Debug, PartialEq, Eq)]
@@ -21,9 +27,9 @@ pub enum Method {
     Basic,
     /// Preventive cyclic retransmission (Q.703 6).
     Cyclic {
-        /// Unacknowledged messages that force a cycle, 1 to 127.
-        n1: u8,
-        /// Octets of unacknowledged bodies that force a cycle, 1 to 34,671.
+        /// Unacknowledged messages that force a cycle, 1 to 127 (wide: 4,095).
+        n1: u16,
+        /// Octets of unacknowledged bodies that force a cycle, 1 to 34,671 (wide: 1,113,840).
         n2: u32,
     },
 }
@@ -60,19 +66,22 @@ pub struct SetConfig {
     pub sio: u8,
     /// How messages are kept safe; the limits of the cyclic method are in their ranges.
     pub method: Method,
+    /// How many numbers the messages of a link have.
+    pub profile: Profile,
     pub ghost has_links: { 1 ≤ links },
     pub ghost links_in_range: { links ≤ 16 },
     pub ghost opc_in_range: { opc < 2 ^ 14 },
     pub ghost dpc_in_range: { dpc < 2 ^ 14 },
     pub ghost management: { sio % 16 ≡ 0 },
-    pub ghost limits_in_range: { is_method method ≡ true } by { Prim.hlevel props },
+    pub ghost limits_in_range: { is_method profile method ≡ true } by { Prim.hlevel props },
 }
 
 impl SetConfig {
     ghost use Rattle.std.specs.Prelude.{◌≡◌, None, Some, MatchResult};
     ghost use Rattle.set_events.specs.Config.{IsConfigOf, fault_of};
+    ghost use Rattle.l2_units.specs.declared.profile.Profile.TheVariants.{Narrow, Wide};
 
-    /// A configuration of these values.
+    /// A configuration of these values, of the narrow profile.
     ///
     /// Refusals, in this order: 1 [`ConfigFault::Links`], 2 [`ConfigFault::PointCode`],
     /// 3 [`ConfigFault::Sio`], 4 [`ConfigFault::Cyclic`].
@@ -85,10 +94,49 @@ impl SetConfig {
         method: Method,
     ) -> Result<SetConfig, ConfigFault>
         ensures ok { MatchResult result
-            (λ config. fault_of links opc dpc sio method ≡ None)
-            (λ fault. fault_of links opc dpc sio method ≡ Some fault) }
+            (λ config. fault_of Narrow links opc dpc sio method ≡ None)
+            (λ fault. fault_of Narrow links opc dpc sio method ≡ Some fault) }
         ensures made { MatchResult result
-            (λ config. IsConfigOf config set links opc dpc sio method)
+            (λ config. IsConfigOf config Narrow set links opc dpc sio method)
+            (λ fault. Unit {0}) }
+    {
+        SetConfig::of(Profile::Narrow, set, links, opc, dpc, sio, method)
+    }
+
+    /// The same of the wide profile: N1 is at most 4,095, N2 at most 1,113,840.
+    pub fn new_wide(
+        set: u16,
+        links: u8,
+        opc: u16,
+        dpc: u16,
+        sio: u8,
+        method: Method,
+    ) -> Result<SetConfig, ConfigFault>
+        ensures ok { MatchResult result
+            (λ config. fault_of Wide links opc dpc sio method ≡ None)
+            (λ fault. fault_of Wide links opc dpc sio method ≡ Some fault) }
+        ensures made { MatchResult result
+            (λ config. IsConfigOf config Wide set links opc dpc sio method)
+            (λ fault. Unit {0}) }
+    {
+        SetConfig::of(Profile::Wide, set, links, opc, dpc, sio, method)
+    }
+
+    /// A configuration of these values, of this profile, with the refusals of [`SetConfig::new`].
+    pub fn of(
+        profile: Profile,
+        set: u16,
+        links: u8,
+        opc: u16,
+        dpc: u16,
+        sio: u8,
+        method: Method,
+    ) -> Result<SetConfig, ConfigFault>
+        ensures ok { MatchResult result
+            (λ config. fault_of profile links opc dpc sio method ≡ None)
+            (λ fault. fault_of profile links opc dpc sio method ≡ Some fault) }
+        ensures made { MatchResult result
+            (λ config. IsConfigOf config profile set links opc dpc sio method)
             (λ fault. Unit {0}) }
     {
         if links == 0 || links > MOST_LINKS {
@@ -100,7 +148,7 @@ impl SetConfig {
         if sio % 16 != 0 {
             return Err(ConfigFault::Sio);
         }
-        if !is_in_range(method) {
+        if !is_in_range(profile, method) {
             return Err(ConfigFault::Cyclic);
         }
         Ok(SetConfig {
@@ -110,7 +158,15 @@ impl SetConfig {
             dpc,
             sio,
             method,
+            profile,
         })
+    }
+
+    /// How many numbers the messages of a link have.
+    pub fn profile(&self) -> Profile
+        ensures { result ≡ self.now.profile }
+    {
+        self.profile
     }
 }
 
@@ -132,13 +188,13 @@ impl ConfigFault {
 }
 
 /// Whether the limits of the cyclic method, if it is that, can be met.
-fn is_in_range(method: Method) -> bool
-    ensures { result ≡ is_method method }
+fn is_in_range(profile: Profile, method: Method) -> bool
+    ensures { result ≡ is_method profile method }
 {
     match method {
         Method::Basic => true,
         Method::Cyclic { n1, n2 } => {
-            (1..=MOST_MESSAGES).contains(&n1) && (1..=MOST_OCTETS).contains(&n2)
+            (1..=profile.most_unacked()).contains(&n1) && (1..=most_octets(profile)).contains(&n2)
         }
     }
 }

@@ -3,18 +3,18 @@ ghost use Rattle.std.specs.Prelude.{◌≡◌, ◌≤◌, ◌<◌, ◌^◌, ◌+
 ghost use Rattle.set_history.specs.Told.{size_of};
 ghost use Rattle.set_history.specs.Kept.{kept_unit, kept_event, kept_answer, unit_size, event_size, answer_size, unit_body, event_body, answer_body};
 
-use super::numbers::{Length, Packed};
+use super::numbers::{KeptHead, Length, Packed};
 use l2_signals::Status;
-use l2_units::{Header, Unit};
+use l2_units::Unit;
 use set_events::{Actor, Answer, Event, Fate, Refusal, Report};
 use std::mem::size_of;
 
 /// A unit without its body's octets.
 #[derive(Drop)]
 pub(crate) enum KeptUnit {
-    Fisu { head: Header },
-    Lssu { head: Header, status: Status },
-    Msu { head: Header, body: Length },
+    Fisu { head: KeptHead },
+    Lssu { head: KeptHead, status: Status },
+    Msu { head: KeptHead, body: Length },
 }
 
 /// What was asked, without its body's octets.
@@ -62,13 +62,15 @@ impl KeptUnit {
         ensures { result ≡ kept_unit unit.now }
     {
         match unit {
-            Unit::Fisu { head } => KeptUnit::Fisu { head: *head },
+            Unit::Fisu { head } => KeptUnit::Fisu {
+                head: KeptHead::of(*head),
+            },
             Unit::Lssu { head, status } => KeptUnit::Lssu {
-                head: *head,
+                head: KeptHead::of(*head),
                 status: *status,
             },
             Unit::Msu { head, body } => KeptUnit::Msu {
-                head: *head,
+                head: KeptHead::of(*head),
                 body: Length::of(body.len()),
             },
         }

@@ -100,13 +100,13 @@ pub(crate) fn unit_of(kept: &KeptUnit, octets: &[u8]) -> Unit
     ensures { result ≡ told_unit kept.now octets.now }
 {
     match kept {
-        KeptUnit::Fisu { head } => Unit::Fisu { head: *head },
+        KeptUnit::Fisu { head } => Unit::Fisu { head: head.head() },
         KeptUnit::Lssu { head, status } => Unit::Lssu {
-            head: *head,
+            head: head.head(),
             status: *status,
         },
         KeptUnit::Msu { head, body } => Unit::Msu {
-            head: *head,
+            head: head.head(),
             body: body_of(&octets[..body.octets()]),
         },
     }

@@ -8,8 +8,7 @@ use Rattle.set_events.specs.declared.answer.Counts.{Counts}
 use Rattle.set_events.specs.declared.books.Books.{Books}
 use Rattle.set_events.specs.declared.event.Actor.TheVariants.{User, Terminal}
 use Rattle.set_events.specs.declared.history.Entry.{Entry}
-use Rattle.set_model.specs.State.{State}
-use Rattle.set_model.specs.Rows.{counts_of}
+use Rattle.set_model.specs.Checkpoint.{counts_in}
 use Rattle.set_model.specs.History.{LinkSet, IsLegal, after, books_of}
 use Rattle.set_ledger.specs.declared.share.SeatShare.{SeatShare}
 use Rattle.set_ledger.specs.Seats.{SeatState, Returns}
@@ -74,14 +73,14 @@ whole_sums number us ts parts amount parts' amount' parts'' amount'' all total n
     let is : amount'' ≡ total = whole (omega (arith, none, parts_first, parts_then, many)) in
     omega (arith, is, amount_first, amount_then, nothing)
 
-pub closes : (us ts : List SeatState) (set : LinkSet) (books : Books) (counts : Counts) (calls messages octets acknowledged : ℕ) → IsLegal set.opening set.history → set.state ≡ after set.opening set.history → books ≡ books_of set.opening set.history → counts ≡ counts_of set.state.rows → AreFaithful set.history us ts
+pub closes : (us ts : List SeatState) (set : LinkSet) (books : Books) (counts : Counts) (calls messages octets acknowledged : ℕ) → IsLegal set.base.state set.history → set.state ≡ after set.base.state set.history → books ≡ books_of set.base set.history → counts ≡ counts_in set.state → AreFaithful set.history us ts
     → AreTotals calls messages octets acknowledged set
     → calls ≡ sum_by (λ (seat : SeatState). seat.share.calls) us + sum_by (λ (seat : SeatState). seat.share.calls) ts → messages ≡ sum_by (λ (seat : SeatState). seat.share.messages) us → octets ≡ sum_by (λ (seat : SeatState). seat.share.octets) us → acknowledged ≡ sum_by (λ (seat : SeatState). seat.share.acknowledged) ts
-    → IsClosed us ts set.opening set.history books counts
+    → IsClosed us ts set.base set.history books counts
 closes us ts set books counts calls messages octets acknowledged legal replays books_are counts_are faithful totals c m o a = record {
   legal = legal;
   books_are = books_are;
-  counts_are = counts_are ∙ ap (λ (state : State). counts_of state.rows) replays;
+  counts_are = counts_are ∙ ap counts_in replays;
   users_faithful = faithful.0;
   terminals_faithful = faithful.1;
   calls = sym totals.calls_is ∙ c;

@@ -8,7 +8,7 @@ use Rattle.set_events.specs.declared.event.Event.{Event}
 use Rattle.set_events.specs.declared.history.Entry.{Entry}
 use Rattle.set_core.proofs.Keeping.{messages_more, octets_more}
 use Rattle.set_core.specs.Gaining.{BooksGain, AreBounded, IsOwn, GainsNoOther as GainsNoOtherInBooks}
-use Rattle.set_model.specs.History.{LinkSet, IsStep, books_of}
+use Rattle.set_model.specs.History.{Base, LinkSet, IsStep, books_in, entries_in, entries_of}
 use Rattle.set_model.specs.Step.{messages_in, octets_of}
 use Rattle.set_ledger.specs.declared.share.SeatShare.{SeatShare}
 use Rattle.set_ledger.specs.Seats.{ShareGrows, AddsUp, acked_in, user_share, term_share, user_state, term_state}
@@ -92,8 +92,8 @@ pub few_enough : {n : ℕ} → n ≤ 2 ^ 48 → n ≤ 273 * 2 ^ 48
 few_enough few = omega (arith, few)
 
 -- What the books gained is what a step brought.
-pub brings : (old new : LinkSet) (who : Actor) (event : Event) (answer : Answer) (messages octets before after : ℕ) → IsOwn who event → IsStep old who event answer new → BooksGain (books_of old.opening old.history) who event answer (books_of new.opening new.history)
-    → AreBounded (books_of new.opening new.history) → length new.history ≤ 2 ^ 48 → messages ≡ messages_in answer → octets ≡ octets_of event answer → before ≡ acked_in old → after ≡ acked_in new
+pub brings : (old new : LinkSet) (who : Actor) (event : Event) (answer : Answer) (messages octets before after : ℕ) → IsOwn who event → IsStep old who event answer new → BooksGain (books_in old) who event answer (books_in new)
+    → AreBounded (books_in new) → entries_in new ≤ 2 ^ 48 → messages ≡ messages_in answer → octets ≡ octets_of event answer → before ≡ acked_in old → after ≡ acked_in new
     → Gains old who event answer (record { calls = 1; messages = messages; octets = octets; acknowledged = after - before }) new
 brings old new who event answer messages octets before after own is gains bounded few m o b a =
     let entry : Entry = record { who = who; event = event; answer = answer } in
@@ -107,7 +107,7 @@ brings old new who event answer messages octets before after own is gains bounde
       message = m;
       octet = o;
       no_other = only who (gains.own own);
-      calls = ap length is.history_is ∙ length-append old.history (entry ∷ []);
+      calls = ap (λ (base : Base). entries_of base new.history) is.base_is ∙ ap (entries_of old.base) is.history_is ∙ omega (arith, length-append old.history (entry ∷ []));
       messages = omega (arith, m, messages_gain);
       octets = omega (arith, o, octets_gain);
       acknowledged = omega (arith, b, a, acked_gain);
@@ -117,7 +117,7 @@ brings old new who event answer messages octets before after own is gains bounde
       few_acknowledged = omega (arith, few_acked, few_messages);
     }
   where
-    only : (who : Actor) → GainsNoOtherInBooks who (books_of old.opening old.history) (books_of new.opening new.history) → GainsNoOther who (record { calls = 1; messages = messages; octets = octets; acknowledged = after - before })
+    only : (who : Actor) → GainsNoOtherInBooks who (books_in old) (books_in new) → GainsNoOther who (record { calls = 1; messages = messages; octets = octets; acknowledged = after - before })
     only (User number) none = omega (arith, b, a, none)
     only (Terminal link) none =
         let no_message = none.0 in

@@ -5,9 +5,8 @@ use Rattle.set_events.specs.declared.event.Actor.TheVariants.{User, Terminal}
 use Rattle.set_events.specs.declared.history.Entry.{Entry}
 use Rattle.set_events.specs.declared.answer.Counts.{Counts}
 use Rattle.set_events.specs.declared.books.Books.{Books}
-use Rattle.set_model.specs.State.{State}
-use Rattle.set_model.specs.Rows.{counts_of}
-use Rattle.set_model.specs.History.{IsLegal, after, books_of, is_user, is_terminal}
+use Rattle.set_model.specs.Checkpoint.{counts_in}
+use Rattle.set_model.specs.History.{Base, IsLegal, after, books_of, entries_of, is_user, is_terminal}
 use Rattle.set_ledger.specs.declared.share.SeatShare.{SeatShare}
 use Rattle.set_ledger.specs.Seats.{SeatState}
 
@@ -41,16 +40,16 @@ IsFaithful history seat = seat.receipts ≡ filter (is_by seat.who) history
 abbrev pub AreFaithful : List Entry → List SeatState → List SeatState → Type 0
 AreFaithful history users terminals = All (IsFaithful history) users × All (IsFaithful history) terminals
 
--- CLOSED: what a set was opened as, its history and totals, once its seats are back.
-pub record IsClosed (users terminals : List SeatState) (opening : State) (history : List Entry) (books : Books)
+-- CLOSED: what a set went on from, its history since and its totals, once its seats are back.
+pub record IsClosed (users terminals : List SeatState) (base : Base) (history : List Entry) (books : Books)
     (counts : Counts) : Type 0 where
-  pub legal : IsLegal opening history
-  pub books_are : books ≡ books_of opening history
-  pub counts_are : counts ≡ counts_of (after opening history).rows
+  pub legal : IsLegal base.state history
+  pub books_are : books ≡ books_of base history
+  pub counts_are : counts ≡ counts_in (after base.state history)
   pub users_faithful : All (IsFaithful history) users
   pub terminals_faithful : All (IsFaithful history) terminals
   -- the totals are the sums of the shares
-  pub calls : length history ≡ sum_by (λ (seat : SeatState). seat.share.calls) users
+  pub calls : entries_of base history ≡ sum_by (λ (seat : SeatState). seat.share.calls) users
       + sum_by (λ (seat : SeatState). seat.share.calls) terminals
   pub messages : books.messages ≡ sum_by (λ (seat : SeatState). seat.share.messages) users
   pub octets : books.octets ≡ sum_by (λ (seat : SeatState). seat.share.octets) users

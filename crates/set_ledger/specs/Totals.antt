@@ -1,11 +1,11 @@
 -- THE TOTALS of a set: what its ledgers' books say, which is what its history adds up to.
-use Rattle.std.specs.Prelude.{◌≡◌, ◌+◌, ◌*◌, ◌≤◌, ℕ, [], length, Vec, vec_len, vec_capacity}
+use Rattle.std.specs.Prelude.{◌≡◌, ◌+◌, ◌*◌, ◌≤◌, ℕ, [], Vec, vec_len, vec_capacity}
 use Rattle.std.specs.declared.sync.ledger.Blank.{Blank}
 use Rattle.set_events.specs.declared.answer.Answer.{Answer}
 use Rattle.set_events.specs.declared.event.Actor.{Actor}
 use Rattle.set_events.specs.declared.event.Actor.TheVariants.{User, Terminal}
 use Rattle.set_events.specs.declared.event.Event.{Event}
-use Rattle.set_model.specs.History.{LinkSet, messages_of, octets_in_all, longest_history}
+use Rattle.set_model.specs.History.{LinkSet, books_in, entries_in, longest_history}
 use Rattle.set_model.specs.Step.{messages_in, octets_of}
 use Rattle.set_ledger.specs.declared.share.SeatShare.{SeatShare}
 use Rattle.set_ledger.specs.Seats.{acked_in}
@@ -17,9 +17,9 @@ pub record HeldState : Type 0 where
   pub set : LinkSet
 
 pub record AreTotals (calls messages octets acknowledged : ℕ) (set : LinkSet) : Type 0 where
-  pub calls_is : calls ≡ length set.history
-  pub messages_is : messages ≡ messages_of set.history
-  pub octets_is : octets ≡ octets_in_all set.history
+  pub calls_is : calls ≡ entries_in set
+  pub messages_is : messages ≡ (books_in set).messages
+  pub octets_is : octets ≡ (books_in set).octets
   pub acknowledged_is : acknowledged ≡ acked_in set
 
 -- a user acknowledges nothing; a terminal accepts nothing
@@ -34,13 +34,13 @@ pub record Gains (old : LinkSet) (who : Actor) (event : Event) (answer : Answer)
   pub message : gained.messages ≡ messages_in answer
   pub octet : gained.octets ≡ octets_of event answer
   pub no_other : GainsNoOther who gained
-  pub calls : length new.history ≡ length old.history + gained.calls
-  pub messages : messages_of new.history ≡ messages_of old.history + gained.messages
-  pub octets : octets_in_all new.history ≡ octets_in_all old.history + gained.octets
+  pub calls : entries_in new ≡ entries_in old + gained.calls
+  pub messages : (books_in new).messages ≡ (books_in old).messages + gained.messages
+  pub octets : (books_in new).octets ≡ (books_in old).octets + gained.octets
   pub acknowledged : acked_in new ≡ acked_in old + gained.acknowledged
-  pub few_calls : length new.history ≤ longest_history
-  pub few_messages : messages_of new.history ≤ longest_history
-  pub few_octets : octets_in_all new.history ≤ 273 * longest_history
+  pub few_calls : entries_in new ≤ longest_history
+  pub few_messages : (books_in new).messages ≤ longest_history
+  pub few_octets : (books_in new).octets ≤ 273 * longest_history
   pub few_acknowledged : acked_in new ≤ longest_history
 
 -- this blank is of the ledger of that name, cut into so many parts

@@ -1,6 +1,6 @@
 //! The end of a set: all its seats are back, and their receipts are held against its history.
 ghost use Rattle.std.specs.Prelude.{◌≡◌, ◌↔◌, true, IsTrue, IfOk, IfErr, OnOk, OnErr, if◌then◌else◌};
-ghost use Rattle.set_model.specs.State.{new_state};
+ghost use Rattle.set_model.specs.History.{opening_of};
 ghost use Rattle.set_ledger.specs.Ending.{is_complete, AreFaithful, IsClosed, IsMerged};
 
 use super::checking::{are_faithful, are_terminals, are_users};
@@ -68,9 +68,9 @@ impl<C: Ledger, M: Ledger, O: Ledger, A: Ledger> Held<C, M, O, A> {
         ensures complete { OnOk result
             (is_complete self.users self.links users.items terminals.items ≡ true) }
         ensures closed { IfOk result (λ closed.
-            IsClosed users.items terminals.items (new_state closed.config) closed.history.items
+            IsClosed users.items terminals.items (opening_of closed.config) closed.history.items
             closed.books closed.counts) }
-        ensures config { IfOk result (λ closed. new_state closed.config ≡ self.set.opening) }
+        ensures config { IfOk result (λ closed. opening_of closed.config ≡ self.set.base) }
         ensures history { IfOk result (λ closed. closed.history.items ≡ self.set.history) }
         ensures back { IfErr result (λ fault. fault ≡
             (if is_complete self.users self.links users.items terminals.items
@@ -129,9 +129,9 @@ impl<C: Ledger, M: Ledger, O: Ledger, A: Ledger> Held<C, M, O, A> {
     ) -> Closed
         requires complete { is_complete self.users self.links users.items terminals.items ≡ true }
         requires faithful { AreFaithful self.set.history users.items terminals.items }
-        ensures closed { IsClosed users.items terminals.items (new_state result.config)
+        ensures closed { IsClosed users.items terminals.items (opening_of result.config)
             result.history.items result.books result.counts }
-        ensures config { new_state result.config ≡ self.set.opening }
+        ensures config { opening_of result.config ≡ self.set.base }
         ensures history { result.history.items ≡ self.set.history }
     {
         self.core.replays();

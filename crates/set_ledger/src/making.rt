@@ -1,7 +1,7 @@
 //! One step at a set that is lent, and its receipt.
-ghost use Rattle.std.specs.Prelude.{◌≡◌, ◌≤◌, ◌++◌, ◌∷◌, [], length, IfOk, OnErr};
+ghost use Rattle.std.specs.Prelude.{◌≡◌, ◌≤◌, ◌++◌, ◌∷◌, [], IfOk, OnErr};
 ghost use Rattle.set_core.specs.Gaining.{IsOwn};
-ghost use Rattle.set_model.specs.History.{IsActor, IsStep, longest_history};
+ghost use Rattle.set_model.specs.History.{IsActor, IsStep, entries_in, longest_history};
 ghost use Rattle.set_ledger.specs.Totals.{Gains};
 
 use super::share::{SeatShare, count_messages, count_octets};
@@ -31,7 +31,7 @@ pub(crate) fn make(
     ensures gains { IfOk result
         (λ made. Gains core.old who event.now made.answer made.gained core.new) }
     ensures exhausted { result ≡ Err SetFault.Exhausted
-        → longest_history ≤ length core.old.history }
+        → longest_history ≤ entries_in core.old }
     ensures err { OnErr result ((core.new ≡ core.old) × (receipts.new.items ≡ receipts.old.items)) }
 {
     receipts.reserve(event)?;

@@ -2,7 +2,7 @@
 ghost use Rattle.std.specs.Prelude.{◌≡◌, ◌<◌, ◌≤◌, ◌+◌, length, IfOk, OnOk, OnErr};
 ghost use Rattle.set_events.specs.declared.event.Actor.TheVariants.{User, Terminal};
 ghost use Rattle.set_core.specs.Gaining.{IsOwn};
-ghost use Rattle.set_model.specs.History.{IsStep, longest_history};
+ghost use Rattle.set_model.specs.History.{IsStep, entries_in, longest_history};
 ghost use Rattle.set_ledger.specs.Seats.{Receives, AcknowledgesAs, AddsUp, Returns, new_seats};
 ghost use Rattle.set_ledger.specs.Totals.{IsRoom};
 
@@ -47,7 +47,7 @@ pub trait Seat<C: Ledger, M: Ledger, O: Ledger, A: Ledger> {
             (state self.new).share) }
         ensures seats { (held.new.users ≡ held.old.users) × (held.new.links ≡ held.old.links) }
         ensures exhausted { result ≡ Err SetFault.Exhausted
-            → longest_history ≤ length held.old.set.history }
+            → longest_history ≤ entries_in held.old.set }
         ensures err { OnErr result ((held.new ≡ held.old) × (state self.new ≡ state self.old)) };
 }
 
@@ -239,7 +239,7 @@ pub fn step_in<C: Ledger, M: Ledger, O: Ledger, A: Ledger, S: Seat<C, M, O, A>>(
         (S.state seat.new).share) }
     ensures seats { (held.new.users ≡ held.old.users) × (held.new.links ≡ held.old.links) }
     ensures exhausted { result ≡ Err SetFault.Exhausted
-        → longest_history ≤ length held.old.set.history }
+        → longest_history ≤ entries_in held.old.set }
     ensures err { OnErr result ((held.new ≡ held.old) × (S.state seat.new ≡ S.state seat.old)) }
 {
     seat.step(held, event)

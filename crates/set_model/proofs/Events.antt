@@ -1,4 +1,5 @@
 -- WHAT EACH CHANGE DOES TO EACH LINK: the lemmas that a set's step is argued by.
+use Rattle.l2_units.specs.declared.profile.Profile.{Profile}
 use Rattle.std.proofs.Common.{inl, inr, refl, arith, ◌≡◌, ◌∙◌, ap, ◌≤◌, [], ◌∷◌, length, ℕ, Bool, true, false, ◌==◌, ◌||◌, List, ◌++◌, map, take, drop, not, cond}
 use Rattle.std.proofs.lemmas.List.{append-nil, map-append}
 use Rattle.std.proofs.lemmas.List.Elements.{filter-append}
@@ -21,15 +22,19 @@ numbers_joined fate xs ys = map-append (λ (row : Row). row.number) xs (map (fat
 
 -- What every change but a new message keeps.
 pub record Kept (rows new : List Row) : Type 0 where
-  pub fit : AreFit rows → AreFit new
-  pub numbered : IsNumbered rows → IsNumbered new
+  pub fit : (p : Profile) → AreFit p rows → AreFit p new
+  pub numbered : (given : ℕ) → IsNumbered given rows → IsNumbered given new
   pub count : length new ≡ length rows
-  pub bodies : IsNumbered rows → (number : ℕ) → body_at number new ≡ body_at number rows
+  pub bodies : (given : ℕ) → IsNumbered given rows → (number : ℕ) → body_at number new ≡ body_at number rows
   pub total : total_of (counts_of new) ≡ total_of (counts_of rows)
   pub acked : (counts_of rows).acked ≤ (counts_of new).acked
 
 pub moved_kept : (test : Fate → Bool) (fate : Row → Fate) (rows : List Row) → ((row : Row) → was_acked (fate row) ≡ false) → ((l : ℕ) → test (Acked l) ≡ false) → Kept rows (moved test fate rows)
-moved_kept test fate rows o w = let none : (f : Fate) → test f ≡ true → was_acked f ≡ false = λ f e. grind arith in grind (arith, moved_fit, moved_numbered, moved_length, body_moved, total_is, filter_moved, filter_comm, moved_same)
+moved_kept test fate rows o w =
+    let none : (f : Fate) → test f ≡ true → was_acked f ≡ false = λ f e. grind arith in
+    let numbered = λ (given : ℕ) (n : IsNumbered given rows). moved_numbered test fate given rows n in
+    let bodies = λ (given : ℕ) (n : IsNumbered given rows) (number : ℕ). body_moved test fate given number rows n in
+    grind (arith, moved_fit, numbered, moved_length, bodies, total_is, filter_moved, filter_comm, moved_same)
 
 -- Nothing that link n sees changed.
 pub record Untouched (n : ℕ) (rows new : List Row) : Type 0 where
@@ -49,11 +54,11 @@ untouched n rows new same =
 
 -- A NEW MESSAGE.
 -- a place where it stands, and one where it doesn't
-pub appended_in : (rows : List Row) (body : List ℕ) (fate : Fate) (test : Fate → Bool) → test fate ≡ true → standing test (appended rows body fate) ≡ standing test rows ++ new_row (length rows) body fate ∷ []
-appended_in rows body fate test h = filter-append (λ (row : Row). test row.fate) rows (new_row (length rows) body fate ∷ []) ∙ rw h refl
+pub appended_in : (number : ℕ) (rows : List Row) (body : List ℕ) (fate : Fate) (test : Fate → Bool) → test fate ≡ true → standing test (appended number rows body fate) ≡ standing test rows ++ new_row number body fate ∷ []
+appended_in number rows body fate test h = filter-append (λ (row : Row). test row.fate) rows (new_row number body fate ∷ []) ∙ rw h refl
 
-pub appended_out : (rows : List Row) (body : List ℕ) (fate : Fate) (test : Fate → Bool) → test fate ≡ false → standing test (appended rows body fate) ≡ standing test rows
-appended_out rows body fate test h = filter-append (λ (row : Row). test row.fate) rows (new_row (length rows) body fate ∷ []) ∙ ap (λ (xs : List Row). standing test rows ++ xs) (rw h refl) ∙ append-nil (standing test rows)
+pub appended_out : (number : ℕ) (rows : List Row) (body : List ℕ) (fate : Fate) (test : Fate → Bool) → test fate ≡ false → standing test (appended number rows body fate) ≡ standing test rows
+appended_out number rows body fate test h = filter-append (λ (row : Row). test row.fate) rows (new_row number body fate ∷ []) ∙ ap (λ (xs : List Row). standing test rows ++ xs) (rw h refl) ∙ append-nil (standing test rows)
 
 -- ROWS OF A LINK THAT CHANGE IN THEIR PLACES: none of them is held, and what stands elsewhere doesn't change.
 pub record ChangesOn (l : ℕ) (rows new : List Row) : Type 0 where

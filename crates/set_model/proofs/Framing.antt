@@ -6,13 +6,18 @@ use Rattle.std.proofs.lemmas.List.Elements.{filter-append}
 use Rattle.std.proofs.lemmas.List.{append-nil, drop-map, take-map}
 use Rattle.l3_orders.specs.Grammar.{order_of, link_of}
 use Rattle.set_route.specs.Routing.{Routing}
-use Rattle.set_model.specs.Step.{SignalUnit, Event, step, brought, rows_sent, takes}
+use Rattle.std.specs.Prelude.{◌+◌, ◌-◌, ◌%◌, ◌<◌, if◌then◌else◌}
+use Rattle.l2_units.specs.declared.profile.Profile.{Profile}
+use Rattle.l2_units.specs.Grammar.{head_of as header_in}
+use Rattle.l2_window.specs.Window.{WindowState, fsn_count, fsn_before_first}
+use Rattle.l2_window.proofs.Numbers.{acked_is}
+use Rattle.set_model.specs.Step.{SignalUnit, Fisu, Lssu, Msu, Event, step, brought, rows_sent, takes, is_heard, is_msu, part_in}
 use Rattle.set_model.specs.Changeover.{Order, fate_on}
-use Rattle.set_model.specs.Control.{Choice}
+use Rattle.set_model.specs.Control.{Choice, Control, Basic, Cyclic, Header, part_of, acked_by, is_processed}
 use Rattle.set_model.specs.Frame.{BringsAbout, Concerns, LeavesAlone, MovesAsItsControl, window_after}
 use Rattle.set_model.specs.Rows.{Fate, Waiting, Unacked, IsInOrder, Row, appended, fated, held, is_held, is_on, is_unacked, is_waiting, moved, numbers, standing, unack, wait}
 use Rattle.set_model.specs.Sound.{IsSound}
-use Rattle.set_model.specs.State.{Up, LinkState, State, is_up, link_is_up, target, window_of}
+use Rattle.set_model.specs.State.{Up, LinkState, State, given, is_up, link_is_up, target, window_of}
 use Rattle.set_model.proofs.Events.{ChangesOn, Unparked, Untouched, untouched, sent, acknowledged, appended_out, numbers_joined}
 use Rattle.set_model.proofs.Rows.{fated_none, new_row, moved_same, moved_more}
 use Rattle.set_model.proofs.Lists.{get_set_same, get_set_other, within, target_off}
@@ -26,8 +31,8 @@ alone_more : (n : ℕ) (s t : State) (come : List Row) → slice_get t.links n �
 alone_more n s t come link sent waits holds no_wait no_held = record { link_same = link; unack_same = sent; more = wait n come; wait_more = waits; none_more = no_wait; later = held n come; held_later = holds; none_later = no_held }
 
 -- a new message comes to wait for the link, or to be held for it
-alone_appended : (n : ℕ) (body : List ℕ) (fate : Fate) (s : State) (routing : Routing) → is_unacked n fate ≡ false → (is_up n s ≡ false → is_waiting n fate ≡ false) → (is_up n s ≡ true → is_held n fate ≡ false) → LeavesAlone n s (record s { rows = appended s.rows body fate; routing = routing })
-alone_appended n body fate s routing unsent waits holds = alone_more n s _ (new_row (length s.rows) body fate ∷ []) refl (appended_out s.rows body fate (is_unacked n) unsent) (grind (arith, filter-append)) (grind (arith, filter-append)) (λ e. grind (arith, waits)) (λ e. grind (arith, holds))
+alone_appended : (n : ℕ) (body : List ℕ) (fate : Fate) (s : State) (routing : Routing) → is_unacked n fate ≡ false → (is_up n s ≡ false → is_waiting n fate ≡ false) → (is_up n s ≡ true → is_held n fate ≡ false) → LeavesAlone n s (record s { rows = appended (given s) s.rows body fate; routing = routing })
+alone_appended n body fate s routing unsent waits holds = alone_more n s _ (new_row (given s) body fate ∷ []) refl (appended_out (given s) s.rows body fate (is_unacked n) unsent) (grind (arith, filter-append)) (grind (arith, filter-append)) (λ e. grind (arith, waits)) (λ e. grind (arith, holds))
 
 -- rows of other places that move come to wait for the link, or to be held for it
 alone_moved : (n : ℕ) (test : Fate → Bool) (fate : Row → Fate) (s : State) (links : List LinkState) (routing : Routing) → slice_get links n ≡ slice_get s.links n → ((f : Fate) → test f ≡ true → is_on n f ≡ false) → ((x : Row) → is_unacked n (fate x) ≡ false)
@@ -58,15 +63,47 @@ window_sent n link choice rows order =
     let unacked = ap numbers (d.unack_is order) ∙ numbers_joined (λ row. Unacked n) (unack n rows) (take 1 (wait n rows)) in
     grind (arith, take-map, numbers-drop, d.wait_is, unacked)
 
-none_brought : (unit : SignalUnit) → ((about : ℕ) → BringsAbout about unit → ⊥) → (accept : Bool) (t : State) (body : Option (List ℕ)) → brought accept unit ≡ body → ((takes body t).state.links ≡ t.links) × ((takes body t).state.rows ≡ t.rows)
-none_brought unit none accept t None e = (refl, refl)
-none_brought unit none accept t (Some body) e = let no = λ (o : Order) (f : order_of body ≡ Some o). none (link_of o) (grind arith) in grind (arith, no)
+none_brought : (unit : SignalUnit) (t : State) → ((about : ℕ) → BringsAbout t.settings.profile about unit → ⊥) → (accept : Bool) (body : Option (List ℕ)) → brought accept unit ≡ body → ((takes body t).state.links ≡ t.links) × ((takes body t).state.rows ≡ t.rows)
+none_brought unit t none accept None e = (refl, refl)
+none_brought unit t none accept (Some body) e = let no = λ (o : Order) (f : order_of t.settings.profile body ≡ Some o). none (link_of o) (grind arith) in grind (arith, no)
+
+-- a unit that is heard has numbers of the profile
+pub heard_low : (p : Profile) (unit : SignalUnit) → is_heard p unit ≡ true → (header_in unit).bsn < fsn_count p
+heard_low p (Fisu head) e = grind (arith, nat_tests)
+heard_low p (Lssu head status) e = absurd cc
+heard_low p (Msu head body) e = grind (arith, nat_tests)
+
+-- and leaves its BSN as the one last acknowledged, where it's processed
+last_heard : (p : Profile) (acked last bsn : ℕ) (b : Bool) → last ≡ (acked + fsn_before_first p) % fsn_count p → bsn < fsn_count p → (acked + (if b then (bsn + fsn_count p - last) % fsn_count p else 0) + fsn_before_first p) % fsn_count p ≡ (if b then bsn else last)
+last_heard p acked last bsn true e low = acked_is p acked last bsn e low
+last_heard p acked last bsn false e low = ap (λ (n : ℕ). (n + fsn_before_first p) % fsn_count p) (omega arith) ∙ sym e
+
+moved_window : (p : Profile) (last last' : ℕ) (xs xs' ys ys' : List ℕ) → last ≡ last' → xs ≡ xs' → ys ≡ ys' → ◌≡◌ {A = WindowState} (record { profile = p; last = last; unacked = xs; unsent = ys; room = 0 }) (record { profile = p; last = last'; unacked = xs'; unsent = ys'; room = 0 })
+moved_window p last last' xs xs' ys ys' e f g = rw (e, f, g) refl
+
+part_acked : (control : Control) (w : WindowState) (head : Header) (msu : Bool) → (part_of control w head msu).acked ≡ acked_by control w head
+part_acked (Basic s) w head msu = refl
+part_acked (Cyclic s) w head msu = refl
 
 pub window_moves : (n : ℕ) (link : LinkState) (s : State) → IsSound s → slice_get s.links n ≡ Some link → link.phase ≡ Up → MovesAsItsControl n link s
 window_moves n link s t there up =
     let few = within s.links n link there in
     record {
       sent = (_, get_set_same s.links n _ few, refl, window_sent n link _ s.rows (t.links n link there).in_order);
-      heard = λ unit. let acks = λ (count : ℕ). acknowledged n count s.rows in (_, get_set_same s.links n _ few, refl, grind (arith, numbers-drop, acks));
-      no_more = λ unit none. none_brought unit none _ _ _ refl;
+      heard = λ unit fits.
+          let head = header_in unit in
+          let w = window_of n link s.rows in
+          let low : head.bsn < fsn_count link.profile = rw ((t.links n link there).profile) (heard_low s.settings.profile unit fits) in
+          let count = part_acked link.control w head (is_msu unit) in
+          let last = last_heard link.profile link.acked w.last head.bsn (is_processed link.control w head) refl low in
+          let a = acknowledged n (part_in unit n link s).acked s.rows in (
+            _,
+            get_set_same s.links n _ few,
+            refl,
+            moved_window link.profile _ _ _ _ _ _
+                (ap (λ (d : ℕ). (link.acked + d + fsn_before_first link.profile) % fsn_count link.profile) count ∙ last)
+                (ap numbers a.unack_is ∙ numbers-drop _ (unack n s.rows) ∙ ap (λ (d : ℕ). drop d (numbers (unack n s.rows))) count)
+                (ap numbers a.wait_same),
+          );
+      no_more = λ unit none. none_brought unit _ none _ _ refl;
     }

@@ -10,3 +10,4 @@ pub mod SoundLink
 pub mod Soundness
 pub mod Staying
 pub mod Walk
+pub mod Checkpointing

@@ -34,9 +34,9 @@ ascends_end k [] below a = (tt, tt)
 ascends_end k (n ∷ ns) below a = (each_append (λ m. n < m) ns (k ∷ []) a.0 (below 0 n refl, tt), ascends_end k ns (λ i m e. below (suc i) m e) a.1)
 
 -- as that of a new message does
-pub ascends_appended : (p : Row → Bool) (rows : List Row) (body : List ℕ) (fate : Fate) → IsNumbered rows → IsAscending (numbers (filter p rows)) → IsAscending (numbers (filter p (appended rows body fate)))
-ascends_appended p rows body fate numbered a =
-    let last = ascends_end (length rows) (numbers (filter p rows)) (λ i m e. (found_by_number p rows i m numbered e).below) a in
+pub ascends_appended : (given : ℕ) (p : Row → Bool) (rows : List Row) (body : List ℕ) (fate : Fate) → IsNumbered given rows → IsAscending (numbers (filter p rows)) → IsAscending (numbers (filter p (appended given rows body fate)))
+ascends_appended given p rows body fate numbered a =
+    let last = ascends_end given (numbers (filter p rows)) (λ i m e. (found_by_number given p rows i m numbered e).below) a in
     grind (arith, filter-append, map-append, append-nil, last)
 
 -- WHAT STANDS BACK, as streams move.

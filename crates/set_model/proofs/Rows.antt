@@ -1,4 +1,6 @@
 -- Filters of rows, and of rows with other fates.
+use Rattle.l2_units.specs.declared.profile.Profile.{Profile}
+use Rattle.l2_units.specs.Profile.{longest_body}
 use Rattle.std.proofs.Common.{refl, arith, ◌≡◌, ◌∙◌, ap, sym, [], ◌∷◌, length, ◌≤◌, Bool, true, false, List, ◌++◌, map, filter, not, ◌+◌, ◌<◌, ℕ, nat_lt, ◌==◌, None, cond, zero, suc, drop, Some, slice_get, option_map}
 use Rattle.set_model.specs.Rows.{Acked, Fate, Each, AreBefore, AreFit, Row, fated, standing, IsNumbered, moved, counts_of, is_parked, stands_back, total_of, users, waits, was_acked, was_discarded, was_held, was_sent, appended, row_of, body_at, changed, turned, with_fate, numbers, place}
 use Rattle.std.proofs.lemmas.List.{append-nil, length-append, length-map, length_push}
@@ -56,9 +58,9 @@ pub each_filter : (P Q : Row → Type 0) (p : Row → Bool) → ((x : Row) → p
 each_filter P Q p so [] e = tt
 each_filter P Q p so (x ∷ rows) e = grind (arith, each_filter P Q p so rows e.1)
 
-pub fit_fated : (fate : Row → Fate) (xs : List Row) → AreFit xs → AreFit (map (fated fate) xs)
-fit_fated fate [] a = a
-fit_fated fate (x ∷ xs) a = (a.0, fit_fated fate xs a.1)
+pub fit_fated : (p : Profile) (fate : Row → Fate) (xs : List Row) → AreFit p xs → AreFit p (map (fated fate) xs)
+fit_fated p fate [] a = a
+fit_fated p fate (x ∷ xs) a = (a.0, fit_fated p fate xs a.1)
 
 -- Rows that leave their places and stand at the end, each with its fate.
 module _ (test : Fate → Bool) (fate : Row → Fate) where
@@ -69,11 +71,11 @@ module _ (test : Fate → Bool) (fate : Row → Fate) where
   pub filter_moved : (p : Row → Bool) → ((x : Row) → p (fated fate x) ≡ p x) → (rows : List Row) → filter p (moved test fate rows) ≡ moved test fate (filter p rows)
   filter_moved p same rows = search (filter-append, filter_comm, filter_fated)
 
-  pub moved_numbered : (rows : List Row) → IsNumbered rows → IsNumbered (moved test fate rows)
-  moved_numbered rows numbered number = grind (arith, filter_moved, moved_length, numbered)
+  pub moved_numbered : (given : ℕ) (rows : List Row) → IsNumbered given rows → IsNumbered given (moved test fate rows)
+  moved_numbered given rows numbered number = grind (arith, filter_moved, moved_length, numbered)
 
-  pub moved_fit : (rows : List Row) → AreFit rows → AreFit (moved test fate rows)
-  moved_fit rows a = let fits = λ (p : Row → Bool). each_filter _ (λ row. length row.body ≤ 273) p (λ x e f. f) rows a in search (each_append, fits, fit_fated)
+  pub moved_fit : (q : Profile) (rows : List Row) → AreFit q rows → AreFit q (moved test fate rows)
+  moved_fit q rows a = let fits = λ (p : Row → Bool). each_filter _ (λ row. length row.body ≤ longest_body q) p (λ x e f. f) rows a in search (each_append, fits, fit_fated)
 
 -- WHAT THE FILTERS SEE OF A MOVE.
 module _ (test other : Fate → Bool) (fate : Row → Fate) (rows : List Row) where
@@ -124,11 +126,11 @@ with_number number rows = filter (λ row. row.number == number) rows
 abbrev pub new_row : ℕ → List ℕ → Fate → Row
 new_row number body fate = record { number = number; body = body; fate = fate }
 
-pub numbered_appended : (rows : List Row) (body : List ℕ) (fate : Fate) → IsNumbered rows → IsNumbered (appended rows body fate)
-numbered_appended rows body fate numbered number = grind (arith, nat_tests, filter-append, length-append, length_push)
+pub numbered_appended : (given : ℕ) (rows : List Row) (body : List ℕ) (fate : Fate) → IsNumbered given rows → IsNumbered (given + 1) (appended given rows body fate)
+numbered_appended given rows body fate numbered number = grind (arith, nat_tests, filter-append, length-append, length_push)
 
-pub same_numbers : (rows new : List Row) → length new ≡ length rows → ((number : ℕ) → length (with_number number new) ≡ length (with_number number rows)) → IsNumbered rows → IsNumbered new
-same_numbers rows new long each numbered number = each number ∙ numbered number ∙ ap (λ (n : ℕ). cond (nat_lt number n) 1 0) (sym long)
+pub same_numbers : (given : ℕ) (rows new : List Row) → ((number : ℕ) → length (with_number number new) ≡ length (with_number number rows)) → IsNumbered given rows → IsNumbered given new
+same_numbers given rows new each numbered number = omega (arith, each number, numbered number)
 
 -- Rows that get another fate in their places: the first n where a test tells. All of them are as many as there are rows.
 -- What is kept where a row stays, and where one turns, is kept by the change.
@@ -142,7 +144,7 @@ module _ (test : Fate → Bool) (fate : Fate) (P : List Row → List Row → Typ
 -- WHAT SUCH A CHANGE KEEPS.
 pub record InPlace (test : Fate → Bool) (fate : Fate) (xs ys : List Row) : Type 0 where
   pub count : length ys ≡ length xs
-  pub fit : AreFit xs → AreFit ys
+  pub fit : (p : Profile) → AreFit p xs → AreFit p ys
   pub as_many : (p : Row → Bool) → ((f : Fate) (x : Row) → p (with_fate f x) ≡ p x) → length (filter p ys) ≡ length (filter p xs)
   pub bodies : (number : ℕ) → body_at number ys ≡ body_at number xs
   -- where no acknowledged one turns
@@ -171,16 +173,20 @@ pub changed_left : (test : Fate → Bool) (fate : Fate) → test fate ≡ false 
 changed_left test fate o rows = turned_left test fate o (length rows) rows ∙ drop_of_length-le (standing test rows) (fewer_filter (λ row. test row.fate) rows)
 
 -- What is found under a number, before and after a change.
-pub at_most_one : (number : ℕ) (rows : List Row) → IsNumbered rows → length (with_number number rows) ≤ 1
-at_most_one number rows numbered = grind arith
+pub at_most_one : (given number : ℕ) (rows : List Row) → IsNumbered given rows → length (with_number number rows) ≤ 1
+at_most_one given number rows numbered = let one = numbered number in grind (arith, one)
 
 pub row_is_first : (number : ℕ) (rows : List Row) → row_of number rows ≡ slice_get (with_number number rows) 0
 row_is_first number [] = refl
 row_is_first number (x ∷ rows) = grind (arith, row_is_first number rows)
 
--- a number below the length is found
-pub is_found : (number : ℕ) (rows : List Row) → IsNumbered rows → number < length rows → row_of number rows ≡ None → ⊥
-is_found number rows numbered below e = let one = numbered number in let there = present (with_number number rows) 0 in grind (arith, nat_tests, row_is_first, one, there)
+-- where there are as many rows as before
+pub numbered_on : (gone : ℕ) (rows new : List Row) → length new ≡ length rows → IsNumbered (gone + length rows) new → IsNumbered (gone + length new) new
+numbered_on gone rows new long numbered = rw long numbered
+
+-- a number that wasn't given out isn't found
+pub not_found : (given number : ℕ) (rows : List Row) → IsNumbered given rows → given ≤ number → row_of number rows ≡ None
+not_found given number rows numbered above = let none = numbered number in grind (arith, nat_tests, row_is_first, none, no_rows)
 
 -- A MOVE: the row of a number is the one that it was, with the fate if it moved.
 module _ (test : Fate → Bool) (fate : Row → Fate) where
@@ -189,14 +195,14 @@ module _ (test : Fate → Bool) (fate : Row → Fate) where
   few_moved (x ∷ []) l = grind arith
   few_moved (x ∷ y ∷ rows) l = absurd (omega (arith, l))
 
-  row_moved : (number : ℕ) (rows : List Row) → IsNumbered rows → row_of number (moved test fate rows) ≡ option_map (λ row. cond (test row.fate) (fated fate row) row) (row_of number rows)
-  row_moved number rows numbered = grind (arith, row_is_first, filter_moved, few_moved)
+  row_moved : (given number : ℕ) (rows : List Row) → IsNumbered given rows → row_of number (moved test fate rows) ≡ option_map (λ row. cond (test row.fate) (fated fate row) row) (row_of number rows)
+  row_moved given number rows numbered = let few = at_most_one given number rows numbered in grind (arith, row_is_first, filter_moved, few_moved, few)
 
-  pub place_moved : (number : ℕ) (rows : List Row) → IsNumbered rows → place number (moved test fate rows) ≡ option_map (λ r. cond (test r.fate) (fate r) r.fate) (row_of number rows)
-  place_moved number rows numbered = grind (arith, row_moved)
+  pub place_moved : (given number : ℕ) (rows : List Row) → IsNumbered given rows → place number (moved test fate rows) ≡ option_map (λ r. cond (test r.fate) (fate r) r.fate) (row_of number rows)
+  place_moved given number rows numbered = let one = row_moved given number rows numbered in grind (arith, one)
 
-  pub body_moved : (number : ℕ) (rows : List Row) → IsNumbered rows → body_at number (moved test fate rows) ≡ body_at number rows
-  body_moved number rows numbered = grind (arith, row_moved)
+  pub body_moved : (given number : ℕ) (rows : List Row) → IsNumbered given rows → body_at number (moved test fate rows) ≡ body_at number rows
+  body_moved given number rows numbered = let one = row_moved given number rows numbered in grind (arith, one)
 
 -- UNIQUE: a row of a filter is the one that its number finds.
 found_in : (p : Row → Bool) (rows : List Row) (i k : ℕ) (row : Row) → slice_get (filter p rows) i ≡ Some row → row.number ≡ k → length (with_number k rows) ≤ 1 → with_number k rows ≡ row ∷ []
@@ -204,18 +210,19 @@ found_in p [] i k row e n l = absurd cc
 found_in p (x ∷ rows) zero k row e n l = grind (arith, nat_tests, no_rows (with_number k rows), found_in p rows zero k row)
 found_in p (x ∷ rows) (suc i) k row e n l = grind (arith, nat_tests, no_rows (with_number k rows), found_in p rows i k row, found_in p rows (suc i) k row)
 
-pub row_in_filter : (p : Row → Bool) (rows : List Row) (i k : ℕ) (row : Row) → IsNumbered rows → slice_get (filter p rows) i ≡ Some row → row.number ≡ k → row_of k rows ≡ Some row
-row_in_filter p rows i k row numbered e n = let one = found_in p rows i k row e n (at_most_one k rows numbered) in grind (arith, row_is_first)
+pub row_in_filter : (given : ℕ) (p : Row → Bool) (rows : List Row) (i k : ℕ) (row : Row) → IsNumbered given rows → slice_get (filter p rows) i ≡ Some row → row.number ≡ k → row_of k rows ≡ Some row
+row_in_filter given p rows i k row numbered e n = let one = found_in p rows i k row e n (at_most_one given k rows numbered) in grind (arith, row_is_first)
 
 -- Whoever keeps the numbers of a filter, as a window does, finds under each of them the row of that place.
-pub record Found (p : Row → Bool) (rows : List Row) (i number : ℕ) : Type 0 where
+pub record Found (given : ℕ) (p : Row → Bool) (rows : List Row) (i number : ℕ) : Type 0 where
   pub row : Row
   pub there : slice_get (filter p rows) i ≡ Some row
   pub body_is : body_at number rows ≡ Some row.body
-  pub below : number < length rows
+  pub below : number < given
 
-pub found_by_number : (p : Row → Bool) (rows : List Row) (i number : ℕ) → IsNumbered rows → slice_get (numbers (filter p rows)) i ≡ Some number → Found p rows i number
-found_by_number p rows i number numbered e =
+pub found_by_number : (given : ℕ) (p : Row → Bool) (rows : List Row) (i number : ℕ) → IsNumbered given rows → slice_get (numbers (filter p rows)) i ≡ Some number → Found given p rows i number
+found_by_number given p rows i number numbered e =
     let at = at_map (λ (row : Row). row.number) (filter p rows) i number e in
-    let one = found_in p rows i number at.0 at.1 at.2 (at_most_one number rows numbered) in
-    grind (arith, nat_tests, row_is_first, at, one)
+    let one = found_in p rows i number at.0 at.1 at.2 (at_most_one given number rows numbered) in
+    let few = numbered number in
+    grind (arith, nat_tests, row_is_first, at, one, few)

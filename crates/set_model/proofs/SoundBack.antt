@@ -8,14 +8,14 @@ use Rattle.set_route.specs.Routing.{settled, IsRouting, Routing, asked, code_of,
 use Rattle.set_model.specs.Changeover.{can_declare, declared, fate_on, left_by, left_link, moved_over, out_of_service, released, settled_link}
 use Rattle.set_model.specs.Rows.{Fate, Waiting, Row, all_with, back, fated, is_back, is_back_to, is_held, is_on, is_parked, is_waiting, moved, numbers, parked, standing, stands_back, stream_of}
 use Rattle.set_model.specs.Sound.{AreBack, IsAscending, IsBackOf, IsPlaced, IsSound, IsSoundLink}
-use Rattle.set_model.specs.State.{Asked, Place, On, Changing, Down, Settled, Up, LinkState, State, fate_at, has_phase_up, is_up, link_is_up, target}
+use Rattle.set_model.specs.State.{Asked, Place, On, Changing, Down, Settled, Up, LinkState, State, all_finished, given, fate_at, has_phase_up, is_up, link_is_up, target}
 use Rattle.set_model.specs.Step.{risen_link, rises}
 use Rattle.set_route.proofs.Alone.{alone, codes_alone}
 use Rattle.set_route.proofs.Places.{raised_sound, settled_sound, left_sound, asked_sound, back_sound}
 use Rattle.set_model.proofs.Order.{ascends_filter, backs_of, before_none, coded_at, gone_none, none_standing, stood}
 use Rattle.set_model.proofs.Events.{left, unparked, untouched}
 use Rattle.set_model.proofs.Lists.{get_set_same, get_set_other, within, each_set, target_up, target_off, none_up}
-use Rattle.set_model.proofs.Rows.{each_filter, moved_off, moved_numbered, moved_fit, moved_same, moved_more, moved_nothing, fated_none}
+use Rattle.set_model.proofs.Rows.{each_filter, moved_off, moved_length, moved_numbered, numbered_on, moved_fit, moved_same, moved_more, moved_nothing, fated_none}
 use Rattle.set_model.proofs.Places.{false_true, apart_back, on_other, not_on_waiting, back_not_on, back_not_parked, code_back, home_back}
 use Rattle.set_model.proofs.Staying.{not_sent, offered_out}
 use Rattle.set_model.proofs.Walk.{IsAt}
@@ -25,26 +25,27 @@ use Rattle.set_model.proofs.Settling.{settled_empty}
 -- ROWS THAT MOVE, as links and streams change, where none of them comes to stand back.
 moved_sound : (s : State) (links : List LinkState) (routing : Routing) (test : Fate → Bool) (fate : Row → Fate) → IsSound s → length links ≡ length s.links → IsRouting routing → routing.links ≡ s.routing.links → back (map (fated fate) (standing test s.rows)) ≡ []
     → ((k : ℕ) → k < 16 → Follows links test (place_of k s.routing) (place_of k routing)) → ((code : ℕ) → code_of code routing ≡ Asked → link_is_up (slice_get links (home_of code)) ≡ true) → ((k : ℕ) (other : LinkState) → slice_get links k ≡ Some other → has_phase_up other.phase ≡ true → parked (moved test fate s.rows) ≡ [])
-    → ((k : ℕ) (other : LinkState) → slice_get links k ≡ Some other → IsSoundLink s.settings.method k other (moved test fate s.rows)) → IsSound (record s { links = links; routing = routing; rows = moved test fate s.rows })
+    → ((k : ℕ) (other : LinkState) → slice_get links k ≡ Some other → IsSoundLink s.settings k other (moved test fate s.rows)) → IsSound (record s { links = links; routing = routing; rows = moved test fate s.rows })
 moved_sound s links routing test fate t long sound same gone follows homes aside each =
     let kept = each_filter (λ row. IsBackOf s.routing row row.fate) (λ row. IsBackOf routing row row.fate) (λ row. not (test row.fate)) (λ x. stood test s.routing routing (λ k few. (follows k few).stays) x x.fate) (back s.rows) (each_filter (λ row. IsBackOf s.routing row row.fate) (λ row. IsBackOf s.routing row row.fate) (λ row. stands_back row.fate) (λ x e b. b) s.rows t.backs) in
     let backs : AreBack routing (moved test fate s.rows) = backs_of routing (moved test fate s.rows) (rw (moved_off test stands_back fate s.rows gone) kept) in
     let order : IsAscending (numbers (back (moved test fate s.rows))) = rw (moved_off test stands_back fate s.rows gone) (ascends_filter (λ (row : Row). not (test row.fate)) (back s.rows) t.back_order) in
     let placed = λ (k : ℕ) (few : k < 16). (follows k few).placed in
     let runs = λ (n : ℕ) (link : LinkState) (there : slice_get links n ≡ Some link) (up : has_phase_up link.phase ≡ true) (k : ℕ) (few : k < 16). (follows k few).runs n link there up in
-    search (moved_numbered, moved_fit)
+    let numbered = numbered_on (all_finished s.finished) s.rows (moved test fate s.rows) (moved_length test fate s.rows) (moved_numbered test fate (given s) s.rows t.numbered) in
+    search (numbered, moved_fit)
 
 -- A LINK COMES UP.
 pub rises_sound : (n : ℕ) (link : LinkState) (s : State) → IsAt n link Settled s → IsSound s → IsSound (rises n s Settled).state
 rises_sound n link s at t =
-    let risen = risen_link s.settings.method in
+    let risen = risen_link s.settings.profile s.settings.method in
     let new = moved is_parked (all_with (Waiting n)) s.rows in
     let u = unparked n s.rows in
     let e = settled_empty s n link t at.there at.phase_is in
-    let one : IsSoundLink s.settings.method n risen new = grind (arith, before_none) in
+    let one : IsSoundLink s.settings n risen new = grind (arith, before_none) in
     moved_sound s _ (raised n s.routing) is_parked (all_with (Waiting n)) t (length-set s.links n risen) (raised_sound n s.routing (omega (arith, within s.links n link at.there, t.count, t.routed)) t.routing) refl (fated_none stands_back (all_with (Waiting n)) (λ x. refl) (standing is_parked s.rows))
     (λ k few. let a = (alone s.routing k t.routing few).raised_place n in let stays = placed_set s.links n link risen (place_of k s.routing) at.there refl (t.placed k few) in record { placed = rw a (grind (arith, stays, get_set_same s.links n risen (within s.links n link at.there))); runs = λ j other there up. rw a (grind arith); stays = λ code via of e. grind (arith, a) })
-    (λ code asked. up_after s.links n link risen at.there (λ up. refl) (home_of code) (t.homes_up code asked)) (λ k other there up. u.parked_none) (links_set s.settings.method s.links n risen s.rows new one u.others t.links)
+    (λ code asked. up_after s.links n link risen at.there (λ up. refl) (home_of code) (t.homes_up code asked)) (λ k other there up. u.parked_none) (links_set s.settings s.links n risen s.rows new one u.others t.links)
 
 -- A LINK IS LEFT BY ITS MESSAGES.
 module _ (n : ℕ) (link : LinkState) (s : State) (at : IsAt n link Down s) (t : IsSound s) where
@@ -64,7 +65,7 @@ module _ (n : ℕ) (link : LinkState) (s : State) (at : IsAt n link Down s) (t :
       })
       (λ code asked. up_after s.links n link (settled_link link) at.there stays (home_of code) (t.homes_up code asked))
       (up_before s.links n link (settled_link link) at.there (λ e. absurd cc) (λ k old here up. moved_same (is_on n) is_parked (all_with (fate_on (target s.links))) s.rows (λ x. grind (arith, none_up)) (λ f e. grind arith) ∙ t.none_aside k old here up))
-      (each_set (λ k other. IsSoundLink s.settings.method k other (moved (is_on n) (all_with (fate_on (target s.links))) s.rows)) s.links n (settled_link link) (grind arith) (λ k other d here. let out = λ (is_down : has_phase_up other.phase ≡ false). target_off s.links k (ap link_is_up here ∙ is_down) in link_moved s.settings.method k other (is_on n) (all_with (fate_on (target s.links))) s.routing s.rows t.backs (on_other k n (apart_back n k d))
+      (each_set (λ k other. IsSoundLink s.settings k other (moved (is_on n) (all_with (fate_on (target s.links))) s.rows)) s.links n (settled_link link) (grind arith) (λ k other d here. let out = λ (is_down : has_phase_up other.phase ≡ false). target_off s.links k (ap link_is_up here ∙ is_down) in link_moved s.settings k other (is_on n) (all_with (fate_on (target s.links))) s.routing s.rows t.backs (on_other k n (apart_back n k d))
       (λ x. not_sent k (target s.links)) (λ u x. grind arith) (λ f x e b. not_on_waiting k (fate_on (target s.links)) (out f)) (λ e x f b. out (grind (arith, e))) (t.links k other here)))
 
 -- where a message goes whose stream runs on a link: to wait for it if it's up, else to be held for it
@@ -94,14 +95,14 @@ module _ (blind : Bool) (n : ℕ) (link : LinkState) (s : State) (at : IsAt n li
 
   pub leaves : IsSound (left_by blind n link s)
   leaves =
-      let mid_links = links_set s.settings.method s.links n (left_link blind link) s.rows s.rows (let l = t.links n link at.there in grind arith) (λ k d. untouched k s.rows s.rows refl) t.links in
+      let mid_links = links_set s.settings s.links n (left_link blind link) s.rows s.rows (let l = t.links n link at.there in grind arith) (λ k d. untouched k s.rows s.rows refl) t.links in
       let sound = left_sound n s.routing t.routing in
       moved_sound s mid.links mid.routing (is_back_to n) fate t (length-set s.links n (left_link blind link)) sound refl (gone stands_back (λ via p. grind arith))
       (λ k few. let stays = placed_set s.links n link (left_link blind link) (place_of k s.routing) at.there refl (t.placed k few) in let a = (alone s.routing k t.routing few).left_place n in
       let runs = up_before s.links n link (left_link blind link) at.there (λ e. absurd cc) (λ j old here up. t.all_run j old here up k few) in grind (arith, stays, a, runs))
       (λ code e. grind (arith, nat_tests, (codes_alone s.routing code t.routing (grind arith)).left_code n, t.homes_up code, get_set_other))
       (up_before s.links n link (left_link blind link) at.there (λ e. absurd cc) (λ k old here up. grind (arith, nat_tests, moved_more, gone, t.none_aside k old here up)))
-      (λ k other there. link_moved s.settings.method k other (is_back_to n) fate s.routing s.rows t.backs (λ f e. back_not_on k f (home_back n f e)) (λ x. offered_out k _ mid) (λ u x. up_not_held mid k (ap link_is_up there ∙ u) _) (λ d x e b. down_not_waiting mid k (ap link_is_up there ∙ d) _) (λ e x f b. grind (arith, nat_tests, goes x f b)) (mid_links k other there))
+      (λ k other there. link_moved s.settings k other (is_back_to n) fate s.routing s.rows t.backs (λ f e. back_not_on k f (home_back n f e)) (λ x. offered_out k _ mid) (λ u x. up_not_held mid k (ap link_is_up there ∙ u) _) (λ d x e b. down_not_waiting mid k (ap link_is_up there ∙ d) _) (λ e x f b. grind (arith, nat_tests, goes x f b)) (mid_links k other there))
 
 -- A DECLARATION.
 -- the link that it goes out on is up
@@ -132,4 +133,4 @@ module _ (code : ℕ) (s : State) (t : IsSound s) where
       (λ k few. let there = t.placed k few in let a = (alone s.routing k t.routing few).back_place code in record { placed = rw a (grind (arith, nat_tests, there, coded_at, t.homes_up)); runs = λ n link at up. let runs = t.all_run n link at up k few in rw a (grind (arith, runs)); stays = λ c via of f. grind (arith, a) })
       (λ c e. grind (arith, nat_tests, (codes_alone s.routing c t.routing (grind arith)).back_code code, t.homes_up c))
       (λ k other there up. moved_same (is_back code) is_parked (all_with (Waiting (home_of code))) s.rows (λ x. refl) (λ f e. back_not_parked f (code_back code f e)) ∙ t.none_aside k other there up)
-      (λ k other there. link_moved s.settings.method k other (is_back code) (all_with (Waiting (home_of code))) s.routing s.rows t.backs (λ f e. back_not_on k f (code_back code f e)) (λ x. refl) (λ u x. refl) (λ d x e b. grind (arith, nat_tests, coded_at, t.homes_up)) (λ d x e b. grind (arith, nat_tests, coded_at, t.homes_up)) (t.links k other there))
+      (λ k other there. link_moved s.settings k other (is_back code) (all_with (Waiting (home_of code))) s.routing s.rows t.backs (λ f e. back_not_on k f (code_back code f e)) (λ x. refl) (λ u x. refl) (λ d x e b. grind (arith, nat_tests, coded_at, t.homes_up)) (λ d x e b. grind (arith, nat_tests, coded_at, t.homes_up)) (t.links k other there))

@@ -1,36 +1,53 @@
 -- What the control chooses to send for the first time, and where its cursor, or its place in the cycle, is after each step.
-use Rattle.std.proofs.Common.{arith, ◌||◌, ◌≡◌, ◌≢◌, ◌<◌, ◌≤◌, ℕ, ◌+◌, Bool, length, drop, refl, ◌∙◌, ap, sym, subst, ◌==◌, true, false, List, [], ◌++◌, map, slice_get, slice_set, Some, cond, ◌∷◌, None}
+use Rattle.std.proofs.Common.{arith, ◌||◌, ◌≡◌, ◌≢◌, ◌<◌, ◌≤◌, ℕ, ◌+◌, ◌%◌, Bool, length, drop, refl, ◌∙◌, ap, sym, subst, ◌==◌, true, false, List, [], ◌++◌, map, slice_get, slice_set, Some, cond, ◌∷◌, None}
 use Rattle.std.proofs.lemmas.List.{length-drop, append-nil, length-map, length-append, length-set, length-take}
 use Rattle.std.proofs.lemmas.Bool.Decides.{nat_tests}
-use Rattle.l2_window.specs.Window.{WindowState}
-use Rattle.set_model.specs.Control.{Header, Choice, Control, acked_by, choice_of, control_heard, first, Method, accepted_of}
+use Rattle.l2_window.specs.Window.{WindowState, fsn_count, most_unacked}
+use Rattle.l2_units.specs.Profile.{longest_body}
+use Rattle.set_model.specs.Control.{Header, Choice, Control, acked_by, choice_of, control_heard, first, expected_of, part_of, Basic, Cyclic}
 use Rattle.set_model.specs.Sound.{IsAsked, IsInRange, IsOf, IsPlaced, IsSound, IsSoundLink, AreBack, IsBackOf}
 use Rattle.std.proofs.lemmas.List.Elements.{filter-append}
 use Rattle.l2_units.specs.Grammar.{head_of as header_in}
 use Rattle.set_route.specs.Routing.{IsRouting, Routing, accepted, code_of, home_of, place_of}
 use Rattle.set_model.specs.Changeover.{acknowledged_by, Order, fate_on, queued}
-use Rattle.set_model.specs.Rows.{AreFit, DiscardCause, Fate, Discarded, Row, changed, fated, held, is_held, is_on, is_parked, is_unacked, is_waiting, moved, octets_in, on, standing, stands_back, unack, wait, Back, appended, parked, service_indicator, stream_of}
-use Rattle.set_model.specs.State.{Asked, is_up, Place, Changing, Nowhere, On, Down, Up, LinkState, State, has_phase_settled, has_phase_up, last_accepted, link_is_up, window_of, fate_at, target}
-use Rattle.set_model.specs.Step.{Event, Offer, SignalUnit, choice_in, controlled, is_msu, part_in, next, rows_sent, offer_refusal, offered}
+use Rattle.set_model.specs.Rows.{IsNumbered, AreFit, DiscardCause, Fate, Discarded, Row, changed, fated, held, is_held, is_on, is_parked, is_unacked, is_waiting, moved, octets_in, on, standing, stands_back, unack, wait, Back, appended, parked, service_indicator, stream_of}
+use Rattle.set_model.specs.State.{Asked, all_finished, given, is_up, Place, Changing, Nowhere, On, Down, Up, LinkState, State, Settings, has_phase_settled, has_phase_up, link_is_up, window_of, fate_at, target}
+use Rattle.set_model.specs.Step.{Event, Offer, SignalUnit, choice_in, controlled, is_msu, one_if, part_in, next, rows_sent, offer_refusal, offered}
 use Rattle.set_model.proofs.Order.{backs_of, stood, before_append, before_none, neither, gone_none, coded_at, ascends_appended}
 use Rattle.set_model.proofs.Events.{Untouched, sent, acknowledged, ChangesOn, sent_by, untouched, appended_out}
-use Rattle.set_model.proofs.Rows.{each_append, each_filter, each_so, turned_there, others_stay, new_row, numbered_appended}
+use Rattle.set_model.proofs.Rows.{each_append, each_filter, each_so, turned_there, others_stay, new_row, numbered_appended, numbered_on}
 use Rattle.set_model.proofs.Lists.{at_set, each_set, get_set_same, get_set_other, set_same, within, target_up, none_up}
 use Rattle.set_model.proofs.Places.{false_true}
 use Rattle.set_model.proofs.Walk.{IsAt}
+use Rattle.l2_window.proofs.Numbers.{after_next}
+use Rattle.l2_units.specs.declared.profile.Profile.{Profile}
+use Rattle.std.specs.Prelude.{if◌then◌else◌}
+use Rattle.set_model.specs.Step.{one_if}
 use Rattle.set_route.proofs.Alone.{alone}
 use Rattle.set_route.proofs.Places.{accepted_sound}
 
 -- a first sending is chosen only where something waits, and fewer than 127 are unacknowledged
-pub first_chosen : (o : ℕ) (control : Control) (w : WindowState) → choice_of o control w ≡ first → (0 < length w.unsent) × (length w.unacked < 127)
+pub first_chosen : (o : ℕ) (control : Control) (w : WindowState) → choice_of o control w ≡ first → (0 < length w.unsent) × (length w.unacked < most_unacked w.profile)
 first_chosen o control w e = grind (arith, nat_tests)
 
 -- the cursor, or the place in the cycle
 pub range_heard : (control : Control) (w : WindowState) (head : Header) (msu : Bool) → IsInRange control (length w.unacked) → IsInRange (control_heard control w head msu) (length (drop (acked_by control w head) w.unacked))
 range_heard control w head msu r = grind (arith, length-drop)
 
+-- THE NUMBER THAT IS EXPECTED is that of the count of accepted bodies, before a unit and after it.
+after_one : (p : Profile) (fsn expected accepted : ℕ) (b : Bool) → expected ≡ accepted % fsn_count p → (b ≡ true → fsn ≡ expected) → (if b then (fsn + 1) % fsn_count p else expected) ≡ (accepted + one_if b) % fsn_count p
+after_one p fsn expected accepted true e f = after_next p fsn accepted (f refl ∙ e)
+after_one p fsn expected accepted false e f = e ∙ ap (λ (n : ℕ). n % fsn_count p) (omega arith)
+
+is_expected : (control : Control) (w : WindowState) (head : Header) (msu : Bool) → (part_of control w head msu).accept ≡ true → head.fsn ≡ expected_of control
+is_expected control w head msu e = grind (arith, nat_tests)
+
+expected_heard : (control : Control) (w : WindowState) (head : Header) (msu : Bool) (accepted : ℕ) → expected_of control ≡ accepted % fsn_count w.profile → expected_of (control_heard control w head msu) ≡ (accepted + one_if (part_of control w head msu).accept) % fsn_count w.profile
+expected_heard (Basic s) w head msu accepted e = after_one w.profile head.fsn s.expected accepted (part_of (Basic s) w head msu).accept e (is_expected (Basic s) w head msu)
+expected_heard (Cyclic s) w head msu accepted e = after_one w.profile head.fsn s.expected accepted (part_of (Cyclic s) w head msu).accept e (is_expected (Cyclic s) w head msu)
+
 -- WHAT HOLDS OF EVERY STATE is kept by a change of one link; the others don't see how its rows change.
-pub links_set : (m : Method) (links : List LinkState) (n : ℕ) (link : LinkState) (rows new : List Row) → IsSoundLink m n link new → ((k : ℕ) → (n == k) ≡ false → Untouched k rows new) → ((k : ℕ) (other : LinkState) → slice_get links k ≡ Some other → IsSoundLink m k other rows)
+pub links_set : (m : Settings) (links : List LinkState) (n : ℕ) (link : LinkState) (rows new : List Row) → IsSoundLink m n link new → ((k : ℕ) → (n == k) ≡ false → Untouched k rows new) → ((k : ℕ) (other : LinkState) → slice_get links k ≡ Some other → IsSoundLink m k other rows)
     → (k : ℕ) (other : LinkState) → slice_get (slice_set links n link) k ≡ Some other → IsSoundLink m k other new
 links_set m links n link rows new one others all = each_set (λ k other. IsSoundLink m k other new) links n link one (λ k other d there. let u = others k d in let l = all k other there in grind arith)
 
@@ -49,31 +66,32 @@ pub up_after : (links : List LinkState) (n : ℕ) (link link' : LinkState) → s
 up_after links n link link' there stays k up = grind (arith, nat_tests, get_set_same, within, get_set_other)
 
 -- A CHANGE OF ONE LINK, with rows that change in their places, none of them parked, nor back.
-changes : (n : ℕ) (link link' : LinkState) (s : State) (new : List Row) → IsSound s → slice_get s.links n ≡ Some link → link'.phase ≡ link.phase → has_phase_settled link.phase ≡ false → ChangesOn n s.rows new → length (unack n new) ≤ 127 → accepted_of link'.control ≡ last_accepted link' → IsOf s.settings.method link'.control
+changes : (n : ℕ) (link link' : LinkState) (s : State) (new : List Row) → IsSound s → slice_get s.links n ≡ Some link → link'.phase ≡ link.phase → has_phase_settled link.phase ≡ false → ChangesOn n s.rows new → link'.profile ≡ s.settings.profile → length (unack n new) ≤ most_unacked link'.profile → expected_of link'.control ≡ link'.accepted % fsn_count link'.profile → IsOf s.settings.method link'.control
     → (has_phase_up link'.phase ≡ true → IsInRange link'.control (length (unack n new))) → IsSound (record s { links = slice_set s.links n link'; rows = new })
-changes n link link' s new t there same unsettled g few counted method range =
+changes n link link' s new t there same unsettled g profile few counted method range =
     let l = t.links n link there in
     let up = ap has_phase_up same in
     let settled = ap has_phase_settled same ∙ unsettled in
-    let one : IsSoundLink s.settings.method n link' new = grind (arith, g.order_kept, g.last_kept) in
+    let one : IsSoundLink s.settings n link' new = grind (arith, g.order_kept, g.last_kept) in
     let aside = up_before s.links n link link' there (λ e. sym up ∙ e) (λ k old here rising. g.parked_same ∙ t.none_aside k old here rising) in
     let run = up_before s.links n link link' there (λ e. sym up ∙ e) t.all_run in
     let stays = up_after s.links n link link' there (λ e. up ∙ e) in
-    let links = links_set s.settings.method s.links n link' s.rows new one g.others t.links in
+    let links = links_set s.settings s.links n link' s.rows new one g.others t.links in
     let backs = backs_of s.routing new (subst (AreBack s.routing) (sym g.back_same) (each_filter (λ row. IsBackOf s.routing row row.fate) (λ row. IsBackOf s.routing row row.fate) (λ row. stands_back row.fate) (λ x e b. b) s.rows t.backs)) in
-    search (length-set, g.kept.numbered, g.kept.fit, placed_set, t.placed, t.homes_up, backs, g.back_same)
+    let numbered = numbered_on (all_finished s.finished) s.rows new g.kept.count (g.kept.numbered (given s) t.numbered) in
+    search (length-set, numbered, g.kept.fit s.settings.profile, placed_set, t.placed, t.homes_up, backs, g.back_same)
 
 -- the inbox is no part of it
 pub with_inbox : (s : State) (inbox : List (List ℕ)) → IsSound s → IsSound (record s { inbox = inbox })
 with_inbox s inbox t = assumption
 
 -- ROWS THAT COME TO STAND LAST, behind those that a link has.
-module _ (m : Method) (k : ℕ) (link : LinkState) (rows come : List Row) (sent : unack k come ≡ []) (holds : has_phase_up link.phase ≡ true → held k come ≡ []) (waits : has_phase_up link.phase ≡ false → wait k come ≡ []) (gone : has_phase_settled link.phase ≡ true → on k come ≡ []) where
+module _ (m : Settings) (k : ℕ) (link : LinkState) (rows come : List Row) (sent : unack k come ≡ []) (holds : has_phase_up link.phase ≡ true → held k come ≡ []) (waits : has_phase_up link.phase ≡ false → wait k come ≡ []) (gone : has_phase_settled link.phase ≡ true → on k come ≡ []) where
   pub link_more : (base : List Row) → on k base ≡ on k rows → IsSoundLink m k link rows → IsSoundLink m k link (base ++ come)
   link_more base same l = let u = untouched k rows base same in let none = neither (is_unacked k) (is_waiting k) come sent in grind (arith, filter-append, append-nil, none, before_append, before_none)
 
 -- those that move leave the others where they were; of what goes it is known that its stream is on its way back
-pub link_moved : (m : Method) (k : ℕ) (link : LinkState) (test : Fate → Bool) (fate : Row → Fate) (routing : Routing) (rows : List Row) → AreBack routing rows → ((f : Fate) → test f ≡ true → is_on k f ≡ false) → ((x : Row) → is_unacked k (fate x) ≡ false) → (has_phase_up link.phase ≡ true → (x : Row) → is_held k (fate x) ≡ false)
+pub link_moved : (m : Settings) (k : ℕ) (link : LinkState) (test : Fate → Bool) (fate : Row → Fate) (routing : Routing) (rows : List Row) → AreBack routing rows → ((f : Fate) → test f ≡ true → is_on k f ≡ false) → ((x : Row) → is_unacked k (fate x) ≡ false) → (has_phase_up link.phase ≡ true → (x : Row) → is_held k (fate x) ≡ false)
     → (has_phase_up link.phase ≡ false → (x : Row) → test x.fate ≡ true → IsBackOf routing x x.fate → is_waiting k (fate x) ≡ false) → (has_phase_settled link.phase ≡ true → (x : Row) → test x.fate ≡ true → IsBackOf routing x x.fate → is_on k (fate x) ≡ false) → IsSoundLink m k link rows → IsSoundLink m k link (moved test fate rows)
 link_moved m k link test fate routing rows backs off sent holds waits gone l =
     let none = λ (other : Fate → Bool) (so : (x : Row) → test x.fate ≡ true → IsBackOf routing x x.fate → other (fate x) ≡ false). gone_none test fate (λ row. IsBackOf routing row row.fate) other so rows backs in
@@ -84,13 +102,13 @@ pub acknowledges : (count n : ℕ) (link : LinkState) (s : State) → IsAt n lin
 acknowledges count n link s at t =
     let l = t.links n link at.there in
     let a = acknowledged n count s.rows in
-    changes n link _ s _ t at.there refl (ap has_phase_settled at.phase_is) a.in_place (grind (arith, length-drop, a.unack_is, l.window)) l.counted l.method (false_true (has_phase_up link.phase) (ap has_phase_up at.phase_is))
+    changes n link _ s _ t at.there refl (ap has_phase_settled at.phase_is) a.in_place l.profile (grind (arith, length-drop, a.unack_is, l.window)) l.counted l.method (false_true (has_phase_up link.phase) (ap has_phase_up at.phase_is))
 
 pub gives_up : (test : Fate → Bool) (cause : DiscardCause) (n : ℕ) (link : LinkState) (s : State) → ChangesOn n s.rows (changed test (Discarded cause) s.rows) → IsAt n link Down s → IsSound s → IsSound (record s { rows = changed test (Discarded cause) s.rows })
 gives_up test cause n link s g at t =
     let l = t.links n link at.there in
     let fewer = (turned_there test (Discarded cause) (length s.rows) s.rows).fewer (is_unacked n) refl in
-    let sound = changes n link link s (changed test (Discarded cause) s.rows) t at.there refl (ap has_phase_settled at.phase_is) g (omega (arith, l.window, fewer)) l.counted l.method (false_true (has_phase_up link.phase) (ap has_phase_up at.phase_is)) in
+    let sound = changes n link link s (changed test (Discarded cause) s.rows) t at.there refl (ap has_phase_settled at.phase_is) g l.profile (omega (arith, l.window, fewer)) l.counted l.method (false_true (has_phase_up link.phase) (ap has_phase_up at.phase_is)) in
     subst (λ (links : List LinkState). IsSound (record s { links = links; rows = changed test (Discarded cause) s.rows })) (set_same s.links n link at.there) sound
 
 -- SENDING.
@@ -100,18 +118,18 @@ module _ (n : ℕ) (link : LinkState) (s : State) (at : IsAt n link Up s) (t : I
       let l = t.links n link at.there in
       let choice = choice_in n link s in
       -- how many are unacknowledged then
-      let counts : (c : Choice) → choice ≡ c → (length (unack n s.rows) ≤ length (unack n (rows_sent c n s.rows))) × (c ≡ first → length (unack n (rows_sent c n s.rows)) ≡ length (unack n s.rows) + 1) × (length (unack n (rows_sent c n s.rows)) ≤ 127)
+      let counts : (c : Choice) → choice ≡ c → (length (unack n s.rows) ≤ length (unack n (rows_sent c n s.rows))) × (c ≡ first → length (unack n (rows_sent c n s.rows)) ≡ length (unack n s.rows) + 1) × (length (unack n (rows_sent c n s.rows)) ≤ most_unacked link.profile)
       = λ c e. grind (arith, first_chosen (octets_in (unack n s.rows)) link.control (window_of n link s.rows), length-map, length-append, length-take, (sent n s.rows).unack_is l.in_order, l.window) in
       let c = counts choice refl in
-      changes n link _ s _ t at.there refl (ap has_phase_settled at.phase_is) (sent_by choice n s.rows) c.2 (grind (arith, l.counted)) (grind (arith, l.method)) (λ u. grind (arith, c, l.in_range, length-map))
+      changes n link _ s _ t at.there refl (ap has_phase_settled at.phase_is) (sent_by choice n s.rows) l.profile c.2 (grind (arith, l.counted)) (grind (arith, l.method)) (λ u. grind (arith, c, l.in_range, length-map))
 
   -- HEARING.
   pub hears_sound : (unit : SignalUnit) → IsSound (controlled unit n s link)
   hears_sound unit =
       let l = t.links n link at.there in
       let a = acknowledged n (part_in unit n link s).acked s.rows in
-      changes n link _ s _ t at.there refl (ap has_phase_settled at.phase_is) a.in_place (grind (arith, length-drop, a.unack_is, l.window))
-      (grind (arith, nat_tests, (header_in unit).fsn, l.counted)) (grind (arith, l.method)) (λ u. grind (arith, range_heard link.control (window_of n link s.rows) (header_in unit) (is_msu unit) (grind (arith, length-map, l.in_range)), a.unack_is, length-drop, length-map))
+      changes n link _ s _ t at.there refl (ap has_phase_settled at.phase_is) a.in_place l.profile (grind (arith, length-drop, a.unack_is, l.window))
+      (expected_heard link.control (window_of n link s.rows) (header_in unit) (is_msu unit) link.accepted l.counted) (grind (arith, l.method)) (λ u. grind (arith, range_heard link.control (window_of n link s.rows) (header_in unit) (is_msu unit) (grind (arith, length-map, l.in_range)), a.unack_is, length-drop, length-map))
 
 -- WHERE A STREAM RUNS, as links and streams change, and what stands back by a code of which nothing moves.
 pub record Follows (links : List LinkState) (test : Fate → Bool) (was is : Place) : Type 0 where
@@ -122,16 +140,19 @@ pub record Follows (links : List LinkState) (test : Fate → Bool) (was is : Pla
 module _ (s : State) (routing : Routing) (t : IsSound s) (sound : IsRouting routing) (same : routing.links ≡ s.routing.links) where
   -- a new row can come to stand there, for all that each link has to do with it: it waits for a link that is up, is held
   -- for one that isn't settled, or parked while none is up
-  pub appended_sound : (body : List ℕ) (fate : Fate) → length body ≤ 273 → ((k : ℕ) (link : LinkState) → slice_get s.links k ≡ Some link → (is_unacked k fate ≡ false) × (has_phase_up link.phase ≡ true → (is_held k fate || is_parked fate) ≡ false) × (has_phase_up link.phase ≡ false → is_waiting k fate ≡ false) × (has_phase_settled link.phase ≡ true → is_on k fate ≡ false)) → IsBackOf s.routing (new_row (length s.rows) body fate) fate → ((k : ℕ) → k < 16 → Follows s.links (λ f. false) (place_of k s.routing) (place_of k routing))
-      → ((code : ℕ) → code_of code routing ≡ Asked → is_up (home_of code) s ≡ true) → IsSound (record s { rows = appended s.rows body fate; routing = routing })
+  pub appended_sound : (body : List ℕ) (fate : Fate) → length body ≤ longest_body s.settings.profile → ((k : ℕ) (link : LinkState) → slice_get s.links k ≡ Some link → (is_unacked k fate ≡ false) × (has_phase_up link.phase ≡ true → (is_held k fate || is_parked fate) ≡ false) × (has_phase_up link.phase ≡ false → is_waiting k fate ≡ false) × (has_phase_settled link.phase ≡ true → is_on k fate ≡ false)) → IsBackOf s.routing (new_row (length s.rows) body fate) fate → ((k : ℕ) → k < 16 → Follows s.links (λ f. false) (place_of k s.routing) (place_of k routing))
+      → ((code : ℕ) → code_of code routing ≡ Asked → is_up (home_of code) s ≡ true) → IsSound (record s { rows = appended (given s) s.rows body fate; routing = routing })
   appended_sound body fate fits opened is_back follows homes =
-      let links = λ (k : ℕ) (other : LinkState) (there : slice_get s.links k ≡ Some other). link_more s.settings.method k other s.rows (new_row (length s.rows) body fate ∷ []) (let o = opened k other there in grind arith) (λ u. let o = opened k other there in grind arith) (λ d. let o = opened k other there in grind arith) (λ e. let o = opened k other there in grind arith) s.rows refl (t.links k other there) in
-      let backs = each_so (λ row. IsBackOf s.routing row row.fate) (λ row. IsBackOf routing row row.fate) (λ x. stood (λ f. false) s.routing routing (λ k few. (follows k few).stays) x x.fate refl) (appended s.rows body fate) (each_append _ s.rows _ t.backs (is_back, tt)) in
+      let links = λ (k : ℕ) (other : LinkState) (there : slice_get s.links k ≡ Some other). link_more s.settings k other s.rows (new_row (given s) body fate ∷ []) (let o = opened k other there in grind arith) (λ u. let o = opened k other there in grind arith) (λ d. let o = opened k other there in grind arith) (λ e. let o = opened k other there in grind arith) s.rows refl (t.links k other there) in
+      let backs = each_so (λ row. IsBackOf s.routing row row.fate) (λ row. IsBackOf routing row row.fate) (λ x. stood (λ f. false) s.routing routing (λ k few. (follows k few).stays) x x.fate refl) (appended (given s) s.rows body fate) (each_append _ s.rows _ t.backs (is_back, tt)) in
       let runs = λ (n : ℕ) (link : LinkState) (there : slice_get s.links n ≡ Some link) (up : has_phase_up link.phase ≡ true) (k : ℕ) (few : k < 16). (follows k few).runs n link there up in
       let placed = λ (k : ℕ) (few : k < 16). (follows k few).placed in
-      let aside : (k : ℕ) (other : LinkState) → slice_get s.links k ≡ Some other → has_phase_up other.phase ≡ true → parked (appended s.rows body fate) ≡ [] = λ k other there rising. let o = opened k other there in grind (arith, appended_out) in
-      let fit : AreFit (appended s.rows body fate) = each_append _ s.rows _ t.fit (fits, tt) in
-      search (numbered_appended, ascends_appended)
+      let aside : (k : ℕ) (other : LinkState) → slice_get s.links k ≡ Some other → has_phase_up other.phase ≡ true → parked (appended (given s) s.rows body fate) ≡ [] = λ k other there rising. let o = opened k other there in grind (arith, appended_out) in
+      let fit : AreFit s.settings.profile (appended (given s) s.rows body fate) = each_append _ s.rows _ t.fit (fits, tt) in
+      let more : given (record s { rows = appended (given s) s.rows body fate; routing = routing }) ≡ given s + 1 = grind (arith, length-append) in
+      let numbered : IsNumbered (given (record s { rows = appended (given s) s.rows body fate; routing = routing })) (appended (given s) s.rows body fate) = rw more (numbered_appended (given s) s.rows body fate t.numbered) in
+      let back_order = ascends_appended (given s) (λ row. stands_back row.fate) s.rows body fate t.numbered t.back_order in
+      search (numbered, back_order)
 
 -- AN ORDER goes to the target, and is of no stream.
 pub queues : (order : Order) (s : State) → IsSound s → IsSound (queued order s)
@@ -140,11 +161,11 @@ queues order s t =
     (λ k few. record { placed = t.placed k few; runs = λ n link there up. t.all_run n link there up k few; stays = λ code via e is. (via, is) }) t.homes_up
 
 -- AN OFFER goes where its stream runs.
-pub offers : (s : State) (event : Event) (body : List ℕ) → IsAsked event → event ≡ Offer body → offer_refusal s.rows body ≡ None → IsSound s → IsSound (offered None s body).state
+pub offers : (s : State) (event : Event) (body : List ℕ) → IsAsked event → event ≡ Offer body → offer_refusal s.settings.profile s.rows body ≡ None → IsSound s → IsSound (offered None s body).state
 offers s event body asked e free t =
     let stream = stream_of body in
     let low : stream < 16 = subst IsAsked e asked in
-    let fits : (length body ≤ 273) × ((service_indicator body == 0) ≡ false) = grind (arith, free) in
+    let fits : (length body ≤ longest_body s.settings.profile) × ((service_indicator body == 0) ≡ false) = grind (arith, free) in
     let placed = t.placed stream low in
     let same = λ (k : ℕ) (few : k < 16). (alone s.routing k t.routing few).accepted_place stream in
     appended_sound s (accepted stream s.routing) t (accepted_sound stream s.routing t.routing) refl body (fate_at (place_of stream s.routing) s) fits.0 (λ k link there. grind (arith, nat_tests, placed, t.all_run)) (grind (arith, free, low, coded_at))

@@ -9,7 +9,7 @@ use Rattle.set_model.specs.Step.{Event, Gains, step, stepped, offered, rows_sent
 use Rattle.set_model.specs.Laws.{IsNew, KeepsMessages, RunsStraight}
 use Rattle.set_model.specs.Rows.{numbers, stream_of, Fate, Unacked, Waiting, IsNumbered, Row, all_with, appended, fated, is_back, is_back_to, is_on, is_parked, is_waiting, moved, standing, stands_back, turned}
 use Rattle.set_model.specs.Sound.{IsAsked, IsManaged, IsPlaced, IsSettings, IsSound, AreAbove, AreTogether, BeginsNone, IsAscending, IsBackOf, IsSoundStream, astray, is_astray, is_live, is_unfinished, live, stands_at}
-use Rattle.set_model.specs.State.{Asked, Free, Nowhere, LinkState, Settings, State, new_link, opened_with, Place, Changing, On, fate_at, target}
+use Rattle.set_model.specs.State.{Asked, Free, Nowhere, LinkState, Settings, State, given, new_link, opened_with, Place, Changing, On, fate_at, target}
 use Rattle.set_route.proofs.Places.{new_sound}
 use Rattle.set_route.proofs.Codes.{all_free}
 use Rattle.set_model.proofs.Walk.{KeptBy, step_is, step_walks}
@@ -52,7 +52,7 @@ module _ (settings : Settings) (is : IsSettings settings) where
     managed = is.managed;
     routing = new_sound settings.links is.some_link is.at_most_16;
     routed = refl;
-    count = length-replicate settings.links (new_link settings.method);
+    count = length-replicate settings.links (new_link settings.profile settings.method);
     numbered = λ number. grind (arith, nat_tests);
     fit = tt;
     links = λ n link there. grind (arith, new_there);
@@ -89,8 +89,8 @@ stream_turned stream place test fate fits used n rows t =
     grind arith
 
 -- A NEW MESSAGE has a number above all others.
-pub stream_appended : (stream : ℕ) (place : Place) (used used' : Bool) (rows : List Row) (body : List ℕ) (fate : Fate) → IsNumbered rows → IsSoundStream stream place used rows → (is_live stream (new_row (length rows) body fate) ≡ true → (stands_at place fate ≡ true) × (used' ≡ true)) → (used' ≡ false → used ≡ false) → IsSoundStream stream place used' (appended rows body fate)
-stream_appended stream place used used' rows body fate numbered t fits grows = grind (arith, filter-append, ascends_appended, fits)
+pub stream_appended : (given stream : ℕ) (place : Place) (used used' : Bool) (rows : List Row) (body : List ℕ) (fate : Fate) → IsNumbered given rows → IsSoundStream stream place used rows → (is_live stream (new_row given body fate) ≡ true → (stands_at place fate ≡ true) × (used' ≡ true)) → (used' ≡ false → used ≡ false) → IsSoundStream stream place used' (appended given rows body fate)
+stream_appended given stream place used used' rows body fate numbered t fits grows = grind (arith, filter-append, ascends_appended, fits)
 
 -- ROWS THAT MOVE: all live ones of a stream do, or none.
 module _ (stream : ℕ) (place place' : Place) (test : Fate → Bool) (to : Fate) (goes : Bool) (open_there : (f : Fate) → test f ≡ true → is_unfinished f ≡ true) (open_to : is_unfinished to ≡ true) (all : (f : Fate) → stands_at place f ≡ true → test f ≡ goes) (comes : goes ≡ true → stands_at place' to ≡ true) (stays : goes ≡ false → (f : Fate) → stands_at place f ≡ true → stands_at place' f ≡ true) where
@@ -130,7 +130,7 @@ offers_straight : (s : State) (body : List ℕ) → IsSound s → NoneOpen s.rou
 offers_straight s body t none r k few =
     let place = place_of (stream_of body) s.routing in
     let a = alone s.routing k t.routing few in
-    rw (a.accepted_place (stream_of body), a.accepted_messages (stream_of body)) (stream_appended k (place_of k s.routing) (has_messages k s.routing) ((k == stream_of body) || has_messages k s.routing) s.rows body (fate_at place s) t.numbered (r k few) (λ e. grind (arith, nat_tests)) (λ e. grind arith))
+    rw (a.accepted_place (stream_of body), a.accepted_messages (stream_of body)) (stream_appended (given s) k (place_of k s.routing) (has_messages k s.routing) ((k == stream_of body) || has_messages k s.routing) s.rows body (fate_at place s) t.numbered (r k few) (λ e. grind (arith, nat_tests)) (λ e. grind arith))
 
 -- A LINK COMES UP.
 stream_risen : (n : ℕ) (rows : List Row) (k home : ℕ) (used : Bool) (place : Place) → ((to code via : ℕ) → place ≡ Changing to code via → ⊥) → IsSoundStream k place used rows → IsSoundStream k (place_raised n home used place) used (moved is_parked (all_with (Waiting n)) rows)
@@ -164,7 +164,7 @@ step_straight s event asked begins t r =
     let leaves_straight = λ (blind : Bool) (n : ℕ) (link : LinkState) (s : State) (t : IsSound s) (r : RunsStraight s). none_turns (is_back_to n) _ s (left_by blind n link s) (home_back n) refl (left_quiet n s.routing t.routing r.none_open) t r in
     let releases_straight = λ (code : ℕ) (s : State) (t : IsSound s) (r : RunsStraight s). none_turns (is_back code) (all_with (Waiting (home_of code))) s (released code s) (code_back code) refl (back_quiet code s.routing t.routing r.none_open) t r in
     -- an order is of no stream
-    let queues_straight : (order : Order) (s : State) → IsSound s → AreTogether s → AreTogether (queued order s) = λ order s t r k low. stream_appended k (place_of k s.routing) (has_messages k s.routing) (has_messages k s.routing) s.rows _ (fate_on (target s.links)) t.numbered (r k low) (λ e. grind (arith, t.managed)) (λ e. e) in
+    let queues_straight : (order : Order) (s : State) → IsSound s → AreTogether s → AreTogether (queued order s) = λ order s t r k low. stream_appended (given s) k (place_of k s.routing) (has_messages k s.routing) (has_messages k s.routing) s.rows _ (fate_on (target s.links)) t.numbered (r k low) (λ e. grind (arith, t.managed)) (λ e. e) in
     let sends_straight : (choice : Choice) (n : ℕ) (s : State) → AreTogether s → (k : ℕ) → k < 16 → IsSoundStream k (place_of k s.routing) (has_messages k s.routing) (rows_sent choice n s.rows) = λ choice n s r k low. let turns = stream_turned k (place_of k s.routing) (is_waiting n) (Unacked n) (λ f e alive. grind arith) (has_messages k s.routing) 1 s.rows (r k low) in grind arith in
     let stream_finishes = λ (k : ℕ) (place : Place) (test : Fate → Bool) (fate : Fate) (done : is_unfinished fate ≡ false). stream_turned k place test fate (λ f e alive. false_true (is_unfinished fate) done alive) in
     let rests : (a b : State) → IsSound a × RunsStraight a → StaysStraight a b → IsSound b × RunsStraight b = λ a b q then. then q.0 q.1.none_open q.1.together in
@@ -173,7 +173,7 @@ step_straight s event asked begins t r =
     (step_walks s StaysStraight (λ u. IsSound u × RunsStraight u) event (search (sounds, leaves_straight, releases_straight, queues_straight, stream_finishes, moves_off_straight, offers_straight, sends_straight, rises_straight, then_straight, rests, begins_none, stood))).1
 
 -- WHAT EVERY STEP DOES. The first of it tells where the rest holds: of each step that is named.
-pub step_laws : (s : State) (event : Event) → (step s event ≡ stepped s event) × (IsAsked event → IsSound s → IsSound (step s event).state) × (IsManaged s.settings → Gains s event (step s event).answer (step s event).state) × (IsNumbered s.rows → KeepsMessages s.rows (step s event).state.rows) × ((n : ℕ) → (Concerns event n s → ⊥) → LeavesAlone n s (step s event).state)
+pub step_laws : (s : State) (event : Event) → (step s event ≡ stepped s event) × (IsAsked event → IsSound s → IsSound (step s event).state) × (IsManaged s.settings → Gains s event (step s event).answer (step s event).state) × (IsNumbered (given s) s.rows → KeepsMessages s (step s event).state) × ((n : ℕ) → (Concerns event n s → ⊥) → LeavesAlone n s (step s event).state)
 step_laws s event = (step_is s event, step_sound s event, step_gains s event, keeps_messages s event, λ n. leaves_alone n s event)
 
 pub ruleset laws = (step_laws, step_straight, settled_empty, diverts_the_rest, opened_new)

@@ -5,8 +5,8 @@ use Rattle.std.proofs.lemmas.List.Filters.{length-filter_both}
 use Rattle.std.proofs.lemmas.List.Folds.{find-append}
 use Rattle.std.proofs.lemmas.Bool.Decides.{nat_tests}
 use Rattle.set_model.specs.Laws.{MessagesStay, MovesTheLinksRows, KeepsMessages}
-use Rattle.set_model.specs.Rows.{Fate, IsNumbered, Row, appended, counts_of, service_indicator, total_of, was_acked, Acked, Unacked, is_unacked, is_waiting, moved, standing, turned, unack}
-use Rattle.set_model.proofs.Rows.{turned_there, moved_length, moved_numbered, is_found, numbered_appended, same_numbers, no_rows, body_moved, place_moved, row_is_first, total_is, filter_comm, fewer_filter, fated_none, turned_left}
+use Rattle.set_model.specs.Rows.{Fate, IsNumbered, Row, appended, counts_of, service_indicator, total_of, was_acked, Acked, Unacked, is_on, is_unacked, is_waiting, moved, standing, turned, unack}
+use Rattle.set_model.proofs.Rows.{turned_there, moved_length, moved_numbered, not_found, numbered_appended, same_numbers, no_rows, body_moved, place_moved, row_is_first, total_is, filter_comm, fewer_filter, fated_none, turned_left}
 use Rattle.set_model.proofs.Events.{ChangesOn, numbers_fated, Kept, moved_kept, acknowledged, appended_out}
 use Rattle.std.proofs.lemmas.List.Elements.{filter-append}
 use Rattle.l3_orders.specs.Grammar.{text}
@@ -15,18 +15,23 @@ use Rattle.set_route.specs.Routing.{Routing}
 use Rattle.set_model.specs.Step.{Event, Offer, step, Answer, Gains, messages_in, octets_of, one_if, rows_sent}
 use Rattle.set_model.specs.Control.{Choice, Header, part_of}
 use Rattle.set_model.specs.Sound.{IsManaged, AreAtMost, WholeNumbers, one_more}
-use Rattle.set_model.specs.State.{Place, Settings, State, fate_at, Phase, LinkState, window_of}
+use Rattle.set_model.specs.State.{Place, Settings, State, given, fate_at, Phase, LinkState, window_of}
 use Rattle.set_model.proofs.Walk.{step_walks, IsAt}
 use Rattle.std.proofs.Math.Nat.{le_refl}
 use Rattle.set_model.proofs.Lists.{each_set}
 
-pub messages_stay : (test : Fate → Bool) (to : Fate) (fate : Row → Fate) (rows : List Row) → IsNumbered rows → MessagesStay test to fate rows
-messages_stay test to fate rows numbered =
+pub messages_stay : (test : Fate → Bool) (to : Fate) (fate : Row → Fate) (given : ℕ) (rows : List Row) → IsNumbered given rows → MessagesStay test to fate given rows
+messages_stay test to fate given rows numbered =
     let turned = turned_there test to in
-    grind (arith, nat_tests, turned, same_numbers, moved_length, body_moved, moved_numbered, is_found, find-append, row_is_first, no_rows, numbered_appended)
+    let moved_same = λ (number : ℕ). body_moved test fate given number rows numbered in
+    let moved_on = moved_numbered test fate given rows numbered in
+    let none = not_found given given rows numbered in
+    grind (arith, nat_tests, turned, same_numbers, moved_length, moved_same, moved_on, none, find-append, row_is_first, no_rows, numbered_appended)
 
-pub moves_rows : (link : ℕ) (fate : Row → Fate) (rows : List Row) → IsNumbered rows → MovesTheLinksRows link fate rows
-moves_rows link fate rows numbered = grind (arith, length-filter_both, drop_at, numbers_fated, place_moved)
+pub moves_rows : (link : ℕ) (fate : Row → Fate) (given : ℕ) (rows : List Row) → IsNumbered given rows → MovesTheLinksRows link fate rows
+moves_rows link fate given rows numbered =
+    let places = λ (number : ℕ). place_moved (is_on link) fate given number rows numbered in
+    grind (arith, length-filter_both, drop_at, numbers_fated, places)
 
 -- WHAT NO EVENT DOES to a message; and only what users offer counts as a new one.
 abbrev pub is_offer : Event → Bool
@@ -36,22 +41,23 @@ is_offer _ = false
 -- a state with the messages of another one, and new ones or none: where Free, none of a user
 pub record Grows (Free : Type 0) (s t : State) : Type 0 where
   pub settings_same : t.settings ≡ s.settings
-  pub keeps : IsNumbered s.rows → KeepsMessages s.rows t.rows
+  pub gone_same : t.finished ≡ s.finished
+  pub keeps : IsNumbered (given s) s.rows → KeepsMessages s t
   pub acked : (counts_of s.rows).acked ≤ (counts_of t.rows).acked
   pub total : Free → IsManaged s.settings → total_of (counts_of t.rows) ≡ total_of (counts_of s.rows)
 
-grows_appended : (Free : Type 0) (s : State) (routing : Routing) (body : List ℕ) (fate : Fate) → (Free → IsManaged s.settings → (service_indicator body == 0) ≡ true) → Grows Free s (record s { rows = appended s.rows body fate; routing = routing })
+grows_appended : (Free : Type 0) (s : State) (routing : Routing) (body : List ℕ) (fate : Fate) → (Free → IsManaged s.settings → (service_indicator body == 0) ≡ true) → Grows Free s (record s { rows = appended (given s) s.rows body fate; routing = routing })
 grows_appended Free s routing body fate order =
-    let stay = λ (numbered : IsNumbered s.rows). (messages_stay (λ f. false) fate (λ row. fate) s.rows numbered).others_stay body in
+    let stay = λ (numbered : IsNumbered (given s) s.rows). (messages_stay (λ f. false) fate (λ row. fate) (given s) s.rows numbered).others_stay body in
     grind (arith, length_push, stay, total_is, filter-append, length-append, numbered_appended, order)
 
 pub step_grows : (s : State) (event : Event) → Grows (is_offer event ≡ false) s (step s event).state
 step_grows s event =
     let grows_then : (Free : Type 0) (a b c : State) → Grows Free a b → Grows Free b c → Grows Free a c = λ Free a b c p q. grind arith in
-    let grows_kept : (Free : Type 0) (s t : State) → t.settings ≡ s.settings → Kept s.rows t.rows → Grows Free s t = λ Free s t same k. grind arith in
+    let grows_kept : (Free : Type 0) (s t : State) → t.settings ≡ s.settings → t.finished ≡ s.finished → Kept s.rows t.rows → Grows Free s t = λ Free s t same gone k. let bodies = k.bodies (given s) in let numbered = k.numbered (given s) in grind (arith, bodies, numbered) in
     let none_offered : (body : List ℕ) → event ≡ Offer body → is_offer event ≡ false → (service_indicator body == 0) ≡ true = λ body e other. absurd (let no : true ≡ false = sym (ap is_offer e) ∙ other in cc) in
     -- an order is the management's
-    let order_managed : (order : Order) (settings : Settings) → IsManaged settings → (service_indicator (text order settings.sio settings.dpc settings.opc) == 0) ≡ true = λ order settings m. grind arith in
+    let order_managed : (order : Order) (settings : Settings) → IsManaged settings → (service_indicator (text settings.profile order settings.sio settings.dpc settings.opc) == 0) ≡ true = λ order settings m. grind arith in
     -- where a message goes that is moved, or whose stream runs there, it isn't acknowledged
     let target_open : (to : Option ℕ) → was_acked (fate_on to) ≡ false = λ to. grind arith in
     let fate_open : (p : Place) (s : State) → was_acked (fate_at p s) ≡ false = λ p s. grind arith in
@@ -59,7 +65,7 @@ step_grows s event =
     let same = λ (rows : List Row). (acknowledged 0 0 rows).kept in
     step_walks s (Grows (is_offer event ≡ false)) (Grows (is_offer event ≡ false) s) event (search (kept_on, grows_then, grows_kept, grows_appended, moved_kept, same, target_open, order_managed, fate_open, none_offered))
 
-pub keeps_messages : (s : State) (event : Event) → IsNumbered s.rows → KeepsMessages s.rows (step s event).state.rows
+pub keeps_messages : (s : State) (event : Event) → IsNumbered (given s) s.rows → KeepsMessages s (step s event).state
 keeps_messages s event numbered = (step_grows s event).keeps numbered
 
 -- What a step brings: each accepted message stands in one place more, and what is acknowledged stays so.

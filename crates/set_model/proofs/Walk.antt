@@ -3,8 +3,8 @@ use Rattle.std.proofs.Common.{refl, arith, ◌≡◌, ◌<◌, ◌≤◌, length
 use Rattle.std.proofs.lemmas.Bool.{cond_both}
 use Rattle.l3_orders.specs.Grammar.{link_of, order_of}
 use Rattle.set_route.specs.Routing.{code_for, home_of}
-use Rattle.set_model.specs.Step.{SignalUnit, Event, BackTimeout, DownEvent, DownBlind, Heard, Next, NoAnswer, Offer, Take, UpEvent, step, Outcome, brought, controlled, controls, falls, in_service, next, offer_refusal, offered, part_in, rises, taken, takes, stepped}
-use Rattle.set_model.specs.Changeover.{Order, Cba, Cbd, Coa, Reached, Unanswered, Unknown, Upto, acknowledged_by, answered, can_declare, changed_over, declared, declared_from, leaving_order, left_by, left_link, moved_over, order_obeyed, queued, reached_by, released, released_from, settled}
+use Rattle.set_model.specs.Step.{SignalUnit, Event, BackTimeout, DownEvent, DownBlind, Heard, Next, NoAnswer, Offer, Take, UpEvent, step, Outcome, brought, controlled, controls, falls, in_service, next, offer_refusal, offered, part_in, rises, taken, takes, stepped, is_heard}
+use Rattle.set_model.specs.Changeover.{Order, Cba, Cbd, Coa, Reached, Unanswered, Unknown, Upto, acknowledged_by, answered, can_declare, changed_over, declared, declared_from, leaving_order, left_by, left_link, moved_over, obeyed, order_obeyed, queued, reached_by, released, released_from, settled}
 use Rattle.set_model.specs.Frame.{BringsAbout, BringsBackTo, Concerns}
 use Rattle.set_model.specs.Rows.{DiscardCause, Emergency, NoAnswer as NoAnswerCame, Unreasonable, Discarded, changed, is_unacked, is_waiting, unack}
 use Rattle.set_model.specs.Sound.{BeginsNone}
@@ -83,18 +83,22 @@ module _ (Known : ℕ → Type 0) (May : Type 0) (R : State → State → Type 0
   obeys_walks (Cba n code) s known = let there = known (home_of code) (inr (n, code, refl, refl)) in grind arith
   obeys_walks order s known = grind (arith, over_walks, answer_walks, known)
 
-  pub takes_walks : (body : Option (List ℕ)) (s : State) → ((b : List ℕ) → body ≡ Some b → (o : Order) → order_of b ≡ Some o → (n : ℕ) → Touches o n → Known n) → R s (takes body s).state
-  takes_walks body s known = grind (arith, obeys_walks)
+  obeyed_walks : (o : Option Order) (s : State) → ((order : Order) → o ≡ Some order → (n : ℕ) → Touches order n → Known n) → R s (obeyed o s).state
+  obeyed_walks o s known = grind (arith, obeys_walks)
+
+  pub takes_walks : (body : Option (List ℕ)) (s : State) → ((b : List ℕ) → body ≡ Some b → (o : Order) → order_of s.settings.profile b ≡ Some o → (n : ℕ) → Touches o n → Known n) → R s (takes body s).state
+  takes_walks None s known = grind arith
+  takes_walks (Some body) s known = let by = obeyed_walks (order_of s.settings.profile body) s (known body refl) in grind arith
 
 -- what the first small change of an event leads to, and what each one after it keeps
 pub record WalkedBy (s : State) (event : Event) (R : State → State → Type 0) (S : State → Type 0) : Type 0 where
   pub small : KeptBy (λ n. Concerns event n s) (BeginsNone event → ⊥) R
   pub unmoved : S s
   pub rests : (t u : State) → S t → R t u → S u
-  pub offers : (body : List ℕ) → event ≡ Offer body → offer_refusal s.rows body ≡ None → S (offered None s body).state
+  pub offers : (body : List ℕ) → event ≡ Offer body → offer_refusal s.settings.profile s.rows body ≡ None → S (offered None s body).state
   pub takes : (body : List ℕ) (rest : List (List ℕ)) → event ≡ Take → s.inbox ≡ body ∷ rest → S (record s { inbox = rest })
   pub sends : (n : ℕ) (link : LinkState) → event ≡ Next n → IsAt n link Up s → ChangesOn n s.rows (next n s link).state.rows → S (next n s link).state
-  pub hears : (n : ℕ) (unit : SignalUnit) (link : LinkState) → event ≡ Heard n unit → IsAt n link Up s → ChangesOn n s.rows (controlled unit n s link).rows → S (controlled unit n s link)
+  pub hears : (n : ℕ) (unit : SignalUnit) (link : LinkState) → event ≡ Heard n unit → is_heard s.settings.profile unit ≡ true → IsAt n link Up s → ChangesOn n s.rows (controlled unit n s link).rows → S (controlled unit n s link)
   pub rises : (n : ℕ) (link : LinkState) → event ≡ UpEvent n → IsAt n link Settled s → Unparked n s.rows (rises n s Settled).state.rows → S (rises n s Settled).state
 
 module _ (s : State) (R : State → State → Type 0) (S : State → Type 0) where
@@ -104,11 +108,11 @@ module _ (s : State) (R : State → State → Type 0) (S : State → Type 0) whe
   take_walks : WalkedBy s Take R S → (inbox : List (List ℕ)) → s.inbox ≡ inbox → S (taken inbox s).state
   take_walks w inbox e = grind arith
 
-  hear_walks : (n : ℕ) (unit : SignalUnit) (link : LinkState) → WalkedBy s (Heard n unit) R S → IsAt n link Up s → S (controls unit n s link).state
-  hear_walks n unit link w at =
+  hear_walks : (n : ℕ) (unit : SignalUnit) (link : LinkState) → WalkedBy s (Heard n unit) R S → is_heard s.settings.profile unit ≡ true → IsAt n link Up s → S (controls unit n s link).state
+  hear_walks n unit link w fits at =
       let part = part_in unit n link s in
-      let either : (accept : Bool) (unit : SignalUnit) (b : List ℕ) → brought accept unit ≡ Some b → (o : Order) → order_of b ≡ Some o → (m : ℕ) → Touches o m → BringsAbout m unit ⊎ BringsBackTo m unit = λ accept unit b e o f m touches. grind arith in
-      w.rests _ (controls unit n s link).state (w.hears n unit link refl at (acknowledged n part.acked s.rows).in_place)
+      let either : (accept : Bool) (unit : SignalUnit) (b : List ℕ) → brought accept unit ≡ Some b → (o : Order) → order_of s.settings.profile b ≡ Some o → (m : ℕ) → Touches o m → BringsAbout s.settings.profile m unit ⊎ BringsBackTo s.settings.profile m unit = λ accept unit b e o f m touches. grind arith in
+      w.rests _ (controls unit n s link).state (w.hears n unit link refl fits at (acknowledged n part.acked s.rows).in_place)
       (takes_walks (λ m. Concerns (Heard n unit) m s) (BeginsNone (Heard n unit) → ⊥) R w.small (brought part.accept unit) _ (λ b e o f m g. inr (either part.accept unit b e o f m g)))
 
   rise_walks : (n : ℕ) (link : LinkState) → WalkedBy s (UpEvent n) R S → slice_get s.links n ≡ Some link → S (rises n s link.phase).state

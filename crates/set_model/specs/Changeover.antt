@@ -12,12 +12,12 @@ use Rattle.set_model.specs.Rows.{Waiting, Acked, Discarded, DiscardCause, Emerge
 use Rattle.set_route.specs.Routing.{place_of, code_for, home_of, code_of, is_free, can_ask, asked, given_back, left, settled as streams_settled}
 pub use Rattle.set_model.specs.declared.reached.Reached.{Reached}
 pub use Rattle.set_model.specs.declared.reached.Reached.TheVariants.{Upto, Unknown, Unanswered}
-use Rattle.set_model.specs.State.{Phase, Up, Down, Settled, Code, Free, LinkState, State, is_up, fate_at, target, window_of, last_accepted}
+use Rattle.set_model.specs.State.{Phase, Up, Down, Settled, Code, Free, LinkState, State, given, is_up, fate_at, target, window_of, last_accepted}
 
 -- QUEUE: an order stands last, as a row of its own, for the target, in the octets that this set writes
 abbrev pub queued : Order → State → State
 queued order s = record s {
-  rows = appended s.rows (text order s.settings.sio s.settings.dpc s.settings.opc) (fate_on (target s.links));
+  rows = appended (given s) s.rows (text s.settings.profile order s.settings.sio s.settings.dpc s.settings.opc) (fate_on (target s.links));
 }
 
 -- LEAVE (Q.704 5.3): the link is out of service; its messages stay on it until it settles. Streams on their way back
@@ -105,8 +105,8 @@ settled reached number link s =
 -- them waits.
 abbrev pub declared : ℕ → ℕ → State → State
 declared home alternative s = record s {
-  rows = appended s.rows
-      (text (Cbd home (code_for home alternative)) s.settings.sio s.settings.dpc s.settings.opc) (Waiting alternative);
+  rows = appended (given s) s.rows
+      (text s.settings.profile (Cbd home (code_for home alternative)) s.settings.sio s.settings.dpc s.settings.opc) (Waiting alternative);
   routing = asked home alternative s.routing;
 }
 

@@ -25,10 +25,10 @@ abbrev pub start_of : Method → Control
 start_of BasicMethod = Basic basic.start
 start_of (CyclicMethod n1 n2) = Cyclic (cyclic.start n1 n2)
 
--- the FSN last accepted
-abbrev pub accepted_of : Control → ℕ
-accepted_of (Basic state) = state.accepted
-accepted_of (Cyclic state) = state.accepted
+-- the FSN that is expected, the one after that last accepted
+abbrev pub expected_of : Control → ℕ
+expected_of (Basic state) = state.expected
+expected_of (Cyclic state) = state.expected
 
 -- WHAT IS SENT NEXT, where the bodies of the unacknowledged messages have so many octets.
 abbrev pub choice_of : ℕ → Control → WindowState → Choice
@@ -36,9 +36,9 @@ choice_of octets (Basic state) window = basic.choice_of state window
 choice_of octets (Cyclic state) window = cyclic.choice_of octets state window
 
 -- the header of a unit with this FSN
-abbrev pub head_of : Control → ℕ → Header
-head_of (Basic state) fsn = basic.head_of state fsn
-head_of (Cyclic state) fsn = cyclic.head_of state fsn
+abbrev pub head_of : Control → WindowState → ℕ → Header
+head_of (Basic state) window fsn = basic.head_of state window fsn
+head_of (Cyclic state) window fsn = cyclic.head_of state window fsn
 
 -- the control when that is sent
 abbrev pub control_after : Choice → ℕ → Control → WindowState → Control

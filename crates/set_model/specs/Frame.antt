@@ -1,6 +1,7 @@
 -- WHICH LINKS AN EVENT CONCERNS, what it leaves alone on all others, and what it does to the window of its own.
 use Rattle.std.specs.Prelude.{◌≡◌, ℕ, false, List, [], ◌++◌, take, drop, slice_get, true, Some, ◌⊎◌}
 use Rattle.l2_units.specs.Grammar.{head_of as header_in}
+use Rattle.l2_units.specs.declared.profile.Profile.{Profile}
 use Rattle.l2_window.specs.Window.{WindowState}
 use Rattle.l3_orders.specs.declared.order.Order.{Order}
 use Rattle.l3_orders.specs.declared.order.Order.TheVariants.{Cba}
@@ -9,25 +10,25 @@ use Rattle.set_route.specs.Routing.{place_of, home_of}
 use Rattle.set_model.specs.Rows.{Row, stream_of, unack, wait, held, octets_in}
 use Rattle.set_model.specs.Control.{Choice, first, control_after, window_heard, control_heard}
 use Rattle.set_model.specs.State.{On, LinkState, State, is_up, window_of}
-use Rattle.set_model.specs.Step.{SignalUnit, Msu, Event, Offer, Next, Heard, UpEvent, DownEvent, DownBlind, NoAnswer, BackTimeout, choice_in, next, controlled, controls, is_msu}
+use Rattle.set_model.specs.Step.{SignalUnit, Msu, Event, Offer, Next, Heard, UpEvent, DownEvent, DownBlind, NoAnswer, BackTimeout, choice_in, next, controlled, controls, is_msu, is_heard}
 
 -- the unit brings an order about this link
-abbrev pub BringsAbout : ℕ → SignalUnit → Type 0
-BringsAbout number (Msu head body) = (order : Order) × (order_of body.items ≡ Some order) × (link_of order ≡ number)
-BringsAbout number _ = ⊥
+abbrev pub BringsAbout : Profile → ℕ → SignalUnit → Type 0
+BringsAbout profile number (Msu head body) = (order : Order) × (order_of profile body.items ≡ Some order) × (link_of order ≡ number)
+BringsAbout profile number _ = ⊥
 
 -- it brings the acknowledgement of a changeback to this link
-abbrev pub BringsBackTo : ℕ → SignalUnit → Type 0
-BringsBackTo number (Msu head body) =
-    (link code : ℕ) × (order_of body.items ≡ Some (Cba link code)) × (home_of code ≡ number)
-BringsBackTo number _ = ⊥
+abbrev pub BringsBackTo : Profile → ℕ → SignalUnit → Type 0
+BringsBackTo profile number (Msu head body) =
+    (link code : ℕ) × (order_of profile body.items ≡ Some (Cba link code)) × (home_of code ≡ number)
+BringsBackTo profile number _ = ⊥
 
 -- its own link, that of an order which its unit brings, the home of the code that it acknowledges, or the one on which
 -- the stream of an offered message runs; Take, Find and Restore concern none
 abbrev pub Concerns : Event → ℕ → State → Type 0
 Concerns (Offer body) number s = place_of (stream_of body) s.routing ≡ On number
 Concerns (Next link) number s = link ≡ number
-Concerns (Heard link unit) number s = (link ≡ number) ⊎ (BringsAbout number unit ⊎ BringsBackTo number unit)
+Concerns (Heard link unit) number s = (link ≡ number) ⊎ (BringsAbout s.settings.profile number unit ⊎ BringsBackTo s.settings.profile number unit)
 Concerns (UpEvent link) number s = link ≡ number
 Concerns (DownEvent link) number s = link ≡ number
 Concerns (DownBlind link) number s = link ≡ number
@@ -62,7 +63,7 @@ pub record MovesAsItsControl (number : ℕ) (link : LinkState) (s : State) : Typ
       (link' : LinkState) × (slice_get (next number s link).state.links number ≡ Some link')
       × (link'.control ≡ control_after choice (octets_in (unack number s.rows)) link.control window)
       × (window_of number link' (next number s link).state.rows ≡ window_after choice window)
-  pub heard : (unit : SignalUnit)
+  pub heard : (unit : SignalUnit) → is_heard s.settings.profile unit ≡ true
       → let window = window_of number link s.rows in
       let head = header_in unit in
       let after = controlled unit number s link in
@@ -70,7 +71,7 @@ pub record MovesAsItsControl (number : ℕ) (link : LinkState) (s : State) : Typ
       × (link'.control ≡ control_heard link.control window head (is_msu unit))
       × (window_of number link' after.rows ≡ window_heard link.control window head)
   -- and where the unit brings no order that is all
-  pub no_more : (unit : SignalUnit) → ((about : ℕ) → BringsAbout about unit → ⊥)
+  pub no_more : (unit : SignalUnit) → ((about : ℕ) → BringsAbout s.settings.profile about unit → ⊥)
       → let after = controlled unit number s link in
       let whole = (controls unit number s link).state in
       (whole.links ≡ after.links) × (whole.rows ≡ after.rows)

@@ -1,29 +1,29 @@
 -- LAWS of the rows and of the step: of every state and every event.
-use Rattle.std.specs.Prelude.{◌≡◌, ℕ, ◌-◌, ◌<◌, ◌≤◌, Bool, not, List, [], ◌++◌, length, map, drop, Option, Some, None, if◌then◌else◌, option_map}
+use Rattle.std.specs.Prelude.{◌≡◌, ℕ, ◌+◌, ◌-◌, ◌<◌, ◌≤◌, Bool, not, List, [], ◌++◌, length, map, drop, Option, Some, None, if◌then◌else◌, option_map}
 use Rattle.set_route.specs.Routing.{NoneOpen}
 use Rattle.set_model.specs.Rows.{Fate, Acked, Row, standing, is_unacked, is_on, unack, wait, held, on, parked, numbers, with_fate, turned, changed, moved, appended, row_of, place, body_at, IsNumbered}
-use Rattle.set_model.specs.State.{LinkState, State, target}
+use Rattle.set_model.specs.State.{LinkState, State, given, target}
 use Rattle.set_model.specs.Changeover.{Upto, fate_on, reached_by, settled}
 use Rattle.set_model.specs.Sound.{IsSound, AreTogether, AreFew}
 
 -- THE ROWS.
 
--- no row was taken out or put in, none has another number or another body, and each number stands in one row
-pub record SameMessages (old new : List Row) : Type 0 where
+-- no row was taken out or put in, none has another number or another body, and no number stands in two rows
+pub record SameMessages (given : ℕ) (old new : List Row) : Type 0 where
   pub count : length new ≡ length old
   pub bodies : (number : ℕ) → body_at number new ≡ body_at number old
-  pub numbered : IsNumbered new
+  pub numbered : IsNumbered given new
 
 -- whichever rows change, to whatever places
-pub record MessagesStay (test : Fate → Bool) (to : Fate) (fate : Row → Fate) (rows : List Row) : Type 0 where
-  pub turned_stay : (n : ℕ) → SameMessages rows (turned test to n rows)
-  pub changed_stay : SameMessages rows (changed test to rows)
-  pub moved_stay : SameMessages rows (moved test fate rows)
+pub record MessagesStay (test : Fate → Bool) (to : Fate) (fate : Row → Fate) (given : ℕ) (rows : List Row) : Type 0 where
+  pub turned_stay : (n : ℕ) → SameMessages given rows (turned test to n rows)
+  pub changed_stay : SameMessages given rows (changed test to rows)
+  pub moved_stay : SameMessages given rows (moved test fate rows)
   -- a new message leaves the others as they are, and is found under its number
-  pub others_stay : (body : List ℕ) (number : ℕ) → number < length rows
-      → body_at number (appended rows body to) ≡ body_at number rows
-  pub new_found : (body : List ℕ) → body_at (length rows) (appended rows body to) ≡ Some body
-  pub appended_numbered : (body : List ℕ) → IsNumbered (appended rows body to)
+  pub others_stay : (body : List ℕ) (number : ℕ) → number < given
+      → body_at number (appended given rows body to) ≡ body_at number rows
+  pub new_found : (body : List ℕ) → body_at given (appended given rows body to) ≡ Some body
+  pub appended_numbered : (body : List ℕ) → IsNumbered (given + 1) (appended given rows body to)
 
 -- what leaves a link are just its rows: they are the last ones then, in their old order; each has its new place,
 -- and every other message its old one.
@@ -35,11 +35,12 @@ pub record MovesTheLinksRows (link : ℕ) (fate : Row → Fate) (rows : List Row
 
 -- THE STEP.
 
--- none was taken out, none that was there has another body, and each number stands in exactly one row
-pub record KeepsMessages (old new : List Row) : Type 0 where
-  pub count : length old ≤ length new
-  pub bodies : (number : ℕ) → number < length old → body_at number new ≡ body_at number old
-  pub numbered : IsNumbered new
+-- none was taken out, none that was there has another body, and no number stands in two rows
+pub record KeepsMessages (old new : State) : Type 0 where
+  pub count : length old.rows ≤ length new.rows
+  pub gone : new.finished ≡ old.finished
+  pub bodies : (number : ℕ) → number < given old → body_at number new.rows ≡ body_at number old.rows
+  pub numbered : IsNumbered (given new) new.rows
 
 -- no changeback is under way, and the messages of each stream are together
 pub record RunsStraight (s : State) : Type 0 where

@@ -1,4 +1,5 @@
 pub mod Changeover
+pub mod Checkpoint
 pub mod Control
 pub mod Frame
 pub mod History

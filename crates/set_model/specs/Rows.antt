@@ -1,5 +1,7 @@
 -- THE ROWS OF A SET: its messages, each in exactly one place, as one list in the order of queueing. Read this file
 -- first.
+use Rattle.l2_units.specs.declared.profile.Profile.{Profile}
+use Rattle.l2_units.specs.Profile.{longest_body}
 use Rattle.std.specs.Prelude.{◌≡◌, ℕ, suc, zero, ◌==◌, ◌+◌, ◌%◌, ◌/◌, ◌≤◌, nat_lt, Bool, true, false, not, ◌&&◌, ◌||◌, List, [], ◌∷◌, ◌++◌, length, filter, map, find, Option, slice_index, if◌then◌else◌, option_map}
 pub use Rattle.set_events.specs.declared.answer.Fate.{Fate}
 pub use Rattle.set_events.specs.declared.answer.Fate.TheVariants.{Waiting, Unacked, Held, Back, Acked, Discarded, Parked}
@@ -122,9 +124,9 @@ moved test fate rows = standing (λ f. not (test f)) rows ++ map (fated fate) (s
 abbrev pub all_with : Fate → Row → Fate
 all_with fate row = fate
 
--- a new message stands at the end; its number is how many there were
-abbrev pub appended : List Row → List ℕ → Fate → List Row
-appended rows body fate = rows ++ record { number = length rows; body = body; fate = fate } ∷ []
+-- a new message stands at the end, under this number
+abbrev pub appended : ℕ → List Row → List ℕ → Fate → List Row
+appended number rows body fate = rows ++ record { number = number; body = body; fate = fate } ∷ []
 
 -- What the readers tell.
 
@@ -155,10 +157,10 @@ total_of c = c.waiting + c.unacked + c.acked + c.held + c.parked + c.back + c.di
 
 -- What holds of every set's rows.
 
--- each number below the length stands in exactly one row, and no other number in any
-abbrev pub IsNumbered : List Row → Type 0
-IsNumbered rows =
-    (number : ℕ) → length (filter (λ row. row.number == number) rows) ≡ (if nat_lt number (length rows) then 1 else 0)
+-- no number stands in two rows, and each that does was given out
+abbrev pub IsNumbered : ℕ → List Row → Type 0
+IsNumbered given rows =
+    (number : ℕ) → length (filter (λ row. row.number == number) rows) ≤ (if nat_lt number given then 1 else 0)
 
 -- a fact of each
 abbrev pub Each : {X : Type 0} → (X → Type 0) → List X → Type 0
@@ -166,8 +168,8 @@ Each fact [] = Unit {0}
 Each fact (x ∷ xs) = fact x × Each fact xs
 
 -- no body is longer than a unit's
-abbrev pub AreFit : List Row → Type 0
-AreFit rows = Each (λ row. length row.body ≤ 273) rows
+abbrev pub AreFit : Profile → List Row → Type 0
+AreFit profile rows = Each (λ row. length row.body ≤ longest_body profile) rows
 
 -- no row that stands where the first test tells stands behind one that stands where the other does
 abbrev pub AreBefore : (Fate → Bool) → (Fate → Bool) → List Row → Type 0

@@ -4,9 +4,9 @@ use Rattle.set_events.specs.declared.event.Event.{Event}
 use Rattle.set_events.specs.declared.event.Event.TheVariants.{Offer, Restore}
 use Rattle.set_route.specs.Routing.{Routing, IsRouting, home_of, code_of, place_of, has_messages, most_links}
 use Rattle.set_model.specs.Rows.{Fate, Back, Row, was_acked, was_discarded, is_on, is_back, is_parked, is_users, stream_of, unack, held, on, back, parked, numbers, Each, IsNumbered, AreFit, IsInOrder, IsHeldLast}
-use Rattle.set_model.specs.Control.{Method, BasicMethod, CyclicMethod, Control, Basic, Cyclic, accepted_of}
-use Rattle.set_model.specs.State.{Place, On, Changing, Nowhere, Asked, LinkState, State, Settings, is_up, has_phase_up, has_phase_settled, last_accepted}
-use Rattle.l2_window.specs.Window.{most_unacked}
+use Rattle.set_model.specs.Control.{Method, BasicMethod, CyclicMethod, Control, Basic, Cyclic, expected_of}
+use Rattle.set_model.specs.State.{Place, On, Changing, Nowhere, Asked, LinkState, State, Settings, given, is_up, has_phase_up, has_phase_settled}
+use Rattle.l2_window.specs.Window.{fsn_count, most_unacked}
 
 -- A LINK.
 
@@ -25,10 +25,11 @@ IsInRange (Cyclic state) unacked = state.place ≢ 0 → state.place < unacked
 -- at most 127 of its messages are unacknowledged (Q.703 5.2.2), and its BSNs are those of the bodies that were
 -- accepted; what was sent stands before what waits, and that before what is held; nothing is held for a link that is
 -- up, and no message stands on one that settled
-pub record IsSoundLink (set_method : Method) (number : ℕ) (link : LinkState) (rows : List Row) : Type 0 where
-  pub window : length (unack number rows) ≤ most_unacked
-  pub counted : accepted_of link.control ≡ last_accepted link
-  pub method : IsOf set_method link.control
+pub record IsSoundLink (settings : Settings) (number : ℕ) (link : LinkState) (rows : List Row) : Type 0 where
+  pub profile : link.profile ≡ settings.profile
+  pub window : length (unack number rows) ≤ most_unacked link.profile
+  pub counted : expected_of link.control ≡ link.accepted % fsn_count link.profile
+  pub method : IsOf settings.method link.control
   pub in_order : IsInOrder number rows
   pub held_last : IsHeldLast number rows
   pub none_held : has_phase_up link.phase ≡ true → held number rows ≡ []
@@ -112,11 +113,11 @@ pub record IsSound (s : State) : Type 0 where
   pub routing : IsRouting s.routing
   pub routed : s.routing.links ≡ s.settings.links
   pub count : length s.links ≡ s.settings.links
-  -- the numbers 0, 1, .. stand in one row each
-  pub numbered : IsNumbered s.rows
-  pub fit : AreFit s.rows
+  -- each row has a number of its own, below how many were given out
+  pub numbered : IsNumbered (given s) s.rows
+  pub fit : AreFit s.settings.profile s.rows
   pub links : (number : ℕ) (link : LinkState) → slice_get s.links number ≡ Some link
-      → IsSoundLink s.settings.method number link s.rows
+      → IsSoundLink s.settings number link s.rows
   pub placed : (stream : ℕ) → stream < 16 → IsPlaced s.links (place_of stream s.routing)
   -- while a link is up nothing is parked, and no stream runs nowhere
   pub none_aside : (number : ℕ) (link : LinkState) → slice_get s.links number ≡ Some link

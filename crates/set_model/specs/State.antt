@@ -1,5 +1,6 @@
 -- WHAT A SET OF LINKS HOLDS. Read this file first, after the rows.
 use Rattle.std.specs.Prelude.{ℕ, Bool, true, false, ◌+◌, ◌%◌, List, [], length, map, Option, None, Some, slice_get, slice_set, replicate, if◌then◌else◌, option_map}
+pub use Rattle.l2_units.specs.declared.profile.Profile.{Profile}
 use Rattle.l2_window.specs.Window.{WindowState, fsn_count, fsn_before_first}
 use Rattle.set_events.specs.declared.config.SetConfig.{SetConfig}
 use Rattle.set_model.specs.Rows.{Fate, Waiting, Held, Parked, Back, Row, unack, wait, numbers}
@@ -18,6 +19,8 @@ pub use Rattle.set_route.specs.declared.place.Code.{Code}
 -- or its last one
 pub record LinkState : Type 0 where
   pub phase : Phase
+  -- how many numbers its messages have
+  pub profile : Profile
   -- that life ended without the FSN last accepted being known: emergency changeover (Q.704 5.6)
   pub blind : Bool
   -- how many of its messages were acknowledged, and how many of the far end's bodies were accepted, as whole numbers
@@ -32,6 +35,7 @@ pub record Settings : Type 0 where
   pub set : ℕ
   pub links : ℕ
   pub method : Method
+  pub profile : Profile
   pub sio : ℕ
   pub dpc : ℕ
   pub opc : ℕ
@@ -41,36 +45,64 @@ settings_of config = record {
   set = config.set;
   links = config.links;
   method = config.method;
+  profile = config.profile;
   sio = config.sio;
   dpc = config.dpc;
   opc = config.opc;
 }
 
--- what the set was opened with; the rows in the order of queueing; the links, by their numbers; where the streams
--- run; the messages heard for users, oldest first
+-- the messages that left the rows, since nothing more can become of them: those of users by how they ended, and orders
+pub record FinishedCounts : Type 0 where
+  pub acked : ℕ
+  pub emergency : ℕ
+  pub unreasonable : ℕ
+  pub no_answer : ℕ
+  pub orders : ℕ
+
+abbrev pub none_finished : FinishedCounts
+none_finished = record { acked = 0; emergency = 0; unreasonable = 0; no_answer = 0; orders = 0 }
+
+abbrev pub all_finished : FinishedCounts → ℕ
+all_finished f = f.acked + f.emergency + f.unreasonable + f.no_answer + f.orders
+
+-- what the set was opened with; the rows in the order of queueing; those that left them; the links, by their numbers;
+-- where the streams run; the messages heard for users, oldest first
 pub record State : Type 0 where
   pub settings : Settings
   pub rows : List Row
+  pub finished : FinishedCounts
   pub links : List LinkState
   pub routing : Routing
   pub inbox : List (List ℕ)
 
 -- a link that never was up
-abbrev pub new_link : Method → LinkState
-new_link method = record { phase = Settled; blind = false; acked = 0; accepted = 0; control = start_of method }
+abbrev pub new_link : Profile → Method → LinkState
+new_link profile method = record {
+  phase = Settled;
+  profile = profile;
+  blind = false;
+  acked = 0;
+  accepted = 0;
+  control = start_of method;
+}
 
 -- a set that nothing was asked of
 abbrev pub opened_with : Settings → State
 opened_with settings = record {
   settings = settings;
   rows = [];
-  links = replicate settings.links (new_link settings.method);
+  finished = none_finished;
+  links = replicate settings.links (new_link settings.profile settings.method);
   routing = new_routing settings.links;
   inbox = [];
 }
 
 abbrev pub new_state : SetConfig → State
 new_state config = opened_with (settings_of config)
+
+-- how many numbers were given out: each message has a row, or left them and is counted. The next number is this one.
+abbrev pub given : State → ℕ
+given s = all_finished s.finished + length s.rows
 
 abbrev pub link_count : State → ℕ
 link_count s = length s.links
@@ -113,24 +145,25 @@ abbrev pub target : List LinkState → Option ℕ
 target links = target_of (map (λ link. has_phase_up link.phase) links)
 
 -- The window of a link, as its rows give it: the message at place i of the unacknowledged ones has FSN acked + i
--- modulo 128 (Q.703 2.2), so the FSN before it, last acknowledged, is acked - 1.
+-- modulo 128 (Q.703 2.2; wide: 4,096), so the FSN before it, last acknowledged, is acked - 1.
 abbrev pub window_of : ℕ → LinkState → List Row → WindowState
 window_of number link rows = record {
-  last = (link.acked + fsn_before_first) % fsn_count;
+  profile = link.profile;
+  last = (link.acked + fsn_before_first link.profile) % fsn_count link.profile;
   unacked = numbers (unack number rows);
   unsent = numbers (wait number rows);
   room = 0;
 }
 
--- the FSN last accepted in the link's present life, or in its last one; 127 if it had none (Q.704 5.4.2)
+-- the FSN last accepted in the link's present life, or in its last one; 127 (wide: 4,095) if it had none (Q.704 5.4.2)
 abbrev pub last_accepted : LinkState → ℕ
-last_accepted link = (link.accepted + fsn_before_first) % fsn_count
+last_accepted link = (link.accepted + fsn_before_first link.profile) % fsn_count link.profile
 
 -- The message at this place of a link's unacknowledged ones: its number, and its FSN (Q.703 2.2).
 abbrev pub unacked_of : Option LinkState → ℕ → ℕ → List Row → Option Numbered
 unacked_of None number place rows = None
 unacked_of (Some link) number place rows = option_map
-    (λ row. record { number = row.number; fsn = (link.acked + place) % fsn_count })
+    (λ row. record { number = row.number; fsn = (link.acked + place) % fsn_count link.profile })
     (slice_get (unack number rows) place)
 
 abbrev pub unacked_in : State → ℕ → ℕ → Option Numbered

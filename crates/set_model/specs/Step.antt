@@ -1,7 +1,9 @@
 -- THE STEP OF A SET: what it answers to an event, and what it holds then.
-use Rattle.std.specs.Prelude.{◌≡◌, ◌≤◌, ℕ, Bool, true, false, ◌==◌, ◌+◌, nat_lt, nat_le, List, [], ◌∷◌, ◌++◌, length, slice_get, Option, Some, None, slice_set, if◌then◌else◌}
+use Rattle.std.specs.Prelude.{◌≡◌, ◌≤◌, ℕ, Bool, true, false, ◌==◌, ◌&&◌, ◌+◌, nat_lt, nat_le, List, [], ◌∷◌, ◌++◌, length, slice_get, Option, Some, None, slice_set, if◌then◌else◌}
 pub use Rattle.l2_units.specs.declared.unit.Unit.{Unit as SignalUnit}
 pub use Rattle.l2_units.specs.declared.unit.Unit.TheVariants.{Fisu, Lssu, Msu}
+use Rattle.l2_units.specs.declared.profile.Profile.{Profile}
+use Rattle.l2_units.specs.Profile.{fsn_count, longest_body}
 use Rattle.l2_units.specs.Grammar.{head_of as header_in}
 use Rattle.l3_orders.specs.Grammar.{order_of}
 pub use Rattle.set_events.specs.Places.{one_if}
@@ -9,14 +11,14 @@ pub use Rattle.set_events.specs.declared.answer.Took.{Took}
 pub use Rattle.set_events.specs.declared.answer.Took.TheVariants.{Nothing as NothingTaken, Message, Ignored, Order}
 use Rattle.set_events.specs.declared.answer.Report.{Report}
 pub use Rattle.set_events.specs.declared.answer.Refusal.{Refusal as SetRefusal}
-pub use Rattle.set_events.specs.declared.answer.Refusal.TheVariants.{TooShort, TooLong, Reserved, StreamFull, NotUp, NotDown, Unsettled, UnknownNumber, Nothing, NoSuchLink}
+pub use Rattle.set_events.specs.declared.answer.Refusal.TheVariants.{TooShort, TooLong, Reserved, StreamFull, NotUp, NotDown, Unsettled, UnknownNumber, Nothing, NoSuchLink, Finished}
 pub use Rattle.set_events.specs.declared.answer.Answer.{Answer}
 pub use Rattle.set_events.specs.declared.answer.Answer.TheVariants.{Accepted, Taken, Found, Sent, Heard as HeardBack, Done, Refused}
 pub use Rattle.set_events.specs.declared.event.Event.{Event}
 pub use Rattle.set_events.specs.declared.event.Event.TheVariants.{Offer, Take, Find, Next, Heard, Up as UpEvent, Down as DownEvent, DownBlind, NoAnswer, Restore, BackTimeout}
 use Rattle.set_route.specs.Routing.{place_of, code_for, accepted, raised}
 use Rattle.set_model.specs.Rows.{Fate, Waiting, Unacked, Acked, Row, all_with, unack, wait, is_unacked, is_waiting, is_parked, octets_in, unsent, stream_of, service_indicator, turned, moved, appended, place, counts_of, total_of}
-use Rattle.set_model.specs.State.{Phase, Up, Down, Settled, LinkState, State, with_link, link_count, has_phase_up, fate_at, window_of}
+use Rattle.set_model.specs.State.{Phase, Up, Down, Settled, LinkState, State, given, with_link, link_count, has_phase_up, fate_at, window_of}
 use Rattle.set_model.specs.Control.{Header, Method, HeardPart, Choice, again, first, fill, start_of, choice_of, fsn_of, head_of, control_after, part_of, control_heard}
 use Rattle.set_model.specs.Changeover.{Unanswered, Obeyed, left_by, leaving_order, queued, settled, declared_from, some_declare, released_from, some_in_use, obeyed}
 
@@ -30,24 +32,24 @@ abbrev pub refused : State → SetRefusal → Outcome
 refused s why = record { answer = Refused why; state = s }
 
 -- OFFER. The first refusal that holds, in the order of their numbers, by how many of the stream aren't sent yet.
-abbrev pub refusal_by : ℕ → List ℕ → Option SetRefusal
-refusal_by unsent body =
+abbrev pub refusal_by : Profile → ℕ → List ℕ → Option SetRefusal
+refusal_by profile unsent body =
     if nat_lt (length body) 5 then Some TooShort
-    else (if nat_lt 273 (length body) then Some TooLong
+    else (if nat_lt (longest_body profile) (length body) then Some TooLong
     else (if service_indicator body == 0 then Some Reserved
     else (if nat_le 1024 unsent then Some StreamFull
     else None)))
 
-abbrev pub offer_refusal : List Row → List ℕ → Option SetRefusal
-offer_refusal rows body = refusal_by (length (unsent (stream_of body) rows)) body
+abbrev pub offer_refusal : Profile → List Row → List ℕ → Option SetRefusal
+offer_refusal profile rows body = refusal_by profile (length (unsent (stream_of body) rows)) body
 
 -- a new row stands at the end, where its stream runs
 abbrev pub offered : Option SetRefusal → State → List ℕ → Outcome
 offered (Some why) s body = refused s why
 offered None s body = record {
-  answer = Accepted (length s.rows);
+  answer = Accepted (given s);
   state = record s {
-    rows = appended s.rows body (fate_at (place_of (stream_of body) s.routing) s);
+    rows = appended (given s) s.rows body (fate_at (place_of (stream_of body) s.routing) s);
     routing = accepted (stream_of body) s.routing;
   };
 }
@@ -57,10 +59,10 @@ abbrev pub taken : List (List ℕ) → State → Outcome
 taken [] s = refused s Nothing
 taken (body ∷ rest) s = record { answer = Taken (record { items = body }); state = record s { inbox = rest } }
 
--- FIND.
-abbrev pub found : Option Fate → State → Outcome
-found (Some fate) s = record { answer = Found fate; state = s }
-found None s = refused s UnknownNumber
+-- FIND. A message that has left the rows is refused 11, a number that wasn't given out 8.
+abbrev pub found : Option Fate → ℕ → State → Outcome
+found (Some fate) number s = record { answer = Found fate; state = s }
+found None number s = refused s (if nat_lt number (given s) then Finished else UnknownNumber)
 
 -- An event that names a link is refused 10 before anything else.
 abbrev pub with_known : Option LinkState → State → (LinkState → Outcome) → Outcome
@@ -95,7 +97,7 @@ sends choice number s link =
     let window = window_of number link s.rows in
     let octets = octets_in (unack number s.rows) in
     record {
-      answer = Sent (unit_of (chosen choice number s.rows) (head_of link.control (fsn_of choice window)));
+      answer = Sent (unit_of (chosen choice number s.rows) (head_of link.control window (fsn_of choice window)));
       state = with_link number (record link { control = control_after choice octets link.control window })
           (record s { rows = rows_sent choice number s.rows });
     }
@@ -123,7 +125,7 @@ abbrev pub takes : Option (List ℕ) → State → Obeyed
 takes None s = record { took = NothingTaken; state = s }
 takes (Some body) s =
     if service_indicator body == 0
-    then obeyed (order_of body) s
+    then obeyed (order_of s.settings.profile body) s
     else record { took = Message; state = record s { inbox = s.inbox ++ body ∷ [] } }
 
 abbrev pub report_of : HeardPart → Took → Report
@@ -158,14 +160,23 @@ controls unit number s link =
     let after = takes (brought part.accept unit) (controlled unit number s link) in
     record { answer = HeardBack (report_of part after.took); state = after.state }
 
--- a link status signal unit is the terminal's own affair, not the error control's: there is nothing to do
+-- a link status signal unit is the terminal's own affair, not the error control's; and a unit of the other profile,
+-- which has a number or a body that this one hasn't, tells nothing here (own)
+abbrev pub has_numbers : Profile → Header → Bool
+has_numbers profile head = nat_lt head.bsn (fsn_count profile) && nat_lt head.fsn (fsn_count profile)
+
+abbrev pub is_heard : Profile → SignalUnit → Bool
+is_heard profile (Lssu head status) = false
+is_heard profile (Fisu head) = has_numbers profile head
+is_heard profile (Msu head body) = has_numbers profile head && nat_le (length body.items) (longest_body profile)
+
 abbrev pub heard : SignalUnit → ℕ → State → LinkState → Outcome
-heard (Lssu head status) number s link = refused s Nothing
-heard unit number s link = controls unit number s link
+heard unit number s link =
+    if is_heard s.settings.profile unit then controls unit number s link else refused s Nothing
 
 -- UP. The error control starts anew; streams move to the link, and what was parked waits for it.
-abbrev pub risen_link : Method → LinkState
-risen_link method = record { phase = Up; blind = false; acked = 0; accepted = 0; control = start_of method }
+abbrev pub risen_link : Profile → Method → LinkState
+risen_link profile method = record { phase = Up; profile = profile; blind = false; acked = 0; accepted = 0; control = start_of method }
 
 abbrev pub rises : ℕ → State → Phase → Outcome
 rises number s Up = refused s NotDown
@@ -173,7 +184,7 @@ rises number s Down = refused s Unsettled
 rises number s Settled = record {
   answer = Done;
   state = record s {
-    links = slice_set s.links number (risen_link s.settings.method);
+    links = slice_set s.links number (risen_link s.settings.profile s.settings.method);
     rows = moved is_parked (all_with (Waiting number)) s.rows;
     routing = raised number s.routing;
   };
@@ -209,9 +220,9 @@ runs_out number s =
 
 -- THE STEP, event by event
 abbrev pub stepped : State → Event → Outcome
-stepped s (Offer body) = offered (offer_refusal s.rows body) s body
+stepped s (Offer body) = offered (offer_refusal s.settings.profile s.rows body) s body
 stepped s Take = taken s.inbox s
-stepped s (Find number) = found (place number s.rows) s
+stepped s (Find number) = found (place number s.rows) number s
 stepped s (Next link) = in_service link s (next link s)
 stepped s (Heard link unit) = in_service link s (heard unit link s)
 stepped s (UpEvent link) = on_link link s (λ state. rises link s state.phase)

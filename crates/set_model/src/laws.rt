@@ -3,32 +3,34 @@
 
 ghost use Rattle.std.specs.Prelude.{◌≡◌, ℕ, ◌<◌, Bool, true, List, slice_get, Some};
 ghost use Rattle.set_model.specs.Rows.{Fate, Row, IsNumbered};
-ghost use Rattle.set_model.specs.State.{Up, Down, Settled, LinkState, State, Settings, opened_with, target};
+ghost use Rattle.set_model.specs.State.{Up, Down, Settled, LinkState, State, Settings, given, opened_with, target};
 ghost use Rattle.set_model.specs.Changeover.{Upto, is_reasonable, reached_by, settled};
 ghost use Rattle.set_model.specs.Step.{Event, Gains, step};
 ghost use Rattle.set_model.specs.Sound.{AreAtMost, BeginsNone, IsAsked, IsManaged, IsSettings, IsSound, WholeNumbers, one_more};
 ghost use Rattle.set_model.specs.Frame.{Concerns, LeavesAlone, MovesAsItsControl};
+ghost use Rattle.set_model.specs.Checkpoint.{Checkpoints};
 ghost use Rattle.set_model.specs.Laws.{DivertsTo, IsEmptyLink, IsNew, KeepsMessages, MessagesStay, MovesTheLinksRows, MovesTheRest, RunsStraight, rest_of};
 
 /// No change takes a row out, or gives one another number or another body; and a new message
 /// leaves all others as they are. Each number stands in exactly one row.
 pub fn no_message_changes()
-    ensures { (test : Fate → Bool) (to : Fate) (fate : Row → Fate) (rows : List Row) → IsNumbered rows
-        → MessagesStay test to fate rows }
+    ensures { (test : Fate → Bool) (to : Fate) (fate : Row → Fate) (given : ℕ) (rows : List Row)
+        → IsNumbered given rows → MessagesStay test to fate given rows }
 {}
 
 /// What leaves a link are just its rows: those that wait for it, were sent on it and aren't
 /// acknowledged, or are held for it. They are the last rows then, in their old order, and each has
 /// its new place; every other message has its old one.
 pub fn a_move_moves_the_links_rows()
-    ensures { (link : ℕ) (fate : Row → Fate) (rows : List Row) → IsNumbered rows → MovesTheLinksRows link fate rows }
+    ensures { (link : ℕ) (fate : Row → Fate) (given : ℕ) (rows : List Row)
+        → IsNumbered given rows → MovesTheLinksRows link fate rows }
 {}
 
 /// No event takes a message out, or gives one another number or another body: each stands in exactly
 /// one place, before and after. So a changeover neither loses a message nor doubles one within the set
 /// (Q.704 5.1.1).
 pub fn no_event_changes_a_message()
-    ensures { (s : State) (event : Event) → IsNumbered s.rows → KeepsMessages s.rows (step s event).state.rows }
+    ensures { (s : State) (event : Event) → IsNumbered (given s) s.rows → KeepsMessages s (step s event).state }
 {}
 
 /// Once a link has settled no message stands on it: none that was sent and isn't acknowledged, none that
@@ -101,4 +103,11 @@ pub fn a_window_moves_as_its_control()
 pub fn streams_stay_together()
     ensures { (s : State) (event : Event) → IsAsked event → BeginsNone event → IsSound s → RunsStraight s
         → RunsStraight (step s event).state }
+{}
+
+/// At a checkpoint each message that is finished leaves the rows for one count, and all others keep their numbers,
+/// bodies, fates and order; no number is given out anew.
+#[tactic(auto, using(crate::proofs::Checkpointing::checkpoints))]
+pub fn a_checkpoint_keeps_what_is_unfinished()
+    ensures { (s : State) → Checkpoints s }
 {}

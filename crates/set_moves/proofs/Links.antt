@@ -1,15 +1,16 @@
 -- One link of the list changes, and what the list stands for with it.
 use Rattle.std.proofs.Common.{arith, ◌≡◌, ◌∙◌, ap, sym, ◌<◌, ℕ, List, map, length, slice_get, slice_set, slice_index_or, Some, ◌≢◌, false, Option, IfSome, refl, subst, ◌≤◌, None, option_map, true, [], drop}
 use Rattle.std.proofs.lemmas.Option.{slice_get-get_or}
-use Rattle.set_moves.specs.Parts.{Link, Parts, kept_of, AtLink, IsOut, Gives, Phase, Down, IsWhole, IsCounted, AreCounted}
+use Rattle.set_moves.specs.Parts.{Link, Parts, kept_of, AtLink, IsOut, IsReach, Gives, Obeys, Phase, Down, IsWhole, IsCounted, AreCounted}
 use Rattle.std.proofs.lemmas.List.{length-map, length-drop}
 use Rattle.set_moves.specs.Agreement.{Agrees, Holds}
-use Rattle.set_model.specs.State.{LinkState, State, has_phase_up, target}
+use Rattle.set_model.specs.State.{LinkState, Profile, Settings, State, has_phase_up, target}
 use Rattle.set_model.proofs.Lists.{map_at, map_set, map_set_same, same_at, present, target_up, within, set_same, at_set}
 use Rattle.std.proofs.lemmas.Simd.{map-map}
-use Rattle.set_queues.specs.Buffers.{Fate, Lists, IsKnown, Waiting, Unacked, Held, with_queue, room_at, is_standing, queue_at}
+use Rattle.set_queues.specs.Buffers.{Fate, Lists, IsKnown, Waiting, Unacked, Held, with_queue, room_at, profile_at, is_standing, queue_at}
 use Rattle.set_queues.proofs.Soundness.{IsAside, aside_of, on_length, queue_last}
-use Rattle.set_model.specs.Changeover.{fate_on}
+use Rattle.set_events.specs.declared.answer.Took.TheVariants.{Ignored}
+use Rattle.set_model.specs.Changeover.{Obeyed, answered, at_link, fate_on, obeyed_at}
 use Rattle.set_route.specs.Target.{target_of}
 use Rattle.set_moves.specs.Room.{SameButRoom, HasRoom, IsReady, target_beside}
 pub use Rattle.set_moves.specs.Parts.{Link, Parts, Phase, Up, Down, Settled, Unanswered, Reached, IsHere}
@@ -128,3 +129,32 @@ acked_less l fsn q h f = rw (queue_last f l fsn _) (replaced_less (Unacked l) (d
 -- so does what stands on a link
 pub on_less : (n : ℕ) (q q' : Lists) → NoLonger q q' → length (on n q') ≤ length (on n q)
 on_less n q q' less = let u = less (Unacked n) in let w = less (Waiting n) in let h = less (Held n) in omega (arith, u, w, h, on_length n q, on_length n q')
+
+-- THE NUMBERS OF EACH LINK are those of the set
+pub profile_of : (parts : Parts) (s : State) (n : ℕ) (link : LinkState) → Agrees (kept_of parts) s → slice_get s.links n ≡ Some link → link.profile ≡ parts.config.profile
+profile_of parts s n link a there = (a.sound.links n link there).profile ∙ sym (ap (λ (m : Settings). m.profile) a.stands.settings)
+
+pub reach_here : (parts : Parts) (n : ℕ) (reached : Reached) → Holds (kept_of parts) → n < length parts.links.items → IsReach parts.config.profile reached → IsReach (profile_at n parts.queues.lists) reached
+reach_here parts n reached h known reach =
+    let x = present h.0.links n (rw h.1.stands.links at known) in
+    subst (λ (p : Profile). IsReach p reached) (sym (h.1.stands.profiles n x.0 x.1 ∙ profile_of parts h.0 n x.0 h.1 x.1)) reach
+
+-- AN ORDER IS IGNORED that is for no link of the set, and an acknowledgement for one that wasn't left
+pub none_there : (parts : Parts) (s : State) (n : ℕ) (by : LinkState → Phase → State → Obeyed) → Agrees (kept_of parts) s → None ≡ option_map (λ (l : LinkState). l.phase) (slice_get parts.links.items n) → Obeys (obeyed_at n by s) Ignored parts
+none_there parts s n by a none = go (slice_get s.links n) (none ∙ ap (λ (ls : List LinkState). option_map (λ (l : LinkState). l.phase) (slice_get ls n)) a.stands.links)
+  where
+    go : (o : Option LinkState) → None ≡ option_map (λ (l : LinkState). l.phase) o → Obeys (at_link n s (λ link. by link link.phase s) o) Ignored parts
+    go None e = record { took_is = refl; stands = a.stands }
+    go (Some link) e = absurd cc
+
+pub not_left : (parts : Parts) (s : State) (n : ℕ) (reached : Reached) → Agrees (kept_of parts) s → (Some Down ≡ option_map (λ (l : LinkState). l.phase) (slice_get parts.links.items n) → ⊥) → Obeys (obeyed_at n (answered reached n) s) Ignored parts
+not_left parts s n reached a other = go (slice_get s.links n) (λ e. other (e ∙ sym (ap (λ (ls : List LinkState). option_map (λ (l : LinkState). l.phase) (slice_get ls n)) a.stands.links)))
+  where
+    of_phase : (link : LinkState) (phase : Phase) → (Some Down ≡ Some phase → ⊥) → Obeys (answered reached n link phase s) Ignored parts
+    of_phase link Up other = record { took_is = refl; stands = a.stands }
+    of_phase link Down other = absurd (other refl)
+    of_phase link Settled other = record { took_is = refl; stands = a.stands }
+
+    go : (o : Option LinkState) → (Some Down ≡ option_map (λ (l : LinkState). l.phase) o → ⊥) → Obeys (at_link n s (λ link. answered reached n link link.phase s) o) Ignored parts
+    go None other = record { took_is = refl; stands = a.stands }
+    go (Some link) other = of_phase link link.phase other

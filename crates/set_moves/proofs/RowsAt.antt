@@ -7,7 +7,7 @@ use Rattle.set_queues.specs.Buffers.{is_standing, same_fate}
 use Rattle.set_model.specs.Rows.{Fate, Row, standing, numbers, turned, moved, all_with, appended, IsNumbered, AreBefore, row_of, place}
 use Rattle.set_model.specs.Laws.{SameMessages}
 use Rattle.set_model.proofs.Events.{numbers_joined, appended_in, appended_out}
-use Rattle.set_model.proofs.Rows.{turned_same, turned_left, moved_same, moved_gone, moved_joined, fewer_filter, filter_within, filter_apart, with_number, at_most_one, row_is_first, place_moved, no_rows}
+use Rattle.set_model.proofs.Rows.{turned_same, turned_left, moved_same, moved_gone, moved_joined, fewer_filter, filter_within, filter_apart, with_number, at_most_one, row_is_first, place_moved, no_rows, not_found}
 use Rattle.set_model.proofs.Staying.{messages_stay}
 use Rattle.set_moves.specs.Agreement.{Message, is_there, rows_at}
 use Rattle.std.proofs.lemmas.List.Elements.{filter-append}
@@ -38,15 +38,15 @@ module _ (test : Fate → Bool) (to : Fate) where
   told n rows new (x ∷ here) is one e = grind (arith, occurs_picked (λ (row : Row). test row.fate) n rows, row_is_first n rows, fewer_filter (λ (row : Row). test row.fate) here)
 
 -- WHAT STANDS SOMEWHERE was given out.
-pub none_at : (n : ℕ) (rows : List Row) → IsNumbered rows → length rows ≤ n → row_of n rows ≡ None
-none_at n rows numbered far = let none = no_rows (with_number n rows) in grind (arith, nat_tests, row_is_first, none, numbered)
+pub none_at : (given n : ℕ) (rows : List Row) → IsNumbered given rows → given ≤ n → row_of n rows ≡ None
+none_at given n rows numbered far = not_found given n rows numbered far
 
-pub given_all : (ns : List ℕ) (to : Fate) (ms : List Message) (rows new : List Row) → IsNumbered new → length ms ≡ length new → ((n : ℕ) → GoesTo ns to n rows new) → AreGiven ns ms
-given_all ns to ms rows new numbered many goes n h = let there = (goes n).goes h in grind (arith, nat_tests, cases_lt, none_at n new)
+pub given_all : (ns : List ℕ) (to : Fate) (ms : List Message) (rows new : List Row) → IsNumbered (length ms) new → ((n : ℕ) → GoesTo ns to n rows new) → AreGiven ns ms
+given_all ns to ms rows new numbered goes n h = let there = (goes n).goes h in let none = none_at (length ms) n new numbered in grind (arith, nat_tests, cases_lt, none)
 
 -- A NEW MESSAGE stands last in the place of its fate.
-pub appended_at : (rows : List Row) (body : List ℕ) (fate f : Fate) → is_standing f ≡ true → numbers (rows_at f (appended rows body fate)) ≡ cond (same_fate fate f) (numbers (rows_at f rows) ++ length rows ∷ []) (numbers (rows_at f rows))
-appended_at rows body fate f s = grind (arith, appended_in rows body fate (is_there f), appended_out rows body fate (is_there f), map-append)
+pub appended_at : (number : ℕ) (rows : List Row) (body : List ℕ) (fate f : Fate) → is_standing f ≡ true → numbers (rows_at f (appended number rows body fate)) ≡ cond (same_fate fate f) (numbers (rows_at f rows) ++ number ∷ []) (numbers (rows_at f rows))
+appended_at number rows body fate f s = grind (arith, appended_in number rows body fate (is_there f), appended_out number rows body fate (is_there f), map-append)
 
 -- where they don't stand
 elsewhere : (test : Fate → Bool) (f : Fate) → is_standing f ≡ true → test f ≡ false → (g : Fate) → test g ≡ true → is_there f g ≡ false
@@ -54,9 +54,9 @@ elsewhere test f s e g h = grind (arith, same_is)
 
 -- WHAT BECAME OF THE PLACES when the rows of these numbers came to stand there: what is left where they stood, and
 -- they stand last where they went.
-pub record Shifts (test : Fate → Bool) (to : Fate) (ns left : List ℕ) (rows new : List Row) : Type 0 where
+pub record Shifts (given : ℕ) (test : Fate → Bool) (to : Fate) (ns left : List ℕ) (rows new : List Row) : Type 0 where
   pub places : (f : Fate) → is_standing f ≡ true → numbers (rows_at f new) ≡ cond (test f) left (cond (same_fate to f) (numbers (rows_at f rows) ++ ns) (numbers (rows_at f rows)))
-  pub messages : SameMessages rows new
+  pub messages : SameMessages given rows new
   pub goes : (n : ℕ) → GoesTo ns to n rows new
 
 -- those that turn stand last in their new place, where none there stands behind one of them
@@ -66,25 +66,25 @@ joined test there to own apart (suc n) [] o = refl
 joined test there to own apart (suc n) (x ∷ rows) o = grind (arith, joined test there to own apart n rows o.1, joined test there to own apart (suc n) rows o.1, o.0, apart x.fate)
 
 -- the first so many of one place, to a final fate, or to such a place
-pub turned_shifts : (from to : Fate) → is_standing from ≡ true → is_there from to ≡ false → (n : ℕ) (rows : List Row) → IsNumbered rows → (is_standing to ≡ true → AreBefore (is_there to) (is_there from) rows) → Shifts (is_there from) to (take n (numbers (rows_at from rows))) (drop n (numbers (rows_at from rows))) rows (turned (is_there from) to n rows)
-turned_shifts from to stood off n rows numbered order = record {
+pub turned_shifts : (given : ℕ) (from to : Fate) → is_standing from ≡ true → is_there from to ≡ false → (n : ℕ) (rows : List Row) → IsNumbered given rows → (is_standing to ≡ true → AreBefore (is_there to) (is_there from) rows) → Shifts given (is_there from) to (take n (numbers (rows_at from rows))) (drop n (numbers (rows_at from rows))) rows (turned (is_there from) to n rows)
+turned_shifts given from to stood off n rows numbered order = record {
   places = λ f s.
       let left = turned_left (is_there from) to off n rows in
       let come = λ (t : is_standing to ≡ true). joined (is_there from) (is_there to) to (same_self to t) (elsewhere (is_there from) to t off) n rows (order t) in
       let same = λ (e : is_there from f ≡ false) (away : same_fate to f ≡ false). turned_same (is_there from) (is_there f) to away (elsewhere (is_there from) f s e) n rows in
       grind (arith, left, come, same, drop-map, same_is f from stood, same_is to f s);
-  messages = (messages_stay (is_there from) to (all_with to) rows numbered).turned_stay n;
-  goes = λ k. goes_first (is_there from) to k n rows (at_most_one k rows numbered);
+  messages = (messages_stay (is_there from) to (all_with to) given rows numbered).turned_stay n;
+  goes = λ k. goes_first (is_there from) to k n rows (at_most_one given k rows numbered);
 }
 
 -- all of one or more places, behind those that stand there
-pub moved_shifts : (test : Fate → Bool) (to : Fate) (rows : List Row) → IsNumbered rows → test to ≡ false → is_standing to ≡ true → Shifts test to (numbers (standing test rows)) [] rows (moved test (all_with to) rows)
-moved_shifts test to rows numbered off there = record {
+pub moved_shifts : (given : ℕ) (test : Fate → Bool) (to : Fate) (rows : List Row) → IsNumbered given rows → test to ≡ false → is_standing to ≡ true → Shifts given test to (numbers (standing test rows)) [] rows (moved test (all_with to) rows)
+moved_shifts given test to rows numbered off there = record {
   places = λ f s.
       let gone : test f ≡ true → standing (is_there f) (moved test (all_with to) rows) ≡ [] = λ e. let away : same_fate to f ≡ false = grind (arith, same_is) in moved_gone test (is_there f) (all_with to) rows (λ x. away) (λ g h. grind (arith, same_is)) in
       grind (arith, gone, moved_joined test (is_there f) (all_with to) rows, moved_same test (is_there f) (all_with to) rows, numbers_joined (all_with to) (rows_at f rows) (standing test rows), elsewhere test f s, same_is to f s);
-  messages = (messages_stay test to (all_with to) rows numbered).moved_stay;
-  goes = λ k. told test to k rows _ _ refl (at_most_one k rows numbered) (place_moved test (all_with to) k rows numbered);
+  messages = (messages_stay test to (all_with to) given rows numbered).moved_stay;
+  goes = λ k. told test to k rows _ _ refl (at_most_one given k rows numbered) (place_moved test (all_with to) given k rows numbered);
 }
 
 -- ROWS THAT STAND LAST FROM NOW ON, each with its fate: what stands in each place stays

@@ -135,7 +135,7 @@ module _ (home : ℕ) (s : State) (k : Kept) (t : TurnsOn home s k) where
     way =
         let turns = it_turns.1 it_turns.0 in
         let first = ap (λ (rows : List Row). slice_get (standing (is_back code) (t.gone ++ rows)) 0) it.rest_is ∙ grind (arith, filter-append, none_gone code o.of_home, it.on) in
-        let found = row_in_filter (λ (row : Row). is_back code row.fate) (t.gone ++ t.rest) 0 it.row.number it.row t.stands.stands.numbered first refl in
+        let found = row_in_filter (length k.messages) (λ (row : Row). is_back code row.fate) (t.gone ++ t.rest) 0 it.row.number it.row t.stands.stands.numbered first refl in
         let label = users_label it.row.body (slice_get k.messages it.row.number) (t.stands.stands.labels it.row.number ∙ ap (option_map label_of) (ap (option_map (λ (row : Row). row.body)) found)) (not-true (service_indicator it.row.body == 0) turns.0) in
         record { number = it.row.number; first = o.first ∙ ap Some (sym it.number_is); message = label.0; message_is = label.1; stream = stream_of it.row.body; kind_is = label.2; few = turns.1; via = turns.2; place_is = ap (place_of (stream_of it.row.body)) t.stands.routing ∙ turns.3; known = subst (λ (n : ℕ). turns.2 < n) (ap length (sym t.stands.links)) turns.4 }
 

@@ -4,12 +4,12 @@ use Rattle.set_events.specs.declared.answer.Fate.{Fate}
 use Rattle.set_queues.specs.declared.message.Kind.{Kind}
 use Rattle.set_queues.specs.declared.message.Kind.TheVariants.{User, Order}
 pub use Rattle.set_queues.specs.declared.message.Message.{Message}
-use Rattle.set_queues.specs.Buffers.{Lists, is_standing, queue_at, last_at}
+use Rattle.set_queues.specs.Buffers.{Lists, is_standing, queue_at, last_at, profile_at}
 use Rattle.set_queues.specs.Messages.{fate_at}
 use Rattle.set_route.specs.Routing.{Routing}
 use Rattle.set_model.specs.Rows.{Row, numbers, standing, same_fate, place, body_at, service_indicator, stream_of, IsNumbered}
 use Rattle.set_model.specs.Sound.{IsSound, AreFew}
-use Rattle.set_model.specs.State.{LinkState, State, Settings}
+use Rattle.set_model.specs.State.{LinkState, State, Settings, given}
 use Rattle.l2_window.specs.Window.{fsn_before_first, fsn_count}
 
 -- what contracts see of what a set keeps
@@ -52,8 +52,7 @@ pub record Stands (q : Lists) (ms : List Message) (rows : List Row) : Type 0 whe
   pub queues : (fate : Fate) → is_standing fate ≡ true → queue_at fate q ≡ numbers (rows_at fate rows)
   pub fates : (number : ℕ) → fate_at number ms ≡ place number rows
   pub labels : (number : ℕ) → option_map label_in (slice_get ms number) ≡ option_map label_of (body_at number rows)
-  pub count : length ms ≡ length rows
-  pub numbered : IsNumbered rows
+  pub numbered : IsNumbered (length ms) rows
 
 -- WHAT IS KEPT STANDS FOR THE STATE. The FSN last acknowledged on a link is its whole number's (Q.703 2.2).
 pub record StandsFor (k : Kept) (s : State) : Type 0 where
@@ -61,10 +60,13 @@ pub record StandsFor (k : Kept) (s : State) : Type 0 where
   pub stands : Stands k.lists k.messages s.rows
   pub bodies : (number : ℕ) → slice_get k.bodies number ≡ body_at number s.rows
   pub held_bodies : length k.bodies ≡ length k.messages
+  -- a message has each number that was given out
+  pub given_out : length k.messages ≡ given s
   pub links : k.links ≡ s.links
   pub as_many : length k.lists.links ≡ length s.links
   pub fsns : (number : ℕ) (link : LinkState) → slice_get s.links number ≡ Some link
-      → last_at number k.lists ≡ (link.acked + fsn_before_first) % fsn_count
+      → last_at number k.lists ≡ (link.acked + fsn_before_first link.profile) % fsn_count link.profile
+  pub profiles : (number : ℕ) (link : LinkState) → slice_get s.links number ≡ Some link → profile_at number k.lists ≡ link.profile
   pub routing : k.routing ≡ s.routing
   pub inbox : k.inbox ≡ s.inbox
 

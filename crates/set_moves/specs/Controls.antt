@@ -16,5 +16,5 @@ control_of (CyclicPart state) = Cyclic state
 -- it
 abbrev pub IsPossible : Choice → WindowState → Type 0
 IsPossible (Again place) window = place < length window.unacked
-IsPossible First window = (0 < length window.unsent) × (length window.unacked < most_unacked)
+IsPossible First window = (0 < length window.unsent) × (length window.unacked < most_unacked window.profile)
 IsPossible Fill window = Unit {0}

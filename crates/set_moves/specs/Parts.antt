@@ -3,6 +3,7 @@ use Rattle.std.specs.Prelude.{◌≡◌, ℕ, false, ◌<◌, ◌≤◌, List, l
 pub use Rattle.set_model.specs.declared.phase.Phase.{Phase}
 pub use Rattle.set_model.specs.declared.reached.Reached.{Reached}
 pub use Rattle.set_model.specs.declared.reached.Reached.TheVariants.{Upto, Unknown, Unanswered}
+use Rattle.l2_units.specs.declared.profile.Profile.{Profile}
 use Rattle.set_model.specs.State.{LinkState, State, settings_of, has_phase_up}
 use Rattle.set_model.specs.Step.{Answer, Took, Outcome}
 use Rattle.set_model.specs.Changeover.{Obeyed}
@@ -52,11 +53,11 @@ pub record IsCounted (bound : ℕ) (link : Link) : Type 0 where
 abbrev pub AreCounted : ℕ → List Link → Type 0
 AreCounted bound links = (number : ℕ) → AtLink number links (IsCounted bound)
 
--- an FSN has 7 bits
-abbrev pub IsReach : Reached → Type 0
-IsReach (Upto number) = number < fsn_count
-IsReach Unknown = Unit {0}
-IsReach Unanswered = Unit {0}
+-- an FSN has 7 bits, or 12
+abbrev pub IsReach : Profile → Reached → Type 0
+IsReach profile (Upto number) = number < fsn_count profile
+IsReach profile Unknown = Unit {0}
+IsReach profile Unanswered = Unit {0}
 
 -- WHATEVER STATE the old parts stand for, the new ones stand for what becomes of it,
 abbrev pub Becomes : Parts → Parts → (State → State) → Type 0

@@ -9,8 +9,9 @@ ghost use Rattle.set_moves.specs.Agreement.{Holds, StandsFor};
 ghost use Rattle.set_moves.specs.Parts.{Answers, Becomes, IsWhole, kept_of};
 ghost use Rattle.set_moves.specs.Room.{back_at, home_room, CanComeBack};
 
+use super::changeover::body_of;
 use super::parts::{Parts, phase_of, stand_last, unserved};
-use l3_orders::{Order, write_order};
+use l3_orders::Order;
 use set_events::{Answer, Fate, Refusal};
 use set_model::Phase;
 use set_route::{Code, changeback_code, home_of_code};
@@ -47,8 +48,7 @@ pub fn restore(parts: &mut Parts, number: u8, answer: &mut Answer) -> Result<(),
             link: number,
             code: changeback_code(number, alternative),
         };
-        let config = &parts.config;
-        let body = write_order(&declaration, config.sio, config.dpc, config.opc);
+        let body = body_of(&parts.config, &declaration);
         stand_last(parts, body.as_slice(), Fate::Waiting { link: alternative });
         parts.routes.ask(number, alternative);
     }

@@ -1,7 +1,7 @@
 //! Changeover: a link is left, orders tell the far end, and the link settles (Q.704 5). Orders of changeback are
 //! carried out here too (Q.704 6).
 ghost use Rattle.std.specs.Prelude.{◌≡◌, ◌<◌, ◌^◌, ℕ, false, length, slice_get, slice_set, Some};
-ghost use Rattle.l3_orders.specs.Grammar.{IsOrder};
+ghost use Rattle.l3_orders.specs.Grammar.{IsOrder, text};
 ghost use Rattle.set_queues.specs.Backs.{back_count};
 ghost use Rattle.set_queues.specs.Buffers.{TakesRoom};
 ghost use Rattle.set_queues.specs.Settling.{on};
@@ -16,17 +16,30 @@ use super::changeback::release;
 use super::parts::{Parts, phase_of, stand_last, target_of};
 use super::settling::settle;
 use super::turning::turn_back;
-use l3_orders::{Order, write_order};
-use set_events::Took;
+use arrayvec::ArrayVec;
+use l2_units::Profile;
+use l3_orders::{Order, write_order, write_order_wide};
+use set_events::{SetConfig, Took};
 use set_model::{Phase, Reached};
 use set_queues::fate_on;
 use set_route::Code;
+
+/// The body of an order, as this set writes it.
+pub(crate) fn body_of(config: &SetConfig, order: &Order) -> ArrayVec<u8, 273>
+    requires { IsOrder config.now.profile order.now }
+    ensures { result.items ≡ text config.now.profile order.now config.now.sio config.now.dpc config.now.opc }
+{
+    match config.profile() {
+        Profile::Narrow => write_order(order, config.sio, config.dpc, config.opc),
+        Profile::Wide => write_order_wide(order, config.sio, config.dpc, config.opc),
+    }
+}
 
 /// An order stands last, for the target.
 #[tactic(auto, using(set_queues::proofs::Standing::links_stay))]
 pub fn queue(parts: &mut Parts, order: Order)
     requires whole { IsWhole parts.old }
-    requires order { IsOrder order }
+    requires order { IsOrder parts.old.config.profile order }
     requires room { HasRoom (order_fate parts.old) parts.old }
     ensures stands { Becomes parts.old parts.new (queued order) }
     ensures rooms { TakesRoom (order_fate parts.old) 1 parts.old.queues.rooms
@@ -38,8 +51,7 @@ pub fn queue(parts: &mut Parts, order: Order)
     ensures whole { IsWhole parts.new }
 {
     let fate = fate_on(target_of(&parts.links));
-    let config = &parts.config;
-    let body = write_order(&order, config.sio, config.dpc, config.opc);
+    let body = body_of(&parts.config, &order);
     stand_last(parts, body.as_slice(), fate);
 }
 
@@ -71,7 +83,7 @@ pub fn leave(parts: &mut Parts, number: u8, blind: bool)
 pub fn obey(parts: &mut Parts, order: Order) -> Took
     requires holds { Holds (kept_of parts.old) }
     requires counted { AreCounted (2 ^ 61) parts.old.links.items }
-    requires order { IsOrder order }
+    requires order { IsOrder parts.old.config.profile order }
     requires room { IsSpaciousFor order parts.old }
     ensures stands { AllObey parts.old parts.new result (order_obeyed order) }
 {
@@ -102,7 +114,7 @@ pub fn obey(parts: &mut Parts, order: Order) -> Took
 fn change_over(parts: &mut Parts, number: u8, reached: Reached) -> Took
     requires holds { Holds (kept_of parts.old) }
     requires counted { AreCounted (2 ^ 61) parts.old.links.items }
-    requires reached { IsReach reached }
+    requires reached { IsReach parts.old.config.profile reached }
     requires number { number < 16 }
     requires room { number < length parts.old.links.items → IsReady number 1 parts.old }
     ensures stands { AllObey parts.old parts.new result
@@ -133,7 +145,7 @@ fn change_over(parts: &mut Parts, number: u8, reached: Reached) -> Took
 fn answer(parts: &mut Parts, number: u8, reached: Reached) -> Took
     requires holds { Holds (kept_of parts.old) }
     requires counted { AreCounted (2 ^ 61) parts.old.links.items }
-    requires reached { IsReach reached }
+    requires reached { IsReach parts.old.config.profile reached }
     requires room { number < length parts.old.links.items → IsReady number 1 parts.old }
     ensures stands { AllObey parts.old parts.new result (obeyed_at number (answered reached number)) }
 {

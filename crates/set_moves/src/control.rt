@@ -1,5 +1,6 @@
 //! The error control of a link: one of the two methods.
 ghost use Rattle.std.specs.Prelude.{◌≡◌};
+ghost use Rattle.l2_units.specs.Grammar.{IsHeadOf};
 ghost use Rattle.l2_window.specs.Control.{fsn_of};
 ghost use Rattle.set_model.specs.Control.{Control as ModelControl, start_of, choice_of, head_of, control_after, part_of, control_heard};
 ghost use Rattle.set_moves.specs.Controls.{IsPossible, control_of};
@@ -58,7 +59,7 @@ impl Control {
     /// Sends what was chosen: the header of the unit.
     pub fn send(&mut self, choice: Choice, window: &Window, octets: u32) -> Header
         requires { choice ≡ choice_of octets self.old window.now }
-        ensures head { result ≡ head_of self.old (fsn_of choice window.now) }
+        ensures head { result ≡ head_of self.old window.now (fsn_of choice window.now) }
         ensures state { self.new ≡ control_after choice octets self.old window.now }
     {
         match &mut self.by {
@@ -70,6 +71,7 @@ impl Control {
     /// What a heard unit with this header means; `is_msu` tells an MSU from a FISU. The messages that
     /// it acknowledges still stand in the window.
     pub fn hear(&mut self, window: &Window, head: Header, is_msu: bool) -> HeardPart
+        requires { IsHeadOf window.now.profile head }
         ensures part { result ≡ part_of self.old window.now head is_msu }
         ensures state { self.new ≡ control_heard self.old window.now head is_msu }
     {

@@ -1,11 +1,13 @@
 //! What a set keeps of one of its links beside the queues of its messages.
-ghost use Rattle.std.specs.Prelude.{◌≡◌, ◌<◌, ◌^◌, false};
+ghost use Rattle.std.specs.Prelude.{◌≡◌, ◌<◌, ◌^◌};
 ghost use Rattle.l3_orders.specs.Grammar.{IsOrder};
 ghost use Rattle.set_model.specs.Changeover.{reply_of};
-ghost use Rattle.set_model.specs.Control.{start_of};
+ghost use Rattle.l2_window.specs.Window.{fsn_count};
 ghost use Rattle.set_model.specs.State.{LinkState, new_link, last_accepted};
+ghost use Rattle.set_model.specs.Step.{risen_link};
 
 use super::control::Control;
+use l2_units::Profile;
 use l3_orders::Order;
 use set_events::Method;
 use set_model::Phase;
@@ -16,6 +18,8 @@ use std::marker::Model;
 pub struct Link {
     /// Where it stands in its life.
     pub phase: Phase,
+    /// How many numbers its messages have.
+    pub profile: Profile,
     /// The last life ended as an emergency: the FSN last accepted wasn't known.
     pub blind: bool,
     /// How many of its messages were acknowledged since its last Up.
@@ -31,6 +35,7 @@ impl Model for Link {
 
     ghost view = { λ l. record {
       phase = l.phase;
+      profile = l.profile;
       blind = l.blind;
       acked = l.acked;
       accepted = l.accepted;
@@ -40,11 +45,12 @@ impl Model for Link {
 
 impl Link {
     /// A link that never was up.
-    pub fn new(method: Method) -> Link
-        ensures { result ≡ new_link method }
+    pub fn new(profile: Profile, method: Method) -> Link
+        ensures { result ≡ new_link profile method }
     {
         Link {
             phase: Phase::Settled,
+            profile,
             blind: false,
             acked: 0,
             accepted: 0,
@@ -53,24 +59,27 @@ impl Link {
     }
 
     /// The link is in service from now on; its error control starts anew.
-    pub fn rise(&mut self, method: Method)
-        ensures { self.new
-            ≡ record { phase = Phase.Up; blind = false; acked = 0; accepted = 0; control = start_of method } }
+    pub fn rise(&mut self, profile: Profile, method: Method)
+        ensures { self.new ≡ risen_link profile method }
     {
         self.phase = Phase::Up;
+        self.profile = profile;
         self.blind = false;
         self.acked = 0;
         self.accepted = 0;
         self.control = Control::new(method);
     }
 
-    /// The FSN last accepted in its present life, or its last one; 127 if it had none.
-    pub fn last_accepted(&self) -> u8
+    /// The FSN last accepted in its present life, or its last one; 127 (wide: 4,095) if it had none.
+    pub fn last_accepted(&self) -> u16
         requires { self.now.accepted < 2 ^ 63 }
         ensures value { result ≡ last_accepted self.now }
-        ensures few { result < 128 }
+        ensures few { result < fsn_count self.now.profile }
     {
-        ((self.accepted + 127) % 128) as u8
+        match self.profile {
+            Profile::Narrow => ((self.accepted + 127) % 128) as u16,
+            Profile::Wide => ((self.accepted + 4095) % 4096) as u16,
+        }
     }
 
     /// How a late changeover order is answered once the link settled: as its last life would have been (own).
@@ -78,7 +87,7 @@ impl Link {
         requires number { number < 16 }
         requires counted { self.now.accepted < 2 ^ 63 }
         ensures order { result ≡ reply_of number self.now }
-        ensures fits { IsOrder result }
+        ensures fits { IsOrder self.now.profile result }
     {
         if self.blind {
             return Order::Eca { link: number };

@@ -4,7 +4,7 @@ ghost use Rattle.set_queues.specs.Buffers.{IsKnown, IsQueued, TakesRoom, queue_a
 ghost use Rattle.set_queues.specs.Bodies.{CanHold};
 ghost use Rattle.set_model.specs.Rows.{appended};
 ghost use Rattle.set_route.specs.Routing.{place_of};
-ghost use Rattle.set_model.specs.State.{State, LinkState, fate_at, target, has_phase_up};
+ghost use Rattle.set_model.specs.State.{State, LinkState, given, fate_at, target, has_phase_up};
 ghost use Rattle.set_model.specs.Step.{Outcome, in_service};
 ghost use Rattle.set_moves.specs.Agreement.{StandsFor, Agrees};
 ghost use Rattle.set_moves.specs.Parts.{Up, IsWhole, IsHere, Gives, Becomes, kept_of};
@@ -148,7 +148,7 @@ pub fn stand_last(parts: &mut Parts, body: &[u8], fate: Fate) -> u64
     requires room { HasRoom fate parts.old }
     ensures number { result ≡ length parts.old.queues.messages }
     ensures stands { Becomes parts.old parts.new
-        (λ s. record s { rows = appended s.rows body.now fate }) }
+        (λ s. record s { rows = appended (given s) s.rows body.now fate }) }
     ensures rooms { TakesRoom fate 1 parts.old.queues.rooms parts.new.queues.rooms }
     ensures message { parts.old.queues.room ≤ parts.new.queues.room + 1 }
     ensures body { (more : ℕ) → CanHold (more + 1) parts.old.bodies

@@ -1,6 +1,6 @@
 //! How a link settles (Q.704 5.5): what reached the far end is acknowledged, the rest is moved.
 ghost use Rattle.std.specs.Prelude.{◌≡◌, ◌<◌, ◌≤◌, ◌^◌, length, map, slice_get, Some};
-ghost use Rattle.set_queues.specs.Buffers.{KeepsRoom, room_at};
+ghost use Rattle.set_queues.specs.Buffers.{KeepsRoom, profile_at, room_at};
 ghost use Rattle.set_queues.specs.Settling.{on};
 ghost use Rattle.set_model.specs.Changeover.{settled, judged, discarded, fate_on};
 ghost use Rattle.set_model.specs.State.{State, LinkState, target};
@@ -18,7 +18,7 @@ use set_model::{Phase, Reached};
 pub fn settle(parts: &mut Parts, number: u8, reached: Reached)
     requires whole { IsWhole parts.old }
     requires counted { AreCounted (2 ^ 61) parts.old.links.items }
-    requires reached { IsReach reached }
+    requires reached { IsReach (profile_at number parts.old.queues.lists) reached }
     requires known { number < length parts.old.links.items }
     requires out { AtLink number parts.old.links.items IsOut }
     requires room { length (on number parts.old.queues.lists) ≤ room_at (fate_on
@@ -39,7 +39,7 @@ pub fn settle(parts: &mut Parts, number: u8, reached: Reached)
 fn judge(parts: &mut Parts, number: u8, reached: Reached)
     requires whole { IsWhole parts.old }
     requires counted { AreCounted (2 ^ 61) parts.old.links.items }
-    requires reached { IsReach reached }
+    requires reached { IsReach (profile_at number parts.old.queues.lists) reached }
     requires known { number < length parts.old.links.items }
     ensures stands { BecomesAt number parts.old parts.new (judged reached number) }
     ensures fewer { length (on number parts.new.queues.lists) ≤ length

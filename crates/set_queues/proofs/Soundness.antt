@@ -1,7 +1,9 @@
 -- What holds of every set's queues goes on holding.
 use Rattle.std.proofs.Common.{refl, arith, ◌≡◌, ◌∙◌, ap, ◌+◌, ◌≤◌, ◌<◌, [], ◌∷◌, ◌++◌, length, ℕ, Bool, true, false, ◌==◌, List, Some, cond, take, drop, slice_get, ◌≢◌, subst, Option, append_assoc, IfSome}
 use Rattle.set_queues.specs.Messages.{one_if, Message, restood_one, restood, IsFit, AreFit}
-use Rattle.set_queues.specs.Buffers.{Fate, Waiting, Unacked, no_lists, empty_lists, LinkLists, Lists, is_standing, same_fate, queue_at, with_queue, with_last, IsKnown, IsQueued, Rooms, Held, room_at, TakesRoom}
+use Rattle.set_queues.specs.Buffers.{Fate, Waiting, Unacked, no_lists, empty_lists, LinkLists, Lists, is_standing, same_fate, queue_at, with_queue, with_last, profile_at, on_link, IsKnown, IsQueued, Rooms, Held, room_at, TakesRoom}
+use Rattle.l2_units.specs.declared.profile.Profile.{Profile}
+use Rattle.l2_window.specs.Window.{most_unacked}
 use Rattle.set_queues.specs.Queues.{occurs, stands, passed, passed_first, AreTied, AreSound, AreNarrow}
 use Rattle.set_queues.proofs.Standing.{length-updated, updated_same, updated_other, get_push, Moves, moved_tie, given_queue, take_get, same_is, occurs-append, occurs-split, occurs_here, queue_set, links_stay, queue_away, SameSize, size_stays, known_on, restood-append, same_self, queued_stands}
 use Rattle.set_queues.proofs.Tallies.{fit_push, fit_restood}
@@ -29,17 +31,30 @@ passed_replaces q from to s k o = both_replaced q from to [] (queue_at to q ++ q
 pub known_passed : (f from to : Fate) (q now : Lists) → now ≡ passed from to q → IsKnown f q → IsKnown f now
 known_passed f from to q now e k = rw e (known_on f q _ (both_size q from to _ _) k)
 
+-- THE PROFILE OF A LINK stays, whatever its queues hold
+pub profile_updated : (f : LinkLists → LinkLists) → ((z : LinkLists) → (f z).profile ≡ z.profile) → (l k : ℕ) (q : Lists) → profile_at k (on_link l f q) ≡ profile_at k q
+profile_updated f same l k q = grind (arith, nat_tests, updated_same, updated_other, slice_get_cases, same)
+
+pub profile_queue : (f : Fate) (ns : List ℕ) (k : ℕ) (q : Lists) → profile_at k (with_queue f ns q) ≡ profile_at k q
+profile_queue (Waiting l) ns k q = profile_updated (λ (z : LinkLists). record z { unsent = ns }) (λ z. refl) l k q
+profile_queue (Unacked l) ns k q = profile_updated (λ (z : LinkLists). record z { unacked = ns }) (λ z. refl) l k q
+profile_queue (Held l) ns k q = profile_updated (λ (z : LinkLists). record z { held = ns }) (λ z. refl) l k q
+profile_queue f ns k q = grind arith
+
+pub profile_last : (l fsn k : ℕ) (q : Lists) → profile_at k (with_last l fsn q) ≡ profile_at k q
+profile_last l fsn k q = profile_updated (λ (z : LinkLists). record z { last = fsn }) (λ z. refl) l k q
+
 -- of as many links and codes
 sound_on : (q q' : Lists) (ms ms' : List Message) → AreSound q ms → SameSize q q' → AreNarrow q' → AreTied q' ms' → AreFit ms' → AreSound q' ms'
 sound_on q q' ms ms' s e n t f = record { one = omega (arith, s.one, e.links); few = omega (arith, s.few, e.links); codes = e.back ∙ s.codes; narrow = n; tied = t; fit = f }
 
 -- THE FIRST SO MANY OF A QUEUE stand last in another place
 
-pub sound_moved : (k : ℕ) (from to : Fate) (q : Lists) (ms : List Message) → is_standing from ≡ true → IsKnown from q → IsKnown to q → same_fate to from ≡ false → AreSound q ms → ((l : ℕ) → same_fate to (Unacked l) ≡ true → length (queue_at to q) + k ≤ 127) → AreSound (passed_first k from to q) (restood (take k (queue_at from q)) to ms)
+pub sound_moved : (k : ℕ) (from to : Fate) (q : Lists) (ms : List Message) → is_standing from ≡ true → IsKnown from q → IsKnown to q → same_fate to from ≡ false → AreSound q ms → ((l : ℕ) → same_fate to (Unacked l) ≡ true → length (queue_at to q) + k ≤ most_unacked (profile_at l q)) → AreSound (passed_first k from to q) (restood (take k (queue_at from q)) to ms)
 sound_moved k from to q ms standing known other apart s n =
     let queues = both_replaced q from to (drop k (queue_at from q)) (queue_at to q ++ take k (queue_at from q)) known other in
     let moves : Moves (take k (queue_at from q)) from to q (passed_first k from to q) = λ f t m. let there = queues f t in let left = same_is from f t in let come = same_is to f t in grind (arith, occurs-split, occurs-append) in
-    let narrow : AreNarrow (passed_first k from to q) = λ l. let there = queues (Unacked l) refl in let had = s.narrow l in let more = n l in grind (arith, same_is, length-append, length-take, length-drop) in
+    let narrow : AreNarrow (passed_first k from to q) = λ l. let there = queues (Unacked l) refl in let had = s.narrow l in let more = n l in let kept = profile_queue from (drop k (queue_at from q)) l (with_queue to (queue_at to q ++ take k (queue_at from q)) q) ∙ profile_queue to (queue_at to q ++ take k (queue_at from q)) l q in grind (arith, same_is, length-append, length-take, length-drop) in
     let within : (m : ℕ) → occurs m (take k (queue_at from q)) ≤ occurs m (queue_at from q) = λ m. omega (arith, occurs-split m k (queue_at from q)) in
     sound_on q _ ms _ s (both_size q from to _ _) narrow (moved_tie q _ ms _ from to s.tied standing within moves) (fit_restood (take k (queue_at from q)) to ms s.fit)
 
@@ -63,30 +78,30 @@ added_tie q ms x tie u k f s m =
 pub sound_added : (q : Lists) (ms : List Message) (x : Message) → AreSound q ms → IsFit x → IsKnown x.fate q → IsQueued x.fate → AreSound (with_queue x.fate (queue_at x.fate q ++ length ms ∷ []) q) (ms ++ x ∷ [])
 sound_added q ms x s fit k u =
     let same : (l : ℕ) → queue_at (Unacked l) (with_queue x.fate (queue_at x.fate q ++ length ms ∷ []) q) ≡ queue_at (Unacked l) q = λ l. queue_away x.fate (Unacked l) _ q _ refl k (unqueued x.fate l (λ s. u)) in
-    sound_on q _ ms _ s (size_stays x.fate _ q) (λ l. rw (same l) (s.narrow l)) (added_tie q ms x s.tied (queued_stands x.fate u) k) (fit_push ms x s.fit fit)
+    sound_on q _ ms _ s (size_stays x.fate _ q) (λ l. rw (same l, profile_queue x.fate (queue_at x.fate q ++ length ms ∷ []) l q) (s.narrow l)) (added_tie q ms x s.tied (queued_stands x.fate u) k) (fit_push ms x s.fit fit)
 
 -- NO MESSAGE
 
-empty_queue : (n codes : ℕ) (f : Fate) → queue_at f (empty_lists n codes) ≡ []
-empty_queue n codes f = grind (arith, slice_get_cases, get_or-replicate, get_or_past, length-replicate, nat_tests)
+empty_queue : (p : Profile) (n codes : ℕ) (f : Fate) → queue_at f (empty_lists p n codes) ≡ []
+empty_queue p n codes f = grind (arith, slice_get_cases, get_or-replicate, get_or_past, length-replicate, nat_tests)
 
-pub sound_new : (q : Lists) (n : ℕ) → q ≡ empty_lists n 256 → 1 ≤ n → n ≤ 16 → AreSound q []
-sound_new q n e low high = rw e (record {
-  one = omega (arith, length-replicate n no_lists);
-  few = omega (arith, length-replicate n no_lists);
+pub sound_new : (p : Profile) (q : Lists) (n : ℕ) → q ≡ empty_lists p n 256 → 1 ≤ n → n ≤ 16 → AreSound q []
+sound_new p q n e low high = rw e (record {
+  one = omega (arith, length-replicate n (no_lists p));
+  few = omega (arith, length-replicate n (no_lists p));
   codes = length-replicate {A = List ℕ} 256 [];
-  narrow = λ l. omega (arith, ap length (empty_queue n 256 (Unacked l)));
-  tied = λ f t i. rw (empty_queue n 256 f) refl;
+  narrow = λ l. omega (arith, ap length (empty_queue p n 256 (Unacked l)));
+  tied = λ f t i. rw (empty_queue p n 256 f) refl;
   fit = λ i x h. absurd (cc);
 })
 
 -- THE FIRST THAT WAITS IS SENT
 
-pub sound_sent : (q q' : Lists) (ms : List Message) (l n : ℕ) → AreSound q ms → l < length q.links → slice_get (queue_at (Waiting l) q) 0 ≡ Some n → length (queue_at (Unacked l) q) < 127 → q' ≡ passed_first 1 (Waiting l) (Unacked l) q → AreSound q' (restood_one n (Unacked l) ms)
+pub sound_sent : (q q' : Lists) (ms : List Message) (l n : ℕ) → AreSound q ms → l < length q.links → slice_get (queue_at (Waiting l) q) 0 ≡ Some n → length (queue_at (Unacked l) q) < most_unacked (profile_at l q) → q' ≡ passed_first 1 (Waiting l) (Unacked l) q → AreSound q' (restood_one n (Unacked l) ms)
 sound_sent q q' ms l n s b first few e =
     let one : take 1 (queue_at (Waiting l) q) ≡ n ∷ [] = take_get _ 0 n first in
     rw e (subst (λ (ns : List ℕ). AreSound (passed_first 1 (Waiting l) (Unacked l) q) (restood ns (Unacked l) ms)) one (sound_moved 1 (Waiting l) (Unacked l) q ms refl b b refl s
-    (λ k t. let same = same_is (Unacked l) (Unacked k) refl t in omega (arith, few))))
+    (λ k t. let same : l ≡ k = grind (arith, nat_tests) in subst (λ (m : ℕ). length (queue_at (Unacked l) q) + 1 ≤ most_unacked (profile_at m q)) same (omega (arith, few)))))
 
 -- THE FIRST OF THE UNACKNOWLEDGED LEAVE, and a link has a new life
 
@@ -97,7 +112,7 @@ pub last_links : (l fsn : ℕ) (q : Lists) → length (with_last l fsn q).links 
 last_links l fsn q = length-updated (λ (z : LinkLists). record z { last = fsn }) q.links l
 
 pub sound_with_last : (q q' : Lists) (ms : List Message) (l fsn : ℕ) → q' ≡ with_last l fsn q → AreSound q ms → AreSound q' ms
-sound_with_last q q' ms l fsn e s = rw e (sound_on q _ ms ms s (record { links = last_links l fsn q; back = refl }) (λ k. rw (queue_last (Unacked k) l fsn q) (s.narrow k)) (λ f t m. rw (queue_last f l fsn q) (s.tied f t m)) s.fit)
+sound_with_last q q' ms l fsn e s = rw e (sound_on q _ ms ms s (record { links = last_links l fsn q; back = refl }) (λ k. rw (queue_last (Unacked k) l fsn q, profile_last l fsn k q) (s.narrow k)) (λ f t m. rw (queue_last f l fsn q) (s.tied f t m)) s.fit)
 
 -- A LINK SETTLES: what stands on it goes elsewhere, first what was sent, then what waited, then what was held
 

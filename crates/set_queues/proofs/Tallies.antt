@@ -1,4 +1,6 @@
 -- The running counts of a list of messages, when one of them changes or joins, and the octets of their bodies.
+use Rattle.l2_window.proofs.Numbers.{most_small}
+use Rattle.set_queues.specs.Buffers.{profile_at}
 use Rattle.std.proofs.Common.{Fits, w32, ◌^◌, arith, ◌≡◌, ◌+◌, ◌≤◌, ◌<◌, [], ◌∷◌, ◌++◌, length, ℕ, zero, suc, Bool, List, Option, Some, None, refl, cond, filter, sum_by, slice_get, slice_set, slice_index, get_or, ◌-◌, true, false, ◌&&◌, nat_le, nat_lt, add-one}
 use Rattle.std.proofs.lemmas.List.Sums.{length-filter, count_by-le-length, get_or-le-sum_by, sum_by-set, sum_by_push, sum_by-le, sum_by-cons}
 use Rattle.std.proofs.lemmas.Option.{slice_get_read, slice_get_past, slice_get-get_or, slice_get_cases, slice_get_within, get_or_from_slice_get}
@@ -119,7 +121,7 @@ pub weighs : (l : ℕ) (ns : List ℕ) (ms : List Message) → AreThose (Unacked
 weighs l ns ms h = weighed (Unacked l) refl (λ m. m.octets) (λ f m. refl) (λ n. octets_at n ms) ns ms h (λ n x e. grind arith)
 
 pub octets_fit : (l : ℕ) (q : Lists) (t : Tally) (ms : List Message) → AreSound q ms → IsTally t ms → l < length q.links → Fits w32 (slice_index t.octets l)
-octets_fit l q t ms s i h = omega (arith, weighs l _ ms (s.tied (Unacked l) refl), i.octets l (omega (arith, h, s.few)), sum_by-le (λ n. octets_at n ms) 273 (queue_at (Unacked l) q) (λ k d b. let fit = λ (m : Message) (e : slice_get ms (get_or (queue_at (Unacked l) q) k d) ≡ Some m). (s.fit (get_or (queue_at (Unacked l) q) k d) m e).octets in grind (arith, slice_get_cases, fit)), s.narrow l)
+octets_fit l q t ms s i h = omega (arith, weighs l _ ms (s.tied (Unacked l) refl), i.octets l (omega (arith, h, s.few)), sum_by-le (λ n. octets_at n ms) 273 (queue_at (Unacked l) q) (λ k d b. let fit = λ (m : Message) (e : slice_get ms (get_or (queue_at (Unacked l) q) k d) ≡ Some m). (s.fit (get_or (queue_at (Unacked l) q) k d) m e).octets in grind (arith, slice_get_cases, fit)), s.narrow l, most_small (profile_at l q))
 
 -- all that wait for so many codes: each stands in one queue, and was given out
 

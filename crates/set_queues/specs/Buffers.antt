@@ -1,6 +1,8 @@
 -- The queues in which messages stand, as lists of their numbers. Read this file first.
 use Rattle.std.specs.Prelude.{◌≡◌, ℕ, ◌+◌, ◌<◌, ◌≤◌, Bool, true, false, List, [], ◌∷◌, zero, suc, length, replicate, slice_get, slice_index_or, if◌then◌else◌}
 use Rattle.std.specs.Option.{option_map_or}
+use Rattle.l2_units.specs.declared.profile.Profile.{Profile}
+use Rattle.l2_units.specs.declared.profile.Profile.TheVariants.{Narrow}
 use Rattle.l2_window.specs.Window.{fsn_before_first}
 pub use Rattle.set_events.specs.declared.answer.Fate.{Fate}
 pub use Rattle.set_events.specs.declared.answer.Fate.TheVariants.{Waiting, Unacked, Acked, Held, Parked, Back, Discarded}
@@ -16,6 +18,7 @@ updated (suc i) change (x ∷ xs) = x ∷ updated i change xs
 -- of one link: the FSN last acknowledged; what was sent and isn't acknowledged; what waits to be sent; what is held
 -- until the link settles. Oldest first.
 pub record LinkLists : Type 0 where
+  pub profile : Profile
   pub last : ℕ
   pub unacked : List ℕ
   pub unsent : List ℕ
@@ -29,13 +32,13 @@ pub record Lists : Type 0 where
   -- what waits for the acknowledgement of each changeback, by its code
   pub back : List (List ℕ)
 
--- of a link that has had no life yet: FSN 127 counts as acknowledged (Q.703 5.2.1)
-abbrev pub no_lists : LinkLists
-no_lists = record { last = 127; unacked = []; unsent = []; held = [] }
+-- of a link that has had no life yet: the FSN before 0 counts as acknowledged (Q.703 5.2.1)
+abbrev pub no_lists : Profile → LinkLists
+no_lists profile = record { profile = profile; last = fsn_before_first profile; unacked = []; unsent = []; held = [] }
 
 -- of so many links and codes, with nothing in any queue
-abbrev pub empty_lists : ℕ → ℕ → Lists
-empty_lists count codes = record { links = replicate count no_lists; parked = []; back = replicate codes [] }
+abbrev pub empty_lists : Profile → ℕ → ℕ → Lists
+empty_lists profile count codes = record { links = replicate count (no_lists profile); parked = []; back = replicate codes [] }
 
 -- Each fate that isn't final has its queue.
 
@@ -84,7 +87,11 @@ with_queue _ numbers q = q
 
 -- the FSN last acknowledged on a link
 abbrev pub last_at : ℕ → Lists → ℕ
-last_at l q = option_map_or (λ link. link.last) (slice_get q.links l) fsn_before_first
+last_at l q = option_map_or (λ link. link.last) (slice_get q.links l) (fsn_before_first Narrow)
+
+-- how many numbers the messages of a link have
+abbrev pub profile_at : ℕ → Lists → Profile
+profile_at l q = option_map_or (λ link. link.profile) (slice_get q.links l) Narrow
 
 abbrev pub with_last : ℕ → ℕ → Lists → Lists
 with_last l fsn q = on_link l (λ link. record link { last = fsn }) q

@@ -6,6 +6,7 @@ use Rattle.set_queues.specs.Buffers.{LinkLists, LinkRooms, BuffersState}
 
 abbrev pub lists_of : Link → LinkLists
 lists_of link = record {
+  profile = link.window.profile;
   last = link.window.last;
   unacked = link.window.unacked;
   unsent = link.window.unsent;

@@ -2,7 +2,7 @@
 use Rattle.std.specs.Prelude.{◌≡◌, ℕ, ◌+◌, ◌<◌, ◌≤◌, ◌==◌, Bool, true, false, List, [], ◌∷◌, ◌++◌, length, Some, take, drop}
 use Rattle.std.specs.Option.{option_map_or}
 use Rattle.set_queues.specs.Messages.{one_if, Message, AreFit, fate_at, restood, octets_at}
-use Rattle.set_queues.specs.Buffers.{Fate, Unacked, Lists, Rooms, TakesRoom, KeepsRoom, is_standing, same_fate, queue_at, with_queue}
+use Rattle.set_queues.specs.Buffers.{Fate, Unacked, Lists, Rooms, TakesRoom, KeepsRoom, is_standing, same_fate, queue_at, with_queue, profile_at}
 use Rattle.l2_window.specs.Window.{most_unacked}
 use Rattle.set_events.specs.Config.{most_links}
 
@@ -64,9 +64,9 @@ pub record MakesRoom (old new : QueuesState) : Type 0 where
   pub room : new.room ≡ old.room
   pub kept : KeepsRoom old.rooms new.rooms
 
--- at most 127 messages of a link are unacknowledged (Q.703 5.2.2)
+-- at most 127 messages of a link are unacknowledged (Q.703 5.2.2; wide: 4,095)
 abbrev pub AreNarrow : Lists → Type 0
-AreNarrow q = (link : ℕ) → length (queue_at (Unacked link) q) ≤ most_unacked
+AreNarrow q = (link : ℕ) → length (queue_at (Unacked link) q) ≤ most_unacked (profile_at link q)
 
 -- of every set: it has 1 to 16 links and 256 codes of changebacks, at most 127 messages are unacknowledged on each
 -- link, and each message stands in exactly one queue, the one that its fate names, or in none if its fate is final

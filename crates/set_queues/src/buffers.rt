@@ -4,6 +4,7 @@ ghost use Rattle.set_queues.specs.Buffers.{BuffersState, empty_lists, IsKnown, C
 ghost use Rattle.std.specs.Prelude.{◌≡◌, ◌<◌, ◌++◌, [], ◌∷◌, IfOk, length, drop, slice_get};
 ghost use Rattle.set_queues.specs.Kept.{state_of};
 
+use l2_units::Profile;
 use l2_window::{Queue, Window};
 use set_events::Fate;
 use std::alloc::{AllocError, Global};
@@ -33,12 +34,12 @@ impl Model for Buffers {
 
 impl Buffers {
     /// The queues of so many links, all empty.
-    pub(crate) fn new(alloc: Global, links: u8) -> Result<Buffers, AllocError>
-        ensures { IfOk result (λ buffers. buffers.lists ≡ empty_lists links 256) }
+    pub(crate) fn new(alloc: Global, profile: Profile, links: u8) -> Result<Buffers, AllocError>
+        ensures { IfOk result (λ buffers. buffers.lists ≡ empty_lists profile links 256) }
     {
         let mut made = Vec::new(alloc);
         for _ in 0..links {
-            let window = Window::new(alloc)?;
+            let window = Window::of(alloc, profile)?;
             let held = Queue::new(alloc)?;
             made.push(Link { window, held })?;
         }

@@ -1,6 +1,7 @@
 //! Where every message of a set stands, with what the counts need.
 ghost use Rattle.std.specs.Prelude.{◌≡◌, ◌+◌, ◌<◌, ℕ, slice_index, if◌then◌else◌, IfSome, ◌-◌, vec_len, vec_capacity, ◌≢◌, ◌↔◌, ◌%◌, ◌≤◌, ◌^◌, ◌++◌, [], ◌∷◌, Some, true, false, IsOk, IfOk, OnOk, OnErr, length, replicate, take, slice_get};
-ghost use Rattle.set_queues.specs.Buffers.{empty_lists, IsQueued, same_fate, IsKnown, CanTake, KeepsRoom, TakesRoom, HaveRoom, is_standing, queue_at, with_queue, last_at, with_last, room_at};
+ghost use Rattle.set_queues.specs.Buffers.{empty_lists, IsQueued, same_fate, IsKnown, CanTake, KeepsRoom, TakesRoom, HaveRoom, is_standing, queue_at, with_queue, last_at, profile_at, with_last, room_at};
+ghost use Rattle.l2_window.specs.Window.{fsn_count, most_unacked, fsn_before_first};
 ghost use Rattle.set_queues.specs.Settling.{fate_on, on, settled};
 ghost use Rattle.set_queues.specs.Queues.{QueuesState, AreSound, Moves, MovesAll, MovesFirst, MakesRoom};
 ghost use Rattle.set_queues.specs.Messages.{IsTally, restood, fate_at, octets_of, counts_of, unsent_of, IsFit};
@@ -12,6 +13,7 @@ use super::buffers::Buffers;
 use super::message::Message;
 use super::messages::{Messages, pass};
 use super::tally::{Tally, enter};
+use l2_units::Profile;
 use l2_window::{Queue, Window, WindowFault};
 use set_events::{Counts, DiscardCause, Fate};
 use std::alloc::{AllocError, Global};
@@ -44,13 +46,13 @@ impl Model for Queues {
 impl Queues {
     /// The queues of so many links, with no message. A link has had no life yet: FSN 127 counts as
     /// acknowledged on it (Q.703 5.2.1).
-    pub fn new(alloc: Global, links: u8) -> Result<Queues, AllocError>
+    pub fn new(alloc: Global, profile: Profile, links: u8) -> Result<Queues, AllocError>
         requires { (1 ≤ links) × (links ≤ 16) }
-        ensures lists { IfOk result (λ queues. queues.lists ≡ empty_lists links 256) }
+        ensures lists { IfOk result (λ queues. queues.lists ≡ empty_lists profile links 256) }
         ensures messages { IfOk result (λ queues. queues.messages ≡ []) }
     {
         Ok(Queues {
-            buffers: Buffers::new(alloc, links)?,
+            buffers: Buffers::new(alloc, profile, links)?,
             messages: Messages {
                 all: Vec::new(alloc),
                 tally: Tally {
@@ -140,6 +142,7 @@ impl Queues {
     pub fn window(&self, link: u8) -> &Window
         requires { link < length self.now.lists.links }
         ensures last { result.now.last ≡ last_at link self.now.lists }
+        ensures profile { result.now.profile ≡ profile_at link self.now.lists }
         ensures unacked { result.now.unacked ≡ queue_at (Fate.Unacked link) self.now.lists }
         ensures unsent { result.now.unsent ≡ queue_at (Fate.Waiting link) self.now.lists }
         ensures room { result.now.room ≡ room_at (Fate.Waiting link) self.now.rooms }
@@ -306,20 +309,20 @@ impl Queues {
     /// Refusals, in this order: 1 [`WindowFault::Empty`] with none that waits, 2
     /// [`WindowFault::Full`] with 127 unacknowledged.
     #[tactic(auto, using(crate::proofs::Linked::of_link))]
-    pub fn send(&mut self, link: u8) -> Result<(u64, u8), WindowFault>
+    pub fn send(&mut self, link: u8) -> Result<(u64, u16), WindowFault>
         requires { link < length self.old.lists.links }
         ensures empty { (result ≡ Err WindowFault.Empty) ↔ (queue_at
             (Fate.Waiting link) self.old.lists ≡ []) }
         ensures full { (result ≡ Err WindowFault.Full) ↔ ((queue_at
-            (Fate.Waiting link) self.old.lists ≢ []) × (127 ≤ length (queue_at
+            (Fate.Waiting link) self.old.lists ≢ []) × (most_unacked (profile_at link self.old.lists) ≤ length (queue_at
             (Fate.Unacked link) self.old.lists))) }
         ensures succeeds { queue_at (Fate.Waiting link) self.old.lists ≢ [] → length (queue_at
-            (Fate.Unacked link) self.old.lists) < 127 → IsOk result }
+            (Fate.Unacked link) self.old.lists) < most_unacked (profile_at link self.old.lists) → IsOk result }
         ensures first { IfOk result (λ sent. slice_get (queue_at
             (Fate.Waiting link) self.old.lists) 0 ≡ Some sent.0) }
         ensures sent { OnOk result (MovesFirst 1 (Fate.Waiting link) (Fate.Unacked link) self.old self.new) }
         ensures fsn { IfOk result (λ sent. sent.1 ≡ (last_at link self.old.lists + 1 + length
-            (queue_at (Fate.Unacked link) self.old.lists)) % 128) }
+            (queue_at (Fate.Unacked link) self.old.lists)) % fsn_count (profile_at link self.old.lists)) }
         ensures err { OnErr result (self.new ≡ self.old) }
     {
         let buffers = &mut self.buffers;
@@ -333,9 +336,9 @@ impl Queues {
     /// Refusal: 3 [`WindowFault::Unreasonable`], where the FSN is neither that last acknowledged nor
     /// that of an unacknowledged message.
     #[tactic(auto, using(crate::proofs::Linked::of_link))]
-    pub fn acknowledge(&mut self, link: u8, fsn: u8) -> Result<u8, WindowFault>
+    pub fn acknowledge(&mut self, link: u8, fsn: u16) -> Result<u16, WindowFault>
         requires known { link < length self.old.lists.links }
-        requires fsn { fsn < 128 }
+        requires fsn { fsn < fsn_count (profile_at link self.old.lists) }
         ensures acked { OkIff result (reach link fsn self.old.lists ≤ length (queue_at
             (Fate.Unacked link) self.old.lists)) (reach link fsn self.old.lists) }
         ensures moves { OnOk result (Moves (take (reach link fsn self.old.lists) (queue_at
@@ -441,7 +444,7 @@ impl Queues {
         requires known { link < length self.old.lists.links }
         requires unacked { queue_at (Fate.Unacked link) self.old.lists ≡ [] }
         requires unsent { queue_at (Fate.Waiting link) self.old.lists ≡ [] }
-        ensures lists { self.new.lists ≡ with_last link 127 self.old.lists }
+        ensures lists { self.new.lists ≡ with_last link (fsn_before_first (profile_at link self.old.lists)) self.old.lists }
         ensures same { (self.new.messages ≡ self.old.messages) × (self.new.room ≡ self.old.room) }
         ensures rooms { KeepsRoom self.old.rooms self.new.rooms }
     {

@@ -6,7 +6,7 @@ ghost use Rattle.set_core.specs.Gaining.{IsOwn};
 ghost use Rattle.set_ledger.specs.Seats.{Receives, new_seats};
 ghost use Rattle.set_ledger.specs.Totals.{AreParts, HeldState, Names};
 ghost use Rattle.set_ledger.specs.Ending.{is_complete, AreFaithful, IsClosed};
-ghost use Rattle.set_model.specs.State.{new_state};
+ghost use Rattle.set_model.specs.History.{opening_of};
 
 use set_events::{Answer, Body, Event, SetConfig};
 use set_ledger::{
@@ -191,7 +191,7 @@ impl<C: Ledger, M: Ledger, O: Ledger, A: Ledger> LinkSet<C, M, O, A> {
     ) -> Result<Closed, EndFault<C, M, O, A>>
         ensures complete { OnOk result (is_complete self.users self.links users.items terminals.items ≡ true) }
         ensures closed { IfOk result (λ closed.
-            IsClosed users.items terminals.items (new_state closed.config) closed.history.items
+            IsClosed users.items terminals.items (opening_of closed.config) closed.history.items
             closed.books closed.counts) }
         ensures back { IfErr result (λ fault. (held : HeldState) × (held.users ≡ self.users) × (held.links ≡ self.links)
             × (fault ≡ (if is_complete self.users self.links users.items terminals.items

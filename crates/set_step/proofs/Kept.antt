@@ -1,7 +1,9 @@
 -- What is read of a set, a set of which nothing was asked, and what holds after each event.
 use Rattle.std.proofs.Common.{refl, arith, ◌≡◌, ap, ◌≤◌, ◌+◌, [], ◌∷◌, List, ℕ, suc, length, Option, Some, None, ◌<◌, ◌%◌, slice_get, option_map, true, false, IsOk, Result, subst, zero, ◌^◌, nat_lt, if◌then◌else◌, replicate, ◌∙◌}
 use Rattle.std.proofs.lemmas.Bool.Decides.{nat_tests}
-use Rattle.set_queues.specs.Buffers.{Lists, is_standing, queue_at, last_at, no_lists}
+use Rattle.set_queues.specs.Buffers.{Lists, is_standing, queue_at, last_at, profile_at, no_lists}
+use Rattle.l2_window.specs.Window.{fsn_count}
+use Rattle.l2_window.proofs.Numbers.{from_zero, number_at}
 use Rattle.set_model.specs.Rows.{Fate, Unacked, numbers, Waiting}
 use Rattle.set_moves.specs.Agreement.{Kept, StandsFor, Agrees, Holds, HoldsFew, rows_at}
 use Rattle.std.proofs.lemmas.Option.{slice_get_past, slice_get-map}
@@ -25,10 +27,11 @@ use Rattle.set_moves.proofs.Links.{agrees_same, is_in, whole_of}
 use Rattle.set_traffic.proofs.Traffic.{queue_there}
 
 -- THE UNACKNOWLEDGED MESSAGE at a place of a link, if there is one: its number is the queue's, and its FSN follows the last one
-pub unacked_is : (k : Kept) (s : State) (n place : ℕ) (o : Option ℕ) → StandsFor k s → n < length k.links → slice_get (queue_at (Unacked n) k.lists) place ≡ o → unacked_in s n place ≡ option_map (λ number. record { number = number; fsn = (last_at n k.lists + 1 + place) % 128 }) o
+pub unacked_is : (k : Kept) (s : State) (n place : ℕ) (o : Option ℕ) → StandsFor k s → n < length k.links → slice_get (queue_at (Unacked n) k.lists) place ≡ o → unacked_in s n place ≡ option_map (λ number. record { number = number; fsn = (last_at n k.lists + 1 + place) % fsn_count (profile_at n k.lists) }) o
 unacked_is k s n place o f low at =
     let l = present s.links n (omega (arith, low, ap length f.links)) in
-    grind (arith, nat_tests, l.1, slice_get-map, f.fsns n l.0 l.1, f.stands.queues (Unacked n) refl)
+    let same = number_at l.0.profile (last_at n k.lists) l.0.acked place (f.fsns n l.0 l.1) in
+    grind (arith, nat_tests, l.1, slice_get-map, same, f.profiles n l.0 l.1, f.stands.queues (Unacked n) refl)
 
 -- there is none on a link that isn't there
 pub unacked_past : (k : Kept) (s : State) (n place : ℕ) → StandsFor k s → length k.links ≤ n → unacked_in s n place ≡ None
@@ -49,9 +52,9 @@ none_stands : (q : Lists) → AreSound q [] → (fate : Fate) → is_standing fa
 none_stands q sound fate stood = none_given (queue_at fate q) (given_queue q [] fate sound.tied stood)
 
 -- links that stand for new ones, sound queues with nothing, and nothing else
-pub opened : (config : SetConfig) (parts : Parts) → parts.config ≡ config → parts.links.items ≡ replicate config.links (new_link config.method) → parts.queues.lists.links ≡ replicate config.links no_lists → AreSound parts.queues.lists parts.queues.messages → parts.queues.messages ≡ [] → parts.bodies.items ≡ [] → parts.routes ≡ new_routing config.links → parts.inbox.items ≡ []
+pub opened : (config : SetConfig) (parts : Parts) → parts.config ≡ config → parts.links.items ≡ replicate config.links (new_link config.profile config.method) → parts.queues.lists.links ≡ replicate config.links (no_lists config.profile) → AreSound parts.queues.lists parts.queues.messages → parts.queues.messages ≡ [] → parts.bodies.items ≡ [] → parts.routes ≡ new_routing config.links → parts.inbox.items ≡ []
     → Agrees (kept_of parts) (new_state config)
-opened config parts c links lists sound messages bodies routes inbox = grind (arith, nat_tests, none_stands parts.queues.lists (rw messages at sound), length-replicate, replicated, opened_sound (settings_of config))
+opened config parts c links lists sound messages bodies routes inbox = grind (arith, nat_tests, none_stands parts.queues.lists (rw messages at sound), length-replicate, replicated, from_zero config.profile, opened_sound (settings_of config))
 
 -- A LINK THAT COMES UP
 -- a settled link is there, and nothing stands on it, once room was taken

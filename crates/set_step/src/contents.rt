@@ -1,5 +1,6 @@
 //! What a set keeps, as one event after another changes it.
-ghost use Rattle.std.specs.Prelude.{◌≡◌, ◌<◌, ◌^◌, true, length, IsOk, IfOk, IfErr, OnOk, OnErr};
+ghost use Rattle.std.specs.Prelude.{◌≡◌, ◌<◌, ◌+◌, ◌%◌, ◌^◌, true, length, IsOk, IfOk, IfErr, OnOk, OnErr};
+ghost use Rattle.l2_window.specs.Window.{fsn_count};
 ghost use Rattle.set_model.specs.Rows.{place, counts_of, total_of, users};
 ghost use Rattle.set_model.specs.State.{State, new_state, link_count, is_up as is_up_in, is_settled as is_settled_in, unacked_in};
 ghost use Rattle.set_model.specs.History.{longest_history};
@@ -9,7 +10,8 @@ ghost use Rattle.set_step.specs.Answering.{AnswersFor, wants_none};
 ghost use Rattle.set_moves.specs.Parts.{kept_of};
 
 use super::step::carry_out;
-use l2_window::number_after;
+use l2_units::Profile;
+use l2_window::Window;
 use set_events::{Answer, Counts, Event, Fate, SetConfig, SetFault};
 use set_model::{Numbered, Phase};
 use set_moves::{Link, Parts, phase_of};
@@ -49,11 +51,11 @@ impl Core {
     {
         let mut links = Vec::new(alloc);
         for _ in 0..config.links {
-            if let Err(failed) = links.push(Link::new(config.method)) {
+            if let Err(failed) = links.push(Link::new(config.profile(), config.method)) {
                 return Err(AllocError::from(failed).into());
             }
         }
-        let queues = Queues::new(alloc, config.links)?;
+        let queues = Queues::new(alloc, config.profile(), config.links)?;
         // with no message, each is empty
         queues.is_sound();
         Ok(Core {
@@ -135,7 +137,7 @@ impl Core {
     /// The message at this place of the link's unacknowledged ones, the oldest at 0: its number, and the FSN
     /// that it carries (Q.703 2.2). Past the last one, or on a link that the set hasn't: `None`.
     #[tactic(auto, using(crate::proofs::Kept::unacked_is, crate::proofs::Kept::unacked_past, set_moves::proofs::Links::whole_of, set_model::proofs::Lists::within))]
-    pub fn unacked_at(&self, link: u8, place: u8) -> Option<Numbered>
+    pub fn unacked_at(&self, link: u8, place: u16) -> Option<Numbered>
         ensures { (s : State) → StandsFor self.now s → result ≡ unacked_in s link place }
     {
         if usize::from(link) >= self.parts.links.len() {
@@ -143,8 +145,18 @@ impl Core {
         }
         let sent = Fate::Unacked { link };
         let number = self.parts.queues.number_at(sent, usize::from(place))?;
-        let last = self.parts.queues.window(link).last();
-        let fsn = number_after(last, usize::from(place) + 1);
+        let fsn = fsn_behind(self.parts.queues.window(link), place);
         Some(Numbered { number, fsn })
+    }
+}
+
+/// The FSN of the message at this place behind the one last acknowledged.
+fn fsn_behind(window: &Window, place: u16) -> u16
+    ensures { result ≡ (window.now.last + 1 + place) % fsn_count window.now.profile }
+{
+    let after = u32::from(window.last()) + 1 + u32::from(place);
+    match window.profile() {
+        Profile::Narrow => (after % 128) as u16,
+        Profile::Wide => (after % 4096) as u16,
     }
 }

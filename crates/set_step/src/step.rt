@@ -134,7 +134,8 @@ fn bring_up(parts: &mut Parts, number: u8, answer: &mut Answer) -> Result<(), Al
             parts
                 .queues
                 .divert(Fate::Parked, Fate::Waiting { link: number });
-            parts.links[usize::from(number)].rise(parts.config.method);
+            let profile = parts.config.profile();
+            parts.links[usize::from(number)].rise(profile, parts.config.method);
             parts.routes.raise(number);
             Answer::Done
         }

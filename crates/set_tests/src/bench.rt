@@ -1,6 +1,7 @@
 //! What the tests of sets ask a set. They all ask through here, so that the prover meets each contract once; and they hand in
 //! plain values and learn whether it is so, since each way out of a function that owns an event or an answer is dear to prove.
 ghost use Rattle.std.specs.Prelude.{◌<◌};
+ghost use Rattle.l2_units.specs.declared.profile.Profile.TheVariants.{Narrow};
 ghost use Rattle.l3_orders.specs.Grammar.{IsOrder};
 
 use l2_units::{Header, Unit};
@@ -173,12 +174,12 @@ pub(crate) fn is_sent(set: &mut SetCore, link: u8) -> bool {
 }
 
 /// The message of this place of the link's unacknowledged ones is this one, if there is any.
-pub(crate) fn is_unacked(set: &SetCore, link: u8, place: u8, wanted: Option<Numbered>) -> bool {
+pub(crate) fn is_unacked(set: &SetCore, link: u8, place: u16, wanted: Option<Numbered>) -> bool {
     set.unacked_at(link, place) == wanted
 }
 
 /// The link sends the message of this number next, under this FSN, and so many others are unacknowledged.
-pub(crate) fn sends(set: &mut SetCore, link: u8, number: u64, fsn: u8, others: u8) -> bool {
+pub(crate) fn sends(set: &mut SetCore, link: u8, number: u64, fsn: u16, others: u16) -> bool {
     is_sent(set, link)
         && is_unacked(set, link, others, Some(Numbered { number, fsn }))
         && adds_up(set)
@@ -186,7 +187,7 @@ pub(crate) fn sends(set: &mut SetCore, link: u8, number: u64, fsn: u8, others: u
 
 /// The link sends just the messages of these numbers, in this order, from FSN 0 on.
 pub(crate) fn sends_in_order(set: &mut SetCore, link: u8, numbers: &[u64]) -> bool {
-    let mut fsn = 0u8;
+    let mut fsn = 0u16;
     for number in numbers {
         if !sends(set, link, *number, fsn, fsn) {
             return false;
@@ -199,15 +200,15 @@ pub(crate) fn sends_in_order(set: &mut SetCore, link: u8, numbers: &[u64]) -> bo
 /// A header of these numbers modulo 128, with indicator bits as they are at first.
 pub(crate) fn head_of(bsn: u64, fsn: u64) -> Header {
     Header {
-        bsn: (bsn % 128) as u8,
+        bsn: (bsn % 128) as u16,
         bib: true,
-        fsn: (fsn % 128) as u8,
+        fsn: (fsn % 128) as u16,
         fib: true,
     }
 }
 
 /// A report of nothing but these.
-pub(crate) fn report_of(acked: u8, took: Took) -> Report {
+pub(crate) fn report_of(acked: u16, took: Took) -> Report {
     Report {
         acked,
         took,
@@ -226,14 +227,14 @@ pub(crate) fn heard(set: &mut SetCore, link: u8, unit: Unit) -> Option<Report> {
 }
 
 /// The link hears a FISU of this header, of so many messages more.
-pub(crate) fn acknowledges(set: &mut SetCore, link: u8, head: Header, messages: u8) -> bool {
+pub(crate) fn acknowledges(set: &mut SetCore, link: u8, head: Header, messages: u16) -> bool {
     heard(set, link, Unit::Fisu { head }) == Some(report_of(messages, Took::Nothing))
         && adds_up(set)
 }
 
 /// The unit of this header that brings the order.
 pub(crate) fn unit_with(head: Header, order: &Order) -> Unit
-    requires { IsOrder order.now }
+    requires { IsOrder Narrow order.now }
 {
     Unit::Msu {
         head,
@@ -246,10 +247,10 @@ pub(crate) fn hears(
     set: &mut SetCore,
     head: Header,
     order: &Order,
-    messages: u8,
+    messages: u16,
     took: Took,
 ) -> bool
-    requires { IsOrder order.now }
+    requires { IsOrder Narrow order.now }
 {
     heard(set, 0, unit_with(head, order)) == Some(report_of(messages, took)) && adds_up(set)
 }
@@ -265,7 +266,7 @@ pub(crate) fn hears_cba(set: &mut SetCore, head: Header, code: u8, took: Took) -
 
 /// Link 0 sends this order next, of the set's own.
 pub(crate) fn sends_order(set: &mut SetCore, head: Header, order: &Order) -> bool
-    requires { IsOrder order.now }
+    requires { IsOrder Narrow order.now }
 {
     let unit = Unit::Msu {
         head,

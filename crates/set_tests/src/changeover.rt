@@ -1,4 +1,5 @@
 //! Fifteen links that leave one after another, with places worked out by hand from Q.704 5.
+ghost use Rattle.l2_units.specs.declared.profile.Profile.TheVariants.{Narrow};
 ghost use Rattle.l3_orders.specs.Grammar.{IsOrder};
 
 use super::bench::*;
@@ -69,7 +70,7 @@ fn hears_of_the_first(bench: &mut Bench, link: u8) -> bool {
 
 /// Link 0 hears an order as the far end's next message, and takes it.
 fn hears_order(bench: &mut Bench, order: &Order) -> bool
-    requires { IsOrder order.now }
+    requires { IsOrder Narrow order.now }
 {
     let unit = unit_with(head_of(127, u64::from(bench.orders)), order);
     bench.orders = bench.orders.saturating_add(1);
@@ -80,7 +81,7 @@ fn hears_order(bench: &mut Bench, order: &Order) -> bool
 }
 
 /// An acknowledgement of this link's changeover arrives.
-fn is_acknowledged(bench: &mut Bench, link: u8, fsn: u8) -> bool {
+fn is_acknowledged(bench: &mut Bench, link: u8, fsn: u16) -> bool {
     let order = Order::Coa {
         link: link % 16,
         number: fsn % 128,
@@ -142,7 +143,7 @@ fn sends_four(bench: &mut Bench) -> bool {
 
 /// What link 0 sent came first from link 15: its order, then the rest of its messages in order.
 fn were_sent_in_order(set: &SetCore) -> bool {
-    for (fsn, number) in [(0u8, 45u64), (1, 43), (2, 44), (3, 46)] {
+    for (fsn, number) in [(0u16, 45u64), (1, 43), (2, 44), (3, 46)] {
         if !is_unacked(set, 0, fsn, Some(Numbered { number, fsn })) {
             return false;
         }

@@ -64,7 +64,7 @@ fn all_are_asked(alloc: Global, set: &mut SetCore) -> bool {
 
 /// Links 4, 8 and 12 have their streams back, and then fail, with one message held each; for link 4 no answer comes.
 fn three_are_acknowledged(alloc: Global, set: &mut SetCore) -> bool {
-    for (place, link) in [(0u8, 4u8), (1, 8), (2, 12)] {
+    for (place, link) in [(0u16, 4u8), (1, 8), (2, 12)] {
         if !is_acknowledged(alloc, set, place, link) {
             return false;
         }
@@ -73,7 +73,7 @@ fn three_are_acknowledged(alloc: Global, set: &mut SetCore) -> bool {
 }
 
 /// One of them, by the order of this FSN.
-fn is_acknowledged(alloc: Global, set: &mut SetCore, fsn: u8, link: u8) -> bool {
+fn is_acknowledged(alloc: Global, set: &mut SetCore, fsn: u16, link: u8) -> bool {
     let number = 45 + 3 * u64::from(fsn);
     hears_cba(
         set,
@@ -161,9 +161,9 @@ fn all_are_found(set: &mut SetCore) -> bool {
 /// hears two orders there.
 fn fifty_go(alloc: Global, set: &mut SetCore, round: u64) -> bool {
     let round = round % 1_000;
-    for place in 0..50u8 {
+    for place in 0..50u16 {
         let number = 102 * round + u64::from(place);
-        let fsn = ((52 * round + u64::from(place)) % 128) as u8;
+        let fsn = ((52 * round + u64::from(place)) % 128) as u16;
         if !accepts(alloc, set, 3, number, Fate::Waiting { link: 0 })
             || !sends(set, 0, number, fsn, place)
         {
@@ -177,7 +177,7 @@ fn fifty_go(alloc: Global, set: &mut SetCore, round: u64) -> bool {
 fn fifty_come_back(alloc: Global, set: &mut SetCore, round: u64) -> bool {
     let round = round % 1_000;
     let first = 102 * round + 51;
-    let fsn = ((52 * round + 50) % 128) as u8;
+    let fsn = ((52 * round + 50) % 128) as u16;
     let order = Order::Cba { link: 1, code: 16 };
     let head = head_of(52 * round + 50, 2 * round);
     does_all(set, &[Call::Up(1), Call::Restore(1)])
@@ -191,7 +191,7 @@ fn fifty_come_back(alloc: Global, set: &mut SetCore, round: u64) -> bool {
 
 /// Fifty messages from this number on wait for the acknowledgement.
 fn fifty_wait(alloc: Global, set: &mut SetCore, first: u64) -> bool {
-    for place in 0..50u8 {
+    for place in 0..50u16 {
         let number = first.saturating_add(u64::from(place));
         if !accepts(alloc, set, 3, number, Fate::Back { code: 16 }) {
             return false;
@@ -202,7 +202,7 @@ fn fifty_wait(alloc: Global, set: &mut SetCore, first: u64) -> bool {
 
 /// They are sent on link 1, from FSN 0 on.
 fn fifty_are_sent(set: &mut SetCore, first: u64) -> bool {
-    for place in 0..50u8 {
+    for place in 0..50u16 {
         let number = first.saturating_add(u64::from(place));
         if !sends(set, 1, number, place, place) {
             return false;
@@ -214,7 +214,7 @@ fn fifty_are_sent(set: &mut SetCore, first: u64) -> bool {
 /// Link 1 fails, with all that it sent acknowledged, and settles.
 fn the_home_fails(set: &mut SetCore, round: u64) -> bool {
     let round = round % 1_000;
-    let fsn = ((52 * round + 51) % 128) as u8;
+    let fsn = ((52 * round + 51) % 128) as u16;
     let order = Order::Coa {
         link: 1,
         number: 49,

@@ -206,7 +206,7 @@ fn configurations_out_of_range_are_refused() -> Result<(), Fail> {
 }
 
 /// Cyclic retransmission forced by so many messages or octets is refused so, or taken.
-fn tells_of_cycles(rows: &[(u8, u32, Option<ConfigFault>)]) -> bool {
+fn tells_of_cycles(rows: &[(u16, u32, Option<ConfigFault>)]) -> bool {
     for row in rows {
         let (n1, n2, why) = *row;
         if fault_of(1, 2, 1, 0x80, Method::Cyclic { n1, n2 }) != why {

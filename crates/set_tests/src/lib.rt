@@ -27,3 +27,5 @@ mod queues;
 mod routes;
 #[cfg(test)]
 mod sets;
+#[cfg(test)]
+mod wide;

@@ -7,7 +7,7 @@ use link_lines::Lines;
 use std::test::Fail;
 
 /// A fill-in unit of this FSN.
-fn fill_in(fsn: u8) -> Unit
+fn fill_in(fsn: u16) -> Unit
     requires { fsn < 128 }
 {
     Unit::Fisu {
@@ -21,7 +21,7 @@ fn fill_in(fsn: u8) -> Unit
 }
 
 /// The FSN of a unit that was taken out.
-fn fsn_of(unit: Option<Unit>) -> Option<u8> {
+fn fsn_of(unit: Option<Unit>) -> Option<u16> {
     match unit {
         Some(Unit::Fisu { head }) => Some(head.fsn),
         _ => None,
@@ -29,7 +29,7 @@ fn fsn_of(unit: Option<Unit>) -> Option<u8> {
 }
 
 /// A fill-in unit of this FSN comes on the link.
-fn is_joined(lines: &mut Lines, link: u8, fsn: u8) -> bool
+fn is_joined(lines: &mut Lines, link: u8, fsn: u16) -> bool
     requires link { link < length lines.old }
     requires fsn { fsn < 128 }
     ensures { length lines.new ≡ length lines.old }

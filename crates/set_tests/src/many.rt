@@ -30,14 +30,14 @@ fn sends_number(set: &mut SetCore, number: u64) -> bool {
 }
 
 /// Link 0 hears of so many messages more, the last of this number.
-fn are_acknowledged(set: &mut SetCore, messages: u8, last: u64) -> bool {
+fn are_acknowledged(set: &mut SetCore, messages: u16, last: u64) -> bool {
     let head = head_of(last, 127);
     heard(set, 0, Unit::Fisu { head }) == Some(report_of(messages, Took::Nothing))
 }
 
 /// The message is offered, sent and acknowledged.
 fn goes(alloc: Global, set: &mut SetCore, number: u64) -> bool {
-    let fsn = (number % 128) as u8;
+    let fsn = (number % 128) as u16;
     is_accepted(alloc, set, &message_of(STREAM), number)
         && sends_number(set, number)
         && is_unacked(set, 0, 0, Some(Numbered { number, fsn }))

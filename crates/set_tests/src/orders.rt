@@ -1,5 +1,6 @@
 //! Orders worked out by hand from Q.704 15.2 to 15.6: in each label the bits of DPC, OPC and SLC are
 //! written as one number, the SLC first, and cut into octets from its end.
+ghost use Rattle.l2_units.specs.declared.profile.Profile.TheVariants.{Narrow};
 ghost use Rattle.l3_orders.specs.Grammar.{IsEnvelope, IsOrder};
 
 use super::bench::holds;
@@ -8,7 +9,7 @@ use std::test::Fail;
 
 /// The order is written so.
 fn is_written(order: Order, sio: u8, dpc: u16, opc: u16, text: &[u8]) -> bool
-    requires order { IsOrder order }
+    requires order { IsOrder Narrow order }
     requires envelope { IsEnvelope sio dpc opc }
 {
     write_order(&order, sio, dpc, opc).as_slice() == text

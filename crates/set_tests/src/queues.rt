@@ -5,6 +5,7 @@ ghost use Rattle.std.specs.Prelude.{◌≡◌, true};
 ghost use Rattle.set_queues.specs.Buffers.{IsKnown, IsQueued};
 
 use super::bench::holds;
+use l2_units::Profile;
 use set_events::{Counts, DiscardCause, Fate};
 use set_queues::*;
 use std::alloc::AllocError;
@@ -55,7 +56,7 @@ fn put(queues: &mut Queues, fate: Fate) -> Result<u64, AllocError> {
 }
 
 /// The first message that waits for the link is sent.
-fn send(queues: &mut Queues, link: u8) -> Option<(u64, u8)> {
+fn send(queues: &mut Queues, link: u8) -> Option<(u64, u16)> {
     if usize::from(link) >= queues.links() {
         return None;
     }
@@ -63,8 +64,11 @@ fn send(queues: &mut Queues, link: u8) -> Option<(u64, u8)> {
 }
 
 /// The messages of the link up to this FSN are acknowledged.
-fn acknowledge(queues: &mut Queues, link: u8, fsn: u8) -> Option<u8> {
-    if usize::from(link) >= queues.links() || fsn > 127 {
+fn acknowledge(queues: &mut Queues, link: u8, fsn: u16) -> Option<u16> {
+    if usize::from(link) >= queues.links() {
+        return None;
+    }
+    if fsn >= queues.window(link).profile().fsn_count() {
         return None;
     }
     queues.acknowledge(link, fsn).ok()
@@ -113,7 +117,7 @@ fn counts_of(queues: &Queues) -> Counts {
 
 /// So many messages that wait for link 0, of two links.
 fn waiting(rt: &HostRuntime, messages: u64) -> Result<Queues, AllocError> {
-    let mut queues = Queues::new(rt.alloc(), 2)?;
+    let mut queues = Queues::new(rt.alloc(), Profile::Narrow, 2)?;
     for _ in 0..messages {
         put(&mut queues, TO_LINK_0)?;
     }
@@ -131,7 +135,7 @@ fn has_at(queues: &Queues, fate: Fate, messages: usize) -> bool {
 }
 
 /// The message of this number is sent next on the link, with this FSN.
-fn sends(queues: &mut Queues, link: u8, number: u64, fsn: u8) -> bool {
+fn sends(queues: &mut Queues, link: u8, number: u64, fsn: u16) -> bool {
     send(queues, link) == Some((number, fsn))
 }
 
@@ -274,7 +278,7 @@ fn start_anew(queues: &mut Queues, link: u8) -> bool {
 
 #[test]
 fn an_order_is_nobodys_message(rt: HostRuntime) -> Result<(), Fail> {
-    holds(is_nobodys(&mut Queues::new(rt.alloc(), 16)?))
+    holds(is_nobodys(&mut Queues::new(rt.alloc(), Profile::Narrow, 16)?))
 }
 
 fn is_nobodys(queues: &mut Queues) -> bool {
@@ -315,7 +319,7 @@ fn are_found(queues: &mut Queues) -> bool {
 
 fn two_thousand_are_acknowledged(queues: &mut Queues) -> bool {
     for number in 0..2_000u64 {
-        let fsn = (number % 128) as u8;
+        let fsn = (number % 128) as u16;
         if !sends(queues, 0, number, fsn) || acknowledge(queues, 0, fsn) != Some(1) {
             return false;
         }
@@ -340,7 +344,7 @@ fn all_are_found(queues: &Queues) -> bool {
 /// Messages 0, 1 and 3 wait for codes of home 1, message 2 for one of home 2: those of home 1 turn back in their order.
 #[test]
 fn the_oldest_turns_back_first(rt: HostRuntime) -> Result<(), Fail> {
-    holds(turn_all_back(&mut Queues::new(rt.alloc(), 2)?))
+    holds(turn_all_back(&mut Queues::new(rt.alloc(), Profile::Narrow, 2)?))
 }
 
 fn turn_all_back(queues: &mut Queues) -> bool {

@@ -5,7 +5,7 @@ use Rattle.std.proofs.lemmas.Bool.Decides.{nat_tests}
 use Rattle.set_queues.specs.Buffers.{Lists}
 use Rattle.set_queues.specs.Messages.{one_if, is_of, is_users, unsent_of, count_of, counts_of}
 use Rattle.set_model.specs.Rows.{Fate, Row, row_of, unsent, is_unsent, IsNumbered, standing, users, counts_of as counts_in}
-use Rattle.set_model.proofs.Rows.{with_number, row_is_first}
+use Rattle.set_model.proofs.Rows.{with_number, row_is_first, at_most_one}
 use Rattle.set_moves.specs.Agreement.{Message, Label, Stands, kind_of, label_in, label_of}
 use Rattle.std.proofs.lemmas.List.Elements.{filter_agree}
 
@@ -21,17 +21,17 @@ none_past : (r : Row → Bool) (n : ℕ) (rows : List Row) → ((m : ℕ) → n 
 none_past r n [] none = refl
 none_past r n (x ∷ rows) none = grind (arith, nat_tests, none x.number, none_past r n rows (λ m past. grind (arith, nat_tests, none m past)))
 
-alone : (r : Row → Bool) (rows : List Row) (b : Bool) → length rows ≡ 1 → Some b ≡ option_map r (slice_get rows 0) → length (filter r rows) ≡ one_if b
+alone : (r : Row → Bool) (rows : List Row) (b : Bool) → length rows ≤ 1 → Some b ≡ option_map r (slice_get rows 0) → length (filter r rows) ≡ one_if b
 alone r [] b one is = absurd (cc)
 alone r (x ∷ []) b one is = grind arith
 alone r (x ∷ y ∷ rows) b one is = absurd (omega (arith, one))
 
 -- THE SAME COUNT: what a message is picked by, its row is.
-as_many : (p : Message → Bool) (r : Row → Bool) (ms : List Message) (k : ℕ) (rows : List Row) → IsNumbered rows → k + length ms ≡ length rows → ((i n : ℕ) → n ≡ k + i → option_map p (slice_get ms i) ≡ option_map r (row_of n rows)) → length (filter p ms) ≡ from r k rows
-as_many p r [] k rows numbered count same = sym (none_past r k rows (λ m past. grind (arith, nat_tests, numbered m)))
-as_many p r (m ∷ ms) k rows numbered count same =
-    let here = alone r (with_number k rows) (p m) (grind (arith, nat_tests, numbered k)) (same 0 k (omega arith) ∙ ap (option_map r) (row_is_first k rows)) in
-    let rest = as_many p r ms (suc k) rows numbered (omega (arith, count)) (λ i n e. same (suc i) n (omega (arith, e))) in
+as_many : (p : Message → Bool) (r : Row → Bool) (ms : List Message) (k given : ℕ) (rows : List Row) → IsNumbered given rows → k + length ms ≡ given → ((i n : ℕ) → n ≡ k + i → option_map p (slice_get ms i) ≡ option_map r (row_of n rows)) → length (filter p ms) ≡ from r k rows
+as_many p r [] k given rows numbered count same = sym (none_past r k rows (λ m past. let none = numbered m in grind (arith, nat_tests, none)))
+as_many p r (m ∷ ms) k given rows numbered count same =
+    let here = alone r (with_number k rows) (p m) (at_most_one given k rows numbered) (same 0 k (omega arith) ∙ ap (option_map r) (row_is_first k rows)) in
+    let rest = as_many p r ms (suc k) given rows numbered (omega (arith, count)) (λ i n e. same (suc i) n (omega (arith, e))) in
     grind (arith, one_less r k rows)
 
 -- by label and fate, as a message has them and its row
@@ -41,7 +41,7 @@ module _ (f : Label → Fate → Bool) where
 
   pub counted : (q : Lists) (ms : List Message) (rows : List Row) → Stands q ms rows → length (filter (λ (m : Message). f (label_in m) m.fate) ms) ≡ length (filter (λ (r : Row). f (label_of r.body) r.fate) rows)
   counted q ms rows s =
-      as_many (λ (m : Message). f (label_in m) m.fate) (λ (r : Row). f (label_of r.body) r.fate) ms 0 rows s.numbered (omega (arith, s.count)) (λ i n e. rw (e, zero-add) (by_label (slice_get ms i) (row_of i rows) (s.fates i) (s.labels i)))
+      as_many (λ (m : Message). f (label_in m) m.fate) (λ (r : Row). f (label_of r.body) r.fate) ms 0 (length ms) rows s.numbered (omega arith) (λ i n e. rw (e, zero-add) (by_label (slice_get ms i) (row_of i rows) (s.fates i) (s.labels i)))
       ∙ ap length (filter_agree _ _ (λ row. grind (arith, nat_tests)) rows)
 
 -- THE UNSENT MESSAGES of a stream

@@ -2,11 +2,12 @@
 use Rattle.std.specs.Prelude.{ℕ, ◌<◌, length, ◌≡◌, ◌+◌, ◌==◌, ◌≤◌, if◌then◌else◌, Option, Some, None, map, slice_get, slice_set}
 use Rattle.l2_window.specs.declared.control.Choice.{Choice}
 use Rattle.l2_window.specs.declared.control.Choice.TheVariants.{Again, First, Fill}
-use Rattle.set_queues.specs.Buffers.{Lists, queue_at, KeepsRoom}
+use Rattle.set_queues.specs.Buffers.{Lists, profile_at, queue_at, KeepsRoom}
 use Rattle.set_model.specs.Control.{control_after}
 use Rattle.set_model.specs.Rows.{Waiting, Unacked, octets_in, unack, Acked, Back, is_unacked, service_indicator, turned}
 use Rattle.set_model.specs.State.{LinkState, State, window_of, with_link}
 use Rattle.l2_window.specs.Window.{most_unacked}
+use Rattle.l2_units.specs.declared.profile.Profile.{Profile}
 use Rattle.std.specs.VecDeque.{deque_len, deque_capacity}
 use Rattle.set_model.specs.Changeover.{Order}
 use Rattle.set_moves.specs.Room.{IsSpaciousFor}
@@ -30,7 +31,7 @@ goes_on number choice link s = with_link number (record link {
 abbrev pub IsThere : Choice → ℕ → Lists → Type 0
 IsThere (Again place) number q = place < length (queue_at (Unacked number) q)
 IsThere First number q =
-    (0 < length (queue_at (Waiting number) q)) × (length (queue_at (Unacked number) q) < most_unacked)
+    (0 < length (queue_at (Waiting number) q)) × (length (queue_at (Unacked number) q) < most_unacked (profile_at number q))
 IsThere Fill number q = Unit {0}
 
 -- what a body of the management is
@@ -39,15 +40,15 @@ management_brought (Some order) = OrderBrought order
 management_brought None = Unread
 
 -- what a unit brings
-abbrev pub brought_by : SignalUnit → Brought
-brought_by (Msu head body) =
-    if service_indicator body.items == 0 then management_brought (order_of body.items) else Message body.items
-brought_by _ = Nothing
+abbrev pub brought_by : Profile → SignalUnit → Brought
+brought_by profile (Msu head body) =
+    if service_indicator body.items == 0 then management_brought (order_of profile body.items) else Message body.items
+brought_by profile _ = Nothing
 
 -- there is space for it: a place in the inbox, or room for what it moves
 abbrev pub HasSpaceFor : Brought → Parts → Type 0
 HasSpaceFor (Message body) parts = deque_len parts.inbox < deque_capacity parts.inbox
-HasSpaceFor (OrderBrought order) parts = (IsOrder order) × (IsSpaciousFor order parts)
+HasSpaceFor (OrderBrought order) parts = (IsOrder parts.config.profile order) × (IsSpaciousFor order parts)
 HasSpaceFor _ parts = Unit {0}
 
 -- so many stand unacknowledged on the link up to this FSN
@@ -59,7 +60,8 @@ pub record ReachesTo (fsn count number : ℕ) (q : Lists) : Type 0 where
 abbrev pub Acknowledges : ℕ → ℕ → QueuesState → QueuesState → Type 0
 Acknowledges count number old new =
     (k : Kept) (s : State) (link counted : LinkState) → slice_get s.links number ≡ Some link
-    → counted.acked ≡ link.acked + count → StandsFor (record k { lists = old.lists; messages = old.messages }) s
+    → counted.acked ≡ link.acked + count → counted.profile ≡ link.profile
+    → StandsFor (record k { lists = old.lists; messages = old.messages }) s
     → StandsFor (record k { lists = new.lists; messages = new.messages; links = slice_set s.links number counted })
     (with_link number counted (record s { rows = turned (is_unacked number) (Acked number) count s.rows }))
 
@@ -76,3 +78,4 @@ pub record KeepsSpace (old new : Parts) : Type 0 where
   pub bodies : new.bodies ≡ old.bodies
   pub phases : map (λ link. link.phase) new.links.items ≡ map (λ link. link.phase) old.links.items
   pub inbox : new.inbox ≡ old.inbox
+  pub config : new.config ≡ old.config

@@ -1,17 +1,21 @@
 //! What a heard unit does to a set.
 ghost use Rattle.std.specs.Prelude.{◌≡◌, ◌<◌, ◌^◌, false, length, None, IsOk, IfOk, IfSome, OnErr, OnOk};
-ghost use Rattle.l2_units.specs.Grammar.{head_of as header_of};
+ghost use Rattle.l2_units.specs.Grammar.{IsHeadOf, head_of as header_of};
+ghost use Rattle.l2_units.specs.Profile.{fsn_count};
+ghost use Rattle.l3_orders.specs.Grammar.{IsOrder, order_of};
+ghost use Rattle.set_queues.specs.Buffers.{profile_at};
 ghost use Rattle.set_model.specs.Control.{part_of};
 ghost use Rattle.set_model.specs.State.{State, window_of};
-ghost use Rattle.set_model.specs.Step.{SignalUnit, in_service, heard, is_msu, brought as accepted_body, takes, after_control};
+ghost use Rattle.set_model.specs.Step.{SignalUnit, has_numbers, in_service, heard, is_heard, is_msu, brought as accepted_body, takes, after_control};
 ghost use Rattle.set_moves.specs.Agreement.{Agrees, Holds};
 ghost use Rattle.set_traffic.specs.Traffic.{Acknowledges, HasSpaceFor, KeepsQueues, KeepsSpace, ReachesTo, brought_by};
 ghost use Rattle.set_moves.specs.Parts.{Answers, AreCounted, IsWhole, OfStates, BecomesAt, Obeys, kept_of};
 ghost use Rattle.set_moves.specs.Room.{IsSpaciousFor, SameButRoom};
 
-use l2_units::{Header, Unit, header_in};
+use super::offering::longest_of;
+use l2_units::{Header, Profile, Unit, header_in};
 use l2_window::HeardPart;
-use l3_orders::{Order, read_order};
+use l3_orders::{Order, read_order, read_order_wide};
 use set_events::{Answer, Fate, Refusal, Report, Took};
 use set_model::service_indicator;
 use set_moves::{HeardBody, Parts, make_room, make_room_beside, obey, target_of, unserved};
@@ -20,7 +24,8 @@ use set_route::home_of_code;
 use std::alloc::AllocError;
 
 /// A unit was heard: a FISU or MSU acknowledges, may bring a body, and may ask for retransmission.
-/// An LSSU is refused, since the error control has nothing to do with it.
+/// An LSSU is refused, since the error control has nothing to do with it, and so is a unit whose numbers or whose
+/// body the set's profile doesn't have.
 ///
 /// All memory that the body may want is taken first, so a fault leaves everything as it was.
 #[tactic(auto, using(set_moves::proofs::Links::whole_of, crate::proofs::Traffic::space_still))]
@@ -41,7 +46,7 @@ pub fn hear(
         *answer = why.into();
         return Ok(());
     }
-    if let Unit::Lssu { .. } = unit {
+    if !is_heard(parts.config.profile(), unit) {
         *answer = Refusal::Nothing.into();
         return Ok(());
     }
@@ -76,7 +81,7 @@ pub(crate) enum Brought {
 /// for what it moves. Nothing else changes, also where memory is refused.
 fn make_space(parts: &mut Parts, unit: &Unit) -> Result<Brought, AllocError>
     requires whole { IsWhole parts.old }
-    ensures brought { IfOk result (λ brought. brought ≡ brought_by unit.now) }
+    ensures brought { IfOk result (λ brought. brought ≡ brought_by parts.old.config.profile unit.now) }
     ensures space { IfOk result (λ brought. HasSpaceFor brought parts.new) }
     ensures same { kept_of parts.new ≡ kept_of parts.old }
     ensures links { parts.new.links ≡ parts.old.links }
@@ -90,11 +95,42 @@ fn make_space(parts: &mut Parts, unit: &Unit) -> Result<Brought, AllocError>
         let message = HeardBody::new(*parts.links.allocator(), body)?;
         return Ok(Brought::Message(message));
     }
-    let Ok(order) = read_order(body.as_slice()) else {
+    let Some(order) = order_in(parts.config.profile(), body.as_slice()) else {
         return Ok(Brought::Unread);
     };
     make_room_for(parts, order)?;
     Ok(Brought::Order(order))
+}
+
+/// Whether the error control hears the unit: a FISU or MSU of the set's profile.
+fn is_heard(profile: Profile, unit: &Unit) -> bool
+    ensures { result ≡ is_heard profile unit.now }
+{
+    match unit {
+        Unit::Lssu { .. } => false,
+        Unit::Fisu { head } => has_numbers(profile, *head),
+        Unit::Msu { head, body } => {
+            has_numbers(profile, *head) && body.len() <= longest_of(profile)
+        }
+    }
+}
+
+/// Whether the profile has these numbers.
+fn has_numbers(profile: Profile, head: Header) -> bool
+    ensures { result ≡ has_numbers profile head }
+{
+    head.bsn < profile.fsn_count() && head.fsn < profile.fsn_count()
+}
+
+/// The order that a body of the management is, if any, as the set's profile has it.
+fn order_in(profile: Profile, body: &[u8]) -> Option<Order>
+    ensures exact { result ≡ order_of profile body.now }
+    ensures fits { IfSome result (λ order. IsOrder profile order) }
+{
+    match profile {
+        Profile::Narrow => read_order(body).ok(),
+        Profile::Wide => read_order_wide(body).ok(),
+    }
 }
 
 /// Takes room for what an order moves, and for the one that answers it. Nothing else changes, also where memory is
@@ -138,6 +174,7 @@ fn control_hears(parts: &mut Parts, number: u8, unit: &Unit) -> HeardPart
     requires counted { AreCounted (2 ^ 60) parts.old.links.items }
     requires known { number < length parts.old.links.items }
     requires queue { number < length parts.old.queues.lists.links }
+    requires fits { IsHeadOf (profile_at number parts.old.queues.lists) (header_of unit.now) }
     ensures part { OfStates number parts.old
         (λ link s. result ≡ part_of link.control (window_of number link s.rows)
         (header_of unit.now) (is_msu unit.now)) }
@@ -158,9 +195,9 @@ fn control_hears(parts: &mut Parts, number: u8, unit: &Unit) -> HeardPart
 
 /// So many messages of the link are acknowledged, if any are: those up to this BSN.
 #[tactic(auto, using(set_moves::proofs::Links::on_less, set_moves::proofs::Links::acked_less))]
-fn acknowledge(queues: &mut Queues, number: u8, bsn: u8, acked: u8)
+fn acknowledge(queues: &mut Queues, number: u8, bsn: u16, acked: u16)
     requires known { number < length queues.old.lists.links }
-    requires bsn { bsn < 128 }
+    requires bsn { bsn < fsn_count (profile_at number queues.old.lists) }
     requires reach { 0 < acked → ReachesTo bsn acked number queues.old.lists }
     ensures stands { Acknowledges acked number queues.old queues.new }
     ensures keeps { KeepsQueues queues.old queues.new }
@@ -184,7 +221,7 @@ fn take_in(parts: &mut Parts, accept: bool, brought: Brought) -> Took
     requires holds { Holds (kept_of parts.old) }
     requires counted { AreCounted (2 ^ 61) parts.old.links.items }
     requires space { HasSpaceFor brought parts.old }
-    ensures { (unit : SignalUnit) (s : State) → brought ≡ brought_by unit → Agrees
+    ensures { (unit : SignalUnit) (s : State) → brought ≡ brought_by s.settings.profile unit → Agrees
         (kept_of parts.old) s → Obeys (takes (accepted_body accept unit) s) result parts.new }
 {
     if !accept {

@@ -1,5 +1,6 @@
 //! A message that a user offers.
 ghost use Rattle.std.specs.Prelude.{◌≡◌, OnOk, OnErr};
+ghost use Rattle.l2_units.specs.Profile.{longest_body};
 ghost use Rattle.set_queues.specs.Messages.{unsent_of};
 ghost use Rattle.set_model.specs.Rows.{stream_of};
 ghost use Rattle.set_model.specs.Sound.{IsAsked};
@@ -7,7 +8,7 @@ ghost use Rattle.set_model.specs.Step.{refusal_by, offer_refusal, offered};
 ghost use Rattle.set_moves.specs.Agreement.{Holds};
 ghost use Rattle.set_moves.specs.Parts.{Answers, kept_of};
 
-use l2_units::LONGEST_BODY;
+use l2_units::{LONGEST_BODY, Profile};
 use set_events::{Answer, Body, Event, Refusal};
 use set_model::{service_indicator, stream_of_body};
 use set_moves::{Parts, fate_of_new, make_room, stand_last};
@@ -25,10 +26,10 @@ const STREAM_LIMIT: u64 = 1024;
 pub fn offer(parts: &mut Parts, body: &Body, answer: &mut Answer) -> Result<(), AllocError>
     requires holds { Holds (kept_of parts.old) }
     ensures ok { OnOk result (Answers parts.old parts.new answer.new (λ s. offered
-        (offer_refusal s.rows body.now) s body.now)) }
+        (offer_refusal s.settings.profile s.rows body.now) s body.now)) }
     ensures err { OnErr result (kept_of parts.new ≡ kept_of parts.old) }
 {
-    if let Some(why) = refusal_of(&parts.queues, body) {
+    if let Some(why) = refusal_of(parts.config.profile(), &parts.queues, body) {
         *answer = why.into();
         return Ok(());
     }
@@ -42,15 +43,25 @@ pub fn offer(parts: &mut Parts, body: &Body, answer: &mut Answer) -> Result<(), 
     Ok(())
 }
 
+/// How many octets a body can have: 273, or 272 in the wide profile.
+pub(crate) fn longest_of(profile: Profile) -> usize
+    ensures { result ≡ longest_body profile }
+{
+    match profile {
+        Profile::Narrow => LONGEST_BODY,
+        Profile::Wide => LONGEST_BODY - 1,
+    }
+}
+
 /// Why an offer is refused, if it is: the first reason in the order of the refusals.
-fn refusal_of(queues: &Queues, body: &Body) -> Option<Refusal>
-    ensures { result ≡ refusal_by (unsent_of (stream_of body.now) queues.now.messages) body.now }
+fn refusal_of(profile: Profile, queues: &Queues, body: &Body) -> Option<Refusal>
+    ensures { result ≡ refusal_by profile (unsent_of (stream_of body.now) queues.now.messages) body.now }
 {
     let octets = body.octets();
     if octets.len() < SHORTEST_OFFER {
         return Some(Refusal::TooShort);
     }
-    if octets.len() > LONGEST_BODY {
+    if octets.len() > longest_of(profile) {
         return Some(Refusal::TooLong);
     }
     if service_indicator(octets) == 0 {

@@ -53,7 +53,8 @@ fn go_on(parts: &mut Parts, number: u8) -> (Choice, Header)
     ensures queue { number < length parts.new.queues.lists.links }
     ensures there { IsThere result.0 number parts.new.queues.lists }
     ensures head { OfStates number parts.old (λ link s.
-        result.1 ≡ head_of link.control (fsn_of result.0 (window_of number link s.rows))) }
+        result.1 ≡ head_of link.control (window_of number link s.rows)
+        (fsn_of result.0 (window_of number link s.rows))) }
     ensures stands { BecomesAt number parts.old parts.new (goes_on number result.0) }
     ensures same { parts.new ≡ record parts.old { links = parts.new.links } }
 {

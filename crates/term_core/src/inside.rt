@@ -1,6 +1,6 @@
 //! What a terminal holds, its readers, and the commands that wait in it.
 
-ghost use Rattle.std.specs.Prelude.{◌≡◌, ◌||◌, false};
+ghost use Rattle.std.specs.Prelude.{◌≡◌, ◌<◌, ◌^◌, ◌||◌, false};
 ghost use Rattle.term_model.specs.Terminal.{opened, told, no_commands};
 
 use crate::bits_left::BitsLeft;
@@ -12,6 +12,14 @@ use l2_state::{LinkState, State};
 use l2_units::Header;
 use std::marker::Model;
 use term_model::{Clocks, Command, Commands, Timers};
+
+/// A header whose numbers have seven bits, as a terminal's line has them (Q.703 2.2).
+#[derive(Clone, Copy)]
+pub(crate) struct NarrowHead {
+    pub(crate) head: Header,
+    pub(crate) ghost bsn_in_range: { head.bsn < 2 ^ 7 },
+    pub(crate) ghost fsn_in_range: { head.fsn < 2 ^ 7 },
+}
 
 /// The inside of a terminal: some 450 octets, made once.
 #[derive(Drop)]
@@ -32,7 +40,7 @@ pub struct Inside {
     pub(crate) commands: Commands,
     pub(crate) bits: BitsLeft,
     /// The header of the last unit appended, of any kind, in any life of the link.
-    pub(crate) last: Option<Header>,
+    pub(crate) last: Option<NarrowHead>,
     /// SIB is to be sent (Q.703 9.3).
     pub(crate) b_due: bool,
     /// The set has answered Done to an Up, and the link didn't fail since.
@@ -50,6 +58,8 @@ impl Model for Inside {
 
     ghost Value = { Terminal };
 
+    ghost use Rattle.std.specs.Option.{option_map};
+
     ghost view = { λ i. record {
       link = i.link;
       lengths = i.lengths;
@@ -62,7 +72,7 @@ impl Model for Inside {
       status = i.status;
       commands = i.commands;
       bits = i.bits;
-      last = i.last;
+      last = option_map (λ narrow. narrow.head) i.last;
       b_due = i.b_due;
       up = i.up;
       blind = i.blind;

@@ -2,12 +2,13 @@
 
 ghost use Rattle.std.specs.Prelude.{◌≡◌, ◌<◌, false, length, nat_lt, take, drop, Some};
 ghost use Rattle.l2_bits.specs.LineBits.{number_of};
-ghost use Rattle.l2_units.specs.Grammar.{head_of};
+ghost use Rattle.l2_units.specs.Grammar.{IsHeadOf, head_of};
+ghost use Rattle.l2_units.specs.declared.profile.Profile.TheVariants.{Narrow};
 ghost use Rattle.term_model.specs.Terminal.{last_head as head_before, start_head};
 ghost use Rattle.term_model.specs.Choosing.{held_back, raised_top, with_head, withheld};
 ghost use Rattle.term_model.specs.OctetOut.{Appends};
 
-use crate::inside::Inside;
+use crate::inside::{Inside, NarrowHead};
 use l2_units::{Header, Unit, copy_of_unit, header_in, write};
 
 impl Inside {
@@ -20,22 +21,24 @@ impl Inside {
 
     /// A message with this FSN was chosen to be sent: a new one follows the last new one, any other is retransmitted
     /// (Q.703 5.2).
-    pub fn raise_top(&mut self, fsn: u8)
+    pub fn raise_top(&mut self, fsn: u16)
         ensures { self.new ≡ record self.old { top = raised_top fsn self.old.top } }
     {
-        if fsn == self.top.wrapping_add(1) % 128 {
-            self.top = fsn;
+        let next = self.top.wrapping_add(1) % 128;
+        if fsn == u16::from(next) {
+            self.top = next;
         }
     }
 
     /// The header that says nothing new: that of the last unit appended, or that of a link which has neither sent nor
     /// accepted a message (own).
     pub fn last_head(&self) -> Header
-        ensures { result ≡ head_before self.now }
+        ensures value { result ≡ head_before self.now }
+        ensures narrow { IsHeadOf Narrow result }
     {
         match self.last {
             None => first_header(),
-            Some(head) => head,
+            Some(narrow) => narrow.head,
         }
     }
 
@@ -48,20 +51,24 @@ impl Inside {
     }
 
     /// Appends a unit to the bits that are left: its octets and their check octets, with zeros inserted, and a flag
-    /// (Q.703 2.2, 3, 4.2). Fewer than eight bits may be left.
+    /// (Q.703 2.2, 3, 4.2). Fewer than eight bits may be left, and its numbers have seven bits.
     pub fn append(&mut self, unit: &Unit)
-        requires { length self.old.bits < 8 }
+        requires short { length self.old.bits < 8 }
+        requires narrow { IsHeadOf Narrow (head_of unit.now) }
         ensures on_line { Appends (Some unit.now) self.old.bits self.new.bits }
         ensures next { self.new ≡ record self.old { bits = self.new.bits; last = Some (head_of unit.now) } }
     {
         self.bits.append(write(unit).as_slice());
-        self.last = Some(header_in(unit));
+        self.last = Some(NarrowHead {
+            head: header_in(unit),
+        });
     }
 
     /// Appends a unit that the set gives, as it's sent: while this end is busy it acknowledges nothing new (Q.703 9.3).
-    /// Fewer than eight bits may be left.
+    /// Fewer than eight bits may be left, and its numbers have seven bits.
     pub fn append_given(&mut self, unit: &Unit)
-        requires { length self.old.bits < 8 }
+        requires short { length self.old.bits < 8 }
+        requires narrow { IsHeadOf Narrow (head_of unit.now) }
         ensures on_line { Appends (Some (held_back self.old unit.now)) self.old.bits self.new.bits }
         ensures next { self.new ≡ record self.old {
           bits = self.new.bits;
@@ -94,7 +101,8 @@ impl Inside {
 
 /// BSN 127, BIB 1, FSN 127, FIB 1: no message was sent or accepted yet (Q.703 12.1).
 pub fn first_header() -> Header
-    ensures { result ≡ start_head }
+    ensures value { result ≡ start_head }
+    ensures narrow { IsHeadOf Narrow result }
 {
     Header {
         bsn: 127,
@@ -106,7 +114,9 @@ pub fn first_header() -> Header
 
 /// A unit with the acknowledgement of another header.
 fn with_acknowledgement(last: Header, unit: &Unit) -> Unit
-    ensures { result ≡ with_head (withheld last (head_of unit.now)) unit.now }
+    ensures value { result ≡ with_head (withheld last (head_of unit.now)) unit.now }
+    ensures narrow { IsHeadOf Narrow last → IsHeadOf Narrow (head_of unit.now)
+        → IsHeadOf Narrow (head_of result) }
 {
     match copy_of_unit(unit) {
         Unit::Fisu { head } => Unit::Fisu {

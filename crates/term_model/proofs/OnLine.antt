@@ -10,11 +10,12 @@ use Rattle.l2_bits.specs.LineBits.{bits_of, number_of, line_bits}
 use Rattle.l2_bits.proofs.BitLemmas.{bits_of-number_of}
 use Rattle.l2_bits.proofs.OctetLemmas.{line_bits-append}
 use Rattle.l2_units.specs.declared.unit.Unit.{Unit as SignalUnit}
+use Rattle.l2_units.specs.Grammar.{head_of}
 use Rattle.l2_state.specs.declared.link_state.State.{State}
 use Rattle.set_events.specs.declared.answer.Answer.{Answer}
 use Rattle.set_events.specs.declared.answer.Refusal.{Refusal}
 use Rattle.set_events.specs.declared.event.Event.{Event}
-use Rattle.term_model.specs.Choosing.{Filled, sends, sends_status, sends_fisu, sends_start_fisu, counts_sent, held_back, sent_by, serves, up_first, chosen, filled}
+use Rattle.term_model.specs.Choosing.{Filled, is_narrow, sends, sends_status, sends_fisu, sends_start_fisu, counts_sent, held_back, sent_by, serves, up_first, chosen, filled}
 use Rattle.term_model.specs.Hearing.{all_marked}
 use Rattle.term_model.specs.LineLaws.{AreOnLine, CarriesUnits}
 use Rattle.term_model.specs.Obeying.{commanded}
@@ -32,7 +33,7 @@ use Rattle.term_model.proofs.TurnStays.{turn_sound, bits_stay}
 -- ENOUGH IS LEFT, where no unit was chosen.
 
 abbrev pub HasEnough : Filled → Type 0
-HasEnough f = f.unit ≡ None → 8 ≤ length f.after.bits
+HasEnough f = f.narrow ≡ true → f.unit ≡ None → 8 ≤ length f.after.bits
 
 abbrev pub Any : {A : Type 0} → A → Type 0
 Any a = Unit {0}
@@ -43,31 +44,33 @@ keeps_any (ask event more) = (tt, λ answer. keeps_any (more answer))
 
 sent_enough : (answer : Answer) (t : Terminal) → Keeps Any HasEnough (sent_by answer t)
 sent_enough (Answer.Sent unit) t =
-    then_keeps Any Any HasEnough (counts_sent unit t) (λ u. sends (held_back u unit) u) (keeps_any (counts_sent unit t)) (λ u any none. absurd cc)
-sent_enough (Answer.Refused Refusal.NotUp) t = λ none. absurd cc
-sent_enough _ t = λ none. absurd cc
+    if_keeps Any HasEnough (is_narrow (head_of unit)) (and_then (counts_sent unit t) (λ u. sends (held_back u unit) u)) (done (record { unit = None; narrow = false; after = t }))
+    (λ is. then_keeps Any Any HasEnough (counts_sent unit t) (λ u. sends (held_back u unit) u) (keeps_any (counts_sent unit t)) (λ u any narrow none. absurd cc))
+    (λ not narrow none. absurd cc)
+sent_enough (Answer.Refused Refusal.NotUp) t = λ narrow none. absurd cc
+sent_enough _ t = λ narrow none. absurd cc
 
 serves_enough : (paused : Bool) (t : Terminal) → Keeps Any HasEnough (serves paused t)
 serves_enough paused t =
     if_keeps Any HasEnough t.up _ (sends_start_fisu t)
     (λ up. if_keeps Any HasEnough t.b_due (sends_status Status.Busy (record t { b_due = false })) _
-    (λ due none. absurd cc)
+    (λ due narrow none. absurd cc)
     (λ not_due. if_keeps Any HasEnough paused (sends_fisu t) (ask (Event.Next t.link) (λ answer. sent_by answer t))
-    (λ is none. absurd cc)
+    (λ is narrow none. absurd cc)
     (λ not. (tt, λ answer. sent_enough answer t))))
-    (λ down none. absurd cc)
+    (λ down narrow none. absurd cc)
 
 chosen_enough : (state : State) (t : Terminal) → Keeps Any HasEnough (chosen state t)
-chosen_enough State.OutOfService t = λ none. absurd cc
-chosen_enough State.Aligning t = λ none. absurd cc
-chosen_enough State.Ready t = λ none. absurd cc
+chosen_enough State.OutOfService t = λ narrow none. absurd cc
+chosen_enough State.Aligning t = λ narrow none. absurd cc
+chosen_enough State.Ready t = λ narrow none. absurd cc
 chosen_enough (State.InService paused) t =
     then_keeps Any Any HasEnough (up_first t) (λ u. serves paused u) (keeps_any (up_first t)) (λ u any. serves_enough paused u)
 
 filled_enough : (t : Terminal) → Keeps Any HasEnough (filled t)
 filled_enough t =
-    if_keeps Any HasEnough (nat_lt (length t.bits) 8) (chosen t.state t) (done (record { unit = None; after = t }))
-    (λ few. chosen_enough t.state t) (λ enough none. grind (arith, nat_tests))
+    if_keeps Any HasEnough (nat_lt (length t.bits) 8) (chosen t.state t) (done (record { unit = None; narrow = true; after = t }))
+    (λ few. chosen_enough t.state t) (λ enough narrow none. grind (arith, nat_tests))
 
 talk_enough : (marks : List Mark) (t : Terminal) → Keeps Any HasEnough (turn_talk marks t)
 talk_enough marks t =
@@ -114,7 +117,7 @@ one_carries taken before after doing sound did =
     let puts = turn.puts in
     let enough : HasEnough turn.chosen = went_kept Any HasEnough (turn_talk doing.marks before) doing.entries turn.chosen (talk_enough doing.marks before) turn.went in
     let old : turn.chosen.after.bits ≡ before.bits = bits_stay taken before doing.octet doing.entries doing.put doing.marks after sound turn in
-    let more : 8 ≤ length puts.bits = appended_enough turn.chosen.unit turn.chosen.after.bits puts.bits enough puts.appends in
+    let more : 8 ≤ length puts.bits = appended_enough turn.chosen.unit turn.chosen.after.bits puts.bits (enough turn.narrow) puts.appends in
     let line = appended_line turn.chosen.unit turn.chosen.after.bits puts.bits puts.appends in record {
       line = line.0;
       on_line = subst (λ unit. AreOnLine (option_to_list unit) line.0) (sym did.unit_is) line.1;

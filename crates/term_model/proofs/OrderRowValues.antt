@@ -26,5 +26,6 @@ sent_rows = record {
   done_at_last = (_, (refl, refl), (refl, refl, refl));
   withholds = (_, (refl, refl), (refl, refl, refl));
   next_refused = (_, (refl, refl), (refl, refl, refl));
+  not_sent = (_, (refl, refl), (refl, refl, refl));
   enough_left = (_, refl, refl);
 }

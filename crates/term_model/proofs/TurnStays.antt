@@ -1,5 +1,6 @@
 -- What a turn keeps: step by step.
 use Rattle.std.proofs.Common.{refl, sym, subst, arith, ◌≡◌, ◌∙◌, ℕ, ◌+◌, ◌%◌, ◌==◌, ◌<◌, ◌^◌, ◌||◌, Bool, true, false, not, nat_lt, length, List, [], ◌∷◌, Option, Some, None, if◌then◌else◌}
+use Rattle.std.proofs.lemmas.Bool.Decides.{nat_tests}
 use Rattle.l2_signals.specs.declared.cause.Cause.{Cause}
 use Rattle.l2_signals.specs.declared.cause.ControlFault.{ControlFault}
 use Rattle.l2_signals.specs.declared.status.Status.{Status}
@@ -20,7 +21,7 @@ use Rattle.set_events.specs.declared.event.Event.{Event}
 use Rattle.set_events.specs.declared.history.Entry.{Entry}
 use Rattle.term_model.specs.declared.timers.Clocks.{Clocks}
 use Rattle.term_model.specs.declared.timers.Timers.{Timers}
-use Rattle.term_model.specs.Choosing.{Filled, sends, sends_status, sends_fisu, sends_start_fisu, raised_top, counts_sent, held_back, sent_by, serves, up_first, chosen, filled}
+use Rattle.term_model.specs.Choosing.{Filled, is_narrow, sends, sends_status, sends_fisu, sends_start_fisu, raised_top, counts_sent, held_back, sent_by, serves, up_first, chosen, filled}
 use Rattle.term_model.specs.Hearing.{unit_in, is_error, aerm_judges, suerm_judges, service_judges, judges, judged, flow_hears, machines_hear, acks, faults, reported, set_hears, heard, marked, all_marked}
 use Rattle.term_model.specs.Machines.{state_in, align_in, flow_in, asks_up, stops_quietly}
 use Rattle.l2_monitors.specs.Aerm.{after_mark as after_aerm_mark}
@@ -237,23 +238,24 @@ Chooses b talk = Keeps (IsOfLink b.link) (λ f. IsKept b f.after) talk
 sends_kept : (b t : Terminal) (unit : SignalUnit) → IsKept b t → Chooses b (sends unit t)
 sends_kept b t unit kept = same_kept b t (record t { last = Some (head_of unit) }) refl refl refl refl refl refl refl kept
 
-raised_in_range : (raises : Bool) (fsn top : ℕ) → fsn < 2 ^ 7 → top < 2 ^ 7 → (if raises then fsn else top) < 2 ^ 7
-raised_in_range true fsn top in_fsn in_top = in_fsn
-raised_in_range false fsn top in_fsn in_top = in_top
+raised_in_range : (fsn top : ℕ) → top < 2 ^ 7 → raised_top fsn top < 2 ^ 7
+raised_in_range fsn top in_top = grind (arith, nat_tests, in_top)
 
 counts_kept : (b t : Terminal) (unit : SignalUnit) → IsKept b t → Stays b (counts_sent unit t)
 counts_kept b t (SignalUnit.Msu head body) kept =
     let u : Terminal = record t { top = raised_top head.fsn t.top } in
     flow_kept b u FlowIn.Sent (record {
-      timed = same_timed b t u refl refl refl refl (raised_in_range (head.fsn == (t.top + 1) % 128) head.fsn t.top head.fsn_in_range kept.timed.top) kept.timed;
+      timed = same_timed b t u refl refl refl refl (raised_in_range head.fsn t.top kept.timed.top) kept.timed;
       served = kept.served;
     })
 counts_kept b t _ kept = kept
 
 sent_kept : (b t : Terminal) (answer : Answer) → IsKept b t → Chooses b (sent_by answer t)
 sent_kept b t (Answer.Sent unit) kept =
-    then_keeps (IsOfLink b.link) (IsKept b) (λ f. IsKept b f.after) (counts_sent unit t) (λ u. sends (held_back u unit) u)
-    (counts_kept b t unit kept) (λ u kept. sends_kept b u (held_back u unit) kept)
+    if_keeps (IsOfLink b.link) (λ f. IsKept b f.after) (is_narrow (head_of unit)) (and_then (counts_sent unit t) (λ u. sends (held_back u unit) u)) (done (record { unit = None; narrow = false; after = t }))
+    (λ is. then_keeps (IsOfLink b.link) (IsKept b) (λ f. IsKept b f.after) (counts_sent unit t) (λ u. sends (held_back u unit) u)
+    (counts_kept b t unit kept) (λ u kept. sends_kept b u (held_back u unit) kept))
+    (λ not. kept)
 sent_kept b t (Answer.Refused Refusal.NotUp) kept = sends_kept b (stops_quietly t) (SignalUnit.Lssu (last_head (stops_quietly t)) Status.OutOfService) (stops_kept b t kept)
 sent_kept b t _ kept = sends_kept b t (SignalUnit.Fisu (last_head t)) kept
 
@@ -280,7 +282,7 @@ chosen_kept b t (State.InService paused) at kept =
 
 filled_kept : (b t : Terminal) → IsKept b t → Chooses b (filled t)
 filled_kept b t kept =
-    if_keeps (IsOfLink b.link) (λ f. IsKept b f.after) (nat_lt (length t.bits) 8) (chosen t.state t) (done (record { unit = None; after = t }))
+    if_keeps (IsOfLink b.link) (λ f. IsKept b f.after) (nat_lt (length t.bits) 8) (chosen t.state t) (done (record { unit = None; narrow = true; after = t }))
     (λ few. chosen_kept b t t.state refl kept) (λ enough. kept)
 
 -- THE TURN.

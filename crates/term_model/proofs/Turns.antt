@@ -1,5 +1,5 @@
 -- A turn and its steps.
-use Rattle.std.proofs.Common.{refl, sym, ap, subst, ◌≡◌, ◌∙◌, ℕ, Bool, true, false, List, ◌++◌, append_assoc, Option, Some, None}
+use Rattle.std.proofs.Common.{refl, sym, ap, subst, ◌≡◌, ◌∙◌, ◌⊎◌, inl, inr, ℕ, Bool, true, false, List, ◌++◌, append_assoc, Option, Some, None}
 use Rattle.l2_bits.specs.declared.marks.Mark.{Mark}
 use Rattle.l2_bits.specs.Flags.{flag}
 use Rattle.l2_bits.specs.LineBits.{line_bits}
@@ -8,6 +8,7 @@ use Rattle.l2_bits.proofs.StuffingLemmas.{one_text, has_text}
 use Rattle.l2_bits.proofs.MarkLemmas.{marks_alone}
 use Rattle.l2_units.specs.declared.unit.Unit.{Unit as SignalUnit}
 use Rattle.l2_units.specs.Grammar.{text}
+use Rattle.l2_units.specs.declared.profile.Profile.TheVariants.{Narrow}
 use Rattle.set_events.specs.declared.answer.Answer.{Answer}
 use Rattle.set_events.specs.declared.event.Actor.{Actor}
 use Rattle.set_events.specs.declared.event.Event.{Event}
@@ -21,7 +22,8 @@ use Rattle.term_model.specs.Talk.{and_then, Went}
 use Rattle.term_model.specs.Terminal.{Terminal}
 use Rattle.term_model.specs.Timing.{timed}
 use Rattle.term_model.specs.Turn.{turn_talk, IsTurn}
-use Rattle.term_model.specs.TurnLaws.{IsSixSteps, HasTurn}
+use Rattle.term_model.specs.TalkLaws.{GoesBy}
+use Rattle.term_model.specs.TurnLaws.{IsSixSteps, HasTurn, HasWideTurn}
 use Rattle.term_model.proofs.Talks.{joins, splits, one_outcome, always_goes}
 
 four_parts : (a b c d later last all : List Entry) → all ≡ a ++ later → later ≡ b ++ last → last ≡ c ++ d → all ≡ a ++ b ++ c ++ d
@@ -48,6 +50,7 @@ steps_of taken before octet entries put marks after turn =
       step_3 = two.went_first;
       step_4 = three.went_first;
       step_5 = three.went_second;
+      narrow = turn.narrow;
       step_6 = turn.puts;
     }
 
@@ -59,6 +62,7 @@ turn_of taken before octet entries put marks after s =
     let whole = joins (commanded before) (λ t. and_then (all_marked marks t) (λ t. and_then (timed t) (λ t. filled t))) s.first (s.third ++ (s.fourth ++ s.fifth)) s.obeyed s.chosen s.step_1 mid in record {
       gives = s.step_2;
       chosen = s.chosen;
+      narrow = s.narrow;
       went = subst (λ all. Went (turn_talk marks before) all s.chosen) (sym (s.entries_are ∙ append_assoc (s.first ++ s.third) s.fourth s.fifth ∙ append_assoc s.first s.third (s.fourth ++ s.fifth))) whole;
       puts = s.step_6;
     }
@@ -74,7 +78,7 @@ turn_is_steps taken before octet entries put marks after =
 one_append : (unit : Option SignalUnit) (old a b : List Bool) → Appends unit old a → Appends unit old b → a ≡ b
 one_append None old a b at_a at_b = at_a ∙ sym at_b
 one_append (Some unit) old a b at_a at_b =
-    at_a.appended ∙ ap (λ wire. old ++ wire ++ flag) (one_text (line_bits (sealed_text (text unit))) at_a.wire at_b.wire at_a.stuffed at_b.stuffed) ∙ sym at_b.appended
+    at_a.appended ∙ ap (λ wire. old ++ wire ++ flag) (one_text (line_bits (sealed_text (text Narrow unit))) at_a.wire at_b.wire at_a.stuffed at_b.stuffed) ∙ sym at_b.appended
 
 one_room : (room_a room_b : Bool) (bits : List Bool) → put_of room_a bits ≡ put_of room_b bits → left_of room_a bits ≡ left_of room_b bits
 one_room true true bits e = refl
@@ -102,22 +106,33 @@ one_turn taken before octet entries put a b x y at_x at_y =
 has_bits : (unit : Option SignalUnit) (old : List Bool) → (bits : List Bool) × Appends unit old bits
 has_bits None old = (old, refl)
 has_bits (Some unit) old =
-    let content = line_bits (sealed_text (text unit)) in
+    let content = line_bits (sealed_text (text Narrow unit)) in
     (_, record { wire = _; stuffed = has_text content; appended = refl })
 
 pub turn_goes_on : (taken : List Bool) (before : Terminal) (octet : Option ℕ) (marks : List Mark) (door : List Entry → Event → Answer) (who : Actor) (past : List Entry)
-    → GivesMarks taken octet marks → HasTurn taken before octet marks door who past
-turn_goes_on taken before octet marks door who past gives =
-    let goes = always_goes (turn_talk marks before) door who past in
-    let bits = has_bits goes.outcome.unit goes.outcome.after.bits in record {
+    → GivesMarks taken octet marks → HasTurn taken before octet marks door who past ⊎ HasWideTurn taken before octet door who past
+turn_goes_on taken before octet marks door who past gives = go (always_goes (turn_talk marks before) door who past)
+  where
+    by : (goes : GoesBy (turn_talk marks before) door who past) (narrow : Bool) → goes.outcome.narrow ≡ narrow → HasTurn taken before octet marks door who past ⊎ HasWideTurn taken before octet door who past
+    by goes true is =
+        let bits = has_bits goes.outcome.unit goes.outcome.after.bits in inl (record {
+          entries = goes.entries;
+          put = put_of true bits.0;
+          after = record goes.outcome.after { bits = left_of true bits.0 };
+          turn = record {
+            gives = gives;
+            chosen = goes.outcome;
+            went = goes.went;
+            narrow = is;
+            puts = record { bits = bits.0; appends = bits.1; has_room = true; put_is = refl; after_is = refl };
+          };
+          are_answered = goes.are_answered;
+        })
+    by goes false is = inr (record {
       entries = goes.entries;
-      put = put_of true bits.0;
-      after = record goes.outcome.after { bits = left_of true bits.0 };
-      turn = record {
-        gives = gives;
-        chosen = goes.outcome;
-        went = goes.went;
-        puts = record { bits = bits.0; appends = bits.1; has_room = true; put_is = refl; after_is = refl };
-      };
+      turn = record { marks = marks; gives = gives; chosen = goes.outcome; went = goes.went; wide = is };
       are_answered = goes.are_answered;
-    }
+    })
+
+    go : GoesBy (turn_talk marks before) door who past → HasTurn taken before octet marks door who past ⊎ HasWideTurn taken before octet door who past
+    go goes = by goes goes.outcome.narrow refl

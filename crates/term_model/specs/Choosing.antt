@@ -1,6 +1,6 @@
 -- STEP 5 OF A TURN: WHAT IS SENT NEXT. Where fewer than eight bits are left to send, a unit is chosen, by where the
 -- link stands (Q.703 11.2, 12.1).
-use Rattle.std.specs.Prelude.{ℕ, ◌+◌, ◌%◌, ◌==◌, Bool, false, nat_lt, length, Option, Some, None, if◌then◌else◌}
+use Rattle.std.specs.Prelude.{ℕ, ◌+◌, ◌%◌, ◌==◌, ◌&&◌, Bool, true, false, nat_lt, length, Option, Some, None, if◌then◌else◌}
 use Rattle.l2_signals.specs.declared.status.Status.{Status}
 use Rattle.l2_units.specs.declared.unit.Header.{Header}
 use Rattle.l2_units.specs.declared.unit.Unit.{Unit as SignalUnit}
@@ -14,14 +14,16 @@ use Rattle.term_model.specs.Machines.{asks_up, flow_in, stops_quietly}
 use Rattle.term_model.specs.Talk.{Talk, done, ask, and_then}
 use Rattle.term_model.specs.Terminal.{Terminal, start_head, last_head}
 
--- the unit that was chosen, if any, and the terminal then
+-- the unit that was chosen, if any; whether it's one that a terminal can send, since the set may give a unit of the wide
+-- profile, which ends the turn; and the terminal then
 pub record Filled : Type 0 where
   pub unit : Option SignalUnit
+  pub narrow : Bool
   pub after : Terminal
 
 -- the unit's header is the last one then
 abbrev pub sends : SignalUnit → Terminal → Talk Filled
-sends unit t = done (record { unit = Some unit; after = record t { last = Some (head_of unit) } })
+sends unit t = done (record { unit = Some unit; narrow = true; after = record t { last = Some (head_of unit) } })
 
 -- LSSUs, and FISUs that the set isn't asked for, have the header of the last unit before (own)
 abbrev pub sends_status : Status → Terminal → Talk Filled
@@ -57,10 +59,20 @@ with_head head (SignalUnit.Msu old body) = SignalUnit.Msu head body
 abbrev pub held_back : Terminal → SignalUnit → SignalUnit
 held_back t unit = if t.flow.busy then with_head (withheld (last_head t) (head_of unit)) unit else unit
 
+-- a terminal's line has numbers of seven bits (Q.703 2.2)
+abbrev pub is_narrow : Header → Bool
+is_narrow head = nat_lt head.bsn 128 && nat_lt head.fsn 128
+
+abbrev pub given : SignalUnit → Terminal → Talk Filled
+given unit t =
+    if is_narrow (head_of unit)
+    then and_then (counts_sent unit t) (λ t. sends (held_back t unit) t)
+    else done (record { unit = None; narrow = false; after = t })
+
 -- what the set answers to Next: a unit; that the link isn't up there, so that it's stopped here, and SIOS goes out;
 -- or anything else, as if paused (own)
 abbrev pub sent_by : Answer → Terminal → Talk Filled
-sent_by (Answer.Sent unit) t = and_then (counts_sent unit t) (λ t. sends (held_back t unit) t)
+sent_by (Answer.Sent unit) t = given unit t
 sent_by (Answer.Refused Refusal.NotUp) t = sends_status Status.OutOfService (stops_quietly t)
 sent_by _ t = sends_fisu t
 
@@ -87,4 +99,4 @@ chosen State.Ready t = sends_start_fisu t
 chosen (State.InService paused) t = and_then (up_first t) (λ t. serves paused t)
 
 abbrev pub filled : Terminal → Talk Filled
-filled t = if nat_lt (length t.bits) 8 then chosen t.state t else done (record { unit = None; after = t })
+filled t = if nat_lt (length t.bits) 8 then chosen t.state t else done (record { unit = None; narrow = true; after = t })

@@ -8,6 +8,7 @@ use Rattle.l2_signals.specs.Numbers.{cause_of}
 use Rattle.l2_bits.specs.declared.marks.Mark.{Mark}
 use Rattle.l2_units.specs.declared.unit.Unit.{Unit as SignalUnit}
 use Rattle.l2_units.specs.Grammar.{unit_of, head_of}
+use Rattle.l2_units.specs.declared.profile.Profile.TheVariants.{Narrow}
 use Rattle.l2_monitors.specs.Suerm.{Kept}
 use Rattle.l2_align.specs.declared.align.State.{State as AlignState}
 use Rattle.l2_align.specs.declared.signals.AlignIn.{AlignIn}
@@ -26,7 +27,7 @@ use Rattle.term_model.specs.Terminal.{Terminal}
 
 -- the unit that a mark brings; a text that checks and that no unit has brings none, and is an error too (own)
 abbrev pub unit_in : Mark → Option SignalUnit
-unit_in (Mark.Good octets) = unit_of octets.items
+unit_in (Mark.Good octets) = unit_of Narrow octets.items
 unit_in Mark.Bad = None
 unit_in Mark.Sixteen = None
 

@@ -6,6 +6,7 @@ use Rattle.l2_bits.specs.SealedText.{sealed_text}
 use Rattle.l2_bits.specs.Stuffing.{Stuffed}
 use Rattle.l2_units.specs.declared.unit.Unit.{Unit as SignalUnit}
 use Rattle.l2_units.specs.Grammar.{text}
+use Rattle.l2_units.specs.declared.profile.Profile.TheVariants.{Narrow}
 use Rattle.term_model.specs.Runs.{Doing, AreTurns, units_of, octets_out}
 use Rattle.term_model.specs.Terminal.{Terminal}
 use Rattle.term_model.specs.TurnLaws.{IsSound}
@@ -15,7 +16,7 @@ use Rattle.term_model.specs.TurnLaws.{IsSound}
 abbrev pub AreOnLine : List SignalUnit → List Bool → Type 0
 AreOnLine [] line = line ≡ []
 AreOnLine (unit ∷ units) line =
-    (wire : List Bool) × (later : List Bool) × Stuffed (line_bits (sealed_text (text unit))) wire × AreOnLine units later
+    (wire : List Bool) × (later : List Bool) × Stuffed (line_bits (sealed_text (text Narrow unit))) wire × AreOnLine units later
     × (line ≡ wire ++ flag ++ later)
 
 -- what was left to send and then these units are these octets, the lowest bit first, and then what is left

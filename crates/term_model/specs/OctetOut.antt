@@ -3,6 +3,7 @@
 use Rattle.std.specs.Prelude.{◌≡◌, ℕ, Bool, List, [], ◌∷◌, ◌++◌, take, drop, Option, Some, None, if◌then◌else◌}
 use Rattle.l2_units.specs.declared.unit.Unit.{Unit as SignalUnit}
 use Rattle.l2_units.specs.Grammar.{text}
+use Rattle.l2_units.specs.declared.profile.Profile.TheVariants.{Narrow}
 use Rattle.l2_bits.specs.Flags.{flag}
 use Rattle.l2_bits.specs.LineBits.{line_bits, number_of}
 use Rattle.l2_bits.specs.SealedText.{sealed_text}
@@ -14,7 +15,7 @@ use Rattle.term_model.specs.Terminal.{Terminal}
 -- flag, which opens the next one (3.1)
 pub record IsOnLine (unit : SignalUnit) (old new : List Bool) : Type 0 where
   pub wire : List Bool
-  pub stuffed : Stuffed (line_bits (sealed_text (text unit))) wire
+  pub stuffed : Stuffed (line_bits (sealed_text (text Narrow unit))) wire
   pub appended : new ≡ old ++ wire ++ flag
 
 abbrev pub Appends : Option SignalUnit → List Bool → List Bool → Type 0

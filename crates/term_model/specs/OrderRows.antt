@@ -7,7 +7,7 @@ use Rattle.l2_bits.specs.declared.marks.Mark.{Mark}
 use Rattle.l2_bits.specs.Flags.{flag}
 use Rattle.l2_units.specs.declared.unit.Header.{Header}
 use Rattle.l2_units.specs.declared.unit.Unit.{Unit as SignalUnit}
-use Rattle.l2_units.specs.Grammar.{header_in}
+use Rattle.l2_units.specs.Grammar.{header_in, wide_header}
 use Rattle.l2_state.specs.declared.link_state.State.{State}
 use Rattle.set_events.specs.declared.answer.Answer.{Answer}
 use Rattle.set_events.specs.declared.answer.Refusal.{Refusal}
@@ -103,6 +103,10 @@ busy = record serving {
 abbrev pub message : Header → SignalUnit
 message head = SignalUnit.Msu head (record { items = 133 ∷ 1 ∷ 128 ∷ 0 ∷ 48 ∷ [] })
 
+-- BSN 0 and FSN 128, which has eight bits
+abbrev pub wide : Header
+wide = wide_header 0x100000
+
 pub record SentRows : Type 0 where
   -- the set refuses Up again: a FISU as at the start, and the B waits
   pub refused_again : Leads (filled refused) (got (Event.Up 0) (Answer.Refused Refusal.Unsettled) ∷ []) (λ f.
@@ -117,5 +121,8 @@ pub record SentRows : Type 0 where
   pub next_refused : Leads (filled serving) (got (Event.Next 0) (Answer.Refused Refusal.NotUp) ∷ []) (λ f.
       (f.unit ≡ Some (SignalUnit.Lssu start_head Status.OutOfService)) × (f.after.state ≡ State.OutOfService)
       × (f.after.cause ≡ Some Cause.Stop))
+  -- a message with a number of more than seven bits: none is chosen, and nothing of the terminal changes
+  pub not_sent : Leads (filled serving) (got (Event.Next 0) (Answer.Sent (message wide)) ∷ []) (λ f.
+      (f.unit ≡ None) × (f.narrow ≡ false) × (f.after ≡ serving))
   -- eight bits are left to send: no unit is chosen, and the set isn't asked
   pub enough_left : Leads (filled (record serving { bits = flag })) [] (λ f. f.unit ≡ None)

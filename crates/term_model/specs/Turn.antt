@@ -1,5 +1,5 @@
 -- ONE TURN OF A TERMINAL: commands, one octet in, marks, timers, what is sent next, one octet out.
-use Rattle.std.specs.Prelude.{ℕ, Bool, List, Option}
+use Rattle.std.specs.Prelude.{◌≡◌, ℕ, Bool, true, false, List, Option}
 use Rattle.l2_bits.specs.declared.marks.Mark.{Mark}
 use Rattle.set_events.specs.declared.event.Event.{Event}
 use Rattle.set_events.specs.declared.history.Entry.{Entry}
@@ -26,6 +26,7 @@ pub record IsTurn (taken : List Bool) (before : Terminal) (octet : Option ℕ) (
   pub gives : GivesMarks taken octet marks
   pub chosen : Filled
   pub went : Went (turn_talk marks before) entries chosen
+  pub narrow : chosen.narrow ≡ true
   pub puts : PutsOctet chosen put after
 
 -- a turn that a fault of the door broke off: after these entries this event was asked, and got no answer. Nothing was
@@ -35,3 +36,13 @@ pub record IsBrokenTurn (taken : List Bool) (before : Terminal) (octet : Option 
   pub marks : List Mark
   pub gives : GivesMarks taken octet marks
   pub broke_off : BrokeOff (turn_talk marks before) entries last
+
+-- a turn that a unit of the wide profile ended: the door gave it by the last of these entries, and it wasn't chosen.
+-- Nothing was put.
+pub record IsWideTurn (taken : List Bool) (before : Terminal) (octet : Option ℕ)
+    (entries : List Entry) : Type 0 where
+  pub marks : List Mark
+  pub gives : GivesMarks taken octet marks
+  pub chosen : Filled
+  pub went : Went (turn_talk marks before) entries chosen
+  pub wide : chosen.narrow ≡ false

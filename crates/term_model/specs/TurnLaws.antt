@@ -1,5 +1,5 @@
 -- LAWS of a turn.
-use Rattle.std.specs.Prelude.{◌≡◌, ◌↔◌, ℕ, ◌<◌, ◌≤◌, ◌^◌, Bool, true, List, [], ◌∷◌, ◌++◌, Option, Some, None, ⊤}
+use Rattle.std.specs.Prelude.{◌≡◌, ◌↔◌, ℕ, ◌<◌, ◌≤◌, ◌^◌, ◌⊎◌, Bool, true, List, [], ◌∷◌, ◌++◌, Option, Some, None, ⊤}
 use Rattle.l2_bits.specs.declared.marks.Mark.{Mark}
 use Rattle.l2_state.specs.declared.link_state.State.{State}
 use Rattle.set_events.specs.declared.answer.Answer.{Answer}
@@ -17,7 +17,7 @@ use Rattle.term_model.specs.declared.command.Command.{Command}
 use Rattle.term_model.specs.declared.timers.Timers.{Timers}
 use Rattle.term_model.specs.Terminal.{Terminal, opened, told}
 use Rattle.term_model.specs.Timing.{timed}
-use Rattle.term_model.specs.Turn.{IsTurn}
+use Rattle.term_model.specs.Turn.{IsTurn, IsWideTurn}
 
 -- THE STEPS. Each step by itself, one after another: what each asked, and the terminal after it.
 pub record IsSixSteps (taken : List Bool) (before : Terminal) (octet : Option ℕ) (entries : List Entry)
@@ -36,6 +36,7 @@ pub record IsSixSteps (taken : List Bool) (before : Terminal) (octet : Option �
   pub step_3 : Went (all_marked marks obeyed) third heard
   pub step_4 : Went (timed heard) fourth clocked
   pub step_5 : Went (filled clocked) fifth chosen
+  pub narrow : chosen.narrow ≡ true
   pub step_6 : PutsOctet chosen put after
 
 -- LAW: a turn is its six steps, one after another
@@ -61,12 +62,20 @@ pub record HasTurn (taken : List Bool) (before : Terminal) (octet : Option ℕ) 
   pub turn : IsTurn taken before octet entries put marks after
   pub are_answered : AreAnswered door who past entries
 
--- LAW: whatever the door answers, there is a turn
+-- or one that a unit of the wide profile ended
+pub record HasWideTurn (taken : List Bool) (before : Terminal) (octet : Option ℕ)
+    (door : List Entry → Event → Answer) (who : Actor) (past : List Entry) : Type 0 where
+  pub entries : List Entry
+  pub turn : IsWideTurn taken before octet entries
+  pub are_answered : AreAnswered door who past entries
+
+-- LAW: whatever the door answers, there is a turn, if it gives no unit of the wide profile
 abbrev pub TurnsGoOn : Type 0
 TurnsGoOn =
     (taken : List Bool) (before : Terminal) (octet : Option ℕ) (marks : List Mark)
     (door : List Entry → Event → Answer) (who : Actor) (past : List Entry)
-    → GivesMarks taken octet marks → HasTurn taken before octet marks door who past
+    → GivesMarks taken octet marks
+    → HasTurn taken before octet marks door who past ⊎ HasWideTurn taken before octet door who past
 
 -- WHAT IS ASKED.
 

@@ -35,7 +35,7 @@ pub fn an_input_asks_at_most_one_thing()
 {}
 
 /// A turn is its six steps, one after another. What was taken and put, and the door's answers, decide it; and
-/// whatever the door answers, there is one.
+/// whatever the door answers, there is one, or a unit of the wide profile ended it.
 pub fn a_turn_is_its_six_steps()
     ensures steps { TurnIsItsSteps }
     ensures one { OneTurn }

@@ -60,7 +60,7 @@ fn failing(
 }
 
 /// The fault that ends one of so many turns.
-fn first_fault<D: Door, L: Line, G: Gate>(
+pub(crate) fn first_fault<D: Door, L: Line, G: Gate>(
     terminal: &mut Terminal<D, L, G>,
     turns: u16,
 ) -> Option<TermFault> {
@@ -73,7 +73,7 @@ fn first_fault<D: Door, L: Line, G: Gate>(
 }
 
 /// Whatever is called then, it answers Failed.
-fn stays_failed<D: Door, L: Line, G: Gate>(terminal: &mut Terminal<D, L, G>) -> bool {
+pub(crate) fn stays_failed<D: Door, L: Line, G: Gate>(terminal: &mut Terminal<D, L, G>) -> bool {
     terminal.command(Command::Start);
     terminal.turn() == Err(TermFault::Failed)
         && terminal.run(1_000).is_err()

@@ -4,7 +4,7 @@ ghost use Rattle.std.specs.Prelude.{◌≡◌, [], ◌∷◌, ◌++◌};
 use arrayvec::ArrayVec;
 use l2_bits::{Deframer, MarkKind, flag_into, seal, stuff_into};
 use l2_signals::Status;
-use l2_units::{Header, Unit, header_in, read, write};
+use l2_units::{Header, LONGEST_UNIT, Unit, header_in, read, write};
 use line_ring::{Full, Line, Past};
 
 /// How many units of each kind were heard.
@@ -150,7 +150,7 @@ impl Player {
         let unit = self.next_unit();
         self.gone = 0;
         self.bits.clear();
-        stuff_into(seal(write(&unit).as_slice()).as_slice(), &mut self.bits);
+        stuff_into(seal(octets_of(&unit).as_slice()).as_slice(), &mut self.bits);
         flag_into(&mut self.bits);
     }
 
@@ -164,6 +164,16 @@ impl Player {
                 head: head(self.message),
             },
         }
+    }
+}
+
+/// The octets of a unit; none of one whose numbers have more than seven bits.
+fn octets_of(unit: &Unit) -> ArrayVec<u8, LONGEST_UNIT> {
+    let head = header_in(unit);
+    if head.bsn < 128 && head.fsn < 128 {
+        write(unit)
+    } else {
+        ArrayVec::new()
     }
 }
 

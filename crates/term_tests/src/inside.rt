@@ -1,6 +1,8 @@
 //! The inside of a terminal: values worked out by hand from Q.703.
 
-ghost use Rattle.std.specs.Prelude.{◌<◌};
+ghost use Rattle.std.specs.Prelude.{◌<◌, IsTrue};
+ghost use Rattle.l2_units.specs.declared.profile.Profile.TheVariants.{Narrow};
+ghost use Rattle.l2_units.specs.Grammar.{IsHeadOf, head_of};
 
 use super::core_door::holds;
 use l2_align::{AlignIn, End};
@@ -75,9 +77,17 @@ fn goes_out(inside: &mut Inside, octets: &[u8]) -> bool {
 const LONGEST_LEFT: u16 = 336;
 
 fn append(inside: &mut Inside, unit: &Unit) {
-    if inside.is_short() {
+    if inside.is_short() && is_narrow(unit) {
         inside.append(unit);
     }
+}
+
+/// The unit's numbers have seven bits.
+fn is_narrow(unit: &Unit) -> bool
+    ensures { IsTrue result → IsHeadOf Narrow (head_of unit.now) }
+{
+    let head = header_in(unit);
+    head.bsn < 128 && head.fsn < 128
 }
 
 /// Sends SIO behind a flag.
@@ -300,7 +310,7 @@ fn busy_while_a_message_is_out(_rt: HostRuntime) -> Result<(), Fail> {
 }
 
 /// A FISU with these numbers.
-fn fisu(bsn: u8, bib: bool, fsn: u8, fib: bool) -> Unit
+fn fisu(bsn: u16, bib: bool, fsn: u16, fib: bool) -> Unit
     requires { (bsn < 128) × (fsn < 128) }
 {
     Unit::Fisu {
@@ -311,7 +321,7 @@ fn fisu(bsn: u8, bib: bool, fsn: u8, fib: bool) -> Unit
 /// A unit that the set gives is sent, once all that is left is out: the header with which it goes out.
 fn goes_out_with(inside: &mut Inside, unit: &Unit) -> Header {
     for _octet in 0..LONGEST_LEFT {
-        if inside.is_short() {
+        if inside.is_short() && is_narrow(unit) {
             inside.append_given(unit);
             return inside.last_head();
         }

@@ -22,3 +22,5 @@ mod lines;
 mod test_lines;
 #[cfg(test)]
 mod two_threads;
+#[cfg(test)]
+mod wide_units;

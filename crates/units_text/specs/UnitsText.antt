@@ -11,6 +11,7 @@ use Rattle.l2_units.specs.declared.unit.Header.{Header}
 use Rattle.l2_units.specs.declared.unit.Unit.{Unit as SignalUnit}
 use Rattle.l2_units.specs.declared.unit.Unit.TheVariants.{Fisu, Lssu, Msu}
 use Rattle.l2_units.specs.Grammar.{unit_of}
+use Rattle.l2_units.specs.declared.profile.Profile.TheVariants.{Narrow}
 use Rattle.units_text.specs.declared.fault.UnreadableOctet.{UnreadableOctet}
 use Rattle.units_text.specs.declared.unit_lines.MarkCounts.{MarkCounts}
 use Rattle.figures.specs.Figures.{hex_value, hex_text, bit}
@@ -77,7 +78,7 @@ good_text (Some unit) octets = unit_text unit
 good_text None octets = codes "good fault=" ++ (decimal (unit_fault octets) ++ codes "\n")
 
 abbrev pub mark_text : Mark → List ℕ
-mark_text (Good octets) = good_text (unit_of octets.items) octets.items
+mark_text (Good octets) = good_text (unit_of Narrow octets.items) octets.items
 mark_text Bad = codes "bad\n"
 mark_text Sixteen = codes "sixteen\n"
 

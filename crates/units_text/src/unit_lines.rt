@@ -2,6 +2,7 @@
 ghost use Rattle.std.specs.Prelude.{◌≡◌, ◌++◌, IfOk, OnOk, codes, decimal};
 ghost use Rattle.l2_bits.specs.Deframing.{marked};
 ghost use Rattle.l2_units.specs.Grammar.{unit_of};
+ghost use Rattle.l2_units.specs.declared.profile.Profile.TheVariants.{Narrow};
 ghost use Rattle.units_text.specs.UnitsText.{InputHasOneText, good_text, line_head, mark_text, unit_text, counts_text};
 
 use figures::{bit_of, push_hex, push_number};
@@ -31,7 +32,7 @@ pub(crate) fn push_mark(kind: MarkKind, octets: &[u8], text: &mut Vec<u8>) -> Re
 /// Adds the line of octets that check: their unit, or what is wrong with them.
 fn push_good(octets: &[u8], text: &mut Vec<u8>) -> Result<(), AllocError>
     ensures { OnOk result (text.new.items
-        ≡ text.old.items ++ good_text (unit_of octets.now) octets.now) }
+        ≡ text.old.items ++ good_text (unit_of Narrow octets.now) octets.now) }
 {
     match read(octets) {
         Ok(unit) => push_unit(&unit, text),

@@ -1,9 +1,10 @@
-use Rattle.std.proofs.Common.{refl, arith, ◌≡◌, ◌%◌}
+use Rattle.std.proofs.Common.{refl, arith, ◌≡◌, ◌<◌, ◌≤◌, ◌%◌, length}
 use Rattle.l2_signals.specs.declared.status.Status.{Status}
 use Rattle.l2_signals.specs.Numbers.{status_number}
 use Rattle.l2_units.specs.declared.unit.Unit.{Unit as SignalUnit}
 use Rattle.l2_units.specs.declared.unit.Unit.TheVariants.{Fisu, Lssu, Msu}
-use Rattle.l2_units.specs.Grammar.{StandsFor, IsUnit, IsBodyOf, body_of, text}
+use Rattle.l2_units.specs.Profile.{Profile, Narrow, Wide, longest_body}
+use Rattle.l2_units.specs.Grammar.{StandsFor, spares, HasBody, IsBodyOf, body_of, text}
 use Rattle.l2_units.proofs.Texts.{same_unit}
 use Rattle.l2_units.proofs.grammar.one_text.Goals as goal
 
@@ -17,12 +18,23 @@ three_bits Status.Busy = refl
 three_bits Status.Unassigned6 = refl
 three_bits Status.Unassigned7 = refl
 
-own_body : (unit : SignalUnit) → IsUnit unit → IsBodyOf unit (body_of unit)
-own_body (Fisu h) is = refl
-own_body (Lssu h status) is = (omega arith, omega arith, three_bits status)
-own_body (Msu h body) is = (refl, is.0, is.1)
+own_body : (profile : Profile) (unit : SignalUnit) → HasBody profile unit → IsBodyOf unit (body_of unit)
+own_body profile (Fisu h) is = refl
+own_body profile (Lssu h status) is = (omega arith, omega arith, three_bits status)
+own_body profile (Msu h body) is = (refl, is.0)
+
+short : (profile : Profile) (unit : SignalUnit) → HasBody profile unit → length (body_of unit) ≤ longest_body profile
+short Narrow (Fisu h) is = omega arith
+short Narrow (Lssu h status) is = omega arith
+short Wide (Fisu h) is = omega arith
+short Wide (Lssu h status) is = omega arith
+short profile (Msu h body) is = is.1
+
+some_spare : (profile : Profile) → 0 < spares profile
+some_spare Narrow = omega arith
+some_spare Wide = omega arith
 
 pub returns : goal.returns
-returns c unit is_unit =
-    let stands : StandsFor (text unit) unit = record { spare = 0; body = body_of unit; two_bits = omega arith; body_is = own_body unit is_unit; octets_are = refl } in
-    record { stands = stands; alone = λ other found. same_unit (text unit) other unit found stands }
+returns c profile unit is_unit =
+    let stands : StandsFor profile (text profile unit) unit = record { spare = 0; body = body_of unit; in_range = some_spare profile; head_is = is_unit.0; body_is = own_body profile unit is_unit.1; not_long = short profile unit is_unit.1; octets_are = refl } in
+    record { stands = stands; alone = λ other found. same_unit profile (text profile unit) other unit found stands }

@@ -1,4 +1,5 @@
 use Rattle.std.proofs.Common.{rules, arith, ℕ, List, slice_index, Fits, w8, ◌<◌}
+use Rattle.l2_units.specs.declared.profile.Profile.TheVariants.{Narrow}
 use Rattle.l3_orders.proofs.Texts.{found_stands}
 use Rattle.l3_orders.proofs.reading.read_order.Goals as goal
 
@@ -10,4 +11,4 @@ returns-clause-exact c = search rules
 
 pub returns-clause-found : goal.returns-clause-found
 returns-clause-found c =
-    found_stands c.args.octets.now c.order_after.result (λ i. octet c.args.octets.now i (c.type_inv.octets i)) (returns-clause-exact c)
+    found_stands Narrow c.args.octets.now c.order_after.result (λ i. octet c.args.octets.now i (c.type_inv.octets i)) (returns-clause-exact c)

@@ -6,4 +6,4 @@ use Rattle.link_term.proofs.choosing.send.Goals as goal
 pub returns-in_default-clause-sends : goal.returns-in_default-clause-sends
 returns-in_default-clause-sends g c =
     let same : sent_by c.args.answer.now c.args.inside.now ≡ sends_fisu c.args.inside.now = search rules in
-    (as_chosen _ _ (g.D.Door.made c.args.door.now) c.send_fisu.new.inside same (c.send_fisu.ensures.sends _), refl)
+    (as_chosen _ _ _ (g.D.Door.made c.args.door.now) _ c.send_fisu.new.inside same (c.send_fisu.ensures.sends _), refl)

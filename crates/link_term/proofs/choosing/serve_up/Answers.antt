@@ -7,9 +7,9 @@ use Rattle.link_term.proofs.choosing.serve_up.Goals as goal
 pub returns-then-not-is_up-clause-sends : goal.returns-then-not-is_up-clause-sends
 returns-then-not-is_up-clause-sends g c =
     let same : serves c.args.paused c.args.inside.now ≡ sends c.start_fisu.result c.args.inside.now = search rules in
-    (as_chosen _ _ (g.D.Door.made c.args.door.now) c.send_own.new.inside same (c.send_own.ensures.sends _), refl)
+    (as_chosen _ _ _ (g.D.Door.made c.args.door.now) _ c.send_own.new.inside same (c.send_own.ensures.sends _), refl)
 
 pub returns-then-is_b_due-clause-sends : goal.returns-then-is_b_due-clause-sends
 returns-then-is_b_due-clause-sends g c =
     let same : serves c.args.paused c.args.inside.now ≡ sends_status Busy c.drop_b.new.self = search rules in
-    (as_chosen _ _ (g.D.Door.made c.args.door.now) c.send_status.new.inside same (c.send_status.ensures.sends _), refl)
+    (as_chosen _ _ _ (g.D.Door.made c.args.door.now) _ c.send_status.new.inside same (c.send_status.ensures.sends _), refl)

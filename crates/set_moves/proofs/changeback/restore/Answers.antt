@@ -26,7 +26,7 @@ loop-alternative-preserved c =
     let inv = c.loop-alternative.invariant in
     let change = c.ask.ensures.change in
     record {
-      stands = becomes_next (declared_from c.args.number) (declared_if c.args.number) (λ from s. refl) (λ from n s. refl) n 0 n c.args.parts.now c.loop-alternative.parts (record c.stand_last.new.parts { routes = c.ask.new.self }) (omega arith) inv.stands (λ s f. rw (← c.may_declare.ensures s f, c.if-not-may_declare.false) (let stands = c.stand_last.ensures.stands s f in grind (arith, stands, change, f.settings, c.changeback_code.ensures, c.write_order-body.ensures, c.as_slice.ensures)));
+      stands = becomes_next (declared_from c.args.number) (declared_if c.args.number) (λ from s. refl) (λ from n s. refl) n 0 n c.args.parts.now c.loop-alternative.parts (record c.stand_last.new.parts { routes = c.ask.new.self }) (omega arith) inv.stands (λ s f. rw (← c.may_declare.ensures s f, c.if-not-may_declare.false) (let stands = c.stand_last.ensures.stands s f in grind (arith, stands, change, f.settings, c.changeback_code.ensures, c.body_of-body.ensures, c.as_slice.ensures)));
       whole = grind arith;
       links = c.stand_last.ensures.links ∙ inv.links;
       room = record {

@@ -1,12 +1,14 @@
-use Rattle.std.proofs.Common.{refl, arith, length, ◌≡◌, ◌∙◌, ap, subst, ℕ, false}
-use Rattle.set_model.specs.Changeover.{Coa, queued, left_by, left_link}
-use Rattle.set_model.specs.State.{last_accepted}
+use Rattle.std.proofs.Common.{refl, arith, length, ◌≡◌, ◌∙◌, ap, subst, sym, ◌<◌, ℕ, false}
+use Rattle.l2_units.specs.Profile.{fsn_count}
+use Rattle.l3_orders.specs.Grammar.{IsOrder}
+use Rattle.set_model.specs.Changeover.{Coa, changed_over, queued, left_by, left_link}
+use Rattle.set_model.specs.State.{LinkState, Profile, Settings, last_accepted}
 use Rattle.set_model.proofs.Lists.{within, get_set_same, length_set}
 use Rattle.set_model.proofs.SoundBack.{leaves}
 use Rattle.set_model.proofs.SoundLink.{queues}
 use Rattle.set_moves.specs.Agreement.{StandsFor}
-use Rattle.set_moves.specs.Parts.{Up, Down, Settled, AtLink, IsOut, kept_of}
-use Rattle.set_moves.proofs.Links.{IsHere, is_in, here_room, stands_for, whole_of, has_room_left, beside_out, beside_left, counted_set, out_at}
+use Rattle.set_moves.specs.Parts.{Up, Down, Settled, AtLink, IsOut, IsReach, kept_of}
+use Rattle.set_moves.proofs.Links.{IsHere, is_in, none_there, profile_of, reach_here, here_room, stands_for, whole_of, has_room_left, beside_out, beside_left, counted_set, out_at}
 use Rattle.set_queues.proofs.Soundness.{room_left}
 use Rattle.set_moves.proofs.changeover.change_over.Goals as goal
 use Rattle.set_moves.proofs.changeover.change_over.Goals.{After-leave}
@@ -33,7 +35,12 @@ settle-requires c =
     record {
       whole = c.queue.ensures.whole;
       counted = rw c.queue.ensures.links (counted_set _ links c.leave.new.parts.links.items n _ c.requires.counted is (record { acked = one.acked; accepted = one.accepted }));
-      reached = c.requires.reached;
+      reached =
+          let a = c.requires.holds.1 in
+          let there = is_in c.args.parts.now c.requires.holds.0 n Up a h in
+          let left = get_set_same c.requires.holds.0.links n (left_link false there.link) (within c.requires.holds.0.links n there.link there.there) in
+          let stands = c.queue.ensures.stands _ (c.leave.ensures.stands c.requires.holds.0 there.link there.there a) in
+          subst (λ (p : Profile). IsReach p c.args.reached) (sym (stands.profiles n (left_link false there.link) left ∙ profile_of c.args.parts.now c.requires.holds.0 n there.link a there.there)) c.requires.reached;
       known = rw (c.queue.ensures.links, many) h.known;
       out = rw c.queue.ensures.links out;
       room = grind (arith, room_left, c.requires.room h.known, c.leave.ensures.turns, beside, c.queue.ensures.links, c.queue.ensures.elsewhere n (rw many h.known) out, c.queue.ensures.rooms, (whole_of c.args.parts.now c.requires.holds).as_many);
@@ -78,3 +85,36 @@ returns-in-Some-Settled c =
     let h = rw c.in-Some-Settled.field-0-is at c.in-Some-Settled.ensures.here in
     let same = stands_for c.args.parts.now.links.items c.args.number c.from-in-Some-Settled.result c.index-in-Some-Settled.result.now c.from-in-Some-Settled.ensures h.known c.index-in-Some-Settled.ensures in
     record { stands = λ s a. let at = is_in c.args.parts.now s c.args.number Settled a h in rw (at.there, at.phase_is) (record { took_is = refl; stands = rw (c.reply-order.ensures.order, same s.links at.link a.stands.links at.there) at (c.queue-in-Some-Settled.ensures.stands s a.stands) }) }
+
+-- the orders are of the set's grammar, and so is the number that settles a link
+pub queue-requires-clause-order : goal.queue-requires-clause-order
+queue-requires-clause-order c =
+    let n = c.args.number in
+    let h = is_here (goal.at.queue-requires-clause-order c).After-leave in
+    let s = c.requires.holds.0 in
+    let a = c.requires.holds.1 in
+    let at = is_in c.args.parts.now s n Up a h in
+    let same = stands_for c.args.parts.now.links.items n c.from.result c.index.result.now c.from.ensures h.known c.index.ensures s.links at.link a.stands.links at.there in
+    let left = c.leave.ensures.stands s at.link at.there a in
+    let one : c.index.result.now.profile ≡ s.settings.profile = ap (λ (l : LinkState). l.profile) same ∙ (a.sound.links n at.link at.there).profile in
+    let other : c.leave.new.parts.config.profile ≡ s.settings.profile = ap (λ (m : Settings). m.profile) left.settings in
+    (c.requires.number, subst (λ (p : Profile). c.last_accepted.result < fsn_count p) (one ∙ sym other) c.last_accepted.ensures.few)
+
+pub queue-requires-in-Some-Settled-clause-order : goal.queue-requires-in-Some-Settled-clause-order
+queue-requires-in-Some-Settled-clause-order c =
+    let n = c.args.number in
+    let h = rw c.in-Some-Settled.field-0-is at c.in-Some-Settled.ensures.here in
+    let s = c.requires.holds.0 in
+    let a = c.requires.holds.1 in
+    let at = is_in c.args.parts.now s n Settled a h in
+    let same = stands_for c.args.parts.now.links.items n c.from-in-Some-Settled.result c.index-in-Some-Settled.result.now c.from-in-Some-Settled.ensures h.known c.index-in-Some-Settled.ensures s.links at.link a.stands.links at.there in
+    subst (λ (p : Profile). IsOrder p c.reply-order.result) (ap (λ (l : LinkState). l.profile) same ∙ profile_of c.args.parts.now s n at.link a at.there) c.reply-order.ensures.fits
+
+pub settle-requires-in-Some-Down-clause-reached : goal.settle-requires-in-Some-Down-clause-reached
+settle-requires-in-Some-Down-clause-reached c =
+    let h = rw c.in-Some-Down.field-0-is at c.in-Some-Down.ensures.here in
+    reach_here c.args.parts.now c.args.number c.args.reached c.requires.holds h.known c.requires.reached
+
+-- of no link of the set it's ignored
+pub returns-in-None : goal.returns-in-None
+returns-in-None c = record { stands = λ s a. none_there c.args.parts.now s c.args.number (changed_over c.args.reached c.args.number) a (sym c.in-None.is ∙ c.phase_of.ensures.value) }

@@ -18,7 +18,7 @@ out : (c : After-divert) (y : Link) → y ≡ c.index_mut-link.result.now → (s
     × IsTurning c.args.number (out_of_service c.args.blind c.args.number link s)
 out c y same s link there a =
     let n = c.args.number in (
-      rw (link_set c.args.parts.now.links.items n c.from.result c.index_mut-link.result.now c.from.ensures c.requires.known c.index_mut-link.ensures.value (left_link c.args.blind) y s.links link same a.stands.links there, c.divert.ensures, a.stands.routing) (link_for (kept_of c.args.parts.now) s n link (left_link c.args.blind link) (streams_left n s.routing) a.stands there refl),
+      rw (link_set c.args.parts.now.links.items n c.from.result c.index_mut-link.result.now c.from.ensures c.requires.known c.index_mut-link.ensures.value (left_link c.args.blind) y s.links link same a.stands.links there, c.divert.ensures, a.stands.routing) (link_for (kept_of c.args.parts.now) s n link (left_link c.args.blind link) (streams_left n s.routing) a.stands there refl refl),
       turning_of c.args.blind n link s (record { there = there; phase_is = c.requires.up link (ap (λ links. slice_get links n) a.stands.links ∙ there) }) a.sound,
     )
 

@@ -16,7 +16,7 @@ returns-in-Ok-clause-stands c = λ s link there f.
     rw (c.in-Upto.is, ← r.1, le-leb _ _ c.in-Ok.ensures.acked.0, ← r.0)
     (let count : c.from.result ≡ reach c.args.number c.in-Upto.fsn c.args.parts.now.queues.lists = c.from.ensures ∙ c.in-Ok.ensures.acked.1 in
     let set = link_set c.args.parts.now.links.items c.args.number c.from-in-Ok.result c.index_mut.result.now c.from-in-Ok.ensures c.requires.known c.index_mut.ensures.value (acknowledged c.from.result) _ s.links link c.behind-parts.view_is f.links there ∙ ap (λ n. slice_set s.links c.args.number (acknowledged n link)) count in
-    becomes (acked_for (kept_of c.args.parts.now) s c.args.number c.in-Upto.fsn link _ f there (rw c.in-Upto.is at c.requires.reached) refl) (search (rules, c.in-Ok.ensures.moves.lists, c.in-Ok.ensures.moves.messages, set)))
+    becomes (acked_for (kept_of c.args.parts.now) s c.args.number c.in-Upto.fsn link _ f there (rw c.in-Upto.is at c.requires.reached) refl refl) (search (rules, c.in-Ok.ensures.moves.lists, c.in-Ok.ensures.moves.messages, set)))
 
 pub returns-in-Err-clause-stands : goal.returns-in-Err-clause-stands
 returns-in-Err-clause-stands c = λ s link there f.

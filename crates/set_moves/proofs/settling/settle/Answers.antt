@@ -34,5 +34,5 @@ returns c = record {
       let known : n < length c.judge.new.parts.links.items = grind (arith, length-map, c.judge.ensures.phases, c.requires.known) in
       let set = link_set c.judge.new.parts.links.items n c.from.result c.index_mut.result.now c.from.ensures known c.index_mut.ensures.value settled_link _ mid.links link' c.behind-parts.view_is f.links j.1 in
       let routes = c.settle-2.ensures ∙ ap (λ (r : Routing). streams_settled n o r) f.routing in
-      rw (← is) (becomes (settled_for (kept_of c.judge.new.parts) mid n o link' (settled_link link') (streams_settled n o mid.routing) f j.0.0 j.0.1 j.1 refl place.0) (search (rules, c.settle.ensures.lists, c.settle.ensures.messages, set, routes)));
+      rw (← is) (becomes (settled_for (kept_of c.judge.new.parts) mid n o link' (settled_link link') (streams_settled n o mid.routing) f j.0.0 j.0.1 j.1 refl refl place.0) (search (rules, c.settle.ensures.lists, c.settle.ensures.messages, set, routes)));
 }

@@ -1,4 +1,4 @@
-use Rattle.std.proofs.Common.{refl, arith, ap, length}
+use Rattle.std.proofs.Common.{refl, arith, ap, sym, length}
 use Rattle.set_queues.specs.Buffers.{Lists}
 use Rattle.set_route.specs.Routing.{raised}
 use Rattle.set_model.specs.Rows.{Waiting}
@@ -27,6 +27,6 @@ returns-in_ok-make_room_parked-in-Some-Settled-clause-ok c = λ s a.
     let i = is_in c.args.parts.now s n Settled a (rw c.in-Some-Settled.field-0-is at c.in-Some-Settled.ensures.here) in
     rw (i.there, i.phase_is) (record {
       answer_is = refl;
-      stands = becomes (risen_for (kept_of roomy) s n i.link (risen_link s.settings.method) (raised n s.routing) f i.there refl)
-          (rw (c.divert.ensures.messages, c.divert.ensures.lists, c.reset.ensures.lists, c.reset.ensures.same.0, f.links, c.from.ensures, c.rise.ensures, ← f.settings, c.raise.ensures, f.routing) refl);
+      stands = becomes (risen_for (kept_of roomy) s n i.link (risen_link s.settings.profile s.settings.method) (raised n s.routing) f i.there refl (sym (a.sound.links n i.link i.there).profile))
+          (rw (c.divert.ensures.messages, c.divert.ensures.lists, c.reset.ensures.lists, c.reset.ensures.same.0, f.links, c.from.ensures, c.rise.ensures, c.profile-profile.ensures, ← f.settings, c.raise.ensures, f.routing) refl);
     })

@@ -12,11 +12,11 @@ use Rattle.set_traffic.proofs.hearing.control_hears.Goals as goal
 use Rattle.set_traffic.proofs.hearing.control_hears.Goals.{After-hear-part}
 
 tells : (c : After-hear-part) (s : State) (link : LinkState) → slice_get s.links c.args.number ≡ Some link → StandsFor (kept_of c.args.parts.now) s → (c.link.inside.control ≡ link.control) × (c.window-window.result.now ≡ record (window_of c.args.number link s.rows) { room = c.window-window.result.now.room })
-tells c s link there f = told c.args.parts.now s c.args.number c.from.result c.index_mut-link.result.now _ c.window-window.result.now link c.from.ensures c.requires.known c.index_mut-link.ensures.value (ap (λ (l : Link). l.control) c.link.view_is) c.window-window.ensures.last c.window-window.ensures.unacked c.window-window.ensures.unsent there f
+tells c s link there f = told c.args.parts.now s c.args.number c.from.result c.index_mut-link.result.now _ c.window-window.result.now link c.from.ensures c.requires.known c.index_mut-link.ensures.value (ap (λ (l : Link). l.control) c.link.view_is) c.window-window.ensures.last c.window-window.ensures.profile c.window-window.ensures.unacked c.window-window.ensures.unsent there f
 
 -- the link as it was, and as it counts
 abbrev was : After-hear-part → Link
-was c = record { phase = c.link.inside.phase; blind = c.link.inside.blind; acked = c.link.inside.acked; accepted = c.link.inside.accepted; control = c.link.inside.control }
+was c = record { phase = c.link.inside.phase; profile = c.link.inside.profile; blind = c.link.inside.blind; acked = c.link.inside.acked; accepted = c.link.inside.accepted; control = c.link.inside.control }
 
 abbrev counted : ℕ → ℕ → Control → Link → Link
 counted acked accepted control link = record link { acked = link.acked + acked; accepted = link.accepted + accepted; control = control }
@@ -45,7 +45,7 @@ returns-clause-stands c = λ s link there f.
     let links = link_set c.args.parts.now.links.items n c.from.result c.index_mut-link.result.now c.from.ensures c.requires.known c.index_mut-link.ensures.value (counted c.from-2.result c.from-3.result c.hear-part.new.self) _ s.links link c.link.view_is f.links there
     ∙ ap (slice_set s.links n) (rw (c.hear-part.ensures.state, told.1, told.0, c.header_in-head.ensures, c.has_message.ensures, c.from-2.ensures, c.from-3.ensures) (grind arith)) in
     subst (λ (ls : List LinkState). StandsFor (record (kept_of c.args.parts.now) { lists = c.acknowledge.new.queues.lists; messages = c.acknowledge.new.queues.messages; links = ls }) (after_control part (head_of c.args.unit.now) c.args.unit.now n s link)) (sym links)
-    (c.acknowledge.ensures.stands (kept_of c.args.parts.now) s link heard there refl f)
+    (c.acknowledge.ensures.stands (kept_of c.args.parts.now) s link heard there refl refl f)
 
 pub returns-clause-counted : goal.returns-clause-counted
 returns-clause-counted c =
@@ -60,4 +60,5 @@ returns-clause-keeps c = record {
   bodies = refl;
   phases = set_view c.args.parts.now.links.items c.args.number c.from.result c.index_mut-link.result.now c.from.ensures c.requires.known c.index_mut-link.ensures.value (λ l. l.phase) _ (ap (λ (l : Link). l.phase) c.link.view_is);
   inbox = refl;
+  config = refl;
 }

@@ -1,15 +1,16 @@
-use Rattle.std.proofs.Common.{arith, ◌≡◌, ◌∙◌, ap, sym, subst, ℕ}
-use Rattle.l2_signals.specs.declared.status.Status.{Status}
+use Rattle.std.proofs.Common.{arith, ◌≡◌, ◌∙◌, ap, sym, subst, refl, true, ℕ}
 use Rattle.l2_units.specs.Grammar.{head_of as header_in}
 use Rattle.set_model.specs.Control.{Header, HeardPart, part_of}
 use Rattle.set_model.specs.Sound.{IsSound}
-use Rattle.set_model.specs.State.{LinkState, State, window_of}
-use Rattle.set_model.specs.Step.{SignalUnit, Took, Lssu, HeardBack, heard as heard_of, controls, after_control, report_of, is_msu}
-use Rattle.set_moves.specs.Agreement.{StandsFor, Agrees}
+use Rattle.set_model.specs.State.{LinkState, Profile, Settings, State, window_of}
+use Rattle.set_model.specs.Step.{SignalUnit, Took, is_heard, HeardBack, heard as heard_of, controls, after_control, report_of, is_msu}
+use Rattle.set_moves.specs.Agreement.{Kept, StandsFor, Agrees}
 use Rattle.set_moves.specs.Parts.{Up, kept_of}
 use Rattle.set_moves.proofs.Links.{IsHere, is_in, served}
 use Rattle.set_model.proofs.SoundLink.{hears_sound}
-use Rattle.set_traffic.proofs.Traffic.{queue_there}
+use Rattle.set_traffic.specs.Traffic.{brought_by}
+use Rattle.set_moves.specs.declared.parts.Parts.{Parts}
+use Rattle.set_traffic.proofs.Traffic.{numbers_fit, queue_there}
 use Rattle.set_traffic.proofs.hearing.hear.Goals as goal
 use Rattle.set_traffic.proofs.hearing.hear.Goals.{After-control_hears-part}
 
@@ -30,15 +31,26 @@ module _ (c : After-control_hears-part) (s : State) (a : Agrees (kept_of c.args.
     sound = subst (λ part. IsSound (after_control part (header_in c.args.unit.now) c.args.unit.now c.args.number s at.link)) (sym told) (hears_sound c.args.number at.link s (record { there = at.there; phase_is = at.phase_is }) a.sound c.args.unit.now);
   }
 
+is_so : (c : After-control_hears-part) → is_heard c.args.parts.now.config.profile c.args.unit.now ≡ true
+is_so c = grind (arith, c.is_heard.ensures, c.profile.ensures, c.if-not-is_heard.false)
+
 pub control_hears-part-requires-clause-queue : goal.control_hears-part-requires-clause-queue
 control_hears-part-requires-clause-queue c = queue_there c.make_space.new.parts c.args.number (rw c.in_ok-brought.ensures.same c.requires.holds) (rw c.in_ok-brought.ensures.links c.in_default.ensures.here.known)
+
+pub control_hears-part-requires-clause-fits : goal.control_hears-part-requires-clause-fits
+control_hears-part-requires-clause-fits c =
+    let so : is_heard c.args.parts.now.config.profile c.args.unit.now ≡ true = grind (arith, c.is_heard.ensures, c.profile.ensures, c.if-not-is_heard.false) in
+    numbers_fit c.make_space.new.parts c.args.number c.args.unit.now (rw c.in_ok-brought.ensures.same c.requires.holds) (rw c.in_ok-brought.ensures.links c.in_default.ensures.here.known) (ap (λ (k : Kept). is_heard k.settings.profile c.args.unit.now) c.in_ok-brought.ensures.same ∙ so)
 
 pub take_in-took-requires-clause-holds : goal.take_in-took-requires-clause-holds
 take_in-took-requires-clause-holds c = (_, after (goal.at.take_in-took-requires-clause-holds c).After-control_hears-part c.requires.holds.0 c.requires.holds.1)
 
--- a unit that is no LSSU is the control's
-is_controls : (unit : SignalUnit) (n : ℕ) (s : State) (link : LinkState) → ((head : Header) (status : Status) → unit ≡ Lssu head status → ⊥) → heard_of unit n s link ≡ controls unit n s link
-is_controls unit n s link other = grind arith
+-- a unit that is heard is the control's
+is_controls : (unit : SignalUnit) (n : ℕ) (s : State) (link : LinkState) → is_heard s.settings.profile unit ≡ true → heard_of unit n s link ≡ controls unit n s link
+is_controls unit n s link e = rw e refl
+
+same_profile : (parts : Parts) (s : State) → Agrees (kept_of parts) s → parts.config.profile ≡ s.settings.profile
+same_profile parts s a = ap (λ (m : Settings). m.profile) a.stands.settings
 
 -- a report says of the fault what the control found
 reported : (part : HeardPart) (took : Took) → record { acked = part.acked; took = took; asked = part.asked; resend = part.resend; fault = part.fault } ≡ report_of part took
@@ -50,6 +62,6 @@ returns-clause-ok c = λ s a.
     let unit = c.args.unit.now in
     let so = (goal.at.returns-clause-ok c).After-control_hears-part in
     let i = at so s a in
-    let o = c.take_in-took.ensures unit _ c.in_ok-brought.ensures.brought (after so s a) in
+    let o = c.take_in-took.ensures unit _ (c.in_ok-brought.ensures.brought ∙ ap (λ (p : Profile). brought_by p unit) (same_profile c.args.parts.now s a)) (after so s a) in
     served s n (heard_of unit n s) _ c.take_in-took.new.parts i
-    (rw (is_controls unit n s i.link (λ head status e. c.in_default-unit.not-Lssu head status e), ← told so s a) (record { answer_is = ap HeardBack (reported c.control_hears-part.result c.take_in-took.result ∙ ap (report_of c.control_hears-part.result) o.took_is); stands = o.stands }))
+    (rw (is_controls unit n s i.link (sym (ap (λ (p : Profile). is_heard p unit) (same_profile c.args.parts.now s a)) ∙ is_so so), ← told so s a) (record { answer_is = ap HeardBack (reported c.control_hears-part.result c.take_in-took.result ∙ ap (report_of c.control_hears-part.result) o.took_is); stands = o.stands }))

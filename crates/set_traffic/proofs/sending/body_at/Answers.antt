@@ -10,4 +10,4 @@ pub body-requires : goal.body-requires
 body-requires c =
     let f = c.requires.holds.1.1.stands in
     let at = found_at _ _ f c.args.fate c.args.place c.unwrap-message.result c.requires.standing (sym c.number_at.ensures ∙ c.unwrap-message.ensures) in
-    omega (arith, at.below, f.held_bodies, f.stands.count)
+    omega (arith, at.below, f.held_bodies)

@@ -1,6 +1,8 @@
 use Rattle.pair_model.proofs.Runs.{every_honest_run as every_honest_run_keeps_links}
 use Rattle.pair_changeover.proofs.Runs.{every_sound_run as every_sound_run_diverts_the_rest}
 use Rattle.pair_streams.proofs.Runs.{every_sound_run as every_sound_run_keeps_streams, every_quiet_run as every_quiet_run_keeps_order}
+use Rattle.pair_streams.proofs.Counting.{every_quiet_run_counts}
+use Rattle.pair_streams.proofs.Telling.{every_quiet_run_tells}
 use Rattle.pair_world.proofs.Playing.{leads, fails}
 use Rattle.pair_world.proofs.world.World.play.Goals as goal
 
@@ -39,6 +41,24 @@ returns-in-Ok-clause-parts c = every_quiet_run_keeps_order _ _ _ c.are_asked.ens
 
 pub returns-in-Err-clause-parts : goal.returns-in-Err-clause-parts
 returns-in-Err-clause-parts c = every_quiet_run_keeps_order _ _ _ c.are_asked.ensures
+
+pub returns-in_err-world-clause-numbers : goal.returns-in_err-world-clause-numbers
+returns-in_err-world-clause-numbers c = every_quiet_run_tells _ _ _ c.are_asked.ensures
+
+pub returns-in-Ok-clause-numbers : goal.returns-in-Ok-clause-numbers
+returns-in-Ok-clause-numbers c = every_quiet_run_tells _ _ _ c.are_asked.ensures
+
+pub returns-in-Err-clause-numbers : goal.returns-in-Err-clause-numbers
+returns-in-Err-clause-numbers c = every_quiet_run_tells _ _ _ c.are_asked.ensures
+
+pub returns-in_err-world-clause-acks : goal.returns-in_err-world-clause-acks
+returns-in_err-world-clause-acks c = every_quiet_run_counts _ _ _ c.are_asked.ensures
+
+pub returns-in-Ok-clause-acks : goal.returns-in-Ok-clause-acks
+returns-in-Ok-clause-acks c = every_quiet_run_counts _ _ _ c.are_asked.ensures
+
+pub returns-in-Err-clause-acks : goal.returns-in-Err-clause-acks
+returns-in-Err-clause-acks c = every_quiet_run_counts _ _ _ c.are_asked.ensures
 
 pub returns-in-Ok-clause-world : goal.returns-in-Ok-clause-world
 returns-in-Ok-clause-world c = leads _ _ _ _ c.in_ok-world.ensures _ c.in-Ok.ensures

@@ -1,62 +1,79 @@
-use Rattle.std.proofs.Common.{arith, ◌≡◌, ◌∙◌, ap, ◌<◌, ◌^◌, ◌∷◌, [], ◌++◌, List, length}
+use Rattle.std.proofs.Common.{arith, ◌≡◌, ◌∙◌, ap, ◌<◌, ◌≤◌, ◌^◌, ◌∷◌, [], ◌++◌, ℕ, List}
 use Rattle.set_events.specs.declared.history.Entry.{Entry}
-use Rattle.set_model.specs.History.{is_user, is_terminal, after}
-use Rattle.set_model.specs.State.{State, new_state}
+use Rattle.set_model.specs.History.{Base, LinkSet, after, books_of, entries_in, entries_of, opening_of}
 use Rattle.set_model.specs.Step.{step}
 use Rattle.set_model.proofs.Staying.{step_gains}
 use Rattle.set_step.specs.Answering.{AnswersFor}
 use Rattle.set_core.specs.Keeping.{IsKept}
-use Rattle.set_core.proofs.Calls.{any_few}
-use Rattle.set_core.proofs.Keeping.{messages_few, few_more, kept_more, gained, is_step, bounded}
+use Rattle.set_core.proofs.Calls.{in_sum}
+use Rattle.set_core.proofs.Keeping.{few_more, kept_more, gained, is_step, bounded}
 use Rattle.set_core.proofs.set.SetCore.apply_into.Goals as goal
 use Rattle.set_core.proofs.set.SetCore.apply_into.Goals.{After-push}
 
 abbrev entry : After-push → Entry
 entry c = record { who = c.args.who; event = c.args.event.now; answer = c.apply.new.answer }
 
-abbrev opening : After-push → State
-opening c = new_state c.self.inside.config
+abbrev base : After-push → Base
+base c = opening_of c.self.inside.config
 
 -- the entry stands last
 grown : (c : After-push) → c.push.new.self.items ≡ c.self.inside.history.items ++ entry c ∷ []
 grown c = c.push.ensures ∙ ap (λ (xs : List Entry). xs ++ entry c ∷ []) c.reserve.ensures.same
 
 -- what is kept agreed with the state after the history, and is answered for
-told : (c : After-push) → AnswersFor (step (after (opening c) c.self.inside.history.items) (entry c).event) (entry c).answer c.apply.new.self
-told c = c.in_ok-apply.ensures.ok (after (opening c) c.self.inside.history.items) c.self.invariant.agrees
+told : (c : After-push) → AnswersFor (step (after (base c).state c.self.inside.history.items) (entry c).event) (entry c).answer c.apply.new.self
+told c = c.in_ok-apply.ensures.ok (after (base c).state c.self.inside.history.items) c.self.invariant.agrees
 
-kept : (c : After-push) → IsKept (opening c) c.apply.new.self c.count.new.self c.push.new.self.items
+kept : (c : After-push) → IsKept (base c) c.apply.new.self c.count.new.self c.push.new.self.items
 kept c =
     let k = c.self.invariant in
-    let room : length c.self.inside.history.items < 2 ^ 48 = omega (arith, c.if-len-ge-LONGEST_HISTORY.false, c.len.ensures.value) in
-    rw (grown c) (kept_more (opening c) c.self.inside.core c.apply.new.self c.self.inside.history.items (entry c) c.requires k.agrees (told c) c.self.inside.tally c.count.new.self k room
+    let same : entries_of (base c) c.self.inside.history.items ≡ entries_in c.args.self.now = ap (λ (set : LinkSet). entries_in set) c.self.view_is in
+    let room : entries_of (base c) c.self.inside.history.items < 2 ^ 48 = omega (arith, c.if-entries-ge-LONGEST_HISTORY.false, c.entries.ensures, same) in
+    rw (grown c) (kept_more (base c) c.self.inside.core c.apply.new.self c.self.inside.history.items (entry c) c.requires k.agrees (told c) c.self.inside.tally c.count.new.self k room
     (record { user_calls = c.count.ensures.user_calls; term_calls = c.count.ensures.term_calls; messages = c.count.ensures.messages; octets = c.count.ensures.octets }))
 
 pub apply-requires : goal.apply-requires
 apply-requires c =
     let k = c.self.invariant in
-    let s = after (new_state c.self.inside.config) c.self.inside.history.items in
-    (s, k.agrees, few_more (length c.self.inside.history.items) (2 ^ 48) s k.short k.few)
+    let s = after (opening_of c.self.inside.config).state c.self.inside.history.items in
+    (s, k.agrees, few_more (entries_of (opening_of c.self.inside.config) c.self.inside.history.items) (2 ^ 48) s k.short k.few)
 
 pub count-requires-clause-user_calls : goal.count-requires-clause-user_calls
 count-requires-clause-user_calls c n =
     let k = c.self.invariant in
-    rw k.counted.user_calls (omega (arith, any_few is_user 0 64 c.self.inside.history.items n, k.short))
+    let calls = k.calls in
+    let short = k.short in
+    let counted = k.counted.user_calls in
+    rw counted (omega (arith, in_sum (books_of (opening_of c.self.inside.config) c.self.inside.history.items).user_calls n, calls, short))
 
 pub count-requires-clause-term_calls : goal.count-requires-clause-term_calls
 count-requires-clause-term_calls c n =
     let k = c.self.invariant in
-    rw k.counted.term_calls (omega (arith, any_few is_terminal 0 16 c.self.inside.history.items n, k.short))
+    let calls = k.calls in
+    let short = k.short in
+    let counted = k.counted.term_calls in
+    rw counted (omega (arith, in_sum (books_of (opening_of c.self.inside.config) c.self.inside.history.items).term_calls n, calls, short))
 
 pub count-requires-clause-messages : goal.count-requires-clause-messages
 count-requires-clause-messages c =
     let k = c.self.invariant in
-    omega (arith, k.counted.messages, messages_few c.self.inside.history.items, k.short)
+    let counted = k.counted.messages in
+    let few = k.messages in
+    let short = k.short in
+    omega (arith, counted, few, short)
+
+pub count-requires-clause-octets : goal.count-requires-clause-octets
+count-requires-clause-octets c =
+    let k = c.self.invariant in
+    let counted = k.counted.octets in
+    let few = k.octets in
+    let short = k.short in
+    omega (arith, counted, few, short)
 
 pub count-requires-clause-body : goal.count-requires-clause-body
 count-requires-clause-body c =
     let k = c.self.invariant in
-    let s = after (new_state c.self.inside.config) c.self.inside.history.items in
+    let s = after (opening_of c.self.inside.config).state c.self.inside.history.items in
     let told = c.in_ok-apply.ensures.ok s k.agrees in
     rw told.answer_is (step_gains s c.args.event.now k.agrees.sound.managed).octets
 
@@ -65,14 +82,15 @@ invariant_of-self-2 c = kept c
 
 pub returns-clause-ok : goal.returns-clause-ok
 returns-clause-ok c =
-    rw (← c.self.view_is, grown c) (is_step (opening c) c.self.inside.core c.apply.new.self c.self.inside.history.items (entry c) c.requires c.self.invariant.agrees (told c))
+    rw (← c.self.view_is, grown c) (is_step (base c) c.self.inside.core c.apply.new.self c.self.inside.history.items (entry c) c.requires c.self.invariant.agrees (told c))
 
 pub returns-clause-gains : goal.returns-clause-gains
 returns-clause-gains c =
-    rw (← c.self.view_is, grown c) (gained (opening c) c.self.inside.core c.apply.new.self c.self.inside.history.items (entry c) c.requires c.self.invariant.agrees (told c))
+    let k = c.self.invariant in
+    rw (← c.self.view_is, grown c) (gained (base c) c.self.inside.core c.apply.new.self c.self.inside.history.items (entry c) c.requires k.agrees (told c) k.users k.terminals)
 
 pub returns-clause-bounded : goal.returns-clause-bounded
-returns-clause-bounded c = (bounded (opening c) c.apply.new.self c.count.new.self c.push.new.self.items (kept c))
+returns-clause-bounded c = (bounded (base c) c.apply.new.self c.count.new.self c.push.new.self.items (kept c))
 
 pub invariant_of-self : goal.invariant_of-self
 invariant_of-self c = rw (c.reserve.ensures.same) c.self.invariant

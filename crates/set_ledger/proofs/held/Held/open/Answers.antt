@@ -1,5 +1,6 @@
-use Rattle.std.proofs.Common.{◌∙◌, ap, rules}
+use Rattle.std.proofs.Common.{◌∙◌, [], ap, refl, sym}
 use Rattle.set_model.specs.History.{LinkSet}
+use Rattle.set_core.proofs.Keeping.{opened_entries}
 use Rattle.set_ledger.proofs.Closing.{in_range, few_users}
 use Rattle.set_ledger.proofs.held.Held.open.Goals as goal
 
@@ -13,7 +14,12 @@ pub returns-in_err-core-clause-range : goal.returns-in_err-core-clause-range
 returns-in_err-core-clause-range g c = ((λ e. let told = c.from_residual.ensures.1 in let is = (rw e at told) in absurd cc), (λ outside. absurd (in_range c.args.users c.if-users-eq0.false c.if-users-gt-MOST_USERS.false outside)))
 
 pub with_seats-requires-clause-new : goal.with_seats-requires-clause-new
-with_seats-requires-clause-new g c = rw c.in_ok-core.ensures.core (search rules)
+with_seats-requires-clause-new g c = rw c.in_ok-core.ensures.core (record {
+  calls_is = sym (opened_entries c.args.config.now []);
+  messages_is = refl;
+  octets_is = refl;
+  acknowledged_is = refl;
+})
 
 pub with_seats-requires-clause-calls : goal.with_seats-requires-clause-calls
 with_seats-requires-clause-calls g c = c.requires.calls (few_users c.args.users c.if-users-eq0.false c.if-users-gt-MOST_USERS.false)

@@ -24,5 +24,5 @@ returns-clause-few c =
     let st = c.self.invariant.1.stands in
     let fewer = fewer_filter is_users s.rows in
     let all = total c s st in
-    let count = st.stands.count in
+    let count = st.given_out in
     omega (arith, fewer, all, count, c.len.ensures.value, c.len.type_inv)

@@ -1,6 +1,7 @@
 use Rattle.std.proofs.Common.{arith, ◌≡◌, ◌∙◌, ap, sym, ℕ, ◌+◌, ◌%◌, slice_get, option_map}
 use Rattle.std.proofs.lemmas.Bool.Decides.{nat_tests}
-use Rattle.set_queues.specs.Buffers.{Unacked, queue_at, last_at}
+use Rattle.set_queues.specs.Buffers.{Unacked, queue_at, last_at, profile_at}
+use Rattle.l2_window.specs.Window.{fsn_count}
 use Rattle.set_model.specs.State.{State, unacked_in}
 use Rattle.set_moves.specs.Agreement.{StandsFor}
 use Rattle.set_moves.specs.Parts.{kept_of}
@@ -13,11 +14,11 @@ at_place : (c : After-number_at) → slice_get (queue_at (Unacked c.args.link) c
 at_place c = ap (λ (i : ℕ). slice_get (queue_at (Unacked c.args.link) c.self.inside.parts.queues.lists) i) (sym c.from-2.ensures) ∙ sym c.number_at.ensures
 
 -- what the state has there
-is : (c : After-number_at) (s : State) → StandsFor (kept_of c.self.inside.parts) s → unacked_in s c.args.link c.args.place ≡ option_map (λ number. record { number = number; fsn = (last_at c.args.link c.self.inside.parts.queues.lists + 1 + c.args.place) % 128 }) c.number_at.result
+is : (c : After-number_at) (s : State) → StandsFor (kept_of c.self.inside.parts) s → unacked_in s c.args.link c.args.place ≡ option_map (λ number. record { number = number; fsn = (last_at c.args.link c.self.inside.parts.queues.lists + 1 + c.args.place) % fsn_count (profile_at c.args.link c.self.inside.parts.queues.lists) }) c.number_at.result
 is c s f = unacked_is (kept_of c.self.inside.parts) s c.args.link c.args.place c.number_at.result f (omega (arith, c.if-from-len.false, c.len.ensures, c.from.ensures)) (at_place c)
 
 pub returns-in_err-number : goal.returns-in_err-number
 returns-in_err-number c = grind (arith, nat_tests, is, c.from_residual.ensures, c.in_err-number.was)
 
 pub returns : goal.returns
-returns c = grind (arith, nat_tests, is, c.last-last.ensures.value, c.window.ensures.last, c.number_after-fsn.ensures.value, c.from-3.ensures, c.in_ok-number.was)
+returns c = grind (arith, nat_tests, is, c.window.ensures.last, c.window.ensures.profile, c.fsn_behind-fsn.ensures, c.in_ok-number.was)
