@@ -1,10 +1,10 @@
 -- Octets that are kept until they have ended print nothing before.
-use Rattle.std.proofs.Common.{refl, sym, subst, ◌≡◌, ap, [], ◌∷◌, ◌++◌, ℕ, List, Result, Ok, Err, MatchResult}
+use Rattle.std.proofs.Common.{refl, sym, subst, ◌≡◌, ap, [], ◌∷◌, ◌++◌, ℕ, List, Option, None, Some, Result, Ok, Err, MatchResult}
 use Rattle.printing.specs.Printing.{Printed, IsBegun, Reads, Stops, Ends, StopsIn, ReadsOrStops}
 use Rattle.printing.specs.declared.fault.Stop.{Stop}
 use Rattle.printing.specs.declared.fault.Stop.TheVariants.{Input, Memory}
 use Rattle.audit_text.specs.declared.fault.AuditFault.{AuditFault}
-use Rattle.audit_text.specs.Auditing.{IsAuditText, Faults, IsSaid, says}
+use Rattle.audit_text.specs.Auditing.{IsAuditText, IsSaid}
 use Rattle.audit_text.proofs.Verdicts.{one_text_each}
 
 abbrev pub HasKept : List ℕ → List ℕ → List ℕ → Type 0
@@ -36,27 +36,11 @@ keeps_none input octets out = record {
 
 -- The end.
 
-stopped : (stop : Stop AuditFault) (input past lines : List ℕ) → HasKept input past lines → Faults stop (IsAuditText input) → StopsIn stop (IsAuditText past) (lines ++ [])
-stopped (Input fault) input past lines h f = rw (sym h.0, h.1) f
-stopped Memory input past lines h f = begins (IsAuditText past) lines h.1
-
-ends_so : (stop : Stop AuditFault) (input out : List ℕ) → Faults stop (IsAuditText input) → Ends IsAuditText (Err stop) (HasKept input) out out
-ends_so stop input out f = record {
-  printed = [];
-  added = nothing_more out;
-  ends = λ past lines few h. stopped stop input past lines h f;
-  begun = λ past lines few h. begins (IsAuditText past) lines h.1;
-}
-
-ends_well : (input text out after : List ℕ) → after ≡ out ++ text → IsAuditText input (says text) → Ends IsAuditText (Ok tt) (HasKept input) out after
-ends_well input text out after is said = record {
-  printed = text;
-  added = is;
-  ends = λ past lines few h. rw (sym h.0, h.1) said;
-  begun = λ past lines few h other it.
-      let same : other ≡ says text = one_text_each input other (says text) (subst (λ (i : List ℕ). IsAuditText i other) (sym h.0) it) said in
-      ([], rw (same, h.1) (nothing_more text));
-}
+-- a text that is said is the beginning of the input's
+begins_said : (input printed lines : List ℕ) (fault : Option AuditFault) → IsAuditText input (record { printed = printed; fault = fault }) → lines ≡ [] → IsBegun (IsAuditText input) (lines ++ printed)
+begins_said input printed lines fault said none = λ other it.
+    let same : other ≡ record { printed = printed; fault = fault } = one_text_each input other (record { printed = printed; fault = fault }) it said in
+    ([], rw (same, none) (nothing_more printed))
 
 pub kept_or_not : (result : Result (Unit {0}) (Stop AuditFault)) (old octets new out : List ℕ)
     → MatchResult result (λ done. new ≡ old ++ octets) (λ stop. stop ≡ Memory) → ReadsOrStops IsAuditText result (HasKept old) octets out out (HasKept new)
@@ -65,5 +49,21 @@ kept_or_not (Err stop) old octets new out is = rw is (keeps_none old octets out)
 
 pub said_or_not : (result : Result (Unit {0}) (Stop AuditFault)) (input before after : List ℕ)
     → IsSaid result (IsAuditText input) before after → Ends IsAuditText result (HasKept input) before after
-said_or_not (Ok done) input before after s = ends_well input s.printed before after s.added s.said
-said_or_not (Err stop) input before after s = rw s.1 (ends_so stop input before s.0)
+said_or_not (Ok done) input before after s = record {
+  printed = s.printed;
+  added = s.added;
+  ends = λ past lines few h. rw (sym h.0, h.1) s.said;
+  begun = λ past lines few h. subst (λ (i : List ℕ). IsBegun (IsAuditText i) (lines ++ s.printed)) h.0 (begins_said input s.printed lines None s.said h.1);
+}
+said_or_not (Err (Input fault)) input before after s = record {
+  printed = s.printed;
+  added = s.added;
+  ends = λ past lines few h. rw (sym h.0, h.1) s.said;
+  begun = λ past lines few h. subst (λ (i : List ℕ). IsBegun (IsAuditText i) (lines ++ s.printed)) h.0 (begins_said input s.printed lines (Some fault) s.said h.1);
+}
+said_or_not (Err Memory) input before after s = record {
+  printed = [];
+  added = rw s (nothing_more before);
+  ends = λ past lines few h. begins (IsAuditText past) lines h.1;
+  begun = λ past lines few h. begins (IsAuditText past) lines h.1;
+}

@@ -1,17 +1,18 @@
 -- What is said of a history, and that nothing else can be said of it.
-use Rattle.std.proofs.Common.{refl, arith, sym, subst, ◌≡◌, ◌∙◌, ap, ◌<◌, ◌≤◌, ◌+◌, [], ◌∷◌, length, ℕ, zero, suc, Bool, true, false, nat_lt, List, Option, None, Some, Result, Ok, Err, MatchOption, MatchResult, take, get_or}
+use Rattle.std.proofs.Common.{refl, arith, sym, subst, ◌≡◌, ◌∙◌, ap, ◌<◌, ◌≤◌, ◌+◌, [], ◌∷◌, length, ℕ, zero, suc, Bool, true, false, nat_lt, List, Option, None, Some, Result, Ok, Err, IfOk, MatchOption, take, get_or}
 use Rattle.std.proofs.lemmas.Bool.Decides.{nat_tests}
 use Rattle.printing.specs.Printing.{Printed}
-use Rattle.printing.specs.declared.fault.Stop.{Stop}
-use Rattle.printing.specs.declared.fault.Stop.TheVariants.{Input, Memory}
 use Rattle.set_events.specs.declared.history.Entry.{Entry}
 use Rattle.set_model.specs.State.{State, Settings, opened_with}
 use Rattle.set_model.specs.Step.{step}
 use Rattle.set_model.specs.History.{IsLegal, longest_history}
-use Rattle.history_audit.specs.FirstWrong.{IsFirstWrong}
+use Rattle.history_audit.specs.FirstWrong.{IsFirstWrong, answer_at}
 use Rattle.history_lines.specs.Telling.{Telling, tells, unreadable, history_in}
 use Rattle.audit_text.specs.declared.fault.AuditFault.{AuditFault}
-use Rattle.audit_text.specs.Auditing.{IsAudited, legal, wrong, full, IsAuditOf, IsAuditText, Faults, says, legal_text, wrong_text}
+use Rattle.audit_text.specs.declared.fault.AuditFault.TheVariants.{Text, Illegal, Exhausted}
+use Rattle.text_lines.specs.declared.flaw.LineFlaw.{LineFlaw}
+use Rattle.audit_text.specs.declared.verdict.Verdict.{Verdict}
+use Rattle.audit_text.specs.Auditing.{IsAudited, legal, wrong, full, IsAuditOf, IsAuditText, legal_text, wrong_text, refuses, told_of}
 
 -- Nothing else can be said.
 
@@ -51,14 +52,14 @@ one_audit s entries lines a b (legal few l is) (legal few2 l2 is2) = is ∙ sym 
 one_audit s entries lines a b (legal few l is) (wrong p few2 w is2) = absurd (not_legal s entries p l w)
 one_audit s entries lines a b (legal few l is) (full many is2) = absurd (omega (arith, few, many))
 one_audit s entries lines a b (wrong p few w is) (legal few2 l is2) = absurd (not_legal s entries p l w)
-one_audit s entries lines a b (wrong p few w is) (wrong q few2 w2 is2) = is ∙ (ap (λ (n : ℕ). says (wrong_text (get_or lines n 0))) (one_place s entries p q w w2) ∙ sym is2)
+one_audit s entries lines a b (wrong p few w is) (wrong q few2 w2 is2) = is ∙ (ap (λ (n : ℕ). refuses (get_or lines n 0) (answer_at s entries n)) (one_place s entries p q w w2) ∙ sym is2)
 one_audit s entries lines a b (wrong p few w is) (full many is2) = absurd (omega (arith, few, many))
 one_audit s entries lines a b (full many is) (legal few l is2) = absurd (omega (arith, few, many))
 one_audit s entries lines a b (full many is) (wrong p few w is2) = absurd (omega (arith, few, many))
 one_audit s entries lines a b (full many is) (full many2 is2) = is ∙ sym is2
 
 one_of_telling : (t : Telling) (a b : Printed AuditFault) → IsAuditOf t a → IsAuditOf t b → a ≡ b
-one_of_telling (unreadable n) a b x y = x ∙ sym y
+one_of_telling (unreadable n flaw) a b x y = x ∙ sym y
 one_of_telling (tells s entries lines) a b x y = one_audit (opened_with s) entries lines a b x y
 
 pub one_text_each : (input : List ℕ) (a b : Printed AuditFault) → IsAuditText input a → IsAuditText input b → a ≡ b
@@ -66,25 +67,19 @@ one_text_each input a b x y = one_of_telling (history_in input) a b x y
 
 -- What is said.
 
-abbrev Outcome : {T : Type 0} → (T → List ℕ) → Result T (Stop AuditFault) → (Printed AuditFault → Type 0) → Type 0
-Outcome items result IsIt = MatchResult result (λ text. IsIt (says (items text))) (λ stop. Faults stop IsIt)
+-- what was appended and the fault are the text
+all_told : (printed told : List ℕ) (fault ends : Option AuditFault) → printed ≡ told → fault ≡ ends → ◌≡◌ {A = Printed AuditFault} (record { printed = printed; fault = fault }) (record { printed = told; fault = ends })
+all_told printed told fault ends p f = rw (p, f) refl
 
-pub wrong_told : (s : State) (entries : List Entry) (lines : List ℕ) (p : ℕ) (text : List ℕ)
-    → length entries ≤ longest_history → IsFirstWrong s entries p → text ≡ wrong_text (get_or lines p 0) → IsAudited s entries lines (says text)
-wrong_told s entries lines p text few w same = wrong p few w (ap says same)
+pub wrong_told : (s : State) (entries : List Entry) (lines : List ℕ) (p : ℕ) (printed : List ℕ) (fault : Option AuditFault)
+    → length entries ≤ longest_history → IsFirstWrong s entries p → printed ≡ wrong_text (get_or lines p 0) (answer_at s entries p) → fault ≡ Some (Illegal (get_or lines p 0))
+    → IsAudited s entries lines (record { printed = printed; fault = fault })
+wrong_told s entries lines p printed fault few w told ends = wrong p few w (all_told printed _ fault _ told ends)
 
-pub legal_told : {T : Type 0} (items : T → List ℕ) (s : State) (entries : List Entry) (lines : List ℕ) (result : Result T (Stop AuditFault))
-    → length entries ≤ longest_history → IsLegal s entries
-    → MatchResult result (λ text. items text ≡ legal_text s entries) (λ stop. stop ≡ Memory) → Outcome items result (IsAudited s entries lines)
-legal_told items s entries lines (Ok text) few l told = legal few l (ap says told)
-legal_told items s entries lines (Err stop) few l told = rw told tt
-
--- what is said of the history that a text tells is said of the text
-pub of_text : {T : Type 0} (items : T → List ℕ) (input : List ℕ) (s : Settings) (entries : List Entry) (lines : List ℕ) (result : Result T (Stop AuditFault))
-    → history_in input ≡ tells s entries lines → Outcome items result (IsAudited (opened_with s) entries lines) → Outcome items result (IsAuditText input)
-of_text items input s entries lines (Ok text) is said = rw is said
-of_text items input s entries lines (Err (Input fault)) is said = rw is said
-of_text items input s entries lines (Err Memory) is said = tt
+pub legal_told : (s : State) (entries : List Entry) (lines printed : List ℕ) (fault : Option AuditFault)
+    → length entries ≤ longest_history → IsLegal s entries → printed ≡ legal_text s entries → fault ≡ None
+    → IsAudited s entries lines (record { printed = printed; fault = fault })
+legal_told s entries lines printed fault few l told ends = legal few l (all_told printed _ fault _ told ends)
 
 pub found_some : {A : Type 0} (p : A) (found : Option A) (N : Type 0) (S : A → Type 0) → found ≡ Some p → MatchOption found N S → S p
 found_some p found N S is h = subst (λ f. MatchOption f N S) is h
@@ -99,3 +94,31 @@ not_full n found exhausted result h e = go (nat_lt longest_history n) refl
     go : (b : Bool) → nat_lt longest_history n ≡ b → n ≤ longest_history
     go true f = let no : Err exhausted ≡ Ok found = sym (h (grind (arith, nat_tests, f))) ∙ e in cc no
     go false f = grind (arith, nat_tests, f)
+
+-- What is said of a history as it's told.
+
+pub refused : {E : Type 0} (s : State) (entries : List Entry) (lines : List ℕ) (p : ℕ) (result : Result Verdict E) → length entries ≤ longest_history → IsFirstWrong s entries p
+    → IfOk result (λ v. v.text.items ≡ wrong_text (get_or lines p 0) (answer_at s entries p)) → IfOk result (λ v. v.fault ≡ Some (Illegal (get_or lines p 0)))
+    → IfOk result (λ v. IsAudited s entries lines (told_of v))
+refused s entries lines p (Ok v) few w told ends = wrong_told s entries lines p v.text.items v.fault few w told ends
+refused s entries lines p (Err want) few w told ends = tt
+
+pub accepted : {E : Type 0} (s : State) (entries : List Entry) (lines : List ℕ) (result : Result Verdict E) → length entries ≤ longest_history → IsLegal s entries
+    → IfOk result (λ v. v.text.items ≡ legal_text s entries) → IfOk result (λ v. v.fault ≡ None)
+    → IfOk result (λ v. IsAudited s entries lines (told_of v))
+accepted s entries lines (Ok v) few l told ends = legal_told s entries lines v.text.items v.fault few l told ends
+accepted s entries lines (Err want) few l told ends = tt
+
+pub too_many : (s : State) (entries : List Entry) (lines printed : List ℕ) (fault : Option AuditFault) → longest_history < length entries → printed ≡ [] → fault ≡ Some Exhausted
+    → IsAudited s entries lines (record { printed = printed; fault = fault })
+too_many s entries lines printed fault many told ends = full many (all_told printed _ fault _ told ends)
+
+-- what is said of the history that a text tells is said of the text
+pub of_text : {E : Type 0} (input : List ℕ) (s : Settings) (entries : List Entry) (lines : List ℕ) (result : Result Verdict E) → history_in input ≡ tells s entries lines
+    → IfOk result (λ v. IsAudited (opened_with s) entries lines (told_of v)) → IfOk result (λ v. IsAuditText input (told_of v))
+of_text input s entries lines (Ok v) is said = rw is said
+of_text input s entries lines (Err want) is said = tt
+
+pub not_read : (input : List ℕ) (n : ℕ) (flaw : LineFlaw) (printed : List ℕ) (fault : Option AuditFault) → history_in input ≡ unreadable n flaw → printed ≡ [] → fault ≡ Some (Text n flaw)
+    → IsAuditText input (record { printed = printed; fault = fault })
+not_read input n flaw printed fault is told ends = rw is (all_told printed _ fault _ told ends)

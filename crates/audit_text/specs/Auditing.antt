@@ -1,5 +1,5 @@
 -- THE TEXT OF `audit`: whether the history that is read is legal, and what it adds up to.
-use Rattle.std.specs.Prelude.{◌≡◌, ◌<◌, ◌≤◌, ℕ, List, [], ◌++◌, length, None, Some, Result, MatchResult, get_or, codes, decimal}
+use Rattle.std.specs.Prelude.{◌≡◌, ◌<◌, ◌≤◌, ℕ, List, [], ◌++◌, length, Option, None, Some, Result, MatchResult, get_or, codes, decimal}
 use Rattle.printing.specs.Printing.{Printed}
 use Rattle.printing.specs.declared.fault.Stop.{Stop}
 use Rattle.printing.specs.declared.fault.Stop.TheVariants.{Input, Memory}
@@ -7,10 +7,13 @@ use Rattle.set_events.specs.declared.books.Books.{Books}
 use Rattle.set_events.specs.declared.history.Entry.{Entry}
 use Rattle.set_model.specs.State.{State, opened_with}
 use Rattle.set_model.specs.History.{IsLegal, books_of, longest_history}
-use Rattle.history_audit.specs.FirstWrong.{IsFirstWrong}
+use Rattle.set_events.specs.declared.answer.Answer.{Answer}
+use Rattle.answer_texts.specs.Texts.{answer_text}
+use Rattle.history_audit.specs.FirstWrong.{IsFirstWrong, answer_at}
 use Rattle.history_lines.specs.Telling.{Telling, tells, unreadable, history_in}
 use Rattle.audit_text.specs.declared.fault.AuditFault.{AuditFault}
-use Rattle.audit_text.specs.declared.fault.AuditFault.TheVariants.{Text, Exhausted}
+use Rattle.audit_text.specs.declared.fault.AuditFault.TheVariants.{Text, Illegal, Exhausted}
+use Rattle.audit_text.specs.declared.verdict.Verdict.{Verdict}
 
 -- how many entries there are, each the call of one actor; how many messages were accepted, the octets of their bodies,
 -- and how many of them were acknowledged
@@ -24,29 +27,39 @@ abbrev pub legal_text : State → List Entry → List ℕ
 legal_text opening entries =
     codes "legal=yes" ++ books_text (length entries) (books_of opening entries)
 
-abbrev pub wrong_text : ℕ → List ℕ
-wrong_text line = codes "legal=no line=" ++ (decimal line ++ codes "\n")
+-- what a set answers there, as in a history; nothing to an actor that it hasn't
+abbrev pub there_text : Option Answer → List ℕ
+there_text None = codes "no such user or terminal\n"
+there_text (Some answer) = answer_text answer
+
+abbrev pub wrong_text : ℕ → Option Answer → List ℕ
+wrong_text line answer =
+    codes "legal=no line=" ++ (decimal line ++ (codes " -> " ++ there_text answer))
 
 -- all that is printed, and no fault
 abbrev pub says : List ℕ → Printed AuditFault
 says printed = record { printed = printed; fault = None }
 
+-- what is printed of the line of the first wrong entry, which is a fault
+abbrev pub refuses : ℕ → Option Answer → Printed AuditFault
+refuses line answer = record { printed = wrong_text line answer; fault = Some (Illegal line) }
+
 abbrev pub fails : AuditFault → Printed AuditFault
 fails fault = record { printed = []; fault = Some fault }
 
 -- YES exactly where the entries are a legal history of a set that opened so; NO with the line of the first that isn't
--- the step's answer. No history has more than 2^48 entries.
+-- the step's answer, and that answer. No history has more than 2^48 entries.
 pub data IsAudited (opening : State) (entries : List Entry) (lines : List ℕ)
     (text : Printed AuditFault) : Type 0 where
   legal : length entries ≤ longest_history → IsLegal opening entries
       → text ≡ says (legal_text opening entries) → IsAudited opening entries lines text
   wrong : (place : ℕ) → length entries ≤ longest_history → IsFirstWrong opening entries place
-      → text ≡ says (wrong_text (get_or lines place 0)) → IsAudited opening entries lines text
+      → text ≡ refuses (get_or lines place 0) (answer_at opening entries place) → IsAudited opening entries lines text
   full : longest_history < length entries → text ≡ fails Exhausted
       → IsAudited opening entries lines text
 
 abbrev pub IsAuditOf : Telling → Printed AuditFault → Type 0
-IsAuditOf (unreadable n) text = text ≡ fails (Text n)
+IsAuditOf (unreadable n flaw) text = text ≡ fails (Text n flaw)
 IsAuditOf (tells s entries lines) text = IsAudited (opened_with s) entries lines text
 
 -- THE TEXT
@@ -60,20 +73,24 @@ OneAuditText =
 
 -- The auditor beside the definition.
 
--- a fault that is told is all there is; want of memory tells nothing
-abbrev pub Faults : Stop AuditFault → (Printed AuditFault → Type 0) → Type 0
-Faults (Input fault) IsIt = IsIt (fails fault)
-Faults Memory IsIt = Unit {0}
+-- a text and a fault are all that is said
+abbrev pub told_of : Verdict → Printed AuditFault
+told_of verdict = record { printed = verdict.text.items; fault = verdict.fault }
 
--- the line about a history was appended
-pub record Says (IsIt : Printed AuditFault → Type 0) (before after : List ℕ) : Type 0 where
+-- the text of what is said of a history was appended, and it ends so
+pub record Says (IsIt : Printed AuditFault → Type 0) (fault : Option AuditFault)
+    (before after : List ℕ) : Type 0 where
   pub printed : List ℕ
   pub added : after ≡ before ++ printed
-  pub said : IsIt (says printed)
+  pub said : IsIt (record { printed = printed; fault = fault })
 
--- it was, or a fault is told, and nothing was
+-- where memory is wanted nothing was
+abbrev pub Stopped : Stop AuditFault → (Printed AuditFault → Type 0) → List ℕ → List ℕ → Type 0
+Stopped (Input fault) IsIt before after = Says IsIt (Some fault) before after
+Stopped Memory IsIt before after = after ≡ before
+
 abbrev pub IsSaid : Result (Unit {0}) (Stop AuditFault) → (Printed AuditFault → Type 0)
     → List ℕ → List ℕ → Type 0
 IsSaid result IsIt before after =
-    MatchResult result (λ done. Says IsIt before after)
-    (λ stop. Faults stop IsIt × (after ≡ before))
+    MatchResult result (λ done. Says IsIt None before after)
+    (λ stop. Stopped stop IsIt before after)

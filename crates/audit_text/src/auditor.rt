@@ -3,7 +3,7 @@ ghost use Rattle.std.specs.Prelude.{◌≡◌, ◌++◌, MatchResult};
 ghost use Rattle.audit_text.specs.Auditing.{IsAuditText, IsSaid};
 
 use super::fault::AuditFault;
-use super::verdict::write_verdict;
+use super::verdict::judge;
 use printing::{Printer, Stop};
 use std::alloc::Global;
 use std::marker::Model;
@@ -47,12 +47,16 @@ impl Auditor {
     }
 }
 
-/// Appends the line about the history that this text tells.
+/// Appends what is said of the history that this text tells.
 fn add_verdict(alloc: Global, input: &[u8], out: &mut Vec<u8>) -> Result<(), Stop<AuditFault>>
     ensures { IsSaid result (IsAuditText input.now) out.old.items out.new.items }
 {
-    let text = write_verdict(alloc, input)?;
-    add(out, &text)
+    let verdict = judge(alloc, input)?;
+    add(out, &verdict.text)?;
+    match verdict.fault {
+        None => Ok(()),
+        Some(fault) => Err(Stop::Input(fault)),
+    }
 }
 
 /// Appends a text.

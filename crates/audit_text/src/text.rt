@@ -5,13 +5,14 @@ ghost use Rattle.audit_text.specs.Auditing.{IsAuditText, OneAuditText};
 
 use super::auditor::Auditor;
 use super::fault::AuditFault;
-use printing::{Fault, Sink, Source, print_all};
+use printing::{Fault, LONGEST_KEPT, Sink, Source, print_all};
 use std::alloc::Global;
 
 /// Reads the history that the source gives, and writes whether it's legal.
 ///
-/// A line that can't be read is a fault, and nothing is written then. An input of more than 2^24 octets is never
-/// answered Ok, and one of 2^24 or more may be [`Fault::Read`], as [`print_all`] tells.
+/// A line that can't be read is a fault, and nothing is written then; an entry that no set makes is one too, behind the
+/// line that is written about it. An input of more than 2^24 octets ends with [`Fault::Long`],
+/// unless another fault comes before.
 pub fn audit<S: Source, W: Sink>(
     alloc: Global,
     source: &mut S,
@@ -21,9 +22,9 @@ pub fn audit<S: Source, W: Sink>(
         (λ input. Prints result (IsAuditText input) (W.written sink.old) (W.written sink.new)) }
     ensures bounded { IfSome (S.left source.old) (λ input. OnOk result (length input ≤ 2 ^ 24)) }
     ensures devices { IfSome (S.left source.old)
-        (FailsByDevices result (S.has_failed source.new) (W.has_failed sink.new)) }
+        (FailsByDevices (2 ^ 24) result (S.has_failed source.new) (W.has_failed sink.new)) }
 {
-    print_all(alloc, Auditor::new(alloc), source, sink)
+    print_all(alloc, Auditor::new(alloc), LONGEST_KEPT, source, sink)
 }
 
 /// A law over the definitions alone: an input has one text.

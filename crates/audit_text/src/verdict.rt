@@ -1,59 +1,112 @@
 //! What is said of a history that has ended.
-ghost use Rattle.std.specs.Prelude.{◌≡◌, ◌++◌, ◌≤◌, IfOk, MatchResult, Ok, codes, get_or, length};
+ghost use Rattle.std.specs.Prelude.{◌≡◌, ◌++◌, ◌<◌, ◌≤◌, [], IfOk, MatchResult, codes, decimal, get_or, length, take};
 ghost use Rattle.set_model.specs.State.{new_state};
 ghost use Rattle.set_model.specs.History.{IsLegal, longest_history};
-ghost use Rattle.audit_text.specs.Auditing.{IsAuditText, IsAudited, Faults, says, books_text, legal_text, wrong_text};
+ghost use Rattle.history_audit.specs.FirstWrong.{answer_at};
+ghost use Rattle.audit_text.specs.Auditing.{IsAuditText, IsAudited, books_text, legal_text, told_of, there_text, wrong_text};
 
 use super::fault::AuditFault;
-use history_audit::{add_up_books, first_wrong};
+use history_audit::{add_up_books, answer_there, first_wrong};
 use history_lines::read_history;
+use history_text::write_answer;
 use printing::Stop;
 use set_core::SetFault;
-use set_events::{Books, Entry, SetConfig};
+use set_events::{Answer, Books, Entry, SetConfig};
 use std::alloc::{AllocError, Global};
 
-/// The line about the history that this text tells.
-pub(crate) fn write_verdict(alloc: Global, input: &[u8]) -> Result<Vec<u8>, Stop<AuditFault>>
-    ensures { MatchResult result (λ text. IsAuditText input.now (says text.items))
-        (λ stop. Faults stop (IsAuditText input.now)) }
+/// What is said of a history: a text, and how it's at fault, if it is.
+#[derive(Drop)]
+pub(crate) struct Verdict {
+    pub(crate) text: Vec<u8>,
+    pub(crate) fault: Option<AuditFault>,
+}
+
+/// What is said of the history that this text tells.
+pub(crate) fn judge(alloc: Global, input: &[u8]) -> Result<Verdict, AllocError>
+    ensures { IfOk result (λ verdict. IsAuditText input.now (told_of verdict)) }
 {
     match read_history(alloc, input) {
-        Ok(history) => audited(alloc, &history.config, &history.entries, &history.lines),
-        Err(Stop::Input(fault)) => Err(Stop::Input(AuditFault::Text { line: fault.line })),
-        Err(Stop::Memory) => Err(Stop::Memory),
+        Ok(history) => judge_entries(alloc, &history.config, &history.entries, &history.lines),
+        Err(Stop::Input(fault)) => Ok(at_fault(
+            alloc,
+            AuditFault::Text {
+                line: fault.line,
+                flaw: fault.flaw,
+            },
+        )),
+        Err(Stop::Memory) => Err(AllocError),
     }
 }
 
-/// The line about a history that was read.
-fn audited(
+/// Nothing but this fault.
+fn at_fault(alloc: Global, fault: AuditFault) -> Verdict
+    ensures text { result.text.items ≡ [] }
+    ensures fault { result.fault ≡ Some fault }
+{
+    Verdict {
+        text: Vec::new(alloc),
+        fault: Some(fault),
+    }
+}
+
+/// What is said of a history that was read.
+fn judge_entries(
     alloc: Global,
     config: &SetConfig,
     entries: &[Entry],
     lines: &[u64],
-) -> Result<Vec<u8>, Stop<AuditFault>>
-    ensures { MatchResult result
-        (λ text. IsAudited (new_state config.now) entries.now lines.now (says text.items))
-        (λ stop. Faults stop (IsAudited (new_state config.now) entries.now lines.now)) }
+) -> Result<Verdict, AllocError>
+    ensures { IfOk result
+        (λ verdict. IsAudited (new_state config.now) entries.now lines.now (told_of verdict)) }
 {
     match first_wrong(alloc, config, entries) {
-        Ok(Some(place)) => Ok(write_wrong(alloc, line_at(lines, place))?),
-        Ok(None) => legal(alloc, config, entries),
-        Err(SetFault::NoMemory) => Err(Stop::Memory),
-        Err(SetFault::Exhausted) => Err(Stop::Input(AuditFault::Exhausted)),
+        Ok(Some(place)) => refuse(alloc, config, entries, lines, place),
+        Ok(None) => accept(alloc, config, entries),
+        Err(SetFault::NoMemory) => Err(AllocError),
+        Err(SetFault::Exhausted) => Ok(at_fault(alloc, AuditFault::Exhausted)),
     }
 }
 
-/// The line about a legal history.
-fn legal(alloc: Global, config: &SetConfig, entries: &[Entry]) -> Result<Vec<u8>, Stop<AuditFault>>
+/// What is said of a history whose entry at this place is the first wrong one.
+fn refuse(
+    alloc: Global,
+    config: &SetConfig,
+    entries: &[Entry],
+    lines: &[u64],
+    place: usize,
+) -> Result<Verdict, AllocError>
+    requires within { place < length entries.now }
+    requires legal { IsLegal (new_state config.now) (take place entries.now) }
+    requires few { length entries.now ≤ longest_history }
+    ensures text { IfOk result (λ verdict. verdict.text.items ≡
+        wrong_text (get_or lines.now place 0) (answer_at (new_state config.now) entries.now place)) }
+    ensures fault { IfOk result (λ verdict.
+        verdict.fault ≡ Some (AuditFault.Illegal (get_or lines.now place 0))) }
+{
+    let line = line_at(lines, place);
+    match answer_there(alloc, config, entries, place) {
+        Ok(answer) => Ok(Verdict {
+            text: write_wrong(alloc, line, &answer)?,
+            fault: Some(AuditFault::Illegal { line }),
+        }),
+        Err(_) => Err(AllocError),
+    }
+}
+
+/// What is said of a legal history.
+fn accept(alloc: Global, config: &SetConfig, entries: &[Entry]) -> Result<Verdict, AllocError>
     requires legal { IsLegal (new_state config.now) entries.now }
     requires few { length entries.now ≤ longest_history }
-    ensures { MatchResult result
-        (λ text. text.items ≡ legal_text (new_state config.now) entries.now)
-        (λ stop. stop ≡ Stop.Memory) }
+    ensures text { IfOk result
+        (λ verdict. verdict.text.items ≡ legal_text (new_state config.now) entries.now) }
+    ensures fault { IfOk result (λ verdict. verdict.fault ≡ None) }
 {
     match add_up_books(alloc, config, entries) {
-        Ok(books) => Ok(write_legal(alloc, entries.len() as u64, &books)?),
-        Err(_) => Err(Stop::Memory),
+        Ok(books) => Ok(Verdict {
+            text: write_legal(alloc, entries.len() as u64, &books)?,
+            fault: None,
+        }),
+        Err(_) => Err(AllocError),
     }
 }
 
@@ -79,9 +132,21 @@ fn write_legal(alloc: Global, calls: u64, books: &Books) -> Result<Vec<u8>, Allo
     )?.into_bytes())
 }
 
-/// No, and the line of the first entry that is wrong.
-fn write_wrong(alloc: Global, line: u64) -> Result<Vec<u8>, AllocError>
-    ensures { IfOk result (λ text. text.items ≡ wrong_text line) }
+/// No, the line of the first entry that is wrong, and what a set answers there.
+fn write_wrong(alloc: Global, line: u64, answer: &Option<Answer>) -> Result<Vec<u8>, AllocError>
+    ensures { IfOk result (λ text. text.items ≡ wrong_text line answer.now) }
 {
-    Ok(format!(in alloc; "legal=no line={line}\n")?.into_bytes())
+    let mut text = format!(in alloc; "legal=no line={line} -> ")?.into_bytes();
+    text.extend_from_slice(&write_there(alloc, answer)?)?;
+    Ok(text)
+}
+
+/// What a set answers, in the words of a history.
+fn write_there(alloc: Global, answer: &Option<Answer>) -> Result<Vec<u8>, AllocError>
+    ensures { IfOk result (λ text. text.items ≡ there_text answer.now) }
+{
+    match answer {
+        Some(answer) => write_answer(alloc, answer),
+        None => Vec::from_slice(alloc, b"no such user or terminal\n"),
+    }
 }

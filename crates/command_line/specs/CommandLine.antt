@@ -1,5 +1,5 @@
 -- THE COMMAND LINE: the words behind the program's name, as the library that reads them defines it.
-use Rattle.std.specs.Prelude.{◌≡◌, ◌≢◌, ℕ, true, List, [], ◌∷◌, codes, drop, map, Option, None, Some, String, string_bytes}
+use Rattle.std.specs.Prelude.{◌≡◌, ◌≢◌, ◌⊎◌, ℕ, true, List, [], ◌∷◌, codes, drop, map, Option, None, Some, String, string_bytes}
 use Rattle.clap.specs.Words.{App, Shape, Row, Rule, Text, first_of, new_rule, with_subcommand, subcommand_of, takes}
 use Rattle.clap.specs.Simple.{new_shape}
 use Rattle.clap.specs.Values.{kind_of}
@@ -8,9 +8,11 @@ use Rattle.clap.specs.declared.builder.action.ArgAction.TheVariants.{SetTrue}
 use Rattle.command_line.specs.declared.words.Words.{Words}
 use Rattle.command_line.specs.declared.words.Words.TheVariants.{Units, Play, PlayExplained, Decode, Capture, Ladder, Audit, HistoryOfA, HistoryOfB, Run}
 use Rattle.command_line.specs.declared.words.WordsFault.{WordsFault}
-use Rattle.command_line.specs.declared.words.WordsFault.TheVariants.{NoMemory, Words as WrongWords, Link}
+use Rattle.command_line.specs.declared.words.WordsFault.TheVariants.{NoMemory, Words as WrongWords, Link, Said}
 use Rattle.command_line.specs.declared.run_words.Unasked.{Unasked}
 use Rattle.command_line.specs.declared.run_words.Unasked.TheVariants.{Value, Link as NoLink}
+use Rattle.command_line.specs.Advice.{advice}
+use Rattle.clap.specs.declared.error.kind.ErrorKind.TheVariants.{UnknownArgument, InvalidValue}
 use Rattle.command_line.specs.RunOptions.{IsRun, LacksLink, run_shape}
 
 -- no program's name comes first, there is a version, and a subcommand has to be there
@@ -127,19 +129,27 @@ IsAsked asked words = IsFound asked (subcommand_of program words)
 abbrev pub IsRefused : List (List ℕ) → Type 0
 IsRefused words = takes program words ≡ true → AsksForNothing (subcommand_of program words)
 
--- wrong words are those; want of memory says nothing of them; a link that isn't there is told as such
+-- wrong words are those, also where advice is given; want of memory says nothing of them; a link that isn't there is told
+-- as such
 abbrev pub Refuses : WordsFault → List (List ℕ) → Type 0
 Refuses NoMemory words = Unit {0}
 Refuses (WrongWords error) words = IsRefused words
 Refuses Link words = IsLinkless (subcommand_of program words)
+Refuses (Said said) words = IsRefused words × (advice words ≡ Some said.items)
 
 abbrev pub AreWrong : WordsFault → Type 0
 AreWrong NoMemory = ⊥
 AreWrong (WrongWords error) = Unit {0}
 AreWrong Link = ⊥
+AreWrong (Said said) = ⊥
 
 -- the library tells the wrong words as this kind of error
 abbrev pub IsKind : ErrorKind → WordsFault → Type 0
 IsKind kind NoMemory = Unit {0}
 IsKind kind (WrongWords error) = kind_of error ≡ kind
 IsKind kind Link = ⊥
+IsKind kind (Said said) = ⊥
+
+-- an error about a word that isn't taken, or about a value
+abbrev pub IsAboutWord : ErrorKind → Type 0
+IsAboutWord kind = (kind ≡ UnknownArgument) ⊎ (kind ≡ InvalidValue)

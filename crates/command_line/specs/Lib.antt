@@ -1,2 +1,3 @@
+pub mod Advice
 pub mod CommandLine
 pub mod RunOptions

@@ -54,7 +54,7 @@ and answered is printed, an entry a line, in the order in which it was:
 A fault ends the script: one line on standard error, with status 1, and no history is printed, of which `mtpbank audit`
 behind a pipe says `fault line 1 text`. The faults are those of `mtpbank play`:
   fault line N text, fault line N step, fault exhausted
-  fault read, fault write, fault memory";
+  fault read, fault long, fault write, fault memory";
 
 pub(crate) const CAPTURE_PAGE: &str = "\
 Standard input is a script, as that of `mtpbank play`. What is written is a file
@@ -69,7 +69,7 @@ set was opened with, and then a line for each thing that was asked and answered:
   terminal 0 up 0 -> done
   user 0 offer 8501800030 -> accepted 0
 What is printed is legal=yes with what the history adds up to, or legal=no with
-the line of the first entry that no such set makes.
+the line of the first entry that no such set makes, and its answer there.
 `mtpbank audit --help` says how each line is written, and each fault.";
 
 pub(crate) const AUDIT_HELP: &str = "\
@@ -88,15 +88,19 @@ further line is an entry: who asked, what, an arrow, and what was answered, in l
 The set is replayed from its opening. It prints one line:
   legal=yes calls=N accepted=M octets=O acked=A      every entry is what such a set answers then: there are N, which
                       accepted M messages with O octets in all, of which A are acknowledged
-  legal=no line=N     the entry on line N, from 1, is the first that isn't: its actor can't be, or the answer is another
+  legal=no line=N -> ANSWER                          the entry on line N, from 1, is the first that isn't: such a set
+                      answers this there. No set has its actor: no such user or terminal
 A line that can't be read is a fault, whether or not an entry before it is wrong. A fault is one line on standard error,
-with status 1, and nothing is printed:
+with status 1; but for the first, nothing is printed then:
+  fault line N illegal                               behind legal=no
   fault line N text   line N, from 1 and with those passed over, is no such line; or the text ended before line N
-                      without the one that opens the set
+                      without the one that opens the set. Behind it stands what else is wrong: a carriage return or a
+                      space at its end, a tab, a space before it, two spaces
   fault exhausted     there are more than 2^48 entries
-  fault read          standard input failed, or has more than 2^24 octets
+  fault read          standard input failed
+  fault long          standard input has more than 2^24 octets
   fault write, fault memory
-The status is 0 for legal=yes and for legal=no.";
+The status is 0 for legal=yes, and 1 else.";
 
 pub(crate) const CAPTURE_HELP: &str = "\
 Standard input is a script, as `mtpbank play --help` says. Standard output is a pcap file of link type 140 (MTP2), low
@@ -156,10 +160,10 @@ Behind that stands what the unit carries:
 The last two octets are check octets where they are right for those before them, or where only those before them are
 a unit. From length indicator 63 on, a unit with wrong check octets looks like a longer one without them.
 A fault ends the input: one line on standard error, with status 1; what was printed before it stays.
-  fault line N text   line N, from 1 and with those passed over, isn't octets in hexadecimal, or has more than
-                      4,096 characters
-  fault read          standard input failed, or has more than 2^24 octets
-  fault write, fault memory";
+  fault line N text   line N, from 1 and with those passed over, isn't octets in hexadecimal. Behind it stands what else
+                      is wrong: more than 4,096 octets, a carriage return or a space at its end, a tab, a space before
+                      it, two spaces
+  fault read, fault write, fault memory              standard input, standard output or memory failed";
 
 pub(crate) const RUN_PAGE: &str = "\
 Two banks run: one has the ends a of all sets, the other the ends b. The users
@@ -202,7 +206,13 @@ Who gets on and when is the threads' affair, so what is sent on a link differs
 from run to run. With few turns messages are left unsent. A run of more than
 two seconds tells how far it is on standard error, where that is a terminal. A
 fault is one line on standard error, with status 1, and nothing is printed:
-  fault memory      memory was wanted, by whichever thread
+  fault user set=I end=a user=U
+                    user U didn't get through: memory was refused to it, or the
+                    history is full
+  fault terminal set=I end=a link=K fault=F
+                    the terminal of link K ended early: F is 1, memory was
+                    refused to it, or 3, the history is full
+  fault memory      memory was refused elsewhere
   fault thread      a thread couldn't be started
   fault close       a set couldn't be closed
   fault write       standard output failed; what was printed stays
@@ -216,10 +226,14 @@ read and what is printed, `mtpbank capture --help` what the file holds, `mtpbank
 `mtpbank history --help` and `mtpbank audit --help` how a history is, `mtpbank run --help` what runs in threads; with
 `-h` each is a page. A fault is one line on standard error, and what was printed before it stays:
   fault line N text, fault line N step               a line can't be read, or one of a script can't be done
+  fault line N illegal                               an entry of a history is one that no set makes
   fault octet P                                      a character is no hexadecimal digit, or one is left over
   fault read, fault write, fault memory              standard input, standard output or memory failed
+  fault long                                         standard input has more than 2^24 octets, of which something is kept
   fault exhausted                                    the history of an end is full
   fault thread, fault close                          a thread couldn't be started, a set couldn't be closed
+  fault user .., fault terminal ..                   this user or terminal of a run didn't get through
+A pipe behind standard output that nobody reads any more ends with status 1 too, and no line.
 The status is 0, or 1 after a fault, or 2 where the words of the command line are wrong.";
 
 pub(crate) const UNITS_HELP: &str = "\
@@ -237,8 +251,7 @@ and the last one counts them. `echo 7edff705f8beaf1f | mtpbank units` shows a FI
 A fault ends the input: one line on standard error, with status 1; what was printed before it stays.
   fault octet P     the character at P, counted from 0, is neither a digit nor skipped, or the input ends
                     there with a digit left over
-  fault read        standard input failed, or has more than 2^24 octets
-  fault write, fault memory";
+  fault read, fault write, fault memory              standard input, standard output or memory failed";
 
 pub(crate) const PLAY_HELP: &str = "\
 A script walks two ends, a and b, of a link set; nothing happens there but what its lines ask for. Lines that
@@ -302,11 +315,13 @@ and what is offered then is found back. When b's answer has come, it waits for l
 
 A fault ends the script: one line on standard error, with status 1; what was printed before it stays.
   fault line N text   line N, from 1 and with remarks, can't be read: a word that isn't known, too few or too many
-                      words, two spaces, a CR, a leading zero, a number out of its range, an odd number of
-                      digits, more than 4,096 octets, or in hear octets that are no unit
+                      words, a leading zero, a number out of its range, an odd number of digits, or in hear octets
+                      that are no unit. Behind it stands what else is wrong: more than 4,096 octets, a carriage return
+                      or a space at its end, a tab, a space before it, two spaces
   fault line N step   it can't be done: no such link, together where the link isn't settled at both ends, or
                       arrive or lose where no such unit is under way
-  fault read          standard input failed, or has more than 2^24 octets
+  fault read          standard input failed
+  fault long          standard input has more than 2^24 octets
   fault write, fault memory, fault exhausted (a history has 2^48 entries)
 With --explain more lines come behind that of a line's fault, on standard error: what is wanted there, the script's line,
 and a caret under the word at fault, or right behind the line where a word is missing:

@@ -1,5 +1,5 @@
 //! The words of the command line.
-ghost use Rattle.std.specs.Prelude.{◌≡◌, ◌≢◌, IfErr, IfOk, MatchOption, MatchResult, codes, false, map};
+ghost use Rattle.std.specs.Prelude.{◌≡◌, ◌≢◌, ◌↔◌, IfErr, IfOk, IsTrue, MatchOption, MatchResult, codes, false, map};
 ghost use Rattle.std.specs.Option.{option_map};
 ghost use Rattle.clap.specs.Words.{app_of, subcommand_rows_of};
 ghost use Rattle.clap.specs.declared.error.ErrorKind.TheVariants.{InvalidSubcommand, InvalidValue, OutOfMemory};
@@ -7,8 +7,9 @@ ghost use Rattle.clap.specs.Simple.{new_shape, shape_of};
 ghost use Rattle.clap.specs.declared.builder.command.Command.{out-Command};
 ghost use Rattle.clap.specs.Values.{kind_of};
 ghost use Rattle.command_line.specs.CommandLine.{program, without_subcommands, history_shape, play_shape, words_in};
-ghost use Rattle.command_line.specs.CommandLine.{AreWrong, IsAsked, IsFound, IsKind, IsNotFound, IsWord, Refuses};
+ghost use Rattle.command_line.specs.CommandLine.{AreWrong, IsAboutWord, IsAsked, IsFound, IsKind, IsNotFound, IsRefused, IsWord, Refuses};
 
+use super::advice::advise;
 use super::help::{
     AUDIT_HELP, AUDIT_PAGE, CAPTURE_HELP, CAPTURE_PAGE, DECODE_HELP, DECODE_PAGE, HELP,
     HISTORY_HELP, HISTORY_PAGE, LADDER_HELP, LADDER_PAGE, PLAY_HELP, PLAY_PAGE, PROGRAM_PAGE,
@@ -55,6 +56,8 @@ pub enum WordsFault {
     Words(clap::Error),
     /// 3: the link that is to fail in a run isn't one of its links.
     Link,
+    /// 4: wrong words of which this is said, at most two lines without the last LF.
+    Said(Vec<u8>),
 }
 
 impl From<AllocError> for WordsFault {
@@ -73,13 +76,39 @@ impl From<AllocError> for WordsFault {
 /// 1 [`WordsFault::NoMemory`] may come before the other; 2 [`WordsFault::Words`] only where `clap`'s definition
 /// refuses the words, or where they name no subcommand of the program, no end behind `history`, or behind `run` a number
 /// out of its range or no method; 3 [`WordsFault::Link`] only where all these are right, but the link that is to fail
-/// isn't below the links.
+/// isn't below the links. 4 [`WordsFault::Said`] as 2, of words of which more can be said than the library does
+/// (`specs/Advice.antt`): a word behind a subcommand that reads standard input, an end that is none, and behind `run` a
+/// value out of its range or a word that is no option.
 pub fn words_of<S: AsStr>(alloc: Global, words: &[S]) -> Result<Words, WordsFault>
     ensures asked { IfOk result (λ found. IsAsked found (map S.text words.now)) }
     ensures refused { IfErr result (λ fault. Refuses fault (map S.text words.now)) }
 {
     let mut command = command(alloc)?;
-    found_by(&mut command, words)
+    match found_by(&mut command, words) {
+        Err(WordsFault::Words(error)) => Err(with_advice(alloc, words, error)),
+        found => found,
+    }
+}
+
+/// What is said of these words, for which the library has this error: advice where they are wrong and there is some.
+fn with_advice<S: AsStr>(alloc: Global, words: &[S], error: clap::Error) -> WordsFault
+    ensures { IsRefused (map S.text words.now) → Refuses result (map S.text words.now) }
+{
+    if !is_about_a_word(error.kind()) {
+        return WordsFault::Words(error);
+    }
+    match advise(alloc, words) {
+        Ok(Some(said)) => WordsFault::Said(said),
+        Ok(None) => WordsFault::Words(error),
+        Err(_) => WordsFault::NoMemory,
+    }
+}
+
+/// Whether an error of this kind is about a word that isn't taken, or a value.
+fn is_about_a_word(kind: ErrorKind) -> bool
+    ensures { IsTrue result ↔ IsAboutWord kind }
+{
+    matches!(kind, ErrorKind::UnknownArgument | ErrorKind::InvalidValue)
 }
 
 /// What these arguments ask for: the first is the program's own name, as the system hands it, and the words are all

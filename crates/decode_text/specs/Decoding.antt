@@ -12,6 +12,8 @@ use Rattle.l3_orders.specs.declared.order.Order.{Order}
 use Rattle.l3_orders.specs.declared.order.Order.TheVariants.{Coo, Coa, Cbd, Cba, Eco, Eca}
 use Rattle.l3_orders.specs.Grammar.{order_of}
 use Rattle.figures.specs.Figures.{octets_of, hex_text, bit}
+use Rattle.text_lines.specs.declared.flaw.LineFlaw.TheVariants.{Long}
+use Rattle.text_lines.specs.Flaws.{flaw_of}
 use Rattle.text_lines.specs.Lines.{LineOutcome, Rules, prints, stops, IsLinesText}
 use Rattle.printing.specs.Printing.{Printed}
 use Rattle.decode_text.specs.declared.fault.UnreadableUnit.{UnreadableUnit}
@@ -143,17 +145,17 @@ line_text octets =
     (indicator_in octets)
 
 -- a line that isn't hexadecimal digits, two an octet, can't be read
-abbrev pub decoded : ℕ → Option (List ℕ) → LineOutcome (Unit {0}) UnreadableUnit
-decoded n None = stops (record { line = n })
-decoded n (Some octets) = prints (line_text octets) tt
+abbrev pub decoded : ℕ → List ℕ → Option (List ℕ) → LineOutcome (Unit {0}) UnreadableUnit
+decoded n line None = stops (record { line = n; flaw = flaw_of line })
+decoded n line (Some octets) = prints (line_text octets) tt
 
 -- no line leaves anything for the next
 abbrev pub decode_rules : Rules (Unit {0}) UnreadableUnit
 decode_rules = record {
   start = tt;
-  on_line = λ n state line. decoded n (octets_of line);
+  on_line = λ n state line. decoded n line (octets_of line);
   at_the_end = λ state. [];
-  unreadable = λ n. record { line = n };
+  unreadable = λ n. record { line = n; flaw = Long };
 }
 
 -- THE TEXT

@@ -9,7 +9,7 @@ use figures::read_octets;
 use printing::Stop;
 use std::alloc::Global;
 use std::marker::Model;
-use text_lines::LineText;
+use text_lines::{LineFlaw, LineText, find_flaw};
 
 /// Decodes lines, each by itself.
 #[derive(Drop)]
@@ -36,7 +36,10 @@ impl LineText for Decoder {
     ghost rules = { decode_rules };
 
     fn unreadable(number: u64) -> UnreadableUnit {
-        UnreadableUnit { line: number }
+        UnreadableUnit {
+            line: number,
+            flaw: LineFlaw::Long,
+        }
     }
 
     fn line(
@@ -47,7 +50,10 @@ impl LineText for Decoder {
         out: &mut Vec<u8>,
     ) -> Result<(), Stop<UnreadableUnit>> {
         let Some(octets) = read_octets(alloc, text)? else {
-            return Err(Stop::Input(UnreadableUnit { line: number }));
+            return Err(Stop::Input(UnreadableUnit {
+                line: number,
+                flaw: find_flaw(text),
+            }));
         };
         out.extend_from_slice(&write_line(alloc, &octets)?)?;
         Ok(())

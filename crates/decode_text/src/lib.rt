@@ -21,4 +21,5 @@ mod unit_line;
 pub use body_line::write_order_words;
 pub use fault::UnreadableUnit;
 pub use text::decode;
+pub use text_lines::LineFlaw;
 pub use unit_line::write_both;

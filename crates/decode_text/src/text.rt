@@ -5,14 +5,14 @@ ghost use Rattle.decode_text.specs.Decoding.{IsDecodeText};
 
 use super::decoder::Decoder;
 use super::fault::UnreadableUnit;
-use printing::{Fault, Sink, Source};
+use printing::{Fault, LONGEST_READ, Sink, Source};
 use std::alloc::Global;
 use text_lines::print_lines;
 
 /// Reads the units that the source gives, and writes what they say.
 ///
-/// Ends with the first fault; what was printed before it stays printed. An input of more than 2^24 octets
-/// is never answered Ok, and one of 2^24 or more may be [`Fault::Read`], as [`print_lines`] tells.
+/// Ends with the first fault; what was printed before it stays printed. An input of more than 2^60 octets ends with
+/// [`Fault::Long`], unless another fault comes before: nothing of it is kept.
 pub fn decode<S: Source, W: Sink>(
     alloc: Global,
     source: &mut S,
@@ -20,9 +20,9 @@ pub fn decode<S: Source, W: Sink>(
 ) -> Result<(), Fault<UnreadableUnit>>
     ensures text { IfSome (S.left source.old)
         (λ input. Prints result (IsDecodeText input) (W.written sink.old) (W.written sink.new)) }
-    ensures bounded { IfSome (S.left source.old) (λ input. OnOk result (length input ≤ 2 ^ 24)) }
+    ensures bounded { IfSome (S.left source.old) (λ input. OnOk result (length input ≤ 2 ^ 60)) }
     ensures devices { IfSome (S.left source.old)
-        (FailsByDevices result (S.has_failed source.new) (W.has_failed sink.new)) }
+        (FailsByDevices (2 ^ 60) result (S.has_failed source.new) (W.has_failed sink.new)) }
 {
-    print_lines(alloc, Decoder::new(), source, sink)
+    print_lines(alloc, Decoder::new(), LONGEST_READ, source, sink)
 }

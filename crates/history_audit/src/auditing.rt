@@ -1,11 +1,11 @@
-//! Where a list of entries leaves the history of a set.
-ghost use Rattle.std.specs.Prelude.{◌≡◌, ◌<◌, ◌≤◌, ◌+◌, ◌↔◌, [], length, IfOk, IfErr, OnOk, MatchOption};
+//! Where a list of entries leaves the history of a set, and what is answered there.
+ghost use Rattle.std.specs.Prelude.{◌≡◌, ◌<◌, ◌≤◌, ◌+◌, ◌↔◌, [], length, take, IfOk, IfErr, IsTrue, OnOk, MatchOption};
 ghost use Rattle.set_model.specs.State.{new_state};
-ghost use Rattle.set_model.specs.History.{IsLegal, books_of, entries_in, longest_history, opening_of};
-ghost use Rattle.history_audit.specs.FirstWrong.{IsFirstWrong};
+ghost use Rattle.set_model.specs.History.{IsActor, IsLegal, books_of, entries_in, longest_history, opening_of};
+ghost use Rattle.history_audit.specs.FirstWrong.{IsFirstWrong, answer_at, is_actor};
 
 use set_core::{SetCore, SetFault, audit};
-use set_events::{Books, Entry, SetConfig};
+use set_events::{Actor, Answer, Books, Entry, SetConfig};
 use std::alloc::Global;
 
 /// The place, from 0, of the first of these entries that a set which is opened with this configuration doesn't make;
@@ -49,6 +49,48 @@ fn halved(alloc: Global, config: &SetConfig, entries: &[Entry]) -> Result<usize,
         }
     }
     Ok(legal)
+}
+
+/// What a set answers at this place of a list whose entries before it are legal; `None` where the actor there is one that
+/// no set has.
+///
+/// Fault: 1 [`SetFault::NoMemory`], only where memory was refused.
+pub fn answer_there(
+    alloc: Global,
+    config: &SetConfig,
+    entries: &[Entry],
+    place: usize,
+) -> Result<Option<Answer>, SetFault>
+    requires within { place < length entries.now }
+    requires legal { IsLegal (new_state config.now) (take place entries.now) }
+    requires few { length entries.now ≤ longest_history }
+    ensures answer { IfOk result
+        (λ answer. answer ≡ answer_at (new_state config.now) entries.now place) }
+    ensures fault { IfErr result (λ fault. fault ≡ SetFault.NoMemory) }
+{
+    let entry = &entries[place];
+    if !can_ask(entry.who) {
+        return Ok(None);
+    }
+    let mut set = SetCore::new(alloc, config)?;
+    repeat(&mut set, &entries[..place])?;
+    set.replays();
+    match set.apply(entry.who, &entry.event) {
+        Ok(answer) => Ok(Some(answer)),
+        // the entries before are too few to fill a history
+        Err(_) => Err(SetFault::NoMemory),
+    }
+}
+
+/// Whether a set has such an actor: a user below 64, a terminal below 16.
+fn can_ask(who: Actor) -> bool
+    ensures value { result ≡ is_actor who }
+    ensures can { IsTrue result → IsActor who }
+{
+    match who {
+        Actor::User(number) => number < 64,
+        Actor::Terminal(link) => link < 16,
+    }
 }
 
 /// What a legal history adds up to: it's asked of a set anew.

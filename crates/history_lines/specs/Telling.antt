@@ -6,6 +6,9 @@ use Rattle.printing.specs.declared.fault.Stop.TheVariants.{Input, Memory}
 use Rattle.set_events.specs.declared.history.Entry.{Entry}
 use Rattle.set_model.specs.State.{Settings, settings_of}
 use Rattle.history_text.specs.Reading.{entry_of}
+use Rattle.text_lines.specs.declared.flaw.LineFlaw.{LineFlaw}
+use Rattle.text_lines.specs.declared.flaw.LineFlaw.TheVariants.{Words}
+use Rattle.text_lines.specs.Flaws.{flaw_of}
 use Rattle.text_lines.specs.Lines.{is_remark, lines_of}
 use Rattle.history_lines.specs.FirstLine.{settings_in}
 use Rattle.history_lines.specs.declared.fault.UnreadableEntry.{UnreadableEntry}
@@ -40,25 +43,25 @@ told_by n (Some s) told line = entered n told line
 abbrev pub with_line : ℕ → Told → List ℕ → Option Told
 with_line n told line = if is_remark line then Some told else told_by n told.settings told line
 
--- A text tells a history; or the line of this number can't be read, the one behind the last where there is no
--- configuration.
+-- A text tells a history; or the line of this number can't be read, for this flaw, the one behind the last where there
+-- is no configuration.
 pub data Telling : Type 0 where
   tells : Settings → List Entry → List ℕ → Telling
-  unreadable : ℕ → Telling
+  unreadable : ℕ → LineFlaw → Telling
 
 abbrev pub told_in_all : ℕ → Option Settings → Told → Telling
-told_in_all n None told = unreadable n
+told_in_all n None told = unreadable n Words
 told_in_all n (Some s) told = tells s told.entries told.lines
 
-abbrev pub goes_on : ℕ → Option Told → (Told → Telling) → Telling
-goes_on n None next = unreadable n
-goes_on n (Some told) next = next told
+abbrev pub goes_on : ℕ → List ℕ → Option Told → (Told → Telling) → Telling
+goes_on n line None next = unreadable n (flaw_of line)
+goes_on n line (Some told) next = next told
 
 -- the lines from this number on
 abbrev pub told_from : ℕ → Told → List (List ℕ) → Telling
 told_from n told [] = told_in_all n told.settings told
 told_from n told (line ∷ lines) =
-    goes_on n (with_line n told line) (λ next. told_from (suc n) next lines)
+    goes_on n line (with_line n told line) (λ next. told_from (suc n) next lines)
 
 -- THE HISTORY that a text tells: its lines are counted from 1
 abbrev pub history_in : List ℕ → Telling
@@ -68,17 +71,18 @@ history_in input = told_from 1 nothing_told (lines_of input)
 
 -- want of memory tells nothing
 abbrev pub Stops : Stop UnreadableEntry → Telling → Type 0
-Stops (Input fault) telling = telling ≡ unreadable fault.line
+Stops (Input fault) telling = telling ≡ unreadable fault.line fault.flaw
 Stops Memory telling = Unit {0}
 
 abbrev pub telling_of : History → Telling
 telling_of history = tells (settings_of history.config) history.entries.items history.lines.items
 
-abbrev pub IsNotRead : Stop UnreadableEntry → ℕ → Option Told → Type 0
-IsNotRead (Input fault) n outcome = (fault.line ≡ n) × (outcome ≡ None)
-IsNotRead Memory n outcome = Unit {0}
+abbrev pub IsNotRead : Stop UnreadableEntry → ℕ → List ℕ → Option Told → Type 0
+IsNotRead (Input fault) n line outcome =
+    (fault.line ≡ n) × (fault.flaw ≡ flaw_of line) × (outcome ≡ None)
+IsNotRead Memory n line outcome = Unit {0}
 
 -- a line was read, and this is told then; or the line of this number can't be read
-abbrev pub IsRead : Result (Unit {0}) (Stop UnreadableEntry) → ℕ → Option Told → Told → Type 0
-IsRead result n outcome new =
-    MatchResult result (λ done. outcome ≡ Some new) (λ stop. IsNotRead stop n outcome)
+abbrev pub IsRead : Result (Unit {0}) (Stop UnreadableEntry) → ℕ → List ℕ → Option Told → Told → Type 0
+IsRead result n line outcome new =
+    MatchResult result (λ done. outcome ≡ Some new) (λ stop. IsNotRead stop n line outcome)

@@ -22,3 +22,4 @@ mod told;
 pub use fault::UnreadableEntry;
 pub use first_line::{one_line, reads_back, write_history};
 pub use reading::{History, read_history};
+pub use text_lines::LineFlaw;

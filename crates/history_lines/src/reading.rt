@@ -8,7 +8,7 @@ use super::told::Told;
 use printing::Stop;
 use set_events::{Entry, SetConfig};
 use std::alloc::Global;
-use text_lines::end_of_line;
+use text_lines::{LineFlaw, end_of_line};
 
 /// A history that was read: what its lines tell, legal or not.
 #[derive(Drop)]
@@ -57,7 +57,10 @@ fn whole(told: Told, number: u64) -> Result<History, Stop<UnreadableEntry>>
             entries,
             lines,
         }),
-        None => Err(Stop::Input(UnreadableEntry { line: number })),
+        None => Err(Stop::Input(UnreadableEntry {
+            line: number,
+            flaw: LineFlaw::Words,
+        })),
     }
 }
 

@@ -2,6 +2,8 @@
 ghost use Rattle.std.specs.Prelude.{◌≡◌, ◌++◌, ◌∷◌, [], IfOk, Some, None};
 ghost use Rattle.set_model.specs.State.{settings_of};
 ghost use Rattle.std.specs.Option.{option_map};
+ghost use Rattle.printing.specs.declared.fault.Stop.TheVariants.{Input};
+ghost use Rattle.text_lines.specs.Flaws.{flaw_of};
 ghost use Rattle.history_text.specs.Reading.{entry_of};
 ghost use Rattle.history_lines.specs.FirstLine.{settings_in};
 ghost use Rattle.history_lines.specs.Telling.{nothing_told, with_line, opened, entered};
@@ -13,7 +15,7 @@ use printing::Stop;
 use set_events::{Entry, SetConfig};
 use std::alloc::{AllocError, Global};
 use std::marker::Model;
-use text_lines::is_passed_over;
+use text_lines::{find_flaw, is_passed_over};
 
 /// What the lines so far tell: the configuration, once it's told, and the entries with the numbers of their lines.
 #[derive(Drop)]
@@ -59,7 +61,7 @@ impl Told {
         number: u64,
         line: &[u8],
     ) -> Result<(), Stop<UnreadableEntry>>
-        ensures { IsRead result number (with_line number self.old line.now) self.new }
+        ensures { IsRead result number line.now (with_line number self.old line.now) self.new }
     {
         if is_passed_over(line) {
             return Ok(());
@@ -72,14 +74,14 @@ impl Told {
 
     /// Reads the configuration.
     fn open(&mut self, number: u64, line: &[u8]) -> Result<(), Stop<UnreadableEntry>>
-        ensures { IsRead result number (opened self.old line.now) self.new }
+        ensures { IsRead result number line.now (opened self.old line.now) self.new }
     {
         match read_config(line) {
             Some(config) => {
                 self.config = Some(config);
                 Ok(())
             }
-            None => Err(Stop::Input(UnreadableEntry { line: number })),
+            None => Err(unread(number, line)),
         }
     }
 
@@ -90,15 +92,25 @@ impl Told {
         number: u64,
         line: &[u8],
     ) -> Result<(), Stop<UnreadableEntry>>
-        ensures { IsRead result number (entered number self.old line.now) self.new }
+        ensures { IsRead result number line.now (entered number self.old line.now) self.new }
     {
         let Some(entry) = read_line(alloc, line)? else {
-            return Err(Stop::Input(UnreadableEntry { line: number }));
+            return Err(unread(number, line));
         };
         self.lines.push(number)?;
         self.entries.push(entry)?;
         Ok(())
     }
+}
+
+/// This line can't be read.
+fn unread(number: u64, line: &[u8]) -> Stop<UnreadableEntry>
+    ensures { result ≡ Input (record { line = number; flaw = flaw_of line.now }) }
+{
+    Stop::Input(UnreadableEntry {
+        line: number,
+        flaw: find_flaw(line),
+    })
 }
 
 /// The configuration that a line tells: that of end a of a script with this first line.

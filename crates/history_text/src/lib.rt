@@ -11,8 +11,9 @@
 //! | what was asked | `offer HEX` (`offer` alone for the empty body), `take`, `find N`, `next L`, `hear L HEX`, `up L`, `down L`, `blind L`, `noanswer L`, `restore L`, `backtimeout L` |
 //! | what was answered | the words of `play` (`answer_texts`) |
 //!
-//! [`write_entry`] writes it, [`write_entries`] those of a list, [`read_entry`] reads it back, and [`one_entry`] and
-//! [`one_history`] are the laws that no two entries, and no two lists of them, share a text. `specs/Entries.antt` has the words. This crate knows no set: whether a history is legal isn't its matter.
+//! [`write_entry`] writes it, [`write_answer`] its answer alone, [`write_entries`] those of a list, [`read_entry`] reads
+//! it back, and [`one_entry`] and [`one_history`] are the laws that no two entries, and no two lists of them, share a text.
+//! `specs/Entries.antt` has the words. This crate knows no set: whether a history is legal isn't its matter.
 #![tactic(auto)]
 
 mod answers;
@@ -22,4 +23,4 @@ mod words;
 mod writing;
 
 pub use reading::{one_entry, one_history, read_entry};
-pub use writing::{write_entries, write_entry};
+pub use writing::{write_answer, write_entries, write_entry};

@@ -96,8 +96,8 @@ fn write_heard(alloc: Global, link: u8, unit: &Unit) -> Result<Vec<u8>, AllocErr
     Ok(line)
 }
 
-/// What was answered, as `play` prints it.
-fn write_answer(alloc: Global, answer: &Answer) -> Result<Vec<u8>, AllocError>
+/// What was answered, as `play` prints it, ended by LF; it fails only where memory is wanted.
+pub fn write_answer(alloc: Global, answer: &Answer) -> Result<Vec<u8>, AllocError>
     ensures { IfOk result (λ text. text.items ≡ answer_text answer.now) }
 {
     let shown = Shown::Answered(answer.copy());

@@ -1,10 +1,9 @@
 -- THE TEXT of each mistake: what is wanted in its place.
 use Rattle.std.specs.Prelude.{ℕ, List, codes}
 use Rattle.line_mistakes.specs.declared.mistake.Mistake.{Mistake}
-use Rattle.line_mistakes.specs.declared.mistake.Mistake.TheVariants.{TooLong, NotSet, OpeningShort, LinksName, LinksRange, MethodName, MethodLimits, CodeAName, CodeBName, CodeRange, SioName, SioDigits, SioIndicator, Space, CarriageReturn, NotPrintable, Surplus, UnknownWord, SecondSet, TogetherWants, OfferWants, TakeWants, FindWants, OnLinkWants, LoseWants, HearWants, End, Link, Number, OddDigits, NotHexadecimal, UnitShort, UnitLong, UnitLength, NoSuchLink, NotSettled, NothingUnderWay, NoUnitThere}
+use Rattle.line_mistakes.specs.declared.mistake.Mistake.TheVariants.{NotSet, OpeningShort, LinksName, LinksRange, MethodName, MethodLimits, CodeAName, CodeBName, CodeRange, SioName, SioDigits, SioIndicator, Space, CarriageReturn, NotPrintable, Surplus, UnknownWord, SecondSet, TogetherWants, OfferWants, TakeWants, FindWants, OnLinkWants, LoseWants, HearWants, End, Link, Number, OddDigits, NotHexadecimal, UnitShort, UnitLong, UnitLength, NoSuchLink, NotSettled, NothingUnderWay, NoUnitThere}
 
 abbrev pub mistake_text : Mistake → List ℕ
-mistake_text TooLong = codes "a line has at most 4,096 octets"
 mistake_text NotSet = codes "the first line is set links=L method=W a=X b=Y sio=HH"
 mistake_text OpeningShort = codes "set wants five words behind it: links=L method=W a=X b=Y sio=HH"
 mistake_text LinksName = codes "here stands links=L, the number of links"

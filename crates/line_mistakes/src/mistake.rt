@@ -5,8 +5,6 @@ ghost use Rattle.line_mistakes.specs.Texts.{mistake_text};
 /// A mistake of a line; its text says what is wanted in its place.
 #[derive(Clone, Copy, Debug, PartialEq, Eq)]
 pub enum Mistake {
-    /// The line has over 4,096 octets.
-    TooLong,
     /// The first line doesn't begin with `set`.
     NotSet,
     /// The first line ends before its sixth word.
@@ -89,7 +87,6 @@ impl Mistake {
         ensures { result.now ≡ mistake_text self }
     {
         match self {
-            Mistake::TooLong => "a line has at most 4,096 octets",
             Mistake::NotSet => "the first line is set links=L method=W a=X b=Y sio=HH",
             Mistake::OpeningShort =>
                 "set wants five words behind it: links=L method=W a=X b=Y sio=HH",

@@ -1,7 +1,7 @@
 -- What a subcommand answers, with a fault of either text.
 use Rattle.std.proofs.Common.{◌∙◌, refl, ap, ℕ, List, Option, Some, None, Result, Ok, Err, IfSome}
 use Rattle.printing.specs.declared.fault.Fault.{Fault}
-use Rattle.printing.specs.declared.fault.Fault.TheVariants.{Input, Memory, Read, Write}
+use Rattle.printing.specs.declared.fault.Fault.TheVariants.{Input, Memory, Read, Long, Write}
 use Rattle.printing.specs.Printing.{Printed, IsBegun, Prints}
 use Rattle.mtpbank.specs.declared.running.TextFault.{TextFault}
 use Rattle.mtpbank.specs.Running.{IsText, with_fault}
@@ -16,6 +16,7 @@ module _ {F : Type 0} (IsIt : Printed F → Type 0) (of : F → TextFault) where
   prints (Err (Input fault)) old new p = record { printed = p.printed; added = p.added; ends = record { own = _; is_it = p.ends; same = refl } }
   prints (Err Memory) old new p = record { printed = p.printed; added = p.added; ends = begun p.printed p.ends }
   prints (Err Read) old new p = record { printed = p.printed; added = p.added; ends = begun p.printed p.ends }
+  prints (Err Long) old new p = record { printed = p.printed; added = p.added; ends = begun p.printed p.ends }
   prints (Err Write) old new p = record { printed = p.printed; added = p.added; ends = begun p.printed p.ends }
 
 -- where the left octets are known

@@ -1,10 +1,10 @@
 -- WHAT EACH SUBCOMMAND MAKES OF AN INPUT.
-use Rattle.std.specs.Prelude.{◌≡◌, ℕ, List, Result, Ok, Err}
+use Rattle.std.specs.Prelude.{◌≡◌, ◌^◌, ℕ, List, Result, Ok, Err}
 use Rattle.std.specs.Option.{option_map}
 use Rattle.command_line.specs.declared.words.Words.{Words}
 use Rattle.command_line.specs.declared.words.Words.TheVariants.{Units, Play, PlayExplained, Decode, Capture, Ladder, Audit, HistoryOfA, HistoryOfB, Run}
 use Rattle.printing.specs.declared.fault.Fault.{Fault}
-use Rattle.printing.specs.declared.fault.Fault.TheVariants.{Input, Memory, Read, Write}
+use Rattle.printing.specs.declared.fault.Fault.TheVariants.{Input, Memory, Read, Long, Write}
 use Rattle.printing.specs.Printing.{Printed}
 use Rattle.play_text.specs.PlayText.{IsPlayText, IsExplainedPlayText}
 use Rattle.units_text.specs.UnitsText.{IsUnitsText}
@@ -41,6 +41,12 @@ abbrev pub ReadsInput : Words → Type 0
 ReadsInput (Run run) = ⊥
 ReadsInput words = Unit {0}
 
+-- the most octets that are read: units and decode keep nothing of them
+abbrev pub longest_of : Words → ℕ
+longest_of Units = 2 ^ 60
+longest_of Decode = 2 ^ 60
+longest_of words = 2 ^ 24
+
 -- the same answer with a fault of that type
 abbrev pub with_fault : {F : Type 0} → (F → TextFault) → Result (Unit {0}) (Fault F)
     → Result (Unit {0}) (Fault TextFault)
@@ -48,4 +54,5 @@ with_fault of (Ok done) = Ok done
 with_fault of (Err (Input fault)) = Err (Input (of fault))
 with_fault of (Err Memory) = Err Memory
 with_fault of (Err Read) = Err Read
+with_fault of (Err Long) = Err Long
 with_fault of (Err Write) = Err Write

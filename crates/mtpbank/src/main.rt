@@ -19,7 +19,7 @@ mod running;
 
 use command_line::{RunWords, Words, WordsFault, asked_by, not_unicode};
 use paced_banks::{Traffic, pace_gates};
-use printing::{Fault, Reader, Writer};
+use printing::{Fault, Reader, Sink, Writer};
 use progress::Progress;
 use run_text::RunFault;
 use running::run;
@@ -42,11 +42,14 @@ fn main(rt: HostRuntime) -> ExitCode {
     match asked(&rt) {
         Ok(Words::Run(words)) => {
             let shows = rt.stderr().is_terminal();
-            ended(&rt, ran(&rt, rt.alloc(), shows, &words))
+            let mut sink = Writer::new(io::writer(&rt));
+            let ran = ran(&rt, rt.alloc(), shows, &words, &mut sink);
+            ended(&rt, ran, sink.is_closed())
         }
         Ok(words) => done(&rt, words),
         Err(WordsFault::Words(error)) => said(&rt, &error),
         Err(WordsFault::Link) => linkless(&rt),
+        Err(WordsFault::Said(text)) => advised(&rt, &text),
         Err(WordsFault::NoMemory) => told(&rt, "fault memory"),
     }
 }
@@ -69,9 +72,30 @@ fn said(rt: &HostRuntime, error: &clap::Error) -> ExitCode
         → exit_status result ≡ 2 }
 {
     match error.print(rt) {
-        Err(_) if !error.use_stderr() => told(rt, "fault write"),
+        Err(why) if !error.use_stderr() => unshown(rt, &why),
         _ => status_of(error),
     }
+}
+
+/// What was asked to be shown couldn't be: status 1, and a line on standard error, unless standard output is a pipe that
+/// nobody reads any more.
+fn unshown(rt: &HostRuntime, why: &io::Error) -> ExitCode
+    ensures { exit_status result ≡ 1 }
+{
+    if why.kind() == io::ErrorKind::BrokenPipe {
+        return ExitCode::from(FAULT);
+    }
+    told(rt, "fault write")
+}
+
+/// Says on standard error, with status 2, what is wrong with the words.
+fn advised(rt: &HostRuntime, text: &[u8]) -> ExitCode
+    ensures { exit_status result ≡ 2 }
+{
+    // where nobody hears it, the status still tells it
+    let _ = rt.stderr().write_all(text);
+    let _ = rt.stderr().write_all(b"\n");
+    ExitCode::from(WRONG)
 }
 
 /// 2 for wrong words, 0 for what was asked to be shown.
@@ -98,15 +122,17 @@ fn done(rt: &HostRuntime, words: Words) -> ExitCode
 {
     let mut source = Reader::new(rt.reader());
     let mut sink = Writer::new(io::writer(rt));
-    ended(rt, run(rt.alloc(), words, &mut source, &mut sink))
+    let ran = run(rt.alloc(), words, &mut source, &mut sink);
+    ended(rt, ran, sink.is_closed())
 }
 
 /// Runs two banks in threads, and prints what they came to; meanwhile it shows how far they are, if it's to.
-fn ran<R: Threads + Wait + Clock + Print + Eprint + Copy + Send + Sync + 'static>(
+fn ran<R: Threads + Wait + Clock + Eprint + Copy + Send + Sync + 'static, W: Sink>(
     rt: &R,
     alloc: Global,
     shows: bool,
     words: &RunWords,
+    sink: &mut W,
 ) -> Result<(), Fault<RunFault>> {
     let traffic = traffic_of(words);
     let Ok((near, far)) = pace_gates(alloc, traffic.sets, traffic.links) else {
@@ -118,20 +144,11 @@ fn ran<R: Threads + Wait + Clock + Print + Eprint + Copy + Send + Sync + 'static
     } else {
         None
     };
-    let mut sink = Writer::new(io::writer(rt));
-    run_text::run(
-        rt,
-        alloc,
-        &traffic,
-        (near, far),
-        words.per_link,
-        &mut sink,
-        || {
-            if let Some(progress) = progress {
-                progress.end(rt);
-            }
-        },
-    )
+    run_text::run(rt, alloc, &traffic, (near, far), words.per_link, sink, || {
+        if let Some(progress) = progress {
+            progress.end(rt);
+        }
+    })
 }
 
 /// The traffic that these words ask for.
@@ -155,13 +172,15 @@ fn traffic_of(words: &RunWords) -> Traffic
     }
 }
 
-/// Ends with status 0, or with 1 and the fault in a line on standard error.
-fn ended<T: Display + Drop>(rt: &HostRuntime, ran: Result<(), Fault<T>>) -> ExitCode
+/// Ends with status 0, or with 1 and the fault in a line on standard error; no line where standard output is a pipe that
+/// nobody reads any more.
+fn ended<T: Display + Drop>(rt: &HostRuntime, ran: Result<(), Fault<T>>, unread: bool) -> ExitCode
     ensures done { IsOk ran → exit_status result ≡ 0 }
     ensures fault { IsErr ran → exit_status result ≡ 1 }
 {
     match ran {
         Ok(()) => ExitCode::SUCCESS,
+        Err(_) if unread => ExitCode::from(FAULT),
         Err(fault) => told(rt, fault),
     }
 }

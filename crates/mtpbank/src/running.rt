@@ -1,7 +1,7 @@
 //! What the subcommands do, over any source and sink.
 ghost use Rattle.std.specs.Prelude.{◌≡◌, ◌≤◌, ◌^◌, length, IfSome, OnOk};
 ghost use Rattle.printing.specs.Printing.{Prints, FailsByDevices};
-ghost use Rattle.mtpbank.specs.Running.{IsTextOf, ReadsInput, with_fault};
+ghost use Rattle.mtpbank.specs.Running.{IsTextOf, ReadsInput, longest_of, with_fault};
 
 use audit_text::{AuditFault, audit};
 use command_line::Words;
@@ -45,9 +45,9 @@ pub fn run<S: Source, W: Sink>(
     requires reads { ReadsInput words }
     ensures text { IfSome (S.left source.old)
         (λ input. Prints result (IsTextOf words input) (W.written sink.old) (W.written sink.new)) }
-    ensures bounded { IfSome (S.left source.old) (λ input. OnOk result (length input ≤ 2 ^ 24)) }
+    ensures bounded { IfSome (S.left source.old) (λ input. OnOk result (length input ≤ longest_of words)) }
     ensures devices { IfSome (S.left source.old)
-        (FailsByDevices result (S.has_failed source.new) (W.has_failed sink.new)) }
+        (FailsByDevices (longest_of words) result (S.has_failed source.new) (W.has_failed sink.new)) }
 {
     match words {
         Words::Units => of_any(units(alloc, source, sink)),
@@ -134,6 +134,7 @@ fn of_any<T: FaultOfText>(ran: Result<(), Fault<T>>) -> Result<(), Fault<TextFau
         Err(Fault::Input(fault)) => Err(Fault::Input(fault.into_any())),
         Err(Fault::Memory) => Err(Fault::Memory),
         Err(Fault::Read) => Err(Fault::Read),
+        Err(Fault::Long) => Err(Fault::Long),
         Err(Fault::Write) => Err(Fault::Write),
     }
 }

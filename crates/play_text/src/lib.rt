@@ -10,5 +10,5 @@ mod answers;
 mod text;
 
 pub use script_explain::ExplainedFault;
-pub use script_text::ScriptFault;
+pub use script_text::{LineFlaw, ScriptFault};
 pub use text::{play, play_explained};

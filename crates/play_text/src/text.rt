@@ -11,8 +11,8 @@ use std::alloc::Global;
 
 /// Plays the script that the source gives, and writes what its lines print.
 ///
-/// Ends with the first fault; what was printed before it stays printed. An input of more than 2^24 octets
-/// is never answered Ok, and one of 2^24 or more may be [`Fault::Read`], as [`tell_script`] tells.
+/// Ends with the first fault; what was printed before it stays printed. An input of more than 2^24 octets ends with
+/// [`Fault::Long`], unless another fault comes before.
 pub fn play<S: Source, W: Sink>(
     alloc: Global,
     source: &mut S,
@@ -22,7 +22,7 @@ pub fn play<S: Source, W: Sink>(
         (λ input. Prints result (IsPlayText input) (W.written sink.old) (W.written sink.new)) }
     ensures bounded { IfSome (S.left source.old) (λ input. OnOk result (length input ≤ 2 ^ 24)) }
     ensures devices { IfSome (S.left source.old)
-        (FailsByDevices result (S.has_failed source.new) (W.has_failed sink.new)) }
+        (FailsByDevices (2 ^ 24) result (S.has_failed source.new) (W.has_failed sink.new)) }
 {
     tell_script::<Answers, S, W>(alloc, source, sink)
 }
@@ -41,7 +41,7 @@ pub fn play_explained<S: Source, W: Sink>(
         (W.written sink.old) (W.written sink.new)) }
     ensures bounded { IfSome (S.left source.old) (λ input. OnOk result (length input ≤ 2 ^ 24)) }
     ensures devices { IfSome (S.left source.old)
-        (FailsByDevices result (S.has_failed source.new) (W.has_failed sink.new)) }
+        (FailsByDevices (2 ^ 24) result (S.has_failed source.new) (W.has_failed sink.new)) }
 {
     tell_explained::<Answers, S, W>(alloc, source, sink)
 }

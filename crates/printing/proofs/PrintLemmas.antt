@@ -9,7 +9,7 @@ use Rattle.printing.specs.declared.device.DeviceFault.{DeviceFault}
 use Rattle.printing.specs.declared.fault.Stop.{Stop}
 use Rattle.printing.specs.declared.fault.Stop.TheVariants.{Input as InputStops, Memory as MemoryStops}
 use Rattle.printing.specs.declared.fault.Fault.{Fault}
-use Rattle.printing.specs.declared.fault.Fault.TheVariants.{Read}
+use Rattle.printing.specs.declared.fault.Fault.TheVariants.{Read, Long}
 use Rattle.printing.specs.Printing.{Printed, IsBegun, StopsIn, EndsIn, fault_of, answer_of, Texts, Progress, Ends, ReadsOrStops, Writes, Passes, Breaks, PassesOrBreaks, Closes, Prints, IsDevices}
 
 -- what is written after what was written
@@ -50,9 +50,9 @@ shorter IsIt lines printed written rest e b text is =
     (rest ++ more.0, more.1 ∙ ap (λ (x : List ℕ). (lines ++ x) ++ more.0) e ∙ ap (λ (x : List ℕ). x ++ more.0) (sym (append_assoc lines written rest)) ∙ append_assoc (lines ++ written) rest more.0)
 
 -- and is none of a device
-no_device : {F : Type 0} (stop : Stop F) (R W : Type 0) → IsDevices (fault_of stop) R W
-no_device (InputStops fault) R W = tt
-no_device MemoryStops R W = tt
+no_device : {F : Type 0} (stop : Stop F) (R L W : Type 0) → IsDevices (fault_of stop) R L W
+no_device (InputStops fault) R L W = tt
+no_device MemoryStops R L W = tt
 
 -- What was added is then written.
 
@@ -112,34 +112,34 @@ module _ {F : Type 0} (IsText : Texts F) where
   }
 
 -- a writer's failure is told where a write failed, and a reader's never
-pub devices : {F : Type 0} (read : Result (Unit {0}) (Stop F)) (wrote : Result (Unit {0}) DeviceFault) (W : Type 0) → OnErr wrote W → IfErr (answer_of read wrote) (λ fault. IsDevices fault ⊥ W)
+pub devices : {F : Type 0} (read : Result (Unit {0}) (Stop F)) (wrote : Result (Unit {0}) DeviceFault) (W : Type 0) → OnErr wrote W → IfErr (answer_of read wrote) (λ fault. IsDevices fault ⊥ ⊥ W)
 devices (Ok done) (Ok all) W h = tt
-devices (Err stop) (Ok all) W h = no_device stop ⊥ W
+devices (Err stop) (Ok all) W h = no_device stop ⊥ ⊥ W
 devices (Ok done) (Err fault) W h = h
 devices (Err stop) (Err fault) W h = h
 
 -- A source that is read piece by piece.
 
 -- some octets were read, what they print was written, and so many may still be read
-pub record Under {F : Type 0} (IsText : Texts F) (HasRead : Progress) (source0 source sink0 sink : Option (List ℕ)) (left counter : ℕ) : Type 0 where
+pub record Under {F : Type 0} (IsText : Texts F) (HasRead : Progress) (source0 source sink0 sink : Option (List ℕ)) (longest left counter : ℕ) : Type 0 where
   pub octets : List ℕ
   pub printed : List ℕ
   pub consumed : Consumes source0 source octets
   pub added : Appends sink0 sink printed
   pub has : HasRead octets printed
   pub begun : (rest : List ℕ) → IsBegun (IsText (octets ++ rest)) printed
-  pub count : length octets + left ≡ 2 ^ 24
+  pub count : length octets + left ≡ longest
   pub calls : counter ≤ length octets
 
-pub under_start : {F : Type 0} (IsText : Texts F) (HasRead : Progress) (source sink : Option (List ℕ)) → HasRead [] [] → Under IsText HasRead source source sink sink (2 ^ 24) 0
-under_start IsText HasRead source sink has = record {
+pub under_start : {F : Type 0} (IsText : Texts F) (HasRead : Progress) (source sink : Option (List ℕ)) (longest : ℕ) → HasRead [] [] → Under IsText HasRead source source sink sink longest longest 0
+under_start IsText HasRead source sink longest has = record {
   octets = [];
   printed = [];
   consumed = Consumes-nil source;
   added = Appends-nil sink;
   has = has;
   begun = λ rest text is. (text.printed, refl);
-  count = refl;
+  count = omega arith;
   calls = omega arith;
 }
 
@@ -149,10 +149,7 @@ read_front None s1 octets P c h = tt
 read_front (Some x) None octets P c h = absurd c
 read_front (Some x) (Some y) octets P c h = subst P (sym c) (h y)
 
-pub is_long : (s0 s1 : Option (List ℕ)) (octets : List ℕ) → Consumes s0 s1 octets → 2 ^ 24 ≤ length octets → IfSome s0 (λ input. 2 ^ 24 ≤ length input)
-is_long s0 s1 octets c h = read_front s0 s1 octets (λ input. 2 ^ 24 ≤ length input) c (λ rest. omega (arith, h, length-append octets rest))
-
-module _ {F : Type 0} (IsText : Texts F) (Had Has : Progress) (s0 s1 s2 w0 w1 w2 : Option (List ℕ)) (left counter : ℕ) (u : Under IsText Had s0 s1 w0 w1 left counter) where
+module _ {F : Type 0} (IsText : Texts F) (Had Has : Progress) (s0 s1 s2 w0 w1 w2 : Option (List ℕ)) (longest left counter : ℕ) (few_in_all : longest ≤ 2 ^ 60) (u : Under IsText Had s0 s1 w0 w1 longest left counter) where
   -- the reader failed
   pub read_failed : IfSome s0 (λ input. Prints (Err Read) (IsText input) w0 w1)
   read_failed = read_front s0 s1 u.octets (λ input. Prints (Err Read) (IsText input) w0 w1) u.consumed
@@ -160,15 +157,15 @@ module _ {F : Type 0} (IsText : Texts F) (Had Has : Progress) (s0 s1 s2 w0 w1 w2
 
   -- a piece was passed
   pub piece_passed : (few count : ℕ) (buffer : List ℕ) → few ≡ count → count ≤ length buffer → Consumes s1 s2 (take count buffer) → Passes IsText Had (take few buffer) w1 w2 Has → 0 < count → count ≤ left
-      → Under IsText Has s0 s2 w0 w2 (left - count) (counter + 1)
+      → Under IsText Has s0 s2 w0 w2 longest (left - count) (counter + 1)
   piece_passed few count buffer e h c p some enough =
       let long : length (take few buffer) ≡ count = rw e (grind (arith, common_steps)) in record {
         octets = u.octets ++ take few buffer;
         printed = u.printed ++ p.printed;
         consumed = Consumes-trans s0 s1 s2 u.octets (take few buffer) u.consumed (rw e c);
         added = Appends-trans w0 w1 w2 u.printed p.printed u.added p.added;
-        has = p.goes_on u.octets u.printed (omega (arith, u.count, long, enough)) u.has;
-        begun = λ rest. rw (append_assoc u.octets (take few buffer) rest) (p.begun u.octets u.printed (omega (arith, u.count, long, enough)) u.has rest);
+        has = p.goes_on u.octets u.printed (omega (arith, few_in_all, u.count, long, enough)) u.has;
+        begun = λ rest. rw (append_assoc u.octets (take few buffer) rest) (p.begun u.octets u.printed (omega (arith, few_in_all, u.count, long, enough)) u.has rest);
         count = omega (arith, u.count, long, enough, length-append u.octets (take few buffer));
         calls = omega (arith, u.calls, long, some, length-append u.octets (take few buffer));
       }
@@ -179,16 +176,23 @@ module _ {F : Type 0} (IsText : Texts F) (Had Has : Progress) (s0 s1 s2 w0 w1 w2
       read_front s0 s2 (u.octets ++ take count buffer) P (Consumes-trans s0 s1 s2 u.octets (take count buffer) u.consumed c)
       (λ rest. rw (front_of_piece buffer few count h, append_assoc u.octets (take few buffer ++ drop few (take count buffer)) rest, append_assoc (take few buffer) (drop few (take count buffer)) rest) (f (drop few (take count buffer) ++ rest)))
 
-  short_piece : (few : ℕ) (buffer : List ℕ) → few ≤ left → length u.octets + length (take few buffer) ≤ 2 ^ 24
-  short_piece few buffer h = let short : length (take few buffer) ≤ few = grind (arith, common_steps) in omega (arith, u.count, short, h)
+  short_piece : (few : ℕ) (buffer : List ℕ) → few ≤ left → length u.octets + length (take few buffer) ≤ 2 ^ 60
+  short_piece few buffer h = let short : length (take few buffer) ≤ few = grind (arith, common_steps) in omega (arith, few_in_all, u.count, short, h)
 
   -- one octet more came than may be read
-  pub piece_too_much : (few count : ℕ) (buffer : List ℕ) → few ≤ count → few ≤ left → Consumes s1 s2 (take count buffer) → Passes IsText Had (take few buffer) w1 w2 Has → IfSome s0 (λ input. Prints (Err Read) (IsText input) w0 w2)
-  piece_too_much few count buffer h k c p = with_front few count buffer (λ input. Prints (Err Read) (IsText input) w0 w2) h c (λ rest. record {
+  pub piece_too_much : (few count : ℕ) (buffer : List ℕ) → few ≤ count → few ≤ left → Consumes s1 s2 (take count buffer) → Passes IsText Had (take few buffer) w1 w2 Has → IfSome s0 (λ input. Prints (Err Long) (IsText input) w0 w2)
+  piece_too_much few count buffer h k c p = with_front few count buffer (λ input. Prints (Err Long) (IsText input) w0 w2) h c (λ rest. record {
     printed = u.printed ++ p.printed;
     added = Appends-trans w0 w1 w2 u.printed p.printed u.added p.added;
     ends = p.begun u.octets u.printed (short_piece few buffer k) u.has rest;
   })
+
+  -- such an input is too long
+  pub too_long : (count : ℕ) (buffer : List ℕ) → count ≤ length buffer → left < count → Consumes s1 s2 (take count buffer) → IfSome s0 (λ input. longest < length input)
+  too_long count buffer h more c =
+      let long : length (take count buffer) ≡ count = grind (arith, common_steps) in
+      read_front s0 s2 (u.octets ++ take count buffer) (λ input. longest < length input) (Consumes-trans s0 s1 s2 u.octets (take count buffer) u.consumed c)
+      (λ rest. omega (arith, more, long, u.count, length-append u.octets (take count buffer), length-append (u.octets ++ take count buffer) rest))
 
   -- a fault among the octets of a piece
   pub piece_broke : (fault : Fault F) (few count : ℕ) (buffer : List ℕ) → few ≤ count → few ≤ left → Consumes s1 s2 (take count buffer) → Breaks IsText fault Had (take few buffer) w1 w2 → IfSome s0 (λ input. Prints (Err fault) (IsText input) w0 w2)
@@ -208,15 +212,15 @@ module _ {F : Type 0} (IsText : Texts F) (Had Has : Progress) (s0 s1 s2 w0 w1 w2
   piece_ended result count buffer e h c p = at_end count buffer (λ input. Prints result (IsText input) w0 w2) e h c (record {
     printed = u.printed ++ p.printed;
     added = Appends-trans w0 w1 w2 u.printed p.printed u.added p.added;
-    ends = p.ends u.octets u.printed (omega (arith, u.count)) u.has;
+    ends = p.ends u.octets u.printed (omega (arith, few_in_all, u.count)) u.has;
   })
 
   -- an input that was read to its end is no longer than may be read
   pub piece_bounded : (result : Result (Unit {0}) (Fault F)) (count : ℕ) (buffer : List ℕ) → count ≡ 0 → 0 < length buffer → Consumes s1 s2 (take count buffer) × (count ≡ 0 → 0 < length buffer → IsAtEnd s2)
-      → IfSome s0 (λ input. OnOk result (length input ≤ 2 ^ 24))
-  piece_bounded result count buffer e h c = at_end count buffer (λ input. OnOk result (length input ≤ 2 ^ 24)) e h c (bounded result (omega (arith, u.count)))
+      → IfSome s0 (λ input. OnOk result (length input ≤ longest))
+  piece_bounded result count buffer e h c = at_end count buffer (λ input. OnOk result (length input ≤ longest)) e h c (bounded result (omega (arith, u.count)))
     where
-      bounded : (result : Result (Unit {0}) (Fault F)) {n : ℕ} → n ≤ 2 ^ 24 → OnOk result (n ≤ 2 ^ 24)
+      bounded : (result : Result (Unit {0}) (Fault F)) {n : ℕ} → n ≤ longest → OnOk result (n ≤ longest)
       bounded (Ok done) h = h
       bounded (Err fault) h = tt
 

@@ -1,11 +1,11 @@
 -- A text that is printed while another is read: what calls print, and what the devices give and take.
-use Rattle.std.specs.Prelude.{◌≡◌, ℕ, ◌+◌, ◌^◌, ◌≤◌, Bool, true, ◌⊎◌, List, [], ◌++◌, length, Option, Some, None, Result, Ok, Err, MatchResult, OnOk, IfErr}
+use Rattle.std.specs.Prelude.{◌≡◌, ℕ, ◌+◌, ◌^◌, ◌<◌, ◌≤◌, Bool, true, List, [], ◌++◌, length, Option, Some, None, Result, Ok, Err, MatchResult, OnOk, IfErr}
 use Rattle.std.specs.Io.KnownBytes.{Appends}
 use Rattle.printing.specs.declared.device.DeviceFault.{DeviceFault}
 use Rattle.printing.specs.declared.fault.Stop.{Stop}
 use Rattle.printing.specs.declared.fault.Stop.TheVariants.{Input as InputStops, Memory as MemoryStops}
 use Rattle.printing.specs.declared.fault.Fault.{Fault}
-use Rattle.printing.specs.declared.fault.Fault.TheVariants.{Input, Memory, Read, Write}
+use Rattle.printing.specs.declared.fault.Fault.TheVariants.{Input, Memory, Read, Long, Write}
 
 -- In what follows an input of the text can be at fault in the ways of F.
 
@@ -30,11 +30,12 @@ abbrev pub StopsIn : {F : Type 0} → Stop F → (Printed F → Type 0) → List
 StopsIn (InputStops fault) IsIt printed = IsIt (record { printed = printed; fault = Some fault })
 StopsIn MemoryStops IsIt printed = IsBegun IsIt printed
 
--- where a device failed, the text was begun too
+-- where a device failed, or the input is too long, the text was begun too
 abbrev pub EndsIn : {F : Type 0} → Fault F → (Printed F → Type 0) → List ℕ → Type 0
 EndsIn (Input fault) IsIt printed = IsIt (record { printed = printed; fault = Some fault })
 EndsIn Memory IsIt printed = IsBegun IsIt printed
 EndsIn Read IsIt printed = IsBegun IsIt printed
+EndsIn Long IsIt printed = IsBegun IsIt printed
 EndsIn Write IsIt printed = IsBegun IsIt printed
 
 -- what a printer's fault is of the whole
@@ -57,17 +58,17 @@ Texts F = List ℕ → Printed F → Type 0
 abbrev pub Progress : Type 1
 Progress = List ℕ → List ℕ → Type 0
 
--- In what follows IsText is such a text, HadRead and HasRead how far a printer had and has come. An input has at most
--- 2^24 octets.
+-- In what follows IsText is such a text, HadRead and HasRead how far a printer had and has come. Of an input at most
+-- 2^60 octets are read.
 
 -- these octets were read, and what they print was added; it is the beginning of the text, whatever follows
 pub record Reads {F : Type 0} (IsText : Texts F) (HadRead : Progress)
     (octets before after : List ℕ) (HasRead : Progress) : Type 0 where
   pub printed : List ℕ
   pub added : after ≡ before ++ printed
-  pub goes_on : (past lines : List ℕ) → length past + length octets ≤ 2 ^ 24 → HadRead past lines
+  pub goes_on : (past lines : List ℕ) → length past + length octets ≤ 2 ^ 60 → HadRead past lines
       → HasRead (past ++ octets) (lines ++ printed)
-  pub begun : (past lines : List ℕ) → length past + length octets ≤ 2 ^ 24 → HadRead past lines
+  pub begun : (past lines : List ℕ) → length past + length octets ≤ 2 ^ 60 → HadRead past lines
       → (left : List ℕ) → IsBegun (IsText (past ++ (octets ++ left))) (lines ++ printed)
 
 -- these octets ended the text with a fault, whatever follows
@@ -75,9 +76,9 @@ pub record Stops {F : Type 0} (IsText : Texts F) (stop : Stop F) (HadRead : Prog
     (octets before after : List ℕ) : Type 0 where
   pub printed : List ℕ
   pub added : after ≡ before ++ printed
-  pub ends : (past lines : List ℕ) → length past + length octets ≤ 2 ^ 24 → HadRead past lines
+  pub ends : (past lines : List ℕ) → length past + length octets ≤ 2 ^ 60 → HadRead past lines
       → (left : List ℕ) → StopsIn stop (IsText (past ++ (octets ++ left))) (lines ++ printed)
-  pub begun : (past lines : List ℕ) → length past + length octets ≤ 2 ^ 24 → HadRead past lines
+  pub begun : (past lines : List ℕ) → length past + length octets ≤ 2 ^ 60 → HadRead past lines
       → (left : List ℕ) → IsBegun (IsText (past ++ (octets ++ left))) (lines ++ printed)
 
 abbrev pub ReadsOrStops : {F : Type 0} → Texts F → Result (Unit {0}) (Stop F) → Progress
@@ -96,11 +97,11 @@ pub record Ends {F : Type 0} (IsText : Texts F) (result : Result (Unit {0}) (Sto
     (HadRead : Progress) (before after : List ℕ) : Type 0 where
   pub printed : List ℕ
   pub added : after ≡ before ++ printed
-  pub ends : (past lines : List ℕ) → length past ≤ 2 ^ 24 → HadRead past lines
+  pub ends : (past lines : List ℕ) → length past ≤ 2 ^ 60 → HadRead past lines
       → MatchResult result
       (λ done. IsWhole (IsText past) (lines ++ printed))
       (λ stop. StopsIn stop (IsText past) (lines ++ printed))
-  pub begun : (past lines : List ℕ) → length past ≤ 2 ^ 24 → HadRead past lines
+  pub begun : (past lines : List ℕ) → length past ≤ 2 ^ 60 → HadRead past lines
       → IsBegun (IsText past) (lines ++ printed)
 
 -- The same onto what was written, where that is known.
@@ -119,9 +120,9 @@ pub record Passes {F : Type 0} (IsText : Texts F) (HadRead : Progress) (octets :
     (before after : Option (List ℕ)) (HasRead : Progress) : Type 0 where
   pub printed : List ℕ
   pub added : Appends before after printed
-  pub goes_on : (past lines : List ℕ) → length past + length octets ≤ 2 ^ 24 → HadRead past lines
+  pub goes_on : (past lines : List ℕ) → length past + length octets ≤ 2 ^ 60 → HadRead past lines
       → HasRead (past ++ octets) (lines ++ printed)
-  pub begun : (past lines : List ℕ) → length past + length octets ≤ 2 ^ 24 → HadRead past lines
+  pub begun : (past lines : List ℕ) → length past + length octets ≤ 2 ^ 60 → HadRead past lines
       → (left : List ℕ) → IsBegun (IsText (past ++ (octets ++ left))) (lines ++ printed)
 
 -- among these octets the text ended with a fault, after what was written
@@ -129,7 +130,7 @@ pub record Breaks {F : Type 0} (IsText : Texts F) (fault : Fault F) (HadRead : P
     (octets : List ℕ) (before after : Option (List ℕ)) : Type 0 where
   pub printed : List ℕ
   pub added : Appends before after printed
-  pub ends : (past lines : List ℕ) → length past + length octets ≤ 2 ^ 24 → HadRead past lines
+  pub ends : (past lines : List ℕ) → length past + length octets ≤ 2 ^ 60 → HadRead past lines
       → (left : List ℕ) → EndsIn fault (IsText (past ++ (octets ++ left))) (lines ++ printed)
 
 abbrev pub PassesOrBreaks : {F : Type 0} → Texts F → Result (Unit {0}) (Fault F) → Progress → List ℕ
@@ -150,7 +151,7 @@ pub record Closes {F : Type 0} (IsText : Texts F) (result : Result (Unit {0}) (F
     (HadRead : Progress) (before after : Option (List ℕ)) : Type 0 where
   pub printed : List ℕ
   pub added : Appends before after printed
-  pub ends : (past lines : List ℕ) → length past ≤ 2 ^ 24 → HadRead past lines
+  pub ends : (past lines : List ℕ) → length past ≤ 2 ^ 60 → HadRead past lines
       → IsEnd result (IsText past) (lines ++ printed)
 
 -- all of a text was written, or, where a device failed or memory was wanted, a prefix of it
@@ -160,19 +161,16 @@ pub record Prints {F : Type 0} (result : Result (Unit {0}) (Fault F)) (IsIt : Pr
   pub added : Appends old new printed
   pub ends : IsEnd result IsIt printed
 
--- a fault of a device is answered only where that device has failed
-abbrev pub IsDevices : {F : Type 0} → Fault F → Type 0 → Type 0 → Type 0
-IsDevices (Input fault) reader_failed writer_failed = Unit {0}
-IsDevices Memory reader_failed writer_failed = Unit {0}
-IsDevices Read reader_failed writer_failed = reader_failed
-IsDevices Write reader_failed writer_failed = writer_failed
+-- a fault of a device is answered only where that device has failed, and that of an input that is too long where it is
+abbrev pub IsDevices : {F : Type 0} → Fault F → Type 0 → Type 0 → Type 0 → Type 0
+IsDevices (Input fault) reader_failed is_long writer_failed = Unit {0}
+IsDevices Memory reader_failed is_long writer_failed = Unit {0}
+IsDevices Read reader_failed is_long writer_failed = reader_failed
+IsDevices Long reader_failed is_long writer_failed = is_long
+IsDevices Write reader_failed is_long writer_failed = writer_failed
 
--- an input of 2^24 octets or more counts as a reader's failure
-abbrev pub HasFailed : Bool → List ℕ → Type 0
-HasFailed failed input = (failed ≡ true) ⊎ (2 ^ 24 ≤ length input)
-
--- which devices have failed, and the input that was there
-abbrev pub FailsByDevices : {F : Type 0} → Result (Unit {0}) (Fault F) → Bool → Bool → List ℕ
+-- which devices have failed, the most octets that are read, and the input that was there
+abbrev pub FailsByDevices : {F : Type 0} → ℕ → Result (Unit {0}) (Fault F) → Bool → Bool → List ℕ
     → Type 0
-FailsByDevices result reader_failed writer_failed input =
-    IfErr result (λ fault. IsDevices fault (HasFailed reader_failed input) (writer_failed ≡ true))
+FailsByDevices longest result reader_failed writer_failed input =
+    IfErr result (λ fault. IsDevices fault (reader_failed ≡ true) (longest < length input) (writer_failed ≡ true))

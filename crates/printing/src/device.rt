@@ -1,8 +1,10 @@
 //! What the program reads from and writes to.
-ghost use Rattle.std.specs.Prelude.{◌≡◌, ◌<◌, ◌≤◌, Bool, List, ℕ, Option, Some, None, true, IfOk, OnOk, OnErr, length};
+ghost use Rattle.std.specs.Prelude.{◌≡◌, ◌<◌, ◌≤◌, ◌↔◌, IsTrue, Bool, List, ℕ, Option, Some, None, true, IfOk, OnOk, OnErr, length};
 ghost use Rattle.std.specs.Io.KnownBytes.{ReadConsumes, WriteAppends};
+ghost use Rattle.std.specs.IoError.{error_kind};
 
-use std::io::{Read, Write};
+use std::io;
+use std::io::{ErrorKind, Read, Write};
 
 /// A device failed. It tells no more, since the program tells no more.
 #[derive(Clone, Copy, Debug, PartialEq, Eq)]
@@ -85,6 +87,8 @@ impl<R: Read> Source for Reader<R> {
 pub struct Writer<W> {
     inner: W,
     failed: bool,
+    /// A write failed since the pipe's other end is closed.
+    closed: bool,
 }
 
 impl<W> Writer<W> {
@@ -94,11 +98,20 @@ impl<W> Writer<W> {
     pub fn new(inner: W) -> Writer<W>
         ensures inner { result.inner ≡ inner }
         ensures sound { result.failed ≡ false }
+        ensures open { result.closed ≡ false }
     {
         Writer {
             inner,
             failed: false,
+            closed: false,
         }
+    }
+
+    /// Whether a write failed since nobody reads any more what is written to this pipe.
+    pub fn is_closed(&self) -> bool
+        ensures { result ≡ self.now.closed }
+    {
+        self.closed
     }
 
     /// The writer itself, as the last write left it.
@@ -117,10 +130,22 @@ impl<W: Write> Sink for Writer<W> {
     fn write(&mut self, octets: &[u8]) -> Result<usize, DeviceFault> {
         match self.inner.write(octets) {
             Ok(count) if count > 0 || octets.is_empty() => Ok(count),
-            _ => {
+            Ok(_) => {
                 self.failed = true;
+                Err(DeviceFault)
+            }
+            Err(error) => {
+                self.failed = true;
+                self.closed = tells_closed_pipe(&error);
                 Err(DeviceFault)
             }
         }
     }
+}
+
+/// Whether this failure tells that nobody reads any more what is written to a pipe.
+fn tells_closed_pipe(error: &io::Error) -> bool
+    ensures { IsTrue result ↔ (error_kind error.now ≡ ErrorKind.BrokenPipe) }
+{
+    error.kind() == ErrorKind::BrokenPipe
 }

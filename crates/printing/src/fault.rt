@@ -44,9 +44,12 @@ pub enum Fault<T> {
     /// Memory is wanted.
     #[error("fault memory")]
     Memory,
-    /// The input couldn't be read, or has 2^24 octets or more.
+    /// The input couldn't be read.
     #[error("fault read")]
     Read,
+    /// The input has more octets than are read of it.
+    #[error("fault long")]
+    Long,
     /// The output couldn't be written.
     #[error("fault write")]
     Write,

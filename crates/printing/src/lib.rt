@@ -11,7 +11,7 @@
 //! [`Writer`] are the standard library's as such.
 //!
 //! How an input can be at fault is the text's own type. A printer stops for such a fault or for want of memory
-//! ([`Stop`]), and the whole also where a device fails ([`Fault`]).
+//! ([`Stop`]), and the whole also where a device fails or the input is too long ([`Fault`]).
 //!
 //! This crate knows no text: which one an input has is the printer's to say. `specs/Printing.antt` is
 //! the vocabulary.
@@ -25,4 +25,4 @@ mod printing;
 pub use device::{DeviceFault, Reader, Sink, Source, Writer};
 pub use fault::{Fault, Stop};
 pub use printer::Printer;
-pub use printing::print_all;
+pub use printing::{LONGEST_KEPT, LONGEST_READ, print_all};

@@ -7,33 +7,37 @@ use super::fault::{Fault, Stop, into_fault};
 use super::printer::Printer;
 use std::alloc::Global;
 
-/// The most octets of an input, and the most read calls, 2^24 each.
-const LONGEST_INPUT: u32 = 0x100_0000;
+/// The most octets that are read of an input of which something is kept, 2^24.
+pub const LONGEST_KEPT: usize = 0x100_0000;
+
+/// The most octets that are read of any input, 2^60: more than comes in a lifetime.
+pub const LONGEST_READ: usize = 0x1000_0000_0000_0000;
 
 /// How many octets a read asks for.
 const PIECE: usize = 4096;
 
-/// Reads all that the source gives, and writes what it prints.
+/// Reads all that the source gives, at most `longest` octets, and writes what it prints.
 ///
-/// Ends with the first fault; what was printed before it stays printed. An input of more than 2^24 octets
-/// is never answered Ok. One of 2^24 or more may be answered [`Fault::Read`] though the source hasn't
-/// failed, since a read may give one octet and there are at most 2^24; a beginning of its text was
-/// written then.
+/// Ends with the first fault; what was printed before it stays printed. An input of more octets is [`Fault::Long`],
+/// unless another fault comes before, and what the octets before that print was written then.
 pub fn print_all<P: Printer + Drop, S: Source, W: Sink>(
     alloc: Global,
     mut printer: P,
+    longest: usize,
     source: &mut S,
     sink: &mut W,
 ) -> Result<(), Fault<P::Fault>>
-    requires { P.has_read printer [] [] }
+    requires begins { P.has_read printer [] [] }
+    requires longest { longest ≤ 2 ^ 60 }
     ensures text { IfSome (S.left source.old)
         (λ input. Prints result (P.is_text input) (W.written sink.old) (W.written sink.new)) }
-    ensures bounded { IfSome (S.left source.old) (λ input. OnOk result (length input ≤ 2 ^ 24)) }
+    ensures bounded { IfSome (S.left source.old) (λ input. OnOk result (length input ≤ longest)) }
     ensures devices { IfSome (S.left source.old)
-        (FailsByDevices result (S.has_failed source.new) (W.has_failed sink.new)) }
+        (FailsByDevices longest result (S.has_failed source.new) (W.has_failed sink.new)) }
 {
-    let mut left = LONGEST_INPUT as usize;
-    for _ in 0..LONGEST_INPUT {
+    let mut left = longest;
+    // each read but the last gives an octet
+    for _ in 0..longest + 1 {
         let mut buffer = [0; PIECE];
         let count = match source.read(&mut buffer) {
             Ok(0) => return end(alloc, printer, sink),
@@ -45,11 +49,11 @@ pub fn print_all<P: Printer + Drop, S: Source, W: Sink>(
             Err(fault) => return Err(fault),
         }
         if count > left {
-            return Err(Fault::Read);
+            return Err(Fault::Long);
         }
         left -= count;
     }
-    Err(Fault::Read)
+    unreachable!()
 }
 
 /// Reads these octets, and writes what they print.
@@ -61,7 +65,7 @@ fn pass<P: Printer, W: Sink>(
 ) -> Result<(), Fault<P::Fault>>
     ensures passes { PassesOrBreaks P.is_text result (P.has_read printer.old) octets.now
         (W.written sink.old) (W.written sink.new) (P.has_read printer.new) }
-    ensures failed { IfErr result (λ fault. IsDevices fault ⊥ (W.has_failed sink.new ≡ true)) }
+    ensures failed { IfErr result (λ fault. IsDevices fault ⊥ ⊥ (W.has_failed sink.new ≡ true)) }
 {
     let mut out = Vec::new(alloc);
     let read = printer.read(octets, &mut out);
@@ -77,7 +81,7 @@ fn end<P: Printer + Drop, W: Sink>(
 ) -> Result<(), Fault<P::Fault>>
     ensures closes { Closes P.is_text result (P.has_read printer)
         (W.written sink.old) (W.written sink.new) }
-    ensures failed { IfErr result (λ fault. IsDevices fault ⊥ (W.has_failed sink.new ≡ true)) }
+    ensures failed { IfErr result (λ fault. IsDevices fault ⊥ ⊥ (W.has_failed sink.new ≡ true)) }
 {
     let mut out = Vec::new(alloc);
     let ended = printer.end(&mut out);

@@ -9,7 +9,7 @@ use Rattle.set_crew.specs.declared.end.SetEnd.{SetEnd}
 use Rattle.bank_core.specs.Ends.{AreEnds}
 use Rattle.paced_banks.specs.Opening.{AreEndsOf, numbers_below}
 use Rattle.printing.specs.declared.fault.Fault.{Fault}
-use Rattle.printing.specs.declared.fault.Fault.TheVariants.{Input, Memory, Read, Write}
+use Rattle.printing.specs.declared.fault.Fault.TheVariants.{Input, Memory, Read, Long, Write}
 use Rattle.run_text.specs.declared.fault.RunFault.{RunFault}
 use Rattle.run_text.specs.Running.{IsAnEnd, WritesText}
 
@@ -50,5 +50,6 @@ wider P Q f (Ok done) old new w = record { printed = w.printed; added = w.added;
 wider P Q f (Err (Input fault)) old new w = record { printed = w.printed; added = w.added; ends = w.ends }
 wider P Q f (Err Memory) old new w = record { printed = w.printed; added = w.added; ends = w.ends }
 wider P Q f (Err Read) old new w = absurd w.ends
+wider P Q f (Err Long) old new w = absurd w.ends
 wider P Q f (Err Write) old new w =
     record { printed = w.printed; added = w.added; ends = (w.ends.0, f (w.printed ++ w.ends.0) w.ends.1) }

@@ -1,5 +1,5 @@
 -- A RUN, from its traffic to what is written.
-use Rattle.std.specs.Prelude.{◌≡◌, ℕ, Bool, true, List, [], ◌++◌, Option, Result, MatchResult, All, IsOk}
+use Rattle.std.specs.Prelude.{◌≡◌, ℕ, Bool, true, List, [], ◌++◌, Option, None, Some, Result, MatchResult, All, IsOk}
 use Rattle.std.specs.Io.KnownBytes.{Appends}
 use Rattle.set_events.specs.declared.config.SetConfig.{SetConfig}
 use Rattle.set_crew.specs.declared.end.SetEnd.{SetEnd}
@@ -7,8 +7,10 @@ use Rattle.set_crew.specs.Ends.{IsEndOf}
 use Rattle.paced_banks.specs.declared.traffic.Traffic.{Traffic}
 use Rattle.paced_banks.specs.Opening.{AreEndsOf, method_of}
 use Rattle.printing.specs.declared.fault.Fault.{Fault}
-use Rattle.printing.specs.declared.fault.Fault.TheVariants.{Input, Memory, Read, Write}
+use Rattle.printing.specs.declared.fault.Fault.TheVariants.{Input, Memory, Read, Long, Write}
 use Rattle.run_text.specs.declared.fault.RunFault.{RunFault}
+use Rattle.run_text.specs.declared.fault.RunFault.TheVariants.{Thread, Close, User, Terminal}
+use Rattle.run_text.specs.Failures.{failure_of}
 use Rattle.run_text.specs.RunText.{run_text}
 
 -- the end of a set of some configuration
@@ -22,6 +24,7 @@ pub record GotThrough (end : SetEnd) : Type 0 where
 
 -- what is printed of these ends: something only where each user got through, and no terminal failed
 pub record IsTextOfEnds (per_link : Bool) (near far : List SetEnd) (text : List ℕ) : Type 0 where
+  pub no_failure : failure_of near far ≡ None
   pub near_got_through : All GotThrough near
   pub far_got_through : All GotThrough far
   pub text_is : text ≡ run_text per_link near far
@@ -34,18 +37,12 @@ pub record IsRunText (traffic : Traffic) (per_link : Bool) (text : List ℕ) : T
   pub far_are : AreEndsOf traffic.sets traffic.links 1 2 (method_of traffic.cyclic) far
   pub of_ends : IsTextOfEnds per_link near far text
 
--- a fault that isn't the sink's: nothing was written
-abbrev pub IsCut : Fault RunFault → Type 0
-IsCut (Input fault) = Unit {0}
-IsCut Memory = Unit {0}
-IsCut Read = ⊥
-IsCut Write = ⊥
-
 -- where the sink failed, the text was begun; for any other fault nothing was written
 abbrev pub CutsOff : (List ℕ → Type 0) → List ℕ → Fault RunFault → Type 0
 CutsOff IsText printed (Input fault) = printed ≡ []
 CutsOff IsText printed Memory = printed ≡ []
 CutsOff IsText printed Read = ⊥
+CutsOff IsText printed Long = ⊥
 CutsOff IsText printed Write = (more : List ℕ) × IsText (printed ++ more)
 
 pub record WritesText (IsText : List ℕ → Type 0) (result : Result (Unit {0}) (Fault RunFault))
@@ -68,3 +65,44 @@ WritesEnds per_link near far result old new = WritesText (IsTextOfEnds per_link 
 abbrev pub Runs : Traffic → Bool → Result (Unit {0}) (Fault RunFault) → Option (List ℕ)
     → Option (List ℕ) → Type 0
 Runs traffic per_link result old new = WritesText (IsRunText traffic per_link) result old new
+
+-- WHY IT ENDS SO. Of ends that are at hand: a failure is told, the first one; memory was wanted here, or the sink failed,
+-- only where there is none.
+abbrev pub IsFaultOfEnds : List SetEnd → List SetEnd → Fault RunFault → Type 0
+IsFaultOfEnds near far (Input fault) = failure_of near far ≡ Some fault
+IsFaultOfEnds near far Memory = failure_of near far ≡ None
+IsFaultOfEnds near far Read = ⊥
+IsFaultOfEnds near far Long = ⊥
+IsFaultOfEnds near far Write = failure_of near far ≡ None
+
+-- this is the failure of what the traffic came to at its ends
+pub record FailsAt (traffic : Traffic) (fault : RunFault) : Type 0 where
+  pub near : List SetEnd
+  pub far : List SetEnd
+  pub near_are : AreEndsOf traffic.sets traffic.links 2 1 (method_of traffic.cyclic) near
+  pub far_are : AreEndsOf traffic.sets traffic.links 1 2 (method_of traffic.cyclic) far
+  pub failure_is : failure_of near far ≡ Some fault
+
+abbrev pub IsFailure : Traffic → RunFault → Type 0
+IsFailure traffic Thread = Unit {0}
+IsFailure traffic Close = Unit {0}
+IsFailure traffic (User set end user) = FailsAt traffic (User set end user)
+IsFailure traffic (Terminal set end link fault) = FailsAt traffic (Terminal set end link fault)
+
+abbrev pub IsFaultOfRun : Traffic → Fault RunFault → Type 0
+IsFaultOfRun traffic (Input fault) = IsFailure traffic fault
+IsFaultOfRun traffic Memory = Unit {0}
+IsFaultOfRun traffic Read = ⊥
+IsFaultOfRun traffic Long = ⊥
+IsFaultOfRun traffic Write = Unit {0}
+
+-- a bank that ended early is told by what it lacked; no end is at hand then
+abbrev pub TellsLack : Fault RunFault → Type 0
+TellsLack (Input Thread) = Unit {0}
+TellsLack (Input Close) = Unit {0}
+TellsLack (Input (User set end user)) = ⊥
+TellsLack (Input (Terminal set end link fault)) = ⊥
+TellsLack Memory = Unit {0}
+TellsLack Read = ⊥
+TellsLack Long = ⊥
+TellsLack Write = ⊥

@@ -9,10 +9,12 @@
 //! the ends that the banks hand out (`specs/RunText.antt`), and those are what the contract of [`run_through`] says
 //! (`specs/Running.antt`): each history is legal for the configuration that the traffic asks for. So `legal=yes` is
 //! promised; that each message stands in one place and is counted once is promised of any legal history. [`write_ends`] says of
-//! the ends that it's given that something is written of them only where each user got through and no terminal failed.
+//! the ends that it's given that something is written of them only where each user got through and no terminal failed, and
+//! else which one did (`specs/Failures.antt`).
 #![tactic(auto)]
 
 mod counting;
+mod failures;
 mod fault;
 mod link;
 mod running;
@@ -20,4 +22,6 @@ mod summing;
 mod texts;
 
 pub use fault::RunFault;
+pub use link_term::TermFault;
 pub use running::{run, write_ends};
+pub use world_steps::End;

@@ -1,11 +1,13 @@
 //! A run, from its traffic to what is written.
-ghost use Rattle.std.specs.Prelude.{◌≡◌, ◌≤◌, ◌⊎◌, All, IfErr, IfOk, length, true};
+ghost use Rattle.std.specs.Prelude.{◌≡◌, ◌≤◌, All, IfErr, IfOk, None, length, true};
 ghost use Rattle.bank_core.specs.Faults.{EndsEarly};
+ghost use Rattle.run_text.specs.Failures.{failure_of};
 ghost use Rattle.run_text.specs.RunText.{run_text};
-ghost use Rattle.run_text.specs.Running.{IsAnEnd, IsCut, Runs, WritesAll, WritesEnds};
+ghost use Rattle.run_text.specs.Running.{IsAnEnd, IsFaultOfEnds, IsFaultOfRun, Runs, TellsLack, WritesAll, WritesEnds};
 
+use super::failures::find_failure;
 use super::fault::RunFault;
-use super::summing::{all_got_through, totals_of_ends};
+use super::summing::totals_of_ends;
 use super::texts::{write_all_sets, write_links};
 use bank_core::{BankFault, SetEnd};
 use paced_banks::{PaceGate, Traffic, run_through};
@@ -18,8 +20,8 @@ use std::thread::Threads;
 /// each link came to. When all threads have ended, before anything is written, `ended` is called.
 ///
 /// Faults: [`RunFault::Thread`] and [`RunFault::Close`] as [`run_through`] has them; [`Fault::Memory`] where memory was
-/// wanted there or here, a user didn't get through, or a terminal failed. Nothing is written then. [`Fault::Write`] where
-/// the sink fails; what was written is a beginning of the text.
+/// wanted there or here; [`RunFault::User`] or [`RunFault::Terminal`] of the first user that didn't get through or terminal
+/// that failed. Nothing is written then. [`Fault::Write`] where the sink fails; what was written is a beginning of the text.
 pub fn run<R: Threads + Wait + Copy + Send + Sync + 'static, W: Sink, F: FnOnce()>(
     rt: &R,
     alloc: Global,
@@ -31,6 +33,7 @@ pub fn run<R: Threads + Wait + Copy + Send + Sync + 'static, W: Sink, F: FnOnce(
 ) -> Result<(), Fault<RunFault>>
     requires callable { F.IsAlwaysCallable ended }
     ensures text { Runs traffic.now per_link result (W.written sink.old) (W.written sink.new) }
+    ensures fault { IfErr result (IsFaultOfRun traffic.now) }
     ensures failed { IfErr result (λ fault. fault ≡ Fault.Write → W.has_failed sink.new ≡ true) }
 {
     let (near_gate, far_gate) = gates;
@@ -46,7 +49,7 @@ pub fn run<R: Threads + Wait + Copy + Send + Sync + 'static, W: Sink, F: FnOnce(
 /// Why there is nothing to write.
 fn fault_of(fault: BankFault) -> Fault<RunFault>
     requires early { EndsEarly fault }
-    ensures { IsCut result }
+    ensures { TellsLack result }
 {
     match fault {
         BankFault::NoThread => Fault::Input(RunFault::Thread),
@@ -57,8 +60,9 @@ fn fault_of(fault: BankFault) -> Fault<RunFault>
 
 /// Writes what these ends came to, at most 16 of each bank; with `per_link` behind that what each link came to.
 ///
-/// Faults: [`Fault::Memory`] where memory was wanted here, a user didn't get through, or a terminal failed. Nothing is
-/// written then. [`Fault::Write`] where the sink fails; what was written is a beginning of the text.
+/// Faults: [`RunFault::User`] or [`RunFault::Terminal`] exactly where a user didn't get through or a terminal failed, of the
+/// first one: the ends a come before the ends b, a set's users before its terminals. [`Fault::Memory`] where memory was
+/// wanted here. Nothing is written then. [`Fault::Write`] where the sink fails; what was written is a beginning of the text.
 pub fn write_ends<W: Sink>(
     alloc: Global,
     near: &[SetEnd],
@@ -69,12 +73,30 @@ pub fn write_ends<W: Sink>(
     requires ends { All IsAnEnd near.now × All IsAnEnd far.now }
     requires few { (length near.now ≤ 16) × (length far.now ≤ 16) }
     ensures text { WritesEnds per_link near.now far.now result (W.written sink.old) (W.written sink.new) }
-    ensures fault { IfErr result (λ fault. (fault ≡ Fault.Memory) ⊎ (fault ≡ Fault.Write)) }
+    ensures fault { IfErr result (IsFaultOfEnds near.now far.now) }
     ensures failed { IfErr result (λ fault. fault ≡ Fault.Write → W.has_failed sink.new ≡ true) }
 {
-    if !all_got_through(near) || !all_got_through(far) {
-        return Err(Fault::Memory);
+    match find_failure(near, far) {
+        Some(fault) => Err(Fault::Input(fault)),
+        None => write_text(alloc, near, far, per_link, sink),
     }
+}
+
+/// Writes what ends came to of which none failed.
+fn write_text<W: Sink>(
+    alloc: Global,
+    near: &[SetEnd],
+    far: &[SetEnd],
+    per_link: bool,
+    sink: &mut W,
+) -> Result<(), Fault<RunFault>>
+    requires ends { All IsAnEnd near.now × All IsAnEnd far.now }
+    requires few { (length near.now ≤ 16) × (length far.now ≤ 16) }
+    requires none { failure_of near.now far.now ≡ None }
+    ensures text { WritesEnds per_link near.now far.now result (W.written sink.old) (W.written sink.new) }
+    ensures fault { IfErr result (IsFaultOfEnds near.now far.now) }
+    ensures failed { IfErr result (λ fault. fault ≡ Fault.Write → W.has_failed sink.new ≡ true) }
+{
     match text_of(alloc, near, far, per_link) {
         Ok(text) => write_all(sink, &text),
         Err(_) => Err(Fault::Memory),

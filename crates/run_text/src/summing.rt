@@ -1,12 +1,11 @@
 //! What the sets of an end came to.
-ghost use Rattle.std.specs.Prelude.{◌≡◌, ◌<◌, ◌^◌, All, IfOk, IsOk, IsTrue, map, true};
+ghost use Rattle.std.specs.Prelude.{◌≡◌, ◌<◌, ◌^◌, All, IfOk, map};
 ghost use Rattle.bank_core.specs.Totals.{IsInRange};
 ghost use Rattle.set_model.specs.Rows.{total_of};
 ghost use Rattle.run_text.specs.RunText.{end_totals};
-ghost use Rattle.run_text.specs.Running.{GotThrough, IsAnEnd};
+ghost use Rattle.run_text.specs.Running.{IsAnEnd};
 
 use bank_core::{SetEnd, SetTotals};
-use link_term::{TermFault, TermReport};
 use set_core::audit_history;
 use set_events::Counts;
 use std::alloc::{AllocError, Global};
@@ -55,30 +54,4 @@ fn placed(counts: &Counts) -> u64
         + counts.parked
         + counts.back
         + counts.discarded
-}
-
-/// Whether each user of these ends got through, and no terminal failed.
-pub(crate) fn all_got_through(ends: &[SetEnd]) -> bool
-    ensures { IsTrue result → All GotThrough ends.now }
-{
-    for end in ends {
-        if !users_got_through(&end.users) || !terminals_got_through(&end.reports) {
-            return false;
-        }
-    }
-    true
-}
-
-/// Whether each of these users got through.
-fn users_got_through(users: &[bool]) -> bool
-    ensures { IsTrue result → All (λ got_through. got_through ≡ true) users.now }
-{
-    users.iter().all(|got_through| *got_through)
-}
-
-/// Whether none of the terminals with these reports failed.
-fn terminals_got_through(reports: &[Result<TermReport, TermFault>]) -> bool
-    ensures { IsTrue result → All IsOk reports.now }
-{
-    reports.iter().all(|report| report.is_ok())
 }

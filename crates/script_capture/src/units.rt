@@ -61,8 +61,8 @@ impl Account for Units {
 /// Plays the script that the source gives, and writes the units that its ends send as a pcap file.
 ///
 /// Ends with the first fault; what was written before it stays written, and is a whole capture of what was sent until
-/// then where the fault isn't the first line's. An input of more than 2^24 octets is never answered Ok, and one of 2^24 or
-/// more may be [`Fault::Read`], as [`tell_script`] tells.
+/// then where the fault isn't the first line's. An input of more than 2^24 octets ends with [`Fault::Long`],
+/// unless another fault comes before.
 pub fn capture<S: Source, W: Sink>(
     alloc: Global,
     source: &mut S,
@@ -72,7 +72,7 @@ pub fn capture<S: Source, W: Sink>(
         (λ input. Prints result (IsCapture input) (W.written sink.old) (W.written sink.new)) }
     ensures bounded { IfSome (S.left source.old) (λ input. OnOk result (length input ≤ 2 ^ 24)) }
     ensures devices { IfSome (S.left source.old)
-        (FailsByDevices result (S.has_failed source.new) (W.has_failed sink.new)) }
+        (FailsByDevices (2 ^ 24) result (S.has_failed source.new) (W.has_failed sink.new)) }
 {
     tell_script::<Units, S, W>(alloc, source, sink)
 }

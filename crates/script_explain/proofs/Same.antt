@@ -3,7 +3,7 @@ use Rattle.std.proofs.Common.{◌≡◌, refl, sym, ap, ◌∙◌, ℕ, Bool, tr
 use Rattle.std.specs.Option.{option_map}
 use Rattle.pair_model.specs.World.{World}
 use Rattle.printing.specs.declared.fault.Fault.{Fault}
-use Rattle.printing.specs.declared.fault.Fault.TheVariants.{Input, Memory, Read, Write}
+use Rattle.printing.specs.declared.fault.Fault.TheVariants.{Input, Memory, Read, Long, Write}
 use Rattle.printing.specs.Printing.{Printed, behind, IsBegun, Prints}
 use Rattle.text_lines.specs.Lines.{LineOutcome, prints, stops, is_remark, goes_on, lines_of, text_of_lines, lines_text}
 use Rattle.script_text.specs.declared.fault.ScriptFault.{ScriptFault}
@@ -51,6 +51,7 @@ module _ (t : Told) where
   alike (Err (Input fault)) input old new p = record { printed = p.printed; added = p.added; ends = whole input p.printed (Some fault) p.ends }
   alike (Err Memory) input old new p = record { printed = p.printed; added = p.added; ends = begun input p.printed p.ends }
   alike (Err Read) input old new p = record { printed = p.printed; added = p.added; ends = begun input p.printed p.ends }
+  alike (Err Long) input old new p = record { printed = p.printed; added = p.added; ends = begun input p.printed p.ends }
   alike (Err Write) input old new p = record { printed = p.printed; added = p.added; ends = begun input p.printed p.ends }
 
   pub alike_all : (ran : Result (Unit {0}) (Fault Explained)) (left old new : Option (List ℕ))

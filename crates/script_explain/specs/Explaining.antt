@@ -6,10 +6,11 @@ use Rattle.pair_model.specs.World.{World}
 use Rattle.world_steps.specs.declared.step.Step.{Step as WorldStep}
 use Rattle.play_script.specs.Script.{step_of}
 use Rattle.printing.specs.declared.fault.Fault.{Fault}
-use Rattle.printing.specs.declared.fault.Fault.TheVariants.{Input as InputFault, Memory as NoMemory, Read, Write}
+use Rattle.printing.specs.declared.fault.Fault.TheVariants.{Input as InputFault, Memory as NoMemory, Read, Long as TooLong, Write}
 use Rattle.printing.specs.declared.fault.Stop.{Stop}
 use Rattle.printing.specs.declared.fault.Stop.TheVariants.{Input, Memory}
 use Rattle.printing.specs.Printing.{Printed}
+use Rattle.text_lines.specs.declared.flaw.LineFlaw.TheVariants.{Long}
 use Rattle.text_lines.specs.Lines.{LineOutcome, Rules, prints, stops, IsLinesText}
 use Rattle.line_mistakes.specs.declared.lines.Blame.{Blame}
 use Rattle.line_mistakes.specs.Blaming.{blamed_opening, blamed_step}
@@ -44,7 +45,7 @@ undone (Some links) text = undone_step links text (step_of text)
 
 -- the lines that explain a fault on this line, with so many links
 abbrev pub said : Option ℕ → List ℕ → ScriptFault → Option (List ℕ)
-said links text (Text n) = option_map (λ blame. explanation n blame text) (unread links text)
+said links text (Text n flaw) = option_map (λ blame. explanation n blame text) (unread links text)
 said links text (Step n) = option_map (λ blame. explanation n blame text) (undone links text)
 said links text Exhausted = None
 
@@ -62,7 +63,7 @@ explained_rules t = record {
   start = None;
   on_line = λ n world text. explains world text (read_script t n world text);
   at_the_end = t.at_the_end;
-  unreadable = λ n. record { fault = Text n; told = None };
+  unreadable = λ n. record { fault = Text n Long; told = None };
 }
 
 -- THE TEXT: that of the script, with an explanation of the fault
@@ -78,6 +79,7 @@ fault_alone (Ok done) = Ok done
 fault_alone (Err (InputFault e)) = Err (InputFault e.fault)
 fault_alone (Err NoMemory) = Err NoMemory
 fault_alone (Err Read) = Err Read
+fault_alone (Err TooLong) = Err TooLong
 fault_alone (Err Write) = Err Write
 
 -- The code beside the definition: a fault with its explanation, or want of memory.

@@ -9,7 +9,7 @@ use super::fault::ExplainedFault;
 use line_mistakes::{Blame, blame_impossible, blame_opening, blame_step, explain};
 use play_script::read_step;
 use printing::Stop;
-use script_text::{Account, Script, ScriptFault};
+use script_text::{Account, LineFlaw, Script, ScriptFault};
 use std::alloc::{AllocError, Global};
 use std::marker::Model;
 use text_lines::LineText;
@@ -51,7 +51,10 @@ impl<A: Account> LineText for Explaining<A> {
 
     fn unreadable(number: u64) -> ExplainedFault {
         ExplainedFault {
-            fault: ScriptFault::Text { line: number },
+            fault: ScriptFault::Text {
+                line: number,
+                flaw: LineFlaw::Long,
+            },
             told: None,
         }
     }
@@ -105,7 +108,12 @@ fn explain_fault(
     ensures { IfOk result (λ told. option_map string_bytes told ≡ said links text.now fault) }
 {
     match fault {
-        ScriptFault::Text { line } => shown(alloc, line, blame_unread(alloc, links, text)?, text),
+        ScriptFault::Text { line, .. } => shown(
+            alloc,
+            line,
+            blame_unread(alloc, links, text)?,
+            text,
+        ),
         ScriptFault::Step { line } => shown(alloc, line, blame_undone(alloc, links, text)?, text),
         ScriptFault::Exhausted => Ok(None),
     }

@@ -1,5 +1,4 @@
 //! How a script is at fault, with an explanation.
-use line_mistakes::Mistake;
 use script_text::ScriptFault;
 use std::fmt;
 use std::fmt::Display;
@@ -10,7 +9,7 @@ use std::marker::Model;
 pub struct ExplainedFault {
     /// The fault, as `script_text` tells it.
     pub fault: ScriptFault,
-    /// The lines that explain it, each but the last ended by LF; `None` where the line is too long, which says enough, and
+    /// The lines that explain it, each but the last ended by LF; `None` where the line is too long, which the fault says, and
     /// where the fault is no line's.
     pub told: Option<String>,
 }
@@ -28,13 +27,9 @@ impl Model for ExplainedFault {
 impl Display for ExplainedFault {
     fn fmt<W: fmt::Write>(&self, f: &mut fmt::Formatter<W>) -> fmt::Result {
         let fault = self.fault;
-        match (&self.told, fault) {
-            (Some(told), _) => write!(f, "{fault}\n{told}"),
-            (None, ScriptFault::Text { line }) => {
-                let text = Mistake::TooLong.text();
-                write!(f, "{fault}\nline {line}: {text}")
-            }
-            _ => write!(f, "{fault}"),
+        match &self.told {
+            Some(told) => write!(f, "{fault}\n{told}"),
+            None => write!(f, "{fault}"),
         }
     }
 }

@@ -11,8 +11,8 @@ use std::alloc::Global;
 
 /// Plays the script that the source gives, and writes the history of this end when it has ended.
 ///
-/// Ends with the first fault, and writes nothing then. An input of more than 2^24 octets is never answered Ok, and one
-/// of 2^24 or more may be [`Fault::Read`], as [`tell_script`] tells.
+/// Ends with the first fault, and writes nothing then. An input of more than 2^24 octets ends with [`Fault::Long`],
+/// unless another fault comes before.
 pub fn history<S: Source, W: Sink>(
     alloc: Global,
     end: End,
@@ -24,7 +24,7 @@ pub fn history<S: Source, W: Sink>(
         (W.written sink.old) (W.written sink.new)) }
     ensures bounded { IfSome (S.left source.old) (λ input. OnOk result (length input ≤ 2 ^ 24)) }
     ensures devices { IfSome (S.left source.old)
-        (FailsByDevices result (S.has_failed source.new) (W.has_failed sink.new)) }
+        (FailsByDevices (2 ^ 24) result (S.has_failed source.new) (W.has_failed sink.new)) }
 {
     match end {
         End::A => tell_script::<History<OfA>, S, W>(alloc, source, sink),

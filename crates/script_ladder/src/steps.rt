@@ -79,8 +79,8 @@ impl Account for Chart {
 
 /// Plays the script that the source gives, and draws what happens.
 ///
-/// Ends with the first fault; what was drawn before it stays drawn. An input of more than 2^24 octets
-/// is never answered Ok, and one of 2^24 or more may be [`Fault::Read`], as [`tell_script`] tells.
+/// Ends with the first fault; what was drawn before it stays drawn. An input of more than 2^24 octets ends with
+/// [`Fault::Long`], unless another fault comes before.
 pub fn ladder<S: Source, W: Sink>(
     alloc: Global,
     source: &mut S,
@@ -90,7 +90,7 @@ pub fn ladder<S: Source, W: Sink>(
         (λ input. Prints result (IsLadder input) (W.written sink.old) (W.written sink.new)) }
     ensures bounded { IfSome (S.left source.old) (λ input. OnOk result (length input ≤ 2 ^ 24)) }
     ensures devices { IfSome (S.left source.old)
-        (FailsByDevices result (S.has_failed source.new) (W.has_failed sink.new)) }
+        (FailsByDevices (2 ^ 24) result (S.has_failed source.new) (W.has_failed sink.new)) }
 {
     tell_script::<Chart, S, W>(alloc, source, sink)
 }

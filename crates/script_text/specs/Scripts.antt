@@ -13,6 +13,8 @@ use Rattle.pair_model.specs.World.{World, Outcome, shows, impossible, exhausted,
 use Rattle.play_script.specs.declared.script.Values.{Values}
 use Rattle.play_script.specs.Script.{step_of, first_line}
 use Rattle.printing.specs.Printing.{Printed}
+use Rattle.text_lines.specs.declared.flaw.LineFlaw.TheVariants.{Long}
+use Rattle.text_lines.specs.Flaws.{flaw_of}
 use Rattle.text_lines.specs.Lines.{LineOutcome, Rules, prints, stops, IsLinesText}
 
 -- WHAT IS TOLD of a script: of the world that its first line makes; on the line of a number, of the world before its
@@ -62,9 +64,9 @@ abbrev pub opened_world : Values → World
 opened_world v = world_of (opened_set (settings_at v A)) (opened_set (settings_at v B))
 
 -- the first line that is no remark makes the world
-abbrev pub opened : Told → ℕ → Option Values → ScriptOutcome
-opened t n None = stops (Text n)
-opened t n (Some v) = prints (t.opening (opened_world v)) (Some (opened_world v))
+abbrev pub opened : Told → ℕ → List ℕ → Option Values → ScriptOutcome
+opened t n text None = stops (Text n (flaw_of text))
+opened t n text (Some v) = prints (t.opening (opened_world v)) (Some (opened_world v))
 
 -- each further one asks for a step, which is carried out
 abbrev pub outcome_of : Told → ℕ → World → WorldStep → Outcome → ScriptOutcome
@@ -72,20 +74,20 @@ outcome_of t n before step (shows s w) = prints (t.step n before step s w) (Some
 outcome_of t n before step impossible = stops (Step n)
 outcome_of t n before step exhausted = stops Exhausted
 
-abbrev pub asked : Told → ℕ → World → Option WorldStep → ScriptOutcome
-asked t n w None = stops (Text n)
-asked t n w (Some step) = outcome_of t n w step (carried_out w step)
+abbrev pub asked : Told → ℕ → World → List ℕ → Option WorldStep → ScriptOutcome
+asked t n w text None = stops (Text n (flaw_of text))
+asked t n w text (Some step) = outcome_of t n w step (carried_out w step)
 
 abbrev pub read_script : Told → ℕ → Option World → List ℕ → ScriptOutcome
-read_script t n None text = opened t n (first_line text)
-read_script t n (Some w) text = asked t n w (step_of text)
+read_script t n None text = opened t n text (first_line text)
+read_script t n (Some w) text = asked t n w text (step_of text)
 
 abbrev pub script_rules : Told → Rules (Option World) ScriptFault
 script_rules t = record {
   start = None;
   on_line = read_script t;
   at_the_end = t.at_the_end;
-  unreadable = Text;
+  unreadable = λ n. Text n Long;
 }
 
 -- THE TEXT: lines of at most 4,096 octets, counted from 1; a remark tells nothing (text_lines, specs/Lines.antt)

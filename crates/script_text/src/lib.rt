@@ -21,3 +21,4 @@ pub use account::Account;
 pub use fault::ScriptFault;
 pub use script::Script;
 pub use text::tell_script;
+pub use text_lines::LineFlaw;

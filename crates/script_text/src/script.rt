@@ -3,8 +3,11 @@ ghost use Rattle.std.specs.Prelude.{◌≡◌, ◌≢◌, Some, IsSome, MatchRes
 ghost use Rattle.play_script.specs.Script.{first_line};
 ghost use Rattle.pair_model.specs.World.{World as ModelWorld, Outcome, carried_out};
 ghost use Rattle.pair_world.specs.Carried.{Fails};
+ghost use Rattle.printing.specs.declared.fault.Stop.TheVariants.{Input};
+ghost use Rattle.text_lines.specs.Flaws.{flaw_of};
 ghost use Rattle.text_lines.specs.Lines.{prints};
 ghost use Rattle.text_lines.specs.Reading.{IsDone, Tells};
+ghost use Rattle.script_text.specs.declared.fault.ScriptFault.TheVariants.{Text};
 ghost use Rattle.script_text.specs.Scripts.{Told, opened, outcome_of, read_script};
 ghost use Rattle.world_steps.specs.declared.step.Step.{Step as ModelStep};
 
@@ -16,7 +19,7 @@ use printing::Stop;
 use set_events::Answer;
 use std::alloc::Global;
 use std::marker::{Model, PhantomData};
-use text_lines::LineText;
+use text_lines::{LineFlaw, LineText, find_flaw};
 use world_steps::{Shown, Step};
 
 /// A script under way.
@@ -70,7 +73,10 @@ impl<A: Account> LineText for Script<A> {
     ghost rules = { script_rules A.told };
 
     fn unreadable(number: u64) -> ScriptFault {
-        ScriptFault::Text { line: number }
+        ScriptFault::Text {
+            line: number,
+            flaw: LineFlaw::Long,
+        }
     }
 
     fn line(
@@ -101,7 +107,7 @@ fn open<A: Account>(
     text: &[u8],
     out: &mut Vec<u8>,
 ) -> Result<(), Stop<ScriptFault>>
-    ensures { IsDone result (opened A.told number (first_line text.now))
+    ensures { IsDone result (opened A.told number text.now (first_line text.now))
         out.old.items out.new.items world.new }
 {
     let made = make_world(alloc, number, text)?;
@@ -115,17 +121,27 @@ fn open<A: Account>(
 fn make_world(alloc: Global, number: u64, text: &[u8]) -> Result<World, Stop<ScriptFault>>
     ensures { MatchResult result
         (λ world. (t : Told)
-        → opened t number (first_line text.now) ≡ prints (t.opening world) (Some world))
-        (λ stop. (t : Told) → Tells stop (opened t number (first_line text.now))) }
+        → opened t number text.now (first_line text.now) ≡ prints (t.opening world) (Some world))
+        (λ stop. (t : Told) → Tells stop (opened t number text.now (first_line text.now))) }
 {
     let Some(opening) = read_opening(text) else {
-        return Err(Stop::Input(ScriptFault::Text { line: number }));
+        return Err(unread(number, text));
     };
     match World::new(alloc, &opening.a, &opening.b) {
         Ok(world) => Ok(world),
         Err(PlayFault::NoMemory) => Err(Stop::Memory),
         Err(_) => unreachable!(),
     }
+}
+
+/// This line can't be read.
+fn unread(number: u64, text: &[u8]) -> Stop<ScriptFault>
+    ensures { result ≡ Input (Text number (flaw_of text.now)) }
+{
+    Stop::Input(ScriptFault::Text {
+        line: number,
+        flaw: find_flaw(text),
+    })
 }
 
 /// A line after the first asks for a step, which is carried out. The step is looked at where it was read, since it's copied each
@@ -147,7 +163,7 @@ fn carry_out<A: Account>(
     let asked = read_step(alloc, text);
     match &asked {
         Ok(Some(step)) => carry_out_step::<A>(alloc, world, number, step, out),
-        Ok(None) => Err(Stop::Input(ScriptFault::Text { line: number })),
+        Ok(None) => Err(unread(number, text)),
         Err(_) => Err(Stop::Memory),
     }
 }

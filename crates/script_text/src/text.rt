@@ -6,14 +6,14 @@ ghost use Rattle.script_text.specs.Scripts.{IsScriptText};
 use super::account::Account;
 use super::fault::ScriptFault;
 use super::script::Script;
-use printing::{Fault, Sink, Source};
+use printing::{Fault, LONGEST_KEPT, Sink, Source};
 use std::alloc::Global;
 use text_lines::print_lines;
 
 /// Plays the script that the source gives, and writes what the account tells of it.
 ///
-/// Ends with the first fault; what was printed before it stays printed. An input of more than 2^24 octets
-/// is never answered Ok, and one of 2^24 or more may be [`Fault::Read`], as [`print_lines`] tells.
+/// Ends with the first fault; what was printed before it stays printed. An input of more than 2^24 octets ends with
+/// [`Fault::Long`], unless another fault comes before.
 pub fn tell_script<A: Account, S: Source, W: Sink>(
     alloc: Global,
     source: &mut S,
@@ -24,7 +24,7 @@ pub fn tell_script<A: Account, S: Source, W: Sink>(
         (W.written sink.old) (W.written sink.new)) }
     ensures bounded { IfSome (S.left source.old) (λ input. OnOk result (length input ≤ 2 ^ 24)) }
     ensures devices { IfSome (S.left source.old)
-        (FailsByDevices result (S.has_failed source.new) (W.has_failed sink.new)) }
+        (FailsByDevices (2 ^ 24) result (S.has_failed source.new) (W.has_failed sink.new)) }
 {
-    print_lines(alloc, Script::<A>::new(), source, sink)
+    print_lines(alloc, Script::<A>::new(), LONGEST_KEPT, source, sink)
 }

@@ -274,14 +274,14 @@ module _ {S F : Type 0} (rules : Rules S F) where
   ends_in (Input fault) whole text lines printed e f = sym (e ∙ ap (λ (t : Printed F). behind lines t) f)
   ends_in Memory whole text lines printed e f = λ t is. (f.0, ap (λ (x : Printed F). x.printed) (is ∙ e) ∙ ap (λ (x : List ℕ). lines ++ x) f.1 ∙ sym (append_assoc lines printed f.0))
 
-  few_lines : (line past more : ℕ) → line ≤ 1 + past → past + more ≤ 2 ^ 24 → line + more < 2 ^ 64
+  few_lines : (line past more : ℕ) → line ≤ 1 + past → past + more ≤ 2 ^ 60 → line + more < 2 ^ 64
   few_lines line past more h k = omega (arith, h, k)
 
   -- what was printed is the beginning of the text
   has_begun : (past lines : List ℕ) (r : Reading S) → HasPrinted rules past lines r → (left : List ℕ) → IsBegun (IsLinesText rules (past ++ left)) lines
   has_begun past lines r has left text is = ((text_from rules r left).printed, ap (λ (t : Printed F). t.printed) (is ∙ has.goes_on left))
 
-  has_advanced : (old new : Reading S) (octets before after : List ℕ) (f : Advances rules old octets before after new) (past lines : List ℕ) → length past + length octets ≤ 2 ^ 24 → HasPrinted rules past lines old → HasPrinted rules (past ++ octets) (lines ++ f.printed) new
+  has_advanced : (old new : Reading S) (octets before after : List ℕ) (f : Advances rules old octets before after new) (past lines : List ℕ) → length past + length octets ≤ 2 ^ 60 → HasPrinted rules past lines old → HasPrinted rules (past ++ octets) (lines ++ f.printed) new
   has_advanced old new octets before after f past lines fits has = record {
     counted = omega (arith, f.counted, has.counted, length-append past octets);
     goes_on = λ left.
@@ -302,7 +302,7 @@ module _ {S F : Type 0} (rules : Rules S F) where
     begun = λ past lines fits has left. rw (← append_assoc past octets left) (has_begun (past ++ octets) (lines ++ f.printed) new (has_advanced old new octets before after f past lines fits has) left);
   }
   lines_read (Err stop) old new octets before after f =
-      let ends : (past lines : List ℕ) → length past + length octets ≤ 2 ^ 24 → HasPrinted rules past lines old → (left : List ℕ) → StopsIn stop (IsLinesText rules (past ++ (octets ++ left))) (lines ++ f.printed) =
+      let ends : (past lines : List ℕ) → length past + length octets ≤ 2 ^ 60 → HasPrinted rules past lines old → (left : List ℕ) → StopsIn stop (IsLinesText rules (past ++ (octets ++ left))) (lines ++ f.printed) =
       λ past lines fits has left.
       ends_in stop (lines_text rules (past ++ (octets ++ left))) (text_from rules old (octets ++ left)) lines f.printed (has.goes_on (octets ++ left)) (f.ends (few_lines old.line (length past) (length octets) has.counted fits) left) in record {
         printed = f.printed;

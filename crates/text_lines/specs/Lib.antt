@@ -1,2 +1,3 @@
+pub mod Flaws
 pub mod Lines
 pub mod Reading

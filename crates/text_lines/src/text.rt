@@ -8,23 +8,25 @@ use super::line_text::LineText;
 use printing::{Fault, Sink, Source, print_all};
 use std::alloc::Global;
 
-/// Reads the lines that the source gives, and writes what they print.
+/// Reads the lines that the source gives, at most `longest` octets, and writes what they print.
 ///
-/// Ends with the first fault; what was printed before it stays printed. An input of more than 2^24 octets
-/// is never answered Ok, and one of 2^24 or more may be [`Fault::Read`], as [`print_all`] tells.
+/// Ends with the first fault; what was printed before it stays printed. An input of more than `longest` octets ends
+/// with [`Fault::Long`], unless another fault comes before.
 pub fn print_lines<L: LineText + Drop, S: Source, W: Sink>(
     alloc: Global,
     lines: L,
+    longest: usize,
     source: &mut S,
     sink: &mut W,
 ) -> Result<(), Fault<L::Fault>>
-    requires { lines ≡ L.rules.start }
+    requires start { lines ≡ L.rules.start }
+    requires longest { longest ≤ 2 ^ 60 }
     ensures text { IfSome (S.left source.old)
         (λ input. Prints result (IsLinesText L.rules input)
         (W.written sink.old) (W.written sink.new)) }
-    ensures bounded { IfSome (S.left source.old) (λ input. OnOk result (length input ≤ 2 ^ 24)) }
+    ensures bounded { IfSome (S.left source.old) (λ input. OnOk result (length input ≤ longest)) }
     ensures devices { IfSome (S.left source.old)
-        (FailsByDevices result (S.has_failed source.new) (W.has_failed sink.new)) }
+        (FailsByDevices longest result (S.has_failed source.new) (W.has_failed sink.new)) }
 {
-    print_all(alloc, LineReader::new(alloc, lines), source, sink)
+    print_all(alloc, LineReader::new(alloc, lines), longest, source, sink)
 }

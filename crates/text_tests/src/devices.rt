@@ -1,6 +1,6 @@
 //! The texts of faults, and writes of any length.
 use super::holds;
-use play_text::ScriptFault;
+use play_text::{LineFlaw, ScriptFault};
 use printing::{Fault, Sink, Writer};
 use std::alloc::{AllocError, Global};
 use std::fmt::Display;
@@ -19,6 +19,7 @@ fn shows<T: Display + Drop>(alloc: Global, fault: Fault<T>, line: &str) -> bool 
 fn shows_all<T: Display + Drop>(alloc: Global) -> bool {
     shows::<T>(alloc, Fault::Memory, "fault memory")
         && shows::<T>(alloc, Fault::Read, "fault read")
+        && shows::<T>(alloc, Fault::Long, "fault long")
         && shows::<T>(alloc, Fault::Write, "fault write")
 }
 
@@ -26,11 +27,21 @@ fn shows_of_script(alloc: Global, fault: ScriptFault, line: &str) -> bool {
     shows(alloc, Fault::Input(fault), line)
 }
 
+/// A line that can't be read shows this line, by its flaw.
+fn shows_of_flaw(alloc: Global, flaw: LineFlaw, line: &str) -> bool {
+    shows_of_script(alloc, ScriptFault::Text { line: 2, flaw }, line)
+}
+
 #[test]
 fn faults_of_a_script_show_the_line_that_is_printed(rt: HostRuntime) -> Result<(), Fail> {
     let alloc = rt.alloc();
     holds(
-        shows_of_script(alloc, ScriptFault::Text { line: 2 }, "fault line 2 text")
+        shows_of_flaw(alloc, LineFlaw::Words, "fault line 2 text")
+            && shows_of_flaw(
+                alloc,
+                LineFlaw::CarriageReturn,
+                "fault line 2 text: the line ends with a carriage return (CRLF)",
+            )
             && shows_of_script(alloc, ScriptFault::Step { line: 7 }, "fault line 7 step")
             && shows_of_script(alloc, ScriptFault::Exhausted, "fault exhausted")
             && shows_all::<ScriptFault>(alloc),

@@ -3,7 +3,7 @@
 use super::holds;
 use paced_banks::{Traffic, pace_gates};
 use printing::{Fault, Writer};
-use run_text::{RunFault, run};
+use run_text::{End, RunFault, TermFault, run};
 use std::alloc::Global;
 use std::sync::Wait;
 use std::test::Fail;
@@ -91,7 +91,27 @@ fn hundred_are_delivered(text: &str) -> bool {
 #[test]
 fn a_fault_of_a_run_shows_its_line(rt: HostRuntime) -> Result<(), Fail> {
     let thread = shows(rt.alloc(), RunFault::Thread, "fault thread");
-    holds(thread && shows(rt.alloc(), RunFault::Close, "fault close"))
+    let user = RunFault::User {
+        set: 3,
+        end: End::A,
+        user: 2,
+    };
+    let terminal = RunFault::Terminal {
+        set: 0,
+        end: End::B,
+        link: 1,
+        fault: TermFault::Exhausted,
+    };
+    holds(
+        thread
+            && shows(rt.alloc(), RunFault::Close, "fault close")
+            && shows(rt.alloc(), user, "fault user set=3 end=a user=2")
+            && shows(
+                rt.alloc(),
+                terminal,
+                "fault terminal set=0 end=b link=1 fault=3",
+            ),
+    )
 }
 
 /// The fault of a run shows this line.

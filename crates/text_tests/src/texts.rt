@@ -4,7 +4,7 @@
 ghost use Rattle.std.specs.Prelude.{◌≡◌, ◌≤◌, ◌<◌, ◌^◌, Some};
 
 use super::holds;
-use play_text::{ScriptFault, play};
+use play_text::{LineFlaw, ScriptFault, play};
 use printing::{DeviceFault, Fault, Sink, Source};
 use std::alloc::{AllocError, Global};
 use std::test::Fail;
@@ -281,6 +281,56 @@ fn the_longest_line(rt: HostRuntime) -> Result<(), Fail> {
     let mut script = script_of(rt.alloc(), b"")?;
     let longest = lengthen(&mut script, 4096).is_ok() && end_of(rt.alloc(), &script) == Ok(());
     let longer = lengthen(&mut script, 1).is_ok();
-    let refused = Err(Fault::Input(ScriptFault::Text { line: 2 }));
+    let refused = Err(Fault::Input(ScriptFault::Text {
+        line: 2,
+        flaw: LineFlaw::Long,
+    }));
     holds(longest && longer && end_of(rt.alloc(), &script) == refused)
+}
+
+/// So many pieces of 4,096 octets, a remark each.
+#[derive(Drop)]
+struct Remarks {
+    pieces: u32,
+}
+
+impl Source for Remarks {
+    ghost use Rattle.std.specs.Prelude.{None, false};
+
+    ghost left = { λ s. None };
+
+    ghost has_failed = { λ s. false };
+
+    fn read(&mut self, buffer: &mut [u8]) -> Result<usize, DeviceFault> {
+        if self.pieces == 0 {
+            return Ok(0);
+        }
+        self.pieces -= 1;
+        for octet in buffer.iter_mut() {
+            *octet = b'#';
+        }
+        if let Some(last) = buffer.last_mut() {
+            *last = b'\n';
+        }
+        Ok(buffer.len())
+    }
+}
+
+/// How a script of so many remarks ends.
+fn end_of_remarks(alloc: Global, pieces: u32) -> Result<(), Fault<ScriptFault>> {
+    let mut page = Page {
+        octets: Vec::new(alloc),
+        piece: 1,
+        writes: 0,
+        failed: false,
+    };
+    let mut remarks = Remarks { pieces };
+    play(alloc, &mut remarks, &mut page)
+}
+
+/// An input of 2^24 octets is read, and one that goes on is too long.
+#[test]
+fn the_longest_input(rt: HostRuntime) -> Result<(), Fail> {
+    let longest = end_of_remarks(rt.alloc(), 4_096) == Ok(());
+    holds(longest && end_of_remarks(rt.alloc(), 4_097) == Err(Fault::Long))
 }

@@ -20,7 +20,16 @@ fn told_of(alloc: Global, words: &[&str]) -> Result<String, AllocError> {
         Ok(Words::Run(run)) => run_told(alloc, &run),
         Err(WordsFault::Words(error)) => error.to_string(alloc),
         Err(WordsFault::Link) => "fault link".to_string(alloc),
+        Err(WordsFault::Said(said)) => text_of(alloc, said),
         Err(WordsFault::NoMemory) => Ok(String::new(alloc)),
+    }
+}
+
+/// What is said, as text.
+fn text_of(alloc: Global, said: Vec<u8>) -> Result<String, AllocError> {
+    match String::from_utf8(said) {
+        Ok(text) => Ok(text),
+        Err(_) => Ok(String::new(alloc)),
     }
 }
 
@@ -46,7 +55,7 @@ fn run_told(alloc: Global, run: &RunWords) -> Result<String, AllocError> {
 /// The words are refused.
 fn are_refused(alloc: Global, words: &[&str]) -> bool {
     match told_of(alloc, words) {
-        Ok(told) => told.starts_with("error: "),
+        Ok(told) => told.starts_with("error: ") || told.starts_with("mtpbank "),
         Err(_) => false,
     }
 }
@@ -188,6 +197,45 @@ fn a_run_without_the_link_that_fails(rt: HostRuntime) -> Result<(), Fail> {
         ask_for(alloc, &["run", "--links", "2", "--fail", "2"], "fault link")
             && ask_for(alloc, &["run", "--fail=15"], "fault link")
             && are_refused(alloc, &["run", "--links=2", "--fail=2", "--turns=0"]),
+    )
+}
+
+const USAGE: &str = "\nusage: mtpbank run [--sets N] [--links L] [--users U] [--messages M] \
+[--fail K] [--method WORD] [--turns T] [--per-link]";
+
+/// This is said of the words behind `run`, and the usage in a second line.
+fn says_of_run(alloc: Global, first: &str, second: &str, said: &str) -> Result<bool, AllocError> {
+    let told = told_of(alloc, &["run", first, second])?;
+    Ok(told.starts_with(said) && told.ends_with(USAGE) && told.len() == said.len() + USAGE.len())
+}
+
+/// A value out of its range is told with its range and the usage, and so is a word that is no option.
+#[test]
+fn a_wrong_value_is_told_with_its_range(rt: HostRuntime) -> Result<(), Fail> {
+    let alloc = rt.alloc();
+    let links = "mtpbank run: --links 99 isn't a number from 1 to 16";
+    let turns = "mtpbank run: --turns 0 isn't a number from 1 to 1000000";
+    holds(
+        says_of_run(alloc, "--links", "99", links)?
+            && says_of_run(alloc, "--per-link", "--turns=0", turns)?
+            && says_of_run(alloc, "--per-link", "x", "mtpbank run: x isn't an option")?,
+    )
+}
+
+/// An end that is none, and a file where standard input is read.
+#[test]
+fn a_file_is_read_from_standard_input(rt: HostRuntime) -> Result<(), Fail> {
+    let alloc = rt.alloc();
+    let play = "mtpbank play: reads standard input: mtpbank play < FILE";
+    let units = "mtpbank units: reads standard input: mtpbank units < FILE";
+    let history = "mtpbank history: reads standard input: mtpbank history END < FILE";
+    let end = "mtpbank history: c isn't an end, a or b\nusage: mtpbank history END < FILE";
+    holds(
+        ask_for(alloc, &["play", "a.play"], play)
+            && ask_for(alloc, &["play", "--explain", "a.play"], play)
+            && ask_for(alloc, &["units", "a.units"], units)
+            && ask_for(alloc, &["history", "a", "a.play"], history)
+            && ask_for(alloc, &["history", "c"], end),
     )
 }
 

@@ -90,7 +90,7 @@ blank_values past c e = values_front past (c ∷ []) ∙ rw e (append-nil (value
 digit_values : (past cs : List ℕ) (c v : ℕ) → hex_value c ≡ Some v → values_of (past ++ c ∷ cs) ≡ values_of past ++ v ∷ values_of cs
 digit_values past cs c v e = values_front past (c ∷ cs) ∙ rw e refl
 
-one_more : (old new : ℕ) (past : List ℕ) (c : ℕ) → length past + 1 ≤ 2 ^ 24 → (old + 1 < 2 ^ 64 → new ≡ old + 1) → old ≡ length past → new ≡ length (past ++ c ∷ [])
+one_more : (old new : ℕ) (past : List ℕ) (c : ℕ) → length past + 1 ≤ 2 ^ 60 → (old + 1 < 2 ^ 64 → new ≡ old + 1) → old ≡ length past → new ≡ length (past ++ c ∷ [])
 one_more old new past c fits step is = omega (arith, fits, is, step (omega (arith, fits, is)), length-append past (c ∷ []))
 
 pub decodes_blank : (old new : Digits) (c : ℕ) (before : List ℕ) → hex_value c ≡ None → is_blank c ≡ true → new.high ≡ old.high → (old.place + 1 < 2 ^ 64 → new.place ≡ old.place + 1) → Decodes old (c ∷ []) before before new

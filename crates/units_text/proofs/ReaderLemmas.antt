@@ -21,7 +21,7 @@ use Rattle.units_text.proofs.DigitLemmas.{past_octets, few_paired}
 
 -- A piece: its octets, and then their marks.
 
-few_bits : (past octets text : List ℕ) → length past + length text ≤ 2 ^ 24 → length octets ≤ length text → length (line_bits (paired (values_of past))) + length (line_bits octets) < 2 ^ 64
+few_bits : (past octets text : List ℕ) → length past + length text ≤ 2 ^ 60 → length octets ≤ length text → length (line_bits (paired (values_of past))) + length (line_bits octets) < 2 ^ 64
 few_bits past octets text fits few = omega (arith, fits, few, length-line_bits (paired (values_of past)), length-line_bits octets, few_paired past)
 
 printed_begins : (place : Option ℕ) (marks : List Mark) (printed more : List ℕ) → marks_text marks ≡ printed ++ more → (rest : List ℕ) × ((with_end place marks).printed ≡ printed ++ rest)
@@ -85,7 +85,7 @@ halts_begun Memory input octets h = h
 
 begun_fed : (read : Result (Unit {0}) (Stop UnreadableOctet)) (old new : Digits) (text octets : List ℕ)
     → MatchResult read (λ done. Decodes old text [] octets new) (λ stop. Halts stop old text [] octets)
-    → (past : List ℕ) → length past + length text ≤ 2 ^ 24 → HasDigits past old → (left : List ℕ) → Begun past text octets left
+    → (past : List ℕ) → length past + length text ≤ 2 ^ 60 → HasDigits past old → (left : List ℕ) → Begun past text octets left
 begun_fed (Ok done) old new text octets h past fits has left =
     let on = h.goes_on past fits has in
     let whole = past_octets (past ++ text) left on.0.all_readable in

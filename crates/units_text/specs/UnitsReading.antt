@@ -62,12 +62,12 @@ pub record HasDigits (past : List ℕ) (digits : Digits) : Type 0 where
   pub place : digits.place ≡ length past
   pub digit : option_map (λ digit. digit.value) digits.high ≡ left_over (values_of past)
 
--- these were read, and the octets that they complete were added; an input has at most 2^24 characters
+-- these were read, and the octets that they complete were added; an input has at most 2^60 characters
 pub record Decodes (old : Digits) (text before after : List ℕ) (new : Digits) : Type 0 where
   pub octets : List ℕ
   pub added : after ≡ before ++ octets
   pub few : length octets ≤ length text
-  pub goes_on : (past : List ℕ) → length past + length text ≤ 2 ^ 24 → HasDigits past old
+  pub goes_on : (past : List ℕ) → length past + length text ≤ 2 ^ 60 → HasDigits past old
       → HasDigits (past ++ text) new
       × (paired (values_of (past ++ text)) ≡ paired (values_of past) ++ octets)
 
@@ -83,7 +83,7 @@ pub record Halts (stop : Stop UnreadableOctet) (old : Digits)
   pub octets : List ℕ
   pub added : after ≡ before ++ octets
   pub few : length octets ≤ length text
-  pub ends : (past : List ℕ) → length past + length text ≤ 2 ^ 24 → HasDigits past old
+  pub ends : (past : List ℕ) → length past + length text ≤ 2 ^ 60 → HasDigits past old
       → (left : List ℕ) → HaltsIn stop (past ++ (text ++ left)) (paired (values_of past) ++ octets)
 
 -- the reader has read this without a fault, and has printed these lines
@@ -91,12 +91,12 @@ pub record HasRead (past lines : List ℕ) (reader : UnitsReader) : Type 0 where
   pub digits : HasDigits past reader.digits
   pub line : IsLine (line_bits (paired (values_of past))) lines reader.line
 
--- these octets were read, and what they print was added; an input has at most 2^24 octets
+-- these octets were read, and what they print was added; an input has at most 2^60 octets
 pub record Reads (old : UnitsReader) (octets before after : List ℕ)
     (new : UnitsReader) : Type 0 where
   pub printed : List ℕ
   pub added : after ≡ before ++ printed
-  pub goes_on : (past lines : List ℕ) → length past + length octets ≤ 2 ^ 24
+  pub goes_on : (past lines : List ℕ) → length past + length octets ≤ 2 ^ 60
       → HasRead past lines old → HasRead (past ++ octets) (lines ++ printed) new
 
 -- these octets ended the input with a fault, whatever follows
@@ -104,7 +104,7 @@ pub record Stops (stop : Stop UnreadableOctet) (old : UnitsReader)
     (octets before after : List ℕ) : Type 0 where
   pub printed : List ℕ
   pub added : after ≡ before ++ printed
-  pub ends : (past lines : List ℕ) → length past + length octets ≤ 2 ^ 24
+  pub ends : (past lines : List ℕ) → length past + length octets ≤ 2 ^ 60
       → HasRead past lines old → (left : List ℕ)
       → StopsIn stop (IsUnitsText (past ++ (octets ++ left))) (lines ++ printed)
 
@@ -113,7 +113,7 @@ pub record Ends (result : Result (Unit {0}) (Stop UnreadableOctet)) (old : Units
     (before after : List ℕ) : Type 0 where
   pub printed : List ℕ
   pub added : after ≡ before ++ printed
-  pub ends : (past lines : List ℕ) → length past ≤ 2 ^ 24 → HasRead past lines old
+  pub ends : (past lines : List ℕ) → length past ≤ 2 ^ 60 → HasRead past lines old
       → MatchResult result
       (λ done. IsWhole (IsUnitsText past) (lines ++ printed))
       (λ stop. StopsIn stop (IsUnitsText past) (lines ++ printed))

@@ -5,15 +5,15 @@ ghost use Rattle.units_text.specs.UnitsText.{IsUnitsText};
 
 use super::fault::UnreadableOctet;
 use super::units_reading::UnitsReader;
-use printing::{Fault, Sink, Source, print_all};
+use printing::{Fault, LONGEST_READ, Sink, Source, print_all};
 use std::alloc::Global;
 
 /// Reads the hexadecimal digits that the source gives, and writes a line for each mark of their bits.
 ///
 /// Ends with the first fault; what was printed before it stays printed. [`UnreadableOctet`] tells a
 /// character that is neither a digit nor skipped, or the end of the input where a digit is left
-/// over. An input of more than 2^24 octets is never answered Ok, and one of 2^24 or more may be
-/// [`Fault::Read`], as [`print_all`] tells.
+/// over. An input of more than 2^60 octets ends with [`Fault::Long`],
+/// unless another fault comes before: nothing of it is kept.
 pub fn units<S: Source, W: Sink>(
     alloc: Global,
     source: &mut S,
@@ -21,9 +21,9 @@ pub fn units<S: Source, W: Sink>(
 ) -> Result<(), Fault<UnreadableOctet>>
     ensures text { IfSome (S.left source.old)
         (λ input. Prints result (IsUnitsText input) (W.written sink.old) (W.written sink.new)) }
-    ensures bounded { IfSome (S.left source.old) (λ input. OnOk result (length input ≤ 2 ^ 24)) }
+    ensures bounded { IfSome (S.left source.old) (λ input. OnOk result (length input ≤ 2 ^ 60)) }
     ensures devices { IfSome (S.left source.old)
-        (FailsByDevices result (S.has_failed source.new) (W.has_failed sink.new)) }
+        (FailsByDevices (2 ^ 60) result (S.has_failed source.new) (W.has_failed sink.new)) }
 {
-    print_all(alloc, UnitsReader::new(alloc), source, sink)
+    print_all(alloc, UnitsReader::new(alloc), LONGEST_READ, source, sink)
 }

@@ -4,4 +4,4 @@ use Rattle.printing.proofs.printing.print_all.Given as goal
 abbrev pub invariant-loop : goal.invariant-loop
 invariant-loop g l =
     Under g.P.Printer.is_text (g.P.Printer.has_read l.printer) (g.S.Source.left l.initial.source) (g.S.Source.left l.source)
-    (g.W.Sink.written l.initial.sink) (g.W.Sink.written l.sink) l.left l.counter
+    (g.W.Sink.written l.initial.sink) (g.W.Sink.written l.sink) l.longest l.left l.counter

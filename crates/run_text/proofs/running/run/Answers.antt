@@ -1,7 +1,8 @@
 use Rattle.std.proofs.Common.{refl, arith, ◌∙◌, ap, sym, subst, All, length}
-use Rattle.paced_banks.specs.Opening.{method_of}
+use Rattle.paced_banks.specs.Opening.{AreEndsOf, method_of}
 use Rattle.run_text.specs.Running.{IsAnEnd, IsRunText, IsTextOfEnds}
 use Rattle.run_text.proofs.Ends.{ends_of, wider}
+use Rattle.run_text.proofs.Failing.{fault_of_run, lack_of_run}
 use Rattle.run_text.proofs.running.run.Goals as goal
 
 -- src/running.rt
@@ -34,3 +35,13 @@ returns-clause-text g c =
       of_ends = subst (λ near. IsTextOfEnds c.args.per_link near c.in-Ok.ends.far.items text) c.deref.ensures.value
           (subst (λ far. IsTextOfEnds c.args.per_link c.deref.result.now far text) c.deref-2.ensures.value is);
     }) c.write_ends.result _ _ c.write_ends.ensures.text
+
+pub returns-clause-fault : goal.returns-clause-fault
+returns-clause-fault g c =
+    fault_of_run c.args.traffic.now c.deref.result.now c.deref-2.result.now
+    (subst (AreEndsOf c.args.traffic.now.sets c.args.traffic.now.links 2 1 (method_of c.args.traffic.now.cyclic)) (sym c.deref.ensures.value) c.in-Ok.ensures.near)
+    (subst (AreEndsOf c.args.traffic.now.sets c.args.traffic.now.links 1 2 (method_of c.args.traffic.now.cyclic)) (sym c.deref-2.ensures.value) c.in-Ok.ensures.far)
+    c.write_ends.result c.write_ends.ensures.fault
+
+pub returns-in-Err-clause-fault : goal.returns-in-Err-clause-fault
+returns-in-Err-clause-fault g c = lack_of_run c.args.traffic.now c.fault_of.result c.fault_of.ensures

@@ -1,0 +1,44 @@
+-- WHO FAILED: the first user of an end that didn't get through its job, or terminal that stopped early.
+use Rattle.std.specs.Prelude.{ℕ, suc, Bool, List, [], ◌∷◌, Option, None, Some, Result, Ok, Err, if◌then◌else◌, codes}
+use Rattle.std.specs.Option.{option_or}
+use Rattle.term_model.specs.declared.report.TermReport.{TermReport}
+use Rattle.link_term.specs.declared.fault.TermFault.{TermFault}
+use Rattle.set_crew.specs.declared.end.SetEnd.{SetEnd}
+use Rattle.world_steps.specs.declared.step.End.{End}
+use Rattle.world_steps.specs.declared.step.End.TheVariants.{A, B}
+use Rattle.run_text.specs.declared.failures.Failed.{Failed}
+use Rattle.run_text.specs.declared.fault.RunFault.{RunFault}
+use Rattle.run_text.specs.declared.fault.RunFault.TheVariants.{User, Terminal}
+
+abbrev pub end_word : End → List ℕ
+end_word A = codes "a"
+end_word B = codes "b"
+
+-- the first user that didn't get through, from this number on
+abbrev pub stuck_from : ℕ → List Bool → Option ℕ
+stuck_from user [] = None
+stuck_from user (got_through ∷ users) = if got_through then stuck_from (suc user) users else Some user
+
+-- the first terminal that failed, from the link of this number on
+abbrev pub failed_from : ℕ → List (Result TermReport TermFault) → Option Failed
+failed_from link [] = None
+failed_from link (Ok report ∷ reports) = failed_from (suc link) reports
+failed_from link (Err fault ∷ reports) = Some (record { link = link; fault = fault })
+
+-- of an end of a set: its users before its terminals
+abbrev pub failure_in : End → ℕ → Option ℕ → Option Failed → Option RunFault
+failure_in end set (Some user) failed = Some (User set end user)
+failure_in end set None (Some failed) = Some (Terminal set end failed.link failed.fault)
+failure_in end set None None = None
+
+-- of this end of each set, from this number on
+abbrev pub failure_from : End → ℕ → List SetEnd → Option RunFault
+failure_from end set [] = None
+failure_from end set (of_set ∷ sets) =
+    option_or
+    (failure_in end set (stuck_from 0 of_set.users.items) (failed_from 0 of_set.reports.items))
+    (failure_from end (suc set) sets)
+
+-- THE FAILURE that is told: of the ends a before the ends b
+abbrev pub failure_of : List SetEnd → List SetEnd → Option RunFault
+failure_of near far = option_or (failure_from A 0 near) (failure_from B 0 far)
