@@ -59,7 +59,7 @@ behind a pipe says `fault line 1 text`. The faults are those of `mtpbank play`:
 pub(crate) const CAPTURE_PAGE: &str = "\
 Standard input is a script, as that of `mtpbank play`. What is written is a file
 of the units that its ends send, for Wireshark and other network analysers:
-  mtpbank capture < examples/changeover.play > changeover.pcap
+  mtpbank capture < examples/call.play > call.pcap
 `mtpbank capture --help` says what stands in it, and each fault.";
 
 pub(crate) const AUDIT_PAGE: &str = "\
@@ -103,12 +103,14 @@ with status 1; but for the first, nothing is printed then:
 The status is 0 for legal=yes, and 1 else.";
 
 pub(crate) const CAPTURE_HELP: &str = "\
-Standard input is a script, as `mtpbank play --help` says. Standard output is a pcap file of link type 140 (MTP2), low
-octet first, with a record for each unit that end a or b sends (the lines `emit E L`), in the order in which they are sent,
-whether or not they arrive:
+Standard input is a script, as `mtpbank play --help` says. Standard output is a pcap file of link type 139
+(MTP2_WITH_PHDR), low octet first, with a record for each unit that end a or b sends (the lines `emit E L`), in the
+order in which they are sent, whether or not they arrive:
   time                a millisecond for each line of the script: the unit of line 12 has 0.012000 seconds
+  direction, link     sent for the units of end a and received for those of end b, and the link's number: Wireshark and
+                      tshark show both (frame.p2p_dir, frame.link_nr)
   octets              the unit's header and what it carries, without check octets; `tshark -r FILE -V` shows them
-The units of both ends and of all links stand in one list. A script without a line writes a file without a record.
+A script without a line writes a file without a record.
 A fault ends the script: one line on standard error, with status 1; what was written before it stays, and is a capture of
 what was sent until then; where the first line is at fault nothing is written. The faults are those of `mtpbank play`:
   fault line N text, fault line N step, fault exhausted
@@ -117,26 +119,29 @@ what was sent until then; where the first line is at fault nothing is written. T
 pub(crate) const LADDER_PAGE: &str = "\
 Standard input is a script, as that of `mtpbank play`. What is printed is a
 chart of what happens, end a at the left, end b at the right, a row a thing:
-  mtpbank ladder < examples/changeover.play
+  mtpbank ladder < examples/call.play
 `mtpbank ladder --help` says what each arrow and word of it tells.";
 
 pub(crate) const LADDER_HELP: &str = "\
 Standard input is a script, as `mtpbank play --help` says. Standard output is a chart of 100 columns in plain ASCII: the
 number of the script's line, what happens at end a, what is under way, and what happens at end b.
-  --1-->|, |<--1--    at the side of an end: a unit goes out on link 1 from there, or arrives there; it's named in that
-                      end's words: MSU with its FSN, BSN and stream, FISU, or an order, as COO link 1 fsn=0
+  --1-->|, |<--1--    at the side of an end: a unit goes out on link 1 from there, or arrives there
+  IAM #4 fsn=1 ..     which unit it is: a message's name in the ISDN user part, or MSU; #4, the number under which its
+                      sender accepted it, while that has it unacknowledged on the link; its FSN, BSN and stream. An order
+                      is told as COO #3 link 1 fsn=0, and a fill-in unit as FISU
   --1--x, x--1--      a unit is lost on its way to that end, by lose or because the link isn't up there
   --1..>, <..1--      a unit that nobody sent is heard (hear)
   1>0 1>1 0<f         in the middle, the units that are under way then, each with its link: to end b with FSN 0 and FSN
-                      1 on link 1, the oldest first, and to end a a fill-in unit (f) on link 0; a plus stands where there
-                      are more
+                      1 on link 1, the oldest first, and to end a a fill-in unit (f) on link 0
+  accepted IAM #4     a user's message is message 4 of that end; taken IAM HEX: a user takes it
   link 1 up, left, settled    so it is at that end
+  #1 #4 to link 0     behind settled: these messages are diverted and wait for link 0 now; parked where no link is up
   took T, acked K     what the unit did: T as in `mtpbank play`, K messages are acknowledged; behind it in a row of its
                       own asked=0|1 resend=0|1 fault=F, where one isn't 0
   held+3 parked-1     so many messages more or fewer stand so at that end: held for a link that isn't settled, parked
                       where no link is up, back while their stream is on its way home, discarded for good
-Other words are the answers of `mtpbank play`. A fault ends the script: one line on standard error, with status 1; what was
-drawn before it stays. The faults are those of `mtpbank play`:
+Other words are the answers of `mtpbank play`. Two dots (..) stand where more doesn't fit. A fault ends the script: one
+line on standard error, with status 1; what was drawn before it stays. The faults are those of `mtpbank play`:
   fault line N text, fault line N step, fault exhausted
   fault read, fault write, fault memory";
 

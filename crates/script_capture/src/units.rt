@@ -1,7 +1,7 @@
 //! `mtpbank capture`: the units of a script as a pcap file.
-ghost use Rattle.std.specs.Prelude.{◌≤◌, ◌^◌, length, IfSome, OnOk};
+ghost use Rattle.std.specs.Prelude.{◌≡◌, ◌≤◌, ◌^◌, ◌++◌, length, IfSome, MatchResult, OnOk};
 ghost use Rattle.printing.specs.Printing.{Prints, FailsByDevices};
-ghost use Rattle.script_capture.specs.Capture.{IsCapture};
+ghost use Rattle.script_capture.specs.Capture.{IsCapture, pseudo_header, shown_record};
 
 use super::records::{FILE_HEAD, write_record};
 use pair_world::World;
@@ -9,7 +9,7 @@ use printing::{Fault, Sink, Source};
 use script_text::{Account, ScriptFault, tell_script};
 use set_events::Answer;
 use std::alloc::{AllocError, Global};
-use world_steps::{Shown, Step};
+use world_steps::{End, Shown, Step};
 
 /// The units of a script.
 struct Units;
@@ -33,15 +33,13 @@ impl Account for Units {
         alloc: Global,
         number: u64,
         _note: (),
-        _step: &Step,
+        step: &Step,
         shown: &Shown,
         _world: &World,
         out: &mut Vec<u8>,
     ) -> Result<(), AllocError> {
-        match shown {
-            Shown::Answered(Answer::Sent { unit }) => {
-                out.extend_from_slice(&write_record(alloc, number, unit)?)
-            }
+        match step {
+            Step::Emit { end, link } => tell_sent(alloc, number, *end, *link, shown, out),
             _ => Ok(()),
         }
     }
@@ -55,6 +53,28 @@ impl Account for Units {
             Some(_) => Ok(()),
             None => out.extend_from_slice(&FILE_HEAD),
         }
+    }
+}
+
+/// Tells of the unit that the end sent on the link, if one was sent.
+fn tell_sent(
+    alloc: Global,
+    number: u64,
+    end: End,
+    link: u8,
+    shown: &Shown,
+    out: &mut Vec<u8>,
+) -> Result<(), AllocError>
+    ensures { MatchResult result
+        (λ done. out.new.items
+        ≡ out.old.items ++ shown_record number (pseudo_header end link) shown.now)
+        (λ want. out.new.items ≡ out.old.items) }
+{
+    match shown {
+        Shown::Answered(Answer::Sent { unit }) => {
+            out.extend_from_slice(&write_record(alloc, number, end, link, unit)?)
+        }
+        _ => Ok(()),
     }
 }
 

@@ -1,5 +1,5 @@
 -- THE LADDER of a script: a chart of what happened at both ends, a row or a few for each line.
-use Rattle.std.specs.Prelude.{ℕ, Bool, true, false, ◌==◌, nat_lt, nat_le, ◌-◌, ◌/◌, ◌&&◌, zero, suc, List, [], ◌∷◌, ◌++◌, length, take, replicate, slice_get, Option, Some, None, codes, decimal, if◌then◌else◌}
+use Rattle.std.specs.Prelude.{ℕ, Bool, true, false, ◌==◌, nat_lt, nat_le, ◌+◌, ◌-◌, ◌/◌, ◌%◌, zero, suc, List, [], ◌∷◌, ◌++◌, length, take, drop, replicate, slice_get, Option, Some, None, option_map, codes, decimal, if◌then◌else◌}
 use Rattle.l2_units.specs.declared.unit.Header.{Header}
 use Rattle.l2_units.specs.declared.unit.Unit.{Unit as SignalUnit}
 use Rattle.l2_units.specs.declared.unit.Unit.TheVariants.{Fisu, Lssu, Msu}
@@ -15,24 +15,50 @@ use Rattle.set_events.specs.declared.answer.Counts.{Counts}
 use Rattle.set_events.specs.declared.answer.Report.{Report}
 use Rattle.set_events.specs.declared.answer.Took.{Took}
 use Rattle.set_events.specs.declared.answer.Took.TheVariants.{Nothing, Message, Order as OrderTaken, Ignored}
-use Rattle.set_model.specs.State.{is_settled}
+use Rattle.set_events.specs.declared.answer.Fate.{Fate}
+use Rattle.set_events.specs.declared.answer.Fate.TheVariants.{Waiting, Unacked, Acked, Held, Parked, Back, Discarded}
+use Rattle.set_model.specs.Rows.{Row, place}
+use Rattle.set_model.specs.State.{State, is_settled, unacked_in}
+use Rattle.set_model.specs.declared.numbered.Numbered.{Numbered}
 use Rattle.world_steps.specs.declared.step.End.{End}
 use Rattle.world_steps.specs.declared.step.End.TheVariants.{A, B}
 use Rattle.world_steps.specs.declared.step.Step.{Step}
 use Rattle.world_steps.specs.declared.step.Step.TheVariants.{Act, Emit, Arrive, Lose, Together, Inject}
 use Rattle.world_steps.specs.declared.step.Shown.{Shown}
 use Rattle.world_steps.specs.declared.step.Shown.TheVariants.{Up, Lost, Answered}
-use Rattle.pair_model.specs.World.{World, line_to, at_end, counts_at}
+use Rattle.pair_model.specs.World.{World, line_to, at_end, counts_at, other}
 use Rattle.answer_texts.specs.Texts.{shown_text, took_text, fault_code}
-use Rattle.figures.specs.Figures.{bit}
+use Rattle.figures.specs.Figures.{bit, hex_text}
 use Rattle.printing.specs.Printing.{Printed}
 use Rattle.script_text.specs.declared.fault.ScriptFault.{ScriptFault}
 use Rattle.script_text.specs.Scripts.{Told, IsScriptText}
+use Rattle.script_ladder.specs.Names.{isup_name}
+use Rattle.script_ladder.specs.Diverted.{stood, diverted}
 
 -- A ROW has 100 columns at most: the number of the script's line, end a's words, an arrow at a's side, what is under
 -- way, an arrow at b's side, and end b's words.
 
--- so many columns: what is longer is cut, what is shorter is filled up with spaces (32)
+-- What doesn't fit into its columns ends with two dots, and is cut behind a whole word, so that none is taken for
+-- another.
+
+-- the words of a text that have a space (32) behind them, with it; the first began with these octets
+abbrev pub whole_from : List ℕ → List ℕ → List ℕ
+whole_from begun [] = []
+whole_from begun (c ∷ cs) =
+    if c == 32 then begun ++ (c ∷ whole_from [] cs) else whole_from (begun ++ c ∷ []) cs
+
+abbrev pub whole_words : List ℕ → List ℕ
+whole_words text = whole_from [] text
+
+abbrev pub fitted : ℕ → List ℕ → List ℕ
+fitted n text =
+    if nat_le (length text) n then text else whole_words (take (n - 2) text) ++ codes ".."
+
+-- octets are cut anywhere
+abbrev pub shortened : ℕ → List ℕ → List ℕ
+shortened n text = if nat_le (length text) n then text else take (n - 2) text ++ codes ".."
+
+-- what is shorter is filled up with spaces
 abbrev pub padded : ℕ → List ℕ → List ℕ
 padded n text = take n text ++ replicate (n - length text) 32
 
@@ -48,11 +74,11 @@ abbrev pub trailed : List ℕ → List ℕ
 trailed text = text ++ replicate (3 - length text) 45
 
 abbrev pub side_a : List ℕ → List ℕ → List ℕ
-side_a words arrow = padded 30 words ++ (codes " |" ++ padded 7 arrow)
+side_a words arrow = padded 30 (fitted 30 words) ++ (codes " |" ++ padded 7 arrow)
 
 abbrev pub last_cell : List ℕ → List ℕ
 last_cell [] = codes "|\n"
-last_cell (c ∷ cs) = codes "| " ++ (take 30 (c ∷ cs) ++ codes "\n")
+last_cell (c ∷ cs) = codes "| " ++ (fitted 30 (c ∷ cs) ++ codes "\n")
 
 abbrev pub side_b : List ℕ → List ℕ → List ℕ
 side_b arrow words = padded 6 arrow ++ last_cell words
@@ -96,12 +122,8 @@ abbrev pub marks_below : World → ℕ → List ℕ
 marks_below w zero = []
 marks_below w (suc link) = marks_below w link ++ marks_on w link
 
--- what doesn't fit is told by a plus
-abbrev pub fitted : List ℕ → List ℕ
-fitted text = if nat_le (length text) 17 then text else take 16 text ++ codes "+"
-
 unfoldable pub under_way : World → List ℕ
-under_way w = fitted (marks_below w 16)
+under_way w = fitted 17 (marks_below w 16)
 
 -- AN ARROW at the side of an end: a unit goes out from there, arrives, is lost on its way there, or comes from nowhere.
 
@@ -127,6 +149,26 @@ forged B link = coming B (codes "..>") link
 
 -- A UNIT in the words of the trade
 
+-- A message's number is that under which its sender accepted it: of the messages that it has unacknowledged on the link
+-- it's the one with the unit's FSN, as many places behind the oldest as its FSN is behind that one's (Q.703 2.2). An
+-- FSN is below 128; 256 is twice that and keeps the difference whole.
+abbrev pub number_behind : State → ℕ → ℕ → Option Numbered → Option ℕ
+number_behind s link fsn None = None
+number_behind s link fsn (Some oldest) =
+    option_map (λ m. m.number) (unacked_in s link ((fsn + 256 - oldest.fsn) % 128))
+
+abbrev pub number_on : State → ℕ → ℕ → Option ℕ
+number_on s link fsn = number_behind s link fsn (unacked_in s link 0)
+
+abbrev pub unit_number : State → ℕ → SignalUnit → Option ℕ
+unit_number s link (Fisu head) = None
+unit_number s link (Lssu head status) = None
+unit_number s link (Msu head body) = number_on s link head.fsn
+
+abbrev pub number_words : Option ℕ → List ℕ
+number_words None = []
+number_words (Some number) = codes " #" ++ decimal number
+
 abbrev pub numbers_of : Header → List ℕ
 numbers_of head = codes " fsn=" ++ (decimal head.fsn ++ (codes " bsn=" ++ decimal head.bsn))
 
@@ -135,14 +177,31 @@ abbrev pub stream_words : Option ℕ → List ℕ
 stream_words None = []
 stream_words (Some octet) = codes " stream " ++ decimal (octet / 16)
 
-abbrev pub message_words : Header → Option Order → List ℕ → List ℕ
-message_words head (Some order) body = order_words order
-message_words head None body = codes "MSU" ++ (numbers_of head ++ stream_words (slice_get body 4))
+-- the name of its message, where it has one
+abbrev pub or_msu : List ℕ → List ℕ
+or_msu [] = codes "MSU"
+or_msu (c ∷ cs) = c ∷ cs
 
-abbrev pub unit_words : SignalUnit → List ℕ
-unit_words (Fisu head) = codes "FISU" ++ numbers_of head
-unit_words (Lssu head status) = codes "LSSU" ++ numbers_of head
-unit_words (Msu head body) = message_words head (order_of Narrow body.items) body.items
+abbrev pub message_name : List ℕ → List ℕ
+message_name body = or_msu (isup_name body)
+
+-- behind the three letters of an order stands its number
+abbrev pub numbered_order : Option ℕ → List ℕ → List ℕ
+numbered_order number words = take 3 words ++ (number_words number ++ drop 3 words)
+
+abbrev pub message_words : Option ℕ → Header → Option Order → List ℕ → List ℕ
+message_words number head (Some order) body = numbered_order number (order_words order)
+message_words number head None body =
+    message_name body ++ (number_words number ++ (numbers_of head ++ stream_words (slice_get body 4)))
+
+abbrev pub unit_words : Option ℕ → SignalUnit → List ℕ
+unit_words number (Fisu head) = codes "FISU" ++ numbers_of head
+unit_words number (Lssu head status) = codes "LSSU" ++ numbers_of head
+unit_words number (Msu head body) = message_words number head (order_of Narrow body.items) body.items
+
+-- a unit that this set sent on the link
+abbrev pub sent_words : State → ℕ → SignalUnit → List ℕ
+sent_words s link unit = unit_words (unit_number s link unit) unit
 
 -- the unit that a step is about, in the world before it
 abbrev pub affected : World → Step → Option SignalUnit
@@ -153,9 +212,9 @@ affected w (Lose end link place) = slice_get (line_to w end link) place
 affected w (Together link) = None
 affected w (Inject end link unit) = Some unit
 
-abbrev pub words_of : Option SignalUnit → List ℕ
-words_of None = []
-words_of (Some unit) = unit_words unit
+abbrev pub words_of : State → ℕ → Option SignalUnit → List ℕ
+words_of s link None = []
+words_of s link (Some unit) = sent_words s link unit
 
 -- WHAT A STEP SHOWED
 
@@ -163,8 +222,24 @@ words_of (Some unit) = unit_words unit
 abbrev pub without_end : List ℕ → List ℕ
 without_end text = take (length text - 1) text
 
+-- what users take has its name first
+abbrev pub spaced : List ℕ → List ℕ
+spaced [] = []
+spaced (c ∷ cs) = (c ∷ cs) ++ codes " "
+
+abbrev pub taken_words : List ℕ → List ℕ
+taken_words body = shortened 30 (codes "taken " ++ (spaced (isup_name body) ++ hex_text body))
+
 abbrev pub plain : Shown → List ℕ
-plain shown = without_end (shown_text shown)
+plain Up = without_end (shown_text Up)
+plain Lost = without_end (shown_text Lost)
+plain (Answered (Taken body)) = taken_words body.items
+plain (Answered (Sent unit)) = without_end (shown_text (Answered (Sent unit)))
+plain (Answered (Accepted number)) = without_end (shown_text (Answered (Accepted number)))
+plain (Answered (Found fate)) = without_end (shown_text (Answered (Found fate)))
+plain (Answered (Heard report)) = without_end (shown_text (Answered (Heard report)))
+plain (Answered Done) = without_end (shown_text (Answered Done))
+plain (Answered (Refused why)) = without_end (shown_text (Answered (Refused why)))
 
 abbrev pub sent_in : Shown → Option SignalUnit
 sent_in Up = None
@@ -215,12 +290,46 @@ done_words (Next link) = codes "done"
 done_words (HeardEvent link unit) = codes "done"
 done_words (UpEvent link) = codes "done"
 
+abbrev pub accepted_in : Shown → Option ℕ
+accepted_in Up = None
+accepted_in Lost = None
+accepted_in (Answered (Accepted number)) = Some number
+accepted_in (Answered (Sent unit)) = None
+accepted_in (Answered (Taken body)) = None
+accepted_in (Answered (Found fate)) = None
+accepted_in (Answered (Heard report)) = None
+accepted_in (Answered Done) = None
+accepted_in (Answered (Refused why)) = None
+
+-- an accepted message is named with its number
+abbrev pub offered_words : List ℕ → Shown → Option ℕ → List ℕ
+offered_words body shown None = plain shown
+offered_words body shown (Some number) =
+    codes "accepted " ++ (message_name body ++ number_words (Some number))
+
+abbrev pub answer_words : Event → Shown → List ℕ
+answer_words (Offer body) shown = offered_words body shown (accepted_in shown)
+answer_words (Down link) shown = plain shown
+answer_words (DownBlind link) shown = plain shown
+answer_words (NoAnswer link) shown = plain shown
+answer_words (Restore link) shown = plain shown
+answer_words (BackTimeout link) shown = plain shown
+answer_words Take shown = plain shown
+answer_words (Find number) shown = plain shown
+answer_words (Next link) shown = plain shown
+answer_words (HeardEvent link unit) shown = plain shown
+answer_words (UpEvent link) shown = plain shown
+
+abbrev pub event_words : Event → Shown → List ℕ
+event_words event shown = if is_done shown then done_words event else answer_words event shown
+
 -- THE ROWS OF A LINE: what happened first, with the line's number
 
-abbrev pub sent_row : List ℕ → List ℕ → End → ℕ → Shown → Option SignalUnit → List ℕ
-sent_row number u end link shown (Some unit) =
-    row_at end number u (going end link) (unit_words unit)
-sent_row number u end link shown None = row_at end number u [] (plain shown)
+-- (a unit's number is told by the world after the step: the set that sent it is as it was, or has sent it just now)
+abbrev pub sent_row : List ℕ → List ℕ → World → End → ℕ → Shown → Option SignalUnit → List ℕ
+sent_row number u w end link shown (Some unit) =
+    row_at end number u (going end link) (sent_words (at_end w end).state link unit)
+sent_row number u w end link shown None = row_at end number u [] (plain shown)
 
 abbrev pub arrived_row : List ℕ → List ℕ → End → ℕ → Option Report → List ℕ → List ℕ
 arrived_row number u end link (Some report) words = row_at end number u (arriving end link) words
@@ -230,18 +339,26 @@ abbrev pub forged_row : List ℕ → List ℕ → End → ℕ → Shown → Opti
 forged_row number u end link shown (Some report) words = row_at end number u (forged end link) words
 forged_row number u end link shown None words = row_at end number u (forged end link) (plain shown)
 
-abbrev pub first_row : List ℕ → List ℕ → World → Step → Shown → List ℕ
-first_row number u w (Act end event) shown =
-    row_at end number u [] (if is_done shown then done_words event else plain shown)
-first_row number u w (Emit end link) shown = sent_row number u end link shown (sent_in shown)
-first_row number u w (Arrive end link) shown =
-    arrived_row number u end link (report_in shown) (words_of (affected w (Arrive end link)))
-first_row number u w (Lose end link place) shown =
-    row_at end number u (losing end link) (words_of (affected w (Lose end link place)))
-first_row number u w (Together link) shown =
+-- what came to an end was sent by the other
+abbrev pub far_words : World → End → ℕ → Option SignalUnit → List ℕ
+far_words w end link unit = words_of (at_end w (other end)).state link unit
+
+-- and what nobody sent has no number
+abbrev pub first_row : List ℕ → List ℕ → World → Step → Shown → World → List ℕ
+first_row number u before (Act end event) shown after =
+    row_at end number u [] (event_words event shown)
+first_row number u before (Emit end link) shown after =
+    sent_row number u after end link shown (sent_in shown)
+first_row number u before (Arrive end link) shown after =
+    arrived_row number u end link (report_in shown)
+    (far_words after end link (affected before (Arrive end link)))
+first_row number u before (Lose end link place) shown after =
+    row_at end number u (losing end link)
+    (far_words after end link (affected before (Lose end link place)))
+first_row number u before (Together link) shown after =
     row_text number (link_words [] link (codes " up")) [] u [] (link_words [] link (codes " up"))
-first_row number u w (Inject end link unit) shown =
-    forged_row number u end link shown (report_in shown) (unit_words unit)
+first_row number u before (Inject end link unit) shown after =
+    forged_row number u end link shown (report_in shown) (unit_words None unit)
 
 -- then what a unit that arrived did
 
@@ -297,6 +414,73 @@ heard_rows u w end unit (Some r) =
     further end u (report_words r) ++ (further end u (trouble_words r)
     ++ further end u (settled_words w end r.took (changed_over (order_in unit))))
 
+-- THE MESSAGES THAT ARE DIVERTED (specs/Diverted.antt), where a link settles at an end
+
+-- the link that a step could settle: its changeover is given up, or an order about it comes
+abbrev pub given_up : Event → Option ℕ
+given_up (NoAnswer link) = Some link
+given_up (Down link) = None
+given_up (DownBlind link) = None
+given_up (Restore link) = None
+given_up (BackTimeout link) = None
+given_up (Offer body) = None
+given_up Take = None
+given_up (Find number) = None
+given_up (Next link) = None
+given_up (HeardEvent link unit) = None
+given_up (UpEvent link) = None
+
+abbrev pub named_link : Step → Option SignalUnit → Option ℕ
+named_link (Act end event) unit = given_up event
+named_link (Emit end link) unit = None
+named_link (Arrive end link) unit = changed_over (order_in unit)
+named_link (Lose end link place) unit = None
+named_link (Together link) unit = None
+named_link (Inject end link forged) unit = changed_over (order_in unit)
+
+-- if it hasn't settled yet
+abbrev pub unsettled : State → Option ℕ → Option ℕ
+unsettled s None = None
+unsettled s (Some link) = if is_settled link s then None else Some link
+
+abbrev pub link_at_stake : World → Step → Option ℕ
+link_at_stake w step =
+    unsettled (at_end w (end_of step)).state (named_link step (affected w step))
+
+-- the messages that stand on it before the step
+abbrev pub stood_before : World → Step → List ℕ
+stood_before w step = stood (link_at_stake w step) (at_end w (end_of step)).state
+
+abbrev pub numbers_words : List ℕ → List ℕ
+numbers_words [] = []
+numbers_words (n ∷ ns) = number_words (Some n) ++ numbers_words ns
+
+abbrev pub target_words : Option Fate → List ℕ
+target_words None = []
+target_words (Some (Waiting link)) = codes " to link " ++ decimal link
+target_words (Some (Unacked link)) = []
+target_words (Some (Acked link)) = []
+target_words (Some (Held link)) = []
+target_words (Some Parked) = codes " parked"
+target_words (Some (Back code)) = []
+target_words (Some (Discarded cause)) = []
+
+-- where the first of them stands, they all stand
+abbrev pub diverted_words : List Row → List ℕ → List ℕ
+diverted_words rows [] = []
+diverted_words rows (n ∷ ns) =
+    fitted 19 (numbers_words (n ∷ ns)) ++ target_words (place n rows)
+
+abbrev pub rows_of_diverted : List ℕ → End → List Row → List ℕ → List ℕ
+rows_of_diverted u end rows numbers = further end u (diverted_words rows (diverted rows numbers))
+
+abbrev pub diverted_rows : List ℕ → World → End → Option ℕ → List ℕ → List ℕ
+diverted_rows u after end None numbers = []
+diverted_rows u after end (Some link) numbers =
+    if is_settled link (at_end after end).state
+    then rows_of_diverted u end (at_end after end).state.rows numbers
+    else []
+
 -- and at last how many more or fewer messages stand aside, or are discarded, at each end
 
 abbrev pub change : List ℕ → ℕ → ℕ → List ℕ
@@ -314,16 +498,33 @@ abbrev pub change_rows : List ℕ → World → Counts → Counts → List ℕ
 change_rows u after a b =
     further A u (changes a (counts_at after A)) ++ further B u (changes b (counts_at after B))
 
-abbrev pub effect_rows : List ℕ → World → End → Option SignalUnit → Option Report → Counts → Counts
-    → List ℕ
-effect_rows u after end unit report a b =
-    heard_rows u after end unit report ++ change_rows u after a b
+-- what is kept of the world before a step for its rows: the unit that it's about, the link that it could settle and
+-- what stood there, and how the messages of both ends stood
+pub record Past : Type 0 where
+  pub unit : Option SignalUnit
+  pub link : Option ℕ
+  pub stood : List ℕ
+  pub a : Counts
+  pub b : Counts
+
+abbrev pub past_of : World → Step → Past
+past_of w step = record {
+  unit = affected w step;
+  link = link_at_stake w step;
+  stood = stood_before w step;
+  a = counts_at w A;
+  b = counts_at w B;
+}
+
+abbrev pub effect_rows : List ℕ → World → End → Option Report → Past → List ℕ
+effect_rows u after end report past =
+    heard_rows u after end past.unit report
+    ++ (diverted_rows u after end past.link past.stood ++ change_rows u after past.a past.b)
 
 abbrev pub rows_with : List ℕ → List ℕ → World → Step → Shown → World → List ℕ
 rows_with u number before step shown after =
-    first_row number u before step shown
-    ++ effect_rows u after (end_of step) (affected before step) (report_in shown)
-    (counts_at before A) (counts_at before B)
+    first_row number u before step shown after
+    ++ effect_rows u after (end_of step) (report_in shown) (past_of before step)
 
 -- a name of its own, so that who speaks of it doesn't compute it
 unfoldable pub step_rows : ℕ → World → Step → Shown → World → List ℕ

@@ -1,2 +1,4 @@
+pub mod Diverted
 pub mod Ladder
+pub mod Names
 pub mod Notes

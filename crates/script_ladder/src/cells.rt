@@ -1,19 +1,61 @@
 //! What an end's words are for what a step asked and showed.
-ghost use Rattle.std.specs.Prelude.{◌≡◌, IfOk, if◌then◌else◌};
-ghost use Rattle.script_ladder.specs.Ladder.{done_words, is_done, link_words, plain, report_in, without_end};
+ghost use Rattle.std.specs.Prelude.{◌≡◌, ◌++◌, IfOk, codes};
+ghost use Rattle.figures.specs.Figures.{hex_text};
+ghost use Rattle.script_ladder.specs.Ladder.{accepted_in, answer_words, done_words, event_words, is_done, link_words, offered_words};
+ghost use Rattle.script_ladder.specs.Ladder.{plain, report_in, spaced, taken_words, without_end};
+ghost use Rattle.script_ladder.specs.Names.{isup_name};
+ghost use Rattle.answer_texts.specs.Texts.{shown_text};
 
+use super::fitting::shorten;
+use super::isup::isup_name;
+use super::rows::CELL;
+use super::units::{message_name, write_number};
 use answer_texts::write_shown;
+use decode_text::write_both;
+use figures::push_hex;
 use set_events::{Answer, Event, Report};
 use std::alloc::{AllocError, Global};
 use world_steps::Shown;
 
-/// The answer as `play` prints it, without its line end.
+/// The answer as `play` prints it, without its line end; what users take has its name first.
 pub(crate) fn write_plain(alloc: Global, shown: &Shown) -> Result<Vec<u8>, AllocError>
     ensures { IfOk result (λ words. words.items ≡ plain shown.now) }
+{
+    match shown {
+        Shown::Answered(Answer::Taken { body }) => write_taken(alloc, body.as_slice()),
+        _ => write_printed(alloc, shown),
+    }
+}
+
+/// The answer as `play` prints it, without its line end.
+fn write_printed(alloc: Global, shown: &Shown) -> Result<Vec<u8>, AllocError>
+    ensures { IfOk result (λ words. words.items ≡ without_end (shown_text shown.now)) }
 {
     let mut words = write_shown(alloc, shown)?;
     cut_end(&mut words);
     Ok(words)
+}
+
+/// A message that users take: its name, if it has one, and its octets.
+fn write_taken(alloc: Global, body: &[u8]) -> Result<Vec<u8>, AllocError>
+    ensures { IfOk result (λ words. words.items ≡ taken_words body.now) }
+{
+    let mut octets = write_spaced(alloc, isup_name(body))?;
+    push_hex(&mut octets, body)?;
+    shorten(
+        write_both(Vec::from_slice(alloc, b"taken ")?, &octets)?,
+        CELL,
+    )
+}
+
+/// A word with a space behind it, or nothing.
+fn write_spaced(alloc: Global, word: &str) -> Result<Vec<u8>, AllocError>
+    ensures { IfOk result (λ words. words.items ≡ spaced word.now) }
+{
+    if word.is_empty() {
+        return Ok(Vec::new(alloc));
+    }
+    write_both(Vec::from_slice(alloc, word.as_bytes())?, b" ")
 }
 
 /// Takes away the last octet, if there is one.
@@ -46,13 +88,49 @@ pub(crate) fn write_event(
     event: &Event,
     shown: &Shown,
 ) -> Result<Vec<u8>, AllocError>
-    ensures { IfOk result (λ words. words.items
-        ≡ (if is_done shown.now then done_words event.now else plain shown.now)) }
+    ensures { IfOk result (λ words. words.items ≡ event_words event.now shown.now) }
 {
     if was_done(shown) {
         write_done(alloc, event)
     } else {
-        write_plain(alloc, shown)
+        write_answer(alloc, event, shown)
+    }
+}
+
+/// The answer to an event: a message that is accepted is named with its number.
+fn write_answer(alloc: Global, event: &Event, shown: &Shown) -> Result<Vec<u8>, AllocError>
+    ensures { IfOk result (λ words. words.items ≡ answer_words event.now shown.now) }
+{
+    match event {
+        Event::Offer { body } => write_offered(alloc, body.octets(), shown, find_accepted(shown)),
+        _ => write_plain(alloc, shown),
+    }
+}
+
+/// The answer to an offer: the message's name and number, if it was accepted.
+fn write_offered(
+    alloc: Global,
+    body: &[u8],
+    shown: &Shown,
+    number: Option<u64>,
+) -> Result<Vec<u8>, AllocError>
+    ensures { IfOk result (λ words. words.items ≡ offered_words body.now shown.now number) }
+{
+    if number.is_none() {
+        return write_plain(alloc, shown);
+    }
+    let name = Vec::from_slice(alloc, message_name(body).as_bytes())?;
+    let named = write_both(name, &write_number(alloc, number)?)?;
+    write_both(Vec::from_slice(alloc, b"accepted ")?, &named)
+}
+
+/// The number of the message that was accepted, if one was.
+fn find_accepted(shown: &Shown) -> Option<u64>
+    ensures { result ≡ accepted_in shown.now }
+{
+    match shown {
+        Shown::Answered(Answer::Accepted { number }) => Some(*number),
+        _ => None,
     }
 }
 

@@ -87,7 +87,7 @@ fn write_trouble(alloc: Global, report: Report) -> Result<Vec<u8>, AllocError>
 }
 
 /// The link whose changeover the order is about, if any.
-fn find_changed_link(order: Option<Order>) -> Option<u8>
+pub(crate) fn find_changed_link(order: Option<Order>) -> Option<u8>
     ensures { result ≡ changed_over order }
 {
     match order {

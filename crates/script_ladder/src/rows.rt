@@ -1,14 +1,15 @@
 //! The rows of the chart.
-ghost use Rattle.std.specs.Prelude.{◌≡◌, ◌++◌, IfOk, decimal, replicate, take};
+ghost use Rattle.std.specs.Prelude.{◌≡◌, ◌++◌, IfOk, decimal, replicate};
 ghost use Rattle.script_ladder.specs.Ladder.{at_right, dashed, further, last_cell, padded, row_at, row_text, side_a, side_b, trailed};
 ghost use Rattle.script_ladder.specs.Ladder.{arriving, forged, going, losing};
 
+use super::fitting::fit;
 use decode_text::write_both;
 use std::alloc::{AllocError, Global};
 use world_steps::End;
 
 /// The columns of an end's words.
-const CELL: usize = 30;
+pub(crate) const CELL: usize = 30;
 
 /// The columns of an arrow, and at end a's side of the space behind it.
 const ARROW: usize = 6;
@@ -75,7 +76,7 @@ fn write_side_a(alloc: Global, words: &[u8], arrow: &[u8]) -> Result<Vec<u8>, Al
         Vec::from_slice(alloc, b" |")?,
         &pad(alloc, arrow, ARROW + 1)?,
     )?;
-    write_both(pad(alloc, words, CELL)?, &bar)
+    write_both(pad(alloc, &fit(alloc, words, CELL)?, CELL)?, &bar)
 }
 
 /// The words that end a row.
@@ -85,15 +86,8 @@ fn write_last(alloc: Global, words: &[u8]) -> Result<Vec<u8>, AllocError>
     if words.is_empty() {
         return Vec::from_slice(alloc, b"|\n");
     }
-    let words = write_both(Vec::from_slice(alloc, cut(words))?, b"\n")?;
+    let words = write_both(fit(alloc, words, CELL)?, b"\n")?;
     write_both(Vec::from_slice(alloc, b"| ")?, &words)
-}
-
-/// As much of the words as a cell has columns for.
-fn cut(words: &[u8]) -> &[u8]
-    ensures { result.now ≡ take 30 words.now }
-{
-    &words[..CELL.min(words.len())]
 }
 
 /// The arrow at end b's side, and its words.

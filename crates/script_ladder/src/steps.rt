@@ -1,22 +1,26 @@
 //! `mtpbank ladder`: a script as a chart.
-ghost use Rattle.std.specs.Prelude.{◌≡◌, ◌≤◌, ◌^◌, [], codes, length, slice_get, IfOk, IfSome, OnOk};
+ghost use Rattle.std.specs.Prelude.{◌≡◌, ◌≤◌, ◌^◌, [], codes, length, slice_get, IfOk, IfSome, None, OnOk};
 ghost use Rattle.printing.specs.Printing.{Prints, FailsByDevices};
-ghost use Rattle.pair_model.specs.World.{World as ModelWorld};
-ghost use Rattle.script_ladder.specs.Ladder.{IsLadder, affected, arrived_row, change_rows, effect_rows, end_of, first_row, forged_row};
-ghost use Rattle.script_ladder.specs.Ladder.{heading, link_words, report_in, row_text, rows_with, sent_row, sent_in, step_rows, unit_words};
-ghost use Rattle.script_ladder.specs.Notes.{IsBefore};
+ghost use Rattle.pair_model.specs.World.{World as ModelWorld, other};
+ghost use Rattle.script_ladder.specs.Ladder.{IsLadder, affected, arrived_row, change_rows, effect_rows, end_of, far_words, first_row};
+ghost use Rattle.script_ladder.specs.Ladder.{forged_row, given_up, heading, link_at_stake, link_words, named_link, past_of, report_in, row_text};
+ghost use Rattle.script_ladder.specs.Ladder.{rows_with, sent_row, sent_in, step_rows, unit_words, unsettled};
+ghost use Rattle.script_ladder.specs.Notes.{IsBefore, kept};
 
 use super::cells::{find_report, write_event, write_link, write_plain};
-use super::effects::{write_changes, write_heard};
+use super::diverted::{KEPT, find_stood, write_diverted};
+use super::effects::{find_changed_link, write_changes, write_heard};
 use super::rows::{draw_arriving, draw_forged, draw_going, draw_losing, write_row, write_row_at};
 use super::under_way::write_under_way;
-use super::units::{write_any, write_unit};
+use super::units::{find_order, write_any, write_sent_unit, write_unit};
+use arrayvec::ArrayVec;
 use decode_text::write_both;
 use l2_units::{Unit, copy_of_unit};
 use pair_world::{End, World};
 use printing::{Fault, Sink, Source};
 use script_text::{Account, ScriptFault, tell_script};
-use set_events::{Answer, Counts, Report};
+use set_core::SetCore;
+use set_events::{Answer, Counts, Event, Report};
 use std::alloc::{AllocError, Global};
 use world_steps::{Shown, Step};
 
@@ -28,6 +32,10 @@ struct Chart;
 pub(crate) struct Before {
     /// The unit that the step is about.
     unit: Option<Unit>,
+    /// The link that the step could settle at its end.
+    link: Option<u8>,
+    /// The messages that stand on that link.
+    stood: ArrayVec<u64, KEPT>,
     /// How the messages of end a stood.
     a: Counts,
     /// How those of end b stood.
@@ -45,8 +53,13 @@ impl Account for Chart {
     ghost is_note = { IsBefore };
 
     fn note(world: &World, step: &Step) -> Before {
+        let unit = find_affected(world, step);
+        let set = world.core(find_end(step));
+        let link = find_unsettled(set, find_named(step, &unit));
         Before {
-            unit: find_affected(world, step),
+            unit,
+            link,
+            stood: find_stood(set, link),
             a: world.counts(End::A),
             b: world.counts(End::B),
         }
@@ -125,6 +138,37 @@ fn unit_at(line: &[Unit], place: u64) -> Option<Unit>
     }
 }
 
+/// The link that a step could settle, as it's given up or the unit's order is about it.
+fn find_named(step: &Step, unit: &Option<Unit>) -> Option<u8>
+    ensures { result ≡ named_link step.now unit.now }
+{
+    match step {
+        Step::Act { event, .. } => find_given_up(event),
+        Step::Arrive { .. } | Step::Inject { .. } => find_changed_link(find_order(unit)),
+        Step::Emit { .. } | Step::Lose { .. } | Step::Together { .. } => None,
+    }
+}
+
+/// The link whose changeover an event gives up.
+fn find_given_up(event: &Event) -> Option<u8>
+    ensures { result ≡ given_up event.now }
+{
+    match event {
+        Event::NoAnswer { link } => Some(*link),
+        _ => None,
+    }
+}
+
+/// This link, if it hasn't settled.
+fn find_unsettled(set: &SetCore, link: Option<u8>) -> Option<u8>
+    ensures { result ≡ unsettled set.now.state link }
+{
+    match link {
+        Some(link) if !set.is_settled(link) => Some(link),
+        _ => None,
+    }
+}
+
 /// The rows of a step.
 #[tactic(auto, unfolding(crate::specs::Ladder::step_rows))]
 fn write_step(
@@ -164,7 +208,7 @@ fn write_rows(
         → IfOk result (λ rows. rows.items
         ≡ rows_with under_way.now number.now before step.now shown.now world.now) }
 {
-    let first = write_first(alloc, number, under_way, &note.unit, step, shown)?;
+    let first = write_first(alloc, number, under_way, &note.unit, step, shown, world)?;
     let effects = write_effects(
         alloc,
         under_way,
@@ -186,10 +230,12 @@ fn write_effects(
     world: &World,
 ) -> Result<Vec<u8>, AllocError>
     ensures { IfOk result (λ rows. rows.items
-        ≡ effect_rows under_way.now world.now end note.now.unit report note.now.a note.now.b) }
+        ≡ effect_rows under_way.now world.now end report (kept note.now)) }
 {
     let heard = write_heard(alloc, under_way, world, end, &note.unit, report)?;
-    write_both(heard, &write_both_changes(alloc, under_way, note, world)?)
+    let diverted = write_diverted(alloc, under_way, world, end, note.link, &note.stood)?;
+    let changes = write_both_changes(alloc, under_way, note, world)?;
+    write_both(heard, &write_both(diverted, &changes)?)
 }
 
 /// The rows of the messages that stand aside, or are discarded, at both ends.
@@ -223,6 +269,29 @@ fn find_end(step: &Step) -> End
     }
 }
 
+/// The end at the other side.
+fn find_other(end: End) -> End
+    ensures { result ≡ other end }
+{
+    match end {
+        End::A => End::B,
+        End::B => End::A,
+    }
+}
+
+/// The words of a unit that came to the end on the link, if there is one: the other end sent it.
+fn write_far(
+    alloc: Global,
+    world: &World,
+    end: End,
+    link: u8,
+    unit: &Option<Unit>,
+) -> Result<Vec<u8>, AllocError>
+    ensures { IfOk result (λ words. words.items ≡ far_words world.now end link unit.now) }
+{
+    write_any(alloc, world.core(find_other(end)), link, unit)
+}
+
 /// The first row of a step, about this unit.
 fn write_first(
     alloc: Global,
@@ -231,10 +300,11 @@ fn write_first(
     unit: &Option<Unit>,
     step: &Step,
     shown: &Shown,
+    world: &World,
 ) -> Result<Vec<u8>, AllocError>
     ensures { (before : ModelWorld) → unit.now ≡ affected before step.now
         → IfOk result (λ row. row.items
-        ≡ first_row number.now under_way.now before step.now shown.now) }
+        ≡ first_row number.now under_way.now before step.now shown.now world.now) }
 {
     match step {
         Step::Act { end, event } => {
@@ -247,7 +317,9 @@ fn write_first(
                 &write_event(alloc, event, shown)?,
             )
         }
-        Step::Emit { end, link } => write_sent(alloc, number, under_way, *end, *link, shown),
+        Step::Emit { end, link } => {
+            write_sent(alloc, number, under_way, world, *end, *link, shown)
+        }
         Step::Arrive { end, link } => {
             write_arrived(
                 alloc,
@@ -256,7 +328,7 @@ fn write_first(
                 *end,
                 *link,
                 find_report(shown),
-                &write_any(alloc, unit)?,
+                &write_far(alloc, world, *end, *link, unit)?,
             )
         }
         Step::Lose { end, link, .. } => {
@@ -266,7 +338,7 @@ fn write_first(
                 number,
                 under_way,
                 &draw_losing(alloc, *end, *link)?,
-                &write_any(alloc, unit)?,
+                &write_far(alloc, world, *end, *link, unit)?,
             )
         }
         Step::Together { link } => write_up(alloc, number, under_way, *link),
@@ -291,12 +363,13 @@ fn write_sent(
     alloc: Global,
     number: &[u8],
     under_way: &[u8],
+    world: &World,
     end: End,
     link: u8,
     shown: &Shown,
 ) -> Result<Vec<u8>, AllocError>
     ensures { IfOk result (λ row. row.items
-        ≡ sent_row number.now under_way.now end link shown.now (sent_in shown.now)) }
+        ≡ sent_row number.now under_way.now world.now end link shown.now (sent_in shown.now)) }
 {
     match shown {
         Shown::Answered(Answer::Sent { unit }) => {
@@ -306,7 +379,7 @@ fn write_sent(
                 number,
                 under_way,
                 &draw_going(alloc, end, link)?,
-                &write_unit(alloc, unit)?,
+                &write_sent_unit(alloc, world.core(end), link, unit)?,
             )
         }
         _ => write_row_at(
@@ -352,10 +425,10 @@ fn write_forged(
 ) -> Result<Vec<u8>, AllocError>
     ensures { IfOk result (λ row. row.items
         ≡ forged_row number.now under_way.now end link shown.now (report_in shown.now)
-        (unit_words unit.now)) }
+        (unit_words None unit.now)) }
 {
     let words = match find_report(shown) {
-        Some(_) => write_unit(alloc, unit)?,
+        Some(_) => write_unit(alloc, None, unit)?,
         None => write_plain(alloc, shown)?,
     };
     write_row_at(

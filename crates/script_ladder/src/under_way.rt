@@ -1,7 +1,8 @@
 //! What is under way between the ends.
 ghost use Rattle.std.specs.Prelude.{◌≡◌, IfOk, take};
-ghost use Rattle.script_ladder.specs.Ladder.{fitted, marks, marks_below, marks_on, mark, under_way};
+ghost use Rattle.script_ladder.specs.Ladder.{marks, marks_below, marks_on, mark, under_way};
 
+use super::fitting::fit;
 use super::rows::UNDER_WAY;
 use l2_units::Unit;
 use pair_world::{End, World};
@@ -15,19 +16,7 @@ const MOST: usize = 5;
 pub(crate) fn write_under_way(alloc: Global, world: &World) -> Result<Vec<u8>, AllocError>
     ensures { IfOk result (λ text. text.items ≡ under_way world.now) }
 {
-    fit(write_all(alloc, world)?)
-}
-
-/// What doesn't fit is told by a plus.
-fn fit(text: Vec<u8>) -> Result<Vec<u8>, AllocError>
-    ensures { IfOk result (λ short. short.items ≡ fitted text.items) }
-{
-    let mut short = text;
-    if short.len() > UNDER_WAY {
-        short.truncate(UNDER_WAY - 1);
-        short.push(b'+')?;
-    }
-    Ok(short)
+    fit(alloc, &write_all(alloc, world)?, UNDER_WAY)
 }
 
 /// What is under way on all links.

@@ -1,32 +1,81 @@
 //! A unit in the words of the trade.
-ghost use Rattle.std.specs.Prelude.{◌≡◌, ◌++◌, IfOk};
+ghost use Rattle.std.specs.Prelude.{◌≡◌, ◌++◌, IfOk, drop, slice_get};
 ghost use Rattle.l2_units.specs.declared.profile.Profile.TheVariants.{Narrow};
+ghost use Rattle.decode_text.specs.Decoding.{order_words};
 ghost use Rattle.l3_orders.specs.Grammar.{order_of};
-ghost use Rattle.script_ladder.specs.Ladder.{message_words, numbers_of, order_in, stream_words, unit_words, words_of};
+ghost use Rattle.script_ladder.specs.Ladder.{message_name, message_words, number_on, number_words, numbered_order, numbers_of, or_msu};
+ghost use Rattle.script_ladder.specs.Ladder.{order_in, sent_words, stream_words, unit_number, unit_words, words_of};
 
-use decode_text::write_order_words;
+use super::fitting::front_of;
+use super::isup::isup_name;
+use decode_text::{write_both, write_order_words};
 use l2_units::{Header, Unit};
 use l3_orders::{Order, read_order};
+use set_core::SetCore;
 use std::alloc::{AllocError, Global};
 
-/// The words of a unit.
-pub(crate) fn write_unit(alloc: Global, unit: &Unit) -> Result<Vec<u8>, AllocError>
-    ensures { IfOk result (λ words. words.items ≡ unit_words unit.now) }
+/// The letters of an order's name.
+const NAME: usize = 3;
+
+/// The words of a unit that this set sent on the link.
+pub(crate) fn write_sent_unit(
+    alloc: Global,
+    sender: &SetCore,
+    link: u8,
+    unit: &Unit,
+) -> Result<Vec<u8>, AllocError>
+    ensures { IfOk result (λ words. words.items ≡ sent_words sender.now.state link unit.now) }
+{
+    write_unit(alloc, find_number(sender, link, unit), unit)
+}
+
+/// The words of the unit that this set sent on the link, if there is one.
+pub(crate) fn write_any(
+    alloc: Global,
+    sender: &SetCore,
+    link: u8,
+    unit: &Option<Unit>,
+) -> Result<Vec<u8>, AllocError>
+    ensures { IfOk result (λ words. words.items ≡ words_of sender.now.state link unit.now) }
+{
+    match unit {
+        Some(unit) => write_sent_unit(alloc, sender, link, unit),
+        None => Ok(Vec::new(alloc)),
+    }
+}
+
+/// The number of the message that a unit carries, where its sender has it unacknowledged on the link.
+fn find_number(sender: &SetCore, link: u8, unit: &Unit) -> Option<u64>
+    ensures { result ≡ unit_number sender.now.state link unit.now }
+{
+    match unit {
+        Unit::Msu { head, .. } => find_by_fsn(sender, link, head.fsn),
+        _ => None,
+    }
+}
+
+/// The number of the unacknowledged message that has this FSN on the link.
+fn find_by_fsn(sender: &SetCore, link: u8, fsn: u16) -> Option<u64>
+    ensures { result ≡ number_on sender.now.state link fsn }
+{
+    let oldest = sender.unacked_at(link, 0)?;
+    let place = (u32::from(fsn) + 256).saturating_sub(u32::from(oldest.fsn)) % 128;
+    let message = sender.unacked_at(link, place as u16)?;
+    Some(message.number)
+}
+
+/// The words of a unit, with this number if it's a message.
+pub(crate) fn write_unit(
+    alloc: Global,
+    number: Option<u64>,
+    unit: &Unit,
+) -> Result<Vec<u8>, AllocError>
+    ensures { IfOk result (λ words. words.items ≡ unit_words number unit.now) }
 {
     match unit {
         Unit::Fisu { head } => write_kind(alloc, "FISU", *head),
         Unit::Lssu { head, .. } => write_kind(alloc, "LSSU", *head),
-        Unit::Msu { head, body } => write_message(alloc, *head, body.as_slice()),
-    }
-}
-
-/// The words of the unit, if there is one.
-pub(crate) fn write_any(alloc: Global, unit: &Option<Unit>) -> Result<Vec<u8>, AllocError>
-    ensures { IfOk result (λ words. words.items ≡ words_of unit.now) }
-{
-    match unit {
-        Some(unit) => write_unit(alloc, unit),
-        None => Ok(Vec::new(alloc)),
+        Unit::Msu { head, body } => write_message(alloc, number, *head, body.as_slice()),
     }
 }
 
@@ -34,22 +83,104 @@ pub(crate) fn write_any(alloc: Global, unit: &Option<Unit>) -> Result<Vec<u8>, A
 fn write_kind(alloc: Global, kind: &str, head: Header) -> Result<Vec<u8>, AllocError>
     ensures { IfOk result (λ words. words.items ≡ kind.now ++ numbers_of head) }
 {
-    let fsn = head.fsn;
-    let bsn = head.bsn;
-    Ok(format!(in alloc; "{kind} fsn={fsn} bsn={bsn}")?.into_bytes())
+    write_both(
+        Vec::from_slice(alloc, kind.as_bytes())?,
+        &write_head(alloc, head)?,
+    )
 }
 
-/// The words of a message: an order's own, or its numbers and its stream.
-fn write_message(alloc: Global, head: Header, body: &[u8]) -> Result<Vec<u8>, AllocError>
-    ensures { IfOk result (λ words. words.items ≡ message_words head (order_of Narrow body.now) body.now) }
+/// The FSN and the BSN of a unit.
+fn write_head(alloc: Global, head: Header) -> Result<Vec<u8>, AllocError>
+    ensures { IfOk result (λ words. words.items ≡ numbers_of head) }
+{
+    let fsn = head.fsn;
+    let bsn = head.bsn;
+    Ok(format!(in alloc; " fsn={fsn} bsn={bsn}")?.into_bytes())
+}
+
+/// The words of a message: an order's own, or its name, its FSN and BSN, and its stream.
+fn write_message(
+    alloc: Global,
+    number: Option<u64>,
+    head: Header,
+    body: &[u8],
+) -> Result<Vec<u8>, AllocError>
+    ensures { IfOk result (λ words. words.items
+        ≡ message_words number head (order_of Narrow body.now) body.now) }
 {
     match read_order(body) {
-        Ok(order) => write_order_words(alloc, order),
-        Err(_) => {
-            let mut words = write_kind(alloc, "MSU", head)?;
-            words.extend_from_slice(&write_stream(alloc, body.get(4).copied())?)?;
-            Ok(words)
-        }
+        Ok(order) => write_order(alloc, number, order),
+        Err(_) => write_users(alloc, number, head, body),
+    }
+}
+
+/// The words of an order, with its number behind the three letters of its name.
+fn write_order(alloc: Global, number: Option<u64>, order: Order) -> Result<Vec<u8>, AllocError>
+    ensures { IfOk result (λ words. words.items ≡ numbered_order number (order_words order)) }
+{
+    let words = write_order_words(alloc, order)?;
+    let name = Vec::from_slice(alloc, front_of(&words, NAME))?;
+    let rest = write_both(write_number(alloc, number)?, back_of(&words, NAME))?;
+    write_both(name, &rest)
+}
+
+/// The octets of a text behind the first so many.
+fn back_of(text: &[u8], columns: usize) -> &[u8]
+    ensures { result.now ≡ drop columns text.now }
+{
+    &text[columns.min(text.len())..]
+}
+
+/// The words of a users' message.
+fn write_users(
+    alloc: Global,
+    number: Option<u64>,
+    head: Header,
+    body: &[u8],
+) -> Result<Vec<u8>, AllocError>
+    ensures { IfOk result (λ words. words.items ≡ message_name body.now
+        ++ (number_words number ++ (numbers_of head ++ stream_words (slice_get body.now 4)))) }
+{
+    let rest = write_both(
+        write_number(alloc, number)?,
+        &write_fields(alloc, head, body)?,
+    )?;
+    write_both(
+        Vec::from_slice(alloc, message_name(body).as_bytes())?,
+        &rest,
+    )
+}
+
+/// The FSN and the BSN of a users' message, and its stream.
+fn write_fields(alloc: Global, head: Header, body: &[u8]) -> Result<Vec<u8>, AllocError>
+    ensures { IfOk result (λ words. words.items
+        ≡ numbers_of head ++ stream_words (slice_get body.now 4)) }
+{
+    let stream = write_stream(alloc, body.get(4).copied())?;
+    write_both(write_head(alloc, head)?, &stream)
+}
+
+/// The name of a message: that of the ISDN user part, or MSU.
+pub(crate) fn message_name(body: &[u8]) -> &'static str
+    ensures { result.now ≡ message_name body.now }
+{
+    or_msu(isup_name(body))
+}
+
+/// This name, or MSU where it's empty.
+fn or_msu(name: &'static str) -> &'static str
+    ensures { result.now ≡ or_msu name.now }
+{
+    if name.is_empty() { "MSU" } else { name }
+}
+
+/// A message's number, if it has one.
+pub(crate) fn write_number(alloc: Global, number: Option<u64>) -> Result<Vec<u8>, AllocError>
+    ensures { IfOk result (λ words. words.items ≡ number_words number) }
+{
+    match number {
+        Some(number) => Ok(format!(in alloc; " #{number}")?.into_bytes()),
+        None => Ok(Vec::new(alloc)),
     }
 }
 

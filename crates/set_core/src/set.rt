@@ -44,7 +44,7 @@ impl Model for SetCore {
 
 impl SetCore {
     ghost use Rattle.std.specs.Prelude.{◌≡◌, ◌<◌, ◌≤◌, ◌^◌, ◌↔◌, ◌+◌, IfOk, IfErr, OnOk, OnErr, length, sum};
-    ghost use Rattle.set_model.specs.State.{link_count, is_up as is_up_in, is_settled as is_settled_in, unacked_in};
+    ghost use Rattle.set_model.specs.State.{given, link_count, is_up as is_up_in, is_settled as is_settled_in, unacked_in};
     ghost use Rattle.set_model.specs.Sound.{IsSound};
     ghost use Rattle.set_model.specs.Rows.{place, total_of};
     ghost use Rattle.set_model.specs.Checkpoint.{counts_in};
@@ -153,6 +153,13 @@ impl SetCore {
         ensures { result ≡ place number self.now.state.rows }
     {
         self.core.place_of(number)
+    }
+
+    /// How many numbers were given out, to users' messages and orders together: the number of the next one.
+    pub fn numbers_given(&self) -> u64
+        ensures { result ≡ given self.now.state }
+    {
+        self.core.numbers_given()
     }
 
     /// How many messages stand in each place; each message that was accepted stands in one.

@@ -2,7 +2,7 @@
 ghost use Rattle.std.specs.Prelude.{◌≡◌, ◌<◌, ◌+◌, ◌%◌, ◌^◌, true, length, IsOk, IfOk, IfErr, OnOk, OnErr};
 ghost use Rattle.l2_window.specs.Window.{fsn_count};
 ghost use Rattle.set_model.specs.Rows.{place, counts_of, total_of, users};
-ghost use Rattle.set_model.specs.State.{State, new_state, link_count, is_up as is_up_in, is_settled as is_settled_in, unacked_in};
+ghost use Rattle.set_model.specs.State.{State, given, new_state, link_count, is_up as is_up_in, is_settled as is_settled_in, unacked_in};
 ghost use Rattle.set_model.specs.History.{longest_history};
 ghost use Rattle.set_model.specs.Step.{step};
 ghost use Rattle.set_moves.specs.Agreement.{Kept, Agrees, StandsFor, Holds, HoldsFew};
@@ -27,7 +27,7 @@ use std::marker::Model;
 ///
 /// Contracts see what is kept, and say of every state of the model that it agrees with what becomes of it.
 /// Readers: [`Core::place_of`], [`Core::links`], [`Core::is_up`], [`Core::is_settled`],
-/// [`Core::counts`], [`Core::unacked_at`]. The one input: [`Core::apply`].
+/// [`Core::numbers_given`], [`Core::counts`], [`Core::unacked_at`]. The one input: [`Core::apply`].
 #[derive(Drop)]
 pub struct Core {
     parts: Parts,
@@ -121,6 +121,13 @@ impl Core {
         ensures { (s : State) → StandsFor self.now s → result ≡ place number s.rows }
     {
         self.parts.queues.fate_of(number)
+    }
+
+    /// How many numbers were given out, to users' messages and orders together: the number of the next one.
+    pub fn numbers_given(&self) -> u64
+        ensures { (s : State) → StandsFor self.now s → result ≡ given s }
+    {
+        self.parts.queues.len() as u64
     }
 
     /// How many of the users' messages stand in each place; each stands in one.
