@@ -17,6 +17,8 @@ use Rattle.link_term.specs.declared.counts.Turned.{Turned}
 use Rattle.link_term.specs.declared.counts.Filling.{Filling}
 use Rattle.link_term.specs.declared.fault.TermFault.{TermFault}
 use Rattle.link_term.specs.Filling.{filling_of, with_unit}
+use Rattle.link_term.specs.Looking.{Seen, Looks, AllLook}
+use Rattle.term_model.specs.OctetOut.{put_of}
 use Rattle.set_events.specs.declared.fault.SetFault.{SetFault}
 use Rattle.term_model.specs.Choosing.{Filled}
 use Rattle.link_term.specs.Running.{Runs, RunFails}
@@ -24,13 +26,14 @@ use Rattle.link_term.specs.Turning.{TurnsOnce, TurnFails, one_if_chosen}
 
 -- what the turns so far did, but for the cause
 pub record RanSo (taken taken' : List ℕ) (before : Terminal) (made made' : List Entry)
-    (given given' put put' : List ℕ) (report : TermReport) (after : Terminal) : Type 0 where
+    (line line' : Seen) (report : TermReport) (after : Terminal) : Type 0 where
   pub doings : List Doing
   pub are_turns : AreTurns doings (line_bits taken) before after
   pub taken_is : taken' ≡ taken ++ octets_in doings
   pub made_is : made' ≡ made ++ entries_of doings
-  pub given_is : given' ≡ given ++ octets_in doings
-  pub put_is : put' ≡ put ++ octets_out doings
+  pub given_is : line'.given ≡ line.given ++ octets_in doings
+  pub put_is : line'.put ≡ line.put ++ octets_out doings
+  pub looks : AllLook doings line line'
   pub turns_are : report.turns ≡ length doings
   pub sent_are : report.sent ≡ length (units_of doings)
   pub good_are : report.good ≡ counted is_good (marks_of doings)
@@ -38,16 +41,17 @@ pub record RanSo (taken taken' : List ℕ) (before : Terminal) (made made' : Lis
   pub sixteen_are : report.sixteen ≡ counted is_sixteen (marks_of doings)
 
 -- none so far
-pub ran_none : (taken : List ℕ) (t : Terminal) (made : List Entry) (given put : List ℕ) (report : TermReport)
+pub ran_none : (taken : List ℕ) (t : Terminal) (made : List Entry) (line : Seen) (report : TermReport)
     → report ≡ record { turns = 0; sent = 0; good = 0; bad = 0; sixteen = 0; cause = 0 }
-    → RanSo taken taken t made made given given put put report t
-ran_none taken t made given put report is = record {
+    → RanSo taken taken t made made line line report t
+ran_none taken t made line report is = record {
   doings = [];
   are_turns = refl;
   taken_is = sym (append-nil taken);
   made_is = sym (append-nil made);
-  given_is = sym (append-nil given);
-  put_is = sym (append-nil put);
+  given_is = sym (append-nil line.given);
+  put_is = sym (append-nil line.put);
+  looks = refl;
   turns_are = ap (λ (r : TermReport). r.turns) is;
   sent_are = ap (λ (r : TermReport). r.sent) is;
   good_are = ap (λ (r : TermReport). r.good) is;
@@ -77,11 +81,24 @@ sent_one (Some unit) = refl
 chosen_one : (f : Filled) → f.narrow ≡ true → one_if_chosen (filling_of f) ≡ length (option_to_list f.unit)
 chosen_one f narrow = rw narrow (sent_one f.unit)
 
+-- a place was known to be free only where an octet was put
+full_where_none_put : (has_room : Bool) (bits : List Bool) (out : List ℕ) (free : ℕ) → out ≡ put_of has_room bits
+    → (has_room ≡ false → free ≡ 0) → out ≡ [] → free ≡ 0
+full_where_none_put true bits out free is full none = let one = sym is ∙ none in cc
+full_where_none_put false bits out free is full none = full refl
+
+-- a turn more looked at the line
+looks_then : (doings : List Doing) (doing : Doing) (a b c : Seen) → AllLook doings a b → Looks doing b c
+    → AllLook (doings ++ doing ∷ []) a c
+looks_then [] doing a b c all one = (c, subst (λ x. Looks doing x c) all one, refl)
+looks_then (d ∷ rest) doing a b c (mid, first, all) one = (mid, first, looks_then rest doing mid b c all one)
+
 -- ONE TURN MORE.
 module _ (taken taken_mid taken' : List ℕ) (before mid after : Terminal) (made made_mid made' : List Entry)
-    (given given_mid given' put put_mid put' waiting : List ℕ) (free : ℕ) (report report' : TermReport) (turned : Turned)
-    (so : RanSo taken taken_mid before made made_mid given given_mid put put_mid report mid)
-    (once : TurnsOnce taken_mid taken' mid turned made_mid made' given_mid given' waiting put_mid put' free after) where
+    (line line_mid line' : Seen) (report report' : TermReport) (turned : Turned)
+    (so : RanSo taken taken_mid before made made_mid line line_mid report mid)
+    (once : TurnsOnce taken_mid taken' mid turned made_mid made' line_mid.given line'.given line_mid.waiting line_mid.put line'.put
+    line'.free after) where
   did : Doing
   did = record {
     octet = once.octet;
@@ -111,15 +128,21 @@ module _ (taken taken_mid taken' : List ℕ) (before mid after : Terminal) (made
   pub ran_more : report'.turns ≡ report.turns + 1 → report'.sent ≡ report.sent + one_if_chosen turned.filling
       → report'.good ≡ report.good + turned.marks.good → report'.bad ≡ report.bad + turned.marks.bad
       → report'.sixteen ≡ report.sixteen + turned.marks.sixteen
-      → RanSo taken taken' before made made' given given' put put' report' after
+      → RanSo taken taken' before made made' line line' report' after
   unfolding did
   ran_more turns sent good bad sixteen = record {
     doings = so.doings ++ did ∷ [];
     are_turns = more_turns;
     taken_is = grown (λ (d : Doing). option_to_list d.octet) so.doings did taken taken_mid taken' so.taken_is once.taken_is;
     made_is = grown (λ (d : Doing). d.entries) so.doings did made made_mid made' so.made_is once.made_is;
-    given_is = grown (λ (d : Doing). option_to_list d.octet) so.doings did given given_mid given' so.given_is once.given_is;
-    put_is = grown (λ (d : Doing). d.put) so.doings did put put_mid put' so.put_is once.put_is;
+    given_is = grown (λ (d : Doing). option_to_list d.octet) so.doings did line.given line_mid.given line'.given so.given_is once.given_is;
+    put_is = grown (λ (d : Doing). d.put) so.doings did line.put line_mid.put line'.put so.put_is once.put_is;
+    looks = looks_then so.doings did line line_mid line' so.looks (record {
+      given_is = once.given_is;
+      put_is = once.put_is;
+      none_waited = once.none_waited;
+      was_full = full_where_none_put once.turn.puts.has_room once.turn.puts.bits once.out line'.free once.turn.puts.put_is once.was_full;
+    });
     turns_are = omega (arith, turns, so.turns_are, length-append so.doings (did ∷ []));
     sent_are =
         let split : length (units_of (so.doings ++ did ∷ [])) ≡ length (units_of so.doings) + length (option_to_list once.turn.chosen.unit) =
@@ -150,11 +173,11 @@ told_so report doings after a b c d e f is_a is_b is_c is_d is_e is_f =
     ∙ ap (λ x. record { turns = length doings; sent = length (units_of doings); good = counted is_good (marks_of doings); bad = counted is_bad (marks_of doings); sixteen = counted is_sixteen (marks_of doings); cause = x }) is_f
 
 pub ran_all : (turns : ℕ) (taken taken' : List ℕ) (before : Terminal) (made made' : List Entry)
-    (given given' put put' : List ℕ) (report last : TermReport) (after : Terminal)
-    → RanSo taken taken' before made made' given given' put put' report after → report.turns ≡ turns
+    (line line' : Seen) (report last : TermReport) (after : Terminal)
+    → RanSo taken taken' before made made' line line' report after → report.turns ≡ turns
     → last ≡ record report { cause = cause_or_0 after.cause }
-    → Runs turns taken taken' before made made' given given' put put' last after
-ran_all turns taken taken' before made made' given given' put put' report last after so are is = record {
+    → Runs turns taken taken' before made made' line line' last after
+ran_all turns taken taken' before made made' line line' report last after so are is = record {
   octets = octets_in so.doings;
   entries = entries_of so.doings;
   out = octets_out so.doings;
@@ -172,6 +195,7 @@ ran_all turns taken taken' before made made' given given' put put' report last a
   made_is = so.made_is;
   given_is = so.given_is;
   put_is = so.put_is;
+  looks = so.looks;
 }
 
 pub at_most_one : (filling : Filling) → one_if_chosen filling ≤ 1
@@ -182,25 +206,22 @@ at_most_one Filling.Wide = omega arith
 -- A TURN THAT FAILED, behind those that went whole
 pub run_failed : (result : Result TermReport TermFault) (told : TermFault) (faults faults_mid faults' : List SetFault)
     (turns whole : ℕ) (taken mid taken' : List ℕ) (before between after : Terminal) (made made_mid made' : List Entry)
-    (given given_mid given' put put_mid put' : List ℕ) (report : TermReport)
+    (line line_mid line' : Seen) (report : TermReport)
     → IsErrAnd result (λ e. e ≡ told)
-    → RanSo taken mid before made made_mid given given_mid put put_mid report between → report.turns ≡ whole → whole < turns
+    → RanSo taken mid before made made_mid line line_mid report between → report.turns ≡ whole → whole < turns
     → faults_mid ≡ faults
-    → TurnFails told faults_mid faults' mid taken' between made_mid made' given_mid given' put_mid put' after
-    → IfErr result (λ fault. RunFails fault faults faults' turns taken taken' before made made' given given' put put' after)
-run_failed (Ok done) told faults faults_mid faults' turns whole taken mid taken' before between after made made_mid made' given given_mid given'
-    put put_mid put' report is so are few same fails = absurd is
-run_failed (Err fault) told faults faults_mid faults' turns whole taken mid taken' before between after made made_mid made' given given_mid given'
-    put put_mid put' report is so are few same fails = record {
-      whole = whole;
-      fewer = few;
-      taken_by_then = mid;
-      made_by_then = made_mid;
-      given_by_then = given_mid;
-      put_by_then = put_mid;
-      report = record report { cause = cause_or_0 between.cause };
-      between = between;
-      runs = ran_all whole taken mid before made made_mid given given_mid put put_mid report _ between so are refl;
-      fails = subst (λ f. TurnFails f faults faults' mid taken' between made_mid made' given_mid given' put_mid put' after) (sym is)
-          (subst (λ (fs : List SetFault). TurnFails told fs faults' mid taken' between made_mid made' given_mid given' put_mid put' after) same fails);
-    }
+    → TurnFails told faults_mid faults' mid taken' between made_mid made' line_mid.given line'.given line_mid.put line'.put after
+    → IfErr result (λ fault. RunFails fault faults faults' turns taken taken' before made made' line line' after)
+run_failed (Ok done) told faults faults_mid faults' turns whole taken mid taken' before between after made made_mid made' line line_mid line' report is so are few same fails = absurd is
+run_failed (Err fault) told faults faults_mid faults' turns whole taken mid taken' before between after made made_mid made' line line_mid line' report is so are few same fails = record {
+  whole = whole;
+  fewer = few;
+  taken_by_then = mid;
+  made_by_then = made_mid;
+  line_by_then = line_mid;
+  report = record report { cause = cause_or_0 between.cause };
+  between = between;
+  runs = ran_all whole taken mid before made made_mid line line_mid report _ between so are refl;
+  fails = subst (λ f. TurnFails f faults faults' mid taken' between made_mid made' line_mid.given line'.given line_mid.put line'.put after) (sym is)
+      (subst (λ (fs : List SetFault). TurnFails told fs faults' mid taken' between made_mid made' line_mid.given line'.given line_mid.put line'.put after) same fails);
+}

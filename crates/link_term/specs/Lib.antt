@@ -7,4 +7,5 @@ pub mod Filling
 pub mod Octets
 pub mod Turning
 pub mod Failing
+pub mod Looking
 pub mod Running

@@ -1,6 +1,7 @@
 //! A terminal with its door, its line and its gate.
 ghost use Rattle.std.specs.Prelude.{◌≡◌, ◌+◌, ◌^◌, ◌<◌, ◌≤◌, [], true, false, IfOk, IfErr, OnOk, OnErr};
 ghost use Rattle.link_term.specs.Turning.{TurnsOnce, TurnFails, one_if_chosen};
+ghost use Rattle.link_term.specs.Looking.{seen};
 ghost use Rattle.link_term.specs.Running.{Runs, RunFails};
 ghost use Rattle.term_model.specs.Runs.{cause_or_0};
 ghost use Rattle.link_term.specs.declared.counts.Turned.{Turned as WasTurned};
@@ -90,12 +91,14 @@ impl<D: Door, L: Line, G: Gate> Terminal<D, L, G> {
             × (self.new.receiver ≡ self.old.receiver) }
         ensures fails { OnErr result (self.new.failed ≡ true) }
         ensures goes_on { OnOk result (self.new.failed ≡ false) }
+        ensures same { L.is_same self.old.line self.new.line }
     {
         self.take_turn()?;
         Ok(())
     }
 
-    /// So many turns, one after another, at most 2^32: what they counted, and why the link failed last.
+    /// So many turns, one after another, at most 2^32: what they counted, and why the link failed last. Each took an octet
+    /// where its end of the line knew of one, and put one where it knew of a free place.
     ///
     /// Faults as of [`Terminal::turn`]: the turns before the one that was broken off went whole, and it's the last.
     pub fn run(&mut self, turns: u64) -> Result<TermReport, TermFault>
@@ -103,21 +106,28 @@ impl<D: Door, L: Line, G: Gate> Terminal<D, L, G> {
         ensures runs { IfOk result (λ report. (self.old.failed ≡ false)
             × Runs turns self.old.receiver self.new.receiver self.old.inside (D.made self.old.door)
             (D.made self.new.door)
-            (L.taken_so_far self.old.line) (L.taken_so_far self.new.line)
-            (L.put_so_far self.old.line) (L.put_so_far self.new.line) report self.new.inside
+            (seen (L.taken_so_far self.old.line) (L.waiting self.old.line) (L.put_so_far self.old.line)
+            (L.free self.old.line))
+            (seen (L.taken_so_far self.new.line) (L.waiting self.new.line) (L.put_so_far self.new.line)
+            (L.free self.new.line))
+            report self.new.inside
             × (D.faults self.new.door ≡ D.faults self.old.door)) }
         ensures breaks { self.old.failed ≡ false → IfErr result (λ fault. RunFails fault
             (D.faults self.old.door) (D.faults self.new.door) turns
             self.old.receiver self.new.receiver self.old.inside
             (D.made self.old.door) (D.made self.new.door)
-            (L.taken_so_far self.old.line) (L.taken_so_far self.new.line)
-            (L.put_so_far self.old.line) (L.put_so_far self.new.line) self.new.inside) }
+            (seen (L.taken_so_far self.old.line) (L.waiting self.old.line) (L.put_so_far self.old.line)
+            (L.free self.old.line))
+            (seen (L.taken_so_far self.new.line) (L.waiting self.new.line) (L.put_so_far self.new.line)
+            (L.free self.new.line))
+            self.new.inside) }
         ensures failed { self.old.failed ≡ true → (result ≡ Err Failed)
             × (self.new.door ≡ self.old.door)
             × (self.new.line ≡ self.old.line) × (self.new.inside ≡ self.old.inside)
             × (self.new.receiver ≡ self.old.receiver) }
         ensures fails { OnErr result (self.new.failed ≡ true) }
         ensures goes_on { OnOk result (self.new.failed ≡ false) }
+        ensures same { L.is_same self.old.line self.new.line }
     {
         if self.failed {
             return Err(TermFault::Failed);
@@ -161,6 +171,7 @@ impl<D: Door, L: Line, G: Gate> Terminal<D, L, G> {
             × (self.new.receiver ≡ self.old.receiver) }
         ensures fails { OnErr result (self.new.failed ≡ true) }
         ensures goes_on { OnOk result (self.new.failed ≡ false) }
+        ensures same { L.is_same self.old.line self.new.line }
     {
         if self.failed {
             return Err(TermFault::Failed);

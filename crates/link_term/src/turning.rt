@@ -38,6 +38,7 @@ pub(crate) fn take_turn<D: Door, L: Line>(
         (D.made door.old) (D.made door.new) (L.taken_so_far line.old) (L.taken_so_far line.new)
         (L.put_so_far line.old) (L.put_so_far line.new) inside.new) }
     ensures at { D.number door.new ≡ inside.new.link }
+    ensures same { L.is_same line.old line.new }
 {
     obey(inside, door)?;
     let octet = line.take();
@@ -61,6 +62,7 @@ fn put_octet<L: Line>(inside: &mut Inside, line: &mut L)
     ensures puts { PutsOut inside.old inside.new (L.put_so_far line.old) (L.put_so_far line.new)
         (L.free line.new) }
     ensures taken { L.taken_so_far line.new ≡ L.taken_so_far line.old }
+    ensures same { L.is_same line.old line.new }
 {
     match line.put(inside.octet()) {
         Ok(()) => inside.drop_octet(),

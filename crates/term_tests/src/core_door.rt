@@ -118,7 +118,9 @@ pub(crate) fn started_at<D: Door, L: Line>(
     door: D,
     line: L,
     lengths: Timers,
-) -> Terminal<D, L, OpenGate> {
+) -> Terminal<D, L, OpenGate>
+    ensures { result.line ≡ line }
+{
     let link = door.link();
     let mut terminal = Terminal::new(door, line, OpenGate, 0, link, lengths);
     terminal.command(Command::Emergency);

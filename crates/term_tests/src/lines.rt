@@ -1,8 +1,8 @@
 //! Lines as terminals use them: through their trait, in one thread and in two.
-ghost use Rattle.std.specs.Prelude.{◌≡◌};
+ghost use Rattle.std.specs.Prelude.{◌≡◌, ◌^◌, ◌≤◌};
 ghost use Rattle.line_ring.specs.Rings.{IsSameEnd};
 
-use super::core_door::holds;
+use super::core_door::{CoreDoor, LONG, door_of, holds, started_at};
 use line_ring::{Full, Line, LossyLine, RingLine, beside, ring_pair};
 use std::sync::Wait;
 use std::test::Fail;
@@ -206,4 +206,37 @@ fn octets_cross_between_two_threads(rt: HostRuntime) -> Result<(), Fail> {
     beside(&mut near, &mut far);
     let empty = hands_out(&mut far, &[]) && hands_out(&mut near, &[]);
     holds(answered && right && empty)
+}
+
+/// So many turns of a terminal at this door, over this end of a line: the end then, and whether they went well.
+fn turns_over(door: CoreDoor, line: RingLine, turns: u64) -> (RingLine, bool)
+    requires { turns ≤ 2 ^ 32 }
+    ensures { IsSameEnd line result.0 }
+{
+    let mut terminal = started_at(door, line, LONG);
+    let well = terminal.run(turns).is_ok();
+    let (_door, line, _gate) = terminal.into_parts();
+    (line, well)
+}
+
+/// How many octets wait, of at most 64.
+fn waiting_in(line: &mut RingLine) -> u8 {
+    let mut many: u8 = 0;
+    for _place in 0..64u8 {
+        many = many.saturating_add(u8::from(line.take().is_some()));
+    }
+    many
+}
+
+#[test]
+fn a_pair_is_looked_at_after_terminals_ran_over_it(rt: HostRuntime) -> Result<(), Fail> {
+    let (Some(near_door), Some(far_door)) = (door_of(rt.alloc()), door_of(rt.alloc())) else {
+        return Err(Fail::from("not opened"));
+    };
+    let (near, far) = ring_pair(rt.alloc(), 64)?;
+    let (mut near, near_well) = turns_over(near_door, near, 40);
+    let (mut far, far_well) = turns_over(far_door, far, 30);
+    beside(&mut near, &mut far);
+    let waiting = (waiting_in(&mut near), waiting_in(&mut far));
+    holds(near_well && far_well && waiting == (30, 10))
 }

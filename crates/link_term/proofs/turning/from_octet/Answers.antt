@@ -16,18 +16,18 @@ returns-in_err-end_timers-clause-steps g c =
     (broken_timers _ c.args.octet _ _ _ _ _ heard.0 _ broke.0)
     (broke.1 ∙ ap (λ (fs : List SetFault). fs ++ c.in_err-end_timers.field-0.0 ∷ []) heard.1)
 
-pub returns-in_err-sent-clause-steps : goal.returns-in_err-sent-clause-steps
-returns-in_err-sent-clause-steps g c =
+pub returns-in_err-filling-clause-steps : goal.returns-in_err-filling-clause-steps
+returns-in_err-filling-clause-steps g c =
     let heard = c.in_ok-marks.ensures.hears in
     let timers = c.in_ok-end_timers.ensures.talks in
-    let broke = c.in_err-sent.ensures.fills in
-    steps_broken _ _ _ _ _ _ _ _ _ _ c.from_residual-in_err-sent.ensures.1
+    let broke = c.in_err-filling.ensures.fills in
+    steps_broken _ _ _ _ _ _ _ _ _ _ c.from_residual-in_err-filling.ensures.1
     (broken_choice _ c.args.octet _ _ _ _ _ heard.0 _ _ _ timers.0 broke.0)
-    (broke.1 ∙ ap (λ (fs : List SetFault). fs ++ c.in_err-sent.field-0.0 ∷ []) (timers.1 ∙ heard.1))
+    (broke.1 ∙ ap (λ (fs : List SetFault). fs ++ c.in_err-filling.field-0.0 ∷ []) (timers.1 ∙ heard.1))
 
 pub returns-clause-steps : goal.returns-clause-steps
 returns-clause-steps g c =
     let heard = c.in_ok-marks.ensures.hears in
     let timers = c.in_ok-end_timers.ensures.talks in
-    let fills = c.in_ok-sent.ensures.fills in
+    let fills = c.in_ok-filling.ensures.fills in
     (steps_went _ c.args.octet _ _ _ _ _ heard.0 _ _ _ _ _ timers.0 fills.0, fills.1 ∙ timers.1 ∙ heard.1)

@@ -1,4 +1,5 @@
 use Rattle.std.proofs.Common.{◌≡◌, ◌≤◌, ◌*◌, false}
+use Rattle.link_term.specs.Looking.{seen}
 use Rattle.link_term.proofs.Turns.{RanSo}
 use Rattle.link_term.proofs.terminal.Terminal.run.Given as goal
 
@@ -7,8 +8,11 @@ abbrev pub invariant-loop-turn : goal.invariant-loop-turn
 invariant-loop-turn g l = record {
   so : RanSo l.initial.self.receiver l.self.receiver l.initial.self.inside
       (g.D.Door.made l.initial.self.door) (g.D.Door.made l.self.door)
-      (g.L.Line.taken_so_far l.initial.self.line) (g.L.Line.taken_so_far l.self.line)
-      (g.L.Line.put_so_far l.initial.self.line) (g.L.Line.put_so_far l.self.line) l.report l.self.inside;
+      (seen (g.L.Line.taken_so_far l.initial.self.line) (g.L.Line.waiting l.initial.self.line)
+      (g.L.Line.put_so_far l.initial.self.line) (g.L.Line.free l.initial.self.line))
+      (seen (g.L.Line.taken_so_far l.self.line) (g.L.Line.waiting l.self.line)
+      (g.L.Line.put_so_far l.self.line) (g.L.Line.free l.self.line)) l.report l.self.inside;
+  same : g.L.Line.is_same l.initial.self.line l.self.line;
   works : l.self.failed ≡ false;
   no_fault : g.D.Door.faults l.self.door ≡ g.D.Door.faults l.initial.self.door;
   turns : l.report.turns ≡ l._turn;
