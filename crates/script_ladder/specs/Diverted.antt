@@ -1,6 +1,6 @@
 -- WHICH MESSAGES ARE DIVERTED where a link settles: those that stood on it and wait for another link then, or are
 -- parked where none is up (Q.704 5.5).
-use Rattle.std.specs.Prelude.{ℕ, Bool, true, false, zero, suc, ◌||◌, List, [], ◌∷◌, ◌++◌, take, filter, Option, Some, None, if◌then◌else◌}
+use Rattle.std.specs.Prelude.{ℕ, Bool, false, zero, suc, ◌||◌, List, [], ◌∷◌, ◌++◌, take, filter, Option, Some, None, if◌then◌else◌}
 use Rattle.set_events.specs.declared.answer.Fate.{Fate}
 use Rattle.set_events.specs.declared.answer.Fate.TheVariants.{Waiting, Unacked, Held}
 use Rattle.set_events.specs.Places.{waits, is_parked, same_fate}
