@@ -3,7 +3,7 @@ ghost use Rattle.std.specs.Prelude.{◌≡◌};
 ghost use Rattle.set_ledger.specs.Totals.{AreParts};
 
 use super::openings::{blanks_of, closed, config_of, holds, offers};
-use set_events::{Answer, Event, SetConfig};
+use set_events::{Answer, Event, Refusal, SetConfig};
 use set_shared::{Blanks, Closed, LinkSet, Opened, TermSeat, UserSeat};
 use std::alloc::Global;
 use std::marker::Brand;
@@ -12,6 +12,18 @@ use std::sync::ledger::Ledger;
 use std::test::Fail;
 use std::thread;
 use std::thread::{JoinHandle, Threads};
+
+/// A user offers a body of 274 octets, one more than a message has: it's refused, whatever room an entry has for it.
+fn refuses_a_long_one<C: Ledger, M: Ledger, O: Ledger, A: Ledger, R: Wait>(
+    rt: &R,
+    set: &LinkSet<C, M, O, A>,
+    seat: &mut UserSeat<C, M, O, A>,
+) -> bool {
+    match set.offer(rt, seat, &[0x85; 274]) {
+        Ok(Answer::Refused { why }) => why == Refusal::TooLong,
+        _ => false,
+    }
+}
 
 /// A user offers a hundred messages, and finds each one as soon as it was accepted.
 fn offers_hundred<C: Ledger, M: Ledger, O: Ledger, A: Ledger, R: Wait>(
@@ -27,14 +39,14 @@ fn offers_hundred<C: Ledger, M: Ledger, O: Ledger, A: Ledger, R: Wait>(
     true
 }
 
-/// The same by a user's own seat. Where a message isn't found: `None`.
+/// The same by a user's own seat, which offers one that is too long first. Where an answer is another: `None`.
 fn offers_all<C: Ledger, M: Ledger, O: Ledger, A: Ledger, R: Wait>(
     rt: &R,
     set: &LinkSet<C, M, O, A>,
     seat: UserSeat<C, M, O, A>,
 ) -> Option<UserSeat<C, M, O, A>> {
     let mut seat = seat;
-    if offers_hundred(rt, set, &mut seat) {
+    if refuses_a_long_one(rt, set, &mut seat) && offers_hundred(rt, set, &mut seat) {
         Some(seat)
     } else {
         None
@@ -148,7 +160,7 @@ fn adds_up(closed: &Closed) -> bool {
         && counts.unacked <= 127
         && closed.books.messages == 400
         && closed.books.octets == 2000
-        && closed.history.len() == 1201
+        && closed.history.len() == 1205
 }
 
 fn ends_well(closed: Option<Closed>) -> bool {
