@@ -223,7 +223,12 @@ fn comes_back(octets: &[u8]) -> bool {
 fn is_long(octets: &[u8], length: usize, third: u8) -> bool {
     let mut body = ArrayVec::<u8, 273>::new();
     let whole = body.try_extend_from_slice(octets).is_ok();
-    let head = head_of_ones();
+    let head = Header {
+        bsn: 127,
+        bib: true,
+        fsn: 127,
+        fib: true,
+    };
     let text = write(&Unit::Msu { head, body });
     whole && text.len() == length && text.as_slice().get(2) == Some(&third)
 }
