@@ -6,7 +6,7 @@ use Rattle.printing.specs.declared.fault.Stop.TheVariants.{Input, Memory}
 use Rattle.set_events.specs.declared.books.Books.{Books}
 use Rattle.set_events.specs.declared.history.Entry.{Entry}
 use Rattle.set_model.specs.State.{State, opened_with}
-use Rattle.set_model.specs.History.{IsLegal, books_of, longest_history}
+use Rattle.set_model.specs.History.{Base, IsLegal, no_books, books_of, longest_history}
 use Rattle.set_events.specs.declared.answer.Answer.{Answer}
 use Rattle.answer_texts.specs.Texts.{answer_text}
 use Rattle.history_audit.specs.FirstWrong.{IsFirstWrong, answer_at}
@@ -23,9 +23,13 @@ books_text calls books =
     ++ (codes " octets=" ++ (decimal books.octets
     ++ (codes " acked=" ++ (decimal books.acknowledged ++ codes "\n")))))))
 
+-- a set that nothing was asked of yet
+abbrev pub unasked : State → Base
+unasked opening = record { state = opening; books = no_books }
+
 abbrev pub legal_text : State → List Entry → List ℕ
 legal_text opening entries =
-    codes "legal=yes" ++ books_text (length entries) (books_of opening entries)
+    codes "legal=yes" ++ books_text (length entries) (books_of (unasked opening) entries)
 
 -- what a set answers there, as in a history; nothing to an actor that it hasn't
 abbrev pub there_text : Option Answer → List ℕ
