@@ -177,7 +177,26 @@ fn close<C: Ledger, M: Ledger, O: Ledger, A: Ledger>(
 fn is_same(one: &SetConfig, other: &SetConfig) -> bool
     ensures { IsTrue result ↔ (one.now ≡ other.now) }
 {
-    *one == *other
+    if !has_same_numbers(one, other) {
+        return false;
+    }
+    if one.profile != other.profile {
+        return false;
+    }
+    one.method == other.method
+}
+
+/// Whether they have the same numbers: their own, of links, of points and of the management's orders.
+fn has_same_numbers(one: &SetConfig, other: &SetConfig) -> bool
+    ensures { IsTrue result ↔ (one.now.set ≡ other.now.set) × (one.now.links ≡ other.now.links)
+        × (one.now.opc ≡ other.now.opc) × (one.now.dpc ≡ other.now.dpc)
+        × (one.now.sio ≡ other.now.sio) }
+{
+    one.set == other.set
+        && one.links == other.links
+        && one.opc == other.opc
+        && one.dpc == other.dpc
+        && one.sio == other.sio
 }
 
 /// Runs each user with its job and each terminal with its line, in threads of their own, until all have ended. A seat
