@@ -162,9 +162,16 @@ fn are_narrow(configs: &[SetConfig]) -> bool
     ensures { IsTrue result ↔ All IsNarrow configs.now }
 {
     for config in configs {
-        if config.profile() == Profile::Wide {
+        if !is_narrow(config) {
             return false;
         }
     }
     true
+}
+
+/// Whether this set is of the narrow profile.
+fn is_narrow(config: &SetConfig) -> bool
+    ensures { IsTrue result ↔ IsNarrow config.now }
+{
+    matches!(config.profile, Profile::Narrow)
 }
