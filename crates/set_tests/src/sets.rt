@@ -235,7 +235,7 @@ fn unknown() -> Answer {
     }
 }
 
-/// The refusals that a script can't show: a link that the set hasn't, one that is up already, and one that was left.
+/// The refusals that a script can't show: a link that the set hasn't, and one that is up already.
 #[test]
 fn refusals_in_their_order(rt: HostRuntime) -> Result<(), Fail> {
     holds(refuses_in_order(&mut set_of(rt.alloc(), 1)?))
@@ -248,14 +248,6 @@ fn refuses_in_order(set: &mut SetCore) -> bool {
         && refuses(set, Call::Up(0), Refusal::NotDown)
         && answers(set, Event::Find { number: 9 }, unknown())
         && set.place_of(9).is_none()
-        && refuses_what_was_left(set)
-}
-
-/// A link that was left, and whose far end hasn't told how far it got: it can't come up yet, nor be left again.
-fn refuses_what_was_left(set: &mut SetCore) -> bool {
-    does(set, Call::Down(0))
-        && refuses(set, Call::Up(0), Refusal::Unsettled)
-        && refuses(set, Call::Down(0), Refusal::NotUp)
 }
 
 /// Each allocation fails once: the call answers `NoMemory`, and the set is as it was.
