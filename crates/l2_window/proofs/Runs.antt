@@ -1,11 +1,11 @@
 -- Each run of two ends keeps both directions of the link, whatever their error control.
 use Rattle.std.proofs.Common.{refl, arith, ◌≡◌, ◌∙◌, ap, ℕ, ◌+◌, ◌<◌, true, Some, List, [], ◌∷◌, ◌++◌, length, drop, zero, suc}
 use Rattle.std.specs.Prelude.{slice_get, is_some}
-use Rattle.l2_window.specs.Control.{fsn_of, bsn_of, fsn_after}
+use Rattle.l2_window.specs.Control.{fsn_of, bsn_of}
 use Rattle.l2_window.specs.Window.{Profile, WindowState, fsn_before_first}
 use Rattle.l2_window.proofs.Numbers.{below, below_by, in_header}
 use Rattle.l2_window.specs.Line.{Carried}
-use Rattle.l2_window.specs.Link.{Rules, End, World, flip, message_of, Moves, chosen, unit_of, part_of, Offers, Emits, Arrives, Loses, Step, offers, emits, arrives, loses, Run, begins, steps, steps_far, IsFaithful, OneLink}
+use Rattle.l2_window.specs.Link.{Rules, End, World, flip, message_of, Moves, chosen, unit_of, part_of, Offers, TakesBack, Emits, Arrives, Loses, Step, offers, takes_back, emits, arrives, loses, Run, begins, steps, steps_far, IsFaithful, OneLink}
 use Rattle.l2_window.specs.declared.control.Choice.{Choice}
 use Rattle.l2_window.specs.declared.control.Choice.TheVariants.{Again, First, Fill}
 use Rattle.l2_window.proofs.Line.{behind-low}
@@ -54,18 +54,34 @@ module _ {State : Type 0} (rules : Rules State) (InStep : State → State → Li
     pub in_step : InStep world.near.control world.far.control world.out world.back
     pub in_step_again : InStep world.far.control world.near.control world.back world.out
 
-  pub offered : (p : Profile) (old new : World State) (message : ℕ) → Offers rules message old new → Both p old → Both p new
-  offered p old new message h b =
+  -- where nothing changes but what waits
+  record WaitsOn (old new : World State) : Type 0 where
+    pub profile : new.near.window.profile ≡ old.near.window.profile
+    pub last : new.near.window.last ≡ old.near.window.last
+    pub unacked : new.near.window.unacked ≡ old.near.window.unacked
+    pub near : new.near ≡ record old.near { window = new.near.window }
+    pub far : new.far ≡ old.far
+    pub out : new.out ≡ old.out
+    pub back : new.back ≡ old.back
+
+  waits_on : (p : Profile) (old new : World State) → WaitsOn old new → Both p old → Both p new
+  waits_on p old new h b =
       let control : new.near.control ≡ old.near.control = ap (λ (e : End State). e.control) h.near in
       let sent : new.near.sent ≡ old.near.sent = ap (λ (e : End State). e.sent) h.near in
       let took : new.near.took ≡ old.near.took = ap (λ (e : End State). e.took) h.near in
       let acked : new.near.acked ≡ old.near.acked = ap (λ (e : End State). e.acked) h.near in
       record {
-        there = rw (h.far, h.out, h.back) (way.offer-forward p (side old.near) (side new.near) (side old.far) old.out old.back b.there h.pushes.profile h.pushes.last h.pushes.unacked sent acked);
-        again = rw (h.far, h.out, h.back) (way.offer-backward p (side old.near) (side new.near) (side old.far) old.out old.back b.again h.pushes.profile (ap rules.expected control) took);
+        there = rw (h.far, h.out, h.back) (way.offer-forward p (side old.near) (side new.near) (side old.far) old.out old.back b.there h.profile h.last h.unacked sent acked);
+        again = rw (h.far, h.out, h.back) (way.offer-backward p (side old.near) (side new.near) (side old.far) old.out old.back b.again h.profile (ap rules.expected control) took);
         in_step = rw (control, h.far, h.out, h.back) b.in_step;
         in_step_again = rw (control, h.far, h.out, h.back) b.in_step_again;
       }
+
+  pub offered : (p : Profile) (old new : World State) (message : ℕ) → Offers rules message old new → Both p old → Both p new
+  offered p old new message h b = waits_on p old new (record { profile = h.pushes.profile; last = h.pushes.last; unacked = h.pushes.unacked; near = h.near; far = h.far; out = h.out; back = h.back }) b
+
+  pub taken_back : (p : Profile) (old new : World State) → TakesBack rules old new → Both p old → Both p new
+  taken_back p old new h b = waits_on p old new (record { profile = h.withdraws.profile; last = h.withdraws.last; unacked = h.withdraws.unacked; near = h.near; far = h.far; out = h.out; back = h.back }) b
 
   pub emitted : (p : Profile) (old new : World State) (octets : ℕ) → Emits rules octets old new → Both p old → Both p new
   emitted p old new octets h b =
@@ -120,6 +136,7 @@ module _ {State : Type 0} (rules : Rules State) (InStep : State → State → Li
 
   pub step : (p : Profile) (old new : World State) → Step rules old new → Both p old → Both p new
   step p _ _ (offers old new message h) b = offered p old new message h b
+  step p _ _ (takes_back old new h) b = taken_back p old new h b
   step p _ _ (emits old new octets h) b = emitted p old new octets h b
   step p _ _ (arrives old new unit h) b = arrived p old new unit h b
   step p _ _ (loses old new before unit after h) b = lost p old new before unit after h b

@@ -4,7 +4,7 @@ use Rattle.std.specs.Prelude.{◌≡◌, ℕ, ◌+◌, ◌≤◌, Bool, true, Op
 use Rattle.std.specs.Option.{option_to_list}
 use Rattle.l2_units.specs.Grammar.{IsHeadOf}
 use Rattle.l2_units.specs.declared.unit.Header.{Header}
-use Rattle.l2_window.specs.Window.{Profile, WindowState, Pushes, Sends, fsn_before_first}
+use Rattle.l2_window.specs.Window.{Profile, WindowState, Pushes, Sends, Withdraws, fsn_before_first}
 use Rattle.l2_window.specs.Control.{fsn_of, window_where}
 use Rattle.l2_window.specs.Line.{Carried}
 use Rattle.l2_window.specs.declared.control.Choice.{Choice}
@@ -101,6 +101,14 @@ module _ {State : Type 0} (rules : Rules State) where
     pub out : new.out ≡ old.out
     pub back : new.back ≡ old.back
 
+  -- the first message that waits at the near end is withdrawn
+  pub record TakesBack (old new : World State) : Type 0 where
+    pub withdraws : Withdraws old.near.window new.near.window
+    pub near : new.near ≡ record old.near { window = new.near.window }
+    pub far : new.far ≡ old.far
+    pub out : new.out ≡ old.out
+    pub back : new.back ≡ old.back
+
   -- the near end sends: a message first sent is what its unacknowledged ones gained
   pub record Emits (octets : ℕ) (old new : World State) : Type 0 where
     pub control : new.near.control ≡ control_after octets old.near
@@ -135,6 +143,7 @@ module _ {State : Type 0} (rules : Rules State) where
 
   pub data Step : World State → World State → Type 0 where
     offers : (old new : World State) (message : ℕ) → Offers message old new → Step old new
+    takes_back : (old new : World State) → TakesBack old new → Step old new
     emits : (old new : World State) (octets : ℕ) → Emits octets old new → Step old new
     arrives : (old new : World State) (unit : Carried) → Arrives unit old new → Step old new
     loses : (old new : World State) (before : List Carried) (unit : Carried) (after : List Carried)

@@ -2,7 +2,7 @@
 pub use Rattle.l2_units.specs.declared.profile.Profile.{Profile}
 pub use Rattle.l2_units.specs.declared.profile.Profile.TheVariants.{Narrow, Wide}
 pub use Rattle.l2_units.specs.Profile.{fsn_count, most_unacked}
-use Rattle.std.specs.Prelude.{◌≡◌, ◌↔◌, ℕ, ◌+◌, ◌-◌, ◌%◌, ◌<◌, ◌≤◌, List, [], ◌∷◌, ◌++◌, length}
+use Rattle.std.specs.Prelude.{◌≡◌, ◌↔◌, ℕ, ◌+◌, ◌-◌, ◌%◌, ◌<◌, ◌≤◌, List, [], ◌∷◌, ◌++◌, length, drop}
 
 -- before the first message of a link's life this FSN counts as acknowledged (Q.703 5.2.1): the number before 0
 abbrev pub fsn_before_first : Profile → ℕ
@@ -74,6 +74,14 @@ pub record Sends (message : ℕ) (old new : WindowState) : Type 0 where
   pub last : new.last ≡ old.last
   pub unacked : new.unacked ≡ old.unacked ++ message ∷ []
   pub unsent : old.unsent ≡ message ∷ new.unsent
+  pub room : old.room ≤ new.room
+
+-- the first unsent message left
+pub record Withdraws (old new : WindowState) : Type 0 where
+  pub profile : new.profile ≡ old.profile
+  pub last : new.last ≡ old.last
+  pub unacked : new.unacked ≡ old.unacked
+  pub unsent : new.unsent ≡ drop 1 old.unsent
   pub room : old.room ≤ new.room
 
 -- the first unacknowledged message left, or where there was none the first unsent one

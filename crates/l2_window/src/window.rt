@@ -45,7 +45,7 @@ impl Window {
     ghost use Rattle.std.specs.Option.{SomeIff};
     ghost use Rattle.std.specs.Result.{OkIff};
     ghost use Rattle.l2_window.specs.Control.{has_new, bsn_of, fsn_after};
-    ghost use Rattle.l2_window.specs.Window.{IsWindow, IsEmpty, IsReasonable, SameMessages, Pushes, Sends, Pops};
+    ghost use Rattle.l2_window.specs.Window.{IsWindow, IsEmpty, IsReasonable, SameMessages, Pushes, Sends, Withdraws, Pops};
     ghost use Rattle.l2_window.specs.Window.{Narrow, Wide, fsn_at, distance_to, fsn_count, most_unacked, fsn_before_first};
 
     /// A window with no messages. It takes the storage of all unacknowledged messages, so that
@@ -232,6 +232,15 @@ impl Window {
         if let Some(message) = self.unacked.pop_front() {
             return Some(message);
         }
+        self.unsent.pop()
+    }
+
+    /// Takes out the first unsent message: what becomes of it is the caller's to know.
+    pub fn withdraw(&mut self) -> Option<u64>
+        ensures value { result ≡ slice_get self.old.unsent 0 }
+        ensures rest { Withdraws self.old self.new }
+        ensures none { IsNone result → self.new ≡ self.old }
+    {
         self.unsent.pop()
     }
 

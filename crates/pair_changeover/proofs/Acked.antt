@@ -1,7 +1,7 @@
 -- WHAT IS ACKNOWLEDGED STAYS SO: of one end, what counts as acknowledged on a link are the first of the messages that
 -- were sent on it, and each of those stands acknowledged there.
-use Rattle.std.proofs.Common.{refl, arith, ◌≡◌, ◌∙◌, ap, sym, subst, ℕ, zero, suc, ◌+◌, ◌-◌, ◌≤◌, ◌==◌, Bool, true, false, List, [], ◌∷◌, ◌++◌, All, length, map, take, drop, slice_get, slice_set, Option, Some, None, cond, replicate, ◌⊎◌, inl, inr, if◌then◌else◌}
-use Rattle.std.proofs.lemmas.Bool.{eqb-true, le-ltb}
+use Rattle.std.proofs.Common.{refl, arith, ◌≡◌, ◌∙◌, ap, sym, subst, ℕ, zero, suc, ◌+◌, ◌-◌, ◌≤◌, ◌==◌, Bool, true, false, List, [], ◌∷◌, ◌++◌, All, length, map, take, drop, slice_get, slice_set, Option, Some, None, replicate, ◌⊎◌, inl, inr, if◌then◌else◌}
+use Rattle.std.proofs.lemmas.Bool.{eqb-true}
 use Rattle.std.proofs.lemmas.List.{append-nil, length-append, length-drop, length-map, map-append, drop-map, take-append-le, drop-append-le, drop-drop}
 use Rattle.std.proofs.lemmas.List.Elements.{All-nil, All-cons, All-head, All-tail, All-append}
 use Rattle.std.proofs.Math.Seq.{drop-length, drop-nil, drop-append_seam, take-add}
@@ -9,6 +9,7 @@ use Rattle.l2_units.specs.declared.unit.Unit.{Unit as SignalUnit}
 use Rattle.l2_units.specs.Grammar.{head_of as header_in}
 use Rattle.l3_orders.specs.Grammar.{text}
 use Rattle.set_events.specs.declared.answer.DiscardCause.{DiscardCause}
+use Rattle.set_events.specs.declared.answer.DiscardCause.TheVariants.{NoAnswer as NoAnswerCame}
 use Rattle.set_events.specs.declared.answer.Fate.{Fate}
 use Rattle.set_events.specs.declared.answer.Fate.TheVariants.{Waiting, Unacked, Acked, Discarded}
 use Rattle.set_events.specs.declared.event.Event.{Event}
@@ -16,14 +17,14 @@ use Rattle.set_events.specs.declared.event.Event.TheVariants.{Offer, Take, Find,
 use Rattle.set_model.specs.declared.phase.Phase.{Phase}
 use Rattle.set_model.specs.declared.phase.Phase.TheVariants.{Up, Down, Settled}
 use Rattle.set_model.specs.declared.reached.Reached.{Reached}
-use Rattle.set_model.specs.Changeover.{fate_on, queued, left_by, left_link, out_of_service, declared, released, acknowledged as acknowledged_link, acknowledged_by, moved_over, settled, settled_link}
+use Rattle.set_model.specs.Changeover.{fate_on, queued, left_by, left_link, out_of_service, declared, released, acknowledged as acknowledged_link, acknowledged_by, answered_link, cleared, moved_over, settled, settled_link, withdrawn}
 use Rattle.set_model.specs.Control.{Choice, again, first, fill, choice_of, part_of}
 use Rattle.set_model.specs.Rows.{Row, all_with, is_waiting, is_unacked, is_on, is_back, is_back_to, is_parked, stands_back, octets_in, stream_of, turned, changed, moved, appended, with_fate, place, unack, wait, IsNumbered, IsInOrder}
 use Rattle.set_model.specs.Sound.{IsSound}
-use Rattle.set_model.specs.State.{FinishedCounts, all_finished, given, LinkState, State, Settings, has_phase_settled, is_settled, is_up, link_is_settled, new_link, opened_with, fate_at, target, window_of}
+use Rattle.set_model.specs.State.{FinishedCounts, all_finished, given, LinkState, State, Settings, has_phase_settled, is_settled, is_up, link_is_settled, new_link, opened_with, fate_at, target, window_of, with_link}
 use Rattle.set_model.specs.Step.{with_known, is_msu, after_control, next, offered, rises, rows_sent, step, takes}
 use Rattle.std.proofs.lemmas.Bool.{cond_both}
-use Rattle.set_model.proofs.Events.{sent_by, ChangesOn, acknowledged, appended_out, unparked}
+use Rattle.set_model.proofs.Events.{sent_by, ChangesOn, acknowledged, appended_out, unparked, withdrawn_rows}
 use Rattle.set_model.proofs.Events as events
 use Rattle.set_model.proofs.Rows.{with_number, numbered_appended, turned_there, turned_left, turned_same, changed_left, at_most_one, moved_length, moved_numbered, moved_same, new_row}
 use Rattle.set_model.proofs.Lists.{get_set_same, get_set_other, same_at, within}
@@ -35,7 +36,7 @@ use Rattle.set_route.specs.Routing.{place_of}
 use Rattle.pair_model.specs.Run.{Message, Past, messages, first_sent, past_sent, past_risen}
 use Rattle.pair_model.proofs.Moving.{next_refused}
 use Rattle.pair_model.proofs.Runs.{is_at_up}
-use Rattle.pair_model.proofs.Sending.{next_is}
+use Rattle.pair_model.proofs.Sending.{next_is, cleared_at, cleared_sends, cleared_sound, overtaken}
 use Rattle.pair_changeover.proofs.Staying.{Stays, turned_stay, changed_stay, moved_stay, joined_stay}
 use Rattle.pair_changeover.proofs.Views.{acked_of, acked_on}
 
@@ -248,18 +249,33 @@ module _ (l : ℕ) (sent : List Message) where
     going = λ other there unsettled. inr (ap (λ (k : LinkState). k.phase) (same_at s.links l link other at.there there) ∙ at.phase_is, changed_left (is_unacked l) (Discarded cause) refl s.rows);
   }
 
-  moves_off_any : (n : ℕ) (link : LinkState) (s : State) → IsAt n link Down s → AckedFirst l sent s → AckedFirst l sent (moved_over n link s)
-  moves_off_any n link s at a =
-      by_link n (λ m. IsAt m link Down s → AckedFirst l sent (moved_over m link s))
-      (λ here. let now = at_link s link here.there a in own_set s (moved_over l link s) link (settled_link link) here.there refl (numbered l) now.0 (still l s.rows (moved_over l link s).rows (stay l) (take link.acked sent) now.1) (λ e. absurd cc))
-      (λ d there. goes_on s (moved_over n link s) (numbered n) (stay n) (other_set n (settled_link link) s.links d) (moved_same (is_on n) (is_unacked l) (all_with (fate_on (target s.links))) s.rows (λ x. not_sent l (target s.links)) (λ f e. not_on_unacked l f (on_other l n (apart_back n l d) f e))) a)
+  moves_off_any : (told : Bool) (n : ℕ) (link : LinkState) (s : State) → IsAt n link Down s → AckedFirst l sent s → AckedFirst l sent (moved_over told n link s)
+  moves_off_any told n link s at a =
+      by_link n (λ m. IsAt m link Down s → AckedFirst l sent (moved_over told m link s))
+      (λ here. let now = at_link s link here.there a in own_set s (moved_over told l link s) link (settled_link told link) here.there refl (numbered l) now.0 (still l s.rows (moved_over told l link s).rows (stay l) (take link.acked sent) now.1) (λ e. absurd cc))
+      (λ d there. goes_on s (moved_over told n link s) (numbered n) (stay n) (other_set n (settled_link told link) s.links d) (moved_same (is_on n) (is_unacked l) (all_with (fate_on (target s.links))) s.rows (λ x. not_sent l (target s.links)) (λ f e. not_on_unacked l f (on_other l n (apart_back n l d) f e))) a)
       at
     where
-      numbered : (m : ℕ) → IsNumbered (given (moved_over m link s)) (moved (is_on m) (all_with (fate_on (target s.links))) s.rows)
-      numbered m = numbered_on s (moved_over m link s) refl (moved_length (is_on m) (all_with (fate_on (target s.links))) s.rows) (moved_numbered (is_on m) (all_with (fate_on (target s.links))) (given s) s.rows a.numbered)
+      numbered : (m : ℕ) → IsNumbered (given (moved_over told m link s)) (moved (is_on m) (all_with (fate_on (target s.links))) s.rows)
+      numbered m = numbered_on s (moved_over told m link s) refl (moved_length (is_on m) (all_with (fate_on (target s.links))) s.rows) (moved_numbered (is_on m) (all_with (fate_on (target s.links))) (given s) s.rows a.numbered)
 
       stay : (m : ℕ) → Stays (Acked l) s.rows (moved (is_on m) (all_with (fate_on (target s.links))) s.rows)
       stay m = moved_stay (Acked l) (is_on m) refl (given s) (all_with (fate_on (target s.links))) s.rows a.numbered
+
+  -- one that settled is answered
+  answers_any : (n : ℕ) (link : LinkState) (s : State) → IsAt n link Settled s → AckedFirst l sent s → AckedFirst l sent (with_link n (answered_link link) s)
+  answers_any n link s at a =
+      by_link n (λ m. IsAt m link Settled s → AckedFirst l sent (with_link m (answered_link link) s))
+      (λ here. let now = at_link s link here.there a in own_set s (with_link l (answered_link link) s) link (answered_link link) here.there refl a.numbered now.0 now.1
+      (λ e. absurd (let no : true ≡ false = sym (ap has_phase_settled here.phase_is) ∙ e in cc)))
+      (λ d there. goes_on s (with_link n (answered_link link) s) a.numbered (λ number e. e) (other_set n (answered_link link) s.links d) refl a)
+      at
+
+  -- and what waits may be given up
+  pub withdraws_any : (count n : ℕ) (s : State) → AckedFirst l sent s → AckedFirst l sent (withdrawn count n s)
+  withdraws_any count n s a =
+      let g = withdrawn_rows count n s.rows in
+      goes_on s (withdrawn count n s) (numbered_on s (withdrawn count n s) refl g.kept.count (g.kept.numbered (given s) a.numbered)) (turned_stay (Acked l) (is_waiting n) refl (Discarded NoAnswerCame) count s.rows) refl (turned_same (is_waiting n) (is_unacked l) (Discarded NoAnswerCame) refl (λ f e. grind arith) count s.rows) a
 
   -- whatever small change is made
   pub small : (Known : ℕ → Type 0) (May : Type 0) → KeptBy Known May (λ s t. AckedFirst l sent s → AckedFirst l sent t)
@@ -273,7 +289,9 @@ module _ (l : ℕ) (sent : List Message) where
     gives_up = λ was_sent cause n link s known at g. cond_both was_sent (is_unacked n) (is_waiting n) (λ test. ChangesOn n s.rows (changed test (Discarded cause) s.rows) → AckedFirst l sent s → AckedFirst l sent (record s { rows = changed test (Discarded cause) s.rows })) (λ e g a. by_link n (λ m. IsAt m link Down s → AckedFirst l sent (record s { rows = changed (is_unacked m) (Discarded cause) s.rows })) (λ here. gives_up_own cause link s here a)
         (λ d here. goes_on s (record s { rows = changed (is_unacked n) (Discarded cause) s.rows }) (numbered_on s (record s { rows = changed (is_unacked n) (Discarded cause) s.rows }) refl g.kept.count (g.kept.numbered (given s) a.numbered)) (changed_stay (Acked l) (is_unacked n) refl (Discarded cause) s.rows) refl ((g.others l d).unack_same) a) at)
         (λ e g a. goes_on s (record s { rows = changed (is_waiting n) (Discarded cause) s.rows }) (numbered_on s (record s { rows = changed (is_waiting n) (Discarded cause) s.rows }) refl g.kept.count (g.kept.numbered (given s) a.numbered)) (changed_stay (Acked l) (is_waiting n) refl (Discarded cause) s.rows) refl (turned_same (is_waiting n) (is_unacked l) (Discarded cause) refl (λ f e. grind arith) (length s.rows) s.rows) a) g;
-    moves_off = λ n link s known at a. moves_off_any n link s at a;
+    moves_off = λ told n link s known at a. moves_off_any told n link s at a;
+    answers = λ n link s known at a. answers_any n link s at a;
+    withdraws = λ count n link s known at g a. withdraws_any count n s a;
     declares = λ may home alternative s up can a. appends s (declared home alternative s) _ (Waiting alternative) refl refl refl refl a;
     releases = λ code s known a. turns (is_back code) (all_with (Waiting _)) s (released code s) refl refl (code_back code) (λ row. refl) refl refl a;
   }
@@ -349,12 +367,18 @@ module _ (l : ℕ) (sent : List Message) (s : State) where
       go true = subst (λ (ms : List Message). AckedFirst l ms s) (sym none) a
       go false = a
 
+module _ (l : ℕ) (sent : List Message) (s : State) where
   next_kept : (n : ℕ) → IsSound s → AckedFirst l sent s → AckedFirst l (if l == n then sent ++ first_sent n s (step s (Next n)).state else sent) (step s (Next n)).state
   next_kept n sound a = go (is_up n s) refl
     where
       go : (b : Bool) → is_up n s ≡ b → AckedFirst l (if l == n then sent ++ first_sent n s (step s (Next n)).state else sent) (step s (Next n)).state
-      go true e = let at = is_at_up n s e in rw (next_is n at.0 s at.1) (sends_any n at.0 sound at.1 a)
-      go false e = rw ((next_refused n s e).1) (sends_none n a)
+      go true e =
+          let at = is_at_up n s e in
+          let clear = cleared n s in
+          let more : first_sent n clear (next n clear at.0).state ≡ first_sent n s (next n clear at.0).state = cleared_sends n s (next n clear at.0).state in
+          rw (next_is n at.0 s at.1)
+          (rw more at (sends_any l sent clear n at.0 (cleared_sound n at.0 s at.1 sound) (cleared_at n at.0 s at.1) (withdraws_any l sent (overtaken n s) n s a)))
+      go false e = rw ((next_refused n s e).1) (sends_none l sent s n a)
 
   -- A LINK COMES UP: what it sends is told anew.
   pub rises_any : (n : ℕ) (link : LinkState) → IsSound s → IsAt n link Settled s → AckedFirst l sent s → AckedFirst l (if l == n then [] else sent) (rises n s Settled).state
@@ -395,7 +419,7 @@ module _ (l : ℕ) (sent : List Message) (s : State) where
     rests = λ t u b keeps. keeps b;
     offers = λ body e none. appends l sent s (offered None s body).state body (fate_at (place_of (stream_of body) s.routing) s) refl (offered_out l (place_of (stream_of body) s.routing) s) refl refl a;
     takes = λ body rest e there. record { numbered = a.numbered; few = a.few; first = a.first; going = a.going };
-    sends = λ n link e at g. absurd (not_next n e);
+    sends = λ n link t e keeps at g. absurd (not_next n e);
     hears = λ n unit link e fits at g. hears_part l sent n unit link s at a;
     rises = λ n link e at u. absurd (not_up n e);
   })

@@ -1,5 +1,5 @@
 -- A UNIT IS HEARD, or a link comes up: what holds of both ends is kept, and a link that settles diverts exactly the rest.
-use Rattle.l2_window.specs.Window.{fsn_count, fsn_before_first, most_unacked}
+use Rattle.l2_window.specs.Window.{fsn_count, fsn_before_first}
 use Rattle.std.proofs.Common.{refl, arith, ◌≡◌, ◌∙◌, ap, sym, subst, ℕ, zero, suc, ◌<◌, ◌==◌, ◌+◌, ◌-◌, ◌%◌, Bool, true, false, List, [], ◌∷◌, ◌++◌, All, length, take, drop, slice_get, Option, Some, None, append_assoc}
 use Rattle.std.proofs.lemmas.Bool.{eqb-true}
 use Rattle.l2_units.specs.declared.unit.Unit.{Unit as SignalUnit}

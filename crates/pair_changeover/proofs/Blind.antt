@@ -11,7 +11,7 @@ use Rattle.set_model.specs.declared.phase.Phase.TheVariants.{Down}
 use Rattle.set_model.specs.declared.reached.Reached.TheVariants.{Upto, Unknown}
 use Rattle.set_model.specs.Rows.{Row, is_unacked, is_waiting, unack, wait, held, changed}
 use Rattle.set_model.specs.Sound.{IsSound}
-use Rattle.set_model.specs.State.{given, LinkState, State, is_up}
+use Rattle.set_model.specs.State.{LinkState, State, is_up}
 use Rattle.set_model.specs.Changeover.{reached_by, is_reasonable, settled, settled_link}
 use Rattle.set_model.proofs.Events.{ChangesOn, given_up as given_up_of}
 use Rattle.set_model.proofs.Lists.{set_same}
@@ -107,4 +107,4 @@ module _ (n : ℕ) (link : LinkState) (s f : State) (sound : IsSound s) (at : Is
   blind_both o far_down none = acts given_up (settled Unknown n link s) f (blind_acts o far_down none) (acts s given_up f gives_up_acts o)
 
   pub blind_accepted : (l : ℕ) → accepted_on l (settled Unknown n link s) ≡ accepted_on l s
-  blind_accepted = by_link n link (settled_link link) s (settled Unknown n link s) at.there refl (λ l old new. accepted_of new ≡ accepted_of old) refl (λ l old d. refl)
+  blind_accepted = by_link n link (settled_link true link) s (settled Unknown n link s) at.there refl (λ l old new. accepted_of new ≡ accepted_of old) refl (λ l old d. refl)

@@ -9,6 +9,7 @@ pub mod Keeping
 pub mod Leaving
 pub mod Obeying
 pub mod Ordered
+pub mod Overtaken
 pub mod Passing
 pub mod Reaching
 pub mod Runs

@@ -38,7 +38,7 @@ use Rattle.pair_changeover.proofs.Passing.{IsReached, settles_acts, links_then, 
 use Rattle.pair_changeover.proofs.Texts.{AreCodes, coa_read, cba_plain}
 use Rattle.pair_changeover.proofs.Table.{joined, aside_settled, wait_settled, aside_joins, queue_apart}
 use Rattle.pair_changeover.proofs.Turning.{unack_same}
-use Rattle.pair_changeover.proofs.Views.{view, queue, pending, acked_of, acked_on, accepted_of, accepted_on, last_of, last_on, IsChangeover, NoneAbout}
+use Rattle.pair_changeover.proofs.Views.{view, queue, pending, acked_of, acked_on, accepted_of, accepted_on, last_of, IsChangeover, NoneAbout}
 
 -- the number that was told, and how far the far end is
 pub record Told (fsn l : ℕ) (link : LinkState) (s f : State) : Type 0 where
@@ -326,7 +326,7 @@ module _ {emergencies : Bool} (k : ℕ) (body : List ℕ) (s f : State) (sound :
 -- a link that settles without a number counts what it counted
 blind_less : (l : ℕ) (link : LinkState) (s f : State) → slice_get s.links l ≡ Some link → link.acked ≤ accepted_on l f → (n : ℕ) → (is_settled n s ≡ true → acked_on n s ≤ accepted_on n f) → is_settled n (settled Unknown l link s) ≡ true → acked_on n (settled Unknown l link s) ≤ accepted_on n f
 blind_less l link s f there due =
-    by_link l link (settled_link link) s (settled Unknown l link s) there refl
+    by_link l link (settled_link true link) s (settled Unknown l link s) there refl
     (λ n old new. (link_is_settled old ≡ true → acked_of old ≤ accepted_on n f) → link_is_settled new ≡ true → acked_of new ≤ accepted_on n f)
     (λ before e. due) (λ n old d before e. before e)
 

@@ -87,7 +87,7 @@ module _ (fsn n : ℕ) (link : LinkState) (s f : State) (sound : IsSound s) (at 
   count = reached_by fsn n link s.rows
 
   abbrev pub link_then : LinkState
-  link_then = settled_link (acknowledged_link count link)
+  link_then = settled_link true (acknowledged_link count link)
 
   pub links_then : after.links ≡ slice_set s.links n link_then
   links_then = rw reasonable (set-set s.links n (acknowledged_link count link) link_then)

@@ -19,12 +19,12 @@ use Rattle.pair_model.specs.Run.{Past, past_asked, past_sent}
 use Rattle.pair_model.proofs.Kept.{kept_on}
 use Rattle.pair_model.proofs.Moving.{next_refused}
 use Rattle.pair_model.proofs.Pairs.{Two, swapped, HoldsOf, settings_stay}
-use Rattle.pair_model.proofs.Sending.{next_is}
 use Rattle.pair_changeover.specs.Diverted.{Diverts, LosesNothing}
 use Rattle.pair_changeover.proofs.Acked.{AckedFirst, sent_then as sent_by, acked_first, emits_first}
 use Rattle.pair_changeover.proofs.Changes.{Both}
 use Rattle.pair_changeover.proofs.Keeping.{Keeps, keeps_still, offer_kept, take_kept, find_kept, down_kept, restore_kept, next_keeps}
 use Rattle.pair_changeover.proofs.Ordered.{Ordered}
+use Rattle.pair_changeover.proofs.Overtaken.{sends_next}
 use Rattle.pair_changeover.proofs.Reaching.{Reaches, reaches}
 use Rattle.pair_changeover.proofs.Texts.{AreCodes}
 use Rattle.pair_changeover.proofs.Views.{acked_of, acked_on, accepted_of, accepted_on}
@@ -132,7 +132,7 @@ module _ (mx my : Method) (one : IsOneMethod mx my) (p : Two) (h : HoldsOf mx my
 
     pub sends_did : k < length p.near.links → (link : LinkState) → IsAt k link Up p.near → Did p sent_then
     sends_did few link at = keeps_did p w (Next k) (past_sent k p.near (step p.near (Next k)).state p.near_past) out p.back
-        (subst (λ (o : Outcome). Keeps false p.near o.state p.far) (sym (next_is k link p.near at)) (next_keeps k link p.near p.far h.near_sound at (let r = near_reaches in omega (arith, r.due, r.within))))
+        (subst (λ (o : Outcome). Keeps false p.near o.state p.far) (sym (sends_next k p.near p.far w.both link at)) (next_keeps k link p.near p.far h.near_sound at (let r = near_reaches in omega (arith, r.due, r.within))))
         (λ l. emits_first l k p.near p.near_past h.near_sound (w.near.acked l))
       where
         far_at : (other : LinkState) × (slice_get p.far.links k ≡ Some other)

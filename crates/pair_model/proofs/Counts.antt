@@ -2,7 +2,7 @@
 use Rattle.std.proofs.Common.{refl, ◌≡◌, ◌≢◌, ◌∙◌, ap, subst, ℕ, ◌==◌, false, List, slice_get, slice_set, Option, Some, ◌⊎◌, inl, inr}
 use Rattle.set_events.specs.declared.event.Event.{Event}
 use Rattle.set_events.specs.declared.event.Event.TheVariants.{Heard, Up as UpEvent}
-use Rattle.set_model.specs.Step.{step, takes}
+use Rattle.set_model.specs.Step.{next, step, takes}
 use Rattle.set_model.specs.State.{LinkState, State}
 use Rattle.set_model.proofs.Lists.{at_set}
 use Rattle.set_model.proofs.Places.{false_true, itself}
@@ -43,7 +43,9 @@ small Known May l = record {
   leaves = λ blind m link s known at. set_links l m link _ s.links at.there refl;
   acknowledges = λ count m link s known at few g. set_links l m link _ s.links at.there refl;
   gives_up = λ sent cause m link s known at g. same_links l s.links;
-  moves_off = λ m link s known at. set_links l m link _ s.links at.there refl;
+  moves_off = λ told m link s known at. set_links l m link _ s.links at.there refl;
+  answers = λ m link s known at. set_links l m link _ s.links at.there refl;
+  withdraws = λ count m link s known at g. same_links l s.links;
   declares = λ may home alternative s up can. same_links l s.links;
   releases = λ code s known. same_links l s.links;
 }
@@ -65,7 +67,7 @@ count_stays l s event apart = step_walks s (CountStays l) (CountStays l s) event
   rests = λ t u p q. stays_then l s.links t.links u.links p q;
   offers = λ body e none. same_links l s.links;
   takes = λ body rest e there. same_links l s.links;
-  sends = λ m link e at g. set_links l m link _ s.links at.there refl;
+  sends = λ m link t e same at g. stays_then l s.links t.links (next m t link).state.links same (set_links l m link _ t.links at.there refl);
   hears = λ m unit link e fits at g. other m (subst (IsApart l) e apart) _;
   rises = λ m link e at u. other m (subst (IsApart l) e apart) _;
 })

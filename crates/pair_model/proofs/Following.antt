@@ -4,7 +4,6 @@ use Rattle.std.proofs.Common.{refl, ◌≡◌, ◌≢◌, ◌∙◌, ap, sym, su
 use Rattle.std.proofs.lemmas.Bool.{eqb-true}
 use Rattle.std.proofs.lemmas.List.{append-nil}
 use Rattle.l2_units.specs.declared.unit.Unit.{Unit as SignalUnit}
-use Rattle.l2_units.specs.declared.unit.Unit.TheVariants.{Fisu, Lssu, Msu}
 use Rattle.l2_units.specs.Grammar.{head_of as header_in}
 use Rattle.l3_orders.specs.declared.order.Order.{Order}
 use Rattle.l3_orders.specs.declared.order.Order.TheVariants.{Coo, Coa, Cbd, Cba, Eco, Eca}
@@ -24,9 +23,9 @@ use Rattle.set_model.specs.declared.phase.Phase.TheVariants.{Up, Down, Settled}
 use Rattle.set_model.specs.declared.reached.Reached.{Reached}
 use Rattle.set_model.specs.declared.reached.Reached.TheVariants.{Upto, Unknown, Unanswered}
 use Rattle.set_model.specs.Rows.{Row, standing, is_waiting, is_unacked, is_back, is_back_to, stands_back, unack, wait, on, all_with, appended, moved, fated, with_fate, service_indicator, stream_of}
-use Rattle.set_model.specs.State.{given, LinkState, State, link_count, link_is_up, has_phase_up, has_phase_settled, is_up, fate_at, target, window_of}
+use Rattle.set_model.specs.State.{given, LinkState, State, link_count, link_is_up, has_phase_up, has_phase_settled, is_up, fate_at, target, window_of, with_link}
 use Rattle.set_model.specs.Control.{part_of}
-use Rattle.set_model.specs.Changeover.{Obeyed, fate_on, left_link, acknowledged as acknowledged_link, settled_link, moved_over, queued, out_of_service, left_by, leaving_order, declared, some_declare, released, released_from, some_in_use, acknowledged_back, is_reasonable, judged, settled, changed_over, answered, at_link, order_obeyed, obeyed, reply_of}
+use Rattle.set_model.specs.Changeover.{Obeyed, fate_on, answered_link, left_link, acknowledged as acknowledged_link, settled_link, moved_over, queued, out_of_service, left_by, leaving_order, declared, some_declare, released, released_from, some_in_use, acknowledged_back, is_reasonable, judged, settled, changed_over, answered, at_link, order_obeyed, obeyed, reply_of}
 use Rattle.set_model.specs.Step.{Outcome, refused, offer_refusal, offered, is_msu, brought, takes, after_control, controls, heard, falls, gives_up, comes_back, runs_out, with_known, in_service, step}
 use Rattle.set_model.specs.Frame.{LeavesAlone}
 use Rattle.set_model.proofs.Events.{Untouched, acknowledged, moved_to, left as left_by_rows, appended_in, appended_out, untouched}
@@ -158,23 +157,23 @@ follows_left l blind m link s at =
     (follows_turned l (is_back_to m) _ out (left_by blind m link s) (home_back m) (λ row. offered_out l _ out) refl refl)
 
 -- ANOTHER LINK SETTLES
-follows_off : (l m : ℕ) (link : LinkState) (s : State) → (m == l) ≡ false → IsAt m link Down s → Follows l s (moved_over m link s)
-follows_off l m link s d at = go (target s.links) refl
+follows_off : (told : Bool) (l m : ℕ) (link : LinkState) (s : State) → (m == l) ≡ false → IsAt m link Down s → Follows l s (moved_over told m link s)
+follows_off told l m link s d at = go (target s.links) refl
   where
     apart_target : (to : ℕ) → target s.links ≡ Some to → (m == to) ≡ false
     apart_target to e =
         let up = target_up s.links to e in
         apart m to (λ same. let it : up.0 ≡ link = same_at s.links m link up.0 at.there (ap (slice_get s.links) same ∙ up.1) in let no : true ≡ false = sym up.2 ∙ ap (λ (k : LinkState). has_phase_up k.phase) it ∙ ap has_phase_up at.phase_is in cc)
 
-    joins : (to : ℕ) → target s.links ≡ Some to → (b : Bool) → (to == l) ≡ b → Follows l s (moved_over m link s)
-    joins to e false f = follows_set l m (settled_link link) s (moved_over m link s) d refl (rw e ((moved_to m to s.rows (apart_target to e)).left_is.others l d f))
+    joins : (to : ℕ) → target s.links ≡ Some to → (b : Bool) → (to == l) ≡ b → Follows l s (moved_over told m link s)
+    joins to e false f = follows_set l m (settled_link told link) s (moved_over told m link s) d refl (rw e ((moved_to m to s.rows (apart_target to e)).left_is.others l d f))
     joins to e true f =
         let same : l ≡ to = sym (eqb-true to l f) in
         let moved = moved_to m to s.rows (apart_target to e) in
-        follows_by l s (moved_over m link s) (map (with_fate (Waiting to)) (on m s.rows)) (get_set_other s.links m l (settled_link link) (λ eq. false_true (m == l) d (rw eq (itself l)))) (rw (e, same) moved.unack_same) (rw (e, same) moved.wait_is)
+        follows_by l s (moved_over told m link s) (map (with_fate (Waiting to)) (on m s.rows)) (get_set_other s.links m l (settled_link told link) (λ eq. false_true (m == l) d (rw eq (itself l)))) (rw (e, same) moved.unack_same) (rw (e, same) moved.wait_is)
 
-    go : (to : Option ℕ) → target s.links ≡ to → Follows l s (moved_over m link s)
-    go None e = follows_set l m (settled_link link) s (moved_over m link s) d refl (rw e ((left_by_rows m Parked s.rows refl refl).others l d refl))
+    go : (to : Option ℕ) → target s.links ≡ to → Follows l s (moved_over told m link s)
+    go None e = follows_set l m (settled_link told link) s (moved_over told m link s) d refl (rw e ((left_by_rows m Parked s.rows refl refl).others l d refl))
     go (Some to) e = joins to e (to == l) refl
 
 others : (l : ℕ) (May : Type 0) → KeptBy (λ m. (m == l) ≡ false) May (Follows l)
@@ -186,7 +185,9 @@ others l May = record {
   leaves = λ blind m link s d at. follows_left l blind m link s at;
   acknowledges = λ count m link s d at few g. follows_set l m (acknowledged_link count link) s _ d refl (g.others l d);
   gives_up = λ sent cause m link s d at g. follows_untouched l s _ refl (g.others l d);
-  moves_off = λ m link s d at. follows_off l m link s d at;
+  moves_off = λ told m link s d at. follows_off told l m link s d at;
+  answers = λ m link s d at. follows_set l m (answered_link link) s _ d refl (untouched l s.rows s.rows refl);
+  withdraws = λ count m link s d at g. follows_untouched l s _ refl (g.others l d);
   declares = λ may home alternative s up can. follows_new l _ (Waiting alternative) s (declared home alternative s) refl refl refl;
   releases = λ code s d. follows_released l code s;
 }
@@ -204,19 +205,37 @@ judged_count Unanswered l link s = refl
 settles : (reached : Reached) (l : ℕ) (link : LinkState) (s t : State) → l < length s.links → Follows l t (settled reached l link s)
 settles reached l link s t few = follows_settled l t (settled reached l link s) _ (get_set_same (judged reached l link s).links l _ (rw (judged_count reached l link s) few)) refl
 
-over_own : (reached : Reached) (l : ℕ) (link : LinkState) (phase : Phase) (s : State) → l < length s.links → Follows l s (changed_over reached l link phase s).state
-over_own reached l link Up s few = settles reached l (left_link false link) _ s (rw (length_set s.links l (left_link false link)) few)
-over_own reached l link Down s few = settles reached l link s s few
-over_own reached l link Settled s few = follows_queued l (reply_of l link) s
+-- and one that settled may be answered
+marks : (l : ℕ) (link : LinkState) (s : State) → slice_get s.links l ≡ Some link → Follows l s (with_link l (answered_link link) s)
+marks l link s there = λ after found unsettled.
+    let is : after ≡ answered_link link = same_at (slice_set s.links l (answered_link link)) l (answered_link link) after (get_set_same s.links l (answered_link link) (within s.links l link there)) found in
+    record {
+      link = link;
+      there = there;
+      unsettled = ap (λ (k : LinkState). has_phase_settled k.phase) (sym is) ∙ unsettled;
+      control = ap (λ (k : LinkState). k.control) is;
+      profile = ap (λ (k : LinkState). k.profile) is;
+      acked = ap (λ (k : LinkState). k.acked) is;
+      unack_same = refl;
+      more = [];
+      wait_more = sym (append-nil (wait l s.rows));
+    }
 
-answer_own : (reached : Reached) (l : ℕ) (link : LinkState) (phase : Phase) (s : State) → l < length s.links → Follows l s (answered reached l link phase s).state
-answer_own reached l link Up s few = follows_same l s
-answer_own reached l link Down s few = settles reached l link s s few
-answer_own reached l link Settled s few = follows_same l s
+over_own : (reached : Reached) (l : ℕ) (link : LinkState) (phase : Phase) (s : State) → slice_get s.links l ≡ Some link → Follows l s (changed_over reached l link phase s).state
+over_own reached l link Up s there = settles reached l (left_link false link) _ s (rw (length_set s.links l (left_link false link)) (within s.links l link there))
+over_own reached l link Down s there = settles reached l link s s (within s.links l link there)
+over_own reached l link Settled s there =
+    let told = queued (reply_of l link) s in
+    follows_then l s told (with_link l (answered_link link) told) (follows_queued l (reply_of l link) s) (marks l link told there)
 
-at_own : (l : ℕ) (s : State) (f : LinkState → Obeyed) → ((link : LinkState) → l < length s.links → Follows l s (f link).state) → (there : Option LinkState) → slice_get s.links l ≡ there → Follows l s (at_link l s f there).state
+answer_own : (reached : Reached) (l : ℕ) (link : LinkState) (phase : Phase) (s : State) → slice_get s.links l ≡ Some link → Follows l s (answered reached l link phase s).state
+answer_own reached l link Up s there = follows_same l s
+answer_own reached l link Down s there = settles reached l link s s (within s.links l link there)
+answer_own reached l link Settled s there = follows_same l s
+
+at_own : (l : ℕ) (s : State) (f : LinkState → Obeyed) → ((link : LinkState) → slice_get s.links l ≡ Some link → Follows l s (f link).state) → (there : Option LinkState) → slice_get s.links l ≡ there → Follows l s (at_link l s f there).state
 at_own l s f all None e = follows_same l s
-at_own l s f all (Some link) e = all link (within s.links l link e)
+at_own l s f all (Some link) e = all link e
 
 -- messages that waited for an acknowledgement go home
 back_follows : (l code : ℕ) (c : Code) (s : State) → Follows l s (acknowledged_back code c s).state
@@ -225,10 +244,10 @@ back_follows l code Asked s = follows_released l code s
 back_follows l code Spent s = follows_released l code s
 
 own : (order : Order) (s : State) → Follows (link_of order) s (order_obeyed order s).state
-own (Coo l fsn) s = at_own l s _ (λ link few. over_own (Upto fsn) l link link.phase s few) (slice_get s.links l) refl
-own (Eco l) s = at_own l s _ (λ link few. over_own Unknown l link link.phase s few) (slice_get s.links l) refl
-own (Coa l fsn) s = at_own l s _ (λ link few. answer_own (Upto fsn) l link link.phase s few) (slice_get s.links l) refl
-own (Eca l) s = at_own l s _ (λ link few. answer_own Unknown l link link.phase s few) (slice_get s.links l) refl
+own (Coo l fsn) s = at_own l s _ (λ link there. over_own (Upto fsn) l link link.phase s there) (slice_get s.links l) refl
+own (Eco l) s = at_own l s _ (λ link there. over_own Unknown l link link.phase s there) (slice_get s.links l) refl
+own (Coa l fsn) s = at_own l s _ (λ link there. answer_own (Upto fsn) l link link.phase s there) (slice_get s.links l) refl
+own (Eca l) s = at_own l s _ (λ link there. answer_own Unknown l link link.phase s there) (slice_get s.links l) refl
 own (Cbd l code) s = follows_queued l (Cba l code) s
 own (Cba l code) s = back_follows l code (code_of code s.routing) s
 

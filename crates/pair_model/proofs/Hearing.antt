@@ -1,12 +1,12 @@
 -- WHAT AN END HEARS: the unit that arrives on a link in service is heard as the law's end hears it.
-use Rattle.std.specs.Prelude.{◌≤◌, ◌<◌, nat_lt, nat_le}
+use Rattle.std.specs.Prelude.{◌≤◌, nat_lt, nat_le}
 use Rattle.l2_units.specs.declared.profile.Profile.{Profile}
 use Rattle.l2_units.specs.Profile.{fsn_count, longest_body}
 use Rattle.l2_units.specs.Grammar.{IsHeadOf}
 use Rattle.std.proofs.lemmas.Bool.Decides.{nat_tests}
 use Rattle.set_model.specs.Step.{is_heard, has_numbers}
 use Rattle.set_model.specs.Rows.{AreFit}
-use Rattle.std.proofs.Common.{refl, ◌≡◌, ◌∙◌, ap, sym, subst, ℕ, ◌+◌, ◌==◌, Bool, true, false, List, [], ◌∷◌, ◌++◌, slice_get, Option, Some, None, is_some, option_to_list, arith, ◌%◌, ◌&&◌, not, length, length-append}
+use Rattle.std.proofs.Common.{refl, ◌≡◌, ◌∙◌, ap, sym, subst, ℕ, ◌+◌, ◌==◌, Bool, true, false, List, [], ◌∷◌, ◌++◌, slice_get, Option, Some, None, is_some, option_to_list, arith, ◌&&◌, not, length, length-append}
 use Rattle.std.specs.Prelude.{if◌then◌else◌}
 use Rattle.l2_units.specs.declared.unit.Header.{Header}
 use Rattle.l2_units.specs.declared.unit.Unit.{Unit as SignalUnit}

@@ -12,7 +12,9 @@ use Rattle.set_events.specs.declared.answer.Report.{Report}
 use Rattle.set_events.specs.declared.config.Method.{Method}
 use Rattle.set_events.specs.declared.event.Event.TheVariants.{Next, Heard, Up as UpEvent}
 use Rattle.set_model.specs.declared.phase.Phase.TheVariants.{Up}
+use Rattle.set_model.specs.Changeover.{cleared}
 use Rattle.set_model.specs.Rows.{unack}
+use Rattle.set_model.specs.Sound.{IsSound}
 use Rattle.set_model.specs.State.{LinkState, State, Settings, has_phase_up, is_up, is_settled, link_is_up}
 use Rattle.set_model.specs.Step.{Outcome, refused, with_known, next, controls, report_of, step}
 use Rattle.set_model.proofs.Walk.{link_count_stays, IsAt}
@@ -53,11 +55,11 @@ pub next_refused : (k : ℕ) (s : State) → is_up k s ≡ false → (why : SetR
 unfolding step
 next_refused k s e = go (slice_get s.links k) refl
   where
-    at : (link : LinkState) → slice_get s.links k ≡ Some link → (b : Bool) → has_phase_up link.phase ≡ b → (why : SetRefusal) × (cond b (next k s link) (refused s NotUp) ≡ refused s why)
+    at : (link : LinkState) → slice_get s.links k ≡ Some link → (b : Bool) → has_phase_up link.phase ≡ b → (why : SetRefusal) × (cond b (next k (cleared k s) link) (refused s NotUp) ≡ refused s why)
     at link f true g = absurd (let no : true ≡ false = sym g ∙ ap link_is_up (sym f) ∙ e in cc)
     at link f false g = (NotUp, refl)
 
-    go : (o : Option LinkState) → slice_get s.links k ≡ o → (why : SetRefusal) × (with_known o s (λ link. cond (has_phase_up link.phase) (next k s link) (refused s NotUp)) ≡ refused s why)
+    go : (o : Option LinkState) → slice_get s.links k ≡ o → (why : SetRefusal) × (with_known o s (λ link. cond (has_phase_up link.phase) (next k (cleared k s) link) (refused s NotUp)) ≡ refused s why)
     go None f = (NoSuchLink, refl)
     go (Some link) f = at link f (has_phase_up link.phase) refl
 
@@ -77,13 +79,25 @@ module _ (mx my : Method) (p : Two) (h : HoldsOf mx my p) (k : ℕ) where
 
   -- it sends a unit, which joins the line
   module _ (few : k < length p.near.links) (link : LinkState) (at : IsAt k link Up p.near) where
+    abbrev pub clear_side : Side
+    clear_side = record { state = cleared k p.near; sent = p.near_past.sent k; taken = p.near_past.taken k }
+
+    pub clear_at : IsAt k link Up (cleared k p.near)
+    clear_at = sending.cleared_at k link p.near at
+
+    pub clear_sound : IsSound (cleared k p.near)
+    clear_sound = sending.cleared_sound k link p.near at h.near_sound
+
+    pub clear_tied : Tied k mx my clear_side (side k p.far p.far_past) (units_on k p.out) (units_on k p.back)
+    clear_tied = sending.cleared_tied k mx my (side k p.near p.near_past) (side k p.far p.far_past) (units_on k p.out) (units_on k p.back) h.near_sound.numbered (h.ties k)
+
     abbrev pub sent_unit : SignalUnit
-    sent_unit = sending.unit k mx my (side k p.near p.near_past) (side k p.far p.far_past) (units_on k p.out) (units_on k p.back) link h.near_sound at
+    sent_unit = sending.unit k mx my clear_side (side k p.far p.far_past) (units_on k p.out) (units_on k p.back) link clear_sound clear_at
 
     here : Tied k mx my (side k after sent_past) (side k p.far p.far_past) (units_on k (joined_on k sent_unit p.out)) (units_on k p.back)
-    here = like k mx my _ (side k after sent_past) _ _ _ _ _ _ (same_side (ap (λ (o : Outcome). o.state) (sending.next_is k link p.near at)) (added_here k (first_sent k p.near after) p.near_past.sent ∙ ap (λ (o : Outcome). p.near_past.sent k ++ first_sent k p.near o.state) (sending.next_is k link p.near at)) refl) refl
+    here = like k mx my _ (side k after sent_past) _ _ _ _ _ _ (same_side (ap (λ (o : Outcome). o.state) (sending.next_is k link p.near at)) (added_here k (first_sent k p.near after) p.near_past.sent ∙ ap (λ (o : Outcome). p.near_past.sent k ++ first_sent k p.near o.state) (sending.next_is k link p.near at) ∙ ap (λ (ms : List Message). p.near_past.sent k ++ ms) (sym (sending.cleared_sends k p.near (next k (cleared k p.near) link).state))) refl) refl
         (on_set k _ p.out (omega (arith, few, h.out_lines))) refl
-        (sending.sends k mx my (side k p.near p.near_past) (side k p.far p.far_past) (units_on k p.out) (units_on k p.back) link h.near_sound at (h.ties k))
+        (sending.sends k mx my clear_side (side k p.far p.far_past) (units_on k p.out) (units_on k p.back) link clear_sound clear_at clear_tied)
 
     there : (l : ℕ) → (k == l) ≡ false → Tied l mx my (side l after sent_past) (side l p.far p.far_past) (units_on l (joined_on k sent_unit p.out)) (units_on l p.back)
     there l d = like l mx my _ (side l after sent_past) _ _ _ _ _ _ (same_side refl (added_other k l _ p.near_past.sent d) refl) refl (on_other l k _ p.out d) refl (goes_on mx my p h (Next k) l tt (next_follows l k p.near (no_other k l d)))

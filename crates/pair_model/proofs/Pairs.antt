@@ -84,7 +84,9 @@ small_settings Known May = record {
   leaves = λ blind n link s known at. refl;
   acknowledges = λ count n link s known at few g. refl;
   gives_up = λ sent cause n link s known at g. refl;
-  moves_off = λ n link s known at. refl;
+  moves_off = λ told n link s known at. refl;
+  answers = λ n link s known at. refl;
+  withdraws = λ count n link s known at g. refl;
   declares = λ may home alternative s up can. refl;
   releases = λ code s known. refl;
 }
@@ -96,7 +98,7 @@ settings_stay s event = step_walks s (λ t u. u.settings ≡ t.settings) (λ t. 
   rests = λ t u p q. q ∙ p;
   offers = λ body e none. refl;
   takes = λ body rest e there. refl;
-  sends = λ n link e at g. refl;
+  sends = λ n link t e same at g. same;
   hears = λ n unit link e fits at g. refl;
   rises = λ n link e at u. refl;
 })

@@ -13,20 +13,20 @@ use Rattle.set_events.specs.declared.event.Event.TheVariants.{Next}
 use Rattle.set_model.specs.declared.phase.Phase.TheVariants.{Up}
 use Rattle.set_model.specs.Control.{Control, Choice, again, first, fill, start_of, choice_of, head_of, control_after, fsn_of}
 use Rattle.set_model.specs.Frame.{window_after}
-use Rattle.set_model.specs.Laws.{KeepsMessages}
-use Rattle.set_model.specs.Rows.{Row, body_at, numbers, octets_in, is_unacked, is_waiting, unack, IsNumbered}
+use Rattle.set_model.specs.Changeover.{cleared, is_overtaken, leading}
+use Rattle.set_model.specs.Rows.{Row, body_at, numbers, octets_in, is_unacked, is_waiting, unack, wait, IsNumbered}
 use Rattle.set_model.specs.Sound.{IsSound}
-use Rattle.set_model.specs.State.{given, LinkState, State, has_phase_settled, window_of}
+use Rattle.set_model.specs.State.{all_finished, given, LinkState, State, has_phase_settled, window_of}
 use Rattle.set_model.specs.Step.{Outcome, next, chosen, unit_of, step}
-use Rattle.set_model.proofs.SoundLink.{first_chosen}
+use Rattle.set_model.proofs.Events.{sent_by, withdrawn_rows, withdrawn_unack, withdrawn_wait}
+use Rattle.set_model.proofs.SoundLink.{first_chosen, withdraws}
 use Rattle.set_model.proofs.Framing.{window_moves, numbers-drop}
 use Rattle.set_model.proofs.Lists.{get_set_same, within, same_at}
-use Rattle.set_model.proofs.Rows.{row_in_filter}
-use Rattle.set_model.proofs.Staying.{keeps_messages}
+use Rattle.set_model.proofs.Rows.{numbered_on, row_in_filter}
 use Rattle.set_model.proofs.Walk.{IsAt}
 use Rattle.pair_model.specs.Run.{Message, messages, first_sent}
 use Rattle.pair_model.proofs.Controls.{rules}
-use Rattle.pair_model.proofs.Tied.{StandIn, IsUnitOf, KeepBodies, keep_bodies, stand_kept, bodies_kept, units_kept, stand_joined, units_joined, Side, IsGoing, Ties, Tied}
+use Rattle.pair_model.proofs.Tied.{StandIn, IsUnitOf, KeepBodies, stand_kept, bodies_kept, units_kept, stand_joined, units_joined, Side, IsGoing, Ties, Tied, withdraws as withdraws_tied}
 
 -- Rows that are there stand there with their bodies.
 pub body_there : (given : ℕ) (p : Row → Bool) (rows : List Row) (i : ℕ) (row : Row) → IsNumbered given rows → slice_get (filter p rows) i ≡ Some row → body_at row.number rows ≡ Some row.body
@@ -68,9 +68,33 @@ told given l link rows new (again place) head numbered keep = told_at given (λ 
 told given l link rows new first head numbered keep = told_at given (λ row. is_waiting l row.fate) rows new 0 head numbered keep
 told given l link rows new fill head numbered keep = (refl, refl)
 
-pub next_is : (l : ℕ) (link : LinkState) (s : State) → IsAt l link Up s → step s (Next l) ≡ next l s link
+-- WHAT WAS OVERTAKEN is discarded first.
+pub next_is : (l : ℕ) (link : LinkState) (s : State) → IsAt l link Up s → step s (Next l) ≡ next l (cleared l s) link
 unfolding step
 next_is l link s at = rw (at.there, at.phase_is) refl
+
+-- how many are
+abbrev pub overtaken : ℕ → State → ℕ
+overtaken l s = leading (is_overtaken s) (wait l s.rows)
+
+pub cleared_at : (l : ℕ) (link : LinkState) (s : State) → IsAt l link Up s → IsAt l link Up (cleared l s)
+cleared_at l link s at = record { there = at.there; phase_is = at.phase_is }
+
+pub cleared_sound : (l : ℕ) (link : LinkState) (s : State) → IsAt l link Up s → IsSound s → IsSound (cleared l s)
+cleared_sound l link s at sound = withdraws (overtaken l s) l link s at (withdrawn_rows (overtaken l s) l s.rows) sound
+
+pub cleared_keeps : (l : ℕ) (s : State) → IsNumbered (given s) s.rows → KeepBodies s.rows (cleared l s).rows
+cleared_keeps l s numbered number body there = (withdrawn_rows (overtaken l s) l s.rows).kept.bodies (given s) numbered number ∙ there
+
+-- no message is sent by that
+pub cleared_sends : (l : ℕ) (s t : State) → first_sent l (cleared l s) t ≡ first_sent l s t
+cleared_sends l s t = ap (λ (sent : List Row). messages (drop (length sent) (unack l t.rows))) (withdrawn_unack (overtaken l s) l s.rows)
+
+pub cleared_tied : (l : ℕ) (mx my : Method) (x y : Side) (out back : List SignalUnit) → IsNumbered (given x.state) x.state.rows → Tied l mx my x y out back → Tied l mx my (record x { state = cleared l x.state }) y out back
+cleared_tied l mx my x y out back numbered t =
+    let n = overtaken l x.state in
+    withdraws_tied l mx my x y out back (cleared l x.state) (cleared_keeps l x.state numbered) (λ link there. (link, there, refl)) n refl
+    (withdrawn_unack n l x.state.rows) (withdrawn_wait n l x.state.rows) t
 
 -- the law's world with the end as it stands
 abbrev pub standing_at : (l : ℕ) (link : LinkState) (rows : List Row) → LinkWorld Control → LinkWorld Control
@@ -102,10 +126,10 @@ module _ (l : ℕ) (mx my : Method) (x y : Side) (out back : List SignalUnit) (l
   sent_link = record link { control = control_after choice octets link.control window }
 
   kept : KeepBodies rows after.rows
-  kept = keep_bodies x.state after sound.numbered (subst (λ (o : Outcome). KeepsMessages x.state o.state) (next_is l link x.state at) (keeps_messages x.state (Next l) sound.numbered))
+  kept = λ number body there. (sent_by choice l rows).kept.bodies (given x.state) sound.numbered number ∙ there
 
   numbered_after : IsNumbered (given after) after.rows
-  numbered_after = (subst (λ (o : Outcome). KeepsMessages x.state o.state) (next_is l link x.state at) (keeps_messages x.state (Next l) sound.numbered)).numbered
+  numbered_after = numbered_on (all_finished x.state.finished) rows after.rows (sent_by choice l rows).kept.count ((sent_by choice l rows).kept.numbered (given x.state) sound.numbered)
 
   -- the link then
   sent_there : slice_get after.links l ≡ Some sent_link

@@ -4,18 +4,18 @@ use Rattle.l2_units.specs.declared.profile.Profile.{Profile}
 use Rattle.l2_window.specs.Window.{fsn_before_first, fsn_count}
 use Rattle.std.proofs.Common.{refl, arith, ◌≡◌, ◌∙◌, ap, sym, subst, ℕ, zero, suc, ◌<◌, ◌+◌, ◌%◌, Bool, true, false, nat_lt, List, [], ◌∷◌, ◌++◌, length, map, take, drop, slice_get, Option, Some, None, append_assoc}
 use Rattle.std.proofs.lemmas.Bool.{ltb-true}
-use Rattle.std.proofs.lemmas.List.{append-nil}
+use Rattle.std.proofs.lemmas.List.{append-nil, drop-map}
 use Rattle.std.proofs.lemmas.Option.{same_Some}
 use Rattle.std.specs.Option.{option_map}
 use Rattle.l2_units.specs.declared.unit.Unit.{Unit as SignalUnit}
 use Rattle.l2_units.specs.declared.unit.Unit.TheVariants.{Fisu, Lssu, Msu}
 use Rattle.l2_window.specs.Line.{Carried}
-use Rattle.l2_window.specs.Link.{End as LinkEnd, World as LinkWorld, flip, offers, loses, Run, begins, steps, steps_far, Offers, Loses}
+use Rattle.l2_window.specs.Link.{End as LinkEnd, World as LinkWorld, flip, offers, takes_back, loses, Run, begins, steps, steps_far, Offers, TakesBack, Loses}
 use Rattle.l2_window.specs.Window.{WindowState}
 use Rattle.set_events.specs.declared.config.Method.{Method}
 use Rattle.set_model.specs.Control.{Control, start_of}
 use Rattle.set_model.specs.Laws.{KeepsMessages}
-use Rattle.set_model.specs.Rows.{Row, body_at, numbers, wait, IsNumbered}
+use Rattle.set_model.specs.Rows.{Row, body_at, numbers, unack, wait, IsNumbered}
 use Rattle.set_model.specs.State.{given, LinkState, State, has_phase_settled, window_of}
 use Rattle.set_model.proofs.Rows.{row_is_first}
 use Rattle.pair_model.specs.Run.{Message}
@@ -188,9 +188,12 @@ numbers_append (row ∷ xs) ys = ap (λ (ns : List ℕ). row.number ∷ ns) (num
 pub same_window : {p p' : Profile} {last last' : ℕ} {unacked unacked' unsent unsent' : List ℕ} → p ≡ p' → last ≡ last' → unacked ≡ unacked' → unsent ≡ unsent' → ◌≡◌ {A = WindowState} (record { profile = p; last = last; unacked = unacked; unsent = unsent; room = 0 }) (record { profile = p'; last = last'; unacked = unacked'; unsent = unsent'; room = 0 })
 same_window d a b c = rw (d, a, b, c) refl
 
--- A LINK THAT GOES ON: each message that comes to wait is offered.
+-- A LINK THAT GOES ON: each message that comes to wait is offered, and each that waits no longer is taken back.
+abbrev pub waiting : List ℕ → LinkWorld Control → LinkWorld Control
+waiting unsent w = record w { near = record w.near { window = record w.near.window { unsent = unsent } } }
+
 abbrev pub pushed : List ℕ → LinkWorld Control → LinkWorld Control
-pushed more w = record w { near = record w.near { window = record w.near.window { unsent = w.near.window.unsent ++ more } } }
+pushed more w = waiting (w.near.window.unsent ++ more) w
 
 push_all : (p : Profile) (near far : Control) (more : List ℕ) (w : LinkWorld Control) → Run rules p near far w → Run rules p near far (pushed more w)
 push_all p near far [] w r = rw (append-nil w.near.window.unsent) r
@@ -199,13 +202,21 @@ push_all p near far (n ∷ more) w r =
     let offer : Offers rules n w one = record { pushes = record { profile = refl; last = refl; unacked = refl; unsent = refl; room = omega arith }; near = refl; far = refl; out = refl; back = refl } in
     rw (append_assoc w.near.window.unsent (n ∷ []) more) at (push_all p near far more one (steps w one r (offers w one n offer)))
 
+take_all_back : (p : Profile) (near far : Control) (n : ℕ) (unsent : List ℕ) (w : LinkWorld Control) → w.near.window.unsent ≡ unsent → Run rules p near far w → Run rules p near far (waiting (drop n unsent) w)
+take_all_back p near far zero unsent w e r = rw (← e) r
+take_all_back p near far (suc n) [] w e r = rw (← e) r
+take_all_back p near far (suc n) (m ∷ unsent) w e r =
+    let one = waiting unsent w in
+    let back : TakesBack rules w one = record { withdraws = record { profile = refl; last = refl; unacked = refl; unsent = rw e refl; room = omega arith }; near = refl; far = refl; out = refl; back = refl } in
+    take_all_back p near far n unsent one refl (steps w one r (takes_back w one back))
+
 module _ (l : ℕ) (mx my : Method) (x y : Side) (out back : List SignalUnit) (s : State) (keep : KeepBodies x.state.rows s.rows) (count : CountStays l x.state s) where
   abbrev moved : Side
   moved = record x { state = s }
 
   -- what the rows tell stays, where nothing was sent or taken
-  tells_on : (more : List ℕ) (w : LinkWorld Control) → Ties l w x y out back → Goes l (pushed more w).near s → Ties l (pushed more w) moved y out back
-  tells_on more w t goes = record {
+  tells_on : (unsent : List ℕ) (w : LinkWorld Control) → Ties l w x y out back → Goes l (waiting unsent w).near s → Ties l (waiting unsent w) moved y out back
+  tells_on unsent w t goes = record {
     near = record { sent_is = t.near.sent_is; stand = stand_kept x.state.rows s.rows keep x.sent t.near.stand; took_is = t.near.took_is };
     far = record { sent_is = t.far.sent_is; stand = t.far.stand; took_is = bodies_kept x.state.rows s.rows keep w.far.took y.taken t.far.took_is };
     near_goes = goes;
@@ -217,7 +228,26 @@ module _ (l : ℕ) (mx my : Method) (x y : Side) (out back : List SignalUnit) (s
   }
 
   ends : (t : Tied l mx my x y out back) → (more : List ℕ) → Goes l (pushed more t.world).near s → Tied l mx my moved y out back
-  ends t more goes = record { profile = t.profile; world = pushed more t.world; run = push_all t.profile (start_of mx) (start_of my) more t.world t.run; ties = tells_on more t.world t.ties goes }
+  ends t more goes = record { profile = t.profile; world = pushed more t.world; run = push_all t.profile (start_of mx) (start_of my) more t.world t.run; ties = tells_on (t.world.near.window.unsent ++ more) t.world t.ties goes }
+
+  -- the first that waited wait no longer, and nothing else changes
+  pub withdraws : (n : ℕ) → s.links ≡ x.state.links → unack l s.rows ≡ unack l x.state.rows → wait l s.rows ≡ drop n (wait l x.state.rows) → Tied l mx my x y out back → Tied l mx my moved y out back
+  withdraws n links unacked waits t =
+      let left = drop n t.world.near.window.unsent in
+      record {
+        profile = t.profile;
+        world = waiting left t.world;
+        run = take_all_back t.profile (start_of mx) (start_of my) n t.world.near.window.unsent t.world refl t.run;
+        ties = tells_on left t.world t.ties (λ link found unsettled.
+            let old = t.ties.near_goes link (ap (λ (ls : List LinkState). slice_get ls l) (sym links) ∙ found) unsettled in
+            record {
+              control = old.control;
+              window = ap (λ (v : WindowState). record v { unsent = drop n v.unsent }) old.window ∙ same_window refl refl
+                  (sym (ap numbers unacked))
+                  (drop-map (λ (row : Row). row.number) n (wait l x.state.rows) ∙ sym (ap numbers waits));
+              acked = old.acked;
+            });
+      }
 
   pub follows : Follows l x.state s → Tied l mx my x y out back → Tied l mx my moved y out back
   follows f t = go (slice_get s.links l) refl

@@ -34,7 +34,7 @@ use Rattle.pair_model.proofs.Moving as moving
 use Rattle.pair_model.proofs.Moving.{next_refused}
 use Rattle.pair_model.proofs.Pairs.{Two, swapped, HoldsOf, settings_stay}
 use Rattle.pair_model.proofs.Rising.{settled_at}
-use Rattle.pair_model.proofs.Sending.{next_is}
+use Rattle.pair_changeover.proofs.Overtaken.{sends_next}
 use Rattle.pair_changeover.specs.Pending.{pending, aside, accepted_of, accepted_on}
 use Rattle.pair_changeover.proofs.Changes.{by_link}
 use Rattle.pair_changeover.proofs.Arriving.{rises_at}
@@ -333,7 +333,7 @@ module _ {emergencies : Bool} (mx my : Method) (one : IsOneMethod mx my) (p : Tw
   }
 
   pub sends_streams : k < length p.near.links → (link : LinkState) → IsAt k link Up p.near → Streams emergencies sent_then
-  sends_streams few link at = after_streams (subst (λ (o : Outcome). After o.state) (sym (next_is k link p.near at)) sent)
+  sends_streams few link at = after_streams (subst (λ (o : Outcome). After o.state) (sym (sends_next k p.near p.far w.ordered.both link at)) sent)
     where
       keeps : Keeps emergencies p.near (next k p.near link).state p.far
       keeps = sends_keep mx my one p h k few link at

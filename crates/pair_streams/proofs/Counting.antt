@@ -27,7 +27,7 @@ use Rattle.pair_model.proofs.Moving as moving
 use Rattle.pair_model.proofs.Pairs.{Two, HoldsOf, swap}
 use Rattle.pair_model.proofs.Rising.{settled_at}
 use Rattle.pair_model.proofs.Runs.{seen, Holds, Goes, step_goes, is_at_up, both_settled}
-use Rattle.pair_model.proofs.Sending.{next_is}
+use Rattle.pair_changeover.proofs.Overtaken.{sends_next}
 use Rattle.pair_changeover.proofs.Arriving.{rises_at}
 use Rattle.pair_changeover.proofs.Counted.{Counts, counts_back, counts_kept, counts_risen, heard_counts}
 use Rattle.pair_changeover.proofs.Keeping.{Keeps as EventKeeps, keeps_still, offer_kept, take_kept, find_kept, down_kept, blind_kept, restore_kept}
@@ -105,14 +105,14 @@ module _ (ma mb : Method) (one : IsOneMethod ma mb) where
     next_a : (k : ℕ) → k < length g.world.a.state.links → (b : Bool) → is_up k g.world.a.state ≡ b → EventKeeps true g.world.a.state (step g.world.a.state (Next k)).state g.world.b.state
     next_a k few true e =
         let at = is_at_up k g.world.a.state e in
-        subst (λ (o : SetOutcome). EventKeeps true g.world.a.state o.state g.world.b.state) (sym (next_is k at.0 g.world.a.state at.1)) (sends_keep ma mb one (seen A g) h k few at.0 at.1)
+        subst (λ (o : SetOutcome). EventKeeps true g.world.a.state o.state g.world.b.state) (sym (sends_next k g.world.a.state g.world.b.state v.ordered.both at.0 at.1)) (sends_keep ma mb one (seen A g) h k few at.0 at.1)
     next_a k few false e =
         subst (λ (s : State). EventKeeps true g.world.a.state s g.world.b.state) (sym (ap (λ (o : SetOutcome). o.state) (moving.next_refused k g.world.a.state e).1)) (keeps_still g.world.a.state g.world.a.state g.world.b.state refl refl)
 
     next_b : (k : ℕ) → k < length g.world.b.state.links → (b : Bool) → is_up k g.world.b.state ≡ b → EventKeeps true g.world.b.state (step g.world.b.state (Next k)).state g.world.a.state
     next_b k few true e =
         let at = is_at_up k g.world.b.state e in
-        subst (λ (o : SetOutcome). EventKeeps true g.world.b.state o.state g.world.a.state) (sym (next_is k at.0 g.world.b.state at.1)) (sends_keep mb ma one_b (seen B g) h_b k few at.0 at.1)
+        subst (λ (o : SetOutcome). EventKeeps true g.world.b.state o.state g.world.a.state) (sym (sends_next k g.world.b.state g.world.a.state v_b.ordered.both at.0 at.1)) (sends_keep mb ma one_b (seen B g) h_b k few at.0 at.1)
     next_b k few false e =
         subst (λ (s : State). EventKeeps true g.world.b.state s g.world.a.state) (sym (ap (λ (o : SetOutcome). o.state) (moving.next_refused k g.world.b.state e).1)) (keeps_still g.world.b.state g.world.b.state g.world.a.state refl refl)
 

@@ -1,5 +1,5 @@
 -- AN END DECLARES A CHANGEBACK, and each stream: those that ran on the alternative come back from it, behind what stands there.
-use Rattle.std.proofs.Common.{refl, arith, ◌≡◌, ◌∙◌, ap, sym, subst, ℕ, zero, suc, ◌<◌, ◌==◌, ◌-◌, ◌%◌, Bool, true, false, not, ◌&&◌, List, [], ◌∷◌, ◌++◌, length, slice_get, Option, Some, None, cond, ◌⊎◌, inl, inr}
+use Rattle.std.proofs.Common.{refl, arith, ◌≡◌, ◌∙◌, ap, sym, subst, ℕ, zero, suc, ◌<◌, ◌==◌, ◌-◌, ◌%◌, Bool, true, false, not, ◌&&◌, List, [], ◌∷◌, ◌++◌, slice_get, Option, Some, None, cond, ◌⊎◌, inl, inr}
 use Rattle.std.proofs.lemmas.Bool.{eqb-true}
 use Rattle.l3_orders.specs.declared.order.Order.TheVariants.{Cbd}
 use Rattle.l3_orders.specs.Grammar.{text, label, heading_of, content_with}

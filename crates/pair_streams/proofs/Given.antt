@@ -11,7 +11,7 @@ use Rattle.set_route.specs.Routing.{place_of}
 use Rattle.set_model.specs.declared.phase.Phase.TheVariants.{Down}
 use Rattle.set_model.specs.Rows.{is_unacked, is_back, unack, wait, held}
 use Rattle.set_model.specs.Sound.{IsSound}
-use Rattle.set_model.specs.State.{given, LinkState, State}
+use Rattle.set_model.specs.State.{LinkState, State}
 use Rattle.set_model.proofs.Rows.{turned_same}
 use Rattle.set_model.proofs.Walk.{IsAt}
 use Rattle.pair_model.specs.Run.{Message, messages}

@@ -19,7 +19,7 @@ use Rattle.set_events.specs.declared.history.Entry.{Entry}
 use Rattle.set_route.specs.declared.place.Code.{Code}
 use Rattle.set_route.specs.declared.place.Code.TheVariants.{Free, Asked, Spent}
 use Rattle.set_route.specs.Routing.{code_for, code_of}
-use Rattle.set_model.specs.Changeover.{Obeyed, left_link, judged, discarded, acknowledged_by, is_reasonable, reached_by, changed_over, answered, at_link, can_declare, declared_if, declared_from, declared, some_declare, released, released_from, some_in_use, acknowledged_back, order_obeyed, obeyed}
+use Rattle.set_model.specs.Changeover.{cleared, Obeyed, left_link, judged, discarded, acknowledged_by, is_reasonable, reached_by, changed_over, answered, at_link, can_declare, declared_if, declared_from, declared, some_declare, released, released_from, some_in_use, acknowledged_back, order_obeyed, obeyed}
 use Rattle.set_model.specs.declared.phase.Phase.{Phase}
 use Rattle.set_model.specs.declared.phase.Phase.TheVariants.{Up, Down, Settled}
 use Rattle.set_model.specs.declared.reached.Reached.{Reached}
@@ -176,7 +176,7 @@ unfolding step
 event_passes s (Offer body) = offer_passes s (Offer body) body (offer_refusal s.settings.profile s.rows body)
 event_passes s Take = take_passes s Take s.inbox refl
 event_passes s (Find number) = find_passes s (Find number) number (place number s.rows)
-event_passes s (Next n) = in_passes s (Next n) n (next n s) (λ link. append-nil s.inbox)
+event_passes s (Next n) = in_passes s (Next n) n (next n (cleared n s)) (λ link. append-nil s.inbox)
 event_passes s (Heard n unit) = in_passes s (Heard n unit) n (heard unit n s) (λ link. hear_passes s n unit link)
 event_passes s (UpEvent n) = on_passes s (UpEvent n) n (λ link. rises n s link.phase) (λ link. rise_passes s (UpEvent n) n link.phase)
 event_passes s (DownEvent n) = in_passes s (DownEvent n) n (falls false n s) (λ link. append-nil s.inbox)

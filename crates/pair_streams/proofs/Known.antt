@@ -7,16 +7,16 @@ use Rattle.l3_orders.specs.declared.order.Order.TheVariants.{Cbd}
 use Rattle.l3_orders.specs.Grammar.{text}
 use Rattle.set_events.specs.declared.answer.Fate.{Fate}
 use Rattle.set_events.specs.declared.answer.Fate.TheVariants.{Waiting, Unacked, Acked, Discarded}
-use Rattle.set_events.specs.declared.answer.DiscardCause.TheVariants.{Emergency}
+use Rattle.set_events.specs.declared.answer.DiscardCause.TheVariants.{Emergency, NoAnswer as NoAnswerCame}
 use Rattle.set_route.specs.Routing.{code_for}
 use Rattle.set_events.specs.declared.event.Event.{Event}
 use Rattle.set_events.specs.declared.event.Event.TheVariants.{Offer}
-use Rattle.set_model.specs.Changeover.{queued, fate_on, left_by, moved_over, declared, released}
+use Rattle.set_model.specs.Changeover.{answered_link, queued, fate_on, left_by, moved_over, declared, released, withdrawn}
 use Rattle.l2_units.specs.Grammar.{head_of}
 use Rattle.set_model.specs.Control.{Choice, again, first, fill, choice_of, part_of}
 use Rattle.set_model.specs.Rows.{Row, is_on, is_back, is_back_to, is_unacked, is_waiting, is_parked, all_with, appended, moved, unack, octets_in, place, body_at, service_indicator, IsNumbered}
 use Rattle.set_model.specs.Sound.{IsManaged}
-use Rattle.set_model.specs.State.{given, LinkState, State, target, window_of}
+use Rattle.set_model.specs.State.{given, LinkState, State, target, window_of, with_link}
 use Rattle.set_model.specs.Step.{is_msu, sends, step}
 use Rattle.std.proofs.lemmas.Bool.{cond_both}
 use Rattle.set_model.proofs.Events.{sent}
@@ -96,7 +96,10 @@ module _ (P : ℕ → List ℕ → Type 0) (Q : ℕ → Type 0) where
     gives_up = λ was_sent cause n link s known at g c.
         let off = cond_both was_sent (is_unacked n) (is_waiting n) (λ test. test given_up ≡ false) (λ e. refl) (λ e. refl) in
         covers_kept s _ refl refl g.kept.count (g.kept.numbered (given s) c.numbered) (g.kept.bodies (given s) c.numbered) (changed_stay given_up (cond was_sent (is_unacked n) (is_waiting n)) off (Discarded cause) s.rows) c;
-    moves_off = λ n link s known at c. moved_covers (is_on n) _ s (moved_over n link s) refl refl refl refl c;
+    moves_off = λ told n link s known at c. moved_covers (is_on n) _ s (moved_over told n link s) refl refl refl refl c;
+    answers = λ n link s known at c. covers_kept s (with_link n (answered_link link) s) refl refl refl c.numbered (λ number. refl) (λ number e. e) c;
+    withdraws = λ count n link s known at g c.
+        covers_kept s (withdrawn count n s) refl refl g.kept.count (g.kept.numbered (given s) c.numbered) (g.kept.bodies (given s) c.numbered) (turned_stay given_up (is_waiting n) refl (Discarded NoAnswerCame) count s.rows) c;
     declares = λ may home alternative s up can c. order_covers (Cbd home (code_for home alternative)) s (declared home alternative s) (Waiting alternative) refl refl refl c;
     releases = λ code s known c. moved_covers (is_back code) _ s (released code s) refl refl refl refl c;
   }
@@ -114,7 +117,7 @@ module _ (P : ℕ → List ℕ → Type 0) (Q : ℕ → Type 0) where
     rests = λ t u p q. q p;
     offers = λ body e none. absurd (apart body e);
     takes = λ body rest e there. record { managed = c.managed; numbered = c.numbered; known = c.known; gone = c.gone };
-    sends = λ n link e at g. sends_covers (choice_of (octets_in (unack n s.rows)) link.control (window_of n link s.rows)) n link s c;
+    sends = λ n link t e keeps at g. sends_covers (choice_of (octets_in (unack n t.rows)) link.control (window_of n link t.rows)) n link t (keeps c);
     hears = λ n unit link e fits at g.
         let count = (part_of link.control (window_of n link s.rows) (head_of unit) (is_msu unit)).acked in
         covers_kept s _ refl refl g.kept.count (g.kept.numbered (given s) c.numbered) (g.kept.bodies (given s) c.numbered) (turned_stay given_up (is_unacked n) refl (Acked n) count s.rows) c;

@@ -5,11 +5,11 @@ use Rattle.set_events.specs.declared.answer.Fate.{Fate}
 use Rattle.set_events.specs.declared.answer.Refusal.{Refusal as SetRefusal}
 use Rattle.set_events.specs.declared.event.Event.{Event}
 use Rattle.set_events.specs.declared.event.Event.TheVariants.{Offer}
-use Rattle.set_model.specs.Rows.{Row, Discarded, changed, is_unacked, is_waiting, is_on, is_back, is_back_to, appended, moved, stream_of}
-use Rattle.set_model.specs.State.{all_finished, given, State}
+use Rattle.set_model.specs.Rows.{Discarded, changed, is_unacked, is_waiting, is_on, is_back, is_back_to, appended, stream_of}
+use Rattle.set_model.specs.State.{all_finished, given, State, with_link}
 use Rattle.set_model.specs.declared.phase.Phase.TheVariants.{Settled}
 use Rattle.set_model.specs.Step.{controlled, next, offer_refusal, offered, rises, step}
-use Rattle.set_model.specs.Changeover.{acknowledged_by, declared, left_by, moved_over, queued, released}
+use Rattle.set_model.specs.Changeover.{acknowledged_by, answered_link, declared, left_by, moved_over, queued, released, withdrawn}
 use Rattle.set_model.proofs.Rows.{new_row, moved_length}
 use Rattle.set_model.proofs.Walk.{KeptBy, step_walks}
 use Rattle.world_steps.specs.declared.step.Shown.TheVariants.{Answered}
@@ -63,7 +63,9 @@ small Known May = record {
   leaves = λ blind n link s known at. same_many s (left_by blind n link s) refl (moved_length (is_back_to n) _ s.rows);
   acknowledges = λ count n link s known at few g. same_many s (acknowledged_by count n link s) refl g.kept.count;
   gives_up = λ sent cause n link s known at g. same_many s (record s { rows = changed (cond sent (is_unacked n) (is_waiting n)) (Discarded cause) s.rows }) refl g.kept.count;
-  moves_off = λ n link s known at. same_many s (moved_over n link s) refl (moved_length (is_on n) _ s.rows);
+  answers = λ n link s known at. same_many s (with_link n (answered_link link) s) refl refl;
+  withdraws = λ count n link s known at g. same_many s (withdrawn count n s) refl g.kept.count;
+  moves_off = λ told n link s known at. same_many s (moved_over told n link s) refl (moved_length (is_on n) _ s.rows);
   declares = λ may home alternative s up can. more_appended s (declared home alternative s) _ _ refl refl;
   releases = λ code s known. same_many s (released code s) refl (moved_length (is_back code) _ s.rows);
 }
@@ -75,7 +77,7 @@ never_fewer s event = step_walks s More (More s) event (record {
   rests = λ t u p q. omega (arith, p, q);
   offers = λ body e none. more_appended s (offered None s body).state body _ refl refl;
   takes = λ body rest e there. omega arith;
-  sends = λ n link e at g. same_many s (next n s link).state refl g.kept.count;
+  sends = λ n link t e more at g. omega (arith, more, same_many t (next n t link).state refl g.kept.count);
   hears = λ n unit link e fits at g. same_many s (controlled unit n s link) refl g.kept.count;
   rises = λ n link e at u. same_many s (rises n s Settled).state refl u.kept.count;
 })

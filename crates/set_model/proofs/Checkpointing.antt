@@ -1,12 +1,11 @@
 -- A CHECKPOINT: each message that is finished leaves the rows for one count.
 use Rattle.l2_units.specs.Profile.{longest_body}
-use Rattle.std.proofs.Common.{refl, arith, ◌≡◌, ◌≤◌, ℕ, ◌+◌, ◌==◌, ◌&&◌, ◌||◌, not, Bool, true, false, List, [], ◌∷◌, length, filter, Option, None, Some, slice_get, cond, zero, suc, ◌∙◌, ap, subst, sym}
-use Rattle.std.proofs.lemmas.Bool.Decides.{nat_tests}
-use Rattle.set_model.specs.Checkpoint.{Checkpoints, checkpointed, counted, counts_in, ended, stays, unfinished, was_discarded_by}
-use Rattle.set_model.specs.Rows.{AreBefore, AreFit, DiscardCause, Each, Emergency, NoAnswer, Unreasonable, Fate, IsNumbered, Row, counts_of, is_users, row_of, standing, users, was_acked, was_discarded, back, on, held, unack, parked}
-use Rattle.set_model.specs.Sound.{AreBack, IsAscending, IsBackOf, IsSound, IsSoundLink, is_unfinished}
-use Rattle.set_model.specs.State.{LinkState, State, FinishedCounts, all_finished, given}
-use Rattle.set_model.proofs.Order.{ascends_filter, before_filter}
+use Rattle.std.proofs.Common.{refl, arith, ◌≡◌, ◌≤◌, ℕ, ◌+◌, ◌==◌, ◌&&◌, ◌||◌, not, Bool, true, false, List, [], ◌∷◌, length, filter, Option, None, Some, slice_get, suc, ◌∙◌, ap, subst, sym}
+use Rattle.set_model.specs.Checkpoint.{Checkpoints, checkpointed, counts_in, stays, unfinished, was_discarded_by}
+use Rattle.set_model.specs.Rows.{Emergency, NoAnswer, Unreasonable, Fate, IsNumbered, Row, is_users, row_of, standing, users, was_acked, was_discarded}
+use Rattle.set_model.specs.Sound.{IsBackOf, IsSound, is_unfinished}
+use Rattle.set_model.specs.State.{State, given}
+use Rattle.set_model.proofs.Order.{before_filter}
 use Rattle.set_model.proofs.Rows.{at_most_one, each_filter, fewer_filter, filter_comm, filter_within, no_rows, row_in_filter, with_number}
 use Rattle.std.specs.Prelude.{unwrap_or}
 use Rattle.set_model.specs.Rows.{Parked, place, body_at, stands_back, numbers, waits, was_sent, was_held, is_on, is_held, is_unacked, is_waiting, is_parked}

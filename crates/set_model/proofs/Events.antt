@@ -3,7 +3,7 @@ use Rattle.l2_units.specs.declared.profile.Profile.{Profile}
 use Rattle.std.proofs.Common.{inl, inr, refl, arith, ◌≡◌, ◌∙◌, ap, ◌≤◌, [], ◌∷◌, length, ℕ, Bool, true, false, ◌==◌, ◌||◌, List, ◌++◌, map, take, drop, not, cond}
 use Rattle.std.proofs.lemmas.List.{append-nil, map-append}
 use Rattle.std.proofs.lemmas.List.Elements.{filter-append}
-use Rattle.set_model.specs.Rows.{DiscardCause, Fate, Acked, Discarded, Parked, Unacked, Waiting, AreFit, IsHeldLast, IsInOrder, IsNumbered, Row, all_with, appended, back, body_at, changed, counts_of, fated, held, is_held, is_on, is_parked, is_unacked, is_waiting, moved, numbers, on, parked, standing, stands_back, total_of, turned, unack, wait, was_acked, with_fate}
+use Rattle.set_model.specs.Rows.{DiscardCause, NoAnswer, Fate, Acked, Discarded, Parked, Unacked, Waiting, AreFit, IsHeldLast, IsInOrder, IsNumbered, Row, all_with, appended, back, body_at, changed, counts_of, fated, held, is_held, is_on, is_parked, is_unacked, is_waiting, moved, numbers, on, parked, standing, stands_back, total_of, turned, unack, wait, was_acked, with_fate}
 use Rattle.set_model.specs.Control.{Choice, first}
 use Rattle.set_model.specs.Laws.{IsEmptyLink}
 use Rattle.set_model.specs.Sound.{is_unfinished}
@@ -119,6 +119,16 @@ sent_by _ n rows = (acknowledged n 0 rows).in_place
 pub given_up : (l : ℕ) (sent : Bool) (cause : DiscardCause) (rows : List Row) → ChangesOn l rows (changed (cond sent (is_unacked l) (is_waiting l)) (Discarded cause) rows)
 given_up l true cause rows = ends_on l (is_unacked l) (Discarded cause) rows _ (turned_there (is_unacked l) (Discarded cause) _ rows) (λ f e. grind arith) refl
 given_up l false cause rows = ends_on l (is_waiting l) (Discarded cause) rows _ (turned_there (is_waiting l) (Discarded cause) _ rows) (λ f e. grind arith) refl
+
+-- Foremost ones that are given up, as many as wait, before they are sent.
+pub withdrawn_rows : (count l : ℕ) (rows : List Row) → ChangesOn l rows (turned (is_waiting l) (Discarded NoAnswer) count rows)
+withdrawn_rows count l rows = ends_on l (is_waiting l) (Discarded NoAnswer) rows _ (turned_there (is_waiting l) (Discarded NoAnswer) count rows) (λ f e. grind arith) refl
+
+pub withdrawn_unack : (count l : ℕ) (rows : List Row) → unack l (turned (is_waiting l) (Discarded NoAnswer) count rows) ≡ unack l rows
+withdrawn_unack count l rows = turned_same (is_waiting l) (is_unacked l) (Discarded NoAnswer) refl (λ f e. grind arith) count rows
+
+pub withdrawn_wait : (count l : ℕ) (rows : List Row) → wait l (turned (is_waiting l) (Discarded NoAnswer) count rows) ≡ drop count (wait l rows)
+withdrawn_wait count l rows = turned_left (is_waiting l) (Discarded NoAnswer) refl count rows
 
 -- A LINK THAT IS LEFT BY ITS MESSAGES.
 -- none of the three kinds is on it where nothing is

@@ -1,5 +1,5 @@
 -- FACTS OF EACH ROW, and what changes of rows do to them.
-use Rattle.std.proofs.Common.{inl, ◌⊎◌, arith, refl, ◌≡◌, ◌<◌, ℕ, suc, Bool, true, false, not, ◌||◌, List, [], ◌∷◌, ◌++◌, length, map, slice_get, Some, filter, subst, ◌==◌, take}
+use Rattle.std.proofs.Common.{inl, ◌⊎◌, arith, refl, ◌≡◌, ◌<◌, ℕ, suc, Bool, true, false, not, ◌||◌, List, [], ◌∷◌, ◌++◌, map, slice_get, Some, filter, subst, ◌==◌, take}
 use Rattle.std.proofs.lemmas.List.{append-nil, map-append}
 use Rattle.std.proofs.lemmas.List.Elements.{filter-append}
 use Rattle.set_model.specs.Rows.{Fate, AreBefore, Each, IsNumbered, Row, appended, fated, numbers, standing, Back, back, Unacked, IsHeldLast, IsInOrder, held, is_waiting, on, turned, unack, wait, with_fate}

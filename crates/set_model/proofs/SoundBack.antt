@@ -48,24 +48,24 @@ rises_sound n link s at t =
     (λ code asked. up_after s.links n link risen at.there (λ up. refl) (home_of code) (t.homes_up code asked)) (λ k other there up. u.parked_none) (links_set s.settings s.links n risen s.rows new one u.others t.links)
 
 -- A LINK IS LEFT BY ITS MESSAGES.
-module _ (n : ℕ) (link : LinkState) (s : State) (at : IsAt n link Down s) (t : IsSound s) where
-  pub moves_off_sound : IsSound (moved_over n link s)
+module _ (told : Bool) (n : ℕ) (link : LinkState) (s : State) (at : IsAt n link Down s) (t : IsSound s) where
+  pub moves_off_sound : IsSound (moved_over told n link s)
   moves_off_sound =
       -- it is empty, since the target is another link
       let l = t.links n link at.there in
       let m = left n (fate_on (target s.links)) s.rows (target_off s.links n (grind arith)) (grind arith) in
-      let stays : has_phase_up link.phase ≡ true → has_phase_up (settled_link link).phase ≡ true = false_true (has_phase_up link.phase) (ap has_phase_up at.phase_is) in
+      let stays : has_phase_up link.phase ≡ true → has_phase_up (settled_link told link).phase ≡ true = false_true (has_phase_up link.phase) (ap has_phase_up at.phase_is) in
       let below : IfSome (target s.links) (λ r. r < s.routing.links) = grind (arith, target_up, within) in
-      moved_sound s _ (settled n (target s.links) s.routing) (is_on n) (all_with (fate_on (target s.links))) t (length-set s.links n (settled_link link)) (settled_sound n (target s.links) s.routing below t.routing) refl (fated_none stands_back (all_with (fate_on (target s.links))) (λ x. grind arith) (standing (is_on n) s.rows))
+      moved_sound s _ (settled n (target s.links) s.routing) (is_on n) (all_with (fate_on (target s.links))) t (length-set s.links n (settled_link told link)) (settled_sound n (target s.links) s.routing below t.routing) refl (fated_none stands_back (all_with (fate_on (target s.links))) (λ x. grind arith) (standing (is_on n) s.rows))
       -- a link that is up was so before, so there is a target; and a stream on its way back has a home that is up
       (λ k few. let a = (alone s.routing k t.routing few).settled_place n (target s.links) in let stood = t.placed k few in let away : (home code via : ℕ) → place_of k s.routing ≡ Changing home code via → (target s.links) ≡ None → ⊥ = λ home code via e none. grind (arith, nat_tests, coded_at, none_up) in record {
         placed = rw a (grind (arith, nat_tests, target_up, get_set_other, stood, away));
-        runs = up_before s.links n link (settled_link link) at.there (λ e. absurd cc) (λ j old here up. let runs = t.all_run j old here up k few in rw a (grind (arith, none_up, runs)));
+        runs = up_before s.links n link (settled_link told link) at.there (λ e. absurd cc) (λ j old here up. let runs = t.all_run j old here up k few in rw a (grind (arith, none_up, runs)));
         stays = λ code via out was. grind (arith, a);
       })
-      (λ code asked. up_after s.links n link (settled_link link) at.there stays (home_of code) (t.homes_up code asked))
-      (up_before s.links n link (settled_link link) at.there (λ e. absurd cc) (λ k old here up. moved_same (is_on n) is_parked (all_with (fate_on (target s.links))) s.rows (λ x. grind (arith, none_up)) (λ f e. grind arith) ∙ t.none_aside k old here up))
-      (each_set (λ k other. IsSoundLink s.settings k other (moved (is_on n) (all_with (fate_on (target s.links))) s.rows)) s.links n (settled_link link) (grind arith) (λ k other d here. let out = λ (is_down : has_phase_up other.phase ≡ false). target_off s.links k (ap link_is_up here ∙ is_down) in link_moved s.settings k other (is_on n) (all_with (fate_on (target s.links))) s.routing s.rows t.backs (on_other k n (apart_back n k d))
+      (λ code asked. up_after s.links n link (settled_link told link) at.there stays (home_of code) (t.homes_up code asked))
+      (up_before s.links n link (settled_link told link) at.there (λ e. absurd cc) (λ k old here up. moved_same (is_on n) is_parked (all_with (fate_on (target s.links))) s.rows (λ x. grind (arith, none_up)) (λ f e. grind arith) ∙ t.none_aside k old here up))
+      (each_set (λ k other. IsSoundLink s.settings k other (moved (is_on n) (all_with (fate_on (target s.links))) s.rows)) s.links n (settled_link told link) (grind arith) (λ k other d here. let out = λ (is_down : has_phase_up other.phase ≡ false). target_off s.links k (ap link_is_up here ∙ is_down) in link_moved s.settings k other (is_on n) (all_with (fate_on (target s.links))) s.routing s.rows t.backs (on_other k n (apart_back n k d))
       (λ x. not_sent k (target s.links)) (λ u x. grind arith) (λ f x e b. not_on_waiting k (fate_on (target s.links)) (out f)) (λ e x f b. out (grind (arith, e))) (t.links k other here)))
 
 -- where a message goes whose stream runs on a link: to wait for it if it's up, else to be held for it

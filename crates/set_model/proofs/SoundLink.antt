@@ -9,12 +9,12 @@ use Rattle.set_model.specs.Sound.{IsAsked, IsInRange, IsOf, IsPlaced, IsSound, I
 use Rattle.std.proofs.lemmas.List.Elements.{filter-append}
 use Rattle.l2_units.specs.Grammar.{head_of as header_in}
 use Rattle.set_route.specs.Routing.{IsRouting, Routing, accepted, code_of, home_of, place_of}
-use Rattle.set_model.specs.Changeover.{acknowledged_by, Order, fate_on, queued}
+use Rattle.set_model.specs.Changeover.{acknowledged_by, answered_link, Order, fate_on, queued, withdrawn}
 use Rattle.set_model.specs.Rows.{IsNumbered, AreFit, DiscardCause, Fate, Discarded, Row, changed, fated, held, is_held, is_on, is_parked, is_unacked, is_waiting, moved, octets_in, on, standing, stands_back, unack, wait, Back, appended, parked, service_indicator, stream_of}
-use Rattle.set_model.specs.State.{Asked, all_finished, given, is_up, Place, Changing, Nowhere, On, Down, Up, LinkState, State, Settings, has_phase_settled, has_phase_up, link_is_up, window_of, fate_at, target}
+use Rattle.set_model.specs.State.{Asked, all_finished, given, is_up, Place, Changing, Nowhere, On, Down, Up, Settled, LinkState, State, Settings, with_link, has_phase_settled, has_phase_up, link_is_up, window_of, fate_at, target}
 use Rattle.set_model.specs.Step.{Event, Offer, SignalUnit, choice_in, controlled, is_msu, one_if, part_in, next, rows_sent, offer_refusal, offered}
 use Rattle.set_model.proofs.Order.{backs_of, stood, before_append, before_none, neither, gone_none, coded_at, ascends_appended}
-use Rattle.set_model.proofs.Events.{Untouched, sent, acknowledged, ChangesOn, sent_by, untouched, appended_out}
+use Rattle.set_model.proofs.Events.{Untouched, sent, acknowledged, ChangesOn, sent_by, untouched, appended_out, withdrawn_unack}
 use Rattle.set_model.proofs.Rows.{each_append, each_filter, each_so, turned_there, others_stay, new_row, numbered_appended, numbered_on}
 use Rattle.set_model.proofs.Lists.{at_set, each_set, get_set_same, get_set_other, set_same, within, target_up, none_up}
 use Rattle.set_model.proofs.Places.{false_true}
@@ -110,6 +110,41 @@ gives_up test cause n link s g at t =
     let fewer = (turned_there test (Discarded cause) (length s.rows) s.rows).fewer (is_unacked n) refl in
     let sound = changes n link link s (changed test (Discarded cause) s.rows) t at.there refl (ap has_phase_settled at.phase_is) g l.profile (omega (arith, l.window, fewer)) l.counted l.method (false_true (has_phase_up link.phase) (ap has_phase_up at.phase_is)) in
     subst (λ (links : List LinkState). IsSound (record s { links = links; rows = changed test (Discarded cause) s.rows })) (set_same s.links n link at.there) sound
+
+-- WHAT IS GIVEN UP of what waits, before it's sent.
+pub withdraws : (count n : ℕ) (link : LinkState) (s : State) → IsAt n link Up s → ChangesOn n s.rows (withdrawn count n s).rows → IsSound s → IsSound (withdrawn count n s)
+withdraws count n link s at g t =
+    let l = t.links n link at.there in
+    let same = withdrawn_unack count n s.rows in
+    let sound = changes n link link s (withdrawn count n s).rows t at.there refl (ap has_phase_settled at.phase_is) g l.profile (rw same l.window) l.counted l.method (λ u. rw same (l.in_range u)) in
+    subst (λ (links : List LinkState). IsSound (record s { links = links; rows = (withdrawn count n s).rows })) (set_same s.links n link at.there) sound
+
+-- A LATE ORDER is answered: the link stands where it stood.
+placed_same : (links : List LinkState) (n : ℕ) (link link' : LinkState) (place : Place) → slice_get links n ≡ Some link → link'.phase ≡ link.phase → IsPlaced links place → IsPlaced (slice_set links n link') place
+placed_same links n link link' Nowhere there same p = tt
+placed_same links n link link' (On l) there same p = (cond (n == l) link' p.0, grind (arith, nat_tests, get_set_same, get_set_other, within, p.1), grind (arith, nat_tests, p.1, p.2))
+placed_same links n link link' (Changing to code l) there same p = (cond (n == l) link' p.0, grind (arith, nat_tests, get_set_same, get_set_other, within, p.1), grind (arith, nat_tests, p.1, p.2))
+
+pub answers : (n : ℕ) (link : LinkState) (s : State) → IsAt n link Settled s → IsSound s → IsSound (with_link n (answered_link link) s)
+answers n link s at t =
+    let new = answered_link link in
+    let l = t.links n link at.there in
+    let one : IsSoundLink s.settings n new s.rows = record { profile = l.profile; window = l.window; counted = l.counted; method = l.method; in_order = l.in_order; held_last = l.held_last; none_held = l.none_held; in_range = l.in_range; settled = l.settled } in
+    record {
+      managed = t.managed;
+      routing = t.routing;
+      routed = t.routed;
+      count = length-set s.links n new ∙ t.count;
+      numbered = t.numbered;
+      fit = t.fit;
+      links = links_set s.settings s.links n new s.rows s.rows one (λ k d. untouched k s.rows s.rows refl) t.links;
+      placed = λ stream low. placed_same s.links n link new (place_of stream s.routing) at.there refl (t.placed stream low);
+      none_aside = up_before s.links n link new at.there (λ e. e) t.none_aside;
+      all_run = up_before s.links n link new at.there (λ e. e) t.all_run;
+      homes_up = λ code asked. up_after s.links n link new at.there (λ e. e) (home_of code) (t.homes_up code asked);
+      backs = t.backs;
+      back_order = t.back_order;
+    }
 
 -- SENDING.
 module _ (n : ℕ) (link : LinkState) (s : State) (at : IsAt n link Up s) (t : IsSound s) where

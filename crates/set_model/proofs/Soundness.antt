@@ -5,20 +5,20 @@ use Rattle.std.proofs.lemmas.Option.{slice_get_cases}
 use Rattle.std.proofs.lemmas.Bool.Decides.{nat_tests}
 use Rattle.set_route.specs.Routing.{new_stream, stream_numbers, settled, runs_on, NoneOpen, has_messages, place_of, place_raised, place_settled, raised, home_of}
 use Rattle.set_route.specs.declared.stream.Stream.{Stream}
-use Rattle.set_model.specs.Step.{Event, Gains, step, stepped, offered, rows_sent}
+use Rattle.set_model.specs.Step.{Event, Gains, choice_in, next, step, stepped, offered, rows_sent}
 use Rattle.set_model.specs.Laws.{IsNew, KeepsMessages, RunsStraight}
 use Rattle.set_model.specs.Rows.{numbers, stream_of, Fate, Unacked, Waiting, IsNumbered, Row, all_with, appended, fated, is_back, is_back_to, is_on, is_parked, is_waiting, moved, standing, stands_back, turned}
 use Rattle.set_model.specs.Sound.{IsAsked, IsManaged, IsPlaced, IsSettings, IsSound, AreAbove, AreTogether, BeginsNone, IsAscending, IsBackOf, IsSoundStream, astray, is_astray, is_live, is_unfinished, live, stands_at}
-use Rattle.set_model.specs.State.{Asked, Free, Nowhere, LinkState, Settings, State, given, new_link, opened_with, Place, Changing, On, fate_at, target}
+use Rattle.set_model.specs.State.{Asked, Free, Nowhere, Up, LinkState, Settings, State, given, new_link, opened_with, Place, Changing, On, fate_at, target}
 use Rattle.set_route.proofs.Places.{new_sound}
 use Rattle.set_route.proofs.Codes.{all_free}
-use Rattle.set_model.proofs.Walk.{KeptBy, step_is, step_walks}
+use Rattle.set_model.proofs.Walk.{IsAt, KeptBy, step_is, step_walks}
 use Rattle.set_model.proofs.Framing.{leaves_alone}
 use Rattle.set_model.proofs.Settling.{settled_empty, diverts_the_rest}
 use Rattle.set_model.proofs.Staying.{keeps_messages, step_gains}
 use Rattle.set_model.specs.Frame.{Concerns, LeavesAlone}
 use Rattle.set_model.proofs.SoundBack.{leaves, declares, releases, rises_sound, moves_off_sound}
-use Rattle.set_model.proofs.SoundLink.{with_inbox, acknowledges, gives_up, sends_sound, hears_sound, queues, offers}
+use Rattle.set_model.proofs.SoundLink.{with_inbox, acknowledges, gives_up, answers, withdraws, sends_sound, hears_sound, queues, offers}
 use Rattle.std.proofs.lemmas.List.Elements.{filter-append}
 use Rattle.std.proofs.lemmas.Bool.{cond_both}
 use Rattle.set_model.specs.Changeover.{Order, fate_on, left_by, queued, released}
@@ -30,13 +30,15 @@ use Rattle.set_model.proofs.Order.{ascends_appended, none_standing}
 use Rattle.set_model.proofs.Places.{false_true, itself, code_back, home_back}
 
 -- THE STEP.
-pub ruleset sounds = (with_inbox, queues, leaves, acknowledges, gives_up, moves_off_sound, declares, releases, offers, sends_sound, hears_sound, rises_sound)
+pub ruleset sounds = (with_inbox, queues, leaves, acknowledges, gives_up, moves_off_sound, answers, withdraws, declares, releases, offers, sends_sound, hears_sound, rises_sound)
 
 small : (Known : ℕ → Type 0) (May : Type 0) → KeptBy Known May (λ s u. IsSound s → IsSound u)
 small Known May = search sounds
 
 pub step_sound : (s : State) (event : Event) → IsAsked event → IsSound s → IsSound (step s event).state
-step_sound s event asked t = step_walks s (λ a b. IsSound a → IsSound b) IsSound event (search (small, sounds, t))
+step_sound s event asked t =
+    let sends = λ (n : ℕ) (link : LinkState) (u : State) (keeps : IsSound s → IsSound u) (at : IsAt n link Up u). sends_sound n link u at (keeps t) in
+    step_walks s (λ a b. IsSound a → IsSound b) IsSound event (search (small, sounds, sends, t))
 
 -- A NEW SET.
 new_there : (k n : ℕ) (link other : LinkState) → slice_get (replicate k link) n ≡ Some other → other ≡ link
@@ -169,8 +171,11 @@ step_straight s event asked begins t r =
     let stream_finishes = λ (k : ℕ) (place : Place) (test : Fate → Bool) (fate : Fate) (done : is_unfinished fate ≡ false). stream_turned k place test fate (λ f e alive. false_true (is_unfinished fate) done alive) in
     let rests : (a b : State) → IsSound a × RunsStraight a → StaysStraight a b → IsSound b × RunsStraight b = λ a b q then. then q.0 q.1.none_open q.1.together in
     let then_straight : (a b c : State) → StaysStraight a b → StaysStraight b c → StaysStraight a c = λ a b c p q sound none r. rests b c (p sound none r) q in
+    let sends : (n : ℕ) (link : LinkState) (u : State) → StaysStraight s u → IsAt n link Up u → IsSound (next n u link).state × RunsStraight (next n u link).state = λ n link u keeps at.
+    let now = keeps t r.none_open r.together in
+    (sends_sound n link u at now.0, record { none_open = now.1.none_open; together = λ k low. sends_straight (choice_in n link u) n u now.1.together k low }) in
     let begins_none : (u : State) → (BeginsNone event → ⊥) → IsSound u × RunsStraight u = λ u may. absurd (may begins) in
-    (step_walks s StaysStraight (λ u. IsSound u × RunsStraight u) event (search (sounds, leaves_straight, releases_straight, queues_straight, stream_finishes, moves_off_straight, offers_straight, sends_straight, rises_straight, then_straight, rests, begins_none, stood))).1
+    (step_walks s StaysStraight (λ u. IsSound u × RunsStraight u) event (search (sounds, leaves_straight, releases_straight, queues_straight, stream_finishes, moves_off_straight, offers_straight, sends_straight, rises_straight, then_straight, rests, sends, begins_none, stood))).1
 
 -- WHAT EVERY STEP DOES. The first of it tells where the rest holds: of each step that is named.
 pub step_laws : (s : State) (event : Event) → (step s event ≡ stepped s event) × (IsAsked event → IsSound s → IsSound (step s event).state) × (IsManaged s.settings → Gains s event (step s event).answer (step s event).state) × (IsNumbered (given s) s.rows → KeepsMessages s (step s event).state) × ((n : ℕ) → (Concerns event n s → ⊥) → LeavesAlone n s (step s event).state)

@@ -114,6 +114,7 @@ module _ (more : ℕ) (s : State) (rows : List Row) (routing : Routing) (inbox :
 step_counts : (s : State) (event : Event) → GrowBy 1 s (step s event).state
 step_counts s event =
     let grow_then : (more : ℕ) (s t u : State) → GrowBy more s t → GrowBy 0 t u → GrowBy more s u = λ more s t u p q. record { each = λ n new at. let y = q.each n new at in let x = p.each n y.0 y.1 in (x.0, x.1, omega (arith, x.2, y.2), omega (arith, x.3, y.3)) } in
+    let grow_first : (more : ℕ) (s t u : State) → GrowBy 0 s t → GrowBy more t u → GrowBy more s u = λ more s t u p q. record { each = λ n new at. let y = q.each n new at in let x = p.each n y.0 y.1 in (x.0, x.1, omega (arith, x.2, y.2), omega (arith, x.3, y.3)) } in
     let few_sent : (choice : Choice) (m n : ℕ) (rows : List Row) → length (unack m (rows_sent choice n rows)) ≤ length (unack m rows) + 1 = λ choice m n rows. grind (arith, few_turned (is_waiting n) (is_unacked m) (Unacked n) 1 rows) in
     -- a move makes no unacknowledged ones, and what is acknowledged was sent
     let few_moved : (test : Fate → Bool) (fate : Row → Fate) (m : ℕ) (rows : List Row) → ((row : Row) → is_unacked m (fate row) ≡ false) → length (unack m (moved test fate rows)) ≤ length (unack m rows) = λ test fate m rows none. grind (arith, filter-append, fated_none, append-nil, filter_comm, fewer_filter) in
@@ -122,7 +123,7 @@ step_counts s event =
     let sum_at_most : (d c a b more : ℕ) → d ≤ c → a ≤ b + more → d + a ≤ c + b + more = λ d c a b more e few. omega arith in
     let one_low : (a more : ℕ) (b : Bool) → 1 ≤ more → a + one_if b ≤ a + more = λ a more b some. grind arith in
     let fewer = λ (m count : ℕ) (test : Fate → Bool) (fate : Fate) (rows : List Row). (turned_there test fate count rows).fewer (is_unacked m) in
-    step_walks s (GrowBy 0) (GrowBy 1 s) event (search (le_refl, zero-le, grow_then, grow_rows, grow_set, acked_at_most, few_moved, appended_out, not_sent, offered_out, few_sent, acked_few, arith, at_most, sum_at_most, one_low))
+    step_walks s (GrowBy 0) (GrowBy 1 s) event (search (le_refl, zero-le, grow_then, grow_first, grow_rows, grow_set, acked_at_most, few_moved, appended_out, not_sent, offered_out, few_sent, acked_few, arith, at_most, sum_at_most, one_low))
 
 pub step_at_most : (s : State) (event : Event) (k : ℕ → WholeNumbers) → AreAtMost k s → AreAtMost (λ n. one_more (k n)) (step s event).state
 step_at_most s event k few n link there = let g = (step_counts s event).each n link there in let f = few n g.0 g.1 in grind (arith, f, g)

@@ -4,12 +4,12 @@ use Rattle.std.proofs.lemmas.Bool.{cond_both}
 use Rattle.l3_orders.specs.Grammar.{link_of, order_of}
 use Rattle.set_route.specs.Routing.{code_for, home_of}
 use Rattle.set_model.specs.Step.{SignalUnit, Event, BackTimeout, DownEvent, DownBlind, Heard, Next, NoAnswer, Offer, Take, UpEvent, step, Outcome, brought, controlled, controls, falls, in_service, next, offer_refusal, offered, part_in, rises, taken, takes, stepped, is_heard}
-use Rattle.set_model.specs.Changeover.{Order, Cba, Cbd, Coa, Reached, Unanswered, Unknown, Upto, acknowledged_by, answered, can_declare, changed_over, declared, declared_from, leaving_order, left_by, left_link, moved_over, obeyed, order_obeyed, queued, reached_by, released, released_from, settled}
+use Rattle.set_model.specs.Changeover.{Order, Cba, Cbd, Coa, Reached, Unanswered, Unknown, Upto, acknowledged_by, answered, answered_link, can_declare, changed_over, cleared, declared, declared_from, is_overtaken, leading, leaving_order, left_by, left_link, moved_over, obeyed, order_obeyed, queued, reached_by, released, released_from, reply_of, settled, withdrawn}
 use Rattle.set_model.specs.Frame.{BringsAbout, BringsBackTo, Concerns}
-use Rattle.set_model.specs.Rows.{DiscardCause, Emergency, NoAnswer as NoAnswerCame, Unreasonable, Discarded, changed, is_unacked, is_waiting, unack}
+use Rattle.set_model.specs.Rows.{DiscardCause, Emergency, NoAnswer as NoAnswerCame, Unreasonable, Discarded, changed, is_unacked, is_waiting, unack, wait}
 use Rattle.set_model.specs.Sound.{BeginsNone}
-use Rattle.set_model.specs.State.{Phase, Down, Settled, Up, LinkState, State, is_up, last_accepted}
-use Rattle.set_model.proofs.Events.{ChangesOn, Unparked, acknowledged, given_up, sent_by, unparked}
+use Rattle.set_model.specs.State.{Phase, Down, Settled, Up, LinkState, State, is_up, last_accepted, with_link}
+use Rattle.set_model.proofs.Events.{ChangesOn, Unparked, acknowledged, given_up, sent_by, unparked, withdrawn_rows}
 use Rattle.set_model.proofs.Lists.{within, get_set_same}
 use Rattle.std.proofs.lemmas.List.{length-set}
 
@@ -28,7 +28,9 @@ pub record KeptBy (Known : ℕ → Type 0) (May : Type 0) (R : State → State �
   pub leaves : (blind : Bool) (n : ℕ) (link : LinkState) (s : State) → Known n → IsAt n link Up s → R s (left_by blind n link s)
   pub acknowledges : (count n : ℕ) (link : LinkState) (s : State) → Known n → IsAt n link Down s → count ≤ length (unack n s.rows) → ChangesOn n s.rows (acknowledged_by count n link s).rows → R s (acknowledged_by count n link s)
   pub gives_up : (sent : Bool) (cause : DiscardCause) (n : ℕ) (link : LinkState) (s : State) → Known n → IsAt n link Down s → ChangesOn n s.rows (changed (cond sent (is_unacked n) (is_waiting n)) (Discarded cause) s.rows) → R s (record s { rows = changed (cond sent (is_unacked n) (is_waiting n)) (Discarded cause) s.rows })
-  pub moves_off : (n : ℕ) (link : LinkState) (s : State) → Known n → IsAt n link Down s → R s (moved_over n link s)
+  pub moves_off : (told : Bool) (n : ℕ) (link : LinkState) (s : State) → Known n → IsAt n link Down s → R s (moved_over told n link s)
+  pub answers : (n : ℕ) (link : LinkState) (s : State) → Known n → IsAt n link Settled s → R s (with_link n (answered_link link) s)
+  pub withdraws : (count n : ℕ) (link : LinkState) (s : State) → Known n → IsAt n link Up s → ChangesOn n s.rows (withdrawn count n s).rows → R s (withdrawn count n s)
   pub declares : May → (home alternative : ℕ) (s : State) → is_up home s ≡ true → can_declare home alternative s ≡ true → R s (declared home alternative s)
   pub releases : (code : ℕ) (s : State) → Known (home_of code) → R s (released code s)
 
@@ -43,14 +45,14 @@ module _ (Known : ℕ → Type 0) (May : Type 0) (R : State → State → Type 0
       let mid : State = record s { rows = changed (is_unacked n) (Discarded cause) s.rows } in
       k.after s mid (record mid { rows = changed (is_waiting n) (Discarded cause) mid.rows }) (k.gives_up true cause n link s known at (given_up n true cause s.rows)) (k.gives_up false cause n link mid known (record { there = at.there; phase_is = at.phase_is }) (given_up n false cause mid.rows))
 
-  off : (n : ℕ) (link : LinkState) (s mid : State) → Known n → R s mid → IsAt n link Down mid → R s (moved_over n link mid)
-  off n link s mid known r at = k.after s mid (moved_over n link mid) r (k.moves_off n link mid known at)
+  off : (told : Bool) (n : ℕ) (link : LinkState) (s mid : State) → Known n → R s mid → IsAt n link Down mid → R s (moved_over told n link mid)
+  off told n link s mid known r at = k.after s mid (moved_over told n link mid) r (k.moves_off told n link mid known at)
 
   pub settle_walks : (reached : Reached) (n : ℕ) (link : LinkState) (s : State) → Known n → IsAt n link Down s → R s (settled reached n link s)
-  settle_walks Unknown n link s known at = off n link s _ known (k.gives_up true Emergency n link s known at (given_up n true Emergency s.rows)) (record { there = at.there; phase_is = at.phase_is })
-  settle_walks Unanswered n link s known at = off n link s _ known (both_given_up NoAnswerCame n link s known at) (record { there = at.there; phase_is = at.phase_is })
+  settle_walks Unknown n link s known at = off true n link s _ known (k.gives_up true Emergency n link s known at (given_up n true Emergency s.rows)) (record { there = at.there; phase_is = at.phase_is })
+  settle_walks Unanswered n link s known at = off false n link s _ known (both_given_up NoAnswerCame n link s known at) (record { there = at.there; phase_is = at.phase_is })
   settle_walks (Upto fsn) n link s known at =
-      let refused = off n link s _ known (both_given_up Unreasonable n link s known at) (record { there = at.there; phase_is = at.phase_is }) in
+      let refused = off true n link s _ known (both_given_up Unreasonable n link s known at) (record { there = at.there; phase_is = at.phase_is }) in
       let count = reached_by fsn n link s.rows in
       let arrived = λ (few : count ≤ length (unack n s.rows)). k.acknowledges count n link s known at few (acknowledged n count s.rows).in_place in
       grind (arith, get_set_same, within, refused, arrived)
@@ -60,7 +62,10 @@ module _ (Known : ℕ → Type 0) (May : Type 0) (R : State → State → Type 0
   over_walks reached n link Up s known at =
       let told = queued (Coa n (last_accepted link)) (left_by false n link s) in
       k.after s told _ (k.after s _ told (k.leaves false n link s known at) (k.queues (Coa n (last_accepted link)) (left_by false n link s))) (settle_walks reached n (left_link false link) told known (record { there = get_set_same s.links n (left_link false link) (within s.links n link at.there); phase_is = refl }))
-  over_walks reached n link phase s known at = grind (arith, settle_walks)
+  over_walks reached n link Down s known at = settle_walks reached n link s known at
+  over_walks reached n link Settled s known at =
+      let told = queued (reply_of n link) s in
+      k.after s told (with_link n (answered_link link) told) (k.queues (reply_of n link) s) (k.answers n link told known (record { there = at.there; phase_is = at.phase_is }))
 
   answer_walks : (reached : Reached) (n : ℕ) (link : LinkState) (phase : Phase) (s : State) → Known n → IsAt n link phase s → R s (answered reached n link phase s).state
   answer_walks reached n link phase s known at = grind (arith, settle_walks)
@@ -97,7 +102,7 @@ pub record WalkedBy (s : State) (event : Event) (R : State → State → Type 0)
   pub rests : (t u : State) → S t → R t u → S u
   pub offers : (body : List ℕ) → event ≡ Offer body → offer_refusal s.settings.profile s.rows body ≡ None → S (offered None s body).state
   pub takes : (body : List ℕ) (rest : List (List ℕ)) → event ≡ Take → s.inbox ≡ body ∷ rest → S (record s { inbox = rest })
-  pub sends : (n : ℕ) (link : LinkState) → event ≡ Next n → IsAt n link Up s → ChangesOn n s.rows (next n s link).state.rows → S (next n s link).state
+  pub sends : (n : ℕ) (link : LinkState) (t : State) → event ≡ Next n → R s t → IsAt n link Up t → ChangesOn n t.rows (next n t link).state.rows → S (next n t link).state
   pub hears : (n : ℕ) (unit : SignalUnit) (link : LinkState) → event ≡ Heard n unit → is_heard s.settings.profile unit ≡ true → IsAt n link Up s → ChangesOn n s.rows (controlled unit n s link).rows → S (controlled unit n s link)
   pub rises : (n : ℕ) (link : LinkState) → event ≡ UpEvent n → IsAt n link Settled s → Unparked n s.rows (rises n s Settled).state.rows → S (rises n s Settled).state
 
@@ -133,7 +138,9 @@ module _ (s : State) (R : State → State → Type 0) (S : State → Type 0) whe
       grind (arith, release)
   step_walks (DownEvent n) w = in_walks n _ w.unmoved (λ link at. fall_walks (DownEvent n) false n link w refl at)
   step_walks (DownBlind n) w = in_walks n _ w.unmoved (λ link at. fall_walks (DownBlind n) true n link w refl at)
-  step_walks (Next n) w = in_walks n _ w.unmoved (λ link at. w.sends n link refl at (sent_by _ n s.rows))
+  step_walks (Next n) w = in_walks n _ w.unmoved (λ link at.
+      let count = leading (is_overtaken s) (wait n s.rows) in
+      w.sends n link (cleared n s) refl (w.small.withdraws count n link s refl at (withdrawn_rows count n s.rows)) (record { there = at.there; phase_is = at.phase_is }) (sent_by _ n (cleared n s).rows))
   step_walks event w = grind (arith, hear_walks, rise_walks, declare_walks)
 
 -- The sealed step is its cases.

@@ -1,18 +1,18 @@
 -- CHANGEOVER AND CHANGEBACK (Q.704 5, 6). A link is left, orders tell the far end, and once it's known how far the far
 -- end got, the rest is moved to another link; and when it's back, its streams come back to it.
-use Rattle.std.specs.Prelude.{ℕ, zero, suc, Bool, true, false, not, ◌&&◌, ◌||◌, ◌+◌, ◌==◌, nat_le, List, length, slice_get, slice_set, Option, None, Some, if◌then◌else◌}
-use Rattle.l2_window.specs.Window.{distance_to}
+use Rattle.std.specs.Prelude.{ℕ, zero, suc, Bool, true, false, not, ◌&&◌, ◌||◌, ◌+◌, ◌==◌, nat_le, List, [], ◌∷◌, length, slice_get, slice_set, Option, None, Some, if◌then◌else◌}
+use Rattle.l2_window.specs.Window.{distance_to, fsn_before_first}
 pub use Rattle.l3_orders.specs.declared.order.Order.{Order}
 pub use Rattle.l3_orders.specs.declared.order.Order.TheVariants.{Coo, Coa, Cbd, Cba, Eco, Eca}
-use Rattle.l3_orders.specs.Grammar.{text}
+use Rattle.l3_orders.specs.Grammar.{text, order_of}
 pub use Rattle.set_events.specs.Places.{fate_on}
 use Rattle.set_events.specs.declared.answer.Took.{Took}
 use Rattle.set_events.specs.declared.answer.Took.TheVariants.{Order as TookOrder, Ignored}
-use Rattle.set_model.specs.Rows.{Waiting, Acked, Discarded, DiscardCause, Emergency, Unreasonable, NoAnswer, Row, all_with, unack, stream_of, is_unacked, is_waiting, is_on, is_back, is_back_to, turned, changed, moved, appended}
+use Rattle.set_model.specs.Rows.{Waiting, Acked, Discarded, DiscardCause, Emergency, Unreasonable, NoAnswer, Row, all_with, unack, wait, stream_of, is_unacked, is_waiting, is_on, is_back, is_back_to, turned, changed, moved, appended}
 use Rattle.set_route.specs.Routing.{place_of, code_for, home_of, code_of, is_free, can_ask, asked, given_back, left, settled as streams_settled}
 pub use Rattle.set_model.specs.declared.reached.Reached.{Reached}
 pub use Rattle.set_model.specs.declared.reached.Reached.TheVariants.{Upto, Unknown, Unanswered}
-use Rattle.set_model.specs.State.{Phase, Up, Down, Settled, Code, Free, LinkState, State, given, is_up, fate_at, target, window_of, last_accepted}
+use Rattle.set_model.specs.State.{Phase, Up, Down, Settled, Code, Free, LinkState, State, given, with_link, is_up, fate_at, target, window_of, last_accepted}
 
 -- QUEUE: an order stands last, as a row of its own, for the target, in the octets that this set writes
 abbrev pub queued : Order → State → State
@@ -44,6 +44,28 @@ left_by blind number link s = turned_back number (out_of_service blind number li
 abbrev pub leaving_order : Bool → ℕ → LinkState → Order
 leaving_order false number link = Coo number (last_accepted link)
 leaving_order true number link = Eco number
+
+-- (own) Such an order was overtaken where its link is in service again by the time that it would be sent: it speaks of a
+-- life that is over, and the far end would leave the present one.
+abbrev pub overtakes : State → Option Order → Bool
+overtakes s (Some (Coo link fsn)) = is_up link s
+overtakes s (Some (Eco link)) = is_up link s
+overtakes s _ = false
+
+abbrev pub is_overtaken : State → Row → Bool
+is_overtaken s row = overtakes s (order_of s.settings.profile row.body)
+
+-- how many rows stand before the first of which the test doesn't hold
+abbrev pub leading : (Row → Bool) → List Row → ℕ
+leading test [] = 0
+leading test (row ∷ rows) = if test row then suc (leading test rows) else 0
+
+-- so many that wait foremost for the link are discarded in their places; and all of them that were overtaken
+abbrev pub withdrawn : ℕ → ℕ → State → State
+withdrawn count number s = record s { rows = turned (is_waiting number) (Discarded NoAnswer) count s.rows }
+
+abbrev pub cleared : ℕ → State → State
+cleared number s = withdrawn (leading (is_overtaken s) (wait number s.rows)) number s
 
 -- SETTLE (Q.704 5.5). How far the far end got is told by its FSN, or isn't told, or no answer came (Reached).
 
@@ -86,19 +108,23 @@ judged_link (Upto fsn) number link rows =
 judged_link _ number link rows = link
 
 -- then: what stands on the link is moved, in its order, and so are its streams
-abbrev pub settled_link : LinkState → LinkState
-settled_link link = record link { phase = Settled }
+abbrev pub is_told : Reached → Bool
+is_told Unanswered = false
+is_told _ = true
 
-abbrev pub moved_over : ℕ → LinkState → State → State
-moved_over number link s = record s {
-  links = slice_set s.links number (settled_link link);
+abbrev pub settled_link : Bool → LinkState → LinkState
+settled_link told link = record link { phase = Settled; answered = told }
+
+abbrev pub moved_over : Bool → ℕ → LinkState → State → State
+moved_over told number link s = record s {
+  links = slice_set s.links number (settled_link told link);
   rows = moved (is_on number) (all_with (fate_on (target s.links))) s.rows;
   routing = streams_settled number (target s.links) s.routing;
 }
 
 abbrev pub settled : Reached → ℕ → LinkState → State → State
 settled reached number link s =
-    moved_over number (judged_link reached number link s.rows) (judged reached number link s)
+    moved_over (is_told reached) number (judged_link reached number link s.rows) (judged reached number link s)
 
 -- CHANGEBACK (Q.704 6). A declaration tells the far end, on the link from which streams are to come back, that what
 -- follows comes on their home; it stands behind all that was queued there. Until it's acknowledged what is offered for
@@ -153,9 +179,15 @@ pub record Obeyed : Type 0 where
 abbrev pub ignored : State → Obeyed
 ignored s = record { took = Ignored; state = s }
 
--- (own) after the link settled a late order gets the answer that its last life would have got
+-- (own) After the link settled a late order gets the answer that its last life would have got, and once: how a life
+-- ended is told once. An order that comes then is about a life that this end never had, of which it accepted nothing.
 abbrev pub reply_of : ℕ → LinkState → Order
-reply_of number link = if link.blind then Eca number else Coa number (last_accepted link)
+reply_of number link =
+    if link.answered then Coa number (fsn_before_first link.profile)
+    else (if link.blind then Eca number else Coa number (last_accepted link))
+
+abbrev pub answered_link : LinkState → LinkState
+answered_link link = record link { answered = true }
 
 -- (Q.704 5.4.2, 5.6.2) a changeover order: a link that is up is left and answered for; one's own order that stands
 -- unanswered is answered by it (own: with no acknowledgement)
@@ -166,7 +198,10 @@ changed_over reached number link Up s = record {
       (queued (Coa number (last_accepted link)) (left_by false number link s));
 }
 changed_over reached number link Down s = record { took = TookOrder; state = settled reached number link s }
-changed_over reached number link Settled s = record { took = TookOrder; state = queued (reply_of number link) s }
+changed_over reached number link Settled s = record {
+  took = TookOrder;
+  state = with_link number (answered_link link) (queued (reply_of number link) s);
+}
 
 -- (Q.704 5.4.3, 5.6.3) an acknowledgement settles a link that waits for one
 abbrev pub answered : Reached → ℕ → LinkState → Phase → State → Obeyed

@@ -1,9 +1,9 @@
 -- A CHECKPOINT: what a set goes on from without the messages that are finished. They leave its rows and are counted.
-use Rattle.std.specs.Prelude.{◌≡◌, ◌<◌, ◌+◌, ◌&&◌, not, ℕ, Bool, List, length, filter, Option, None, Some, if◌then◌else◌}
+use Rattle.std.specs.Prelude.{◌≡◌, ◌+◌, ◌&&◌, not, ℕ, Bool, List, length, filter, Option, None, Some, if◌then◌else◌}
 use Rattle.set_events.specs.declared.answer.Counts.{Counts}
-use Rattle.set_model.specs.Rows.{Fate, DiscardCause, Emergency, Unreasonable, NoAnswer, Acked, Discarded, Row, standing, is_users, users, was_acked, same_fate, counts_of, row_of}
+use Rattle.set_model.specs.Rows.{Fate, DiscardCause, Emergency, Unreasonable, NoAnswer, Discarded, Row, standing, is_users, users, was_acked, same_fate, counts_of, row_of}
 use Rattle.set_model.specs.Sound.{IsSound, is_unfinished}
-use Rattle.set_model.specs.State.{FinishedCounts, State, all_finished, given}
+use Rattle.set_model.specs.State.{FinishedCounts, State, given}
 
 -- it was discarded for this cause
 abbrev pub was_discarded_by : DiscardCause → Fate → Bool

@@ -23,6 +23,8 @@ pub record LinkState : Type 0 where
   pub profile : Profile
   -- that life ended without the FSN last accepted being known: emergency changeover (Q.704 5.6)
   pub blind : Bool
+  -- how that life ended was told: an order settled the link, or a late one was answered
+  pub answered : Bool
   -- how many of its messages were acknowledged, and how many of the far end's bodies were accepted, as whole numbers
   pub acked : ℕ
   pub accepted : ℕ
@@ -81,6 +83,7 @@ new_link profile method = record {
   phase = Settled;
   profile = profile;
   blind = false;
+  answered = false;
   acked = 0;
   accepted = 0;
   control = start_of method;

@@ -20,7 +20,7 @@ use Rattle.set_route.specs.Routing.{place_of, code_for, accepted, raised}
 use Rattle.set_model.specs.Rows.{Fate, Waiting, Unacked, Acked, Row, all_with, unack, wait, is_unacked, is_waiting, is_parked, octets_in, unsent, stream_of, service_indicator, turned, moved, appended, place, counts_of, total_of}
 use Rattle.set_model.specs.State.{Phase, Up, Down, Settled, LinkState, State, given, with_link, link_count, has_phase_up, fate_at, window_of}
 use Rattle.set_model.specs.Control.{Header, Method, HeardPart, Choice, again, first, fill, start_of, choice_of, fsn_of, head_of, control_after, part_of, control_heard}
-use Rattle.set_model.specs.Changeover.{Unanswered, Obeyed, left_by, leaving_order, queued, settled, declared_from, some_declare, released_from, some_in_use, obeyed}
+use Rattle.set_model.specs.Changeover.{Unanswered, Obeyed, cleared, left_by, leaving_order, queued, settled, declared_from, some_declare, released_from, some_in_use, obeyed}
 
 -- what is answered, and what the set holds then
 pub record Outcome : Type 0 where
@@ -77,7 +77,7 @@ abbrev pub in_service : ℕ → State → (LinkState → Outcome) → Outcome
 in_service number s outcome =
     on_link number s (λ link. if has_phase_up link.phase then outcome link else refused s NotUp)
 
--- NEXT. The message that is chosen (a chosen place is always one of them).
+-- NEXT, once the orders that were overtaken are discarded. The message that is chosen (a chosen place is always one of them).
 abbrev pub chosen : Choice → ℕ → List Row → Option Row
 chosen (again place) number rows = slice_get (unack number rows) place
 chosen first number rows = slice_get (wait number rows) 0
@@ -176,7 +176,7 @@ heard unit number s link =
 
 -- UP. The error control starts anew; streams move to the link, and what was parked waits for it.
 abbrev pub risen_link : Profile → Method → LinkState
-risen_link profile method = record { phase = Up; profile = profile; blind = false; acked = 0; accepted = 0; control = start_of method }
+risen_link profile method = record { phase = Up; profile = profile; blind = false; answered = false; acked = 0; accepted = 0; control = start_of method }
 
 abbrev pub rises : ℕ → State → Phase → Outcome
 rises number s Up = refused s NotDown
@@ -223,7 +223,7 @@ abbrev pub stepped : State → Event → Outcome
 stepped s (Offer body) = offered (offer_refusal s.settings.profile s.rows body) s body
 stepped s Take = taken s.inbox s
 stepped s (Find number) = found (place number s.rows) number s
-stepped s (Next link) = in_service link s (next link s)
+stepped s (Next link) = in_service link s (next link (cleared link s))
 stepped s (Heard link unit) = in_service link s (heard unit link s)
 stepped s (UpEvent link) = on_link link s (λ state. rises link s state.phase)
 stepped s (DownEvent link) = in_service link s (falls false link s)

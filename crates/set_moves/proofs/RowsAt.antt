@@ -7,7 +7,7 @@ use Rattle.set_queues.specs.Buffers.{is_standing, same_fate}
 use Rattle.set_model.specs.Rows.{Fate, Row, standing, numbers, turned, moved, all_with, appended, IsNumbered, AreBefore, row_of, place}
 use Rattle.set_model.specs.Laws.{SameMessages}
 use Rattle.set_model.proofs.Events.{numbers_joined, appended_in, appended_out}
-use Rattle.set_model.proofs.Rows.{turned_same, turned_left, moved_same, moved_gone, moved_joined, fewer_filter, filter_within, filter_apart, with_number, at_most_one, row_is_first, place_moved, no_rows, not_found}
+use Rattle.set_model.proofs.Rows.{turned_same, turned_left, moved_same, moved_gone, moved_joined, fewer_filter, filter_within, filter_apart, with_number, at_most_one, row_is_first, place_moved, not_found}
 use Rattle.set_model.proofs.Staying.{messages_stay}
 use Rattle.set_moves.specs.Agreement.{Message, is_there, rows_at}
 use Rattle.std.proofs.lemmas.List.Elements.{filter-append}

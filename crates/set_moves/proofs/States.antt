@@ -133,6 +133,15 @@ given_up_for k s from cause f stood known =
     queues_for k s f _ _ _ (shifts_stand f.stands (turned_shifts (length k.messages) from (Discarded cause) stood (grind arith) (length s.rows) s.rows f.stands.numbered (λ e. absurd cc))
     (λ g t. queue_set from g [] k.lists stood known ∙ grind (arith, nat_tests, same_is, drop_all, long)) all) (length-restood (queue_at from k.lists) (Discarded cause) k.messages) (links_stay from [] k.lists) _ _ f.routing (λ m. last_stays from [] k.lists m) (λ m. profile_queue from [] m k.lists)
 
+-- THE FIRST that waits is given up.
+pub withdrawn_for : (k : Kept) (s : State) (n : ℕ) (cause : DiscardCause) → StandsFor k s → n < length k.lists.links
+    → StandsFor (record k { lists = with_queue (Waiting n) (drop 1 (queue_at (Waiting n) k.lists)) k.lists; messages = restood (take 1 (queue_at (Waiting n) k.lists)) (Discarded cause) k.messages }) (record s { rows = turned (is_waiting n) (Discarded cause) 1 s.rows })
+withdrawn_for k s n cause f known =
+    let left = drop 1 (queue_at (Waiting n) k.lists) in
+    let waits = f.stands.queues (Waiting n) refl in
+    queues_for k s f _ _ _ (shifts_stand f.stands (turned_shifts (length k.messages) (Waiting n) (Discarded cause) refl refl 1 s.rows f.stands.numbered (λ e. absurd cc))
+    (λ g t. queue_set (Waiting n) g left k.lists refl known ∙ grind (arith, nat_tests, same_is, waits)) (ap (take 1) waits)) (length-restood (take 1 (queue_at (Waiting n) k.lists)) (Discarded cause) k.messages) (links_stay (Waiting n) left k.lists) _ _ f.routing (λ m. last_stays (Waiting n) left k.lists m) (λ m. profile_queue (Waiting n) left m k.lists)
+
 -- A LINK SETTLES: what stands on it goes to another place.
 pub settled_for : (k : Kept) (s : State) (n : ℕ) (target : Option ℕ) (link link' : LinkState) (routing : Routing) → StandsFor k s → IsInOrder n s.rows → IsHeldLast n s.rows → slice_get s.links n ≡ Some link → link'.acked ≡ link.acked → link'.profile ≡ link.profile
     → IsAside n (fate_on target) k.lists → StandsFor (record k { lists = settled n (fate_on target) k.lists; messages = restood (on_lists n k.lists) (fate_on target) k.messages; links = slice_set s.links n link'; routing = routing })

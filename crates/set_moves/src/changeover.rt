@@ -109,7 +109,7 @@ pub fn obey(parts: &mut Parts, order: Order) -> Took
 }
 
 /// A changeover order: a link that is up is left and answered for; a link that was left settles, with
-/// no answer (own); for one that settled already the answer of its last life goes out again (own).
+/// no answer (own); for one that settled already the answer of its last life goes out, once (own).
 #[tactic(auto, using(crate::proofs::Links::whole_of, crate::proofs::Links::found))]
 fn change_over(parts: &mut Parts, number: u8, reached: Reached) -> Took
     requires holds { Holds (kept_of parts.old) }
@@ -135,6 +135,7 @@ fn change_over(parts: &mut Parts, number: u8, reached: Reached) -> Took
         Some(Phase::Settled) => {
             let order = parts.links[usize::from(number)].reply(number);
             queue(parts, order);
+            parts.links[usize::from(number)].answered = true;
         }
     }
     Took::Order

@@ -22,6 +22,8 @@ pub struct Link {
     pub profile: Profile,
     /// The last life ended as an emergency: the FSN last accepted wasn't known.
     pub blind: bool,
+    /// How that life ended was told: an order settled the link, or a late one was answered.
+    pub answered: bool,
     /// How many of its messages were acknowledged since its last Up.
     pub acked: u64,
     /// How many of the far end's bodies were accepted since its last Up.
@@ -37,6 +39,7 @@ impl Model for Link {
       phase = l.phase;
       profile = l.profile;
       blind = l.blind;
+      answered = l.answered;
       acked = l.acked;
       accepted = l.accepted;
       control = l.control;
@@ -52,6 +55,7 @@ impl Link {
             phase: Phase::Settled,
             profile,
             blind: false,
+            answered: false,
             acked: 0,
             accepted: 0,
             control: Control::new(method),
@@ -65,6 +69,7 @@ impl Link {
         self.phase = Phase::Up;
         self.profile = profile;
         self.blind = false;
+        self.answered = false;
         self.acked = 0;
         self.accepted = 0;
         self.control = Control::new(method);
@@ -82,13 +87,21 @@ impl Link {
         }
     }
 
-    /// How a late changeover order is answered once the link settled: as its last life would have been (own).
+    /// How a late changeover order is answered once the link settled (own): as its last life would have been, or, where
+    /// the end of that was told, with FSN 127 (wide: 4,095), as of a life in which nothing was accepted.
     pub(crate) fn reply(&self, number: u8) -> Order
         requires number { number < 16 }
         requires counted { self.now.accepted < 2 ^ 63 }
         ensures order { result ≡ reply_of number self.now }
         ensures fits { IsOrder self.now.profile result }
     {
+        if self.answered {
+            let none = self.profile.most_unacked();
+            return Order::Coa {
+                link: number,
+                number: none,
+            };
+        }
         if self.blind {
             return Order::Eca { link: number };
         }

@@ -2,7 +2,7 @@
 ghost use Rattle.std.specs.Prelude.{◌≡◌, ◌<◌, ◌≤◌, ◌^◌, length, map, slice_get, Some};
 ghost use Rattle.set_queues.specs.Buffers.{KeepsRoom, profile_at, room_at};
 ghost use Rattle.set_queues.specs.Settling.{on};
-ghost use Rattle.set_model.specs.Changeover.{settled, judged, discarded, fate_on};
+ghost use Rattle.set_model.specs.Changeover.{settled, judged, discarded, fate_on, is_told};
 ghost use Rattle.set_model.specs.State.{State, LinkState, target};
 ghost use Rattle.set_moves.specs.Agreement.{StandsFor, Agrees};
 ghost use Rattle.set_moves.specs.Parts.{Down, IsWhole, AreCounted, AtLink, IsOut, IsReach, Becomes, BecomesAt, kept_of};
@@ -30,8 +30,20 @@ pub fn settle(parts: &mut Parts, number: u8, reached: Reached)
     let target = target_of(&parts.links);
     judge(parts, number, reached);
     parts.queues.settle(number, target);
-    parts.links[usize::from(number)].phase = Phase::Settled;
+    let link = &mut parts.links[usize::from(number)];
+    link.phase = Phase::Settled;
+    link.answered = is_told(reached);
     parts.routes.settle(number, target);
+}
+
+/// Whether an order tells how the link's life ended.
+fn is_told(reached: Reached) -> bool
+    ensures { result ≡ is_told reached }
+{
+    match reached {
+        Reached::Upto { .. } | Reached::Unknown => true,
+        Reached::Unanswered => false,
+    }
 }
 
 /// What reached the far end is acknowledged, or what might be doubled is discarded (own).

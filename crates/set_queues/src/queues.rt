@@ -400,6 +400,21 @@ impl Queues {
         self.pass_all(from, Fate::Discarded { cause });
     }
 
+    /// The first message that waits for the link is given up, for this cause.
+    ///
+    /// Condition: one waits for it.
+    #[tactic(auto, using(crate::proofs::Linked::of_link))]
+    pub fn withdraw(&mut self, link: u8, cause: DiscardCause)
+        requires known { link < length self.old.lists.links }
+        requires some { queue_at (Fate.Waiting link) self.old.lists ≢ [] }
+        ensures { MovesFirst 1 (Fate.Waiting link) (Fate.Discarded cause) self.old self.new }
+    {
+        let (waiting, gone) = (Fate::Waiting { link }, Fate::Discarded { cause });
+        pass(&mut self.buffers, &mut self.messages, waiting, 1, gone);
+        let buffers = &mut self.buffers;
+        buffers.links[usize::from(link)].window.withdraw();
+    }
+
     /// All that stand in one queue have another fate from now on, and stand last there, in their order, if
     /// it isn't final.
     #[tactic(auto, using(crate::proofs::Standing::known_with))]

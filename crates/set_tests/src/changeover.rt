@@ -141,9 +141,10 @@ fn sends_four(bench: &mut Bench) -> bool {
     sends_next(bench, 0) && sends_next(bench, 0) && sends_next(bench, 0) && sends_next(bench, 0)
 }
 
-/// What link 0 sent came first from link 15: its order, then the rest of its messages in order.
+/// What link 0 sent came first from link 15, in order, and then from link 14. The orders that stood before them, 45 and 47,
+/// were discarded, since those links are up again.
 fn were_sent_in_order(set: &SetCore) -> bool {
-    for (fsn, number) in [(0u16, 45u64), (1, 43), (2, 44), (3, 46)] {
+    for (fsn, number) in [(0u16, 43u64), (1, 44), (2, 46), (3, 40)] {
         if !is_unacked(set, 0, fsn, Some(Numbered { number, fsn })) {
             return false;
         }
@@ -169,6 +170,7 @@ fn leave_and_come_back(alloc: Global, bench: &mut Bench) -> bool {
         && stand(bench, &PLACES_OF_FIVE_LINKS)
         && sends_four(bench)
         && were_sent_in_order(&bench.set)
+        && stand(bench, &[(45, NO_ANSWER), (47, NO_ANSWER)])
 }
 
 /// The links from this one on come up.

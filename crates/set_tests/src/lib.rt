@@ -18,6 +18,8 @@ mod events;
 #[cfg(test)]
 mod lines;
 #[cfg(test)]
+mod lives;
+#[cfg(test)]
 mod many;
 #[cfg(test)]
 mod orders;

@@ -260,3 +260,90 @@ fn changes_over(set: &mut SetCore) -> bool {
         && answers(set, Event::Next { link: 1 }, Answer::Sent { unit })
         && heard(set, 1, back) == Some(report_of(1, Took::Order))
 }
+
+/// 4,500 messages go over link 0. Of the next three the first arrives, the second is lost and the third waits when the link
+/// fails, and they are 4500, with FSN 404, to 4502. What's left goes over link 1 behind the order, with FSNs 1 and 2, and
+/// 497 more, of which the first has FSN 3.
+#[test]
+fn a_wide_link_fails_among_5000_messages(rt: HostRuntime) -> Result<(), Fail> {
+    let cycles = Method::Cyclic {
+        n1: 4_095,
+        n2: 1_113_840,
+    };
+    let mut basic = wide_set(rt.alloc(), 2, Method::Basic)?;
+    let mut cyclic = wide_set(rt.alloc(), 2, cycles)?;
+    let well = fails_in_the_midst(rt.alloc(), &mut basic);
+    holds(well && fails_in_the_midst(rt.alloc(), &mut cyclic))
+}
+
+fn fails_in_the_midst(alloc: Global, set: &mut SetCore) -> bool {
+    does(set, Call::Up(0))
+        && so_many_go(alloc, set, 4_500)
+        && does(set, Call::Up(1))
+        && is_sent(alloc, set, 4_500)
+        && is_sent(alloc, set, 4_501)
+        && is_accepted(alloc, set, &message_of(3), 4_502)
+        && is_left(set)
+        && two_follow(set)
+        && the_rest_goes(alloc, set)
+        && set.counts().acked == 5_000
+}
+
+fn so_many_go(alloc: Global, set: &mut SetCore, count: u64) -> bool {
+    for number in 0..count {
+        if !goes(alloc, set, number) {
+            return false;
+        }
+    }
+    true
+}
+
+/// Link 0 is left; the far end accepted FSN 404 there last, and this end nothing.
+fn is_left(set: &mut SetCore) -> bool {
+    let order = Order::Coo {
+        link: 0,
+        number: 4_095,
+    };
+    let answer = Order::Coa {
+        link: 0,
+        number: 404,
+    };
+    let unit = Unit::Msu {
+        head: head_of(4_095, 0),
+        body: write_order_wide(&order, 0x80, 1, 2),
+    };
+    let back = Unit::Msu {
+        head: head_of(0, 0),
+        body: write_order_wide(&answer, 0x80, 2, 1),
+    };
+    does(set, Call::Down(0))
+        && answers(set, Event::Next { link: 1 }, Answer::Sent { unit })
+        && heard(set, 1, back) == Some(report_of(1, Took::Order))
+}
+
+/// Link 1 sends the next message under this FSN.
+fn follows(set: &mut SetCore, fsn: u64) -> bool {
+    let unit = message_with(head_of(0, fsn));
+    answers(set, Event::Next { link: 1 }, Answer::Sent { unit })
+}
+
+/// Link 1 hears of so many messages more, the last under this FSN.
+fn arrive(set: &mut SetCore, messages: u16, fsn: u64) -> bool {
+    let head = head_of(fsn, 0);
+    heard(set, 1, Unit::Fisu { head }) == Some(report_of(messages, Took::Nothing))
+}
+
+fn two_follow(set: &mut SetCore) -> bool {
+    follows(set, 1) && follows(set, 2) && arrive(set, 2, 2)
+}
+
+fn the_rest_goes(alloc: Global, set: &mut SetCore) -> bool {
+    for number in 4_504..5_001u64 {
+        let fsn = number.wrapping_sub(4_501);
+        let sent = is_accepted(alloc, set, &message_of(3), number) && follows(set, fsn);
+        if !sent || !arrive(set, 1, fsn) {
+            return false;
+        }
+    }
+    true
+}

@@ -56,9 +56,9 @@ numbers_fit parts n unit h known e =
     subst (λ (p : Profile). IsHeadOf p (header_in unit)) (sym (h.1.stands.profiles n x.0 x.1 ∙ profile_of parts h.0 n x.0 h.1 x.1)) (numbers_in parts.config.profile unit e)
 
 -- WHAT IS SENT, as the step has it
-pub given : (n : ℕ) (s : State) (parts : Parts) (i : IsHere s.links n Up) (choice : Choice) (head : Header) (unit : SignalUnit) → choice ≡ choice_in n i.link s → head ≡ head_of i.link.control (window_of n i.link s.rows) (fsn_of choice (window_of n i.link s.rows)) → unit ≡ unit_of (chosen choice n s.rows) head → StandsFor (kept_of parts) (sends choice n s i.link).state
-    → Gives (in_service n s (next_of n s)) (Sent unit) parts
-given n s parts i choice head unit is heads sent stands = served s n (next_of n s) (Sent unit) parts i (rw (← is) (record { answer_is = rw (sent, heads) refl; stands = stands }))
+pub given : (n : ℕ) (s t : State) (parts : Parts) (i : IsHere s.links n Up) (choice : Choice) (head : Header) (unit : SignalUnit) → choice ≡ choice_in n i.link t → head ≡ head_of i.link.control (window_of n i.link t.rows) (fsn_of choice (window_of n i.link t.rows)) → unit ≡ unit_of (chosen choice n t.rows) head → StandsFor (kept_of parts) (sends choice n t i.link).state
+    → Gives (in_service n s (next_of n t)) (Sent unit) parts
+given n s t parts i choice head unit is heads sent stands = served s n (next_of n t) (Sent unit) parts i (rw (← is) (record { answer_is = rw (sent, heads) refl; stands = stands }))
 
 pub with_body : (o : Option Row) (head : Header) (body : ArrayVec ℕ 273 (Unit {0})) → option_map (λ (row : Row). row.body) o ≡ Some body.items → Msu head body ≡ unit_of o head
 with_body o head body e = grind arith

@@ -1,10 +1,10 @@
 -- What is chosen to be sent, what a heard unit brings, and the space that it may want.
-use Rattle.std.specs.Prelude.{ℕ, ◌<◌, length, ◌≡◌, ◌+◌, ◌==◌, ◌≤◌, if◌then◌else◌, Option, Some, None, map, slice_get, slice_set}
+use Rattle.std.specs.Prelude.{ℕ, ◌<◌, length, ◌≡◌, ◌+◌, ◌==◌, ◌≤◌, if◌then◌else◌, Bool, false, List, [], ◌∷◌, Option, Some, None, map, slice_get, slice_set}
 use Rattle.l2_window.specs.declared.control.Choice.{Choice}
 use Rattle.l2_window.specs.declared.control.Choice.TheVariants.{Again, First, Fill}
 use Rattle.set_queues.specs.Buffers.{Lists, profile_at, queue_at, KeepsRoom}
 use Rattle.set_model.specs.Control.{control_after}
-use Rattle.set_model.specs.Rows.{Waiting, Unacked, octets_in, unack, Acked, Back, is_unacked, service_indicator, turned}
+use Rattle.set_model.specs.Rows.{Waiting, Unacked, Row, octets_in, unack, Acked, Back, is_unacked, service_indicator, turned}
 use Rattle.set_model.specs.State.{LinkState, State, window_of, with_link}
 use Rattle.l2_window.specs.Window.{most_unacked}
 use Rattle.l2_units.specs.declared.profile.Profile.{Profile}
@@ -26,6 +26,11 @@ abbrev pub goes_on : ℕ → Choice → LinkState → State → State
 goes_on number choice link s = with_link number (record link {
   control = control_after choice (octets_in (unack number s.rows)) link.control (window_of number link s.rows);
 }) s
+
+-- the test holds of the first of these rows
+abbrev pub holds_first : (Row → Bool) → List Row → Bool
+holds_first test [] = false
+holds_first test (row ∷ rows) = test row
 
 -- what is chosen is there
 abbrev pub IsThere : Choice → ℕ → Lists → Type 0

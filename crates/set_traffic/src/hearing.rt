@@ -123,7 +123,7 @@ fn has_numbers(profile: Profile, head: Header) -> bool
 }
 
 /// The order that a body of the management is, if any, as the set's profile has it.
-fn order_in(profile: Profile, body: &[u8]) -> Option<Order>
+pub(crate) fn order_in(profile: Profile, body: &[u8]) -> Option<Order>
     ensures exact { result ≡ order_of profile body.now }
     ensures fits { IfSome result (λ order. IsOrder profile order) }
 {

@@ -10,12 +10,14 @@
 //! model's step makes of it, and answers as that step does. A unit costs what it moves, however many messages there
 //! ever were (`tools/set-bench`).
 //!
-//! The files: `offering` a message that is offered; `sending` what is sent next; `hearing` what a heard unit does.
+//! The files: `offering` a message that is offered; `sending` what is sent next, and `clearing` what isn't sent any
+//! more; `hearing` what a heard unit does.
 //!
 //! This crate reads no clock, waits for nothing, takes no lock and does no IO. A call that may want memory takes it
 //! before it changes anything.
 #![tactic(auto)]
 
+mod clearing;
 mod hearing;
 mod offering;
 mod sending;

@@ -3,6 +3,7 @@ ghost use Rattle.std.specs.Prelude.{◌≡◌, ◌<◌, true, List, length, slic
 ghost use Rattle.l2_window.specs.Control.{fsn_of};
 ghost use Rattle.set_queues.specs.Buffers.{IsKnown, is_standing, queue_at};
 ghost use Rattle.set_model.specs.Rows.{IsInOrder, is_waiting, turned};
+ghost use Rattle.set_model.specs.Changeover.{cleared};
 ghost use Rattle.set_model.specs.Control.{head_of};
 ghost use Rattle.set_model.specs.State.{State, LinkState, window_of};
 ghost use Rattle.set_model.specs.Step.{choice_in, next, in_service};
@@ -10,22 +11,25 @@ ghost use Rattle.set_moves.specs.Agreement.{Holds, StandsFor, rows_at};
 ghost use Rattle.set_moves.specs.Parts.{Answers, OfStates, BecomesAt, kept_of};
 ghost use Rattle.set_traffic.specs.Traffic.{IsThere, goes_on};
 
+use super::clearing::clear;
 use arrayvec::ArrayVec;
 use l2_units::{Header, LONGEST_BODY, Unit, body_of};
 use l2_window::Choice;
 use set_events::{Answer, Fate};
 use set_moves::{Parts, unserved};
 
-/// The next unit to send.
+/// The next unit to send, once the orders that were overtaken are discarded.
 #[tactic(auto, using(crate::proofs::Traffic::queue_there))]
 pub fn send_next(parts: &mut Parts, number: u8, answer: &mut Answer)
     requires { Holds (kept_of parts.old) }
-    ensures { Answers parts.old parts.new answer.new (λ s. in_service number s (next number s)) }
+    ensures { Answers parts.old parts.new answer.new (λ s. in_service number s
+        (next number (cleared number s))) }
 {
     if let Some(why) = unserved(parts, number) {
         *answer = why.into();
         return;
     }
+    clear(parts, number);
     let (choice, head) = go_on(parts, number);
     *answer = match choice {
         Choice::Again { place } => {

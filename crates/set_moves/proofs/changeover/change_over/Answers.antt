@@ -1,14 +1,15 @@
 use Rattle.std.proofs.Common.{refl, arith, length, ◌≡◌, ◌∙◌, ap, subst, sym, ◌<◌, ℕ, false}
 use Rattle.l2_units.specs.Profile.{fsn_count}
 use Rattle.l3_orders.specs.Grammar.{IsOrder}
-use Rattle.set_model.specs.Changeover.{Coa, changed_over, queued, left_by, left_link}
+use Rattle.set_model.specs.Changeover.{Coa, answered_link, changed_over, queued, left_by, left_link, reply_of}
 use Rattle.set_model.specs.State.{LinkState, Profile, Settings, last_accepted}
 use Rattle.set_model.proofs.Lists.{within, get_set_same, length_set}
 use Rattle.set_model.proofs.SoundBack.{leaves}
 use Rattle.set_model.proofs.SoundLink.{queues}
 use Rattle.set_moves.specs.Agreement.{StandsFor}
 use Rattle.set_moves.specs.Parts.{Up, Down, Settled, AtLink, IsOut, IsReach, kept_of}
-use Rattle.set_moves.proofs.Links.{IsHere, is_in, none_there, profile_of, reach_here, here_room, stands_for, whole_of, has_room_left, beside_out, beside_left, counted_set, out_at}
+use Rattle.set_moves.proofs.States.{link_for}
+use Rattle.set_moves.proofs.Links.{IsHere, is_in, link_set, none_there, profile_of, reach_here, here_room, stands_for, whole_of, has_room_left, beside_out, beside_left, counted_set, out_at}
 use Rattle.set_queues.proofs.Soundness.{room_left}
 use Rattle.set_moves.proofs.changeover.change_over.Goals as goal
 use Rattle.set_moves.proofs.changeover.change_over.Goals.{After-leave}
@@ -82,9 +83,19 @@ queue-requires-in-Some-Settled-clause-room c =
 
 pub returns-in-Some-Settled : goal.returns-in-Some-Settled
 returns-in-Some-Settled c =
+    let n = c.args.number in
     let h = rw c.in-Some-Settled.field-0-is at c.in-Some-Settled.ensures.here in
-    let same = stands_for c.args.parts.now.links.items c.args.number c.from-in-Some-Settled.result c.index-in-Some-Settled.result.now c.from-in-Some-Settled.ensures h.known c.index-in-Some-Settled.ensures in
-    record { stands = λ s a. let at = is_in c.args.parts.now s c.args.number Settled a h in rw (at.there, at.phase_is) (record { took_is = refl; stands = rw (c.reply-order.ensures.order, same s.links at.link a.stands.links at.there) at (c.queue-in-Some-Settled.ensures.stands s a.stands) }) }
+    let same = stands_for c.args.parts.now.links.items n c.from-in-Some-Settled.result c.index-in-Some-Settled.result.now c.from-in-Some-Settled.ensures h.known c.index-in-Some-Settled.ensures in
+    let now = c.queue-in-Some-Settled.new.parts in
+    let known : n < length now.links.items = rw c.queue-in-Some-Settled.ensures.links h.known in
+    record {
+      stands = λ s a.
+          let at = is_in c.args.parts.now s n Settled a h in
+          let link = at.link in
+          let told : StandsFor (kept_of now) (queued (reply_of n link) s) = rw (c.reply-order.ensures.order, same s.links link a.stands.links at.there) at (c.queue-in-Some-Settled.ensures.stands s a.stands) in
+          let set = link_set now.links.items n c.from-in-Some-Settled-2.result c.index_mut.result.now c.from-in-Some-Settled-2.ensures known c.index_mut.ensures.value answered_link _ s.links link c.behind-parts.view_is told.links at.there in
+          rw (at.there, at.phase_is) (record { took_is = refl; stands = rw (set, told.routing) (link_for (kept_of now) (queued (reply_of n link) s) n link (answered_link link) s.routing told at.there refl refl) });
+    }
 
 -- the orders are of the set's grammar, and so is the number that settles a link
 pub queue-requires-clause-order : goal.queue-requires-clause-order

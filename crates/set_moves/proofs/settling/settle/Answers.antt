@@ -1,7 +1,7 @@
-use Rattle.std.proofs.Common.{rules, refl, sym, arith, IfSome, ◌≢◌, ◌≡◌, ◌∙◌, ap, ◌<◌, length}
+use Rattle.std.proofs.Common.{rules, refl, sym, arith, IfSome, ◌≢◌, ◌≡◌, ◌∙◌, ap, ◌<◌, length, Bool, slice_set}
 use Rattle.std.proofs.lemmas.List.{length-map}
 use Rattle.set_route.specs.Routing.{Routing, settled as streams_settled}
-use Rattle.set_model.specs.Changeover.{settled_link, fate_on, judged, judged_link}
+use Rattle.set_model.specs.Changeover.{settled_link, fate_on, is_told, judged, judged_link}
 use Rattle.set_model.specs.State.{target}
 use Rattle.set_moves.specs.Parts.{kept_of}
 use Rattle.set_moves.proofs.States.{is_judged, becomes, settled_for}
@@ -32,7 +32,7 @@ returns c = record {
       let is : o ≡ target mid.links = c.target_of-target.ensures.value ∙ ap target c.deref.ensures.value ∙ sym (same_target _ _ c.judge.ensures.phases) ∙ ap target f.links in
       let place = to_place (goal.at.returns c).After-judge in
       let known : n < length c.judge.new.parts.links.items = grind (arith, length-map, c.judge.ensures.phases, c.requires.known) in
-      let set = link_set c.judge.new.parts.links.items n c.from.result c.index_mut.result.now c.from.ensures known c.index_mut.ensures.value settled_link _ mid.links link' c.behind-parts.view_is f.links j.1 in
+      let set = link_set c.judge.new.parts.links.items n c.from.result c.index_mut-link.result.now c.from.ensures known c.index_mut-link.ensures.value (settled_link c.is_told-link-inside.result) _ mid.links link' c.link.view_is f.links j.1 ∙ ap (λ (told : Bool). slice_set mid.links n (settled_link told link')) c.is_told-link-inside.ensures in
       let routes = c.settle-2.ensures ∙ ap (λ (r : Routing). streams_settled n o r) f.routing in
-      rw (← is) (becomes (settled_for (kept_of c.judge.new.parts) mid n o link' (settled_link link') (streams_settled n o mid.routing) f j.0.0 j.0.1 j.1 refl refl place.0) (search (rules, c.settle.ensures.lists, c.settle.ensures.messages, set, routes)));
+      rw (← is) (becomes (settled_for (kept_of c.judge.new.parts) mid n o link' (settled_link (is_told c.args.reached) link') (streams_settled n o mid.routing) f j.0.0 j.0.1 j.1 refl refl place.0) (search (rules, c.settle.ensures.lists, c.settle.ensures.messages, set, routes)));
 }

@@ -16,7 +16,7 @@ tells c s link there f = told c.args.parts.now s c.args.number c.from.result c.i
 
 -- the link as it was, and as it counts
 abbrev was : After-hear-part → Link
-was c = record { phase = c.link.inside.phase; profile = c.link.inside.profile; blind = c.link.inside.blind; acked = c.link.inside.acked; accepted = c.link.inside.accepted; control = c.link.inside.control }
+was c = record { phase = c.link.inside.phase; profile = c.link.inside.profile; blind = c.link.inside.blind; answered = c.link.inside.answered; acked = c.link.inside.acked; accepted = c.link.inside.accepted; control = c.link.inside.control }
 
 abbrev counted : ℕ → ℕ → Control → Link → Link
 counted acked accepted control link = record link { acked = link.acked + acked; accepted = link.accepted + accepted; control = control }
