@@ -58,6 +58,11 @@ abbrev pub IsCarriedOut : Result (Unit {0}) PlayFault → Outcome → Shown → 
 IsCarriedOut result outcome shown new =
     MatchResult result (λ done. outcome ≡ shows shown new) (λ fault. Fails fault outcome)
 
+-- a step that can't be done leaves the world as it was
+abbrev pub StaysIfImpossible : Result (Unit {0}) PlayFault → World → World → Type 0
+StaysIfImpossible result old new =
+    MatchResult result (λ done. Unit {0}) (λ fault. (place : ℕ) → fault ≡ Impossible place → new ≡ old)
+
 -- the step's world, and what it shows
 abbrev pub IsStepped : Result (World × Shown) PlayFault → Outcome → Type 0
 IsStepped result outcome =

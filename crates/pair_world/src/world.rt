@@ -52,7 +52,7 @@ impl World {
     ghost use Rattle.pair_changeover.specs.Diverted.{ChangesOver};
     ghost use Rattle.pair_streams.specs.Streams.{AckedAreTaken, NumbersTell, PartsArrive, StreamsArrive};
     ghost use Rattle.pair_streams.specs.Arrived.{IsIdle, AllArrived, AllTaken, AllAccounted};
-    ghost use Rattle.pair_world.specs.Carried.{IsBegun, FailsToBegin, IsCarriedOut, IsStepped, AreCarriedOut, IsPlayed, IsTakenFrom};
+    ghost use Rattle.pair_world.specs.Carried.{IsBegun, FailsToBegin, IsCarriedOut, StaysIfImpossible, IsStepped, AreCarriedOut, IsPlayed, IsTakenFrom};
 
     /// The world of these configurations: no messages, no link up, nothing under way.
     ///
@@ -99,12 +99,14 @@ impl World {
     }
 
     /// Carries out a step in place, and puts what it shows into `shown`, whatever stood there: what is shown has room for a
-    /// unit, and what is handed on by value is copied each time. After a fault neither is to be used again.
+    /// unit, and what is handed on by value is copied each time. A step that's impossible leaves the world as it was; after any
+    /// other fault neither is to be used again.
     ///
     /// Faults: as of [`World::step`].
     #[tactic(auto, unfolding(pair_model::specs::World::carried_out))]
     pub fn carry_out(&mut self, step: &Step, shown: &mut Shown) -> Result<(), PlayFault>
-        ensures { IsCarriedOut result (carried_out self.old step.now) shown.new self.new }
+        ensures carried { IsCarriedOut result (carried_out self.old step.now) shown.new self.new }
+        ensures impossible { StaysIfImpossible result self.old self.new }
     {
         self.dispatch(step, shown)
     }
@@ -212,7 +214,8 @@ impl World {
 
     /// Carries out a step, case by case.
     fn dispatch(&mut self, step: &Step, shown: &mut Shown) -> Result<(), PlayFault>
-        ensures { IsCarriedOut result (done_by self.old step.now) shown.new self.new }
+        ensures carried { IsCarriedOut result (done_by self.old step.now) shown.new self.new }
+        ensures impossible { StaysIfImpossible result self.old self.new }
     {
         match step {
             Step::Act { end, event } => self.ask(*end, event, shown),
@@ -237,7 +240,8 @@ impl World {
 
     /// One event at an end, if it has no step of its own.
     fn ask(&mut self, end: End, event: &Event, shown: &mut Shown) -> Result<(), PlayFault>
-        ensures { IsCarriedOut result (asks self.old end event.now) shown.new self.new }
+        ensures carried { IsCarriedOut result (asks self.old end event.now) shown.new self.new }
+        ensures impossible { StaysIfImpossible result self.old self.new }
     {
         if takes_own_step(event) {
             return Err(PlayFault::Impossible { place: 0 });
@@ -248,6 +252,7 @@ impl World {
     /// One event at an end.
     fn act(&mut self, end: End, event: &Event, shown: &mut Shown) -> Result<(), PlayFault>
         ensures acts { IsCarriedOut result (acts self.old end event.now) shown.new self.new }
+        ensures impossible { StaysIfImpossible result self.old self.new }
         ensures known { OnOk result (has_actor self.old (actor_of event.now) ≡ true) }
         ensures links { link_count self.new.a.state ≡ link_count self.old.a.state }
     {
@@ -303,7 +308,8 @@ impl World {
 
     /// The end sends its next unit on the link, which joins the link's line to the other end.
     fn emit(&mut self, end: End, link: u8, shown: &mut Shown) -> Result<(), PlayFault>
-        ensures { IsCarriedOut result (emits self.old end link) shown.new self.new }
+        ensures carried { IsCarriedOut result (emits self.old end link) shown.new self.new }
+        ensures impossible { StaysIfImpossible result self.old self.new }
     {
         self.act(end, &Event::Next { link }, shown)?;
         self.join(end, link, shown)
@@ -334,7 +340,8 @@ impl World {
         unit: &Unit,
         shown: &mut Shown,
     ) -> Result<(), PlayFault>
-        ensures { IsCarriedOut result (acts self.old end (Event.Heard link unit.now)) shown.new self.new }
+        ensures carried { IsCarriedOut result (acts self.old end (Event.Heard link unit.now)) shown.new self.new }
+        ensures impossible { StaysIfImpossible result self.old self.new }
     {
         let event = Event::Heard {
             link,
@@ -345,7 +352,8 @@ impl World {
 
     /// The front of the link's line to the end arrives: it's heard where the link is up there, else lost.
     fn arrive(&mut self, end: End, link: u8, shown: &mut Shown) -> Result<(), PlayFault>
-        ensures { IsCarriedOut result (arrives self.old end link) shown.new self.new }
+        ensures carried { IsCarriedOut result (arrives self.old end link) shown.new self.new }
+        ensures impossible { StaysIfImpossible result self.old self.new }
     {
         if !self.holds_link(link) {
             return Err(PlayFault::Impossible { place: 0 });
@@ -362,7 +370,8 @@ impl World {
 
     /// The unit at this place of the link's line to the end is lost.
     fn lose(&mut self, end: End, link: u8, place: u64, shown: &mut Shown) -> Result<(), PlayFault>
-        ensures { IsCarriedOut result (loses self.old end link place) shown.new self.new }
+        ensures carried { IsCarriedOut result (loses self.old end link place) shown.new self.new }
+        ensures impossible { StaysIfImpossible result self.old self.new }
     {
         if !self.holds_link(link) {
             return Err(PlayFault::Impossible { place: 0 });
@@ -399,7 +408,8 @@ impl World {
 
     /// The link comes up at both ends, and nothing is under way on it.
     fn raise(&mut self, link: u8, shown: &mut Shown) -> Result<(), PlayFault>
-        ensures { IsCarriedOut result (rises self.old link) shown.new self.new }
+        ensures carried { IsCarriedOut result (rises self.old link) shown.new self.new }
+        ensures impossible { StaysIfImpossible result self.old self.new }
     {
         if !self.holds_link(link) || !self.a.is_settled(link) || !self.b.is_settled(link) {
             return Err(PlayFault::Impossible { place: 0 });

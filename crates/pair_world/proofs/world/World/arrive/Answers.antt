@@ -2,14 +2,14 @@ use Rattle.std.proofs.Common.{refl, ◌∙◌, sym}
 use Rattle.pair_world.proofs.WorldLemmas.{arrives_so}
 use Rattle.pair_world.proofs.world.World.arrive.Goals as goal
 
-pub returns-then-not-is_link_up : goal.returns-then-not-is_link_up
-returns-then-not-is_link_up c =
+pub returns-then-not-is_link_up-clause-carried : goal.returns-then-not-is_link_up-clause-carried
+returns-then-not-is_link_up-clause-carried c =
     arrives_so _ c.take_out.new.self _ _ c.in-Some.unit
     (sym c.holds_link.ensures.value ∙ c.if-not-holds_link.false) c.in-Some.ensures
     ∙ rw (sym c.is_link_up.ensures ∙ c.if-not-is_link_up.true) refl
 
-pub returns : goal.returns
-returns c =
+pub returns-clause-carried : goal.returns-clause-carried
+returns-clause-carried c =
     rw (arrives_so _ c.take_out.new.self _ _ c.in-Some.unit
     (sym c.holds_link.ensures.value ∙ c.if-not-holds_link.false) c.in-Some.ensures)
     (rw (sym c.is_link_up.ensures ∙ c.if-not-is_link_up.false) c.act.ensures.acts)

@@ -6,8 +6,8 @@ use Rattle.pair_world.specs.Carried.{FailsAt}
 use Rattle.pair_world.proofs.WorldLemmas.{rise_fails}
 use Rattle.pair_world.proofs.world.World.raise.Goals as goal
 
-pub returns-in_err-apply : goal.returns-in_err-apply
-returns-in_err-apply c =
+pub returns-in_err-apply-clause-carried : goal.returns-in_err-apply-clause-carried
+returns-in_err-apply-clause-carried c =
     let near = ap (λ (w : World). w.a) c.self.view_is in
     let far = ap (λ (w : World). w.b) c.self.view_is in
     let a = subst (λ (set : LinkSet). is_settled c.args.link set.state ≡ true) (c.deref.ensures ∙ near) (sym c.is_settled.ensures ∙ c.if-not-is_settled.false) in
@@ -16,8 +16,8 @@ returns-in_err-apply c =
     rise_fails _ c.in_err-apply.field-0.0 c.args.self.now c.args.link _ _ c.from_residual.ensures.1 (sym c.holds_link.ensures.value ∙ c.if-not-holds_link.false) settled
     (inl (subst (λ (set : LinkSet). FailsAt c.in_err-apply.field-0.0 set) (c.deref_mut.ensures.value ∙ near) c.in_err-apply.ensures.applies))
 
-pub returns-in_err-apply-2 : goal.returns-in_err-apply-2
-returns-in_err-apply-2 c =
+pub returns-in_err-apply-2-clause-carried : goal.returns-in_err-apply-2-clause-carried
+returns-in_err-apply-2-clause-carried c =
     let near = ap (λ (w : World). w.a) c.self.view_is in
     let far = ap (λ (w : World). w.b) c.self.view_is in
     let a = subst (λ (set : LinkSet). is_settled c.args.link set.state ≡ true) (c.deref.ensures ∙ near) (sym c.is_settled.ensures ∙ c.if-not-is_settled.false) in
