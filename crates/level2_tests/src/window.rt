@@ -50,6 +50,26 @@ fn wide_numbers_go_round_at_4095(rt: HostRuntime) -> Result<(), Fail> {
     holds(empty && filled && round)
 }
 
+/// Each growth that a wide window wants fails once: there is no window then.
+///
+/// Run with each allocation failing in turn (tools/refuse-memory); with memory it passes as it is.
+#[test]
+fn a_refused_growth_makes_no_wide_window(rt: HostRuntime) -> Result<(), Fail> {
+    match Window::new_wide(rt.alloc()) {
+        Ok(window) => holds(is_new_wide(&window)),
+        Err(_) => Ok(()),
+    }
+}
+
+/// The number before the first counts as acknowledged, and there is no message.
+fn is_new_wide(window: &Window) -> bool {
+    window.profile() == Profile::Wide
+        && window.last() == 4_095
+        && window.unacked_len() == 0
+        && window.unsent_len() == 0
+        && !window.has_new()
+}
+
 /// Two rings of messages: a wide one has room for 4,095.
 #[test]
 fn a_new_wide_window_has_the_last_number_before_its_first(rt: HostRuntime) -> Result<(), Fail> {
