@@ -5,7 +5,7 @@ ghost use Rattle.link_term.specs.Seats.{link_in};
 use super::door::{Door, Gate};
 use super::faults::Faults;
 use set_events::{Answer, Event};
-use set_shared::{LinkSet, SetFault, TermSeat};
+use set_shared::{LinkSet, Opening, SetFault, TermSeat};
 use std::sync::Wait;
 use std::sync::ledger::Ledger;
 
@@ -13,7 +13,7 @@ use std::sync::ledger::Ledger;
 /// under it, and leaves its entry among the seat's receipts: those are all that this door made. The lock may be
 /// waited for.
 #[derive(Drop)]
-pub struct SeatDoor<'a, C: Ledger, M: Ledger, O: Ledger, A: Ledger, R: Wait, G: Gate> {
+pub struct SeatDoor<'a, C: Opening, M: Ledger, O: Ledger, A: Ledger, R: Wait, G: Gate> {
     rt: &'a R,
     set: &'a LinkSet<C, M, O, A>,
     number: u16,
@@ -22,7 +22,7 @@ pub struct SeatDoor<'a, C: Ledger, M: Ledger, O: Ledger, A: Ledger, R: Wait, G: 
     faults: Faults,
 }
 
-impl<'a, C: Ledger, M: Ledger, O: Ledger, A: Ledger, R: Wait, G: Gate> SeatDoor<
+impl<'a, C: Opening, M: Ledger, O: Ledger, A: Ledger, R: Wait, G: Gate> SeatDoor<
     'a,
     C,
     M,
@@ -61,7 +61,7 @@ impl<'a, C: Ledger, M: Ledger, O: Ledger, A: Ledger, R: Wait, G: Gate> SeatDoor<
     }
 }
 
-impl<'a, C: Ledger, M: Ledger, O: Ledger, A: Ledger, R: Wait, G: Gate> Door
+impl<'a, C: Opening, M: Ledger, O: Ledger, A: Ledger, R: Wait, G: Gate> Door
     for SeatDoor<'a, C, M, O, A, R, G> {
     ghost use Rattle.link_term.specs.Seats.{link_in};
 

@@ -1,11 +1,12 @@
 //! How a set that threads share is opened, and how it ends.
 ghost use Rattle.std.specs.Prelude.{◌≡◌, ◌<◌, ◌⊎◌};
 ghost use Rattle.set_ledger.specs.Totals.{AreParts};
+ghost use Rattle.set_model.specs.State.{settings_of};
 
 use super::openings::{blanks_of, closed, config_of, holds, offers};
 use set_events::{Answer, Event, SetConfig};
 use set_shared::{
-    Back, Blanks, Closed, CreateFault, EndFault, LinkSet, Opened, Seat, TermSeat, UserSeat,
+    Back, Blanks, Closed, CreateFault, EndFault, LinkSet, Opened, Opening, Seat, TermSeat, UserSeat,
 };
 use std::alloc::Global;
 use std::cell::Cell;
@@ -15,7 +16,7 @@ use std::sync::ledger::Ledger;
 use std::test::Fail;
 
 /// A terminal tells that its link is up, and what it was handed is called under the lock.
-fn rises<C: Ledger, M: Ledger, O: Ledger, A: Ledger, R: Wait>(
+fn rises<C: Opening, M: Ledger, O: Ledger, A: Ledger, R: Wait>(
     rt: &R,
     set: &LinkSet<C, M, O, A>,
     seat: &mut TermSeat<C, M, O, A>,
@@ -37,7 +38,7 @@ fn is_whole(closed: Option<Closed>) -> bool {
 }
 
 /// The set is closed without one of its seats: it comes back with the others.
-fn comes_back<C: Ledger, M: Ledger, O: Ledger, A: Ledger>(
+fn comes_back<C: Opening, M: Ledger, O: Ledger, A: Ledger>(
     set: LinkSet<C, M, O, A>,
     users: Vec<UserSeat<C, M, O, A>>,
     terminals: Vec<TermSeat<C, M, O, A>>,
@@ -49,7 +50,7 @@ fn comes_back<C: Ledger, M: Ledger, O: Ledger, A: Ledger>(
 }
 
 /// With the seat that was kept beside the one that came back, the set ends.
-fn ends_with<C: Ledger, M: Ledger, O: Ledger, A: Ledger>(
+fn ends_with<C: Opening, M: Ledger, O: Ledger, A: Ledger>(
     alloc: Global,
     back: Back<C, M, O, A>,
     kept: UserSeat<C, M, O, A>,
@@ -66,7 +67,7 @@ fn ends_with<C: Ledger, M: Ledger, O: Ledger, A: Ledger>(
 }
 
 /// A seat is kept back: the set comes back with the others, and ends once all are there.
-fn ends_once_complete<C: Ledger, M: Ledger, O: Ledger, A: Ledger>(
+fn ends_once_complete<C: Opening, M: Ledger, O: Ledger, A: Ledger>(
     alloc: Global,
     set: LinkSet<C, M, O, A>,
     users: Vec<UserSeat<C, M, O, A>>,
@@ -83,7 +84,7 @@ fn ends_once_complete<C: Ledger, M: Ledger, O: Ledger, A: Ledger>(
 }
 
 /// Each user offers a message and finds it, and each terminal tells that its link is up.
-fn all_call<C: Ledger, M: Ledger, O: Ledger, A: Ledger, R: Wait>(
+fn all_call<C: Opening, M: Ledger, O: Ledger, A: Ledger, R: Wait>(
     rt: &R,
     set: &LinkSet<C, M, O, A>,
     users: &mut [UserSeat<C, M, O, A>],
@@ -103,7 +104,7 @@ fn all_call<C: Ledger, M: Ledger, O: Ledger, A: Ledger, R: Wait>(
 }
 
 /// Two users and the terminal of one link, in one thread.
-fn two_users<C: Ledger, M: Ledger, O: Ledger, A: Ledger, R: Wait>(
+fn two_users<C: Opening, M: Ledger, O: Ledger, A: Ledger, R: Wait>(
     rt: &R,
     alloc: Global,
     config: &SetConfig,
@@ -114,6 +115,7 @@ fn two_users<C: Ledger, M: Ledger, O: Ledger, A: Ledger, R: Wait>(
     requires octets { (blanks.octets.name ≡ O.name) × (blanks.octets.parts ≡ O.parts) }
     requires acknowledged { (blanks.acknowledged.name ≡ A.name) × (blanks.acknowledged.parts ≡ A.parts) }
     requires parts { AreParts C.parts M.parts O.parts A.parts 2 config.now.links }
+    requires opening { settings_of config.now ≡ C.settings }
 {
     let Ok(opened) = LinkSet::<C, M, O, A>::create(alloc, config, 2, blanks) else {
         return Err(Fail::from("not opened"));

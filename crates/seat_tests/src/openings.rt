@@ -3,7 +3,7 @@ ghost use Rattle.std.specs.Prelude.{◌≡◌, ◌<◌, ◌+◌, IfOk};
 
 use set_events::{Answer, Method, SetConfig};
 use set_ledger::Blanks;
-use set_shared::{Closed, LinkSet, TermSeat, UserSeat};
+use set_shared::{Closed, LinkSet, Opening, TermSeat, UserSeat};
 use std::sync::Wait;
 use std::sync::ledger::{Blank, Ledger};
 use std::test::Fail;
@@ -47,7 +47,7 @@ pub(crate) fn holds(fact: bool) -> Result<(), Fail> {
 }
 
 /// A user offers a message, and finds it as soon as it was accepted.
-pub(crate) fn offers<C: Ledger, M: Ledger, O: Ledger, A: Ledger, R: Wait>(
+pub(crate) fn offers<C: Opening, M: Ledger, O: Ledger, A: Ledger, R: Wait>(
     rt: &R,
     set: &LinkSet<C, M, O, A>,
     seat: &mut UserSeat<C, M, O, A>,
@@ -62,7 +62,7 @@ pub(crate) fn offers<C: Ledger, M: Ledger, O: Ledger, A: Ledger, R: Wait>(
 
 /// What a set came to, if all its seats are there. What it hands back where they aren't is let go here alone: that's dear to
 /// prove.
-pub(crate) fn closed<C: Ledger, M: Ledger, O: Ledger, A: Ledger>(
+pub(crate) fn closed<C: Opening, M: Ledger, O: Ledger, A: Ledger>(
     set: LinkSet<C, M, O, A>,
     users: Vec<UserSeat<C, M, O, A>>,
     terminals: Vec<TermSeat<C, M, O, A>>,

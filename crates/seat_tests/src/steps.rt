@@ -1,17 +1,18 @@
 //! Seats at a set that no thread shares.
 ghost use Rattle.std.specs.Prelude.{◌≡◌};
 ghost use Rattle.set_ledger.specs.Totals.{AreParts};
+ghost use Rattle.set_model.specs.State.{settings_of};
 
 use super::openings::{MESSAGE, blanks_of, config_of, holds};
 use set_events::{Actor, Answer, Body, Event, SetConfig};
-use set_ledger::{Blanks, Closed, Held, Opened, Seat, TermSeat, UserSeat, step_in};
+use set_ledger::{Blanks, Closed, Held, Opened, Opening, Seat, TermSeat, UserSeat, step_in};
 use std::alloc::Global;
 use std::marker::Brand;
 use std::sync::ledger::Ledger;
 use std::test::Fail;
 
 /// The seat's offer of these octets is accepted under number 0.
-fn is_accepted<C: Ledger, M: Ledger, O: Ledger, A: Ledger>(
+fn is_accepted<C: Opening, M: Ledger, O: Ledger, A: Ledger>(
     held: &mut Held<C, M, O, A>,
     seat: &mut UserSeat<C, M, O, A>,
     body: Body,
@@ -24,7 +25,7 @@ fn is_accepted<C: Ledger, M: Ledger, O: Ledger, A: Ledger>(
 }
 
 /// User 0 offers a message: the receipt and the share tell it.
-fn is_received<C: Ledger, M: Ledger, O: Ledger, A: Ledger>(
+fn is_received<C: Opening, M: Ledger, O: Ledger, A: Ledger>(
     alloc: Global,
     held: &mut Held<C, M, O, A>,
     seat: &mut UserSeat<C, M, O, A>,
@@ -38,7 +39,7 @@ fn is_received<C: Ledger, M: Ledger, O: Ledger, A: Ledger>(
 }
 
 /// So does the first user.
-fn first_is_received<C: Ledger, M: Ledger, O: Ledger, A: Ledger>(
+fn first_is_received<C: Opening, M: Ledger, O: Ledger, A: Ledger>(
     alloc: Global,
     held: &mut Held<C, M, O, A>,
     users: &mut [UserSeat<C, M, O, A>],
@@ -55,7 +56,7 @@ fn is_one_message(closed: &Closed) -> bool {
 }
 
 /// Whether the set ends, with this message alone.
-fn ends_well<C: Ledger, M: Ledger, O: Ledger, A: Ledger>(
+fn ends_well<C: Opening, M: Ledger, O: Ledger, A: Ledger>(
     held: Held<C, M, O, A>,
     users: Vec<UserSeat<C, M, O, A>>,
     terminals: Vec<TermSeat<C, M, O, A>>,
@@ -67,7 +68,7 @@ fn ends_well<C: Ledger, M: Ledger, O: Ledger, A: Ledger>(
 }
 
 /// One user offers one message: the receipt, the share and the end tell it.
-fn one_message<C: Ledger, M: Ledger, O: Ledger, A: Ledger>(
+fn one_message<C: Opening, M: Ledger, O: Ledger, A: Ledger>(
     alloc: Global,
     config: &SetConfig,
     blanks: Blanks,
@@ -77,6 +78,7 @@ fn one_message<C: Ledger, M: Ledger, O: Ledger, A: Ledger>(
     requires octets { (blanks.octets.name ≡ O.name) × (blanks.octets.parts ≡ O.parts) }
     requires acknowledged { (blanks.acknowledged.name ≡ A.name) × (blanks.acknowledged.parts ≡ A.parts) }
     requires parts { AreParts C.parts M.parts O.parts A.parts 1 config.now.links }
+    requires opening { settings_of config.now ≡ C.settings }
 {
     let Ok(opened) = Held::<C, M, O, A>::open(alloc, config, 1, blanks) else {
         return Err(Fail::from("not opened"));

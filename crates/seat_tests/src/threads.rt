@@ -1,10 +1,11 @@
 //! Users and a terminal in threads of their own.
 ghost use Rattle.std.specs.Prelude.{◌≡◌};
 ghost use Rattle.set_ledger.specs.Totals.{AreParts};
+ghost use Rattle.set_model.specs.State.{settings_of};
 
 use super::openings::{blanks_of, closed, config_of, holds, offers};
 use set_events::{Answer, Event, Refusal, SetConfig};
-use set_shared::{Blanks, Closed, LinkSet, Opened, TermSeat, UserSeat};
+use set_shared::{Blanks, Closed, LinkSet, Opened, Opening, TermSeat, UserSeat};
 use std::alloc::Global;
 use std::marker::Brand;
 use std::sync::Wait;
@@ -14,7 +15,7 @@ use std::thread;
 use std::thread::{JoinHandle, Threads};
 
 /// A user offers a body of 274 octets, one more than a message has: it's refused, whatever room an entry has for it.
-fn refuses_a_long_one<C: Ledger, M: Ledger, O: Ledger, A: Ledger, R: Wait>(
+fn refuses_a_long_one<C: Opening, M: Ledger, O: Ledger, A: Ledger, R: Wait>(
     rt: &R,
     set: &LinkSet<C, M, O, A>,
     seat: &mut UserSeat<C, M, O, A>,
@@ -26,7 +27,7 @@ fn refuses_a_long_one<C: Ledger, M: Ledger, O: Ledger, A: Ledger, R: Wait>(
 }
 
 /// A user offers a hundred messages, and finds each one as soon as it was accepted.
-fn offers_hundred<C: Ledger, M: Ledger, O: Ledger, A: Ledger, R: Wait>(
+fn offers_hundred<C: Opening, M: Ledger, O: Ledger, A: Ledger, R: Wait>(
     rt: &R,
     set: &LinkSet<C, M, O, A>,
     seat: &mut UserSeat<C, M, O, A>,
@@ -40,7 +41,7 @@ fn offers_hundred<C: Ledger, M: Ledger, O: Ledger, A: Ledger, R: Wait>(
 }
 
 /// The same by a user's own seat, which offers one that is too long first. Where an answer is another: `None`.
-fn offers_all<C: Ledger, M: Ledger, O: Ledger, A: Ledger, R: Wait>(
+fn offers_all<C: Opening, M: Ledger, O: Ledger, A: Ledger, R: Wait>(
     rt: &R,
     set: &LinkSet<C, M, O, A>,
     seat: UserSeat<C, M, O, A>,
@@ -54,7 +55,7 @@ fn offers_all<C: Ledger, M: Ledger, O: Ledger, A: Ledger, R: Wait>(
 }
 
 /// Whether a terminal is told what is to be sent.
-fn asks<C: Ledger, M: Ledger, O: Ledger, A: Ledger, R: Wait>(
+fn asks<C: Opening, M: Ledger, O: Ledger, A: Ledger, R: Wait>(
     rt: &R,
     set: &LinkSet<C, M, O, A>,
     seat: &mut TermSeat<C, M, O, A>,
@@ -64,7 +65,7 @@ fn asks<C: Ledger, M: Ledger, O: Ledger, A: Ledger, R: Wait>(
 }
 
 /// A terminal brings its link up.
-fn rises<C: Ledger, M: Ledger, O: Ledger, A: Ledger, R: Wait>(
+fn rises<C: Opening, M: Ledger, O: Ledger, A: Ledger, R: Wait>(
     rt: &R,
     set: &LinkSet<C, M, O, A>,
     seat: &mut TermSeat<C, M, O, A>,
@@ -74,7 +75,7 @@ fn rises<C: Ledger, M: Ledger, O: Ledger, A: Ledger, R: Wait>(
 }
 
 /// A terminal asks 400 times for what is to be sent, and is told each time.
-fn asks_often<C: Ledger, M: Ledger, O: Ledger, A: Ledger, R: Wait>(
+fn asks_often<C: Opening, M: Ledger, O: Ledger, A: Ledger, R: Wait>(
     rt: &R,
     set: &LinkSet<C, M, O, A>,
     seat: &mut TermSeat<C, M, O, A>,
@@ -88,7 +89,7 @@ fn asks_often<C: Ledger, M: Ledger, O: Ledger, A: Ledger, R: Wait>(
 }
 
 /// A terminal brings its link up, and sends. Where it isn't told what: `None`.
-fn sends_all<C: Ledger, M: Ledger, O: Ledger, A: Ledger, R: Wait>(
+fn sends_all<C: Opening, M: Ledger, O: Ledger, A: Ledger, R: Wait>(
     rt: &R,
     set: &LinkSet<C, M, O, A>,
     seat: TermSeat<C, M, O, A>,
@@ -118,7 +119,7 @@ fn all_of<T: Drop, R: Threads + Wait>(
 
 /// Each seat in a thread of its own; those that come back. One that finds no thread or no memory doesn't.
 fn run<
-    C: Ledger + Send + Sync,
+    C: Opening + Send + Sync,
     M: Ledger + Send + Sync,
     O: Ledger + Send + Sync,
     A: Ledger + Send + Sync,
@@ -172,7 +173,7 @@ fn ends_well(closed: Option<Closed>) -> bool {
 
 /// Four users beside the terminal of one link.
 fn four_users<
-    C: Ledger + Send + Sync,
+    C: Opening + Send + Sync,
     M: Ledger + Send + Sync,
     O: Ledger + Send + Sync,
     A: Ledger + Send + Sync,
@@ -183,6 +184,7 @@ fn four_users<
     requires octets { (blanks.octets.name ≡ O.name) × (blanks.octets.parts ≡ O.parts) }
     requires acknowledged { (blanks.acknowledged.name ≡ A.name) × (blanks.acknowledged.parts ≡ A.parts) }
     requires parts { AreParts C.parts M.parts O.parts A.parts 4 config.now.links }
+    requires opening { settings_of config.now ≡ C.settings }
 {
     let Ok(opened) = LinkSet::<C, M, O, A>::create(alloc, config, 4, blanks) else {
         return Err(Fail::from("not opened"));

@@ -13,7 +13,7 @@ use Rattle.set_model.specs.History.{LinkSet, IsLegal, after, books_of}
 use Rattle.set_ledger.specs.declared.share.SeatShare.{SeatShare}
 use Rattle.set_ledger.specs.Seats.{SeatState, Returns}
 use Rattle.set_ledger.specs.Ending.{are_seats, is_complete, AreFaithful, IsClosed, IsMerged}
-use Rattle.set_ledger.specs.Totals.{AreTotals}
+use Rattle.set_ledger.specs.Totals.{AreTotals, totals_of}
 
 -- a complete set of seats has as many as there are users and links
 as_many : (b rest : Bool) → (if b then rest else false) ≡ true → b ≡ true
@@ -74,7 +74,7 @@ whole_sums number us ts parts amount parts' amount' parts'' amount'' all total n
     omega (arith, is, amount_first, amount_then, nothing)
 
 pub closes : (us ts : List SeatState) (set : LinkSet) (books : Books) (counts : Counts) (calls messages octets acknowledged : ℕ) → IsLegal set.base.state set.history → set.state ≡ after set.base.state set.history → books ≡ books_of set.base set.history → counts ≡ counts_in set.state → AreFaithful set.history us ts
-    → AreTotals calls messages octets acknowledged set
+    → AreTotals (totals_of calls messages octets acknowledged) set
     → calls ≡ sum_by (λ (seat : SeatState). seat.share.calls) us + sum_by (λ (seat : SeatState). seat.share.calls) ts → messages ≡ sum_by (λ (seat : SeatState). seat.share.messages) us → octets ≡ sum_by (λ (seat : SeatState). seat.share.octets) us → acknowledged ≡ sum_by (λ (seat : SeatState). seat.share.acknowledged) ts
     → IsClosed us ts set.base set.history books counts
 closes us ts set books counts calls messages octets acknowledged legal replays books_are counts_are faithful totals c m o a = record {

@@ -1,5 +1,5 @@
 -- What an entry adds to a seat, and what seats that are back come to.
-use Rattle.std.proofs.Common.{arith, ◌≡◌, ◌∙◌, ap, sym, refl, ℕ, length, ◌+◌, ◌-◌, ◌*◌, ◌^◌, ◌<◌, ◌≤◌, [], ◌∷◌, ◌++◌, List}
+use Rattle.std.proofs.Common.{arith, ◌≡◌, ◌∙◌, ap, sym, refl, ℕ, ◌+◌, ◌-◌, ◌*◌, ◌^◌, ◌<◌, ◌≤◌, [], ◌∷◌, ◌++◌, List}
 use Rattle.std.proofs.lemmas.List.{length-append}
 use Rattle.set_events.specs.declared.answer.Answer.{Answer}
 use Rattle.set_events.specs.declared.event.Actor.{Actor}
@@ -12,7 +12,7 @@ use Rattle.set_model.specs.History.{Base, LinkSet, IsStep, books_in, entries_in,
 use Rattle.set_model.specs.Step.{messages_in, octets_of}
 use Rattle.set_ledger.specs.declared.share.SeatShare.{SeatShare}
 use Rattle.set_ledger.specs.Seats.{ShareGrows, AddsUp, acked_in, user_share, term_share, user_state, term_state}
-use Rattle.set_ledger.specs.Totals.{AreTotals, Gains, GainsNoOther}
+use Rattle.set_ledger.specs.Totals.{AreTotals, Gains, GainsNoOther, totals_of}
 
 -- a share that grew by an entry is what the receipts with that entry add up to
 pub adds_up_more : (who : Actor) (old new : SeatShare) (receipts more : List Entry) (event : Event) (answer : Answer) → AddsUp (record { who = who; share = old; receipts = receipts }) → ShareGrows old event answer new → more ≡ receipts ++ record { who = who; event = event; answer = answer } ∷ []
@@ -59,8 +59,8 @@ term_adds_up link calls acknowledged calls' acknowledged' receipts more event an
     adds_up_more (Terminal link) _ _ receipts more event answer sums (term_grows link calls acknowledged calls' acknowledged' event answer gained old new gains c) e
 
 -- THE TOTALS then: the books of the seat's ledgers gained as much, and the others nothing.
-pub user_totals : (number calls messages octets acknowledged calls' messages' octets' : ℕ) (event : Event) (answer : Answer) (gained : SeatShare) (old new : LinkSet) → AreTotals calls messages octets acknowledged old → Gains old (User number) event answer gained new
-    → calls' ≡ calls + gained.calls → messages' ≡ messages + gained.messages → octets' ≡ octets + gained.octets → AreTotals calls' messages' octets' acknowledged new
+pub user_totals : (number calls messages octets acknowledged calls' messages' octets' : ℕ) (event : Event) (answer : Answer) (gained : SeatShare) (old new : LinkSet) → AreTotals (totals_of calls messages octets acknowledged) old → Gains old (User number) event answer gained new
+    → calls' ≡ calls + gained.calls → messages' ≡ messages + gained.messages → octets' ≡ octets + gained.octets → AreTotals (totals_of calls' messages' octets' acknowledged) new
 user_totals number calls messages octets acknowledged calls' messages' octets' event answer gained old new t gains c m o = record {
   calls_is = c ∙ ap (λ n. n + gained.calls) t.calls_is ∙ sym gains.calls;
   messages_is = m ∙ ap (λ n. n + gained.messages) t.messages_is ∙ sym gains.messages;
@@ -68,8 +68,8 @@ user_totals number calls messages octets acknowledged calls' messages' octets' e
   acknowledged_is = let was = t.acknowledged_is in let is = gains.acknowledged in let none = gains.no_other in omega (arith, was, is, none);
 }
 
-pub term_totals : (link calls messages octets acknowledged calls' acknowledged' : ℕ) (event : Event) (answer : Answer) (gained : SeatShare) (old new : LinkSet) → AreTotals calls messages octets acknowledged old → Gains old (Terminal link) event answer gained new
-    → calls' ≡ calls + gained.calls → acknowledged' ≡ acknowledged + gained.acknowledged → AreTotals calls' messages octets acknowledged' new
+pub term_totals : (link calls messages octets acknowledged calls' acknowledged' : ℕ) (event : Event) (answer : Answer) (gained : SeatShare) (old new : LinkSet) → AreTotals (totals_of calls messages octets acknowledged) old → Gains old (Terminal link) event answer gained new
+    → calls' ≡ calls + gained.calls → acknowledged' ≡ acknowledged + gained.acknowledged → AreTotals (totals_of calls' messages octets acknowledged') new
 term_totals link calls messages octets acknowledged calls' acknowledged' event answer gained old new t gains c a = record {
   calls_is = c ∙ ap (λ n. n + gained.calls) t.calls_is ∙ sym gains.calls;
   messages_is = let was = t.messages_is in let is = gains.messages in let none = gains.no_other.0 in omega (arith, was, is, none);

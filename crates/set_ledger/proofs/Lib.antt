@@ -1,3 +1,4 @@
 pub mod Closing
 pub mod Growing
 pub mod Searching
+pub mod Telling

@@ -1,4 +1,5 @@
 pub mod Seats
 pub mod Totals
+pub mod Openings
 pub mod Ending
 pub mod Numbers

@@ -10,17 +10,24 @@ use Rattle.set_model.specs.Step.{messages_in, octets_of}
 use Rattle.set_ledger.specs.declared.share.SeatShare.{SeatShare}
 use Rattle.set_ledger.specs.Seats.{acked_in}
 
--- a set with how many users and links have a seat
+-- a set with how many users and links have a seat, and what the books of its ledgers say
 pub record HeldState : Type 0 where
   pub users : ℕ
   pub links : ℕ
+  pub totals : SeatShare
   pub set : LinkSet
 
-pub record AreTotals (calls messages octets acknowledged : ℕ) (set : LinkSet) : Type 0 where
-  pub calls_is : calls ≡ entries_in set
-  pub messages_is : messages ≡ (books_in set).messages
-  pub octets_is : octets ≡ (books_in set).octets
-  pub acknowledged_is : acknowledged ≡ acked_in set
+-- they are what its history adds up to: the entries, the accepted messages, their octets, those acknowledged
+pub record AreTotals (totals : SeatShare) (set : LinkSet) : Type 0 where
+  pub calls_is : totals.calls ≡ entries_in set
+  pub messages_is : totals.messages ≡ (books_in set).messages
+  pub octets_is : totals.octets ≡ (books_in set).octets
+  pub acknowledged_is : totals.acknowledged ≡ acked_in set
+
+-- four totals together
+abbrev pub totals_of : ℕ → ℕ → ℕ → ℕ → SeatShare
+totals_of calls messages octets acknowledged =
+    record { calls = calls; messages = messages; octets = octets; acknowledged = acknowledged }
 
 -- a user acknowledges nothing; a terminal accepts nothing
 abbrev pub GainsNoOther : Actor → SeatShare → Type 0

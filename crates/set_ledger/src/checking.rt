@@ -3,13 +3,14 @@ ghost use Rattle.std.specs.Prelude.{◌≡◌, ◌∷◌, ◌↔◌, IsTrue, All
 ghost use Rattle.set_events.specs.declared.event.Actor.TheVariants.{User, Terminal};
 ghost use Rattle.set_ledger.specs.Ending.{has_seat, are_seats, is_by, IsFaithful};
 
+use super::opening::Opening;
 use super::seat::{Seat, TermSeat, UserSeat};
 use set_events::Actor;
 use set_history::{Reader, Told};
 use std::sync::ledger::Ledger;
 
 /// Whether these are one seat for each of so many users, and no other.
-pub(crate) fn are_users<C: Ledger, M: Ledger, O: Ledger, A: Ledger>(
+pub(crate) fn are_users<C: Opening, M: Ledger, O: Ledger, A: Ledger>(
     seats: &[UserSeat<C, M, O, A>],
     users: u16,
 ) -> bool
@@ -26,7 +27,7 @@ pub(crate) fn are_users<C: Ledger, M: Ledger, O: Ledger, A: Ledger>(
 }
 
 /// Whether these are one seat for the terminal of each of so many links, and no other.
-pub(crate) fn are_terminals<C: Ledger, M: Ledger, O: Ledger, A: Ledger>(
+pub(crate) fn are_terminals<C: Opening, M: Ledger, O: Ledger, A: Ledger>(
     seats: &[TermSeat<C, M, O, A>],
     links: u8,
 ) -> bool
@@ -43,7 +44,7 @@ pub(crate) fn are_terminals<C: Ledger, M: Ledger, O: Ledger, A: Ledger>(
 }
 
 /// Whether one of these seats is this actor's.
-fn has_seat_of<C: Ledger, M: Ledger, O: Ledger, A: Ledger, S: Seat<C, M, O, A>>(
+fn has_seat_of<C: Opening, M: Ledger, O: Ledger, A: Ledger, S: Seat<C, M, O, A>>(
     seats: &[S],
     who: Actor,
 ) -> bool
@@ -58,7 +59,7 @@ fn has_seat_of<C: Ledger, M: Ledger, O: Ledger, A: Ledger, S: Seat<C, M, O, A>>(
 }
 
 /// Whether the receipts of each of these seats are its entries of the history, in order.
-pub(crate) fn are_faithful<C: Ledger, M: Ledger, O: Ledger, A: Ledger, S: Seat<C, M, O, A>>(
+pub(crate) fn are_faithful<C: Opening, M: Ledger, O: Ledger, A: Ledger, S: Seat<C, M, O, A>>(
     history: &Reader<'_>,
     seats: &[S],
 ) -> bool

@@ -1,10 +1,12 @@
 //! The end of a set: all its seats are back, and their receipts are held against its history.
 ghost use Rattle.std.specs.Prelude.{◌≡◌, ◌↔◌, true, IsTrue, IfOk, IfErr, OnOk, OnErr, if◌then◌else◌};
 ghost use Rattle.set_model.specs.History.{opening_of};
+ghost use Rattle.set_model.specs.State.{settings_of};
 ghost use Rattle.set_ledger.specs.Ending.{is_complete, AreFaithful, IsClosed, IsMerged};
 
 use super::checking::{are_faithful, are_terminals, are_users};
 use super::held::{Held, Rest};
+use super::opening::Opening;
 use super::seat::{TermSeat, UserSeat};
 use set_events::{Books, Counts, SetConfig};
 use set_history::History;
@@ -25,7 +27,7 @@ pub struct Closed {
 
 /// A set that didn't come to its end, and the seats that were handed in.
 #[derive(Drop)]
-pub struct Back<C: Ledger, M: Ledger, O: Ledger, A: Ledger> {
+pub struct Back<C: Opening, M: Ledger, O: Ledger, A: Ledger> {
     pub held: Held<C, M, O, A>,
     pub users: Vec<UserSeat<C, M, O, A>>,
     pub terminals: Vec<TermSeat<C, M, O, A>>,
@@ -33,14 +35,14 @@ pub struct Back<C: Ledger, M: Ledger, O: Ledger, A: Ledger> {
 
 /// Why a set can't end. It is handed back with all seats.
 #[derive(Drop)]
-pub enum EndFault<C: Ledger, M: Ledger, O: Ledger, A: Ledger> {
+pub enum EndFault<C: Opening, M: Ledger, O: Ledger, A: Ledger> {
     /// 1: a seat of the set isn't there. It's tested first.
     Missing(Back<C, M, O, A>),
     /// 2: the receipts of a seat aren't its entries of the history, in order.
     Strange(Back<C, M, O, A>),
 }
 
-impl<C: Ledger, M: Ledger, O: Ledger, A: Ledger> EndFault<C, M, O, A> {
+impl<C: Opening, M: Ledger, O: Ledger, A: Ledger> EndFault<C, M, O, A> {
     /// The fault's number: 1 a seat is missing, 2 its receipts are strange.
     pub fn number(&self) -> u8
         ensures missing { (back : _) → self.now ≡ EndFault.Missing back → result ≡ 1 }
@@ -53,9 +55,10 @@ impl<C: Ledger, M: Ledger, O: Ledger, A: Ledger> EndFault<C, M, O, A> {
     }
 }
 
-impl<C: Ledger, M: Ledger, O: Ledger, A: Ledger> Held<C, M, O, A> {
+impl<C: Opening, M: Ledger, O: Ledger, A: Ledger> Held<C, M, O, A> {
     /// Ends a set with all its seats: the history is legal, each seat's receipts are its entries in order, and the
-    /// totals are the sums of the shares. It takes no memory.
+    /// totals are the sums of the shares. The configuration is that which the set was opened with, by the settings of its
+    /// type. It takes no memory.
     ///
     /// Faults, which hand back the set and the seats: 1 [`EndFault::Missing`] exactly where there isn't one seat for
     /// each user and each link of the set and no other; else 2 [`EndFault::Strange`] exactly where the receipts of a
@@ -71,6 +74,7 @@ impl<C: Ledger, M: Ledger, O: Ledger, A: Ledger> Held<C, M, O, A> {
             IsClosed users.items terminals.items (opening_of closed.config) closed.history.items
             closed.books closed.counts) }
         ensures config { IfOk result (λ closed. opening_of closed.config ≡ self.set.base) }
+        ensures opening { IfOk result (λ closed. settings_of closed.config ≡ C.settings) }
         ensures history { IfOk result (λ closed. closed.history.items ≡ self.set.history) }
         ensures back { IfErr result (λ fault. fault ≡
             (if is_complete self.users self.links users.items terminals.items
@@ -132,6 +136,7 @@ impl<C: Ledger, M: Ledger, O: Ledger, A: Ledger> Held<C, M, O, A> {
         ensures closed { IsClosed users.items terminals.items (opening_of result.config)
             result.history.items result.books result.counts }
         ensures config { opening_of result.config ≡ self.set.base }
+        ensures opening { settings_of result.config ≡ C.settings }
         ensures history { result.history.items ≡ self.set.history }
     {
         self.core.replays();
@@ -170,7 +175,7 @@ impl<C: Ledger, M: Ledger, O: Ledger, A: Ledger> Held<C, M, O, A> {
 }
 
 /// Takes the users' seats apart: their parts of the ledgers, together.
-fn merge_users<C: Ledger, M: Ledger, O: Ledger, A: Ledger>(
+fn merge_users<C: Opening, M: Ledger, O: Ledger, A: Ledger>(
     seats: Vec<UserSeat<C, M, O, A>>,
     calls: &mut Share<C>,
     messages: &mut Share<M>,
@@ -189,7 +194,7 @@ fn merge_users<C: Ledger, M: Ledger, O: Ledger, A: Ledger>(
 }
 
 /// Takes the terminals' seats apart: their parts of the ledgers, together.
-fn merge_terminals<C: Ledger, M: Ledger, O: Ledger, A: Ledger>(
+fn merge_terminals<C: Opening, M: Ledger, O: Ledger, A: Ledger>(
     seats: Vec<TermSeat<C, M, O, A>>,
     calls: &mut Share<C>,
     acknowledged: &mut Share<A>,

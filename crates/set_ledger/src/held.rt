@@ -2,11 +2,14 @@
 ghost use Rattle.std.specs.Prelude.{◌≡◌, ◌<◌, ◌≤◌, ◌↔◌, ◌⊎◌, IfOk};
 ghost use Rattle.set_events.specs.declared.event.Actor.TheVariants.{User, Terminal};
 ghost use Rattle.set_model.specs.History.{new_set};
-ghost use Rattle.set_ledger.specs.Seats.{new_seats};
+ghost use Rattle.set_model.specs.State.{settings_of};
+ghost use Rattle.set_ledger.specs.Openings.{IsSetOf, opening_with};
+ghost use Rattle.set_ledger.specs.Seats.{new_seats, no_share};
 ghost use Rattle.set_ledger.specs.Totals.{AreTotals, AreParts, IsRoom, Names};
 
+use super::opening::Opening;
 use super::seat::{TermSeat, UserSeat, put_terminals, put_users};
-use super::share::Blanks;
+use super::share::{Blanks, SeatShare};
 use set_core::{SetCore, SetFault};
 use set_events::SetConfig;
 use std::alloc::{AllocFailed, Global};
@@ -17,12 +20,12 @@ use thiserror::Error;
 /// The most users of a set.
 pub const MOST_USERS: u16 = 64;
 
-/// A set with the books of its ledgers. Contracts see how many users and links have a seat, and the set.
+/// A set with the books of its ledgers. Contracts see how many users and links have a seat, the books' totals, and the set.
 ///
-/// Of every value it holds that each book's total is what the set's history adds up to: calls, accepted messages,
-/// their octets, acknowledged messages.
+/// Of every value it holds that the totals are what the set's history adds up to ([`Held::totals`]), and that this history
+/// is legal for what its type says that it was opened with ([`Held::replays`]).
 #[derive(Drop)]
-pub struct Held<C: Ledger, M: Ledger, O: Ledger, A: Ledger> {
+pub struct Held<C: Opening, M: Ledger, O: Ledger, A: Ledger> {
     pub(crate) core: SetCore,
     pub(crate) users: u16,
     pub(crate) links: u8,
@@ -33,24 +36,32 @@ pub struct Held<C: Ledger, M: Ledger, O: Ledger, A: Ledger> {
     pub(crate) rest: Rest<C, M, O, A>,
 }
 
-impl<C: Ledger, M: Ledger, O: Ledger, A: Ledger> Model for Held<C, M, O, A> {
+impl<C: Opening, M: Ledger, O: Ledger, A: Ledger> Model for Held<C, M, O, A> {
     ghost use Rattle.set_ledger.specs.Totals.{HeldState};
 
     ghost Value = { HeldState };
 
     ghost use Rattle.std.specs.Prelude.{◌≡◌};
-    ghost use Rattle.set_ledger.specs.Totals.{AreTotals, AreParts};
+    ghost use Rattle.set_ledger.specs.Openings.{opening_with};
+    ghost use Rattle.set_ledger.specs.Totals.{AreTotals, AreParts, totals_of};
 
-    ghost view = { λ h. record { users = h.users; links = h.links; set = h.core } };
+    ghost view = { λ h. record {
+      users = h.users;
+      links = h.links;
+      totals = totals_of
+          h.calls.total h.messages.total h.octets.total h.acknowledged.total;
+      set = h.core;
+    } };
 
-    ghost invariant = { λ h.
-        AreTotals h.calls.total h.messages.total h.octets.total h.acknowledged.total h.core
-        × AreParts C.parts M.parts O.parts A.parts h.users h.links };
+    ghost invariant = { λ h. AreTotals (totals_of
+        h.calls.total h.messages.total h.octets.total h.acknowledged.total) h.core
+        × AreParts C.parts M.parts O.parts A.parts h.users h.links
+        × (h.core.base ≡ opening_with C.settings) };
 }
 
 /// What is left of the ledgers once each seat has its parts: none, and no amount.
 #[derive(Drop)]
-pub(crate) struct Rest<C: Ledger, M: Ledger, O: Ledger, A: Ledger> {
+pub(crate) struct Rest<C: Opening, M: Ledger, O: Ledger, A: Ledger> {
     pub(crate) calls: Share<C>,
     pub(crate) messages: Share<M>,
     pub(crate) octets: Share<O>,
@@ -74,7 +85,7 @@ pub enum CreateFault {
 
 /// A set that was opened, and its seats.
 #[derive(Drop)]
-pub struct Opened<C: Ledger, M: Ledger, O: Ledger, A: Ledger> {
+pub struct Opened<C: Opening, M: Ledger, O: Ledger, A: Ledger> {
     /// The set.
     pub held: Held<C, M, O, A>,
     /// A seat for each user, 0, 1, ..
@@ -83,9 +94,10 @@ pub struct Opened<C: Ledger, M: Ledger, O: Ledger, A: Ledger> {
     pub terminals: Vec<TermSeat<C, M, O, A>>,
 }
 
-impl<C: Ledger, M: Ledger, O: Ledger, A: Ledger> Held<C, M, O, A> {
+impl<C: Opening, M: Ledger, O: Ledger, A: Ledger> Held<C, M, O, A> {
     /// Opens a set as this configuration has it, for so many users: the set, a seat for each user, and one for
-    /// the terminal of each link. From nothing the totals and the shares are 0.
+    /// the terminal of each link. From nothing the totals and the shares are 0. The configuration's settings are those
+    /// that the type tells.
     ///
     /// Faults: 2 [`CreateFault::Users`] exactly where there is no user or more than 64, tested first;
     /// 1 [`CreateFault::NoMemory`] only where memory was refused.
@@ -102,8 +114,13 @@ impl<C: Ledger, M: Ledger, O: Ledger, A: Ledger> Held<C, M, O, A> {
             → Names blanks.acknowledged A.name A.parts }
         requires parts { (0 < users) × (users ≤ 64)
             → AreParts C.parts M.parts O.parts A.parts users config.now.links }
-        ensures held { IfOk result (λ opened.
-            opened.held ≡ record { users = users; links = config.now.links; set = new_set config.now }) }
+        requires opening { (0 < users) × (users ≤ 64) → settings_of config.now ≡ C.settings }
+        ensures held { IfOk result (λ opened. opened.held ≡ record {
+          users = users;
+          links = config.now.links;
+          totals = no_share;
+          set = new_set config.now;
+        }) }
         ensures users { IfOk result (λ opened. opened.users.items ≡ new_seats User users) }
         ensures terminals { IfOk result
             (λ opened. opened.terminals.items ≡ new_seats Terminal config.now.links) }
@@ -121,6 +138,31 @@ impl<C: Ledger, M: Ledger, O: Ledger, A: Ledger> Held<C, M, O, A> {
         ensures { result.now ≡ self.now.set }
     {
         &self.core
+    }
+
+    /// What the books of the set's ledgers say: whenever the set is lent, that is what its history adds up to, and what
+    /// [`SetCore::books`] tells.
+    pub fn totals(&self) -> SeatShare
+        ensures value { result ≡ self.now.totals }
+        ensures adds_up { AreTotals result self.now.set }
+    {
+        // the history is that since the opening
+        self.core.config();
+        let books = self.core.books();
+        SeatShare {
+            calls: self.core.history().len() as u64,
+            messages: books.messages,
+            octets: books.octets,
+            acknowledged: books.acknowledged,
+        }
+    }
+
+    /// A law: whenever the set is lent, it's one of the settings that its type tells, and holds what its history leads to
+    /// from their opening.
+    pub fn replays(&self)
+        ensures { IsSetOf C.settings self.now.set }
+    {
+        self.core.replays();
     }
 
     /// How many users have a seat.
@@ -141,7 +183,7 @@ impl<C: Ledger, M: Ledger, O: Ledger, A: Ledger> Held<C, M, O, A> {
 }
 
 /// A new set, and room for its seats.
-fn room_for<C: Ledger, M: Ledger, O: Ledger, A: Ledger>(
+fn room_for<C: Opening, M: Ledger, O: Ledger, A: Ledger>(
     alloc: Global,
     config: &SetConfig,
     users: u16,
@@ -164,7 +206,7 @@ fn room_for<C: Ledger, M: Ledger, O: Ledger, A: Ledger>(
 }
 
 /// A new set with its seats, for which there is room.
-fn with_seats<C: Ledger, M: Ledger, O: Ledger, A: Ledger>(
+fn with_seats<C: Opening, M: Ledger, O: Ledger, A: Ledger>(
     core: SetCore,
     users: u16,
     links: u8,
@@ -173,7 +215,8 @@ fn with_seats<C: Ledger, M: Ledger, O: Ledger, A: Ledger>(
     term_seats: Vec<TermSeat<C, M, O, A>>,
 ) -> Opened<C, M, O, A>
     requires few { (users ≤ 64) × (links ≤ 16) }
-    requires new { AreTotals 0 0 0 0 core }
+    requires new { AreTotals no_share core }
+    requires opening { core.base ≡ opening_with C.settings }
     requires calls { Names blanks.calls C.name C.parts }
     requires messages { Names blanks.messages M.name M.parts }
     requires octets { Names blanks.octets O.name O.parts }
@@ -181,7 +224,7 @@ fn with_seats<C: Ledger, M: Ledger, O: Ledger, A: Ledger>(
     requires parts { AreParts C.parts M.parts O.parts A.parts users links }
     requires user_room { IsRoom user_seats users }
     requires term_room { IsRoom term_seats links }
-    ensures held { result.held ≡ record { users = users; links = links; set = core } }
+    ensures held { result.held ≡ record { users = users; links = links; totals = no_share; set = core } }
     ensures users { result.users.items ≡ new_seats User users }
     ensures terminals { result.terminals.items ≡ new_seats Terminal links }
 {

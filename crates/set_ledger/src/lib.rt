@@ -14,8 +14,10 @@
 //!
 //! Each ledger is named by a type parameter: `C` of calls, `M` of messages, `O` of octets, `A` of
 //! acknowledgements. Whoever opens a set picks the names anew, for a function that is generic over them, so a seat of
-//! another set doesn't compile: "expected `&mut UserSeat<C, M, O, A>`, found `&mut UserSeat<D, N, P, B>`". The fields
-//! of `Held` and of the seats are private here, so no other crate changes one or makes a receipt.
+//! another set doesn't compile: "expected `&mut UserSeat<C, M, O, A>`, found `&mut UserSeat<D, N, P, B>`". `C` tells the
+//! settings that the set was opened with, too ([`Opening`]): a value under a lock has no name in a contract, but its type
+//! has one. The fields of `Held` and of the seats are private here, and [`Seat`] is sealed, so no other crate makes or
+//! changes a seat, or makes a receipt: "the trait bound `OtherSeat: Step<C, M, O, A>` is not satisfied".
 //!
 //! This crate takes no lock and waits for nothing.
 #![tactic(auto)]
@@ -24,11 +26,14 @@ mod checking;
 mod ending;
 mod held;
 mod making;
+mod opening;
 mod seat;
 mod share;
+mod stepping;
 
 pub use ending::{Back, Closed, EndFault};
 pub use held::{CreateFault, Held, MOST_USERS, Opened};
+pub use opening::Opening;
 pub use seat::{Seat, TermSeat, UserSeat, step_in};
 pub use set_core::{SetCore, SetFault};
 pub use share::{Blanks, SeatShare};

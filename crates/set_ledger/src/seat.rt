@@ -8,52 +8,35 @@ ghost use Rattle.set_ledger.specs.Totals.{IsRoom};
 
 use super::held::Held;
 use super::making::make;
+use super::opening::Opening;
 use super::share::{Part, SeatShare};
+use super::stepping::Step;
 use set_core::SetFault;
 use set_events::{Actor, Answer, Event};
 use set_history::{History, Reader};
 use std::marker::{Model, PhantomData};
 use std::sync::ledger::{Ledger, Share};
 
-/// A seat at a set: its actor, its share of the totals, and a receipt for each step that it made.
-pub trait Seat<C: Ledger, M: Ledger, O: Ledger, A: Ledger> {
-    ghost use Rattle.set_ledger.specs.Seats.{SeatState};
-
-    /// What contracts see of it.
-    ghost state: { Self → SeatState };
-
+/// A seat at a set: its actor, its share of the totals, and a receipt for each step that it made. It's sealed: users'
+/// and terminals' seats are the only ones, whose fields are private, and [`step_in`] alone changes one.
+pub trait Seat<C: Opening, M: Ledger, O: Ledger, A: Ledger>: Step<C, M, O, A> {
     /// Who asks.
     fn actor(&self) -> Actor
-        ensures { result ≡ (state self.now).who };
+        ensures { result ≡ (Self.state self.now).who };
 
     /// What its steps added to the set's totals.
     fn share(&self) -> SeatShare
-        ensures value { result ≡ (state self.now).share }
-        ensures adds_up { AddsUp (state self.now) };
+        ensures value { result ≡ (Self.state self.now).share }
+        ensures adds_up { AddsUp (Self.state self.now) };
 
     /// The entries that its steps made, in order.
     fn receipts(&self) -> Reader<'_>
-        ensures { result ≡ (state self.now).receipts };
-
-    /// [`step_in`].
-    fn step(&mut self, held: &mut Held<C, M, O, A>, event: &Event) -> Result<Answer, SetFault>
-        requires { IsOwn (state self.old).who event.now }
-        ensures step { IfOk result
-            (λ answer. IsStep held.old.set (state self.old).who event.now answer held.new.set) }
-        ensures receipt { IfOk result
-            (λ answer. Receives (state self.old) event.now answer (state self.new)) }
-        ensures acknowledged { OnOk result
-            (AcknowledgesAs held.old.set held.new.set (state self.old).share
-            (state self.new).share) }
-        ensures seats { (held.new.users ≡ held.old.users) × (held.new.links ≡ held.old.links) }
-        ensures exhausted { result ≡ Err SetFault.Exhausted
-            → longest_history ≤ entries_in held.old.set }
-        ensures err { OnErr result ((held.new ≡ held.old) × (state self.new ≡ state self.old)) };
+        ensures { result ≡ (Self.state self.now).receipts };
 }
 
 /// A user's seat. Only [`step_in`] changes it.
 #[derive(Drop)]
-pub struct UserSeat<C: Ledger, M: Ledger, O: Ledger, A: Ledger> {
+pub struct UserSeat<C: Opening, M: Ledger, O: Ledger, A: Ledger> {
     number: u16,
     pub(crate) calls: Part<C>,
     pub(crate) messages: Part<M>,
@@ -62,7 +45,7 @@ pub struct UserSeat<C: Ledger, M: Ledger, O: Ledger, A: Ledger> {
     set: PhantomData<A>,
 }
 
-impl<C: Ledger, M: Ledger, O: Ledger, A: Ledger> Model for UserSeat<C, M, O, A> {
+impl<C: Opening, M: Ledger, O: Ledger, A: Ledger> Model for UserSeat<C, M, O, A> {
     ghost use Rattle.set_ledger.specs.Seats.{SeatState};
 
     ghost Value = { SeatState };
@@ -78,7 +61,7 @@ impl<C: Ledger, M: Ledger, O: Ledger, A: Ledger> Model for UserSeat<C, M, O, A> 
 
 /// The seat of a link's terminal. Only [`step_in`] changes it.
 #[derive(Drop)]
-pub struct TermSeat<C: Ledger, M: Ledger, O: Ledger, A: Ledger> {
+pub struct TermSeat<C: Opening, M: Ledger, O: Ledger, A: Ledger> {
     link: u8,
     pub(crate) calls: Part<C>,
     pub(crate) acknowledged: Part<A>,
@@ -86,7 +69,7 @@ pub struct TermSeat<C: Ledger, M: Ledger, O: Ledger, A: Ledger> {
     set: PhantomData<(M, O)>,
 }
 
-impl<C: Ledger, M: Ledger, O: Ledger, A: Ledger> Model for TermSeat<C, M, O, A> {
+impl<C: Opening, M: Ledger, O: Ledger, A: Ledger> Model for TermSeat<C, M, O, A> {
     ghost use Rattle.set_ledger.specs.Seats.{SeatState};
 
     ghost Value = { SeatState };
@@ -100,9 +83,24 @@ impl<C: Ledger, M: Ledger, O: Ledger, A: Ledger> Model for TermSeat<C, M, O, A> 
         × AddsUp (term_state s.link s.calls.told s.acknowledged.told s.receipts.items) };
 }
 
-impl<C: Ledger, M: Ledger, O: Ledger, A: Ledger> Seat<C, M, O, A> for UserSeat<C, M, O, A> {
+impl<C: Opening, M: Ledger, O: Ledger, A: Ledger> Step<C, M, O, A> for UserSeat<C, M, O, A> {
     ghost state = { λ s. s };
 
+    fn step(&mut self, held: &mut Held<C, M, O, A>, event: &Event) -> Result<Answer, SetFault> {
+        let who = Actor::User(self.number);
+        match make(&mut held.core, who, &mut self.receipts, event) {
+            Ok(made) => {
+                self.calls.gain(&mut held.calls, made.gained.calls);
+                self.messages.gain(&mut held.messages, made.gained.messages);
+                self.octets.gain(&mut held.octets, made.gained.octets);
+                Ok(made.answer)
+            }
+            Err(fault) => Err(fault),
+        }
+    }
+}
+
+impl<C: Opening, M: Ledger, O: Ledger, A: Ledger> Seat<C, M, O, A> for UserSeat<C, M, O, A> {
     fn actor(&self) -> Actor {
         Actor::User(self.number)
     }
@@ -119,14 +117,18 @@ impl<C: Ledger, M: Ledger, O: Ledger, A: Ledger> Seat<C, M, O, A> for UserSeat<C
     fn receipts(&self) -> Reader<'_> {
         self.receipts.reader()
     }
+}
+
+impl<C: Opening, M: Ledger, O: Ledger, A: Ledger> Step<C, M, O, A> for TermSeat<C, M, O, A> {
+    ghost state = { λ s. s };
 
     fn step(&mut self, held: &mut Held<C, M, O, A>, event: &Event) -> Result<Answer, SetFault> {
-        let who = Actor::User(self.number);
+        let who = Actor::Terminal(self.link);
         match make(&mut held.core, who, &mut self.receipts, event) {
             Ok(made) => {
                 self.calls.gain(&mut held.calls, made.gained.calls);
-                self.messages.gain(&mut held.messages, made.gained.messages);
-                self.octets.gain(&mut held.octets, made.gained.octets);
+                self.acknowledged
+                    .gain(&mut held.acknowledged, made.gained.acknowledged);
                 Ok(made.answer)
             }
             Err(fault) => Err(fault),
@@ -134,9 +136,7 @@ impl<C: Ledger, M: Ledger, O: Ledger, A: Ledger> Seat<C, M, O, A> for UserSeat<C
     }
 }
 
-impl<C: Ledger, M: Ledger, O: Ledger, A: Ledger> Seat<C, M, O, A> for TermSeat<C, M, O, A> {
-    ghost state = { λ s. s };
-
+impl<C: Opening, M: Ledger, O: Ledger, A: Ledger> Seat<C, M, O, A> for TermSeat<C, M, O, A> {
     fn actor(&self) -> Actor {
         Actor::Terminal(self.link)
     }
@@ -153,22 +153,9 @@ impl<C: Ledger, M: Ledger, O: Ledger, A: Ledger> Seat<C, M, O, A> for TermSeat<C
     fn receipts(&self) -> Reader<'_> {
         self.receipts.reader()
     }
-
-    fn step(&mut self, held: &mut Held<C, M, O, A>, event: &Event) -> Result<Answer, SetFault> {
-        let who = Actor::Terminal(self.link);
-        match make(&mut held.core, who, &mut self.receipts, event) {
-            Ok(made) => {
-                self.calls.gain(&mut held.calls, made.gained.calls);
-                self.acknowledged
-                    .gain(&mut held.acknowledged, made.gained.acknowledged);
-                Ok(made.answer)
-            }
-            Err(fault) => Err(fault),
-        }
-    }
 }
 
-impl<C: Ledger, M: Ledger, O: Ledger, A: Ledger> UserSeat<C, M, O, A> {
+impl<C: Opening, M: Ledger, O: Ledger, A: Ledger> UserSeat<C, M, O, A> {
     /// The user's number, 0 to 63.
     pub fn number(&self) -> u16
         ensures who { self.now.who ≡ User result }
@@ -197,7 +184,7 @@ impl<C: Ledger, M: Ledger, O: Ledger, A: Ledger> UserSeat<C, M, O, A> {
     }
 }
 
-impl<C: Ledger, M: Ledger, O: Ledger, A: Ledger> TermSeat<C, M, O, A> {
+impl<C: Opening, M: Ledger, O: Ledger, A: Ledger> TermSeat<C, M, O, A> {
     /// The number of the terminal's link, 0 to 15.
     pub fn link(&self) -> u8
         ensures who { self.now.who ≡ Terminal result }
@@ -224,7 +211,7 @@ impl<C: Ledger, M: Ledger, O: Ledger, A: Ledger> TermSeat<C, M, O, A> {
 ///
 /// Faults: 2 [`SetFault::Exhausted`] only where the history has 2^48 entries; 1 [`SetFault::NoMemory`] only
 /// where memory was refused. After a fault the set and the seat are as they were.
-pub fn step_in<C: Ledger, M: Ledger, O: Ledger, A: Ledger, S: Seat<C, M, O, A>>(
+pub fn step_in<C: Opening, M: Ledger, O: Ledger, A: Ledger, S: Seat<C, M, O, A>>(
     held: &mut Held<C, M, O, A>,
     seat: &mut S,
     event: &Event,
@@ -246,7 +233,7 @@ pub fn step_in<C: Ledger, M: Ledger, O: Ledger, A: Ledger, S: Seat<C, M, O, A>>(
 }
 
 /// Puts the seats of the users 0, 1, .. into this room, each with one part of each ledger that it moves.
-pub(crate) fn put_users<C: Ledger, M: Ledger, O: Ledger, A: Ledger>(
+pub(crate) fn put_users<C: Opening, M: Ledger, O: Ledger, A: Ledger>(
     seats: &mut Vec<UserSeat<C, M, O, A>>,
     users: u16,
     calls: &mut Share<C>,
@@ -279,7 +266,7 @@ pub(crate) fn put_users<C: Ledger, M: Ledger, O: Ledger, A: Ledger>(
 
 /// Puts the seats of the terminals of the links 0, 1, .. into this room, each with one part of each ledger that it
 /// moves.
-pub(crate) fn put_terminals<C: Ledger, M: Ledger, O: Ledger, A: Ledger>(
+pub(crate) fn put_terminals<C: Opening, M: Ledger, O: Ledger, A: Ledger>(
     seats: &mut Vec<TermSeat<C, M, O, A>>,
     links: u8,
     calls: &mut Share<C>,

@@ -1,1 +1,2 @@
 pub mod Seating
+pub mod Asking

@@ -19,6 +19,6 @@ mod link_set;
 
 pub use link_set::{LinkSet, Opened};
 pub use set_ledger::{
-    Back, Blanks, Closed, CreateFault, EndFault, Held, Seat, SeatShare, SetFault, TermSeat,
-    UserSeat,
+    Back, Blanks, Closed, CreateFault, EndFault, Held, Opening, Seat, SeatShare, SetFault,
+    TermSeat, UserSeat,
 };

@@ -7,10 +7,13 @@ ghost use Rattle.set_ledger.specs.Seats.{Receives, new_seats};
 ghost use Rattle.set_ledger.specs.Totals.{AreParts, HeldState, Names};
 ghost use Rattle.set_ledger.specs.Ending.{is_complete, AreFaithful, IsClosed};
 ghost use Rattle.set_model.specs.History.{opening_of};
+ghost use Rattle.set_model.specs.State.{settings_of};
+ghost use Rattle.set_shared.specs.Asking.{IsAnswered, IsFull};
 
 use set_events::{Answer, Body, Event, SetConfig};
 use set_ledger::{
-    Blanks, Closed, CreateFault, EndFault, Held, SetFault, TermSeat, UserSeat, step_in,
+    Blanks, Closed, CreateFault, EndFault, Held, Opening, Seat, SetFault, TermSeat, UserSeat,
+    step_in,
 };
 use std::alloc::Global;
 use std::marker::Model;
@@ -20,14 +23,14 @@ use std::sync::{Mutex, Wait};
 /// A link set that threads share. Contracts see how many seats it has; of what stands under its lock they know
 /// what every `Held` keeps.
 #[derive(Drop)]
-pub struct LinkSet<C: Ledger, M: Ledger, O: Ledger, A: Ledger> {
+pub struct LinkSet<C: Opening, M: Ledger, O: Ledger, A: Ledger> {
     held: Mutex<Held<C, M, O, A>>,
     users: u16,
     links: u8,
     alloc: Global,
 }
 
-impl<C: Ledger, M: Ledger, O: Ledger, A: Ledger> Model for LinkSet<C, M, O, A> {
+impl<C: Opening, M: Ledger, O: Ledger, A: Ledger> Model for LinkSet<C, M, O, A> {
     ghost use Rattle.set_shared.specs.Seating.{Seating};
 
     ghost Value = { Seating };
@@ -41,7 +44,7 @@ impl<C: Ledger, M: Ledger, O: Ledger, A: Ledger> Model for LinkSet<C, M, O, A> {
 
 /// A set that was opened, and its seats.
 #[derive(Drop)]
-pub struct Opened<C: Ledger, M: Ledger, O: Ledger, A: Ledger> {
+pub struct Opened<C: Opening, M: Ledger, O: Ledger, A: Ledger> {
     /// The set.
     pub set: LinkSet<C, M, O, A>,
     /// A seat for each user, 0, 1, ..
@@ -50,9 +53,10 @@ pub struct Opened<C: Ledger, M: Ledger, O: Ledger, A: Ledger> {
     pub terminals: Vec<TermSeat<C, M, O, A>>,
 }
 
-impl<C: Ledger, M: Ledger, O: Ledger, A: Ledger> LinkSet<C, M, O, A> {
+impl<C: Opening, M: Ledger, O: Ledger, A: Ledger> LinkSet<C, M, O, A> {
     /// Opens a set as this configuration has it, for so many users: the set, a seat for each user, and one for the
-    /// terminal of each link.
+    /// terminal of each link. The configuration's settings are those that the type tells, so what is shared is a set of
+    /// theirs: no other stands under a lock of this type.
     ///
     /// Faults: 2 [`CreateFault::Users`] exactly where there is no user or more than 64, tested first;
     /// 1 [`CreateFault::NoMemory`] only where memory was refused.
@@ -68,6 +72,7 @@ impl<C: Ledger, M: Ledger, O: Ledger, A: Ledger> LinkSet<C, M, O, A> {
         requires acknowledged { (0 < users) × (users ≤ 64) → Names blanks.acknowledged A.name A.parts }
         requires parts { (0 < users) × (users ≤ 64)
             → AreParts C.parts M.parts O.parts A.parts users config.now.links }
+        requires opening { (0 < users) × (users ≤ 64) → settings_of config.now ≡ C.settings }
         ensures set { IfOk result (λ opened. opened.set ≡ record { users = users; links = config.now.links }) }
         ensures users { IfOk result (λ opened. opened.users.items ≡ new_seats User users) }
         ensures terminals { IfOk result (λ opened. opened.terminals.items ≡ new_seats Terminal config.now.links) }
@@ -99,7 +104,8 @@ impl<C: Ledger, M: Ledger, O: Ledger, A: Ledger> LinkSet<C, M, O, A> {
 
     /// A user offers a message of these octets: what the set answers. The seat has a receipt of it.
     ///
-    /// Faults, after which the seat is as it was: 2 [`SetFault::Exhausted`], 1 [`SetFault::NoMemory`].
+    /// Faults, after which the seat is as it was: 2 [`SetFault::Exhausted`] only where the set's history has 2^48 entries;
+    /// 1 [`SetFault::NoMemory`] only where memory was refused.
     pub fn offer<R: Wait>(
         &self,
         rt: &R,
@@ -107,29 +113,35 @@ impl<C: Ledger, M: Ledger, O: Ledger, A: Ledger> LinkSet<C, M, O, A> {
         octets: &[u8],
     ) -> Result<Answer, SetFault>
         ensures receipt { IfOk result (λ answer. Receives seat.old (Offer octets.now) answer seat.new) }
+        ensures answer { IfOk result (IsAnswered C.settings (Offer octets.now)) }
+        ensures exhausted { result ≡ Err SetFault.Exhausted → IsFull C.settings }
         ensures err { OnErr result (seat.new ≡ seat.old) }
     {
         // a user's number is below 64
         seat.number();
         let body = Body::from_slice(self.alloc, octets)?;
-        step_in(&mut *self.held.lock(rt), seat, &Event::Offer { body })
+        ask(&mut *self.held.lock(rt), seat, &Event::Offer { body })
     }
 
     /// A user takes the oldest message that was heard for users: what the set answers. The seat has a receipt of it.
     ///
-    /// Faults, after which the seat is as it was: 2 [`SetFault::Exhausted`], 1 [`SetFault::NoMemory`].
+    /// Faults, after which the seat is as it was: 2 [`SetFault::Exhausted`] only where the set's history has 2^48 entries;
+    /// 1 [`SetFault::NoMemory`] only where memory was refused.
     pub fn take<R: Wait>(&self, rt: &R, seat: &mut UserSeat<C, M, O, A>) -> Result<Answer, SetFault>
         ensures receipt { IfOk result (λ answer. Receives seat.old Take answer seat.new) }
+        ensures answer { IfOk result (IsAnswered C.settings Take) }
+        ensures exhausted { result ≡ Err SetFault.Exhausted → IsFull C.settings }
         ensures err { OnErr result (seat.new ≡ seat.old) }
     {
         // a user's number is below 64
         seat.number();
-        step_in(&mut *self.held.lock(rt), seat, &Event::Take)
+        ask(&mut *self.held.lock(rt), seat, &Event::Take)
     }
 
     /// A user asks where the message of this number stands: what the set answers. The seat has a receipt of it.
     ///
-    /// Faults, after which the seat is as it was: 2 [`SetFault::Exhausted`], 1 [`SetFault::NoMemory`].
+    /// Faults, after which the seat is as it was: 2 [`SetFault::Exhausted`] only where the set's history has 2^48 entries;
+    /// 1 [`SetFault::NoMemory`] only where memory was refused.
     pub fn find<R: Wait>(
         &self,
         rt: &R,
@@ -137,16 +149,19 @@ impl<C: Ledger, M: Ledger, O: Ledger, A: Ledger> LinkSet<C, M, O, A> {
         number: u64,
     ) -> Result<Answer, SetFault>
         ensures receipt { IfOk result (λ answer. Receives seat.old (Find number) answer seat.new) }
+        ensures answer { IfOk result (IsAnswered C.settings (Find number)) }
+        ensures exhausted { result ≡ Err SetFault.Exhausted → IsFull C.settings }
         ensures err { OnErr result (seat.new ≡ seat.old) }
     {
         // a user's number is below 64
         seat.number();
-        step_in(&mut *self.held.lock(rt), seat, &Event::Find { number })
+        ask(&mut *self.held.lock(rt), seat, &Event::Find { number })
     }
 
     /// One step of a terminal on its own link: what the set answers. The seat has a receipt of it.
     ///
-    /// Faults, after which the seat is as it was: 2 [`SetFault::Exhausted`], 1 [`SetFault::NoMemory`].
+    /// Faults, after which the seat is as it was: 2 [`SetFault::Exhausted`] only where the set's history has 2^48 entries;
+    /// 1 [`SetFault::NoMemory`] only where memory was refused.
     pub fn term_step<R: Wait>(
         &self,
         rt: &R,
@@ -155,9 +170,11 @@ impl<C: Ledger, M: Ledger, O: Ledger, A: Ledger> LinkSet<C, M, O, A> {
     ) -> Result<Answer, SetFault>
         requires { IsOwn seat.old.who event.now }
         ensures receipt { IfOk result (λ answer. Receives seat.old event.now answer seat.new) }
+        ensures answer { IfOk result (IsAnswered C.settings event.now) }
+        ensures exhausted { result ≡ Err SetFault.Exhausted → IsFull C.settings }
         ensures err { OnErr result (seat.new ≡ seat.old) }
     {
-        step_in(&mut *self.held.lock(rt), seat, event)
+        ask(&mut *self.held.lock(rt), seat, event)
     }
 
     /// [`LinkSet::term_step`] that calls `held` once it has the lock.
@@ -171,15 +188,18 @@ impl<C: Ledger, M: Ledger, O: Ledger, A: Ledger> LinkSet<C, M, O, A> {
         requires own { IsOwn seat.old.who event.now }
         requires callable { F.IsAlwaysCallable held }
         ensures receipt { IfOk result (λ answer. Receives seat.old event.now answer seat.new) }
+        ensures answer { IfOk result (IsAnswered C.settings event.now) }
+        ensures exhausted { result ≡ Err SetFault.Exhausted → IsFull C.settings }
         ensures err { OnErr result (seat.new ≡ seat.old) }
     {
         let mut guard = self.held.lock(rt);
         held();
-        step_in(&mut *guard, seat, event)
+        ask(&mut *guard, seat, event)
     }
 
     /// Ends a set with all its seats, under no lock: the history is legal, each seat's receipts are its entries in
-    /// order, and the totals are the sums of the shares. It takes no memory, and waits for nothing.
+    /// order, and the totals are the sums of the shares. The configuration is that of [`LinkSet::create`], by the settings
+    /// that the type tells. It takes no memory, and waits for nothing.
     ///
     /// Faults, which hand back the set, unlocked ([`LinkSet::of`] makes it shared again), and all seats:
     /// 1 [`EndFault::Missing`] exactly where there isn't one seat for each user and each link of the set and no
@@ -193,6 +213,7 @@ impl<C: Ledger, M: Ledger, O: Ledger, A: Ledger> LinkSet<C, M, O, A> {
         ensures closed { IfOk result (λ closed.
             IsClosed users.items terminals.items (opening_of closed.config) closed.history.items
             closed.books closed.counts) }
+        ensures config { IfOk result (λ closed. settings_of closed.config ≡ C.settings) }
         ensures back { IfErr result (λ fault. (held : HeldState) × (held.users ≡ self.users) × (held.links ≡ self.links)
             × (fault ≡ (if is_complete self.users self.links users.items terminals.items
             then EndFault.Strange else EndFault.Missing) (record { held = held; users = users; terminals = terminals }))
@@ -205,4 +226,20 @@ impl<C: Ledger, M: Ledger, O: Ledger, A: Ledger> LinkSet<C, M, O, A> {
         held.links();
         held.end(users, terminals)
     }
+}
+
+/// One step at what stands under the lock, as `step_in` makes it.
+fn ask<C: Opening, M: Ledger, O: Ledger, A: Ledger, S: Seat<C, M, O, A>>(
+    held: &mut Held<C, M, O, A>,
+    seat: &mut S,
+    event: &Event,
+) -> Result<Answer, SetFault>
+    requires { IsOwn (S.state seat.old).who event.now }
+    ensures receipt { IfOk result (λ answer. Receives (S.state seat.old) event.now answer (S.state seat.new)) }
+    ensures answer { IfOk result (IsAnswered C.settings event.now) }
+    ensures exhausted { result ≡ Err SetFault.Exhausted → IsFull C.settings }
+    ensures err { OnErr result (S.state seat.new ≡ S.state seat.old) }
+{
+    held.replays();
+    step_in(held, seat, event)
 }

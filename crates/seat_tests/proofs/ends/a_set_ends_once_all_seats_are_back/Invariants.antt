@@ -1,3 +1,4 @@
+use Rattle.set_model.specs.State.{settings_of}
 use Rattle.seat_tests.proofs.ends.a_set_ends_once_all_seats_are_back.Given as goal
 
 -- each ledger is named by its blank
@@ -12,3 +13,7 @@ ghosts-two_users-O-Ledger g a = record { name = a.blanks.octets.name; parts = a.
 
 abbrev pub ghosts-two_users-A-Ledger : goal.ghosts-two_users-A-Ledger
 ghosts-two_users-A-Ledger g a = record { name = a.blanks.acknowledged.name; parts = a.blanks.acknowledged.parts }
+
+-- and what the set is opened with is the configuration's
+abbrev pub ghosts-two_users-C-Opening : goal.ghosts-two_users-C-Opening
+ghosts-two_users-C-Opening g a = record { settings = settings_of a.config.now }

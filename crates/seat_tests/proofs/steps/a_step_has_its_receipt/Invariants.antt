@@ -1,3 +1,4 @@
+use Rattle.set_model.specs.State.{settings_of}
 use Rattle.seat_tests.proofs.steps.a_step_has_its_receipt.Given as goal
 
 -- each ledger is named by its blank
@@ -12,3 +13,7 @@ ghosts-one_message-O-Ledger a = record { name = a.blanks.octets.name; parts = a.
 
 abbrev pub ghosts-one_message-A-Ledger : goal.ghosts-one_message-A-Ledger
 ghosts-one_message-A-Ledger a = record { name = a.blanks.acknowledged.name; parts = a.blanks.acknowledged.parts }
+
+-- and what the set is opened with is the configuration's
+abbrev pub ghosts-one_message-C-Opening : goal.ghosts-one_message-C-Opening
+ghosts-one_message-C-Opening a = record { settings = settings_of a.config.now }

@@ -4,4 +4,4 @@ use Rattle.set_ledger.proofs.checking.has_seat_of.Given as goal
 
 -- whether the seats that are left have it decides
 abbrev pub invariant-loop-seat : goal.invariant-loop-seat
-invariant-loop-seat g l = has_seat g.S.Seat.state l.who l.seats ≡ has_seat g.S.Seat.state l.who (drop l.seat-index l.seats)
+invariant-loop-seat g l = has_seat g.S.Step.state l.who l.seats ≡ has_seat g.S.Step.state l.who (drop l.seat-index l.seats)

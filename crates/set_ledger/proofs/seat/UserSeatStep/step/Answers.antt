@@ -2,9 +2,9 @@ use Rattle.std.proofs.Common.{◌∙◌, ap, refl, List}
 use Rattle.set_events.specs.declared.history.Entry.{Entry}
 use Rattle.set_model.specs.History.{LinkSet}
 use Rattle.set_ledger.specs.Seats.{user_state}
-use Rattle.set_ledger.specs.Totals.{HeldState}
+use Rattle.set_ledger.specs.Totals.{HeldState, totals_of}
 use Rattle.set_ledger.proofs.Growing.{user_adds_up, user_totals, user_grows, user_acknowledges, room_for, few_enough}
-use Rattle.set_ledger.proofs.seat.UserSeatSeat.step.Goals as goal
+use Rattle.set_ledger.proofs.seat.UserSeatStep.step.Goals as goal
 
 pub gain-requires : goal.gain-requires
 gain-requires g c = let gains = c.in-Ok.ensures.gains in room_for _ _ _ _ c.held.invariant.0.calls_is gains.calls (few_enough gains.few_calls)
@@ -27,6 +27,7 @@ pub invariant_of-held : goal.invariant_of-held
 invariant_of-held g c = (
   user_totals c.self.inside.number _ _ _ _ _ _ _ c.args.event.now c.in-Ok.made.answer c.in-Ok.made.gained c.held.inside.core c.make.new.core c.held.invariant.0 c.in-Ok.ensures.gains c.gain.ensures.total c.gain-in-Ok.ensures.total c.gain-in-Ok-2.ensures.total,
   c.held.invariant.1,
+  c.in-Ok.ensures.step.base_is ∙ c.held.invariant.2,
 )
 
 pub returns-in-Ok-clause-step : goal.returns-in-Ok-clause-step
@@ -56,6 +57,6 @@ returns-in-Err-clause-seats g c = (ap (λ (h : HeldState). h.users) c.held.view_
 
 pub returns-in-Err-clause-err : goal.returns-in-Err-clause-err
 returns-in-Err-clause-err g c = (
-  ap (λ (set : LinkSet). record { users = c.held.inside.users; links = c.held.inside.links; set = set }) c.in-Err.ensures.err.0 ∙ c.held.view_is,
+  ap (λ (set : LinkSet). record { users = c.held.inside.users; links = c.held.inside.links; totals = totals_of c.held.inside.calls.total c.held.inside.messages.total c.held.inside.octets.total c.held.inside.acknowledged.total; set = set }) c.in-Err.ensures.err.0 ∙ c.held.view_is,
   ap (λ (made : List Entry). user_state c.self.inside.number c.self.inside.calls.told c.self.inside.messages.told c.self.inside.octets.told made) c.in-Err.ensures.err.1 ∙ c.self.view_is,
 )

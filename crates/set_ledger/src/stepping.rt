@@ -1,0 +1,34 @@
+//! How a seat makes a step. This module is private, so no other crate has a seat of its own.
+ghost use Rattle.std.specs.Prelude.{◌≡◌, ◌≤◌, IfOk, OnOk, OnErr};
+ghost use Rattle.set_core.specs.Gaining.{IsOwn};
+ghost use Rattle.set_model.specs.History.{IsStep, entries_in, longest_history};
+ghost use Rattle.set_ledger.specs.Seats.{Receives, AcknowledgesAs};
+
+use super::held::Held;
+use super::opening::Opening;
+use set_core::SetFault;
+use set_events::{Answer, Event};
+use std::sync::ledger::Ledger;
+
+/// What makes steps at a set, and has a receipt for each.
+pub trait Step<C: Opening, M: Ledger, O: Ledger, A: Ledger> {
+    ghost use Rattle.set_ledger.specs.Seats.{SeatState};
+
+    /// What contracts see of it.
+    ghost state: { Self → SeatState };
+
+    /// `step_in`.
+    fn step(&mut self, held: &mut Held<C, M, O, A>, event: &Event) -> Result<Answer, SetFault>
+        requires { IsOwn (state self.old).who event.now }
+        ensures step { IfOk result
+            (λ answer. IsStep held.old.set (state self.old).who event.now answer held.new.set) }
+        ensures receipt { IfOk result
+            (λ answer. Receives (state self.old) event.now answer (state self.new)) }
+        ensures acknowledged { OnOk result
+            (AcknowledgesAs held.old.set held.new.set (state self.old).share
+            (state self.new).share) }
+        ensures seats { (held.new.users ≡ held.old.users) × (held.new.links ≡ held.old.links) }
+        ensures exhausted { result ≡ Err SetFault.Exhausted
+            → longest_history ≤ entries_in held.old.set }
+        ensures err { OnErr result ((held.new ≡ held.old) × (state self.new ≡ state self.old)) };
+}
