@@ -1,9 +1,11 @@
 -- THE PRINTED TEXTS: what a step of the world shows, and how an end stands, each ended by LF.
-use Rattle.std.specs.Prelude.{◌≡◌, ℕ, List, [], ◌++◌, length, take, Option, Some, None, Result, MatchResult, codes, decimal, if◌then◌else◌}
+use Rattle.std.specs.Prelude.{◌≡◌, ℕ, Bool, nat_le, List, [], ◌++◌, length, take, Option, Some, None, Result, MatchResult, codes, decimal, if◌then◌else◌}
 use Rattle.l2_bits.specs.SealedText.{sealed_text}
-use Rattle.l2_units.specs.Grammar.{head_of, text}
+use Rattle.l2_units.specs.Grammar.{head_of, body_of, text}
+use Rattle.l2_units.specs.Profile.{longest_body}
+use Rattle.l2_units.specs.declared.profile.Profile.{Profile}
+use Rattle.l2_units.specs.declared.profile.Profile.TheVariants.{Narrow, Wide}
 use Rattle.l2_units.specs.declared.unit.Unit.{Unit as SignalUnit}
-use Rattle.l2_units.specs.declared.profile.Profile.TheVariants.{Narrow}
 use Rattle.set_events.specs.Numbers.{refusal_number, ControlFault, fault_number, cause_number}
 use Rattle.set_events.specs.declared.answer.Fate.{Fate}
 use Rattle.set_events.specs.declared.answer.Fate.TheVariants.{Waiting, Unacked, Acked, Held, Parked, Back, Discarded}
@@ -55,32 +57,39 @@ abbrev pub report_text : Report → List ℕ
 report_text r =
     codes "heard acked=" ++ (decimal r.acked ++ (codes " took=" ++ (took_text r.took ++ flags_text r)))
 
--- a unit's octets, without check octets; one with a number of more than seven bits, which no set of the narrow profile
--- has, has none (own)
-abbrev pub unit_octets : SignalUnit → List ℕ
-unit_octets unit = if has_numbers Narrow (head_of unit) then text Narrow unit else []
+-- a unit that has a form in this profile: numbers of seven bits in the narrow one, a body of at most 272 octets in the
+-- wide one
+abbrev pub has_form : Profile → SignalUnit → Bool
+has_form Narrow unit = has_numbers Narrow (head_of unit)
+has_form Wide unit = nat_le (length (body_of unit)) (longest_body Wide)
+
+-- a unit's octets, without check octets; one that has no form in the profile, which no set of the profile sends, has none
+-- (own)
+abbrev pub unit_octets : Profile → SignalUnit → List ℕ
+unit_octets profile unit = if has_form profile unit then text profile unit else []
 
 -- a sent unit is printed with its check octets
 abbrev pub sent_line : List ℕ → List ℕ
 sent_line octets = codes "sent " ++ (hex_text (sealed_text octets) ++ codes "\n")
 
-abbrev pub answer_text : Answer → List ℕ
-answer_text (Accepted number) = codes "accepted " ++ (decimal number ++ codes "\n")
-answer_text (Taken body) = codes "taken " ++ (hex_text body.items ++ codes "\n")
-answer_text (Found fate) = fate_text fate
-answer_text (Sent unit) = sent_line (unit_octets unit)
-answer_text (Heard report) = report_text report
-answer_text Done = codes "done\n"
-answer_text (Refused why) = codes "refused " ++ (decimal (refusal_number why) ++ codes "\n")
+abbrev pub answer_text : Profile → Answer → List ℕ
+answer_text profile (Accepted number) = codes "accepted " ++ (decimal number ++ codes "\n")
+answer_text profile (Taken body) = codes "taken " ++ (hex_text body.items ++ codes "\n")
+answer_text profile (Found fate) = fate_text fate
+answer_text profile (Sent unit) = sent_line (unit_octets profile unit)
+answer_text profile (Heard report) = report_text report
+answer_text profile Done = codes "done\n"
+answer_text profile (Refused why) = codes "refused " ++ (decimal (refusal_number why) ++ codes "\n")
 
-abbrev pub shown_line : Shown → List ℕ
-shown_line Up = codes "up\n"
-shown_line Lost = codes "lost\n"
-shown_line (Answered answer) = answer_text answer
+abbrev pub shown_line : Profile → Shown → List ℕ
+shown_line profile Up = codes "up\n"
+shown_line profile Lost = codes "lost\n"
+shown_line profile (Answered answer) = answer_text profile answer
 
--- THE TEXT of what a step shows; a name of its own, so that who speaks of it doesn't compute it
-unfoldable pub shown_text : Shown → List ℕ
-shown_text shown = shown_line shown
+-- THE TEXT of what a step of two sets of this profile shows; a name of its own, so that who speaks of it doesn't compute
+-- it
+unfoldable pub shown_text : Profile → Shown → List ℕ
+shown_text profile shown = shown_line profile shown
 
 abbrev pub end_name : End → List ℕ
 end_name A = codes "a"

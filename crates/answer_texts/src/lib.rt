@@ -6,9 +6,9 @@
 //! | [`set_events::Counts`] of an end | [`write_end`] |
 //!
 //! Each text is a line, ended by LF, and fails only where memory is wanted. Numbers are decimal, octets are
-//! hexadecimal in lower case, and a sent unit is printed with its check octets ([`unit_octets`] has those before them).
-//! [`code_of`] is the number by which a heard unit's fault is printed. `specs/Texts.antt` has the words. This crate knows no
-//! set and no script.
+//! hexadecimal in lower case, and a sent unit is printed in the profile of its set with its check octets
+//! ([`unit_octets`] has those before them). [`code_of`] is the number by which a heard unit's fault is printed.
+//! `specs/Texts.antt` has the words. This crate knows no set and no script.
 #![tactic(auto)]
 
 mod texts;

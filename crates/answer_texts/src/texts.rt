@@ -1,5 +1,7 @@
 //! The printed texts.
-ghost use Rattle.std.specs.Prelude.{◌≡◌, ◌++◌, ◌+◌, ◌<◌, ◌^◌, IfOk, MatchResult, codes, decimal};
+ghost use Rattle.std.specs.Prelude.{◌≡◌, ◌++◌, ◌+◌, ◌<◌, ◌^◌, IfOk, MatchResult, codes, decimal, length};
+ghost use Rattle.l2_units.specs.Grammar.{body_of};
+ghost use Rattle.l2_units.specs.declared.profile.Profile.TheVariants.{Narrow, Wide};
 ghost use Rattle.set_model.specs.Rows.{total_of};
 ghost use Rattle.figures.specs.Figures.{hex_text};
 ghost use Rattle.answer_texts.specs.Texts.{Appends, unit_octets, fate_text, took_text, fault_code, flags_text, report_text, sent_line, answer_text, shown_line, shown_text, end_name, end_text, link_counts, other_counts};
@@ -7,30 +9,33 @@ ghost use Rattle.answer_texts.specs.Texts.{Appends, unit_octets, fate_text, took
 use arrayvec::ArrayVec;
 use figures::{bit_of, decimal_digit, push_hex, push_number};
 use l2_bits::seal;
-use l2_units::{LONGEST_UNIT, Unit, header_in, write};
+use l2_units::{LONGEST_UNIT, Profile, Unit, header_in, write, write_wide};
 use set_events::{Answer, ControlFault, Counts, Fate, Report, Took};
 use std::alloc::{AllocError, Global};
 use world_steps::{End, Shown};
 
-/// The text of what a step shows.
-pub fn write_shown(alloc: Global, shown: &Shown) -> Result<Vec<u8>, AllocError>
-    ensures { IfOk result (λ text. text.items ≡ shown_text shown.now) }
+/// The most octets of a body in the wide profile.
+const LONGEST_WIDE_BODY: usize = 272;
+
+/// The text of what a step of two sets of this profile shows.
+pub fn write_shown(alloc: Global, profile: Profile, shown: &Shown) -> Result<Vec<u8>, AllocError>
+    ensures { IfOk result (λ text. text.items ≡ shown_text profile shown.now) }
 {
     let mut text = Vec::new(alloc);
-    push_shown(&mut text, shown)?;
+    push_shown(&mut text, profile, shown)?;
     Ok(text)
 }
 
-/// Appends the text of what a step shows.
+/// Appends the text of what a step of two sets of this profile shows.
 ///
 /// Where memory is wanted `out` holds what it held before.
-pub fn push_shown(out: &mut Vec<u8>, shown: &Shown) -> Result<(), AllocError>
+pub fn push_shown(out: &mut Vec<u8>, profile: Profile, shown: &Shown) -> Result<(), AllocError>
     ensures { MatchResult result
-        (λ done. out.new.items ≡ out.old.items ++ shown_text shown.now)
+        (λ done. out.new.items ≡ out.old.items ++ shown_text profile shown.now)
         (λ want. out.new.items ≡ out.old.items) }
 {
     let kept = out.len();
-    match push_line(out, shown) {
+    match push_line(out, profile, shown) {
         Ok(()) => Ok(()),
         Err(want) => {
             // the pieces that had room
@@ -41,25 +46,25 @@ pub fn push_shown(out: &mut Vec<u8>, shown: &Shown) -> Result<(), AllocError>
 }
 
 /// Appends the line of what was shown, case by case.
-fn push_line(out: &mut Vec<u8>, shown: &Shown) -> Result<(), AllocError>
-    ensures { Appends result out.old.items (shown_line shown.now) out.new.items }
+fn push_line(out: &mut Vec<u8>, profile: Profile, shown: &Shown) -> Result<(), AllocError>
+    ensures { Appends result out.old.items (shown_line profile shown.now) out.new.items }
 {
     match shown {
         Shown::Up => push_piece(out, b"up\n"),
         Shown::Lost => push_piece(out, b"lost\n"),
-        Shown::Answered(answer) => push_answer(out, answer),
+        Shown::Answered(answer) => push_answer(out, profile, answer),
     }
 }
 
 /// Appends the text of an answer.
-fn push_answer(out: &mut Vec<u8>, answer: &Answer) -> Result<(), AllocError>
-    ensures { Appends result out.old.items (answer_text answer.now) out.new.items }
+fn push_answer(out: &mut Vec<u8>, profile: Profile, answer: &Answer) -> Result<(), AllocError>
+    ensures { Appends result out.old.items (answer_text profile answer.now) out.new.items }
 {
     match answer {
         Answer::Accepted { number } => push_number_line(out, b"accepted ", *number),
         Answer::Taken { body } => push_hex_line(out, b"taken ", body.as_slice()),
         Answer::Found { fate } => push_fate(out, *fate),
-        Answer::Sent { unit } => push_sent(out, unit),
+        Answer::Sent { unit } => push_sent(out, profile, unit),
         Answer::Heard { report } => push_report(out, report),
         Answer::Done => push_piece(out, b"done\n"),
         Answer::Refused { why } => push_number_line(out, b"refused ", why.number() as u64),
@@ -86,16 +91,53 @@ fn push_fate(out: &mut Vec<u8>, fate: Fate) -> Result<(), AllocError>
 /// Appends the text of a sent unit, with its check octets.
 // on its own: whoever has the unit's octets in its frame fills them each time, whatever it's called for
 #[inline(never)]
-fn push_sent(out: &mut Vec<u8>, unit: &Unit) -> Result<(), AllocError>
-    ensures { Appends result out.old.items (sent_line (unit_octets unit.now)) out.new.items }
+fn push_sent(out: &mut Vec<u8>, profile: Profile, unit: &Unit) -> Result<(), AllocError>
+    ensures { Appends result out.old.items (sent_line (unit_octets profile unit.now)) out.new.items }
 {
-    push_hex_line(out, b"sent ", seal(unit_octets(unit).as_slice()).as_slice())
+    push_hex_line(
+        out,
+        b"sent ",
+        seal(unit_octets(profile, unit).as_slice()).as_slice(),
+    )
 }
 
-/// A unit's octets, without check octets. Of one that has a number of more than seven bits, as no set of the narrow profile
-/// has, there are none (own).
-pub fn unit_octets(unit: &Unit) -> ArrayVec<u8, LONGEST_UNIT>
-    ensures { result.items ≡ unit_octets unit.now }
+/// A unit's octets in this profile, without check octets. Of one that has no form in it, for a number of more than seven
+/// bits in the narrow or a body of more than 272 octets in the wide profile, as no set of the profile sends, there are
+/// none (own).
+pub fn unit_octets(profile: Profile, unit: &Unit) -> ArrayVec<u8, LONGEST_UNIT>
+    ensures { result.items ≡ unit_octets profile unit.now }
+{
+    match profile {
+        Profile::Narrow => narrow_octets(unit),
+        Profile::Wide => wide_octets(unit),
+    }
+}
+
+/// A unit's octets in the wide profile.
+fn wide_octets(unit: &Unit) -> ArrayVec<u8, LONGEST_UNIT>
+    ensures { result.items ≡ unit_octets Wide unit.now }
+{
+    if body_size(unit) <= LONGEST_WIDE_BODY {
+        write_wide(unit)
+    } else {
+        ArrayVec::new()
+    }
+}
+
+/// How many octets stand behind a unit's length indicator.
+fn body_size(unit: &Unit) -> usize
+    ensures { result ≡ length (body_of unit.now) }
+{
+    match unit {
+        Unit::Fisu { .. } => 0,
+        Unit::Lssu { .. } => 1,
+        Unit::Msu { body, .. } => body.len(),
+    }
+}
+
+/// A unit's octets in the narrow profile.
+fn narrow_octets(unit: &Unit) -> ArrayVec<u8, LONGEST_UNIT>
+    ensures { result.items ≡ unit_octets Narrow unit.now }
 {
     let head = header_in(unit);
     if head.bsn < 128 && head.fsn < 128 {

@@ -52,7 +52,7 @@ one_audit s entries lines a b (legal few l is) (legal few2 l2 is2) = is ∙ sym 
 one_audit s entries lines a b (legal few l is) (wrong p few2 w is2) = absurd (not_legal s entries p l w)
 one_audit s entries lines a b (legal few l is) (full many is2) = absurd (omega (arith, few, many))
 one_audit s entries lines a b (wrong p few w is) (legal few2 l is2) = absurd (not_legal s entries p l w)
-one_audit s entries lines a b (wrong p few w is) (wrong q few2 w2 is2) = is ∙ (ap (λ (n : ℕ). refuses (get_or lines n 0) (answer_at s entries n)) (one_place s entries p q w w2) ∙ sym is2)
+one_audit s entries lines a b (wrong p few w is) (wrong q few2 w2 is2) = is ∙ (ap (λ (n : ℕ). refuses s.settings.profile (get_or lines n 0) (answer_at s entries n)) (one_place s entries p q w w2) ∙ sym is2)
 one_audit s entries lines a b (wrong p few w is) (full many is2) = absurd (omega (arith, few, many))
 one_audit s entries lines a b (full many is) (legal few l is2) = absurd (omega (arith, few, many))
 one_audit s entries lines a b (full many is) (wrong p few w is2) = absurd (omega (arith, few, many))
@@ -72,7 +72,7 @@ all_told : (printed told : List ℕ) (fault ends : Option AuditFault) → printe
 all_told printed told fault ends p f = rw (p, f) refl
 
 pub wrong_told : (s : State) (entries : List Entry) (lines : List ℕ) (p : ℕ) (printed : List ℕ) (fault : Option AuditFault)
-    → length entries ≤ longest_history → IsFirstWrong s entries p → printed ≡ wrong_text (get_or lines p 0) (answer_at s entries p) → fault ≡ Some (Illegal (get_or lines p 0))
+    → length entries ≤ longest_history → IsFirstWrong s entries p → printed ≡ wrong_text s.settings.profile (get_or lines p 0) (answer_at s entries p) → fault ≡ Some (Illegal (get_or lines p 0))
     → IsAudited s entries lines (record { printed = printed; fault = fault })
 wrong_told s entries lines p printed fault few w told ends = wrong p few w (all_told printed _ fault _ told ends)
 
@@ -98,7 +98,7 @@ not_full n found exhausted result h e = go (nat_lt longest_history n) refl
 -- What is said of a history as it's told.
 
 pub refused : {E : Type 0} (s : State) (entries : List Entry) (lines : List ℕ) (p : ℕ) (result : Result Verdict E) → length entries ≤ longest_history → IsFirstWrong s entries p
-    → IfOk result (λ v. v.text.items ≡ wrong_text (get_or lines p 0) (answer_at s entries p)) → IfOk result (λ v. v.fault ≡ Some (Illegal (get_or lines p 0)))
+    → IfOk result (λ v. v.text.items ≡ wrong_text s.settings.profile (get_or lines p 0) (answer_at s entries p)) → IfOk result (λ v. v.fault ≡ Some (Illegal (get_or lines p 0)))
     → IfOk result (λ v. IsAudited s entries lines (told_of v))
 refused s entries lines p (Ok v) few w told ends = wrong_told s entries lines p v.text.items v.fault few w told ends
 refused s entries lines p (Err want) few w told ends = tt

@@ -3,6 +3,7 @@ use Rattle.std.specs.Prelude.{◌≡◌, ◌<◌, ◌≤◌, ℕ, List, [], ◌+
 use Rattle.printing.specs.Printing.{Printed}
 use Rattle.printing.specs.declared.fault.Stop.{Stop}
 use Rattle.printing.specs.declared.fault.Stop.TheVariants.{Input, Memory}
+use Rattle.l2_units.specs.declared.profile.Profile.{Profile}
 use Rattle.set_events.specs.declared.books.Books.{Books}
 use Rattle.set_events.specs.declared.history.Entry.{Entry}
 use Rattle.set_model.specs.State.{State, opened_with}
@@ -32,21 +33,22 @@ legal_text opening entries =
     codes "legal=yes" ++ books_text (length entries) (books_of (unasked opening) entries)
 
 -- what a set answers there, as in a history; nothing to an actor that it hasn't
-abbrev pub there_text : Option Answer → List ℕ
-there_text None = codes "no such user or terminal\n"
-there_text (Some answer) = answer_text answer
+abbrev pub there_text : Profile → Option Answer → List ℕ
+there_text profile None = codes "no such user or terminal\n"
+there_text profile (Some answer) = answer_text profile answer
 
-abbrev pub wrong_text : ℕ → Option Answer → List ℕ
-wrong_text line answer =
-    codes "legal=no line=" ++ (decimal line ++ (codes " -> " ++ there_text answer))
+abbrev pub wrong_text : Profile → ℕ → Option Answer → List ℕ
+wrong_text profile line answer =
+    codes "legal=no line=" ++ (decimal line ++ (codes " -> " ++ there_text profile answer))
 
 -- all that is printed, and no fault
 abbrev pub says : List ℕ → Printed AuditFault
 says printed = record { printed = printed; fault = None }
 
 -- what is printed of the line of the first wrong entry, which is a fault
-abbrev pub refuses : ℕ → Option Answer → Printed AuditFault
-refuses line answer = record { printed = wrong_text line answer; fault = Some (Illegal line) }
+abbrev pub refuses : Profile → ℕ → Option Answer → Printed AuditFault
+refuses profile line answer =
+    record { printed = wrong_text profile line answer; fault = Some (Illegal line) }
 
 abbrev pub fails : AuditFault → Printed AuditFault
 fails fault = record { printed = []; fault = Some fault }
@@ -58,7 +60,8 @@ pub data IsAudited (opening : State) (entries : List Entry) (lines : List ℕ)
   legal : length entries ≤ longest_history → IsLegal opening entries
       → text ≡ says (legal_text opening entries) → IsAudited opening entries lines text
   wrong : (place : ℕ) → length entries ≤ longest_history → IsFirstWrong opening entries place
-      → text ≡ refuses (get_or lines place 0) (answer_at opening entries place) → IsAudited opening entries lines text
+      → text ≡ refuses opening.settings.profile (get_or lines place 0) (answer_at opening entries place)
+      → IsAudited opening entries lines text
   full : longest_history < length entries → text ≡ fails Exhausted
       → IsAudited opening entries lines text
 

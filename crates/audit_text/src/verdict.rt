@@ -9,6 +9,7 @@ use super::fault::AuditFault;
 use history_audit::{add_up_books, answer_there, first_wrong};
 use history_lines::read_history;
 use history_text::write_answer;
+use l2_units::Profile;
 use printing::Stop;
 use set_core::SetFault;
 use set_events::{Answer, Books, Entry, SetConfig};
@@ -79,14 +80,14 @@ fn refuse(
     requires legal { IsLegal (new_state config.now) (take place entries.now) }
     requires few { length entries.now ≤ longest_history }
     ensures text { IfOk result (λ verdict. verdict.text.items ≡
-        wrong_text (get_or lines.now place 0) (answer_at (new_state config.now) entries.now place)) }
+        wrong_text config.now.profile (get_or lines.now place 0) (answer_at (new_state config.now) entries.now place)) }
     ensures fault { IfOk result (λ verdict.
         verdict.fault ≡ Some (AuditFault.Illegal (get_or lines.now place 0))) }
 {
     let line = line_at(lines, place);
     match answer_there(alloc, config, entries, place) {
         Ok(answer) => Ok(Verdict {
-            text: write_wrong(alloc, line, &answer)?,
+            text: write_wrong(alloc, config.profile(), line, &answer)?,
             fault: Some(AuditFault::Illegal { line }),
         }),
         Err(_) => Err(AllocError),
@@ -133,20 +134,29 @@ fn write_legal(alloc: Global, calls: u64, books: &Books) -> Result<Vec<u8>, Allo
 }
 
 /// No, the line of the first entry that is wrong, and what a set answers there.
-fn write_wrong(alloc: Global, line: u64, answer: &Option<Answer>) -> Result<Vec<u8>, AllocError>
-    ensures { IfOk result (λ text. text.items ≡ wrong_text line answer.now) }
+fn write_wrong(
+    alloc: Global,
+    profile: Profile,
+    line: u64,
+    answer: &Option<Answer>,
+) -> Result<Vec<u8>, AllocError>
+    ensures { IfOk result (λ text. text.items ≡ wrong_text profile line answer.now) }
 {
     let mut text = format!(in alloc; "legal=no line={line} -> ")?.into_bytes();
-    text.extend_from_slice(&write_there(alloc, answer)?)?;
+    text.extend_from_slice(&write_there(alloc, profile, answer)?)?;
     Ok(text)
 }
 
 /// What a set answers, in the words of a history.
-fn write_there(alloc: Global, answer: &Option<Answer>) -> Result<Vec<u8>, AllocError>
-    ensures { IfOk result (λ text. text.items ≡ there_text answer.now) }
+fn write_there(
+    alloc: Global,
+    profile: Profile,
+    answer: &Option<Answer>,
+) -> Result<Vec<u8>, AllocError>
+    ensures { IfOk result (λ text. text.items ≡ there_text profile answer.now) }
 {
     match answer {
-        Some(answer) => write_answer(alloc, answer),
+        Some(answer) => write_answer(alloc, profile, answer),
         None => Vec::from_slice(alloc, b"no such user or terminal\n"),
     }
 }

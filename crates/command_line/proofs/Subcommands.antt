@@ -6,7 +6,7 @@ use Rattle.clap.specs.Words.{Row, Text, first_of, subcommand_rows}
 use Rattle.clap.specs.declared.parser.matches.ArgMatches.TheViews.{out-SubCommand}
 use Rattle.clap.specs.declared.parser.matches.SubCommand.{SubCommand}
 use Rattle.command_line.specs.declared.words.Words.{Words}
-use Rattle.command_line.specs.declared.words.Words.TheVariants.{Units, Play, PlayExplained, Decode, Capture, Ladder, Audit, HistoryOfA, HistoryOfB, Run}
+use Rattle.command_line.specs.declared.words.Words.TheVariants.{Units, Play, PlayExplained, Decode, DecodeWide, Capture, Ladder, Audit, HistoryOfA, HistoryOfB, Run}
 use Rattle.command_line.specs.declared.run_words.RunWords.{RunWords}
 use Rattle.command_line.specs.declared.run_words.Unasked.{Unasked}
 use Rattle.command_line.specs.declared.run_words.Unasked.TheVariants.{Value, Link}
@@ -29,6 +29,7 @@ options Units name end rows other is = tt
 options Play name end rows other is = tt
 options PlayExplained name end rows other is = tt
 options Decode name end rows other is = tt
+options DecodeWide name end rows other is = tt
 options Capture name end rows other is = tt
 options Ladder name end rows other is = tt
 options Audit name end rows other is = tt
@@ -47,6 +48,7 @@ module _ (name : Text) (rows : List Row) (is_run : name ≡ codes "run") where
   no_word Play none is = let bad : 112 ≡ 114 = letter Play name _ is_run is.0 in omega (arith, bad)
   no_word PlayExplained none is = let bad : 112 ≡ 114 = letter PlayExplained name _ is_run is.0 in omega (arith, bad)
   no_word Decode none is = let bad : 100 ≡ 114 = letter Decode name _ is_run is.0 in omega (arith, bad)
+  no_word DecodeWide none is = let bad : 100 ≡ 114 = letter DecodeWide name _ is_run is.0 in omega (arith, bad)
   no_word Capture none is = let bad : 99 ≡ 114 = letter Capture name _ is_run is.0 in omega (arith, bad)
   no_word Ladder none is = let bad : 108 ≡ 114 = letter Ladder name _ is_run is.0 in omega (arith, bad)
   no_word Audit none is = let bad : 97 ≡ 114 = letter Audit name _ is_run is.0 in omega (arith, bad)

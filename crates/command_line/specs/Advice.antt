@@ -52,11 +52,10 @@ abbrev pub input_advice : Input → List (List ℕ) → Option (List ℕ)
 input_advice input [] = None
 input_advice input (word ∷ words) = if is_operand word then Some (input_text input) else None
 
--- play has a flag
-abbrev pub without_explain : List (List ℕ) → List (List ℕ)
-without_explain [] = []
-without_explain (word ∷ words) =
-    if bytes_eq word (codes "--explain") then words else word ∷ words
+-- play and decode have a flag
+abbrev pub without_flag : List ℕ → List (List ℕ) → List (List ℕ)
+without_flag flag [] = []
+without_flag flag (word ∷ words) = if bytes_eq word flag then words else word ∷ words
 
 -- history has an end
 abbrev pub is_end : List ℕ → Bool
@@ -173,9 +172,9 @@ run_advice None (word ∷ words) =
 abbrev pub told_of_input : Option Input → List (List ℕ) → Option (List ℕ)
 told_of_input None words = None
 told_of_input (Some History) words = history_advice words
-told_of_input (Some Play) words = input_advice Play (without_explain words)
+told_of_input (Some Play) words = input_advice Play (without_flag (codes "--explain") words)
 told_of_input (Some Units) words = input_advice Units words
-told_of_input (Some Decode) words = input_advice Decode words
+told_of_input (Some Decode) words = input_advice Decode (without_flag (codes "--wide") words)
 told_of_input (Some Capture) words = input_advice Capture words
 told_of_input (Some Ladder) words = input_advice Ladder words
 told_of_input (Some Audit) words = input_advice Audit words

@@ -6,7 +6,7 @@ use Rattle.clap.specs.Values.{kind_of}
 use Rattle.clap.specs.declared.error.kind.ErrorKind.{ErrorKind}
 use Rattle.clap.specs.declared.builder.action.ArgAction.TheVariants.{SetTrue}
 use Rattle.command_line.specs.declared.words.Words.{Words}
-use Rattle.command_line.specs.declared.words.Words.TheVariants.{Units, Play, PlayExplained, Decode, Capture, Ladder, Audit, HistoryOfA, HistoryOfB, Run}
+use Rattle.command_line.specs.declared.words.Words.TheVariants.{Units, Play, PlayExplained, Decode, DecodeWide, Capture, Ladder, Audit, HistoryOfA, HistoryOfB, Run}
 use Rattle.command_line.specs.declared.words.WordsFault.{WordsFault}
 use Rattle.command_line.specs.declared.words.WordsFault.TheVariants.{NoMemory, Words as WrongWords, Link, Said}
 use Rattle.command_line.specs.declared.run_words.Unasked.{Unasked}
@@ -26,7 +26,7 @@ program_itself = record (new_shape (codes "mtpbank")) {
 abbrev pub without_subcommands : App
 without_subcommands = record { top = program_itself; subs = [] }
 
--- five subcommands, which take no words, one that takes a flag, and one that takes an end, either of which is its END,
+-- four subcommands, which take no words, two that take a flag, and one that takes an end, each of which is its END,
 -- and one that takes options
 abbrev pub explain_rule : Rule
 explain_rule =
@@ -35,13 +35,20 @@ explain_rule =
 abbrev pub play_shape : Shape
 play_shape = record (new_shape (codes "play")) { rules = explain_rule ∷ [] }
 
+abbrev pub wide_rule : Rule
+wide_rule =
+    record (new_rule (codes "END")) { long = Some (codes "wide"); action = Some SetTrue }
+
+abbrev pub decode_shape : Shape
+decode_shape = record (new_shape (codes "decode")) { rules = wide_rule ∷ [] }
+
 abbrev pub units_and_play : App
 units_and_play =
     with_subcommand (with_subcommand without_subcommands (new_shape (codes "units"))) play_shape
 
 abbrev pub with_units : App
 with_units =
-    with_subcommand (with_subcommand units_and_play (new_shape (codes "decode")))
+    with_subcommand (with_subcommand units_and_play decode_shape)
     (new_shape (codes "capture"))
 
 abbrev pub without_history : App
@@ -67,6 +74,7 @@ name_of Units = codes "units"
 name_of Play = codes "play"
 name_of PlayExplained = codes "play"
 name_of Decode = codes "decode"
+name_of DecodeWide = codes "decode"
 name_of Capture = codes "capture"
 name_of Ladder = codes "ladder"
 name_of Audit = codes "audit"
@@ -83,7 +91,8 @@ abbrev pub IsEnd : Words → Option (List ℕ) → Type 0
 IsEnd Units end = Unit {0}
 IsEnd Play end = end ≢ Some (codes "true")
 IsEnd PlayExplained end = end ≡ Some (codes "true")
-IsEnd Decode end = Unit {0}
+IsEnd Decode end = end ≢ Some (codes "true")
+IsEnd DecodeWide end = end ≡ Some (codes "true")
 IsEnd Capture end = Unit {0}
 IsEnd Ladder end = Unit {0}
 IsEnd Audit end = Unit {0}

@@ -1,7 +1,7 @@
 //! What is said of words that the program doesn't take, where more can be said than the library does.
 ghost use Rattle.std.specs.Prelude.{◌≡◌, ◌++◌, ◌<◌, IfOk, None, OnOk, length, map, position};
 ghost use Rattle.std.specs.Option.{ForSome, option_map};
-ghost use Rattle.command_line.specs.Advice.{advice, end_text, fits, history_advice, input_advice, input_of, input_text, is_equals, is_number_in, is_operand, name_of, option_name, option_of, option_text, plain, range_text, run_advice, run_usage, usage_of, value_text, without_explain, word_text};
+ghost use Rattle.command_line.specs.Advice.{advice, end_text, fits, history_advice, input_advice, input_of, input_text, is_equals, is_number_in, is_operand, name_of, option_name, option_of, option_text, plain, range_text, run_advice, run_usage, usage_of, value_text, without_flag, word_text};
 
 use figures::{is_word, read_number};
 use std::alloc::{AllocError, Global};
@@ -50,7 +50,8 @@ pub(crate) fn advise<S: AsStr>(alloc: Global, words: &[S]) -> Result<Option<Vec<
     }
     match find_input(name) {
         Some(Input::History) => advise_history(alloc, others),
-        Some(Input::Play) => advise_input(alloc, Input::Play, skip_explain(others)),
+        Some(Input::Play) => { advise_input(alloc, Input::Play, skip_flag(b"--explain", others)) }
+        Some(Input::Decode) => { advise_input(alloc, Input::Decode, skip_flag(b"--wide", others)) }
         Some(input) => advise_input(alloc, input, others),
         None => Ok(None),
     }
@@ -114,12 +115,12 @@ fn is_thing(word: &[u8]) -> bool
     }
 }
 
-/// The words behind `--explain`, where that stands first.
-fn skip_explain<S: AsStr>(words: &[S]) -> &[S]
-    ensures { map S.text result.now ≡ without_explain (map S.text words.now) }
+/// The words behind this flag, where it stands first.
+fn skip_flag<'a, S: AsStr>(flag: &[u8], words: &'a [S]) -> &'a [S]
+    ensures { map S.text result.now ≡ without_flag flag.now (map S.text words.now) }
 {
     match words {
-        [first, others @ ..] if is_word(first.as_str().as_bytes(), b"--explain") => others,
+        [first, others @ ..] if is_word(first.as_str().as_bytes(), flag) => others,
         _ => words,
     }
 }

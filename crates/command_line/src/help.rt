@@ -16,7 +16,8 @@ or sixteen octets counted without a good one; the last line counts them.
 pub(crate) const PLAY_PAGE: &str = "\
 Standard input is a script of two ends, a and b. Its first line opens them,
   set links=2 method=basic a=2 b=1 sio=80
-and each other asks end E for one thing, mostly on link L:
+(profile=wide behind it: numbers of 12 bits) and each other asks end E for one
+thing, mostly on link L:
   offer, take, find       a user's message is handed over, taken, looked for
   emit, arrive, lose      a unit is sent, arrives at the other end, is lost
   hear                    octets of any unit are heard
@@ -33,7 +34,8 @@ Standard input is the octets of a unit a line, in hexadecimal, with or without
 their check octets, as `mtpbank play` prints sent ones:
   echo ff80058501800030156e | mtpbank decode
 Each prints a line: fisu, lssu or msu, what its header and check octets are, its
-status, or its label with an order or with stream and data; or `no unit`.
+status, or its label with an order or with stream and data; or `no unit`. With
+--wide the units are those of a script with profile=wide.
 `mtpbank decode --help` says what each word of it tells, and each fault.";
 
 pub(crate) const HISTORY_PAGE: &str = "\
@@ -47,7 +49,7 @@ pub(crate) const HISTORY_HELP: &str = "\
 END is a or b. Standard input is a script, as `mtpbank play --help` says. When it has ended, all that this end was asked
 and answered is printed, an entry a line, in the order in which it was:
   set links=L method=W a=X b=Y sio=HH                what the end was opened with; here X is its own point code, and Y
-                      the far end's
+                      the far end's. Behind it stands profile=wide where the script says so
   user 0 ..           what the script offers, takes and looks for at this end
   terminal L ..       what happens to link L there: next is a unit that is sent, hear one that arrives
 `mtpbank audit --help` says how each line is written. A script without a line prints nothing.
@@ -74,8 +76,9 @@ the line of the first entry that no such set makes, and its answer there.
 
 pub(crate) const AUDIT_HELP: &str = "\
 Standard input is a history of one link set. Lines that are empty or begin with # are passed over; the first other
-line is the one that opens a script (`mtpbank play --help`), with a the set's own point code and b the far end's. Each
-further line is an entry: who asked, what, an arrow, and what was answered, in lower case with one space between two words:
+line is the one that opens a script (`mtpbank play --help`), with a the set's own point code and b the far end's; units
+stand in the profile that it tells. Each further line is an entry: who asked, what, an arrow, and what was answered, in
+lower case with one space between two words:
   user N ..           user N, 0 to 63
   terminal L ..       the terminal of link L, 0 to 15; who asks what isn't looked at beyond these numbers
   .. offer HEX, .. take, .. find N                   as in a script; offer without HEX is the empty body
@@ -110,6 +113,10 @@ order in which they are sent, whether or not they arrive:
   direction, link     sent for the units of end a and received for those of end b, and the link's number: Wireshark and
                       tshark show both (frame.p2p_dir, frame.link_nr)
   octets              the unit's header and what it carries, without check octets; `tshark -r FILE -V` shows them
+The units of a script with profile=wide are translated, since analysers know numbers of 12 bits only in the form of
+Q.703 Annex A: a header of six octets, the low octet of each pair first, with the BSN in 12 bits, three spare ones and
+the BIB, the FSN and the FIB so too, and the length in nine. The records say so, and Wireshark reads them without any
+setting; of the FSN in a COO or COA it shows the low seven bits.
 A script without a line writes a file without a record.
 A fault ends the script: one line on standard error, with status 1; what was written before it stays, and is a capture of
 what was sent until then; where the first line is at fault nothing is written. The faults are those of `mtpbank play`:
@@ -164,6 +171,9 @@ Behind that stands what the unit carries:
                       there are too few or too many
 The last two octets are check octets where they are right for those before them, or where only those before them are
 a unit. From length indicator 63 on, a unit with wrong check octets looks like a longer one without them.
+With --wide the units are those of the wide profile (own): their header has four octets, the lowest first, and in them,
+lowest bit first, the BSN in 12 bits, the BIB, the FSN in 12 bits, the FIB and the length indicator in six; a COO or
+COA has its FSN in 12 bits.
 A fault ends the input: one line on standard error, with status 1; what was printed before it stays.
   fault line N text   line N, from 1 and with those passed over, isn't octets in hexadecimal. Behind it stands what else
                       is wrong: more than 4,096 octets, a carriage return or a space at its end, a tab, a space before
@@ -211,9 +221,10 @@ Who gets on and when is the threads' affair, so what is sent on a link differs
 from run to run. With few turns messages are left unsent. A run of more than
 two seconds tells how far it is on standard error, where that is a terminal. A
 fault is one line on standard error, with status 1, and nothing is printed:
-  fault user set=I end=a user=U
-                    user U didn't get through: memory was refused to it, or the
-                    history is full
+  fault user set=I end=a user=U fault=F
+                    user U ended early: F is 1, memory was refused to it, 2, the
+                    history is full, or 3, a message that was accepted wasn't
+                    found
   fault terminal set=I end=a link=K fault=F
                     the terminal of link K ended early: F is 1, memory was
                     refused to it, or 3, the history is full
@@ -237,7 +248,7 @@ read and what is printed, `mtpbank capture --help` what the file holds, `mtpbank
   fault long                                         standard input has more than 2^24 octets, of which something is kept
   fault exhausted                                    the history of an end is full
   fault thread, fault close                          a thread couldn't be started, a set couldn't be closed
-  fault user .., fault terminal ..                   this user or terminal of a run didn't get through
+  fault user .., fault terminal ..                   this user or terminal of a run ended early
 A pipe behind standard output that nobody reads any more ends with status 1 too, and no line.
 The status is 0, or 1 after a fault, or 2 where the words of the command line are wrong.";
 
@@ -264,8 +275,11 @@ are empty or begin with # ask for nothing. The first other line is
   set links=L method=W a=X b=Y sio=HH
 with 1 to 16 links, numbered from 0; the method basic, or cyclic:N1:N2 (so many unacknowledged messages, 1 to
 127, or octets of them, 1 to 34671, force a cycle); the point codes of the ends, 0 to 16383; and the SIO of the
-set's own orders, in hexadecimal, with service indicator 0. No link is up at first. Each line after that asks
-for one thing (E is an end, a or b, L a link, HEX octets of two hexadecimal digits each):
+set's own orders, in hexadecimal, with service indicator 0. Behind it profile=narrow may stand, which changes
+nothing, or profile=wide: units have numbers of 12 bits then, 0 to 4095, in a header of four octets, at most 4,095
+messages are unacknowledged, bodies have 272 octets at most, and a cycle is forced by 1 to 4095 messages or 1 to
+1113840 octets. No link is up at first. Each line after that asks for one thing
+(E is an end, a or b, L a link, HEX octets of two hexadecimal digits each):
   together L          link L comes up, which is settled at both ends: not up there, and no changeover of it is open;
                       nothing is under way on it then
   offer E HEX         a user of end E offers a message: SIO and SIF, the label first; without HEX the empty body
@@ -274,7 +288,8 @@ for one thing (E is an end, a or b, L a link, HEX octets of two hexadecimal digi
   emit E L            end E sends its next unit on link L; it is under way to the other end then
   arrive E L          the oldest unit under way to end E on link L arrives there
   lose E L P          of those units the one at place P, from 0, is lost
-  hear E L HEX        end E hears these octets of a unit, without check octets, wherever they come from
+  hear E L HEX        end E hears these octets of a unit of the set's profile, without check octets, wherever they come
+                      from
   down E L            link L fails at end E, which tells the other what it accepted (COO)
   blind E L           link L fails at end E, which can't tell what it accepted (ECO)
   noanswer E L        end E had no answer to the changeover of link L
@@ -302,7 +317,7 @@ Each of these lines prints one:
   lost                the unit is lost, by lose or because the link isn't up where it arrives
   done                the link has failed, or settled without an answer; or streams were asked back, or go home
                       without an answer
-  refused C           1 under 5 octets, 2 over 273, 3 service indicator 0, 4 the stream has 1,024 unsent
+  refused C           1 under 5 octets, 2 over 273 (wide: 272), 3 service indicator 0, 4 the stream has 1,024 unsent
                       messages, 5 the link isn't up, 8 no such message, 9 nothing to take or to do: for hear
                       the unit tells a status (LSSU), for noanswer the link wasn't left or has settled, for
                       restore no stream of link L runs on another link that is up, but for those whose code is

@@ -6,7 +6,7 @@ ghost use Rattle.clap.specs.declared.error.ErrorKind.TheVariants.{InvalidSubcomm
 ghost use Rattle.clap.specs.Simple.{new_shape, shape_of};
 ghost use Rattle.clap.specs.declared.builder.command.Command.{out-Command};
 ghost use Rattle.clap.specs.Values.{kind_of};
-ghost use Rattle.command_line.specs.CommandLine.{program, without_subcommands, history_shape, play_shape, words_in};
+ghost use Rattle.command_line.specs.CommandLine.{program, without_subcommands, decode_shape, history_shape, play_shape, words_in};
 ghost use Rattle.command_line.specs.CommandLine.{AreWrong, IsAboutWord, IsAsked, IsFound, IsKind, IsNotFound, IsRefused, IsWord, Refuses};
 
 use super::advice::advise;
@@ -33,6 +33,8 @@ pub enum Words {
     PlayExplained,
     /// Tell what the units on standard input say.
     Decode,
+    /// The same of units of the wide profile.
+    DecodeWide,
     /// Write what a script's ends send as a file that network analysers read.
     Capture,
     /// Draw what happens at both ends of a script as a chart.
@@ -173,7 +175,7 @@ fn word_of(name: &str, end: Option<&str>) -> Option<Words>
     match name {
         "units" => Some(Words::Units),
         "play" => Some(play_of(end)),
-        "decode" => Some(Words::Decode),
+        "decode" => Some(decode_of(end)),
         "capture" => Some(Words::Capture),
         "ladder" => Some(Words::Ladder),
         "audit" => Some(Words::Audit),
@@ -189,6 +191,16 @@ fn play_of(explains: Option<&str>) -> Words
     match explains {
         Some("true") => Words::PlayExplained,
         _ => Words::Play,
+    }
+}
+
+/// What is asked for by `decode`, with what its flag says.
+fn decode_of(is_wide: Option<&str>) -> Words
+    ensures { IsWord result (codes "decode") (option_map (λ s. s.now) is_wide.entry) }
+{
+    match is_wide {
+        Some("true") => Words::DecodeWide,
+        _ => Words::Decode,
     }
 }
 
@@ -253,7 +265,7 @@ fn command<'a>(alloc: Global) -> Result<Command<'a>, AllocError>
     itself(alloc)?
         .subcommand(units_command(alloc))?
         .subcommand(play_command(alloc)?)?
-        .subcommand(decode_command(alloc))?
+        .subcommand(decode_command(alloc)?)?
         .subcommand(capture_command(alloc))?
         .subcommand(ladder_command(alloc))?
         .subcommand(audit_command(alloc))?
@@ -288,15 +300,20 @@ fn play_command<'a>(alloc: Global) -> Result<Command<'a>, AllocError>
         .arg(explain)
 }
 
-/// The word `decode`.
-fn decode_command<'a>(alloc: Global) -> Command<'a>
-    ensures shape { shape_of result ≡ new_shape (codes "decode") }
-    ensures local { (out-Command result).has_globals ≡ false }
+/// The word `decode`, and a flag.
+fn decode_command<'a>(alloc: Global) -> Result<Command<'a>, AllocError>
+    ensures shape { IfOk result (λ command. shape_of command ≡ decode_shape) }
+    ensures local { IfOk result (λ command. (out-Command command).has_globals ≡ false) }
 {
+    let wide = Arg::new(alloc, "END")
+        .long("wide")
+        .action(ArgAction::SetTrue)
+        .help("Reads units of the wide profile, with numbers of 12 bits");
     Command::new(alloc, "decode")
         .about("Tells what the octets of signal units say, a unit a line")
         .after_help(DECODE_PAGE)
         .after_long_help(DECODE_HELP)
+        .arg(wide)
 }
 
 /// The word `capture`.

@@ -7,7 +7,8 @@ use Rattle.l2_units.specs.declared.unit.Header.{Header}
 use Rattle.l2_units.specs.declared.unit.Unit.{Unit as SignalUnit}
 use Rattle.l2_units.specs.declared.unit.Unit.TheVariants.{Fisu, Lssu, Msu}
 use Rattle.l2_units.specs.Grammar.{unit_of}
-use Rattle.l2_units.specs.declared.profile.Profile.TheVariants.{Narrow}
+use Rattle.l2_units.specs.declared.profile.Profile.{Profile}
+use Rattle.l2_units.specs.declared.profile.Profile.TheVariants.{Narrow, Wide}
 use Rattle.l3_orders.specs.declared.order.Order.{Order}
 use Rattle.l3_orders.specs.declared.order.Order.TheVariants.{Coo, Coa, Cbd, Cba, Eco, Eca}
 use Rattle.l3_orders.specs.Grammar.{order_of}
@@ -28,11 +29,23 @@ check_word Wrong = codes "wrong"
 check_word Absent = codes "none"
 
 -- the length indicator that the octets have: the low six bits of the third (Q.703 2.3.3)
-abbrev pub indicator_in : List ℕ → ℕ
-indicator_in (backward ∷ forward ∷ third ∷ body) = third % 64
-indicator_in (backward ∷ forward ∷ []) = 0
-indicator_in (backward ∷ []) = 0
-indicator_in [] = 0
+abbrev pub narrow_indicator : List ℕ → ℕ
+narrow_indicator (backward ∷ forward ∷ third ∷ body) = third % 64
+narrow_indicator (backward ∷ forward ∷ []) = 0
+narrow_indicator (backward ∷ []) = 0
+narrow_indicator [] = 0
+
+-- in the wide profile: the high six bits of the fourth
+abbrev pub wide_indicator : List ℕ → ℕ
+wide_indicator (a ∷ b ∷ c ∷ d ∷ body) = d / 4
+wide_indicator (a ∷ b ∷ c ∷ []) = 0
+wide_indicator (a ∷ b ∷ []) = 0
+wide_indicator (a ∷ []) = 0
+wide_indicator [] = 0
+
+abbrev pub indicator_in : Profile → List ℕ → ℕ
+indicator_in Narrow octets = narrow_indicator octets
+indicator_in Wide octets = wide_indicator octets
 
 abbrev pub numbers_text : List ℕ → Header → List ℕ
 numbers_text kind h =
@@ -103,23 +116,23 @@ content_text None stream more = data_text stream more
 abbrev pub short_text : List ℕ → List ℕ
 short_text octets = codes " body=" ++ (hex_text octets ++ codes "\n")
 
-abbrev pub body_text : List ℕ → List ℕ
-body_text (sio ∷ a ∷ b ∷ c ∷ d ∷ more) =
-    label_text sio a b c d ++ content_text (order_of Narrow (sio ∷ a ∷ b ∷ c ∷ d ∷ more)) (d / 16) more
-body_text (sio ∷ a ∷ b ∷ c ∷ []) = short_text (sio ∷ a ∷ b ∷ c ∷ [])
-body_text (sio ∷ a ∷ b ∷ []) = short_text (sio ∷ a ∷ b ∷ [])
-body_text (sio ∷ a ∷ []) = short_text (sio ∷ a ∷ [])
-body_text (sio ∷ []) = short_text (sio ∷ [])
-body_text [] = short_text []
+abbrev pub body_text : Profile → List ℕ → List ℕ
+body_text profile (sio ∷ a ∷ b ∷ c ∷ d ∷ more) =
+    label_text sio a b c d ++ content_text (order_of profile (sio ∷ a ∷ b ∷ c ∷ d ∷ more)) (d / 16) more
+body_text profile (sio ∷ a ∷ b ∷ c ∷ []) = short_text (sio ∷ a ∷ b ∷ c ∷ [])
+body_text profile (sio ∷ a ∷ b ∷ []) = short_text (sio ∷ a ∷ b ∷ [])
+body_text profile (sio ∷ a ∷ []) = short_text (sio ∷ a ∷ [])
+body_text profile (sio ∷ []) = short_text (sio ∷ [])
+body_text profile [] = short_text []
 
 -- A line.
 
-abbrev pub unit_text : Check → ℕ → SignalUnit → List ℕ
-unit_text check indicator (Fisu head) = head_text (codes "fisu") head indicator check ++ codes "\n"
-unit_text check indicator (Lssu head status) =
+abbrev pub unit_text : Profile → Check → ℕ → SignalUnit → List ℕ
+unit_text profile check indicator (Fisu head) = head_text (codes "fisu") head indicator check ++ codes "\n"
+unit_text profile check indicator (Lssu head status) =
     head_text (codes "lssu") head indicator check ++ status_text status
-unit_text check indicator (Msu head body) =
-    head_text (codes "msu") head indicator check ++ body_text body.items
+unit_text profile check indicator (Msu head body) =
+    head_text (codes "msu") head indicator check ++ body_text profile body.items
 
 -- all octets but the last two, which may be the check octets of these
 abbrev pub front_of : List ℕ → List ℕ
@@ -132,32 +145,34 @@ is_sealed octets =
 
 -- The unit of the octets before the last two, where those are their check octets; else the unit of all octets; else the
 -- unit of those before the last two, which are wrong then. Only at length indicator 63 can both be units.
-abbrev pub octets_text : Option SignalUnit → Bool → Option SignalUnit → ℕ → List ℕ
-octets_text (Some unit) true whole indicator = unit_text Right indicator unit
-octets_text (Some unit) false (Some whole) indicator = unit_text Absent indicator whole
-octets_text (Some unit) false None indicator = unit_text Wrong indicator unit
-octets_text None checked (Some whole) indicator = unit_text Absent indicator whole
-octets_text None checked None indicator = codes "no unit\n"
+abbrev pub octets_text : Profile → Option SignalUnit → Bool → Option SignalUnit → ℕ → List ℕ
+octets_text profile (Some unit) true whole indicator = unit_text profile Right indicator unit
+octets_text profile (Some unit) false (Some whole) indicator =
+    unit_text profile Absent indicator whole
+octets_text profile (Some unit) false None indicator = unit_text profile Wrong indicator unit
+octets_text profile None checked (Some whole) indicator =
+    unit_text profile Absent indicator whole
+octets_text profile None checked None indicator = codes "no unit\n"
 
-abbrev pub line_text : List ℕ → List ℕ
-line_text octets =
-    octets_text (unit_of Narrow (front_of octets)) (is_sealed octets) (unit_of Narrow octets)
-    (indicator_in octets)
+abbrev pub line_text : Profile → List ℕ → List ℕ
+line_text profile octets =
+    octets_text profile (unit_of profile (front_of octets)) (is_sealed octets) (unit_of profile octets)
+    (indicator_in profile octets)
 
 -- a line that isn't hexadecimal digits, two an octet, can't be read
-abbrev pub decoded : ℕ → List ℕ → Option (List ℕ) → LineOutcome (Unit {0}) UnreadableUnit
-decoded n line None = stops (record { line = n; flaw = flaw_of line })
-decoded n line (Some octets) = prints (line_text octets) tt
+abbrev pub decoded : Profile → ℕ → List ℕ → Option (List ℕ) → LineOutcome (Unit {0}) UnreadableUnit
+decoded profile n line None = stops (record { line = n; flaw = flaw_of line })
+decoded profile n line (Some octets) = prints (line_text profile octets) tt
 
 -- no line leaves anything for the next
-abbrev pub decode_rules : Rules (Unit {0}) UnreadableUnit
-decode_rules = record {
+abbrev pub decode_rules : Profile → Rules (Unit {0}) UnreadableUnit
+decode_rules profile = record {
   start = tt;
-  on_line = λ n state line. decoded n line (octets_of line);
+  on_line = λ n state line. decoded profile n line (octets_of line);
   at_the_end = λ state. [];
   unreadable = λ n. record { line = n; flaw = Long };
 }
 
--- THE TEXT
-abbrev pub IsDecodeText : List ℕ → Printed UnreadableUnit → Type 0
-IsDecodeText input text = IsLinesText decode_rules input text
+-- THE TEXT, of units of this profile
+abbrev pub IsDecodeText : Profile → List ℕ → Printed UnreadableUnit → Type 0
+IsDecodeText profile input text = IsLinesText (decode_rules profile) input text

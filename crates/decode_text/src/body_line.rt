@@ -1,25 +1,42 @@
 //! What is said of a message.
 ghost use Rattle.std.specs.Prelude.{◌≡◌, ◌++◌, IfOk, codes, decimal};
 ghost use Rattle.figures.specs.Figures.{hex_text};
+ghost use Rattle.l3_orders.specs.Grammar.{order_of};
 ghost use Rattle.decode_text.specs.Decoding.{about, about_no_number, body_text, data_text, label_text, order_text, order_words, short_text};
 
 use super::unit_line::write_both;
 use figures::push_hex;
-use l3_orders::{Order, read_order};
+use l2_units::Profile;
+use l3_orders::{Order, read_order, read_order_wide};
 use std::alloc::{AllocError, Global};
 
 /// The label, and the order or the data behind it; or the octets, where there is no whole label.
-pub(crate) fn write_body(alloc: Global, body: &[u8]) -> Result<Vec<u8>, AllocError>
-    ensures { IfOk result (λ text. text.items ≡ body_text body.now) }
+pub(crate) fn write_body(
+    alloc: Global,
+    profile: Profile,
+    body: &[u8],
+) -> Result<Vec<u8>, AllocError>
+    ensures { IfOk result (λ text. text.items ≡ body_text profile body.now) }
 {
     let [sio, a, b, c, d, data @ ..] = body else {
         return write_octets(alloc, body);
     };
     let label = write_label(alloc, *sio, *a, *b, *c, *d)?;
-    match read_order(body) {
-        Ok(order) => write_both(label, &write_order(alloc, order)?),
-        Err(_) => write_both(label, &write_data(alloc, *d / 16, data)?),
+    match find_order(profile, body) {
+        Some(order) => write_both(label, &write_order(alloc, order)?),
+        None => write_both(label, &write_data(alloc, *d / 16, data)?),
     }
+}
+
+/// The order that the body of a message of this profile is, if any.
+pub fn find_order(profile: Profile, body: &[u8]) -> Option<Order>
+    ensures { result ≡ order_of profile body.now }
+{
+    let order = match profile {
+        Profile::Narrow => read_order(body),
+        Profile::Wide => read_order_wide(body),
+    };
+    order.ok()
 }
 
 /// Octets without a whole label.

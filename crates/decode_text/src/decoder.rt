@@ -1,39 +1,81 @@
 //! The lines of `decode`.
 ghost use Rattle.std.specs.Prelude.{◌≡◌, IfOk, MatchResult, Some};
 ghost use Rattle.figures.specs.Figures.{octets_of};
+ghost use Rattle.l2_units.specs.declared.profile.Profile.{Profile};
 ghost use Rattle.decode_text.specs.Decoding.{decode_rules};
 
 use super::fault::UnreadableUnit;
 use super::unit_line::write_line;
 use figures::read_octets;
+use l2_units::Profile;
 use printing::Stop;
 use std::alloc::Global;
-use std::marker::Model;
+use std::marker::{Model, PhantomData};
 use text_lines::{LineFlaw, LineText, find_flaw};
 
-/// Decodes lines, each by itself.
-#[derive(Drop)]
-pub(crate) struct Decoder;
+/// A profile that a type names, since what is printed belongs to the type.
+pub(crate) trait NamesProfile {
+    /// The profile.
+    ghost profile: { Profile };
 
-impl Model for Decoder {
+    /// The profile.
+    fn profile() -> Profile
+        ensures { result ≡ profile };
+}
+
+/// The narrow profile.
+pub(crate) struct OfNarrow;
+
+impl NamesProfile for OfNarrow {
+    ghost use Rattle.l2_units.specs.declared.profile.Profile.TheVariants.{Narrow};
+
+    ghost profile = { Narrow };
+
+    fn profile() -> Profile {
+        Profile::Narrow
+    }
+}
+
+/// The wide profile.
+pub(crate) struct OfWide;
+
+impl NamesProfile for OfWide {
+    ghost use Rattle.l2_units.specs.declared.profile.Profile.TheVariants.{Wide};
+
+    ghost profile = { Wide };
+
+    fn profile() -> Profile {
+        Profile::Wide
+    }
+}
+
+/// Decodes lines, each by itself, of units of the profile that the type names.
+#[derive(Drop)]
+pub(crate) struct Decoder<P> {
+    profile: PhantomData<P>,
+}
+
+impl<P> Model for Decoder<P> {
     ghost Value = { Unit {0} };
 
     ghost view = { λ _. tt };
 }
 
-impl Decoder {
+impl<P> Decoder<P> {
     /// A decoder.
-    pub(crate) fn new() -> Decoder {
-        Decoder
+    pub(crate) fn new() -> Decoder<P> {
+        Decoder {
+            profile: PhantomData,
+        }
     }
 }
 
-impl LineText for Decoder {
+impl<P: NamesProfile> LineText for Decoder<P> {
     type Fault = UnreadableUnit;
 
     ghost use Rattle.decode_text.specs.Decoding.{decode_rules};
 
-    ghost rules = { decode_rules };
+    ghost rules = { decode_rules P.profile };
 
     fn unreadable(number: u64) -> UnreadableUnit {
         UnreadableUnit {
@@ -55,7 +97,7 @@ impl LineText for Decoder {
                 flaw: find_flaw(text),
             }));
         };
-        out.extend_from_slice(&write_line(alloc, &octets)?)?;
+        out.extend_from_slice(&write_line(alloc, P::profile(), &octets)?)?;
         Ok(())
     }
 

@@ -3,26 +3,41 @@ ghost use Rattle.std.specs.Prelude.{◌≤◌, ◌^◌, length, IfSome, OnOk};
 ghost use Rattle.printing.specs.Printing.{Prints, FailsByDevices};
 ghost use Rattle.decode_text.specs.Decoding.{IsDecodeText};
 
-use super::decoder::Decoder;
+use super::decoder::{Decoder, OfNarrow, OfWide};
 use super::fault::UnreadableUnit;
+use l2_units::Profile;
 use printing::{Fault, LONGEST_READ, Sink, Source};
 use std::alloc::Global;
 use text_lines::print_lines;
 
-/// Reads the units that the source gives, and writes what they say.
+/// Reads the units of this profile that the source gives, and writes what they say.
 ///
 /// Ends with the first fault; what was printed before it stays printed. An input of more than 2^60 octets ends with
 /// [`Fault::Long`], unless another fault comes before: nothing of it is kept.
 pub fn decode<S: Source, W: Sink>(
     alloc: Global,
+    profile: Profile,
     source: &mut S,
     sink: &mut W,
 ) -> Result<(), Fault<UnreadableUnit>>
     ensures text { IfSome (S.left source.old)
-        (λ input. Prints result (IsDecodeText input) (W.written sink.old) (W.written sink.new)) }
+        (λ input. Prints result (IsDecodeText profile input) (W.written sink.old) (W.written sink.new)) }
     ensures bounded { IfSome (S.left source.old) (λ input. OnOk result (length input ≤ 2 ^ 60)) }
     ensures devices { IfSome (S.left source.old)
         (FailsByDevices (2 ^ 60) result (S.has_failed source.new) (W.has_failed sink.new)) }
 {
-    print_lines(alloc, Decoder::new(), LONGEST_READ, source, sink)
+    match profile {
+        Profile::Narrow => {
+            print_lines(
+                alloc,
+                Decoder::<OfNarrow>::new(),
+                LONGEST_READ,
+                source,
+                sink,
+            )
+        }
+        Profile::Wide => {
+            print_lines(alloc, Decoder::<OfWide>::new(), LONGEST_READ, source, sink)
+        }
+    }
 }

@@ -1,13 +1,14 @@
 //! The line of a unit.
 ghost use Rattle.std.specs.Prelude.{◌≡◌, ◌++◌, IfOk, codes, decimal};
 ghost use Rattle.std.specs.Str.{bytes_eq};
-ghost use Rattle.decode_text.specs.Decoding.{check_word, indicator_in, head_text, numbers_text, checks_text, status_word, status_text, unit_text, front_of, is_sealed, line_text};
+ghost use Rattle.l2_units.specs.Grammar.{unit_of};
+ghost use Rattle.decode_text.specs.Decoding.{check_word, indicator_in, narrow_indicator, wide_indicator, head_text, numbers_text, checks_text, status_word, status_text, unit_text, front_of, is_sealed, line_text};
 
 use super::body_line::write_body;
 use figures::bit_of;
 use l2_bits::seal;
 use l2_signals::Status;
-use l2_units::{Header, LONGEST_UNIT, Unit, read};
+use l2_units::{Header, LONGEST_UNIT, Profile, Unit, read, read_wide};
 use std::alloc::{AllocError, Global};
 
 /// Whether a unit's check octets are there, and right.
@@ -18,21 +19,36 @@ pub(crate) enum Check {
     Absent,
 }
 
-/// The line of these octets: the unit that they are, with or without its check octets, if it's one.
-pub(crate) fn write_line(alloc: Global, octets: &[u8]) -> Result<Vec<u8>, AllocError>
-    ensures { IfOk result (λ line. line.items ≡ line_text octets.now) }
+/// The line of these octets: the unit of this profile that they are, with or without its check octets, if it's one.
+pub(crate) fn write_line(
+    alloc: Global,
+    profile: Profile,
+    octets: &[u8],
+) -> Result<Vec<u8>, AllocError>
+    ensures { IfOk result (λ line. line.items ≡ line_text profile octets.now) }
 {
-    let indicator = indicator_of(octets);
+    let indicator = indicator_of(profile, octets);
     match (
-        read(cut_check_octets(octets)),
+        unit_in(profile, cut_check_octets(octets)),
         has_right_check_octets(octets),
-        read(octets),
+        unit_in(profile, octets),
     ) {
-        (Ok(unit), true, _) => write_unit(alloc, Check::Right, indicator, &unit),
-        (_, _, Ok(unit)) => write_unit(alloc, Check::Absent, indicator, &unit),
-        (Ok(unit), false, Err(_)) => write_unit(alloc, Check::Wrong, indicator, &unit),
-        (Err(_), _, Err(_)) => Vec::from_slice(alloc, b"no unit\n"),
+        (Some(unit), true, _) => write_unit(alloc, profile, Check::Right, indicator, &unit),
+        (_, _, Some(unit)) => write_unit(alloc, profile, Check::Absent, indicator, &unit),
+        (Some(unit), false, None) => write_unit(alloc, profile, Check::Wrong, indicator, &unit),
+        (None, _, None) => Vec::from_slice(alloc, b"no unit\n"),
     }
+}
+
+/// The unit of this profile that octets, without check octets, stand for, if any.
+fn unit_in(profile: Profile, octets: &[u8]) -> Option<Unit>
+    ensures { result ≡ unit_of profile octets.now }
+{
+    let unit = match profile {
+        Profile::Narrow => read(octets),
+        Profile::Wide => read_wide(octets),
+    };
+    unit.ok()
 }
 
 /// All octets but the last two.
@@ -58,8 +74,18 @@ fn is_same(octets: &[u8], others: &[u8]) -> bool
 }
 
 /// The length indicator of these octets, 0 where they end before it.
-fn indicator_of(octets: &[u8]) -> u8
-    ensures { result ≡ indicator_in octets.now }
+fn indicator_of(profile: Profile, octets: &[u8]) -> u8
+    ensures { result ≡ indicator_in profile octets.now }
+{
+    match profile {
+        Profile::Narrow => narrow_indicator_of(octets),
+        Profile::Wide => wide_indicator_of(octets),
+    }
+}
+
+/// The same of the narrow profile.
+fn narrow_indicator_of(octets: &[u8]) -> u8
+    ensures { result ≡ narrow_indicator octets.now }
 {
     match octets {
         [_, _, third, ..] => *third % 64,
@@ -67,14 +93,25 @@ fn indicator_of(octets: &[u8]) -> u8
     }
 }
 
+/// The same of the wide profile.
+fn wide_indicator_of(octets: &[u8]) -> u8
+    ensures { result ≡ wide_indicator octets.now }
+{
+    match octets {
+        [_, _, _, fourth, ..] => *fourth / 4,
+        _ => 0,
+    }
+}
+
 /// The line of a unit.
 fn write_unit(
     alloc: Global,
+    profile: Profile,
     check: Check,
     indicator: u8,
     unit: &Unit,
 ) -> Result<Vec<u8>, AllocError>
-    ensures { IfOk result (λ line. line.items ≡ unit_text check indicator unit.now) }
+    ensures { IfOk result (λ line. line.items ≡ unit_text profile check indicator unit.now) }
 {
     match unit {
         Unit::Fisu { head } => write_both(
@@ -87,7 +124,7 @@ fn write_unit(
         ),
         Unit::Msu { head, body } => write_both(
             write_head(alloc, "msu", *head, indicator, check)?,
-            &write_body(alloc, body.as_slice())?,
+            &write_body(alloc, profile, body.as_slice())?,
         ),
     }
 }

@@ -30,6 +30,18 @@ pub fn read_below_256(word: &[u8]) -> Option<u8>
     }
 }
 
+/// The decimal number below 65,536 of a word without leading zeros.
+pub fn read_below_65536(word: &[u8]) -> Option<u16>
+    ensures { result ≡ number_below (2 ^ 16) word.now }
+{
+    let number = read_number(word)?;
+    if number < 65_536 {
+        Some(number as u16)
+    } else {
+        None
+    }
+}
+
 /// The value of decimal digits, if it's below 2^64.
 fn value_of(word: &[u8]) -> Option<u64>
     ensures { result ≡ option_and_then below_2_64 (digits_behind 0 word.now) }

@@ -3,6 +3,7 @@ use Rattle.std.specs.Prelude.{◌≡◌, ℕ, suc, List, [], ◌∷◌, ◌++◌
 use Rattle.std.specs.Option.{option_map}
 use Rattle.printing.specs.declared.fault.Stop.{Stop}
 use Rattle.printing.specs.declared.fault.Stop.TheVariants.{Input, Memory}
+use Rattle.l2_units.specs.declared.profile.Profile.{Profile}
 use Rattle.set_events.specs.declared.history.Entry.{Entry}
 use Rattle.set_model.specs.State.{Settings, settings_of}
 use Rattle.history_text.specs.Reading.{entry_of}
@@ -28,16 +29,16 @@ abbrev pub opened : Told → List ℕ → Option Told
 opened told line = option_map (λ s. record told { settings = Some s }) (settings_in line)
 
 -- each further one is an entry
-abbrev pub entered : ℕ → Told → List ℕ → Option Told
-entered n told line =
+abbrev pub entered : ℕ → Profile → Told → List ℕ → Option Told
+entered n profile told line =
     option_map (λ entry. record told {
       entries = told.entries ++ entry ∷ [];
       lines = told.lines ++ n ∷ [];
-    }) (entry_of (line ++ 10 ∷ []))
+    }) (entry_of profile (line ++ 10 ∷ []))
 
 abbrev pub told_by : ℕ → Option Settings → Told → List ℕ → Option Told
 told_by n None told line = opened told line
-told_by n (Some s) told line = entered n told line
+told_by n (Some s) told line = entered n s.profile told line
 
 -- an empty line, and one that begins with #, tells nothing
 abbrev pub with_line : ℕ → Told → List ℕ → Option Told

@@ -1,16 +1,17 @@
 //! What a set was opened with, as a line.
 ghost use Rattle.std.specs.Prelude.{◌≡◌, ◌++◌, IfOk, codes, decimal};
 ghost use Rattle.set_model.specs.State.{settings_of};
-ghost use Rattle.history_lines.specs.FirstLine.{method_text, settings_text, history_text, IsReadBack, OneLine};
+ghost use Rattle.history_lines.specs.FirstLine.{method_text, profile_text, settings_text, history_text, IsReadBack, OneLine};
 
 use figures::push_hex;
 use history_text::write_entries;
+use l2_units::Profile;
 use set_events::{Method, SetConfig};
 use set_history::Reader;
 use std::alloc::{AllocError, Global};
 
 /// The text of the history of a set that was opened with this configuration; it fails only where memory is wanted.
-/// It doesn't tell the set's number.
+/// It doesn't tell the set's number, and the profile only where it's the wide one.
 pub fn write_history(
     alloc: Global,
     config: &SetConfig,
@@ -21,7 +22,7 @@ pub fn write_history(
 {
     let mut text = write_config(alloc, config)?;
     text.push(b'\n')?;
-    text.extend_from_slice(&write_entries(alloc, entries)?)?;
+    text.extend_from_slice(&write_entries(alloc, config.profile(), entries)?)?;
     Ok(text)
 }
 
@@ -34,7 +35,18 @@ fn write_config(alloc: Global, config: &SetConfig) -> Result<Vec<u8>, AllocError
     text.extend_from_slice(&write_method(alloc, config.method)?)?;
     text.extend_from_slice(&write_codes(alloc, config.opc, config.dpc)?)?;
     push_hex(&mut text, &[config.sio])?;
+    text.extend_from_slice(profile_word(config.profile()).as_bytes())?;
     Ok(text)
+}
+
+/// The word of the profile, with a space before it; the narrow one has none.
+fn profile_word(profile: Profile) -> &'static str
+    ensures { result.now ≡ profile_text profile }
+{
+    match profile {
+        Profile::Narrow => "",
+        Profile::Wide => " profile=wide",
+    }
 }
 
 /// How messages are kept safe.

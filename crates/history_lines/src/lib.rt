@@ -9,7 +9,7 @@
 //! [`write_history`] writes them, [`read_history`] reads them, wherever they come from: a text whose empty lines and
 //! remarks (`#`) are passed over. The first line is that of a script (`play_script`), with the set as its end a, so
 //! one reader serves both; each other is an entry's (`history_text`). [`reads_back`] and [`one_line`] are the laws of
-//! the first line.
+//! the first line. That of a wide set ends in `profile=wide`; that of a narrow set has no such word.
 //!
 //! This crate knows no set: whether a history is legal isn't its matter.
 #![tactic(auto)]

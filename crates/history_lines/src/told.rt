@@ -10,6 +10,7 @@ ghost use Rattle.history_lines.specs.Telling.{nothing_told, with_line, opened, e
 
 use super::fault::UnreadableEntry;
 use history_text::read_entry;
+use l2_units::Profile;
 use play_script::read_opening;
 use printing::Stop;
 use set_events::{Entry, SetConfig};
@@ -68,7 +69,7 @@ impl Told {
         }
         match self.config {
             None => self.open(number, line),
-            Some(_) => self.enter(alloc, number, line),
+            Some(config) => self.enter(alloc, number, config.profile(), line),
         }
     }
 
@@ -85,16 +86,17 @@ impl Told {
         }
     }
 
-    /// Reads an entry.
+    /// Reads an entry of a set of this profile.
     fn enter(
         &mut self,
         alloc: Global,
         number: u64,
+        profile: Profile,
         line: &[u8],
     ) -> Result<(), Stop<UnreadableEntry>>
-        ensures { IsRead result number line.now (entered number self.old line.now) self.new }
+        ensures { IsRead result number line.now (entered number profile self.old line.now) self.new }
     {
-        let Some(entry) = read_line(alloc, line)? else {
+        let Some(entry) = read_line(alloc, profile, line)? else {
             return Err(unread(number, line));
         };
         self.lines.push(number)?;
@@ -122,10 +124,10 @@ fn read_config(line: &[u8]) -> Option<SetConfig>
 }
 
 /// The entry whose text this line is, but for its LF.
-fn read_line(alloc: Global, line: &[u8]) -> Result<Option<Entry>, AllocError>
-    ensures { IfOk result (λ entry. entry ≡ entry_of (line.now ++ 10 ∷ [])) }
+fn read_line(alloc: Global, profile: Profile, line: &[u8]) -> Result<Option<Entry>, AllocError>
+    ensures { IfOk result (λ entry. entry ≡ entry_of profile (line.now ++ 10 ∷ [])) }
 {
     let mut text = Vec::from_slice(alloc, line)?;
     text.push(b'\n')?;
-    read_entry(alloc, &text)
+    read_entry(alloc, profile, &text)
 }

@@ -4,7 +4,7 @@ use Rattle.std.specs.Prelude.{ℕ, Bool, ◌==◌, ◌-◌, ◌^◌, nat_le, Lis
 use Rattle.std.specs.Option.{option_map, option_and_then}
 use Rattle.std.specs.Str.{bytes_eq}
 use Rattle.l2_units.specs.Grammar.{unit_of}
-use Rattle.l2_units.specs.declared.profile.Profile.TheVariants.{Narrow}
+use Rattle.l2_units.specs.declared.profile.Profile.{Profile}
 use Rattle.l2_signals.specs.declared.cause.ControlFault.{ControlFault}
 use Rattle.l2_signals.specs.declared.cause.ControlFault.TheVariants.{Bsn, Fib}
 use Rattle.set_events.specs.declared.event.Actor.{Actor}
@@ -57,8 +57,8 @@ actor_in kind number =
 abbrev pub body_in : List ℕ → Option (List ℕ)
 body_in w = if bytes_eq w (codes "->") then Some [] else octets_of w
 
-abbrev pub hear_in : List ℕ → List ℕ → Option Event
-hear_in link unit = option_and_then (λ l. option_map (Hear l) (unit_in unit)) (link_in link)
+abbrev pub hear_in : Profile → List ℕ → List ℕ → Option Event
+hear_in profile link unit = option_and_then (λ l. option_map (Hear l) (unit_in profile unit)) (link_in link)
 
 abbrev pub link_event_in : List ℕ → ℕ → Option Event
 link_event_in name link =
@@ -66,12 +66,12 @@ link_event_in name link =
     else (if bytes_eq name (codes "up") then Some (Up link)
     else link_event name link)
 
-abbrev pub event_in : List ℕ → List ℕ → Option Event
-event_in name words =
+abbrev pub event_in : Profile → List ℕ → List ℕ → Option Event
+event_in profile name words =
     if bytes_eq name (codes "offer") then option_map Offer (body_in (word words))
     else (if bytes_eq name (codes "take") then Some Take
     else (if bytes_eq name (codes "find") then option_map Find (number_of (word words))
-    else (if bytes_eq name (codes "hear") then hear_in (word words) (word (others words))
+    else (if bytes_eq name (codes "hear") then hear_in profile (word words) (word (others words))
     else option_and_then (link_event_in name) (link_in (word words)))))
 
 abbrev pub cause_in : ℕ → Option DiscardCause
@@ -116,9 +116,9 @@ taken_in w =
     (octets_of w)
 
 -- the last two octets are the check octets
-abbrev pub sent_in : List ℕ → Option Answer
-sent_in w =
-    option_and_then (λ octets. option_map Sent (unit_of Narrow (take (length octets - 2) octets)))
+abbrev pub sent_in : Profile → List ℕ → Option Answer
+sent_in profile w =
+    option_and_then (λ octets. option_map Sent (unit_of profile (take (length octets - 2) octets)))
     (octets_of w)
 
 abbrev pub took_in : List ℕ → Option Took
@@ -143,6 +143,9 @@ is_sign c = c == 61
 abbrev pub value : List ℕ → List ℕ
 value line = behind is_sign (word line)
 
+abbrev pub acked_in : List ℕ → Option ℕ
+acked_in w = number_below (2 ^ 16) w
+
 abbrev pub heard_in : List ℕ → Option Answer
 heard_in line =
     option_and_then (λ acked. option_map (λ took. Heard (record {
@@ -151,15 +154,15 @@ heard_in line =
       asked = yes_in (value (others (others line)));
       resend = yes_in (value (others (others (others line))));
       fault = fault_in (value (others (others (others (others line)))));
-    })) (took_in (value (others line)))) (link_in (value line))
+    })) (took_in (value (others line)))) (acked_in (value line))
 
-abbrev pub answer_in : List ℕ → List ℕ → Option Answer
-answer_in name words =
+abbrev pub answer_in : Profile → List ℕ → List ℕ → Option Answer
+answer_in profile name words =
     if bytes_eq name (codes "accepted") then option_map Accepted (number_of (word words))
     else (if bytes_eq name (codes "taken") then taken_in (word words)
     else (if bytes_eq name (codes "found")
     then option_map Found (fate_in (word words) (word (others words)))
-    else (if bytes_eq name (codes "sent") then sent_in (word words)
+    else (if bytes_eq name (codes "sent") then sent_in profile (word words)
     else (if bytes_eq name (codes "heard") then heard_in words
     else (if bytes_eq name (codes "done") then Some Done
     else (if bytes_eq name (codes "refused")
@@ -173,21 +176,21 @@ is_arrow c = c == 62
 abbrev pub told : List ℕ → List ℕ
 told line = others (behind is_arrow line)
 
-abbrev pub asked_in : List ℕ → Option Event
-asked_in words = event_in (word words) (others words)
+abbrev pub asked_in : Profile → List ℕ → Option Event
+asked_in profile words = event_in profile (word words) (others words)
 
-abbrev pub told_in : List ℕ → Option Answer
-told_in words = answer_in (word words) (others words)
+abbrev pub told_in : Profile → List ℕ → Option Answer
+told_in profile words = answer_in profile (word words) (others words)
 
-abbrev pub entry_in : List ℕ → Option Entry
-entry_in line =
+abbrev pub entry_in : Profile → List ℕ → Option Entry
+entry_in profile line =
     option_and_then (λ who. option_and_then (λ event. option_map (λ answer.
     record { who = who; event = event; answer = answer })
-    (told_in (told line))) (asked_in (others (others line))))
+    (told_in profile (told line))) (asked_in profile (others (others line))))
     (actor_in (word line) (word (others line)))
 
--- THE ENTRY whose text a line is, with its LF; an entry has one text
-abbrev pub entry_of : List ℕ → Option Entry
-entry_of line =
-    option_and_then (λ entry. if bytes_eq (entry_text entry) line then Some entry else None)
-    (entry_in line)
+-- THE ENTRY of a set of this profile whose text a line is, with its LF; an entry has one text
+abbrev pub entry_of : Profile → List ℕ → Option Entry
+entry_of profile line =
+    option_and_then (λ entry. if bytes_eq (entry_text profile entry) line then Some entry else None)
+    (entry_in profile line)

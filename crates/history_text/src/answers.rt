@@ -6,22 +6,32 @@ ghost use Rattle.figures.specs.Figures.{number_of};
 ghost use Rattle.history_text.specs.Reading.{answer_in, told_in, taken_in, sent_in, heard_in, fate_in, linked_fate_in, cause_in, refusal_in, took_in, fault_in, word, others};
 
 use super::words::{cut, value_of};
-use figures::{is_word, read_below_256, read_number, read_octets};
-use l2_units::{LONGEST_BODY, body_of, read};
+use figures::{is_word, read_below_256, read_below_65536, read_number, read_octets};
+use l2_units::{LONGEST_BODY, Profile, body_of};
+use play_script::unit_in;
 use set_events::{Answer, ControlFault, DiscardCause, Fate, Refusal, Report, Took};
 use std::alloc::{AllocError, Global};
 
 /// What was answered, from the words behind the arrow.
-pub(crate) fn read_told(alloc: Global, words: &[u8]) -> Result<Option<Answer>, AllocError>
-    ensures { IfOk result (λ answer. answer ≡ told_in words.now) }
+pub(crate) fn read_told(
+    alloc: Global,
+    profile: Profile,
+    words: &[u8],
+) -> Result<Option<Answer>, AllocError>
+    ensures { IfOk result (λ answer. answer ≡ told_in profile words.now) }
 {
     let (name, words) = cut(words);
-    read_answer(alloc, name, words)
+    read_answer(alloc, profile, name, words)
 }
 
 /// The answer of this name, from the words behind it.
-fn read_answer(alloc: Global, name: &[u8], words: &[u8]) -> Result<Option<Answer>, AllocError>
-    ensures { IfOk result (λ answer. answer ≡ answer_in name.now words.now) }
+fn read_answer(
+    alloc: Global,
+    profile: Profile,
+    name: &[u8],
+    words: &[u8],
+) -> Result<Option<Answer>, AllocError>
+    ensures { IfOk result (λ answer. answer ≡ answer_in profile name.now words.now) }
 {
     let (word, others) = cut(words);
     if is_word(name, b"accepted") {
@@ -31,7 +41,7 @@ fn read_answer(alloc: Global, name: &[u8], words: &[u8]) -> Result<Option<Answer
     } else if is_word(name, b"found") {
         Ok(read_found(word, others))
     } else if is_word(name, b"sent") {
-        read_sent(alloc, word)
+        read_sent(alloc, profile, word)
     } else if is_word(name, b"heard") {
         Ok(read_heard(words))
     } else if is_word(name, b"done") {
@@ -121,16 +131,16 @@ fn cause_of(number: u8) -> Option<DiscardCause>
 }
 
 /// `sent HEX`, with check octets
-fn read_sent(alloc: Global, word: &[u8]) -> Result<Option<Answer>, AllocError>
-    ensures { IfOk result (λ answer. answer ≡ sent_in word.now) }
+fn read_sent(alloc: Global, profile: Profile, word: &[u8]) -> Result<Option<Answer>, AllocError>
+    ensures { IfOk result (λ answer. answer ≡ sent_in profile word.now) }
 {
     let Some(octets) = read_octets(alloc, word)? else {
         return Ok(None);
     };
     let octets = octets.as_slice();
-    match read(&octets[..octets.len().saturating_sub(2)]) {
-        Ok(unit) => Ok(Some(Answer::Sent { unit })),
-        Err(_) => Ok(None),
+    match unit_in(profile, &octets[..octets.len().saturating_sub(2)]) {
+        Some(unit) => Ok(Some(Answer::Sent { unit })),
+        None => Ok(None),
     }
 }
 
@@ -143,7 +153,7 @@ fn read_heard(words: &[u8]) -> Option<Answer>
     let (asked, words) = cut(words);
     let (resend, words) = cut(words);
     let (fault, _) = cut(words);
-    let acked = u16::from(read_below_256(value_of(acked))?);
+    let acked = read_below_65536(value_of(acked))?;
     let took = read_took(value_of(took))?;
     let report = Report {
         acked,

@@ -7,6 +7,7 @@ ghost use Rattle.history_text.specs.Reading.{actor_in, event_in, hear_in, link_e
 
 use super::words::{cut, read_body};
 use figures::{is_word, read_below_256, read_number};
+use l2_units::Profile;
 use play_script::{read_link_event, read_unit};
 use set_events::{Actor, Event};
 use std::alloc::{AllocError, Global};
@@ -31,16 +32,25 @@ pub(crate) fn read_actor(kind: &[u8], number: &[u8]) -> Option<Actor>
 }
 
 /// What was asked, from the words behind the actor.
-pub(crate) fn read_asked(alloc: Global, words: &[u8]) -> Result<Option<Event>, AllocError>
-    ensures { IfOk result (λ event. event ≡ asked_in words.now) }
+pub(crate) fn read_asked(
+    alloc: Global,
+    profile: Profile,
+    words: &[u8],
+) -> Result<Option<Event>, AllocError>
+    ensures { IfOk result (λ event. event ≡ asked_in profile words.now) }
 {
     let (name, words) = cut(words);
-    read_event(alloc, name, words)
+    read_event(alloc, profile, name, words)
 }
 
 /// The event of this name, from the words behind it.
-fn read_event(alloc: Global, name: &[u8], words: &[u8]) -> Result<Option<Event>, AllocError>
-    ensures { IfOk result (λ event. event ≡ event_in name.now words.now) }
+fn read_event(
+    alloc: Global,
+    profile: Profile,
+    name: &[u8],
+    words: &[u8],
+) -> Result<Option<Event>, AllocError>
+    ensures { IfOk result (λ event. event ≡ event_in profile name.now words.now) }
 {
     let (word, others) = cut(words);
     if is_word(name, b"offer") {
@@ -51,7 +61,7 @@ fn read_event(alloc: Global, name: &[u8], words: &[u8]) -> Result<Option<Event>,
         Ok(read_find(word))
     } else if is_word(name, b"hear") {
         let (unit, _) = cut(others);
-        read_hear(alloc, word, unit)
+        read_hear(alloc, profile, word, unit)
     } else {
         Ok(read_on_link(name, word))
     }
@@ -76,13 +86,18 @@ fn read_find(word: &[u8]) -> Option<Event>
 }
 
 /// `hear L HEX`
-fn read_hear(alloc: Global, link: &[u8], unit: &[u8]) -> Result<Option<Event>, AllocError>
-    ensures { IfOk result (λ event. event ≡ hear_in link.now unit.now) }
+fn read_hear(
+    alloc: Global,
+    profile: Profile,
+    link: &[u8],
+    unit: &[u8],
+) -> Result<Option<Event>, AllocError>
+    ensures { IfOk result (λ event. event ≡ hear_in profile link.now unit.now) }
 {
     let Some(link) = read_below_256(link) else {
         return Ok(None);
     };
-    match read_unit(alloc, unit)? {
+    match read_unit(alloc, profile, unit)? {
         Some(unit) => Ok(Some(Event::Heard { link, unit })),
         None => Ok(None),
     }

@@ -11,6 +11,8 @@
 //! | what was asked | `offer HEX` (`offer` alone for the empty body), `take`, `find N`, `next L`, `hear L HEX`, `up L`, `down L`, `blind L`, `noanswer L`, `restore L`, `backtimeout L` |
 //! | what was answered | the words of `play` (`answer_texts`) |
 //!
+//! Units stand in the set's profile, which the caller tells.
+//!
 //! [`write_entry`] writes it, [`write_answer`] its answer alone, [`write_entries`] those of a list, [`read_entry`] reads
 //! it back, and [`one_entry`] and [`one_history`] are the laws that no two entries, and no two lists of them, share a text.
 //! `specs/Entries.antt` has the words. This crate knows no set: whether a history is legal isn't its matter.

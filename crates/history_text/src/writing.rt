@@ -6,32 +6,36 @@ ghost use Rattle.history_text.specs.Entries.{numbered, actor_text, body_text, ev
 
 use answer_texts::{unit_octets, write_shown};
 use figures::push_hex;
-use l2_units::Unit;
+use l2_units::{Profile, Unit};
 use set_events::{Actor, Answer, Entry, Event};
 use set_history::Reader;
 use std::alloc::{AllocError, Global};
 use world_steps::Shown;
 
-/// The text of an entry, ended by LF; it fails only where memory is wanted.
-pub fn write_entry(alloc: Global, entry: &Entry) -> Result<Vec<u8>, AllocError>
-    ensures { IfOk result (λ line. line.items ≡ entry_text entry.now) }
+/// The text of an entry of a set of this profile, ended by LF; it fails only where memory is wanted.
+pub fn write_entry(alloc: Global, profile: Profile, entry: &Entry) -> Result<Vec<u8>, AllocError>
+    ensures { IfOk result (λ line. line.items ≡ entry_text profile entry.now) }
 {
     let mut line = write_actor(alloc, entry.who)?;
-    line.extend_from_slice(&write_event(alloc, &entry.event)?)?;
+    line.extend_from_slice(&write_event(alloc, profile, &entry.event)?)?;
     line.extend_from_slice(b"-> ")?;
-    line.extend_from_slice(&write_answer(alloc, &entry.answer)?)?;
+    line.extend_from_slice(&write_answer(alloc, profile, &entry.answer)?)?;
     Ok(line)
 }
 
-/// The texts of these entries, one after another; it fails only where memory is wanted.
-pub fn write_entries(alloc: Global, entries: Reader<'_>) -> Result<Vec<u8>, AllocError>
-    ensures { IfOk result (λ lines. lines.items ≡ entries_text entries.entry) }
+/// The texts of these entries of a set of this profile, one after another; it fails only where memory is wanted.
+pub fn write_entries(
+    alloc: Global,
+    profile: Profile,
+    entries: Reader<'_>,
+) -> Result<Vec<u8>, AllocError>
+    ensures { IfOk result (λ lines. lines.items ≡ entries_text profile entries.entry) }
 {
     let mut lines = Vec::new(alloc);
     let mut left = entries;
     while let Some(told) = left.next() {
         let entry = told.entry(alloc)?;
-        lines.extend_from_slice(&write_entry(alloc, &entry)?)?;
+        lines.extend_from_slice(&write_entry(alloc, profile, &entry)?)?;
     }
     Ok(lines)
 }
@@ -54,15 +58,15 @@ fn write_actor(alloc: Global, who: Actor) -> Result<Vec<u8>, AllocError>
 }
 
 /// What was asked.
-fn write_event(alloc: Global, event: &Event) -> Result<Vec<u8>, AllocError>
-    ensures { IfOk result (λ text. text.items ≡ event_text event.now) }
+fn write_event(alloc: Global, profile: Profile, event: &Event) -> Result<Vec<u8>, AllocError>
+    ensures { IfOk result (λ text. text.items ≡ event_text profile event.now) }
 {
     match event {
         Event::Offer { body } => write_offer(alloc, body.octets()),
         Event::Take => Vec::from_slice(alloc, b"take "),
         Event::Find { number } => write_numbered(alloc, "find ", *number),
         Event::Next { link } => write_numbered(alloc, "next ", *link as u64),
-        Event::Heard { link, unit } => write_heard(alloc, *link, unit),
+        Event::Heard { link, unit } => write_heard(alloc, profile, *link, unit),
         Event::Up { link } => write_numbered(alloc, "up ", *link as u64),
         Event::Down { link } => write_numbered(alloc, "down ", *link as u64),
         Event::DownBlind { link } => write_numbered(alloc, "blind ", *link as u64),
@@ -86,20 +90,25 @@ fn write_offer(alloc: Global, body: &[u8]) -> Result<Vec<u8>, AllocError>
 }
 
 /// A unit that was heard, without its check octets.
-fn write_heard(alloc: Global, link: u8, unit: &Unit) -> Result<Vec<u8>, AllocError>
+fn write_heard(
+    alloc: Global,
+    profile: Profile,
+    link: u8,
+    unit: &Unit,
+) -> Result<Vec<u8>, AllocError>
     ensures { IfOk result (λ line. line.items
-        ≡ numbered (codes "hear ") link ++ (hex_text (unit_octets unit.now) ++ codes " ")) }
+        ≡ numbered (codes "hear ") link ++ (hex_text (unit_octets profile unit.now) ++ codes " ")) }
 {
     let mut line = write_numbered(alloc, "hear ", link as u64)?;
-    push_hex(&mut line, unit_octets(unit).as_slice())?;
+    push_hex(&mut line, unit_octets(profile, unit).as_slice())?;
     line.push(b' ')?;
     Ok(line)
 }
 
-/// What was answered, as `play` prints it, ended by LF; it fails only where memory is wanted.
-pub fn write_answer(alloc: Global, answer: &Answer) -> Result<Vec<u8>, AllocError>
-    ensures { IfOk result (λ text. text.items ≡ answer_text answer.now) }
+/// What a set of this profile answered, as `play` prints it, ended by LF; it fails only where memory is wanted.
+pub fn write_answer(alloc: Global, profile: Profile, answer: &Answer) -> Result<Vec<u8>, AllocError>
+    ensures { IfOk result (λ text. text.items ≡ answer_text profile answer.now) }
 {
     let shown = Shown::Answered(answer.copy());
-    write_shown(alloc, &shown)
+    write_shown(alloc, profile, &shown)
 }

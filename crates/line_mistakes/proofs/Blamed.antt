@@ -7,6 +7,7 @@ use Rattle.figures.specs.Figures.{number_of}
 use Rattle.world_steps.specs.declared.step.End.{End as AnEnd}
 use Rattle.world_steps.specs.declared.step.Step.TheVariants.{Act, Emit, Arrive, Lose as LoseStep, Inject, Together as TogetherStep}
 use Rattle.set_events.specs.declared.event.Event.TheVariants.{Down, DownBlind, NoAnswer, Restore, BackTimeout}
+use Rattle.l2_units.specs.declared.profile.Profile.{Profile}
 use Rattle.play_script.specs.Script.{is_space, first_word, other_words, end_of, link_of, some_octets, unit_of, together, offer, take_message, find, lose, hear, step_on, on_link, step_at, step_by, step_of}
 use Rattle.line_mistakes.specs.declared.mistake.Mistake.{Mistake}
 use Rattle.line_mistakes.specs.declared.mistake.Mistake.TheVariants.{TogetherWants, OfferWants, TakeWants, FindWants, OnLinkWants, LoseWants, HearWants}
@@ -88,14 +89,14 @@ of_lose size end w =
     goes_on (link_of (first_word w)) (λ link. option_map (LoseStep end link) (option_and_then number_of (other_words w))) (wrong Link (first_word w)) size w
     (misread LoseWants size (Number ∷ []) (other_words w)) (λ link. of_place (LoseStep end link) size (other_words w))
 
-of_unit : (size : ℕ) (end : AnEnd) (link : ℕ) (o : Option (List ℕ)) → is_none (misread HearWants size (AUnit ∷ []) o) ≡ is_some (option_map (Inject end link) (option_and_then unit_of o))
-of_unit size end link None = refl
-of_unit size end link (Some w) = last (λ w. is_some (unit_of w)) unit_alone HearWants (wrong AUnit (first_word w)) size w ∙ sym (map_is (Inject end link) (unit_of w))
+of_unit : (p : Profile) (size : ℕ) (end : AnEnd) (link : ℕ) (o : Option (List ℕ)) → is_none (misread HearWants size (AUnit p ∷ []) o) ≡ is_some (option_map (Inject end link) (option_and_then (unit_of p) o))
+of_unit p size end link None = refl
+of_unit p size end link (Some w) = last (λ w. is_some (unit_of p w)) (unit_alone p) HearWants (wrong (AUnit p) (first_word w)) size w ∙ sym (map_is (Inject end link) (unit_of p w))
 
-pub of_hear : (size : ℕ) (end : AnEnd) (w : List ℕ) → is_none (misread HearWants size (Link ∷ AUnit ∷ []) (Some w)) ≡ is_some (hear end w)
-of_hear size end w =
-    goes_on (link_of (first_word w)) (λ link. option_map (Inject end link) (option_and_then unit_of (other_words w))) (wrong Link (first_word w)) size w
-    (misread HearWants size (AUnit ∷ []) (other_words w)) (λ link. of_unit size end link (other_words w))
+pub of_hear : (p : Profile) (size : ℕ) (end : AnEnd) (w : List ℕ) → is_none (misread HearWants size (Link ∷ AUnit p ∷ []) (Some w)) ≡ is_some (hear p end w)
+of_hear p size end w =
+    goes_on (link_of (first_word w)) (λ link. option_map (Inject end link) (option_and_then (unit_of p) (other_words w))) (wrong Link (first_word w)) size w
+    (misread HearWants size (AUnit p ∷ []) (other_words w)) (λ link. of_unit p size end link (other_words w))
 
 -- a line that wants an end and a link
 pub of_link : (name : List ℕ) (size : ℕ) (end : AnEnd) (w : List ℕ) → ((link : ℕ) → is_some (step_on name end link) ≡ true)
@@ -106,11 +107,11 @@ of_link name size end w all =
 -- A line with its name.
 
 -- behind an end, the words of the step
-at_end : (name : List ℕ) (size : ℕ) (words : List ℕ) (short : Mistake) (kinds : List Kind) → bytes_eq name (codes "together") ≡ false
-    → ((end : AnEnd) → is_none (misread short size kinds (other_words words)) ≡ is_some (step_at name end (other_words words)))
-    → is_none (misread short size (End ∷ kinds) (Some words)) ≡ is_some (step_by name (Some words))
-at_end name size words short kinds t h =
-    goes_on (end_of (first_word words)) (λ end. step_at name end (other_words words)) (wrong End (first_word words)) size words
+at_end : (p : Profile) (name : List ℕ) (size : ℕ) (words : List ℕ) (short : Mistake) (kinds : List Kind) → bytes_eq name (codes "together") ≡ false
+    → ((end : AnEnd) → is_none (misread short size kinds (other_words words)) ≡ is_some (step_at p name end (other_words words)))
+    → is_none (misread short size (End ∷ kinds) (Some words)) ≡ is_some (step_by p name (Some words))
+at_end p name size words short kinds t h =
+    goes_on (end_of (first_word words)) (λ end. step_at p name end (other_words words)) (wrong End (first_word words)) size words
     (misread short size kinds (other_words words)) h
     ∙ rw t refl
 
@@ -132,58 +133,58 @@ on_links name end link = by (bytes_eq name (codes "emit")) (bytes_eq name (codes
     by false false false false false false true = refl
     by false false false false false false false = refl
 
-module _ (name : List ℕ) (size : ℕ) (words : List ℕ) (t : bytes_eq name (codes "together") ≡ false) where
+module _ (p : Profile) (name : List ℕ) (size : ℕ) (words : List ℕ) (t : bytes_eq name (codes "together") ≡ false) where
   -- a form whose lines begin with an end
   formed : (form : Form) (short : Mistake) (kinds : List Kind) → form_of name ≡ Some form
-      → is_none (blamed_as (Some form) name size (Some words)) ≡ is_none (misread short size (End ∷ kinds) (Some words))
-      → ((end : AnEnd) → is_none (misread short size kinds (other_words words)) ≡ is_some (step_at name end (other_words words)))
-      → is_none (blamed_as (form_of name) name size (Some words)) ≡ is_some (step_by name (Some words))
-  formed form short kinds f same h = ap (λ x. is_none (blamed_as x name size (Some words))) f ∙ same ∙ at_end name size words short kinds t h
+      → is_none (blamed_as p (Some form) name size (Some words)) ≡ is_none (misread short size (End ∷ kinds) (Some words))
+      → ((end : AnEnd) → is_none (misread short size kinds (other_words words)) ≡ is_some (step_at p name end (other_words words)))
+      → is_none (blamed_as p (form_of name) name size (Some words)) ≡ is_some (step_by p name (Some words))
+  formed form short kinds f same h = ap (λ x. is_none (blamed_as p x name size (Some words))) f ∙ same ∙ at_end p name size words short kinds t h
 
   module _ (o : bytes_eq name (codes "offer") ≡ false) (k : bytes_eq name (codes "take") ≡ false) where
     module _ (f : bytes_eq name (codes "find") ≡ false) (l : bytes_eq name (codes "lose") ≡ false) (h : bytes_eq name (codes "hear") ≡ false) where
-      linked : (is : is_on_link name ≡ true) (end : AnEnd) (rest : Option (List ℕ)) → is_none (misread OnLinkWants size (Link ∷ []) rest) ≡ is_some (step_at name end rest)
+      linked : (is : is_on_link name ≡ true) (end : AnEnd) (rest : Option (List ℕ)) → is_none (misread OnLinkWants size (Link ∷ []) rest) ≡ is_some (step_at p name end rest)
       linked is end None = rw (o, k) refl
       linked is end (Some w) = of_link name size end w (λ link. on_links name end link ∙ is) ∙ rw (o, k, f, l, h) refl
 
-      unknown : (other : is_on_link name ≡ false) (end : AnEnd) (rest : Option (List ℕ)) → is_some (step_at name end rest) ≡ false
+      unknown : (other : is_on_link name ≡ false) (end : AnEnd) (rest : Option (List ℕ)) → is_some (step_at p name end rest) ≡ false
       unknown other end None = rw (o, k) refl
       unknown other end (Some w) = rw (o, k, f, l, h) (then_none (step_on name end) (link_of w) (λ link. on_links name end link ∙ other))
 
-      nameless : (other : is_on_link name ≡ false) → false ≡ is_some (step_by name (Some words))
-      nameless other = sym (then_none (λ end. step_at name end (other_words words)) (end_of (first_word words)) (λ end. unknown other end (other_words words))) ∙ rw t refl
+      nameless : (other : is_on_link name ≡ false) → false ≡ is_some (step_by p name (Some words))
+      nameless other = sym (then_none (λ end. step_at p name end (other_words words)) (end_of (first_word words)) (λ end. unknown other end (other_words words))) ∙ rw t refl
 
-      rest_by : (b : Bool) → is_on_link name ≡ b → is_none (blamed_as (form_of name) name size (Some words)) ≡ is_some (step_by name (Some words))
+      rest_by : (b : Bool) → is_on_link name ≡ b → is_none (blamed_as p (form_of name) name size (Some words)) ≡ is_some (step_by p name (Some words))
       rest_by true e = formed OnLink OnLinkWants (Link ∷ []) (rw (t, o, k, f, l, h, e) refl) refl (λ end. linked e end (other_words words))
       rest_by false e = let none : form_of name ≡ None = rw (t, o, k, f, l, h, e) refl in
-          ap (λ x. is_none (blamed_as x name size (Some words))) none ∙ nameless e
+          ap (λ x. is_none (blamed_as p x name size (Some words))) none ∙ nameless e
 
-    found : (f : bytes_eq name (codes "find") ≡ true) (end : AnEnd) (rest : Option (List ℕ)) → is_none (misread FindWants size (Number ∷ []) rest) ≡ is_some (step_at name end rest)
+    found : (f : bytes_eq name (codes "find") ≡ true) (end : AnEnd) (rest : Option (List ℕ)) → is_none (misread FindWants size (Number ∷ []) rest) ≡ is_some (step_at p name end rest)
     found f end None = rw (o, k) refl
     found f end (Some w) = of_find size end w ∙ rw (o, k, f) refl
 
-    lost : (f : bytes_eq name (codes "find") ≡ false) (l : bytes_eq name (codes "lose") ≡ true) (end : AnEnd) (rest : Option (List ℕ)) → is_none (misread LoseWants size (Link ∷ Number ∷ []) rest) ≡ is_some (step_at name end rest)
+    lost : (f : bytes_eq name (codes "find") ≡ false) (l : bytes_eq name (codes "lose") ≡ true) (end : AnEnd) (rest : Option (List ℕ)) → is_none (misread LoseWants size (Link ∷ Number ∷ []) rest) ≡ is_some (step_at p name end rest)
     lost f l end None = rw (o, k) refl
     lost f l end (Some w) = of_lose size end w ∙ rw (o, k, f, l) refl
 
-    heard : (f : bytes_eq name (codes "find") ≡ false) (l : bytes_eq name (codes "lose") ≡ false) (h : bytes_eq name (codes "hear") ≡ true) (end : AnEnd) (rest : Option (List ℕ)) → is_none (misread HearWants size (Link ∷ AUnit ∷ []) rest) ≡ is_some (step_at name end rest)
+    heard : (f : bytes_eq name (codes "find") ≡ false) (l : bytes_eq name (codes "lose") ≡ false) (h : bytes_eq name (codes "hear") ≡ true) (end : AnEnd) (rest : Option (List ℕ)) → is_none (misread HearWants size (Link ∷ AUnit p ∷ []) rest) ≡ is_some (step_at p name end rest)
     heard f l h end None = rw (o, k) refl
-    heard f l h end (Some w) = of_hear size end w ∙ rw (o, k, f, l, h) refl
+    heard f l h end (Some w) = of_hear p size end w ∙ rw (o, k, f, l, h) refl
 
-    others_by : is_none (blamed_as (form_of name) name size (Some words)) ≡ is_some (step_by name (Some words))
+    others_by : is_none (blamed_as p (form_of name) name size (Some words)) ≡ is_some (step_by p name (Some words))
     others_by =
         elim (either (bytes_eq name (codes "find"))) [
           | inl f ↦ formed Find FindWants (Number ∷ []) (rw (t, o, k, f) refl) refl (λ end. found f end (other_words words))
           | inr f ↦ elim (either (bytes_eq name (codes "lose"))) [
             | inl l ↦ formed Lose LoseWants (Link ∷ Number ∷ []) (rw (t, o, k, f, l) refl) refl (λ end. lost f l end (other_words words))
             | inr l ↦ elim (either (bytes_eq name (codes "hear"))) [
-              | inl h ↦ formed Hear HearWants (Link ∷ AUnit ∷ []) (rw (t, o, k, f, l, h) refl) refl (λ end. heard f l h end (other_words words))
+              | inl h ↦ formed Hear HearWants (Link ∷ AUnit p ∷ []) (rw (t, o, k, f, l, h) refl) refl (λ end. heard f l h end (other_words words))
               | inr h ↦ rest_by f l h (is_on_link name) refl
             ]
           ]
         ]
 
-  not_together : is_none (blamed_as (form_of name) name size (Some words)) ≡ is_some (step_by name (Some words))
+  not_together : is_none (blamed_as p (form_of name) name size (Some words)) ≡ is_some (step_by p name (Some words))
   not_together =
       elim (either (bytes_eq name (codes "offer"))) [
         | inl o ↦ formed Offer OfferWants (Octets ∷ []) (rw (t, o) refl) refl (λ end. of_offer size end (other_words words) ∙ rw o refl)
@@ -194,24 +195,24 @@ module _ (name : List ℕ) (size : ℕ) (words : List ℕ) (t : bytes_eq name (c
       ]
 
 -- a line of one word
-lone : (form : Option Form) (name : List ℕ) (size : ℕ) → is_none (blamed_as form name size None) ≡ false
-lone None name size = refl
-lone (Some Together) name size = refl
-lone (Some Offer) name size = refl
-lone (Some Take) name size = refl
-lone (Some Find) name size = refl
-lone (Some Lose) name size = refl
-lone (Some Hear) name size = refl
-lone (Some OnLink) name size = refl
+lone : (p : Profile) (form : Option Form) (name : List ℕ) (size : ℕ) → is_none (blamed_as p form name size None) ≡ false
+lone p None name size = refl
+lone p (Some Together) name size = refl
+lone p (Some Offer) name size = refl
+lone p (Some Take) name size = refl
+lone p (Some Find) name size = refl
+lone p (Some Lose) name size = refl
+lone p (Some Hear) name size = refl
+lone p (Some OnLink) name size = refl
 
-named : (name : List ℕ) (size : ℕ) (o : Option (List ℕ)) → is_none (blamed_as (form_of name) name size o) ≡ is_some (step_by name o)
-named name size None = lone (form_of name) name size
-named name size (Some words) =
+named : (p : Profile) (name : List ℕ) (size : ℕ) (o : Option (List ℕ)) → is_none (blamed_as p (form_of name) name size o) ≡ is_some (step_by p name o)
+named p name size None = lone p (form_of name) name size
+named p name size (Some words) =
     elim (either (bytes_eq name (codes "together"))) [
       | inl t ↦ let form : form_of name ≡ Some Together = rw t refl in
-          ap (λ x. is_none (blamed_as x name size (Some words))) form ∙ of_together size words ∙ rw t refl
-      | inr t ↦ not_together name size words t
+          ap (λ x. is_none (blamed_as p x name size (Some words))) form ∙ of_together size words ∙ rw t refl
+      | inr t ↦ not_together p name size words t
     ]
 
-pub steps_are_blamed : (text : List ℕ) → is_none (blamed_step text) ≡ is_some (step_of text)
-steps_are_blamed text = named (first_word text) (length text) (other_words text)
+pub steps_are_blamed : (p : Profile) (text : List ℕ) → is_none (blamed_step p text) ≡ is_some (step_of p text)
+steps_are_blamed p text = named p (first_word text) (length text) (other_words text)

@@ -4,10 +4,11 @@ use Rattle.std.proofs.lemmas.List.{take_all, take-append-drop}
 use Rattle.std.proofs.lemmas.Slice.Eq.{bytes_eq-Decides}
 use Rattle.std.specs.List.{list_any, position_or_len, after_first}
 use Rattle.l2_units.specs.Grammar.{unit_of as unit_in}
-use Rattle.l2_units.specs.declared.profile.Profile.TheVariants.{Narrow}
+use Rattle.l2_units.specs.declared.profile.Profile.{Profile}
+use Rattle.l2_units.specs.declared.profile.Profile.TheVariants.{Narrow, Wide}
 use Rattle.std.specs.Option.{option_map, option_and_then}
 use Rattle.figures.specs.Figures.{number_of, octet_of, digits_behind, below_2_64, hex_value, octets_of, octet_before, is_digit}
-use Rattle.play_script.specs.Script.{is_space, first_word, other_words, link_of, some_octets, unit_of, sio_of}
+use Rattle.play_script.specs.Script.{is_space, first_word, other_words, link_of, some_octets, unit_of, sio_of, profile_of}
 use Rattle.std.specs.Str.{bytes_eq}
 use Rattle.line_mistakes.specs.Mistakes.{is_orders_sio}
 
@@ -103,39 +104,19 @@ some_octets_alone [] h = refl
 some_octets_alone (c ∷ cs) h = let no : (length (c ∷ cs) == 0) ≡ false = grind arith in
     octets_alone (c ∷ cs) (subst (λ (b : Bool). is_some (cond b None (octets_of (c ∷ cs))) ≡ true) no h)
 
-pub unit_alone : (w : List ℕ) → is_some (unit_of w) ≡ true → list_any is_space w ≡ false
-unit_alone w h = some_octets_alone w (by (some_octets w) h)
+pub unit_alone : (p : Profile) (w : List ℕ) → is_some (unit_of p w) ≡ true → list_any is_space w ≡ false
+unit_alone p w h = some_octets_alone w (by (some_octets w) h)
   where
-    by : (o : Option (List ℕ)) → is_some (option_and_then (unit_in Narrow) o) ≡ true → is_some o ≡ true
+    by : (o : Option (List ℕ)) → is_some (option_and_then (unit_in p) o) ≡ true → is_some o ≡ true
     by None g = g
     by (Some n) g = refl
 
--- the SIO's word: its name, and two digits
-module _ where
-  prefixed : (name w : List ℕ) → bytes_eq (take (length name) w) name ≡ true → w ≡ name ++ drop (length name) w
-  prefixed name w e = sym (take-append-drop (length name) w) ∙ ap (λ x. x ++ drop (length name) w) ((bytes_eq-Decides (take (length name) w) name).0 e)
-
-  two_alone : (w : List ℕ) → is_some (octet_of w) ≡ true → list_any is_space w ≡ false
-  two_alone [] h = absurd (grind arith)
-  two_alone (c ∷ []) h = absurd (grind arith)
-  two_alone (c ∷ d ∷ e ∷ more) h = absurd (grind arith)
-  two_alone (c ∷ d ∷ []) h = by (hex_value c) (hex_value d) refl refl h
-    where
-      by : (high low : Option ℕ) → hex_value c ≡ high → hex_value d ≡ low
-          → is_some (option_and_then (λ x. option_map (λ y. 16 * x + y) low) high) ≡ true → list_any is_space (c ∷ d ∷ []) ≡ false
-      by (Some high) (Some low) e f g =
-          rw (not_space (λ x. is_some (hex_value x)) refl c (ap is_some e), not_space (λ x. is_some (hex_value x)) refl d (ap is_some f)) refl
-      by (Some high) None e f g = absurd (grind arith)
-      by None low e f g = absurd (grind arith)
-
-  named_alone : (w : List ℕ) (b : Bool) → bytes_eq (take (length (codes "sio=")) w) (codes "sio=") ≡ b
-      → is_some (option_and_then octet_of (if b then Some (drop (length (codes "sio=")) w) else None)) ≡ true → list_any is_space w ≡ false
-  named_alone w true e h = let rest = two_alone (drop 4 w) h in ap (list_any is_space) (prefixed (codes "sio=") w e) ∙ rest
-  named_alone w false e h = absurd (grind arith)
-
-  fits : (o : Option ℕ) → is_orders_sio o ≡ true → is_some o ≡ true
-  fits None h = h
-  fits (Some n) h = refl
-
-  pub sio_alone : (w : List ℕ) → is_orders_sio (sio_of w) ≡ true → list_any is_space w ≡ false
-  sio_alone w h = named_alone w (bytes_eq (take 4 w) (codes "sio=")) refl (fits (sio_of w) h)
+-- the profile's word is one of two
+pub profile_alone : (w : List ℕ) → is_some (profile_of w) ≡ true → list_any is_space w ≡ false
+profile_alone w h = by (bytes_eq w (codes "profile=narrow")) (bytes_eq w (codes "profile=wide")) refl refl h
+  where
+    by : (n b : Bool) → bytes_eq w (codes "profile=narrow") ≡ n → bytes_eq w (codes "profile=wide") ≡ b
+        → is_some (cond n (Some Narrow) (cond b (Some Wide) None)) ≡ true → list_any is_space w ≡ false
+    by true b e f g = ap (list_any is_space) ((bytes_eq-Decides w (codes "profile=narrow")).0 e)
+    by false true e f g = ap (list_any is_space) ((bytes_eq-Decides w (codes "profile=wide")).0 f)
+    by false false e f g = absurd (grind arith)

@@ -1,14 +1,17 @@
 -- WHICH WORD OF A LINE IS AT FAULT: the first from the left that isn't what the line wants there.
 use Rattle.std.specs.Prelude.{ℕ, Bool, true, false, ◌-◌, List, [], ◌∷◌, length, Option, Some, None, if◌then◌else◌, codes, unwrap_or}
 use Rattle.std.specs.Str.{bytes_eq}
-use Rattle.play_script.specs.Script.{first_word, other_words}
+use Rattle.l2_units.specs.declared.profile.Profile.{Profile}
+use Rattle.l2_units.specs.declared.profile.Profile.TheVariants.{Narrow}
+use Rattle.play_script.specs.Script.{first_word, other_words, profile_of}
 use Rattle.line_mistakes.specs.declared.mistake.Mistake.{Mistake}
 use Rattle.line_mistakes.specs.declared.mistake.Mistake.TheVariants.{NotSet, OpeningShort, Surplus, UnknownWord, SecondSet, TogetherWants, OfferWants, TakeWants, FindWants, OnLinkWants, LoseWants, HearWants}
 use Rattle.line_mistakes.specs.declared.words.Kind.{Kind}
-use Rattle.line_mistakes.specs.declared.words.Kind.TheVariants.{Links, Method, CodeA, CodeB, Sio, End, Link, Number, Octets, Unit as AUnit}
+use Rattle.line_mistakes.specs.declared.words.Kind.TheVariants.{Links, Method, CodeA, CodeB, Sio, Profile as AProfile, End, Link, Number, Octets, Unit as AUnit}
 use Rattle.line_mistakes.specs.declared.forms.Form.{Form}
 use Rattle.line_mistakes.specs.declared.forms.Form.TheVariants.{Together, Offer, Take, Find, Lose, Hear, OnLink}
 use Rattle.line_mistakes.specs.declared.lines.Blame.{Blame}
+use Rattle.line_mistakes.specs.Impossible.{words_from}
 use Rattle.line_mistakes.specs.Mistakes.{odd_in, mistake_in}
 
 -- The forms of the lines after the first, by their first word.
@@ -34,28 +37,29 @@ form_of name =
     else (if bytes_eq name (codes "hear") then Some Hear
     else (if is_on_link name then Some OnLink else None))))))
 
--- what each word behind the first has to be
-abbrev pub kinds_of : Form → List Kind
-kinds_of Together = Link ∷ []
-kinds_of Offer = End ∷ Octets ∷ []
-kinds_of Take = End ∷ []
-kinds_of Find = End ∷ Number ∷ []
-kinds_of Lose = End ∷ Link ∷ Number ∷ []
-kinds_of Hear = End ∷ Link ∷ AUnit ∷ []
-kinds_of OnLink = End ∷ Link ∷ []
+-- what each word behind the first has to be, of a set of this profile
+abbrev pub kinds_of : Profile → Form → List Kind
+kinds_of profile Together = Link ∷ []
+kinds_of profile Offer = End ∷ Octets ∷ []
+kinds_of profile Take = End ∷ []
+kinds_of profile Find = End ∷ Number ∷ []
+kinds_of profile Lose = End ∷ Link ∷ Number ∷ []
+kinds_of profile Hear = End ∷ Link ∷ AUnit profile ∷ []
+kinds_of profile OnLink = End ∷ Link ∷ []
 
--- the body of an offer may be empty, and then has no word
+-- the body of an offer may be empty, and then has no word; nor need the profile have one
 abbrev pub may_miss : Kind → Bool
 may_miss Octets = true
 may_miss Links = false
-may_miss Method = false
+may_miss AProfile = true
+may_miss (Method profile) = false
 may_miss CodeA = false
 may_miss CodeB = false
 may_miss Sio = false
 may_miss End = false
 may_miss Link = false
 may_miss Number = false
-may_miss AUnit = false
+may_miss (AUnit profile) = false
 
 -- the mistake of a line in which a word is missing
 abbrev pub wants : Form → Mistake
@@ -67,9 +71,13 @@ wants Lose = LoseWants
 wants Hear = HearWants
 wants OnLink = OnLinkWants
 
--- set links=L method=W a=X b=Y sio=HH
-abbrev pub opening_kinds : List Kind
-opening_kinds = Links ∷ Method ∷ CodeA ∷ CodeB ∷ Sio ∷ []
+-- set links=L method=W a=X b=Y sio=HH, and the profile, which the method's limits go by
+abbrev pub opening_kinds : Profile → List Kind
+opening_kinds profile = Links ∷ Method profile ∷ CodeA ∷ CodeB ∷ Sio ∷ AProfile ∷ []
+
+-- the profile that the seventh word of a first line tells; the narrow one where it tells none
+abbrev pub told_profile : List ℕ → Profile
+told_profile text = unwrap_or (profile_of (first_word (words_from 6 text))) Narrow
 
 -- The words of a line, against what they have to be.
 
@@ -109,14 +117,14 @@ abbrev pub name_blamed : Mistake → Option Blame
 name_blamed mistake = Some (record { column = 0; mistake = mistake })
 
 -- by the form of the line, its first word, its length and the words behind the first
-abbrev pub blamed_as : Option Form → List ℕ → ℕ → Option (List ℕ) → Option Blame
-blamed_as None name size words = name_blamed (wrong_name name)
-blamed_as (Some form) name size words = misread (wants form) size (kinds_of form) words
+abbrev pub blamed_as : Profile → Option Form → List ℕ → ℕ → Option (List ℕ) → Option Blame
+blamed_as profile None name size words = name_blamed (wrong_name name)
+blamed_as profile (Some form) name size words = misread (wants form) size (kinds_of profile form) words
 
--- of a line after the first
-abbrev pub blamed_step : List ℕ → Option Blame
-blamed_step text =
-    blamed_as (form_of (first_word text)) (first_word text) (length text) (other_words text)
+-- of a line after the first, of sets of this profile
+abbrev pub blamed_step : Profile → List ℕ → Option Blame
+blamed_step profile text =
+    blamed_as profile (form_of (first_word text)) (first_word text) (length text) (other_words text)
 
 abbrev pub not_set : List ℕ → Mistake
 not_set name = unwrap_or (odd_in name) NotSet
@@ -125,5 +133,5 @@ not_set name = unwrap_or (odd_in name) NotSet
 abbrev pub blamed_opening : List ℕ → Option Blame
 blamed_opening text =
     if bytes_eq (first_word text) (codes "set")
-    then misread OpeningShort (length text) opening_kinds (other_words text)
+    then misread OpeningShort (length text) (opening_kinds (told_profile text)) (other_words text)
     else name_blamed (not_set (first_word text))

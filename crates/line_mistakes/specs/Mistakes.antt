@@ -2,15 +2,16 @@
 use Rattle.std.specs.Prelude.{ℕ, Bool, false, ◌==◌, ◌%◌, ◌&&◌, nat_lt, nat_le, List, length, Option, Some, None, if◌then◌else◌, codes, is_some, unwrap_or}
 use Rattle.std.specs.List.{list_any, list_all}
 use Rattle.set_events.specs.Config.{most_links, point_codes}
-use Rattle.l2_units.specs.declared.profile.Profile.TheVariants.{Narrow}
+use Rattle.l2_units.specs.declared.profile.Profile.{Profile}
+use Rattle.l2_units.specs.declared.profile.Profile.TheVariants.{Narrow, Wide}
 use Rattle.set_events.specs.Method.{is_method}
 use Rattle.set_events.specs.declared.config.Method.{Method as SafeMethod}
 use Rattle.figures.specs.Figures.{number_of, hex_value}
-use Rattle.play_script.specs.Script.{end_of, link_of, some_octets, unit_of, value_in, links_of, method_of, code_of, sio_of}
+use Rattle.play_script.specs.Script.{end_of, link_of, some_octets, unit_of, value_in, links_of, method_of, code_of, sio_of, profile_of}
 use Rattle.line_mistakes.specs.declared.mistake.Mistake.{Mistake}
-use Rattle.line_mistakes.specs.declared.mistake.Mistake.TheVariants.{LinksName, LinksRange, MethodName, MethodLimits, CodeAName, CodeBName, CodeRange, SioName, SioDigits, SioIndicator, Space, CarriageReturn, NotPrintable, End as NoEnd, Link as NoLink, Number as NoNumber, OddDigits, NotHexadecimal, UnitShort, UnitLong, UnitLength}
+use Rattle.line_mistakes.specs.declared.mistake.Mistake.TheVariants.{LinksName, LinksRange, MethodName, MethodLimits, WideMethodLimits, CodeAName, CodeBName, CodeRange, SioName, SioDigits, SioIndicator, ProfileValue, Surplus, Space, CarriageReturn, NotPrintable, End as NoEnd, Link as NoLink, Number as NoNumber, OddDigits, NotHexadecimal, UnitShort, WideUnitShort, UnitLong, UnitLength, WideUnitLength}
 use Rattle.line_mistakes.specs.declared.words.Kind.{Kind}
-use Rattle.line_mistakes.specs.declared.words.Kind.TheVariants.{Links, Method, CodeA, CodeB, Sio, End, Link, Number, Octets, Unit as AUnit}
+use Rattle.line_mistakes.specs.declared.words.Kind.TheVariants.{Links, Method, CodeA, CodeB, Sio, Profile as AProfile, End, Link, Number, Octets, Unit as AUnit}
 
 -- What a word has to be.
 
@@ -28,22 +29,23 @@ abbrev pub is_orders_sio : Option ℕ → Bool
 is_orders_sio None = false
 is_orders_sio (Some sio) = sio % 16 == 0
 
--- limits that can be met
-abbrev pub is_met : Option SafeMethod → Bool
-is_met None = false
-is_met (Some method) = is_method Narrow method
+-- limits that can be met in this profile
+abbrev pub is_met : Profile → Option SafeMethod → Bool
+is_met profile None = false
+is_met profile (Some method) = is_method profile method
 
 abbrev pub is_kind : Kind → List ℕ → Bool
 is_kind Links word = has_links (links_of word)
-is_kind Method word = is_met (method_of word)
+is_kind (Method profile) word = is_met profile (method_of word)
 is_kind CodeA word = is_point_code (code_of (codes "a=") word)
 is_kind CodeB word = is_point_code (code_of (codes "b=") word)
 is_kind Sio word = is_orders_sio (sio_of word)
+is_kind AProfile word = is_some (profile_of word)
 is_kind End word = is_some (end_of word)
 is_kind Link word = is_some (link_of word)
 is_kind Number word = is_some (number_of word)
 is_kind Octets word = is_some (some_octets word)
-is_kind AUnit word = is_some (unit_of word)
+is_kind (AUnit profile) word = is_some (unit_of profile word)
 
 -- What no word has in it.
 
@@ -82,23 +84,32 @@ wrong_digits word other =
     if list_all is_hex word then (if length word % 2 == 1 then OddDigits else other)
     else NotHexadecimal
 
--- a unit of 3 to 276 octets (Q.703 2.2, 2.3) is at fault in its length indicator
-abbrev pub wrong_length : List ℕ → Mistake
-wrong_length word =
+abbrev pub wrong_limits : Profile → Mistake
+wrong_limits Narrow = MethodLimits
+wrong_limits Wide = WideMethodLimits
+
+-- a unit of 3 to 276 octets (Q.703 2.2, 2.3), or of 4 to 276 in the wide profile, is at fault in its length indicator
+abbrev pub wrong_length : Profile → List ℕ → Mistake
+wrong_length Narrow word =
     if nat_lt (length word) 6 then UnitShort
     else (if nat_lt 552 (length word) then UnitLong else UnitLength)
+wrong_length Wide word =
+    if nat_lt (length word) 8 then WideUnitShort
+    else (if nat_lt 552 (length word) then UnitLong else WideUnitLength)
 
 abbrev pub wrong_word : Kind → List ℕ → Mistake
 wrong_word Links word = wrong_value (codes "links=") LinksName LinksRange word
-wrong_word Method word = wrong_value (codes "method=cyclic:") MethodName MethodLimits word
+wrong_word (Method profile) word =
+    wrong_value (codes "method=cyclic:") MethodName (wrong_limits profile) word
 wrong_word CodeA word = wrong_value (codes "a=") CodeAName CodeRange word
 wrong_word CodeB word = wrong_value (codes "b=") CodeBName CodeRange word
 wrong_word Sio word = wrong_sio word
+wrong_word AProfile word = wrong_value (codes "profile=") Surplus ProfileValue word
 wrong_word End word = NoEnd
 wrong_word Link word = NoLink
 wrong_word Number word = NoNumber
 wrong_word Octets word = wrong_digits word OddDigits
-wrong_word AUnit word = wrong_digits word (wrong_length word)
+wrong_word (AUnit profile) word = wrong_digits word (wrong_length profile word)
 
 abbrev pub wrong : Kind → List ℕ → Mistake
 wrong kind word = unwrap_or (odd_in word) (wrong_word kind word)

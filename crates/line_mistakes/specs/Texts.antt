@@ -1,7 +1,7 @@
 -- THE TEXT of each mistake: what is wanted in its place.
 use Rattle.std.specs.Prelude.{ℕ, List, codes}
 use Rattle.line_mistakes.specs.declared.mistake.Mistake.{Mistake}
-use Rattle.line_mistakes.specs.declared.mistake.Mistake.TheVariants.{NotSet, OpeningShort, LinksName, LinksRange, MethodName, MethodLimits, CodeAName, CodeBName, CodeRange, SioName, SioDigits, SioIndicator, Space, CarriageReturn, NotPrintable, Surplus, UnknownWord, SecondSet, TogetherWants, OfferWants, TakeWants, FindWants, OnLinkWants, LoseWants, HearWants, End, Link, Number, OddDigits, NotHexadecimal, UnitShort, UnitLong, UnitLength, NoSuchLink, NotSettled, NothingUnderWay, NoUnitThere}
+use Rattle.line_mistakes.specs.declared.mistake.Mistake.TheVariants.{NotSet, OpeningShort, LinksName, LinksRange, MethodName, MethodLimits, WideMethodLimits, CodeAName, CodeBName, CodeRange, SioName, SioDigits, SioIndicator, ProfileValue, Space, CarriageReturn, NotPrintable, Surplus, UnknownWord, SecondSet, TogetherWants, OfferWants, TakeWants, FindWants, OnLinkWants, LoseWants, HearWants, End, Link, Number, OddDigits, NotHexadecimal, UnitShort, WideUnitShort, UnitLong, UnitLength, WideUnitLength, NoSuchLink, NotSettled, NothingUnderWay, NoUnitThere}
 
 abbrev pub mistake_text : Mistake → List ℕ
 mistake_text NotSet = codes "the first line is set links=L method=W a=X b=Y sio=HH"
@@ -11,12 +11,15 @@ mistake_text LinksRange = codes "a set has 1 to 16 links, in decimal without lea
 mistake_text MethodName = codes "here stands method=basic or method=cyclic:N1:N2"
 mistake_text MethodLimits =
     codes "the limits of cyclic:N1:N2 are 1 to 127 messages and 1 to 34671 octets"
+mistake_text WideMethodLimits =
+    codes "the limits of cyclic:N1:N2 in a wide set are 1 to 4095 messages and 1 to 1113840 octets"
 mistake_text CodeAName = codes "here stands a=X, the point code of end a"
 mistake_text CodeBName = codes "here stands b=Y, the point code of end b"
 mistake_text CodeRange = codes "a point code is 0 to 16383, in decimal without leading zeros"
 mistake_text SioName = codes "here stands sio=HH, the SIO of the set's own orders"
 mistake_text SioDigits = codes "an SIO is two hexadecimal digits"
 mistake_text SioIndicator = codes "the second digit of the SIO, the service indicator, is 0"
+mistake_text ProfileValue = codes "a profile is narrow or wide"
 mistake_text Space = codes "one space stands between two words, and none before or behind them"
 mistake_text CarriageReturn = codes "a line ends in LF alone, and this word has a CR"
 mistake_text NotPrintable =
@@ -38,9 +41,12 @@ mistake_text OddDigits = codes "octets have two hexadecimal digits each, and one
 mistake_text NotHexadecimal =
     codes "octets have two hexadecimal digits each, and this is no such digit"
 mistake_text UnitShort = codes "a unit has 3 octets at least"
+mistake_text WideUnitShort = codes "a unit of a wide set has 4 octets at least"
 mistake_text UnitLong = codes "a unit has 276 octets at most"
 mistake_text UnitLength =
     codes "the length indicator, the unit's third octet, isn't that of what follows, without check octets"
+mistake_text WideUnitLength =
+    codes "the length indicator, the high six bits of a wide unit's fourth octet, isn't that of what follows, without check octets"
 mistake_text NoSuchLink = codes "the set has no link of this number; its links are counted from 0"
 mistake_text NotSettled =
     codes "a link comes up where it's settled at both ends, and this one isn't"

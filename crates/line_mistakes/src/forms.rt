@@ -1,10 +1,12 @@
 //! The forms of a script's lines: which words each wants.
 ghost use Rattle.std.specs.Prelude.{◌≡◌};
+ghost use Rattle.line_mistakes.specs.declared.forms.Form.TheVariants.{Hear};
 ghost use Rattle.line_mistakes.specs.Blaming.{form_of, kinds_of, is_on_link, wants, may_miss, opening_kinds};
 
 use super::mistake::Mistake;
 use super::words::Kind;
 use figures::is_word;
+use l2_units::Profile;
 
 /// What a line after the first is, by its first word.
 #[derive(Clone, Copy, Debug, PartialEq, Eq)]
@@ -61,9 +63,9 @@ fn wants_end_and_link(name: &[u8]) -> bool
         || is_word(name, b"backtimeout")
 }
 
-/// What each word behind the first has to be.
-pub(crate) fn kinds_of_form(form: Form) -> &'static [Kind]
-    ensures { result.now ≡ kinds_of form }
+/// What each word behind the first has to be, of a set of this profile.
+pub(crate) fn kinds_of_form(profile: Profile, form: Form) -> &'static [Kind]
+    ensures { result.now ≡ kinds_of profile form }
 {
     match form {
         Form::Together => &[Kind::Link],
@@ -71,8 +73,18 @@ pub(crate) fn kinds_of_form(form: Form) -> &'static [Kind]
         Form::Take => &[Kind::End],
         Form::Find => &[Kind::End, Kind::Number],
         Form::Lose => &[Kind::End, Kind::Link, Kind::Number],
-        Form::Hear => &[Kind::End, Kind::Link, Kind::Unit],
+        Form::Hear => kinds_of_hear(profile),
         Form::OnLink => &[Kind::End, Kind::Link],
+    }
+}
+
+/// The same of `hear END LINK HEX`.
+fn kinds_of_hear(profile: Profile) -> &'static [Kind]
+    ensures { result.now ≡ kinds_of profile Hear }
+{
+    match profile {
+        Profile::Narrow => &[Kind::End, Kind::Link, Kind::Unit(Profile::Narrow)],
+        Profile::Wide => &[Kind::End, Kind::Link, Kind::Unit(Profile::Wide)],
     }
 }
 
@@ -91,25 +103,27 @@ pub(crate) fn mistake_if_short(form: Form) -> Mistake
     }
 }
 
-/// Whether a line may end before a word of this kind: `offer` does before its octets, where the body is empty.
+/// Whether a line may end before a word of this kind: `offer` does before its octets, where the body is empty, and
+/// `set` before the profile.
 pub(crate) fn may_end_before(kind: Kind) -> bool
     ensures { result ≡ may_miss kind }
 {
     match kind {
-        Kind::Octets => true,
+        Kind::Octets | Kind::Profile => true,
         _ => false,
     }
 }
 
-/// What each word of the first line behind `set` has to be.
-pub(crate) fn kinds_of_opening() -> &'static [Kind]
-    ensures { result.now ≡ opening_kinds }
+/// What each word of the first line behind `set` has to be, where it tells this profile.
+pub(crate) fn kinds_of_opening(profile: Profile) -> [Kind; 6]
+    ensures { result ≡ opening_kinds profile }
 {
-    &[
+    [
         Kind::Links,
-        Kind::Method,
+        Kind::Method(profile),
         Kind::CodeA,
         Kind::CodeB,
         Kind::Sio,
+        Kind::Profile,
     ]
 }

@@ -38,7 +38,7 @@ fn find_reason(links: u8, step: &Step) -> (u8, Mistake)
 }
 
 /// The words from this one on, from 0; none where there are fewer.
-fn skip_words(place: u8, text: &[u8]) -> &[u8]
+pub(crate) fn skip_words(place: u8, text: &[u8]) -> &[u8]
     ensures { result.now ≡ words_from place text.now }
 {
     let mut words = text;

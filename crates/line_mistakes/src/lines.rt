@@ -1,13 +1,15 @@
 //! Which word of a line is at fault.
 ghost use Rattle.std.specs.Prelude.{◌≡◌, ◌≤◌, IfOk, OnSome, length};
 ghost use Rattle.std.specs.Option.{option_copied, ForSome};
-ghost use Rattle.line_mistakes.specs.Blaming.{blame_of, blamed_opening, blamed_step, misread, missing, surplus, not_set, wrong_name};
+ghost use Rattle.line_mistakes.specs.Blaming.{blame_of, blamed_opening, blamed_step, misread, missing, surplus, not_set, told_profile, wrong_name};
 
 use super::forms::{find_form, kinds_of_form, kinds_of_opening, may_end_before, mistake_if_short};
+use super::impossible::skip_words;
 use super::mistake::Mistake;
 use super::words::{Kind, judge_word, odd};
 use figures::is_word;
-use play_script::cut;
+use l2_units::Profile;
+use play_script::{cut, read_profile};
 use std::alloc::{AllocError, Global};
 
 /// The word at fault of a line, and its mistake.
@@ -35,15 +37,26 @@ pub fn blame_opening(alloc: Global, text: &[u8]) -> Result<Option<Blame>, AllocE
         alloc,
         text.len(),
         Mistake::OpeningShort,
-        kinds_of_opening(),
+        &kinds_of_opening(find_profile(text)),
         words,
     )
 }
 
-/// What is wrong with a line after the first, if anything: nothing exactly where `play_script::read_step` reads it.
-/// It fails only where memory is wanted.
-pub fn blame_step(alloc: Global, text: &[u8]) -> Result<Option<Blame>, AllocError>
-    ensures { IfOk result (λ blame. blame ≡ blamed_step text.now) }
+/// The profile that the seventh word of a first line tells; the narrow one where it tells none.
+fn find_profile(text: &[u8]) -> Profile
+    ensures { result ≡ told_profile text.now }
+{
+    let (word, _) = cut(skip_words(6, text));
+    match read_profile(word) {
+        Some(profile) => profile,
+        None => Profile::Narrow,
+    }
+}
+
+/// What is wrong with a line after the first, where sets are of this profile, if anything: nothing exactly where
+/// `play_script::read_step` reads it. It fails only where memory is wanted.
+pub fn blame_step(alloc: Global, profile: Profile, text: &[u8]) -> Result<Option<Blame>, AllocError>
+    ensures { IfOk result (λ blame. blame ≡ blamed_step profile text.now) }
 {
     let (name, words) = cut(text);
     match find_form(name) {
@@ -51,7 +64,7 @@ pub fn blame_step(alloc: Global, text: &[u8]) -> Result<Option<Blame>, AllocErro
             alloc,
             text.len(),
             mistake_if_short(form),
-            kinds_of_form(form),
+            kinds_of_form(profile, form),
             words,
         ),
         None => Ok(Some(Blame {

@@ -17,6 +17,8 @@ pub enum Mistake {
     MethodName,
     /// A limit of the cyclic method out of its range.
     MethodLimits,
+    /// So too in the wide profile, which has greater ones.
+    WideMethodLimits,
     /// No word `a=X` in its place.
     CodeAName,
     /// No word `b=Y` in its place.
@@ -29,6 +31,8 @@ pub enum Mistake {
     SioDigits,
     /// An SIO whose service indicator isn't 0.
     SioIndicator,
+    /// A profile that is neither.
+    ProfileValue,
     /// An empty word: two spaces, or one before or behind the line.
     Space,
     /// A CR in a word.
@@ -67,10 +71,14 @@ pub enum Mistake {
     NotHexadecimal,
     /// A unit of fewer than 3 octets.
     UnitShort,
+    /// A unit of the wide profile of fewer than 4 octets.
+    WideUnitShort,
     /// A unit of more than 276 octets.
     UnitLong,
     /// A unit whose length indicator is wrong.
     UnitLength,
+    /// A unit of the wide profile whose length indicator is wrong.
+    WideUnitLength,
     /// A link that the set hasn't.
     NoSuchLink,
     /// A link that isn't settled at both ends is to come up.
@@ -95,12 +103,15 @@ impl Mistake {
             Mistake::MethodName => "here stands method=basic or method=cyclic:N1:N2",
             Mistake::MethodLimits =>
                 "the limits of cyclic:N1:N2 are 1 to 127 messages and 1 to 34671 octets",
+            Mistake::WideMethodLimits =>
+                "the limits of cyclic:N1:N2 in a wide set are 1 to 4095 messages and 1 to 1113840 octets",
             Mistake::CodeAName => "here stands a=X, the point code of end a",
             Mistake::CodeBName => "here stands b=Y, the point code of end b",
             Mistake::CodeRange => "a point code is 0 to 16383, in decimal without leading zeros",
             Mistake::SioName => "here stands sio=HH, the SIO of the set's own orders",
             Mistake::SioDigits => "an SIO is two hexadecimal digits",
             Mistake::SioIndicator => "the second digit of the SIO, the service indicator, is 0",
+            Mistake::ProfileValue => "a profile is narrow or wide",
             Mistake::Space => "one space stands between two words, and none before or behind them",
             Mistake::CarriageReturn => "a line ends in LF alone, and this word has a CR",
             Mistake::NotPrintable =>
@@ -124,9 +135,12 @@ impl Mistake {
             Mistake::NotHexadecimal =>
                 "octets have two hexadecimal digits each, and this is no such digit",
             Mistake::UnitShort => "a unit has 3 octets at least",
+            Mistake::WideUnitShort => "a unit of a wide set has 4 octets at least",
             Mistake::UnitLong => "a unit has 276 octets at most",
             Mistake::UnitLength =>
                 "the length indicator, the unit's third octet, isn't that of what follows, without check octets",
+            Mistake::WideUnitLength =>
+                "the length indicator, the high six bits of a wide unit's fourth octet, isn't that of what follows, without check octets",
             Mistake::NoSuchLink =>
                 "the set has no link of this number; its links are counted from 0",
             Mistake::NotSettled =>

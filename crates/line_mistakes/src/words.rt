@@ -1,13 +1,15 @@
 //! What a word of a line has to be, and what is wrong with one that isn't.
-ghost use Rattle.std.specs.Prelude.{◌≡◌, IfOk, codes};
-ghost use Rattle.line_mistakes.specs.Mistakes.{mistake_in, is_kind, wrong, odd_in, wrong_word, wrong_value, wrong_digits, wrong_sio, wrong_length, has_links, is_point_code, is_orders_sio, is_met, is_plain, is_hex, is_cr};
+ghost use Rattle.std.specs.Prelude.{◌≡◌, IfOk, codes, length, nat_lt};
+ghost use Rattle.line_mistakes.specs.Mistakes.{mistake_in, is_kind, wrong, odd_in, wrong_word, wrong_value, wrong_digits, wrong_sio, wrong_limits, wrong_length, has_links, is_point_code, is_orders_sio, is_met, is_plain, is_hex, is_cr};
 ghost use Rattle.std.specs.List.{list_any, list_all};
+ghost use Rattle.l2_units.specs.declared.profile.Profile.TheVariants.{Narrow, Wide};
 
 use super::mistake::Mistake;
 use figures::read_number;
+use l2_units::Profile;
 use play_script::{
-    read_code, read_end, read_link, read_links, read_method, read_sio, read_some_octets, read_unit,
-    value_in_word,
+    read_code, read_end, read_link, read_links, read_method, read_profile, read_sio,
+    read_some_octets, read_unit, value_in_word,
 };
 use set_events::{Method, SetConfig};
 use std::alloc::{AllocError, Global};
@@ -17,14 +19,16 @@ use std::alloc::{AllocError, Global};
 pub enum Kind {
     /// `links=L`, 1 to 16 links.
     Links,
-    /// `method=basic` or `method=cyclic:N1:N2`, with limits in their ranges.
-    Method,
+    /// `method=basic` or `method=cyclic:N1:N2`, with limits in their ranges in this profile.
+    Method(Profile),
     /// `a=X`, a point code of 14 bits.
     CodeA,
     /// `b=Y`, so too.
     CodeB,
     /// `sio=HH`, with service indicator 0.
     Sio,
+    /// `profile=narrow` or `profile=wide`.
+    Profile,
     /// `a` or `b`.
     End,
     /// The number of a link.
@@ -33,8 +37,8 @@ pub enum Kind {
     Number,
     /// Octets in hexadecimal.
     Octets,
-    /// The octets of a unit.
-    Unit,
+    /// The octets of a unit of this profile.
+    Unit(Profile),
 }
 
 /// What is wrong with a word that has to be of this kind, if anything; it fails only where memory is wanted.
@@ -58,15 +62,16 @@ fn is_of_kind(alloc: Global, kind: Kind, word: &[u8]) -> Result<bool, AllocError
 {
     match kind {
         Kind::Links => Ok(are_links(read_links(word))),
-        Kind::Method => Ok(can_be_met(read_method(word))),
+        Kind::Method(profile) => Ok(can_be_met(profile, read_method(word))),
         Kind::CodeA => Ok(is_code(read_code(b"a=", word))),
         Kind::CodeB => Ok(is_code(read_code(b"b=", word))),
         Kind::Sio => Ok(is_management(read_sio(word))),
+        Kind::Profile => Ok(read_profile(word).is_some()),
         Kind::End => Ok(read_end(word).is_some()),
         Kind::Link => Ok(read_link(word).is_some()),
         Kind::Number => Ok(read_number(word).is_some()),
         Kind::Octets => Ok(read_some_octets(alloc, word)?.is_some()),
-        Kind::Unit => Ok(read_unit(alloc, word)?.is_some()),
+        Kind::Unit(profile) => Ok(read_unit(alloc, profile, word)?.is_some()),
     }
 }
 
@@ -80,12 +85,12 @@ fn are_links(number: Option<u8>) -> bool
     }
 }
 
-/// Whether the limits of a method can be met.
-fn can_be_met(method: Option<Method>) -> bool
-    ensures { result ≡ is_met method }
+/// Whether the limits of a method can be met in this profile.
+fn can_be_met(profile: Profile, method: Option<Method>) -> bool
+    ensures { result ≡ is_met profile method }
 {
     match method {
-        Some(method) => SetConfig::new(0, 1, 0, 0, 0, method).is_ok(),
+        Some(method) => SetConfig::of(profile, 0, 1, 0, 0, 0, method).is_ok(),
         None => false,
     }
 }
@@ -126,20 +131,21 @@ fn judge_plain_word(kind: Kind, word: &[u8]) -> Mistake
 {
     match kind {
         Kind::Links => judge_value(b"links=", word, Mistake::LinksName, Mistake::LinksRange),
-        Kind::Method => judge_value(
+        Kind::Method(profile) => judge_value(
             b"method=cyclic:",
             word,
             Mistake::MethodName,
-            Mistake::MethodLimits,
+            mistake_in_limits(profile),
         ),
         Kind::CodeA => judge_value(b"a=", word, Mistake::CodeAName, Mistake::CodeRange),
         Kind::CodeB => judge_value(b"b=", word, Mistake::CodeBName, Mistake::CodeRange),
         Kind::Sio => judge_sio(word),
+        Kind::Profile => { judge_value(b"profile=", word, Mistake::Surplus, Mistake::ProfileValue) }
         Kind::End => Mistake::End,
         Kind::Link => Mistake::Link,
         Kind::Number => Mistake::Number,
         Kind::Octets => judge_octets(word, Mistake::OddDigits),
-        Kind::Unit => judge_unit(word),
+        Kind::Unit(profile) => judge_unit(profile, word),
     }
 }
 
@@ -215,22 +221,55 @@ fn judge_octets(word: &[u8], other: Mistake) -> Mistake
 }
 
 /// What is wrong with the octets of a unit (Q.703 2.2, 2.3).
-fn judge_unit(word: &[u8]) -> Mistake
-    ensures { result ≡ wrong_digits word.now (wrong_length word.now) }
+fn judge_unit(profile: Profile, word: &[u8]) -> Mistake
+    ensures { result ≡ wrong_digits word.now (wrong_length profile word.now) }
 {
-    judge_octets(word, judge_length(word))
+    match profile {
+        Profile::Narrow => judge_octets(word, judge_length(word)),
+        Profile::Wide => judge_octets(word, judge_wide_length(word)),
+    }
 }
 
 /// What is wrong with a unit whose digits are octets.
 fn judge_length(word: &[u8]) -> Mistake
-    ensures { result ≡ wrong_length word.now }
+    ensures { result ≡ wrong_length Narrow word.now }
 {
     if word.len() < 6 {
         Mistake::UnitShort
-    } else if word.len() > 552 {
+    } else if is_too_long(word) {
         Mistake::UnitLong
     } else {
         Mistake::UnitLength
+    }
+}
+
+/// The same in the wide profile.
+fn judge_wide_length(word: &[u8]) -> Mistake
+    ensures { result ≡ wrong_length Wide word.now }
+{
+    if word.len() < 8 {
+        Mistake::WideUnitShort
+    } else if is_too_long(word) {
+        Mistake::UnitLong
+    } else {
+        Mistake::WideUnitLength
+    }
+}
+
+/// Whether these are the digits of more than 276 octets.
+fn is_too_long(word: &[u8]) -> bool
+    ensures { result ≡ nat_lt 552 (length word.now) }
+{
+    word.len() > 552
+}
+
+/// The mistake of limits out of their range in this profile.
+fn mistake_in_limits(profile: Profile) -> Mistake
+    ensures { result ≡ wrong_limits profile }
+{
+    match profile {
+        Profile::Narrow => Mistake::MethodLimits,
+        Profile::Wide => Mistake::WideMethodLimits,
     }
 }
 

@@ -2,6 +2,7 @@
 //!
 //! To let a world go is dear to prove, and dearer in a function that branches: only `ends` and `has_nothing_to_lose` do so,
 //! in a straight line. Others borrow one, hand it on, or have plain values.
+use l2_units::Profile;
 use pair_world::{End, PlayFault, Shown, Step, World};
 use play_script::read_step;
 use set_events::{Event, Fate, Method, SetConfig};
@@ -15,7 +16,7 @@ fn end_of(links: u8, own: u16, far: u16) -> Option<SetConfig> {
 
 /// What this line asks for, if anything.
 fn read(alloc: Global, line: &str) -> Option<Step> {
-    match read_step(alloc, line.as_bytes()) {
+    match read_step(alloc, Profile::Narrow, line.as_bytes()) {
         Ok(step) => step,
         Err(_) => None,
     }

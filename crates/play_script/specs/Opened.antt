@@ -1,25 +1,26 @@
 -- What the first line's reader gave, beside the definition.
 use Rattle.std.specs.Prelude.{◌≡◌, ℕ, List, Some}
-use Rattle.l2_units.specs.declared.profile.Profile.TheVariants.{Narrow}
+use Rattle.std.specs.Option.{option_copied}
 use Rattle.set_events.specs.declared.config.SetConfig.{SetConfig}
-use Rattle.play_script.specs.declared.opening.SixWords.{SixWords as Words}
+use Rattle.play_script.specs.declared.opening.FoundWords.{FoundWords}
 use Rattle.play_script.specs.declared.script.Opening.{Opening}
 use Rattle.play_script.specs.declared.script.Values.{Values}
-use Rattle.play_script.specs.Script.{SixWords, fitting, first_line}
+use Rattle.play_script.specs.Script.{OpeningWords, fitting, first_line}
 
-abbrev pub six_of : Words → SixWords
-six_of w = record {
+abbrev pub words_of : FoundWords → OpeningWords
+words_of w = record {
   kind = w.kind.now;
   links = w.links.now;
   method = w.method.now;
   code_a = w.code_a.now;
   code_b = w.code_b.now;
   sio = w.sio.now;
+  profile = option_copied w.profile;
 }
 
--- an end, set 0, of the narrow profile, with its own point code and the far end's
+-- an end, set 0, with its own point code and the far end's
 pub record IsEnd (values : Values) (own far : ℕ) (config : SetConfig) : Type 0 where
-  pub profile_is : config.profile ≡ Narrow
+  pub profile_is : config.profile ≡ values.profile
   pub set_is : config.set ≡ 0
   pub links_is : config.links ≡ values.links
   pub method_is : config.method ≡ values.method

@@ -5,7 +5,8 @@ use Rattle.std.specs.List.{position_or_len, before_first, after_first}
 use Rattle.std.specs.Str.{bytes_eq}
 use Rattle.l2_units.specs.declared.unit.Unit.{Unit as SignalUnit}
 use Rattle.l2_units.specs.Grammar.{unit_of as unit_of_octets}
-use Rattle.l2_units.specs.declared.profile.Profile.TheVariants.{Narrow}
+use Rattle.l2_units.specs.declared.profile.Profile.{Profile}
+use Rattle.l2_units.specs.declared.profile.Profile.TheVariants.{Narrow, Wide}
 use Rattle.set_events.specs.Config.{fault_of}
 use Rattle.set_events.specs.declared.event.Event.{Event}
 use Rattle.set_events.specs.declared.event.Event.TheVariants.{Offer, Take, Find, Down, DownBlind, NoAnswer, Restore, BackTimeout}
@@ -43,9 +44,9 @@ link_of word = option_map (λ number. if nat_lt number 256 then number else 255)
 abbrev pub some_octets : List ℕ → Option (List ℕ)
 some_octets word = if length word == 0 then None else octets_of word
 
--- the unit that a word gives: its octets, without check octets, of the narrow profile
-abbrev pub unit_of : List ℕ → Option SignalUnit
-unit_of word = option_and_then (unit_of_octets Narrow) (some_octets word)
+-- the unit of a profile that a word gives: its octets, without check octets
+abbrev pub unit_of : Profile → List ℕ → Option SignalUnit
+unit_of profile word = option_and_then (unit_of_octets profile) (some_octets word)
 
 -- The steps, by the words behind the name, and behind the end where there is one.
 
@@ -77,9 +78,9 @@ lose end words =
     (link_of (first_word words))
 
 -- hear END LINK HEX
-abbrev pub hear : End → List ℕ → Option Step
-hear end words =
-    option_and_then (λ link. option_map (Inject end link) (option_and_then unit_of (other_words words)))
+abbrev pub hear : Profile → End → List ℕ → Option Step
+hear profile end words =
+    option_and_then (λ link. option_map (Inject end link) (option_and_then (unit_of profile) (other_words words)))
     (link_of (first_word words))
 
 -- down END LINK, blind END LINK, noanswer END LINK, restore END LINK, backtimeout END LINK
@@ -102,51 +103,53 @@ step_on name end link =
 abbrev pub on_link : List ℕ → End → List ℕ → Option Step
 on_link name end words = option_and_then (step_on name end) (link_of words)
 
-abbrev pub step_with : List ℕ → End → Option (List ℕ) → Option Step
-step_with name end None = None
-step_with name end (Some words) =
+abbrev pub step_with : Profile → List ℕ → End → Option (List ℕ) → Option Step
+step_with profile name end None = None
+step_with profile name end (Some words) =
     if bytes_eq name (codes "find") then find end words
     else (if bytes_eq name (codes "lose") then lose end words
-    else (if bytes_eq name (codes "hear") then hear end words
+    else (if bytes_eq name (codes "hear") then hear profile end words
     else on_link name end words))
 
-abbrev pub step_at : List ℕ → End → Option (List ℕ) → Option Step
-step_at name end words =
+abbrev pub step_at : Profile → List ℕ → End → Option (List ℕ) → Option Step
+step_at profile name end words =
     if bytes_eq name (codes "offer") then offer end words
     else (if bytes_eq name (codes "take") then take_message end words
-    else step_with name end words)
+    else step_with profile name end words)
 
-abbrev pub step_by : List ℕ → Option (List ℕ) → Option Step
-step_by name None = None
-step_by name (Some words) =
+abbrev pub step_by : Profile → List ℕ → Option (List ℕ) → Option Step
+step_by profile name None = None
+step_by profile name (Some words) =
     if bytes_eq name (codes "together") then together words
-    else option_and_then (λ end. step_at name end (other_words words)) (end_of (first_word words))
+    else option_and_then (λ end. step_at profile name end (other_words words)) (end_of (first_word words))
 
--- the step that a line after the first asks for; None: it's unreadable
-abbrev pub step_of : List ℕ → Option Step
-step_of text = step_by (first_word text) (other_words text)
+-- the step that a line after the first asks for, where a unit has the form of this profile; None: it's unreadable
+abbrev pub step_of : Profile → List ℕ → Option Step
+step_of profile text = step_by profile (first_word text) (other_words text)
 
--- The first line: set links=L method=W a=X b=Y sio=HH.
+-- The first line: set links=L method=W a=X b=Y sio=HH, behind which profile=narrow or profile=wide may stand.
 
--- six words; the sixth may hold spaces
-pub record SixWords : Type 0 where
+-- six words, and what stands behind the sixth, if anything does
+pub record OpeningWords : Type 0 where
   pub kind : List ℕ
   pub links : List ℕ
   pub method : List ℕ
   pub code_a : List ℕ
   pub code_b : List ℕ
   pub sio : List ℕ
+  pub profile : Option (List ℕ)
 
-abbrev pub six_words : List ℕ → Option SixWords
-six_words text =
-    option_and_then (λ links. option_and_then (λ method. option_and_then (λ a. option_and_then (λ b. option_map (λ sio.
+abbrev pub opening_words : List ℕ → Option OpeningWords
+opening_words text =
+    option_and_then (λ links. option_and_then (λ method. option_and_then (λ a. option_and_then (λ b. option_map (λ last.
     record {
       kind = first_word text;
       links = first_word links;
       method = first_word method;
       code_a = first_word a;
       code_b = first_word b;
-      sio = sio;
+      sio = first_word last;
+      profile = other_words last;
     })
     (other_words b)) (other_words a)) (other_words method)) (other_words links)) (other_words text)
 
@@ -168,7 +171,7 @@ is_colon c = c == 58
 
 -- the limits of the cyclic method, N1:N2
 abbrev pub n1_of : List ℕ → Option ℕ
-n1_of word = number_below (2 ^ 8) (before_first is_colon word)
+n1_of word = number_below (2 ^ 16) (before_first is_colon word)
 
 abbrev pub n2_of : List ℕ → Option ℕ
 n2_of word = number_below (2 ^ 32) (after_first is_colon word)
@@ -185,17 +188,29 @@ method_of word =
     if bytes_eq word (codes "method=basic") then Some Basic
     else option_and_then limits_of (value_in (codes "method=cyclic:") word)
 
-abbrev pub values_of : SixWords → Option Values
+-- profile=narrow or profile=wide; where no word stands it's the narrow one
+abbrev pub profile_of : List ℕ → Option Profile
+profile_of word =
+    if bytes_eq word (codes "profile=narrow") then Some Narrow
+    else (if bytes_eq word (codes "profile=wide") then Some Wide else None)
+
+abbrev pub profile_or_narrow : Option (List ℕ) → Option Profile
+profile_or_narrow None = Some Narrow
+profile_or_narrow (Some word) = profile_of word
+
+abbrev pub values_of : OpeningWords → Option Values
 values_of w =
     if bytes_eq w.kind (codes "set")
     then option_and_then (λ links. option_and_then (λ method. option_and_then (λ a. option_and_then (λ b.
-    option_map (λ sio. record { links = links; method = method; code_a = a; code_b = b; sio = sio }) (sio_of w.sio))
-    (code_of (codes "b=") w.code_b)) (code_of (codes "a=") w.code_a)) (method_of w.method)) (links_of w.links)
+    option_and_then (λ sio. option_map (λ profile.
+    record { links = links; method = method; code_a = a; code_b = b; sio = sio; profile = profile })
+    (profile_or_narrow w.profile)) (sio_of w.sio)) (code_of (codes "b=") w.code_b)) (code_of (codes "a=") w.code_a))
+    (method_of w.method)) (links_of w.links)
     else None
 
 -- an end with the first of these point codes can be made, whose far end has the other
 abbrev pub is_end_of : Values → ℕ → ℕ → Bool
-is_end_of v own far = is_none (fault_of Narrow v.links own far v.sio v.method)
+is_end_of v own far = is_none (fault_of v.profile v.links own far v.sio v.method)
 
 -- values of which both ends can be made
 abbrev pub fitting : Values → Option Values
@@ -204,4 +219,4 @@ fitting v =
 
 -- what the first line says; None: it's unreadable
 abbrev pub first_line : List ℕ → Option Values
-first_line text = option_and_then (λ w. option_and_then fitting (values_of w)) (six_words text)
+first_line text = option_and_then (λ w. option_and_then fitting (values_of w)) (opening_words text)

@@ -2,19 +2,21 @@
 ghost use Rattle.std.specs.Prelude.{◌≡◌, ◌<◌, false, IfOk, Some, codes, length, position};
 ghost use Rattle.std.specs.Option.{option_map, option_copied, ForSome};
 ghost use Rattle.std.specs.Str.{bytes_eq};
+ghost use Rattle.l2_units.specs.declared.profile.Profile.{Profile};
+ghost use Rattle.l2_units.specs.Grammar.{unit_of as unit_of_octets};
 ghost use Rattle.play_script.specs.Script.{is_space, first_word, other_words, end_of, link_of, some_octets, step_of, step_at, step_with, together, offer, body_of, take_message, find, lose, hear, unit_of, on_link, link_event};
 
 use figures::{is_word, read_number, read_octets};
-use l2_units::{Unit, read};
+use l2_units::{Profile, Unit, read, read_wide};
 use set_events::{Body, Event};
 use std::alloc::{AllocError, Global};
 use world_steps::{End, Step};
 
 /// The step that a line after the first asks for; `None`: it's unreadable.
 ///
-/// A link's number over 255 is read as 255, since no world has either link.
-pub fn read_step(alloc: Global, text: &[u8]) -> Result<Option<Step>, AllocError>
-    ensures { IfOk result (λ step. step ≡ step_of text.now) }
+/// A unit has the form of this profile. A link's number over 255 is read as 255, since no world has either link.
+pub fn read_step(alloc: Global, profile: Profile, text: &[u8]) -> Result<Option<Step>, AllocError>
+    ensures { IfOk result (λ step. step ≡ step_of profile text.now) }
 {
     let (name, words) = cut(text);
     let Some(words) = words else {
@@ -25,7 +27,7 @@ pub fn read_step(alloc: Global, text: &[u8]) -> Result<Option<Step>, AllocError>
     }
     let (word, words) = cut(words);
     match read_end(word) {
-        Some(end) => read_step_at(alloc, name, end, words),
+        Some(end) => read_step_at(alloc, profile, name, end, words),
         None => Ok(None),
     }
 }
@@ -95,11 +97,12 @@ fn read_together(words: &[u8]) -> Option<Step>
 /// The step of this name at an end, from the words behind the end.
 fn read_step_at(
     alloc: Global,
+    profile: Profile,
     name: &[u8],
     end: End,
     words: Option<&[u8]>,
 ) -> Result<Option<Step>, AllocError>
-    ensures { IfOk result (λ step. step ≡ step_at name.now end (option_copied words.entry)) }
+    ensures { IfOk result (λ step. step ≡ step_at profile name.now end (option_copied words.entry)) }
 {
     if is_word(name, b"offer") {
         return read_offer(alloc, end, words);
@@ -108,7 +111,7 @@ fn read_step_at(
         return Ok(read_take(end, words));
     }
     match words {
-        Some(words) if is_word(name, b"hear") => read_hear(alloc, end, words),
+        Some(words) if is_word(name, b"hear") => read_hear(alloc, profile, end, words),
         Some(words) => Ok(read_plain_step(name, end, words)),
         None => Ok(None),
     }
@@ -117,7 +120,7 @@ fn read_step_at(
 /// The step of a name, but for `hear`, at an end behind which these words stand. It takes no memory.
 fn read_plain_step(name: &[u8], end: End, words: &[u8]) -> Option<Step>
     requires { bytes_eq name.now (codes "hear") ≡ false }
-    ensures { result ≡ step_with name.now end (Some words.now) }
+    ensures { (profile : Profile) → result ≡ step_with profile name.now end (Some words.now) }
 {
     if is_word(name, b"find") {
         read_find(end, words)
@@ -189,30 +192,43 @@ fn read_lose(end: End, words: &[u8]) -> Option<Step>
 }
 
 /// `hear END LINK HEX`
-fn read_hear(alloc: Global, end: End, words: &[u8]) -> Result<Option<Step>, AllocError>
-    ensures { IfOk result (λ step. step ≡ hear end words.now) }
+fn read_hear(
+    alloc: Global,
+    profile: Profile,
+    end: End,
+    words: &[u8],
+) -> Result<Option<Step>, AllocError>
+    ensures { IfOk result (λ step. step ≡ hear profile end words.now) }
 {
     let (word, words) = cut(words);
     let (Some(link), Some(word)) = (read_link(word), words) else {
         return Ok(None);
     };
-    match read_unit(alloc, word)? {
+    match read_unit(alloc, profile, word)? {
         Some(unit) => Ok(Some(Step::Inject { end, link, unit })),
         None => Ok(None),
     }
 }
 
-/// The unit that a word gives: its octets, without check octets.
-pub fn read_unit(alloc: Global, word: &[u8]) -> Result<Option<Unit>, AllocError>
-    ensures { IfOk result (λ unit. unit ≡ unit_of word.now) }
+/// The unit of this profile that a word gives: its octets, without check octets.
+pub fn read_unit(alloc: Global, profile: Profile, word: &[u8]) -> Result<Option<Unit>, AllocError>
+    ensures { IfOk result (λ unit. unit ≡ unit_of profile word.now) }
 {
     let Some(octets) = read_some_octets(alloc, word)? else {
         return Ok(None);
     };
-    match read(&octets) {
-        Ok(unit) => Ok(Some(unit)),
-        Err(_) => Ok(None),
-    }
+    Ok(unit_in(profile, &octets))
+}
+
+/// The unit of this profile that octets, without check octets, stand for, if any.
+pub fn unit_in(profile: Profile, octets: &[u8]) -> Option<Unit>
+    ensures { result ≡ unit_of_octets profile octets.now }
+{
+    let unit = match profile {
+        Profile::Narrow => read(octets),
+        Profile::Wide => read_wide(octets),
+    };
+    unit.ok()
 }
 
 /// `emit END LINK`, `arrive END LINK`, and the events that a word tells of a link

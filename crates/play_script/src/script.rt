@@ -1,5 +1,6 @@
 //! What the first line of a script says.
 
+use l2_units::Profile;
 use set_events::{Method, SetConfig};
 
 /// The values of the first line, each in the range of its type.
@@ -15,6 +16,8 @@ pub struct Values {
     pub code_b: u16,
     /// The SIO of both ends' orders.
     pub sio: u8,
+    /// How many numbers the messages of a link have.
+    pub profile: Profile,
 }
 
 /// The configurations of both ends.

@@ -5,7 +5,7 @@ use Rattle.pair_model.specs.World.{World, counts_at}
 use Rattle.answer_texts.specs.Texts.{shown_text, end_text}
 use Rattle.printing.specs.Printing.{Printed}
 use Rattle.script_text.specs.declared.fault.ScriptFault.{ScriptFault}
-use Rattle.script_text.specs.Scripts.{Told, IsScriptText}
+use Rattle.script_text.specs.Scripts.{Told, profile_of, IsScriptText}
 use Rattle.script_explain.specs.Explaining.{Explained, IsExplainedText}
 
 -- how the ends stand when the script has ended, a first
@@ -20,7 +20,7 @@ at_the_end (Some w) = ends_text w
 abbrev pub play_told : Told
 play_told = record {
   opening = λ w. [];
-  step = λ n before step shown w. shown_text shown;
+  step = λ n before step shown w. shown_text (profile_of w) shown;
   at_the_end = at_the_end;
 }
 

@@ -4,7 +4,7 @@ ghost use Rattle.play_text.specs.PlayText.{ends_text};
 
 use answer_texts::{push_shown, write_end};
 use pair_world::{End, World};
-use script_text::Account;
+use script_text::{Account, world_profile};
 use std::alloc::{AllocError, Global};
 use world_steps::{Shown, Step};
 
@@ -32,10 +32,10 @@ impl Account for Answers {
         _note: (),
         _step: &Step,
         shown: &Shown,
-        _world: &World,
+        world: &World,
         out: &mut Vec<u8>,
     ) -> Result<(), AllocError> {
-        push_shown(out, shown)
+        push_shown(out, world_profile(world), shown)
     }
 
     fn tell_end(alloc: Global, world: &Option<World>, out: &mut Vec<u8>) -> Result<(), AllocError> {

@@ -1,6 +1,11 @@
 -- THE CAPTURE of a script: a pcap file of link type 139 (MTP2 with a pseudo-header), which holds each unit that its
 -- ends send, with its direction and its link.
-use Rattle.std.specs.Prelude.{ℕ, List, [], ◌∷◌, ◌++◌, ◌*◌, ◌/◌, ◌%◌, length, Option, Some, None}
+use Rattle.std.specs.Prelude.{ℕ, Bool, List, [], ◌∷◌, ◌++◌, ◌+◌, ◌*◌, ◌/◌, ◌%◌, length, Option, Some, None, if◌then◌else◌}
+use Rattle.l2_units.specs.Grammar.{head_of, body_of}
+use Rattle.l2_units.specs.declared.unit.Header.{Header}
+use Rattle.l2_units.specs.declared.unit.Unit.{Unit as SignalUnit}
+use Rattle.l2_units.specs.declared.profile.Profile.{Profile}
+use Rattle.l2_units.specs.declared.profile.Profile.TheVariants.{Narrow, Wide}
 use Rattle.set_events.specs.declared.answer.Answer.{Answer}
 use Rattle.set_events.specs.declared.answer.Answer.TheVariants.{Accepted, Taken, Found, Sent, Heard, Done, Refused}
 use Rattle.world_steps.specs.declared.step.End.{End}
@@ -13,7 +18,7 @@ use Rattle.pair_model.specs.World.{World}
 use Rattle.answer_texts.specs.Texts.{unit_octets}
 use Rattle.printing.specs.Printing.{Printed}
 use Rattle.script_text.specs.declared.fault.ScriptFault.{ScriptFault}
-use Rattle.script_text.specs.Scripts.{Told, IsScriptText}
+use Rattle.script_text.specs.Scripts.{Told, profile_of, IsScriptText}
 
 -- the low 16 and the low 32 bits of a number, the low octet first
 abbrev pub two : ℕ → List ℕ
@@ -24,8 +29,13 @@ four n = (n % 256) ∷ (n / 256 % 256) ∷ (n / 65536 % 256) ∷ (n / 16777216 %
 
 -- the file begins with the magic number of time stamps in microseconds, version 2.4, no offset and no accuracy of the
 -- time stamps, the most octets that a record holds, and the link type
-abbrev pub file_head : List ℕ
-file_head = four 2712847316 ++ (two 2 ++ (two 4 ++ (four 0 ++ (four 0 ++ (four 280 ++ four 139)))))
+abbrev pub longest_record : Profile → ℕ
+longest_record Narrow = 280
+longest_record Wide = 282
+
+abbrev pub file_head : Profile → List ℕ
+file_head profile =
+    four 2712847316 ++ (two 2 ++ (two 4 ++ (four 0 ++ (four 0 ++ (four (longest_record profile) ++ four 139)))))
 
 -- a record: its time, a millisecond for each line, in seconds and microseconds; how many octets it holds, and how many
 -- there were; and the octets
@@ -39,44 +49,63 @@ abbrev pub direction : End → ℕ
 direction A = 1
 direction B = 0
 
--- the pseudo-header of link type 139: 1 for a unit that is sent and 0 for one that is received; 0, as Annex A of Q.703
--- isn't used; and the link's number in two octets, the high one, which no link here needs, first
-abbrev pub pseudo_header : End → ℕ → List ℕ
-pseudo_header end link = direction end ∷ 0 ∷ 0 ∷ link ∷ []
+-- whether a unit stands in the form of Annex A of Q.703, which has numbers of 12 bits
+abbrev pub annex_a : Profile → ℕ
+annex_a Narrow = 0
+annex_a Wide = 1
+
+-- the pseudo-header of link type 139: 1 for a unit that is sent and 0 for one that is received; whether Annex A of
+-- Q.703 is used; and the link's number in two octets, the high one, which no link here needs, first
+abbrev pub pseudo_header : Profile → End → ℕ → List ℕ
+pseudo_header profile end link = direction end ∷ annex_a profile ∷ 0 ∷ link ∷ []
+
+-- that form: the BSN in 12 bits, three spare ones and the BIB; the FSN and the FIB so too; the length of the body in 9
+-- bits and seven spare ones; the low octet of each pair first, spare bits 0; and the body (Q.703 Annex A)
+abbrev pub with_bit : ℕ → Bool → ℕ
+with_bit number indicator = number + (if indicator then 32768 else 0)
+
+abbrev pub annex_a_octets : Header → List ℕ → List ℕ
+annex_a_octets head body =
+    two (with_bit head.bsn head.bib) ++ (two (with_bit head.fsn head.fib) ++ (two (length body) ++ body))
+
+-- a unit as analysers read it: a wide one, whose own four octets of header none of them knows, is translated
+abbrev pub captured : Profile → SignalUnit → List ℕ
+captured Narrow unit = unit_octets Narrow unit
+captured Wide unit = annex_a_octets (head_of unit) (body_of unit)
 
 -- a sent unit has a record, without its check octets
-abbrev pub answer_record : ℕ → List ℕ → Answer → List ℕ
-answer_record n header (Sent unit) = record_of n (header ++ unit_octets unit)
-answer_record n header (Accepted number) = []
-answer_record n header (Taken body) = []
-answer_record n header (Found fate) = []
-answer_record n header (Heard report) = []
-answer_record n header Done = []
-answer_record n header (Refused why) = []
+abbrev pub answer_record : Profile → ℕ → List ℕ → Answer → List ℕ
+answer_record profile n header (Sent unit) = record_of n (header ++ captured profile unit)
+answer_record profile n header (Accepted number) = []
+answer_record profile n header (Taken body) = []
+answer_record profile n header (Found fate) = []
+answer_record profile n header (Heard report) = []
+answer_record profile n header Done = []
+answer_record profile n header (Refused why) = []
 
-abbrev pub shown_record : ℕ → List ℕ → Shown → List ℕ
-shown_record n header Up = []
-shown_record n header Lost = []
-shown_record n header (Answered answer) = answer_record n header answer
+abbrev pub shown_record : Profile → ℕ → List ℕ → Shown → List ℕ
+shown_record profile n header Up = []
+shown_record profile n header Lost = []
+shown_record profile n header (Answered answer) = answer_record profile n header answer
 
 -- a unit is sent by the step of an end on a link
-abbrev pub step_record : ℕ → Step → Shown → List ℕ
-step_record n (Emit end link) shown = shown_record n (pseudo_header end link) shown
-step_record n (Act end event) shown = []
-step_record n (Arrive end link) shown = []
-step_record n (Lose end link place) shown = []
-step_record n (Together link) shown = []
-step_record n (Inject end link unit) shown = []
+abbrev pub step_record : Profile → ℕ → Step → Shown → List ℕ
+step_record profile n (Emit end link) shown = shown_record profile n (pseudo_header profile end link) shown
+step_record profile n (Act end event) shown = []
+step_record profile n (Arrive end link) shown = []
+step_record profile n (Lose end link place) shown = []
+step_record profile n (Together link) shown = []
+step_record profile n (Inject end link unit) shown = []
 
--- a script that makes no world leaves the head alone
+-- a script that makes no world leaves the head alone, that of the narrow profile
 abbrev pub at_the_end : Option World → List ℕ
-at_the_end None = file_head
+at_the_end None = file_head Narrow
 at_the_end (Some w) = []
 
 abbrev pub capture_told : Told
 capture_told = record {
-  opening = λ w. file_head;
-  step = λ n before step shown w. step_record n step shown;
+  opening = λ w. file_head (profile_of w);
+  step = λ n before step shown w. step_record (profile_of w) n step shown;
   at_the_end = at_the_end;
 }
 

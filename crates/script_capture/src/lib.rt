@@ -5,10 +5,13 @@
 //! account of a script (`script_text`); `specs/Capture.antt` is the file: a function from the octets of the script.
 //!
 //! ```text
-//! octets   0                1             2, 3                        4 ..
-//!          1 sent by a,     0, as Annex A link, the high octet first  the unit, without check octets
-//!          0 sent by b      isn't used
+//! octets   0                1                 2, 3                        4 ..
+//!          1 sent by a,     1 for wide units, link, the high octet first  the unit, without check octets
+//!          0 sent by b      else 0
 //! ```
+//!
+//! A wide unit is translated into the form of Annex A of Q.703, whose header has six octets with numbers of 12 bits:
+//! analysers know no other form that has them.
 //!
 //! The units of both ends and of all links stand in one list, in the order in which they were sent. An analyser shows
 //! those of end a as sent and those of end b as received. The check octets aren't in it, which is what analysers take

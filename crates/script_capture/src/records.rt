@@ -1,18 +1,39 @@
 //! The parts of a pcap file.
 ghost use Rattle.std.specs.Prelude.{◌≡◌, ◌++◌, IfOk};
-ghost use Rattle.answer_texts.specs.Texts.{unit_octets};
-ghost use Rattle.script_capture.specs.Capture.{direction, four, pseudo_header, record_of};
+ghost use Rattle.l2_units.specs.declared.profile.Profile.TheVariants.{Wide};
+ghost use Rattle.script_capture.specs.Capture.{annex_a, annex_a_octets, captured, direction, file_head, four, pseudo_header, record_of, two, with_bit};
 
 use answer_texts::unit_octets;
-use l2_units::Unit;
+use l2_units::{Header, Profile, Unit};
 use std::alloc::{AllocError, Global};
 use world_steps::End;
 
 /// What the file begins with, in its low octet first: the magic number of microseconds, version 2.4, no offset and no
 /// accuracy of time stamps, the most octets of a record, the link type.
-pub(crate) const FILE_HEAD: [u8; 24] = [
+const FILE_HEAD: [u8; 24] = [
     0xD4, 0xC3, 0xB2, 0xA1, 2, 0, 4, 0, 0, 0, 0, 0, 0, 0, 0, 0, 0x18, 0x01, 0, 0, 139, 0, 0, 0,
 ];
+
+/// What the file begins with: a wide unit takes two octets more than a narrow one.
+pub(crate) fn head_of_file(profile: Profile) -> [u8; 24]
+    ensures { result ≡ file_head profile }
+{
+    let mut head = FILE_HEAD;
+    match profile {
+        Profile::Narrow => head,
+        Profile::Wide => {
+            head[16] += 2;
+            head
+        }
+    }
+}
+
+/// The low 16 bits of a number, the low octet first.
+fn split_in_two(number: u64) -> [u8; 2]
+    ensures { result ≡ two number }
+{
+    [(number % 256) as u8, (number / 256 % 256) as u8]
+}
 
 /// The low 32 bits of a number, the low octet first.
 fn split_in_four(number: u64) -> [u8; 4]
@@ -36,19 +57,69 @@ fn direction_of(end: End) -> u8
     }
 }
 
+/// 1 where units stand in the form of Annex A of Q.703, else 0.
+fn form_of(profile: Profile) -> u8
+    ensures { result ≡ annex_a profile }
+{
+    match profile {
+        Profile::Narrow => 0,
+        Profile::Wide => 1,
+    }
+}
+
+/// A unit as analysers read it: a wide one is translated into the form of Annex A of Q.703.
+fn write_captured(alloc: Global, profile: Profile, unit: &Unit) -> Result<Vec<u8>, AllocError>
+    ensures { IfOk result (λ octets. octets.items ≡ captured profile unit.now) }
+{
+    match profile {
+        Profile::Narrow => Vec::from_slice(alloc, unit_octets(profile, unit).as_slice()),
+        Profile::Wide => write_translated(alloc, unit),
+    }
+}
+
+/// A unit in the form of Annex A.
+fn write_translated(alloc: Global, unit: &Unit) -> Result<Vec<u8>, AllocError>
+    ensures { IfOk result (λ octets. octets.items ≡ captured Wide unit.now) }
+{
+    match unit {
+        Unit::Fisu { head } => write_annex_a(alloc, *head, &[]),
+        Unit::Lssu { head, status } => write_annex_a(alloc, *head, &[status.number()]),
+        Unit::Msu { head, body } => write_annex_a(alloc, *head, body.as_slice()),
+    }
+}
+
+/// A header and a body in the form of Annex A.
+fn write_annex_a(alloc: Global, head: Header, body: &[u8]) -> Result<Vec<u8>, AllocError>
+    ensures { IfOk result (λ octets. octets.items ≡ annex_a_octets head body.now) }
+{
+    let mut octets = Vec::from_slice(alloc, &split_in_two(add_bit(head.bsn, head.bib)))?;
+    octets.extend_from_slice(&split_in_two(add_bit(head.fsn, head.fib)))?;
+    octets.extend_from_slice(&split_in_two(body.len() as u64))?;
+    octets.extend_from_slice(body)?;
+    Ok(octets)
+}
+
+/// A sequence number with its indicator bit in the highest of 16 bits.
+fn add_bit(number: u16, indicator: bool) -> u64
+    ensures { result ≡ with_bit number indicator }
+{
+    u64::from(number) + if indicator { 0x8000 } else { 0 }
+}
+
 /// The record of a unit that the line of this number sent from the end on the link.
 pub(crate) fn write_record(
     alloc: Global,
+    profile: Profile,
     number: u64,
     end: End,
     link: u8,
     unit: &Unit,
 ) -> Result<Vec<u8>, AllocError>
     ensures { IfOk result (λ made. made.items
-        ≡ record_of number (pseudo_header end link ++ unit_octets unit.now)) }
+        ≡ record_of number (pseudo_header profile end link ++ captured profile unit.now)) }
 {
-    let mut octets = Vec::from_slice(alloc, &[direction_of(end), 0, 0, link])?;
-    octets.extend_from_slice(unit_octets(unit).as_slice())?;
+    let mut octets = Vec::from_slice(alloc, &[direction_of(end), form_of(profile), 0, link])?;
+    octets.extend_from_slice(&write_captured(alloc, profile, unit)?)?;
     write_stamped(alloc, number, &octets)
 }
 

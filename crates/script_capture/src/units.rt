@@ -3,10 +3,11 @@ ghost use Rattle.std.specs.Prelude.{◌≡◌, ◌≤◌, ◌^◌, ◌++◌, len
 ghost use Rattle.printing.specs.Printing.{Prints, FailsByDevices};
 ghost use Rattle.script_capture.specs.Capture.{IsCapture, pseudo_header, shown_record};
 
-use super::records::{FILE_HEAD, write_record};
+use super::records::{head_of_file, write_record};
+use l2_units::Profile;
 use pair_world::World;
 use printing::{Fault, Sink, Source};
-use script_text::{Account, ScriptFault, tell_script};
+use script_text::{Account, ScriptFault, tell_script, world_profile};
 use set_events::Answer;
 use std::alloc::{AllocError, Global};
 use world_steps::{End, Shown, Step};
@@ -25,8 +26,8 @@ impl Account for Units {
 
     fn note(_world: &World, _step: &Step) {}
 
-    fn tell_opening(_alloc: Global, _world: &World, out: &mut Vec<u8>) -> Result<(), AllocError> {
-        out.extend_from_slice(&FILE_HEAD)
+    fn tell_opening(_alloc: Global, world: &World, out: &mut Vec<u8>) -> Result<(), AllocError> {
+        out.extend_from_slice(&head_of_file(world_profile(world)))
     }
 
     fn tell_step(
@@ -35,11 +36,13 @@ impl Account for Units {
         _note: (),
         step: &Step,
         shown: &Shown,
-        _world: &World,
+        world: &World,
         out: &mut Vec<u8>,
     ) -> Result<(), AllocError> {
         match step {
-            Step::Emit { end, link } => tell_sent(alloc, number, *end, *link, shown, out),
+            Step::Emit { end, link } => {
+                tell_sent(alloc, world_profile(world), number, *end, *link, shown, out)
+            }
             _ => Ok(()),
         }
     }
@@ -51,7 +54,7 @@ impl Account for Units {
     ) -> Result<(), AllocError> {
         match world {
             Some(_) => Ok(()),
-            None => out.extend_from_slice(&FILE_HEAD),
+            None => out.extend_from_slice(&head_of_file(Profile::Narrow)),
         }
     }
 }
@@ -59,6 +62,7 @@ impl Account for Units {
 /// Tells of the unit that the end sent on the link, if one was sent.
 fn tell_sent(
     alloc: Global,
+    profile: Profile,
     number: u64,
     end: End,
     link: u8,
@@ -67,12 +71,12 @@ fn tell_sent(
 ) -> Result<(), AllocError>
     ensures { MatchResult result
         (λ done. out.new.items
-        ≡ out.old.items ++ shown_record number (pseudo_header end link) shown.now)
+        ≡ out.old.items ++ shown_record profile number (pseudo_header profile end link) shown.now)
         (λ want. out.new.items ≡ out.old.items) }
 {
     match shown {
         Shown::Answered(Answer::Sent { unit }) => {
-            out.extend_from_slice(&write_record(alloc, number, end, link, unit)?)
+            out.extend_from_slice(&write_record(alloc, profile, number, end, link, unit)?)
         }
         _ => Ok(()),
     }

@@ -3,6 +3,7 @@ use Rattle.std.proofs.Common.{refl, arith, ◌≡◌, subst, ℕ, Bool, true, fa
 use Rattle.std.specs.Option.{option_map, option_and_then}
 use Rattle.std.specs.Str.{bytes_eq}
 use Rattle.std.proofs.lemmas.Bool.Decides.{nat_tests}
+use Rattle.l2_units.specs.declared.profile.Profile.{Profile}
 use Rattle.l2_units.specs.declared.unit.Unit.{Unit as SignalUnit}
 use Rattle.link_lines.specs.Lines.{without}
 use Rattle.set_events.specs.declared.event.Event.{Event}
@@ -61,35 +62,35 @@ module _ (name : List ℕ) (end : End) where
   unfolding ArePlain IsPlain
   on_plain link = either (bytes_eq name (codes "emit")) (Some (Emit end link)) _ tt (either (bytes_eq name (codes "arrive")) (Some (Arrive end link)) _ tt (event_plain link))
 
-  with_plain : (words : Option (List ℕ)) → ArePlain (step_with name end words)
+  with_plain : (profile : Profile) (words : Option (List ℕ)) → ArePlain (step_with profile name end words)
   unfolding ArePlain IsPlain
-  with_plain None = tt
-  with_plain (Some words) =
+  with_plain profile None = tt
+  with_plain profile (Some words) =
       either (bytes_eq name (codes "find")) _ _ (mapped (λ number. Act end (Find number)) (λ number. refl) (number_of words))
       (either (bytes_eq name (codes "lose")) _ _ (chained _ (λ link. mapped (Lose end link) (λ place. tt) (option_and_then number_of (other_words words))) (link_of (first_word words)))
-      (either (bytes_eq name (codes "hear")) _ _ (chained _ (λ link. mapped (Inject end link) (λ unit. tt) (option_and_then unit_of (other_words words))) (link_of (first_word words)))
+      (either (bytes_eq name (codes "hear")) _ _ (chained _ (λ link. mapped (Inject end link) (λ unit. tt) (option_and_then (unit_of profile) (other_words words))) (link_of (first_word words)))
       (chained (step_on name end) on_plain (link_of words))))
 
-  at_plain : (words : Option (List ℕ)) → ArePlain (step_at name end words)
+  at_plain : (profile : Profile) (words : Option (List ℕ)) → ArePlain (step_at profile name end words)
   unfolding ArePlain IsPlain
-  at_plain words =
+  at_plain profile words =
       either (bytes_eq name (codes "offer")) _ _ (mapped (λ body. Act end (Offer body)) (λ body. refl) (body_of words))
-      (either (bytes_eq name (codes "take")) _ _ (take_plain words) (with_plain words))
+      (either (bytes_eq name (codes "take")) _ _ (take_plain words) (with_plain profile words))
     where
       take_plain : (words : Option (List ℕ)) → ArePlain (take_message end words)
       take_plain None = refl
       take_plain (Some more) = tt
 
-by_plain : (name : List ℕ) (words : Option (List ℕ)) → ArePlain (step_by name words)
+by_plain : (profile : Profile) (name : List ℕ) (words : Option (List ℕ)) → ArePlain (step_by profile name words)
 unfolding ArePlain IsPlain
-by_plain name None = tt
-by_plain name (Some words) =
+by_plain profile name None = tt
+by_plain profile name (Some words) =
     either (bytes_eq name (codes "together")) _ _ (mapped Together (λ link. tt) (link_of words))
-    (chained _ (λ end. at_plain name end (other_words words)) (end_of (first_word words)))
+    (chained _ (λ end. at_plain name end profile (other_words words)) (end_of (first_word words)))
 
-plain : (text : List ℕ) (step : Step) → step_of text ≡ Some step → IsPlain step
+plain : (profile : Profile) (text : List ℕ) (step : Step) → step_of profile text ≡ Some step → IsPlain step
 unfolding ArePlain
-plain text step e = subst ArePlain e (by_plain (first_word text) (other_words text))
+plain profile text step e = subst ArePlain e (by_plain profile (first_word text) (other_words text))
 
 -- EACH STEP of such a line
 module _ (w : World) where
@@ -166,4 +167,4 @@ module _ (w : World) where
 
 pub every_reason_is_so : EveryReasonIsSo
 unfolding carried_out
-every_reason_is_so w text step read e = done_so w step (plain text step read) e
+every_reason_is_so w profile text step read e = done_so w step (plain profile text step read) e

@@ -17,40 +17,41 @@ use Rattle.line_mistakes.specs.Blaming.{blamed_opening, blamed_step}
 use Rattle.line_mistakes.specs.Impossible.{blamed_impossible}
 use Rattle.script_text.specs.declared.fault.ScriptFault.{ScriptFault}
 use Rattle.script_text.specs.declared.fault.ScriptFault.TheVariants.{Text, Step, Exhausted}
-use Rattle.script_text.specs.Scripts.{Told, read_script}
+use Rattle.script_text.specs.Scripts.{Told, profile_of, read_script}
 use Rattle.line_mistakes.specs.Showing.{explanation}
+use Rattle.script_explain.specs.declared.explained.Made.{Made}
 
 -- a fault of a script, and the lines that explain it
 pub record Explained : Type 0 where
   pub fault : ScriptFault
   pub told : Option (List ℕ)
 
--- how many links there are, once the first line has made the world
-abbrev pub links_in : Option World → Option ℕ
-links_in world = option_map (λ w. link_count w.a.state) world
+-- how many links there are and of which profile, once the first line has made the world
+abbrev pub made_in : Option World → Option Made
+made_in world = option_map (λ w. record { links = link_count w.a.state; profile = profile_of w }) world
 
 -- the word at fault of a line that can't be read
-abbrev pub unread : Option ℕ → List ℕ → Option Blame
+abbrev pub unread : Option Made → List ℕ → Option Blame
 unread None text = blamed_opening text
-unread (Some links) text = blamed_step text
+unread (Some made) text = blamed_step made.profile text
 
 -- the word at fault of a line whose step can't be done
 abbrev pub undone_step : ℕ → List ℕ → Option WorldStep → Option Blame
 undone_step links text None = None
 undone_step links text (Some step) = Some (blamed_impossible links step text)
 
-abbrev pub undone : Option ℕ → List ℕ → Option Blame
+abbrev pub undone : Option Made → List ℕ → Option Blame
 undone None text = None
-undone (Some links) text = undone_step links text (step_of text)
+undone (Some made) text = undone_step made.links text (step_of made.profile text)
 
--- the lines that explain a fault on this line, with so many links
-abbrev pub said : Option ℕ → List ℕ → ScriptFault → Option (List ℕ)
-said links text (Text n flaw) = option_map (λ blame. explanation n blame text) (unread links text)
-said links text (Step n) = option_map (λ blame. explanation n blame text) (undone links text)
-said links text Exhausted = None
+-- the lines that explain a fault on this line, in a world that was made so
+abbrev pub said : Option Made → List ℕ → ScriptFault → Option (List ℕ)
+said made text (Text n flaw) = option_map (λ blame. explanation n blame text) (unread made text)
+said made text (Step n) = option_map (λ blame. explanation n blame text) (undone made text)
+said made text Exhausted = None
 
 abbrev pub explained : Option World → List ℕ → ScriptFault → Explained
-explained world text fault = record { fault = fault; told = said (links_in world) text fault }
+explained world text fault = record { fault = fault; told = said (made_in world) text fault }
 
 -- a line does what it does, and its fault is explained
 abbrev pub explains : Option World → List ℕ → LineOutcome (Option World) ScriptFault
@@ -83,7 +84,7 @@ fault_alone (Err TooLong) = Err TooLong
 fault_alone (Err Write) = Err Write
 
 -- The code beside the definition: a fault with its explanation, or want of memory.
-abbrev pub IsExplanation : Stop Explained → Option ℕ → List ℕ → ScriptFault → Type 0
-IsExplanation (Input e) links text fault =
-    e ≡ record { fault = fault; told = said links text fault }
-IsExplanation Memory links text fault = Unit {0}
+abbrev pub IsExplanation : Stop Explained → Option Made → List ℕ → ScriptFault → Type 0
+IsExplanation (Input e) made text fault =
+    e ≡ record { fault = fault; told = said made text fault }
+IsExplanation Memory made text fault = Unit {0}

@@ -1,5 +1,6 @@
 -- WHAT A REASON SAYS of the world in which a step can't be done.
 use Rattle.std.specs.Prelude.{◌≡◌, ◌≤◌, ℕ, false, List, [], length, Some}
+use Rattle.l2_units.specs.declared.profile.Profile.{Profile}
 use Rattle.set_model.specs.State.{link_count}
 use Rattle.world_steps.specs.declared.step.Step.{Step}
 use Rattle.world_steps.specs.declared.step.Step.TheVariants.{Act, Emit, Arrive, Lose, Together, Inject}
@@ -29,5 +30,6 @@ IsSo _ w step = ⊥
 -- LAW: of each line whose step can't be done
 abbrev pub EveryReasonIsSo : Type 0
 EveryReasonIsSo =
-    (w : World) (text : List ℕ) (step : Step) → step_of text ≡ Some step → carried_out w step ≡ impossible
+    (w : World) (profile : Profile) (text : List ℕ) (step : Step) → step_of profile text ≡ Some step
+    → carried_out w step ≡ impossible
     → IsSo (why_not (link_count w.a.state) step).1 w step

@@ -6,6 +6,7 @@ ghost use Rattle.script_explain.specs.Explaining.{said, undone, unread, IsExplan
 ghost use Rattle.line_mistakes.specs.Showing.{explanation};
 
 use super::fault::ExplainedFault;
+use l2_units::Profile;
 use line_mistakes::{Blame, blame_impossible, blame_opening, blame_step, explain};
 use play_script::read_step;
 use printing::Stop;
@@ -29,8 +30,16 @@ impl<A> Model for Explaining<A> {
     ghost view = { λ e. e.script };
 }
 
+/// What the first line has made: a world of so many links and of this profile.
+#[derive(Clone, Copy)]
+struct Made {
+    links: u8,
+    profile: Profile,
+}
+
 impl<A: Account> Explaining<A> {
     ghost use Rattle.std.specs.Prelude.{◌≡◌, None};
+    ghost use Rattle.script_explain.specs.Explaining.{made_in};
 
     /// Before the first line.
     pub(crate) fn new() -> Explaining<A>
@@ -39,6 +48,15 @@ impl<A: Account> Explaining<A> {
         Explaining {
             script: Script::new(),
         }
+    }
+
+    /// What the first line has made, once it was read.
+    fn made(&self) -> Option<Made>
+        ensures { result ≡ made_in self.now }
+    {
+        let links = self.script.links()?;
+        let profile = self.script.profile()?;
+        Some(Made { links, profile })
     }
 }
 
@@ -66,10 +84,10 @@ impl<A: Account> LineText for Explaining<A> {
         text: &[u8],
         out: &mut Vec<u8>,
     ) -> Result<(), Stop<ExplainedFault>> {
-        let links = self.script.links();
+        let made = self.made();
         match self.script.line(alloc, number, text, out) {
             Ok(()) => Ok(()),
-            Err(Stop::Input(fault)) => Err(explained(alloc, links, text, fault)),
+            Err(Stop::Input(fault)) => Err(explained(alloc, made, text, fault)),
             Err(Stop::Memory) => Err(Stop::Memory),
         }
     }
@@ -86,13 +104,13 @@ impl<A: Account> LineText for Explaining<A> {
 /// The fault of this line with its explanation, or want of memory.
 fn explained(
     alloc: Global,
-    links: Option<u8>,
+    made: Option<Made>,
     text: &[u8],
     fault: ScriptFault,
 ) -> Stop<ExplainedFault>
-    ensures { IsExplanation result links text.now fault }
+    ensures { IsExplanation result made text.now fault }
 {
-    match explain_fault(alloc, links, text, fault) {
+    match explain_fault(alloc, made, text, fault) {
         Ok(told) => Stop::Input(ExplainedFault { fault, told }),
         Err(want) => Stop::from(want),
     }
@@ -101,20 +119,20 @@ fn explained(
 /// The lines that explain a fault on this line.
 fn explain_fault(
     alloc: Global,
-    links: Option<u8>,
+    made: Option<Made>,
     text: &[u8],
     fault: ScriptFault,
 ) -> Result<Option<String>, AllocError>
-    ensures { IfOk result (λ told. option_map string_bytes told ≡ said links text.now fault) }
+    ensures { IfOk result (λ told. option_map string_bytes told ≡ said made text.now fault) }
 {
     match fault {
         ScriptFault::Text { line, .. } => shown(
             alloc,
             line,
-            blame_unread(alloc, links, text)?,
+            blame_unread(alloc, made, text)?,
             text,
         ),
-        ScriptFault::Step { line } => shown(alloc, line, blame_undone(alloc, links, text)?, text),
+        ScriptFault::Step { line } => shown(alloc, line, blame_undone(alloc, made, text)?, text),
         ScriptFault::Exhausted => Ok(None),
     }
 }
@@ -136,24 +154,24 @@ fn shown(
 }
 
 /// The word at fault of a line that can't be read.
-fn blame_unread(alloc: Global, links: Option<u8>, text: &[u8]) -> Result<Option<Blame>, AllocError>
-    ensures { IfOk result (λ blame. blame ≡ unread links text.now) }
+fn blame_unread(alloc: Global, made: Option<Made>, text: &[u8]) -> Result<Option<Blame>, AllocError>
+    ensures { IfOk result (λ blame. blame ≡ unread made text.now) }
 {
-    match links {
-        Some(_) => blame_step(alloc, text),
+    match made {
+        Some(made) => blame_step(alloc, made.profile, text),
         None => blame_opening(alloc, text),
     }
 }
 
 /// The word at fault of a line whose step can't be done.
-fn blame_undone(alloc: Global, links: Option<u8>, text: &[u8]) -> Result<Option<Blame>, AllocError>
-    ensures { IfOk result (λ blame. blame ≡ undone links text.now) }
+fn blame_undone(alloc: Global, made: Option<Made>, text: &[u8]) -> Result<Option<Blame>, AllocError>
+    ensures { IfOk result (λ blame. blame ≡ undone made text.now) }
 {
-    let Some(links) = links else {
+    let Some(made) = made else {
         return Ok(None);
     };
-    match read_step(alloc, text)? {
-        Some(step) => Ok(Some(blame_impossible(links, &step, text))),
+    match read_step(alloc, made.profile, text)? {
+        Some(step) => Ok(Some(blame_impossible(made.links, &step, text))),
         None => Ok(None),
     }
 }

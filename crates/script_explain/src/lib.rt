@@ -9,8 +9,8 @@
 //! [`tell_explained`] reads a source's script and writes what an account tells of it, as `script_text::tell_script` does: the
 //! same octets and the same fault. The fault brings the explanation along: which line it is, what is wanted there
 //! (`line_mistakes`), the line itself, and a caret under the word at fault. `specs/Explaining.antt` says what it is: a
-//! function of the line, and of whether a first line has made the world, and with how many links. What it says of a step
-//! that can't be done is so in the world (`specs/Reasons.antt`).
+//! function of the line, and of whether a first line has made the world, with how many links and of which profile. What it
+//! says of a step that can't be done is so in the world (`specs/Reasons.antt`).
 //!
 //! A line of over 4,096 octets isn't kept, and so not shown. This crate knows no account.
 #![tactic(auto)]

@@ -1,11 +1,12 @@
 -- THE LADDER of a script: a chart of what happened at both ends, a row or a few for each line.
-use Rattle.std.specs.Prelude.{ℕ, Bool, true, false, ◌==◌, nat_lt, nat_le, ◌+◌, ◌-◌, ◌/◌, ◌%◌, zero, suc, List, [], ◌∷◌, ◌++◌, length, take, drop, replicate, slice_get, Option, Some, None, option_map, codes, decimal, if◌then◌else◌}
+use Rattle.std.specs.Prelude.{ℕ, Bool, true, false, ◌==◌, nat_lt, nat_le, ◌+◌, ◌-◌, ◌*◌, ◌/◌, ◌%◌, zero, suc, List, [], ◌∷◌, ◌++◌, length, take, drop, replicate, slice_get, Option, Some, None, option_map, codes, decimal, if◌then◌else◌}
 use Rattle.l2_units.specs.declared.unit.Header.{Header}
 use Rattle.l2_units.specs.declared.unit.Unit.{Unit as SignalUnit}
 use Rattle.l2_units.specs.declared.unit.Unit.TheVariants.{Fisu, Lssu, Msu}
 use Rattle.l3_orders.specs.declared.order.Order.{Order}
 use Rattle.l3_orders.specs.declared.order.Order.TheVariants.{Coo, Coa, Cbd, Cba, Eco, Eca}
-use Rattle.l2_units.specs.declared.profile.Profile.TheVariants.{Narrow}
+use Rattle.l2_units.specs.declared.profile.Profile.{Profile}
+use Rattle.l2_units.specs.Profile.{fsn_count}
 use Rattle.l3_orders.specs.Grammar.{order_of}
 use Rattle.decode_text.specs.Decoding.{order_words}
 use Rattle.set_events.specs.declared.event.Event.{Event}
@@ -31,7 +32,7 @@ use Rattle.answer_texts.specs.Texts.{shown_text, took_text, fault_code}
 use Rattle.figures.specs.Figures.{bit, hex_text}
 use Rattle.printing.specs.Printing.{Printed}
 use Rattle.script_text.specs.declared.fault.ScriptFault.{ScriptFault}
-use Rattle.script_text.specs.Scripts.{Told, IsScriptText}
+use Rattle.script_text.specs.Scripts.{Told, profile_of, IsScriptText}
 use Rattle.script_ladder.specs.Names.{isup_name}
 use Rattle.script_ladder.specs.Diverted.{stood, diverted}
 
@@ -151,19 +152,19 @@ forged B link = coming B (codes "..>") link
 
 -- A message's number is that under which its sender accepted it: of the messages that it has unacknowledged on the link
 -- it's the one with the unit's FSN, as many places behind the oldest as its FSN is behind that one's (Q.703 2.2). An
--- FSN is below 128; 256 is twice that and keeps the difference whole.
-abbrev pub number_behind : State → ℕ → ℕ → Option Numbered → Option ℕ
-number_behind s link fsn None = None
-number_behind s link fsn (Some oldest) =
-    option_map (λ m. m.number) (unacked_in s link ((fsn + 256 - oldest.fsn) % 128))
+-- FSN is below the count of numbers; twice that keeps the difference whole.
+abbrev pub number_behind : Profile → State → ℕ → ℕ → Option Numbered → Option ℕ
+number_behind p s link fsn None = None
+number_behind p s link fsn (Some oldest) =
+    option_map (λ m. m.number) (unacked_in s link ((fsn + 2 * fsn_count p - oldest.fsn) % fsn_count p))
 
-abbrev pub number_on : State → ℕ → ℕ → Option ℕ
-number_on s link fsn = number_behind s link fsn (unacked_in s link 0)
+abbrev pub number_on : Profile → State → ℕ → ℕ → Option ℕ
+number_on p s link fsn = number_behind p s link fsn (unacked_in s link 0)
 
-abbrev pub unit_number : State → ℕ → SignalUnit → Option ℕ
-unit_number s link (Fisu head) = None
-unit_number s link (Lssu head status) = None
-unit_number s link (Msu head body) = number_on s link head.fsn
+abbrev pub unit_number : Profile → State → ℕ → SignalUnit → Option ℕ
+unit_number p s link (Fisu head) = None
+unit_number p s link (Lssu head status) = None
+unit_number p s link (Msu head body) = number_on p s link head.fsn
 
 abbrev pub number_words : Option ℕ → List ℕ
 number_words None = []
@@ -194,14 +195,14 @@ message_words number head (Some order) body = numbered_order number (order_words
 message_words number head None body =
     message_name body ++ (number_words number ++ (numbers_of head ++ stream_words (slice_get body 4)))
 
-abbrev pub unit_words : Option ℕ → SignalUnit → List ℕ
-unit_words number (Fisu head) = codes "FISU" ++ numbers_of head
-unit_words number (Lssu head status) = codes "LSSU" ++ numbers_of head
-unit_words number (Msu head body) = message_words number head (order_of Narrow body.items) body.items
+abbrev pub unit_words : Profile → Option ℕ → SignalUnit → List ℕ
+unit_words p number (Fisu head) = codes "FISU" ++ numbers_of head
+unit_words p number (Lssu head status) = codes "LSSU" ++ numbers_of head
+unit_words p number (Msu head body) = message_words number head (order_of p body.items) body.items
 
 -- a unit that this set sent on the link
-abbrev pub sent_words : State → ℕ → SignalUnit → List ℕ
-sent_words s link unit = unit_words (unit_number s link unit) unit
+abbrev pub sent_words : Profile → State → ℕ → SignalUnit → List ℕ
+sent_words p s link unit = unit_words p (unit_number p s link unit) unit
 
 -- the unit that a step is about, in the world before it
 abbrev pub affected : World → Step → Option SignalUnit
@@ -212,9 +213,9 @@ affected w (Lose end link place) = slice_get (line_to w end link) place
 affected w (Together link) = None
 affected w (Inject end link unit) = Some unit
 
-abbrev pub words_of : State → ℕ → Option SignalUnit → List ℕ
-words_of s link None = []
-words_of s link (Some unit) = sent_words s link unit
+abbrev pub words_of : Profile → State → ℕ → Option SignalUnit → List ℕ
+words_of p s link None = []
+words_of p s link (Some unit) = sent_words p s link unit
 
 -- WHAT A STEP SHOWED
 
@@ -230,16 +231,16 @@ spaced (c ∷ cs) = (c ∷ cs) ++ codes " "
 abbrev pub taken_words : List ℕ → List ℕ
 taken_words body = shortened 30 (codes "taken " ++ (spaced (isup_name body) ++ hex_text body))
 
-abbrev pub plain : Shown → List ℕ
-plain Up = without_end (shown_text Up)
-plain Lost = without_end (shown_text Lost)
-plain (Answered (Taken body)) = taken_words body.items
-plain (Answered (Sent unit)) = without_end (shown_text (Answered (Sent unit)))
-plain (Answered (Accepted number)) = without_end (shown_text (Answered (Accepted number)))
-plain (Answered (Found fate)) = without_end (shown_text (Answered (Found fate)))
-plain (Answered (Heard report)) = without_end (shown_text (Answered (Heard report)))
-plain (Answered Done) = without_end (shown_text (Answered Done))
-plain (Answered (Refused why)) = without_end (shown_text (Answered (Refused why)))
+abbrev pub plain : Profile → Shown → List ℕ
+plain p Up = without_end (shown_text p Up)
+plain p Lost = without_end (shown_text p Lost)
+plain p (Answered (Taken body)) = taken_words body.items
+plain p (Answered (Sent unit)) = without_end (shown_text p (Answered (Sent unit)))
+plain p (Answered (Accepted number)) = without_end (shown_text p (Answered (Accepted number)))
+plain p (Answered (Found fate)) = without_end (shown_text p (Answered (Found fate)))
+plain p (Answered (Heard report)) = without_end (shown_text p (Answered (Heard report)))
+plain p (Answered Done) = without_end (shown_text p (Answered Done))
+plain p (Answered (Refused why)) = without_end (shown_text p (Answered (Refused why)))
 
 abbrev pub sent_in : Shown → Option SignalUnit
 sent_in Up = None
@@ -302,51 +303,55 @@ accepted_in (Answered Done) = None
 accepted_in (Answered (Refused why)) = None
 
 -- an accepted message is named with its number
-abbrev pub offered_words : List ℕ → Shown → Option ℕ → List ℕ
-offered_words body shown None = plain shown
-offered_words body shown (Some number) =
+abbrev pub offered_words : Profile → List ℕ → Shown → Option ℕ → List ℕ
+offered_words p body shown None = plain p shown
+offered_words p body shown (Some number) =
     codes "accepted " ++ (message_name body ++ number_words (Some number))
 
-abbrev pub answer_words : Event → Shown → List ℕ
-answer_words (Offer body) shown = offered_words body shown (accepted_in shown)
-answer_words (Down link) shown = plain shown
-answer_words (DownBlind link) shown = plain shown
-answer_words (NoAnswer link) shown = plain shown
-answer_words (Restore link) shown = plain shown
-answer_words (BackTimeout link) shown = plain shown
-answer_words Take shown = plain shown
-answer_words (Find number) shown = plain shown
-answer_words (Next link) shown = plain shown
-answer_words (HeardEvent link unit) shown = plain shown
-answer_words (UpEvent link) shown = plain shown
+abbrev pub answer_words : Profile → Event → Shown → List ℕ
+answer_words p (Offer body) shown = offered_words p body shown (accepted_in shown)
+answer_words p (Down link) shown = plain p shown
+answer_words p (DownBlind link) shown = plain p shown
+answer_words p (NoAnswer link) shown = plain p shown
+answer_words p (Restore link) shown = plain p shown
+answer_words p (BackTimeout link) shown = plain p shown
+answer_words p Take shown = plain p shown
+answer_words p (Find number) shown = plain p shown
+answer_words p (Next link) shown = plain p shown
+answer_words p (HeardEvent link unit) shown = plain p shown
+answer_words p (UpEvent link) shown = plain p shown
 
-abbrev pub event_words : Event → Shown → List ℕ
-event_words event shown = if is_done shown then done_words event else answer_words event shown
+abbrev pub event_words : Profile → Event → Shown → List ℕ
+event_words p event shown =
+    if is_done shown then done_words event else answer_words p event shown
 
 -- THE ROWS OF A LINE: what happened first, with the line's number
 
 -- (a unit's number is told by the world after the step: the set that sent it is as it was, or has sent it just now)
 abbrev pub sent_row : List ℕ → List ℕ → World → End → ℕ → Shown → Option SignalUnit → List ℕ
 sent_row number u w end link shown (Some unit) =
-    row_at end number u (going end link) (sent_words (at_end w end).state link unit)
-sent_row number u w end link shown None = row_at end number u [] (plain shown)
+    row_at end number u (going end link) (sent_words (profile_of w) (at_end w end).state link unit)
+sent_row number u w end link shown None =
+    row_at end number u [] (plain (profile_of w) shown)
 
 abbrev pub arrived_row : List ℕ → List ℕ → End → ℕ → Option Report → List ℕ → List ℕ
 arrived_row number u end link (Some report) words = row_at end number u (arriving end link) words
 arrived_row number u end link None words = row_at end number u (losing end link) words
 
-abbrev pub forged_row : List ℕ → List ℕ → End → ℕ → Shown → Option Report → List ℕ → List ℕ
-forged_row number u end link shown (Some report) words = row_at end number u (forged end link) words
-forged_row number u end link shown None words = row_at end number u (forged end link) (plain shown)
+abbrev pub forged_row : Profile → List ℕ → List ℕ → End → ℕ → Shown → Option Report → List ℕ → List ℕ
+forged_row p number u end link shown (Some report) words =
+    row_at end number u (forged end link) words
+forged_row p number u end link shown None words =
+    row_at end number u (forged end link) (plain p shown)
 
 -- what came to an end was sent by the other
 abbrev pub far_words : World → End → ℕ → Option SignalUnit → List ℕ
-far_words w end link unit = words_of (at_end w (other end)).state link unit
+far_words w end link unit = words_of (profile_of w) (at_end w (other end)).state link unit
 
 -- and what nobody sent has no number
 abbrev pub first_row : List ℕ → List ℕ → World → Step → Shown → World → List ℕ
 first_row number u before (Act end event) shown after =
-    row_at end number u [] (event_words event shown)
+    row_at end number u [] (event_words (profile_of after) event shown)
 first_row number u before (Emit end link) shown after =
     sent_row number u after end link shown (sent_in shown)
 first_row number u before (Arrive end link) shown after =
@@ -358,7 +363,8 @@ first_row number u before (Lose end link place) shown after =
 first_row number u before (Together link) shown after =
     row_text number (link_words [] link (codes " up")) [] u [] (link_words [] link (codes " up"))
 first_row number u before (Inject end link unit) shown after =
-    forged_row number u end link shown (report_in shown) (unit_words None unit)
+    forged_row (profile_of after) number u end link shown (report_in shown)
+    (unit_words (profile_of after) None unit)
 
 -- then what a unit that arrived did
 
@@ -393,11 +399,11 @@ changed_over (Some (Eca link)) = Some link
 changed_over (Some (Cbd link code)) = None
 changed_over (Some (Cba link code)) = None
 
-abbrev pub order_in : Option SignalUnit → Option Order
-order_in None = None
-order_in (Some (Fisu head)) = None
-order_in (Some (Lssu head status)) = None
-order_in (Some (Msu head body)) = order_of Narrow body.items
+abbrev pub order_in : Profile → Option SignalUnit → Option Order
+order_in p None = None
+order_in p (Some (Fisu head)) = None
+order_in p (Some (Lssu head status)) = None
+order_in p (Some (Msu head body)) = order_of p body.items
 
 abbrev pub settled_words : World → End → Took → Option ℕ → List ℕ
 settled_words w end OrderTaken (Some link) =
@@ -412,7 +418,7 @@ abbrev pub heard_rows : List ℕ → World → End → Option SignalUnit → Opt
 heard_rows u w end unit None = []
 heard_rows u w end unit (Some r) =
     further end u (report_words r) ++ (further end u (trouble_words r)
-    ++ further end u (settled_words w end r.took (changed_over (order_in unit))))
+    ++ further end u (settled_words w end r.took (changed_over (order_in (profile_of w) unit))))
 
 -- THE MESSAGES THAT ARE DIVERTED (specs/Diverted.antt), where a link settles at an end
 
@@ -430,13 +436,13 @@ given_up (Next link) = None
 given_up (HeardEvent link unit) = None
 given_up (UpEvent link) = None
 
-abbrev pub named_link : Step → Option SignalUnit → Option ℕ
-named_link (Act end event) unit = given_up event
-named_link (Emit end link) unit = None
-named_link (Arrive end link) unit = changed_over (order_in unit)
-named_link (Lose end link place) unit = None
-named_link (Together link) unit = None
-named_link (Inject end link forged) unit = changed_over (order_in unit)
+abbrev pub named_link : Profile → Step → Option SignalUnit → Option ℕ
+named_link p (Act end event) unit = given_up event
+named_link p (Emit end link) unit = None
+named_link p (Arrive end link) unit = changed_over (order_in p unit)
+named_link p (Lose end link place) unit = None
+named_link p (Together link) unit = None
+named_link p (Inject end link forged) unit = changed_over (order_in p unit)
 
 -- if it hasn't settled yet
 abbrev pub unsettled : State → Option ℕ → Option ℕ
@@ -445,7 +451,7 @@ unsettled s (Some link) = if is_settled link s then None else Some link
 
 abbrev pub link_at_stake : World → Step → Option ℕ
 link_at_stake w step =
-    unsettled (at_end w (end_of step)).state (named_link step (affected w step))
+    unsettled (at_end w (end_of step)).state (named_link (profile_of w) step (affected w step))
 
 -- the messages that stand on it before the step
 abbrev pub stood_before : World → Step → List ℕ

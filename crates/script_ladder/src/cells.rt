@@ -13,25 +13,30 @@ use super::units::{message_name, write_number};
 use answer_texts::write_shown;
 use decode_text::write_both;
 use figures::push_hex;
+use l2_units::Profile;
 use set_events::{Answer, Event, Report};
 use std::alloc::{AllocError, Global};
 use world_steps::Shown;
 
 /// The answer as `play` prints it, without its line end; what users take has its name first.
-pub(crate) fn write_plain(alloc: Global, shown: &Shown) -> Result<Vec<u8>, AllocError>
-    ensures { IfOk result (λ words. words.items ≡ plain shown.now) }
+pub(crate) fn write_plain(
+    alloc: Global,
+    profile: Profile,
+    shown: &Shown,
+) -> Result<Vec<u8>, AllocError>
+    ensures { IfOk result (λ words. words.items ≡ plain profile shown.now) }
 {
     match shown {
         Shown::Answered(Answer::Taken { body }) => write_taken(alloc, body.as_slice()),
-        _ => write_printed(alloc, shown),
+        _ => write_printed(alloc, profile, shown),
     }
 }
 
 /// The answer as `play` prints it, without its line end.
-fn write_printed(alloc: Global, shown: &Shown) -> Result<Vec<u8>, AllocError>
-    ensures { IfOk result (λ words. words.items ≡ without_end (shown_text shown.now)) }
+fn write_printed(alloc: Global, profile: Profile, shown: &Shown) -> Result<Vec<u8>, AllocError>
+    ensures { IfOk result (λ words. words.items ≡ without_end (shown_text profile shown.now)) }
 {
-    let mut words = write_shown(alloc, shown)?;
+    let mut words = write_shown(alloc, profile, shown)?;
     cut_end(&mut words);
     Ok(words)
 }
@@ -85,39 +90,49 @@ pub(crate) fn find_report(shown: &Shown) -> Option<Report>
 /// What was asked of an end, where it's done, and else the answer.
 pub(crate) fn write_event(
     alloc: Global,
+    profile: Profile,
     event: &Event,
     shown: &Shown,
 ) -> Result<Vec<u8>, AllocError>
-    ensures { IfOk result (λ words. words.items ≡ event_words event.now shown.now) }
+    ensures { IfOk result (λ words. words.items ≡ event_words profile event.now shown.now) }
 {
     if was_done(shown) {
         write_done(alloc, event)
     } else {
-        write_answer(alloc, event, shown)
+        write_answer(alloc, profile, event, shown)
     }
 }
 
 /// The answer to an event: a message that is accepted is named with its number.
-fn write_answer(alloc: Global, event: &Event, shown: &Shown) -> Result<Vec<u8>, AllocError>
-    ensures { IfOk result (λ words. words.items ≡ answer_words event.now shown.now) }
+fn write_answer(
+    alloc: Global,
+    profile: Profile,
+    event: &Event,
+    shown: &Shown,
+) -> Result<Vec<u8>, AllocError>
+    ensures { IfOk result (λ words. words.items ≡ answer_words profile event.now shown.now) }
 {
     match event {
-        Event::Offer { body } => write_offered(alloc, body.octets(), shown, find_accepted(shown)),
-        _ => write_plain(alloc, shown),
+        Event::Offer { body } => {
+            let number = find_accepted(shown);
+            write_offered(alloc, profile, body.octets(), shown, number)
+        }
+        _ => write_plain(alloc, profile, shown),
     }
 }
 
 /// The answer to an offer: the message's name and number, if it was accepted.
 fn write_offered(
     alloc: Global,
+    profile: Profile,
     body: &[u8],
     shown: &Shown,
     number: Option<u64>,
 ) -> Result<Vec<u8>, AllocError>
-    ensures { IfOk result (λ words. words.items ≡ offered_words body.now shown.now number) }
+    ensures { IfOk result (λ words. words.items ≡ offered_words profile body.now shown.now number) }
 {
     if number.is_none() {
-        return write_plain(alloc, shown);
+        return write_plain(alloc, profile, shown);
     }
     let name = Vec::from_slice(alloc, message_name(body).as_bytes())?;
     let named = write_both(name, &write_number(alloc, number)?)?;

@@ -5,13 +5,14 @@ ghost use Rattle.script_ladder.specs.Ladder.{change, changed_over, changes, furt
 
 use super::cells::write_link;
 use super::rows::write_further;
-use super::units::find_order;
+use super::units::find_carried;
 use answer_texts::code_of;
 use decode_text::write_both;
 use figures::bit_of;
 use l2_units::Unit;
 use l3_orders::Order;
 use pair_world::{End, World};
+use script_text::world_profile;
 use set_events::{Counts, Report, Took};
 use std::alloc::{AllocError, Global};
 
@@ -35,7 +36,7 @@ pub(crate) fn write_heard(
         world,
         end,
         report.took,
-        find_changed_link(find_order(unit)),
+        find_changed_link(find_carried(world_profile(world), unit)),
     )?;
     let first = write_further(alloc, end, under_way, &write_report(alloc, report)?)?;
     let trouble = write_further(alloc, end, under_way, &write_trouble(alloc, report)?)?;

@@ -12,13 +12,13 @@ use super::diverted::{KEPT, find_stood, write_diverted};
 use super::effects::{find_changed_link, write_changes, write_heard};
 use super::rows::{draw_arriving, draw_forged, draw_going, draw_losing, write_row, write_row_at};
 use super::under_way::write_under_way;
-use super::units::{find_order, write_any, write_sent_unit, write_unit};
+use super::units::{find_carried, write_any, write_sent_unit, write_unit};
 use arrayvec::ArrayVec;
 use decode_text::write_both;
-use l2_units::{Unit, copy_of_unit};
+use l2_units::{Profile, Unit, copy_of_unit};
 use pair_world::{End, World};
 use printing::{Fault, Sink, Source};
-use script_text::{Account, ScriptFault, tell_script};
+use script_text::{Account, ScriptFault, tell_script, world_profile};
 use set_core::SetCore;
 use set_events::{Answer, Counts, Event, Report};
 use std::alloc::{AllocError, Global};
@@ -55,7 +55,7 @@ impl Account for Chart {
     fn note(world: &World, step: &Step) -> Before {
         let unit = find_affected(world, step);
         let set = world.core(find_end(step));
-        let link = find_unsettled(set, find_named(step, &unit));
+        let link = find_unsettled(set, find_named(world_profile(world), step, &unit));
         Before {
             unit,
             link,
@@ -139,12 +139,12 @@ fn unit_at(line: &[Unit], place: u64) -> Option<Unit>
 }
 
 /// The link that a step could settle, as it's given up or the unit's order is about it.
-fn find_named(step: &Step, unit: &Option<Unit>) -> Option<u8>
-    ensures { result ≡ named_link step.now unit.now }
+fn find_named(profile: Profile, step: &Step, unit: &Option<Unit>) -> Option<u8>
+    ensures { result ≡ named_link profile step.now unit.now }
 {
     match step {
         Step::Act { event, .. } => find_given_up(event),
-        Step::Arrive { .. } | Step::Inject { .. } => find_changed_link(find_order(unit)),
+        Step::Arrive { .. } | Step::Inject { .. } => find_changed_link(find_carried(profile, unit)),
         Step::Emit { .. } | Step::Lose { .. } | Step::Together { .. } => None,
     }
 }
@@ -289,7 +289,13 @@ fn write_far(
 ) -> Result<Vec<u8>, AllocError>
     ensures { IfOk result (λ words. words.items ≡ far_words world.now end link unit.now) }
 {
-    write_any(alloc, world.core(find_other(end)), link, unit)
+    write_any(
+        alloc,
+        world_profile(world),
+        world.core(find_other(end)),
+        link,
+        unit,
+    )
 }
 
 /// The first row of a step, about this unit.
@@ -314,7 +320,7 @@ fn write_first(
                 number,
                 under_way,
                 &[],
-                &write_event(alloc, event, shown)?,
+                &write_event(alloc, world_profile(world), event, shown)?,
             )
         }
         Step::Emit { end, link } => {
@@ -343,7 +349,14 @@ fn write_first(
         }
         Step::Together { link } => write_up(alloc, number, under_way, *link),
         Step::Inject { end, link, unit } => write_forged(
-            alloc, number, under_way, *end, *link, shown, unit,
+            alloc,
+            world_profile(world),
+            number,
+            under_way,
+            *end,
+            *link,
+            shown,
+            unit,
         ),
     }
 }
@@ -379,7 +392,7 @@ fn write_sent(
                 number,
                 under_way,
                 &draw_going(alloc, end, link)?,
-                &write_sent_unit(alloc, world.core(end), link, unit)?,
+                &write_sent_unit(alloc, world_profile(world), world.core(end), link, unit)?,
             )
         }
         _ => write_row_at(
@@ -388,7 +401,7 @@ fn write_sent(
             number,
             under_way,
             &[],
-            &write_plain(alloc, shown)?,
+            &write_plain(alloc, world_profile(world), shown)?,
         ),
     }
 }
@@ -416,6 +429,7 @@ fn write_arrived(
 /// A unit that nobody sent.
 fn write_forged(
     alloc: Global,
+    profile: Profile,
     number: &[u8],
     under_way: &[u8],
     end: End,
@@ -424,12 +438,12 @@ fn write_forged(
     unit: &Unit,
 ) -> Result<Vec<u8>, AllocError>
     ensures { IfOk result (λ row. row.items
-        ≡ forged_row number.now under_way.now end link shown.now (report_in shown.now)
-        (unit_words None unit.now)) }
+        ≡ forged_row profile number.now under_way.now end link shown.now (report_in shown.now)
+        (unit_words profile None unit.now)) }
 {
     let words = match find_report(shown) {
-        Some(_) => write_unit(alloc, None, unit)?,
-        None => write_plain(alloc, shown)?,
+        Some(_) => write_unit(alloc, profile, None, unit)?,
+        None => write_plain(alloc, profile, shown)?,
     };
     write_row_at(
         alloc,

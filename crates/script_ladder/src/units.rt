@@ -1,6 +1,5 @@
 //! A unit in the words of the trade.
 ghost use Rattle.std.specs.Prelude.{◌≡◌, ◌++◌, IfOk, drop, slice_get};
-ghost use Rattle.l2_units.specs.declared.profile.Profile.TheVariants.{Narrow};
 ghost use Rattle.decode_text.specs.Decoding.{order_words};
 ghost use Rattle.l3_orders.specs.Grammar.{order_of};
 ghost use Rattle.script_ladder.specs.Ladder.{message_name, message_words, number_on, number_words, numbered_order, numbers_of, or_msu};
@@ -8,9 +7,9 @@ ghost use Rattle.script_ladder.specs.Ladder.{order_in, sent_words, stream_words,
 
 use super::fitting::front_of;
 use super::isup::isup_name;
-use decode_text::{write_both, write_order_words};
-use l2_units::{Header, Unit};
-use l3_orders::{Order, read_order};
+use decode_text::{find_order, write_both, write_order_words};
+use l2_units::{Header, Profile, Unit};
+use l3_orders::Order;
 use set_core::SetCore;
 use std::alloc::{AllocError, Global};
 
@@ -20,46 +19,54 @@ const NAME: usize = 3;
 /// The words of a unit that this set sent on the link.
 pub(crate) fn write_sent_unit(
     alloc: Global,
+    profile: Profile,
     sender: &SetCore,
     link: u8,
     unit: &Unit,
 ) -> Result<Vec<u8>, AllocError>
-    ensures { IfOk result (λ words. words.items ≡ sent_words sender.now.state link unit.now) }
+    ensures { IfOk result (λ words. words.items ≡ sent_words profile sender.now.state link unit.now) }
 {
-    write_unit(alloc, find_number(sender, link, unit), unit)
+    write_unit(
+        alloc,
+        profile,
+        find_number(profile, sender, link, unit),
+        unit,
+    )
 }
 
 /// The words of the unit that this set sent on the link, if there is one.
 pub(crate) fn write_any(
     alloc: Global,
+    profile: Profile,
     sender: &SetCore,
     link: u8,
     unit: &Option<Unit>,
 ) -> Result<Vec<u8>, AllocError>
-    ensures { IfOk result (λ words. words.items ≡ words_of sender.now.state link unit.now) }
+    ensures { IfOk result (λ words. words.items ≡ words_of profile sender.now.state link unit.now) }
 {
     match unit {
-        Some(unit) => write_sent_unit(alloc, sender, link, unit),
+        Some(unit) => write_sent_unit(alloc, profile, sender, link, unit),
         None => Ok(Vec::new(alloc)),
     }
 }
 
 /// The number of the message that a unit carries, where its sender has it unacknowledged on the link.
-fn find_number(sender: &SetCore, link: u8, unit: &Unit) -> Option<u64>
-    ensures { result ≡ unit_number sender.now.state link unit.now }
+fn find_number(profile: Profile, sender: &SetCore, link: u8, unit: &Unit) -> Option<u64>
+    ensures { result ≡ unit_number profile sender.now.state link unit.now }
 {
     match unit {
-        Unit::Msu { head, .. } => find_by_fsn(sender, link, head.fsn),
+        Unit::Msu { head, .. } => find_by_fsn(profile, sender, link, head.fsn),
         _ => None,
     }
 }
 
 /// The number of the unacknowledged message that has this FSN on the link.
-fn find_by_fsn(sender: &SetCore, link: u8, fsn: u16) -> Option<u64>
-    ensures { result ≡ number_on sender.now.state link fsn }
+fn find_by_fsn(profile: Profile, sender: &SetCore, link: u8, fsn: u16) -> Option<u64>
+    ensures { result ≡ number_on profile sender.now.state link fsn }
 {
     let oldest = sender.unacked_at(link, 0)?;
-    let place = (u32::from(fsn) + 256).saturating_sub(u32::from(oldest.fsn)) % 128;
+    let count = u32::from(profile.fsn_count());
+    let place = (u32::from(fsn) + 2 * count).saturating_sub(u32::from(oldest.fsn)) % count;
     let message = sender.unacked_at(link, place as u16)?;
     Some(message.number)
 }
@@ -67,15 +74,16 @@ fn find_by_fsn(sender: &SetCore, link: u8, fsn: u16) -> Option<u64>
 /// The words of a unit, with this number if it's a message.
 pub(crate) fn write_unit(
     alloc: Global,
+    profile: Profile,
     number: Option<u64>,
     unit: &Unit,
 ) -> Result<Vec<u8>, AllocError>
-    ensures { IfOk result (λ words. words.items ≡ unit_words number unit.now) }
+    ensures { IfOk result (λ words. words.items ≡ unit_words profile number unit.now) }
 {
     match unit {
         Unit::Fisu { head } => write_kind(alloc, "FISU", *head),
         Unit::Lssu { head, .. } => write_kind(alloc, "LSSU", *head),
-        Unit::Msu { head, body } => write_message(alloc, number, *head, body.as_slice()),
+        Unit::Msu { head, body } => write_message(alloc, profile, number, *head, body.as_slice()),
     }
 }
 
@@ -101,16 +109,17 @@ fn write_head(alloc: Global, head: Header) -> Result<Vec<u8>, AllocError>
 /// The words of a message: an order's own, or its name, its FSN and BSN, and its stream.
 fn write_message(
     alloc: Global,
+    profile: Profile,
     number: Option<u64>,
     head: Header,
     body: &[u8],
 ) -> Result<Vec<u8>, AllocError>
     ensures { IfOk result (λ words. words.items
-        ≡ message_words number head (order_of Narrow body.now) body.now) }
+        ≡ message_words number head (order_of profile body.now) body.now) }
 {
-    match read_order(body) {
-        Ok(order) => write_order(alloc, number, order),
-        Err(_) => write_users(alloc, number, head, body),
+    match find_order(profile, body) {
+        Some(order) => write_order(alloc, number, order),
+        None => write_users(alloc, number, head, body),
     }
 }
 
@@ -198,11 +207,11 @@ fn write_stream(alloc: Global, octet: Option<u8>) -> Result<Vec<u8>, AllocError>
 }
 
 /// The order that a unit carries, if any.
-pub(crate) fn find_order(unit: &Option<Unit>) -> Option<Order>
-    ensures { result ≡ order_in unit.now }
+pub(crate) fn find_carried(profile: Profile, unit: &Option<Unit>) -> Option<Order>
+    ensures { result ≡ order_in profile unit.now }
 {
     match unit {
-        Some(Unit::Msu { body, .. }) => read_order(body.as_slice()).ok(),
+        Some(Unit::Msu { body, .. }) => find_order(profile, body.as_slice()),
         _ => None,
     }
 }

@@ -2,7 +2,7 @@
 use Rattle.std.specs.Prelude.{ℕ, List, [], Option, Some, None}
 use Rattle.script_text.specs.declared.fault.ScriptFault.{ScriptFault}
 use Rattle.script_text.specs.declared.fault.ScriptFault.TheVariants.{Text, Step, Exhausted}
-use Rattle.l2_units.specs.declared.profile.Profile.TheVariants.{Narrow}
+use Rattle.l2_units.specs.declared.profile.Profile.{Profile}
 use Rattle.set_model.specs.State.{Settings, opened_with}
 use Rattle.set_model.specs.History.{LinkSet, no_books}
 use Rattle.world_steps.specs.declared.step.End.{End}
@@ -29,13 +29,13 @@ pub record Told : Type 0 where
 abbrev pub ScriptOutcome : Type 0
 ScriptOutcome = LineOutcome (Option World) ScriptFault
 
--- what each end is opened with, of the narrow profile: its own point code is the far end's for the other
+-- what each end is opened with: its own point code is the far end's for the other
 abbrev pub settings_at : Values → End → Settings
 settings_at v A = record {
   set = 0;
   links = v.links;
   method = v.method;
-  profile = Narrow;
+  profile = v.profile;
   sio = v.sio;
   dpc = v.code_b;
   opc = v.code_a;
@@ -44,7 +44,7 @@ settings_at v B = record {
   set = 0;
   links = v.links;
   method = v.method;
-  profile = Narrow;
+  profile = v.profile;
   sio = v.sio;
   dpc = v.code_a;
   opc = v.code_b;
@@ -63,6 +63,10 @@ opened_set settings =
 abbrev pub opened_world : Values → World
 opened_world v = world_of (opened_set (settings_at v A)) (opened_set (settings_at v B))
 
+-- the profile of a world: what its ends were opened with
+abbrev pub profile_of : World → Profile
+profile_of w = w.a.base.state.settings.profile
+
 -- the first line that is no remark makes the world
 abbrev pub opened : Told → ℕ → List ℕ → Option Values → ScriptOutcome
 opened t n text None = stops (Text n (flaw_of text))
@@ -80,7 +84,7 @@ asked t n w text (Some step) = outcome_of t n w step (carried_out w step)
 
 abbrev pub read_script : Told → ℕ → Option World → List ℕ → ScriptOutcome
 read_script t n None text = opened t n text (first_line text)
-read_script t n (Some w) text = asked t n w text (step_of text)
+read_script t n (Some w) text = asked t n w text (step_of (profile_of w) text)
 
 abbrev pub script_rules : Told → Rules (Option World) ScriptFault
 script_rules t = record {

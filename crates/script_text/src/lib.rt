@@ -9,7 +9,7 @@
 //! for every account; `play_text` has the one of answers. `specs/Scripts.antt` is the text: a function from the octets of
 //! the input and from what the account tells.
 //!
-//! This crate knows no account.
+//! Units stand in the profile that the first line tells ([`world_profile`]). This crate knows no account.
 #![tactic(auto)]
 
 mod account;
@@ -19,6 +19,6 @@ mod text;
 
 pub use account::Account;
 pub use fault::ScriptFault;
-pub use script::Script;
+pub use script::{Script, world_profile};
 pub use text::tell_script;
 pub use text_lines::LineFlaw;

@@ -8,11 +8,12 @@ ghost use Rattle.text_lines.specs.Flaws.{flaw_of};
 ghost use Rattle.text_lines.specs.Lines.{prints};
 ghost use Rattle.text_lines.specs.Reading.{IsDone, Tells};
 ghost use Rattle.script_text.specs.declared.fault.ScriptFault.TheVariants.{Text};
-ghost use Rattle.script_text.specs.Scripts.{Told, opened, outcome_of, read_script};
+ghost use Rattle.script_text.specs.Scripts.{Told, opened, outcome_of, profile_of, read_script};
 ghost use Rattle.world_steps.specs.declared.step.Step.{Step as ModelStep};
 
 use super::account::Account;
 use super::fault::ScriptFault;
+use l2_units::Profile;
 use pair_world::{End, PlayFault, World};
 use play_script::{read_opening, read_step};
 use printing::Stop;
@@ -43,6 +44,7 @@ impl<A: Account> Script<A> {
     ghost use Rattle.std.specs.Prelude.{◌≡◌, None};
     ghost use Rattle.std.specs.Option.{option_map};
     ghost use Rattle.set_model.specs.State.{link_count};
+    ghost use Rattle.script_text.specs.Scripts.{profile_of};
 
     /// Before the first line.
     pub fn new() -> Script<A>
@@ -63,6 +65,23 @@ impl<A: Account> Script<A> {
             None => None,
         }
     }
+
+    /// The profile of the world, once the first line has made it.
+    pub fn profile(&self) -> Option<Profile>
+        ensures { result ≡ option_map profile_of self.now }
+    {
+        match &self.world {
+            Some(world) => Some(world_profile(world)),
+            None => None,
+        }
+    }
+}
+
+/// The profile of a world.
+pub fn world_profile(world: &World) -> Profile
+    ensures { result ≡ profile_of world.now }
+{
+    world.core(End::A).config().profile()
 }
 
 impl<A: Account> LineText for Script<A> {
@@ -160,7 +179,7 @@ fn carry_out<A: Account>(
     let Some(world) = world.as_mut() else {
         unreachable!();
     };
-    let asked = read_step(alloc, text);
+    let asked = read_step(alloc, world_profile(world), text);
     match &asked {
         Ok(Some(step)) => carry_out_step::<A>(alloc, world, number, step, out),
         Ok(None) => Err(unread(number, text)),

@@ -10,8 +10,8 @@ returns c =
     ∙ ap₂ with_subcommand c.in_ok-itself.ensures c.units_command.ensures.shape in
     let second = c.in_ok-subcommand-2.ensures.shape c.in_ok-play_command.ensures.local
     ∙ ap₂ with_subcommand first c.in_ok-play_command.ensures.shape in
-    let third = c.in_ok-subcommand-3.ensures.shape c.decode_command.ensures.local
-    ∙ ap₂ with_subcommand second c.decode_command.ensures.shape in
+    let third = c.in_ok-subcommand-3.ensures.shape c.in_ok-decode_command.ensures.local
+    ∙ ap₂ with_subcommand second c.in_ok-decode_command.ensures.shape in
     let fourth = c.in_ok-subcommand-4.ensures.shape c.capture_command.ensures.local
     ∙ ap₂ with_subcommand third c.capture_command.ensures.shape in
     let fifth = c.in_ok-subcommand-5.ensures.shape c.ladder_command.ensures.local

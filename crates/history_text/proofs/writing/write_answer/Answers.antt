@@ -5,4 +5,4 @@ use Rattle.answer_texts.proofs.Sealed.{shown_is}
 use Rattle.history_text.proofs.writing.write_answer.Goals as goal
 
 pub returns : goal.returns
-returns c = rw (ap answer_text (sym c.copy.ensures) ∙ sym (shown_is (Answered c.copy.result))) c.write_shown.ensures
+returns c = rw (ap (answer_text c.args.profile) (sym c.copy.ensures) ∙ sym (shown_is c.args.profile (Answered c.copy.result))) c.write_shown.ensures
