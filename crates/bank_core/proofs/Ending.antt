@@ -1,23 +1,46 @@
 -- What sets came to, one after another.
-use Rattle.std.proofs.Common.{◌≡◌, sym, subst, map, List, [], ◌∷◌, ◌++◌}
-use Rattle.set_events.specs.declared.config.SetConfig.{SetConfig}
+use Rattle.std.proofs.Common.{refl, ◌≡◌, ◌∙◌, ap, sym, subst, map, List, [], ◌∷◌, ◌++◌, append_assoc, append-nil, arith, length, Result, Ok, Err}
+use Rattle.std.specs.List.{AllZip}
 use Rattle.set_crew.specs.declared.end.SetEnd.{SetEnd}
-use Rattle.set_crew.specs.Ends.{IsEndOf}
-use Rattle.bank_core.specs.Ends.{AreEnds}
+use Rattle.set_crew.specs.declared.fault.CrewFault.{CrewFault}
+use Rattle.set_crew.proofs.Doing.{each_more}
+use Rattle.std.proofs.lemmas.List.{map-append}
+use Rattle.bank_core.specs.declared.running.EndOf.{EndOf}
+use Rattle.bank_core.specs.Ends.{AreEnds, and_end, outcome}
+use Rattle.bank_core.specs.Promises.{Keeps, promised}
 
--- one set more came to its end
-one_more : {T : Type 0} (config_of : T → SetConfig) (threads : List T) (thread : T) (ends : List SetEnd) (end : SetEnd)
-    → AreEnds (map config_of threads) ends → IsEndOf (config_of thread) end
-    → AreEnds (map config_of (threads ++ thread ∷ [])) (ends ++ end ∷ [])
-one_more config_of [] thread [] end are is = (is, tt)
-one_more config_of [] thread (first ∷ ends) end are is = absurd are
-one_more config_of (other ∷ threads) thread [] end are is = absurd are
-one_more config_of (other ∷ threads) thread (first ∷ ends) end are is =
-    (are.0, one_more config_of threads thread ends end are.1 is)
+-- the first answer is an end, and so are all others
+split : (end : SetEnd) (rest : Result (List SetEnd) CrewFault) (ends : List SetEnd) → and_end end rest ≡ Ok ends
+    → (more : List SetEnd) × (rest ≡ Ok more) × (ends ≡ end ∷ more)
+split end (Ok more) ends is = (more, refl, cc is)
+split end (Err fault) ends is = absurd (cc is)
 
-pub one_end_more : {T : Type 0} (config_of : T → SetConfig) (threads : List T) (thread : T) (ends ends' : List SetEnd)
-    (end : SetEnd) → ends' ≡ ends ++ end ∷ [] → AreEnds (map config_of threads) ends → IsEndOf (config_of thread) end
-    → AreEnds (map config_of (threads ++ thread ∷ [])) ends'
-one_end_more config_of threads thread ends ends' end same are is =
-    subst (λ (all : List SetEnd). AreEnds (map config_of (threads ++ thread ∷ [])) all) (sym same)
-    (one_more config_of threads thread ends end are is)
+pub all_came : {H : Type 0} (of : H → EndOf) (hs : List H) (answers : List (Result SetEnd CrewFault)) (ends : List SetEnd) → AllZip Keeps (map of hs) answers → outcome answers ≡ Ok ends → AreEnds (map (λ h. promised (of h)) hs) ends
+all_came of [] [] ends each is = let none : [] ≡ ends = cc is in subst (AreEnds []) none tt
+all_came of [] (answer ∷ answers) ends each is = absurd each
+all_came of (h ∷ hs) [] ends each is = absurd each
+all_came of (h ∷ hs) (Ok end ∷ answers) ends each is =
+    let parts = split end (outcome answers) ends is in
+    subst (AreEnds (map (λ h. promised (of h)) (h ∷ hs))) (sym parts.2) (each.0, all_came of hs answers parts.0 each.1 parts.1)
+all_came of (h ∷ hs) (Err fault ∷ answers) ends each is = absurd (cc is)
+
+-- ends that were sorted out, and what is still to be
+abbrev pub put_before : List SetEnd → Result (List SetEnd) CrewFault → Result (List SetEnd) CrewFault
+put_before ends (Ok more) = Ok (ends ++ more)
+put_before ends (Err fault) = Err fault
+
+pub one_out : (ends : List SetEnd) (end : SetEnd) (rest : Result (List SetEnd) CrewFault) → put_before ends (and_end end rest) ≡ put_before (ends ++ end ∷ []) rest
+one_out ends end (Ok more) = ap Ok (sym (append_assoc ends (end ∷ []) more))
+one_out ends end (Err fault) = refl
+
+-- one thread more was waited for
+pub answered : {H : Type 0} (of : H → EndOf) (hs : List H) (h : H) (answers answers' : List (Result SetEnd CrewFault)) (answer : Result SetEnd CrewFault) → AllZip Keeps (map of hs) answers → Keeps (of h) answer → answers' ≡ answers ++ answer ∷ []
+    → AllZip Keeps (map of (hs ++ h ∷ [])) answers'
+answered {H} of hs h answers answers' answer are is more =
+    subst (λ (all : List (Result SetEnd CrewFault)). AllZip Keeps (map of (hs ++ h ∷ [])) all) (sym more)
+    (subst (λ (ps : List EndOf). AllZip Keeps ps (answers ++ answer ∷ [])) (sym (map-append of hs (h ∷ []))) (each_more Keeps (map of hs) (of h) answers answer are is))
+
+-- where none is left, these are all
+pub none_left_out : (all left : List (Result SetEnd CrewFault)) (ends : List SetEnd) → length left ≡ 0 → outcome all ≡ put_before ends (outcome left) → outcome all ≡ Ok ends
+none_left_out all [] ends none is = is ∙ ap Ok (append-nil ends)
+none_left_out all (answer ∷ left) ends none is = absurd (omega (arith, none))

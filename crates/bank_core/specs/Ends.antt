@@ -1,17 +1,38 @@
 -- THE ENDS of sets: what each came to.
-use Rattle.std.specs.Prelude.{ℕ, List, [], ◌∷◌}
+use Rattle.std.specs.Prelude.{◌≡◌, ℕ, List, [], ◌∷◌, map, drop, Result, Ok, Err, MatchResult}
 use Rattle.set_events.specs.declared.config.SetConfig.{SetConfig}
 use Rattle.set_crew.specs.declared.end.SetEnd.{SetEnd}
-use Rattle.set_crew.specs.Ends.{IsEndOf}
+use Rattle.set_crew.specs.declared.fault.CrewFault.{CrewFault}
+use Rattle.set_crew.specs.declared.plan.Plan.{Plan}
+use Rattle.set_crew.specs.Jobs.{Duty, first_or}
+use Rattle.set_crew.specs.Ends.{IsDone, Task, task_of}
 
--- set by set, in the order of the configurations
-abbrev pub AreEnds : List SetConfig → List SetEnd → Type 0
+-- set by set, in the order of the tasks
+abbrev pub AreEnds : List Task → List SetEnd → Type 0
 AreEnds [] [] = Unit {0}
 AreEnds [] (end ∷ ends) = ⊥
-AreEnds (config ∷ configs) [] = ⊥
-AreEnds (config ∷ configs) (end ∷ ends) = IsEndOf config end × AreEnds configs ends
+AreEnds (task ∷ tasks) [] = ⊥
+AreEnds (task ∷ tasks) (end ∷ ends) = IsDone task end × AreEnds tasks ends
 
 -- a bank that isn't started
 pub record BankState : Type 0 where
   pub configs : List SetConfig
   pub users : ℕ
+
+-- THE TASKS of a bank's sets: each set its own lines and jobs, in order, and all the same plan; one for which there
+-- are none has none
+abbrev pub tasks_from : ℕ → Plan → List SetConfig → List ℕ → List (List Duty) → List Task
+tasks_from users plan [] lines jobs = []
+tasks_from users plan (config ∷ configs) lines jobs =
+    task_of config users (first_or 0 lines) (first_or [] jobs) plan
+    ∷ tasks_from users plan configs (drop 1 lines) (drop 1 jobs)
+
+-- what each set's thread answered, in order: its end, or else the first fault
+abbrev pub and_end : SetEnd → Result (List SetEnd) CrewFault → Result (List SetEnd) CrewFault
+and_end end (Ok ends) = Ok (end ∷ ends)
+and_end end (Err fault) = Err fault
+
+abbrev pub outcome : List (Result SetEnd CrewFault) → Result (List SetEnd) CrewFault
+outcome [] = Ok []
+outcome (Ok end ∷ answers) = and_end end (outcome answers)
+outcome (Err fault ∷ answers) = Err fault

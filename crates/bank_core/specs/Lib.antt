@@ -1,4 +1,5 @@
 pub mod Ends
 pub mod Faults
+pub mod Promises
 pub mod Room
 pub mod Totals

@@ -1,5 +1,8 @@
 //! A bank of sets, and how it's started.
-ghost use Rattle.std.specs.Prelude.{◌≡◌, ◌<◌, ◌≤◌, ◌↔◌, ◌⊎◌, map, length, All, IfOk, IfErr, IsTrue};
+ghost use Rattle.std.specs.Prelude.{◌≡◌, ◌<◌, ◌≤◌, ◌↔◌, ◌⊎◌, map, length, vec_len, All, IfOk, IfErr, IsTrue};
+ghost use Rattle.set_crew.specs.Ends.{task_of};
+ghost use Rattle.set_crew.specs.Jobs.{duty_of};
+ghost use Rattle.bank_core.specs.Ends.{tasks_from};
 ghost use Rattle.bank_core.specs.Faults.{EndsEarly, IsNarrow};
 ghost use Rattle.bank_core.specs.Room.{IsRoomFor};
 
@@ -93,7 +96,8 @@ impl Bank {
         gate: G,
         plan: Plan,
     ) -> Result<Running, BankFault>
-        ensures running { IfOk result (λ running. running ≡ self.configs) }
+        ensures running { IfOk result (λ running. running ≡ tasks_from self.users plan self.configs
+            (map (λ of_set. vec_len of_set) lines.items) (map (λ of_set. map duty_of of_set.items) jobs.items)) }
         ensures early { IfErr result EndsEarly }
     {
         let alloc = self.alloc;
@@ -109,7 +113,9 @@ impl Bank {
         gate: G,
         plan: Plan,
     ) -> Result<Vec<Work<L, G>>, BankFault>
-        ensures works { IfOk result (λ works. map (λ work. work.config) works.items ≡ self.configs) }
+        ensures works { IfOk result (λ works. map (λ work. task_of work.config work.users (vec_len work.lines) (map duty_of work.jobs.items) work.orders.plan) works.items
+            ≡ tasks_from self.users plan self.configs
+            (map (λ of_set. vec_len of_set) lines.items) (map (λ of_set. map duty_of of_set.items) jobs.items)) }
         ensures early { IfErr result EndsEarly }
     {
         match Vec::with_capacity(self.alloc, self.configs.len()) {
@@ -128,7 +134,9 @@ impl Bank {
         plan: Plan,
     ) -> Result<Vec<Work<L, G>>, BankFault>
         requires { IsRoomFor (length self.configs) room }
-        ensures works { IfOk result (λ works. map (λ work. work.config) works.items ≡ self.configs) }
+        ensures works { IfOk result (λ works. map (λ work. task_of work.config work.users (vec_len work.lines) (map duty_of work.jobs.items) work.orders.plan) works.items
+            ≡ tasks_from self.users plan self.configs
+            (map (λ of_set. vec_len of_set) lines.items) (map (λ of_set. map duty_of of_set.items) jobs.items)) }
         ensures early { IfErr result EndsEarly }
     {
         let Bank {
@@ -139,7 +147,8 @@ impl Bank {
         let mut lines = lines.into_iter();
         let mut jobs = jobs.into_iter();
         let mut works = room;
-        for config in configs {
+        let mut configs = configs.into_iter();
+        while let Some(config) = configs.next() {
             let orders = Orders {
                 set: config.set,
                 gate: gate.clone()?,

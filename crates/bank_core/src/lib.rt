@@ -27,5 +27,5 @@ mod summing;
 pub use bank::Bank;
 pub use fault::BankFault;
 pub use running::Running;
-pub use set_crew::{Job, Plan, SetEnd};
+pub use set_crew::{Job, Plan, SetEnd, UserFault};
 pub use summing::{SetTotals, totals};

@@ -1,55 +1,75 @@
 //! Sets that run in threads, and what they come to.
-ghost use Rattle.std.specs.Prelude.{◌≡◌, length, map, vec_len, IfOk, IfErr, OnOk};
-ghost use Rattle.bank_core.specs.Ends.{AreEnds};
+ghost use Rattle.std.specs.Prelude.{◌≡◌, length, map, vec_len, Ok, Err, IfOk, IfErr, OnOk};
+ghost use Rattle.std.specs.List.{AllZip};
+ghost use Rattle.set_crew.specs.Ends.{task_of};
+ghost use Rattle.set_crew.specs.Jobs.{duty_of};
+ghost use Rattle.bank_core.specs.Ends.{AreEnds, outcome};
+ghost use Rattle.bank_core.specs.Promises.{Keeps, promised};
 ghost use Rattle.bank_core.specs.Faults.{EndsEarly};
 ghost use Rattle.bank_core.specs.Room.{IsRoomFor};
 
 use super::fault::BankFault;
 use line_ring::Line;
 use link_term::Gate;
-use set_crew::{CrewFault, SetEnd, Work, one_set};
+use set_crew::{CrewFault, Job, Plan, SetEnd, Work, one_set, why_unstarted};
 use set_events::SetConfig;
 use std::alloc::{AllocError, Global};
 use std::marker::Model;
+use std::snapshot::Snapshot;
 use std::sync::Wait;
 use std::thread;
 use std::thread::{Promise, PromisedHandle, Threads};
 
-/// What a set's thread answers: the end of the set of this configuration, or why there is none.
+/// What a set's thread promises: the end of the set of this configuration, with so many users and lines, these jobs and
+/// this plan; or why there is none.
 #[derive(Drop)]
-pub(crate) struct EndOf(pub(crate) SetConfig);
+pub(crate) struct EndOf {
+    pub(crate) config: SetConfig,
+    pub(crate) users: u16,
+    pub(crate) lines: usize,
+    pub(crate) jobs: Snapshot<Vec<Job>>,
+    pub(crate) plan: Plan,
+}
 
 impl Promise<Result<SetEnd, CrewFault>> for EndOf {
-    ghost use Rattle.std.specs.Prelude.{IfOk};
-    ghost use Rattle.set_crew.specs.Ends.{IsEndOf};
+    ghost use Rattle.bank_core.specs.Promises.{Keeps};
 
-    ghost kept_by = { λ promise result. IfOk result (IsEndOf promise.0) };
+    ghost kept_by = { Keeps };
 }
 
 /// The thread of a set.
 pub(crate) type SetThread = PromisedHandle<Result<SetEnd, CrewFault>, EndOf>;
 
-/// A bank whose sets run. Contracts see their configurations, in order. Where it's dropped they run on, and nobody
+/// A bank whose sets run. Contracts see what each is to do, in order. Where it's dropped they run on, and nobody
 /// learns what they come to.
 #[derive(Drop)]
 pub struct Running {
     threads: Vec<SetThread>,
-    /// Empty, with room for the end of each set.
-    ends: Vec<SetEnd>,
+    room: Room,
+}
+
+/// Two empty lists, with room for what each set's thread answers, and for the end of each set.
+#[derive(Drop)]
+pub(crate) struct Room {
+    pub(crate) answers: Vec<Result<SetEnd, CrewFault>>,
+    pub(crate) ends: Vec<SetEnd>,
 }
 
 impl Model for Running {
     ghost use Rattle.std.specs.Prelude.{List};
-    ghost use Rattle.set_events.specs.declared.config.SetConfig.{SetConfig};
+    ghost use Rattle.set_crew.specs.Ends.{Task};
 
-    ghost Value = { List SetConfig };
+    ghost Value = { List Task };
 
     ghost use Rattle.std.specs.Prelude.{◌≡◌, ◌≤◌, [], map, vec_len, vec_capacity};
+    ghost use Rattle.bank_core.specs.Promises.{promised};
 
-    ghost view = { λ r. map (λ thread. thread.promise.0) r.threads.items };
+    ghost view = { λ r. map (λ thread. promised thread.promise) r.threads.items };
 
-    ghost invariant = { λ r. (r.ends.items ≡ []) × (vec_len r.ends ≡ 0)
-        × (vec_len r.threads ≤ vec_capacity r.ends) };
+    ghost invariant = { λ r. ((r.room.answers.items ≡ []) × (vec_len r.room.answers ≡ 0)
+        × (vec_len r.threads ≤ vec_capacity r.room.answers))
+        × ((r.room.ends.items ≡ []) × (vec_len r.room.ends ≡ 0)
+        × (vec_len r.threads ≤ vec_capacity r.room.ends)) };
 }
 
 impl Running {
@@ -59,12 +79,12 @@ impl Running {
         G: Gate + Drop + Send + Sync + 'static,
         R: Threads + Wait + Copy + Send + Sync + 'static,
     >(rt: &R, alloc: Global, works: Vec<Work<L, G>>) -> Result<Running, BankFault>
-        ensures running { IfOk result (λ running. running ≡ map (λ work. work.config) works.items) }
+        ensures running { IfOk result (λ running. running ≡ map (λ work. task_of work.config work.users (vec_len work.lines) (map duty_of work.jobs.items) work.orders.plan) works.items) }
         ensures early { IfErr result EndsEarly }
     {
         match room_for(alloc, works.len()) {
-            Ok((mut threads, ends)) => match start_each(rt, alloc, works, &mut threads) {
-                Ok(()) => Ok(Running { threads, ends }),
+            Ok((mut threads, room)) => match start_each(rt, alloc, works, &mut threads) {
+                Ok(()) => Ok(Running { threads, room }),
                 Err(fault) => {
                     wait_for(rt, threads);
                     Err(fault)
@@ -82,33 +102,56 @@ impl Running {
         ensures ends { IfOk result (λ ends. AreEnds self ends.items) }
         ensures early { IfErr result EndsEarly }
     {
-        let mut ends = self.ends;
-        let mut first_fault = None;
-        for thread in self.threads {
-            match thread.join(rt) {
-                Ok(end) => ends.push_reserved(end),
-                Err(fault) => {
-                    if first_fault.is_none() {
-                        first_fault = Some(fault);
-                    }
-                }
-            }
-        }
-        match first_fault {
-            None => Ok(ends),
-            Some(fault) => Err(BankFault::from(fault)),
-        }
+        let Room { answers, ends } = self.room;
+        let answers = wait_for_all(rt, self.threads, answers);
+        Ok(sort_out(answers, ends)?)
     }
 }
 
-/// Room for the threads of so many sets, and for their ends.
-fn room_for(alloc: Global, sets: usize) -> Result<(Vec<SetThread>, Vec<SetEnd>), AllocError>
+/// Waits for all these threads: what each answers, put into this room.
+fn wait_for_all<R: Threads>(
+    rt: &R,
+    threads: Vec<SetThread>,
+    room: Vec<Result<SetEnd, CrewFault>>,
+) -> Vec<Result<SetEnd, CrewFault>>
+    requires { IsRoomFor (length threads.items) room }
+    ensures answers { AllZip Keeps (map (λ thread. thread.promise) threads.items) result.items }
+    ensures few { length result.items ≡ length threads.items }
+{
+    let mut answers = room;
+    for thread in threads {
+        answers.push_reserved(thread.join(rt));
+    }
+    answers
+}
+
+/// The ends that these sets came to, put into this room, or else the fault of the first that came to none.
+pub(crate) fn sort_out(
+    answers: Vec<Result<SetEnd, CrewFault>>,
+    room: Vec<SetEnd>,
+) -> Result<Vec<SetEnd>, CrewFault>
+    requires { IsRoomFor (length answers.items) room }
+    ensures ends { IfOk result (λ ends. outcome answers.items ≡ Ok ends.items) }
+    ensures first { IfErr result (λ fault. outcome answers.items ≡ Err fault) }
+{
+    let mut ends = room;
+    let mut answers = answers.into_iter();
+    while let Some(answer) = answers.next() {
+        ends.push_reserved(answer?);
+    }
+    Ok(ends)
+}
+
+/// Room for the threads of so many sets, for what they answer, and for their ends.
+fn room_for(alloc: Global, sets: usize) -> Result<(Vec<SetThread>, Room), AllocError>
     ensures threads { IfOk result (λ room. IsRoomFor sets room.0) }
-    ensures ends { IfOk result (λ room. IsRoomFor sets room.1) }
+    ensures answers { IfOk result (λ room. IsRoomFor sets room.1.answers) }
+    ensures ends { IfOk result (λ room. IsRoomFor sets room.1.ends) }
 {
     let threads = Vec::with_capacity(alloc, sets)?;
+    let answers = Vec::with_capacity(alloc, sets)?;
     let ends = Vec::with_capacity(alloc, sets)?;
-    Ok((threads, ends))
+    Ok((threads, Room { answers, ends }))
 }
 
 /// Starts a thread for each of these sets, up to the first that can't be started.
@@ -123,8 +166,8 @@ fn start_each<
     threads: &mut Vec<SetThread>,
 ) -> Result<(), BankFault>
     requires room { IsRoomFor (length works.items) threads.old }
-    ensures started { OnOk result (map (λ thread. thread.promise.0) threads.new.items
-        ≡ map (λ work. work.config) works.items) }
+    ensures started { OnOk result (map (λ thread. promised thread.promise) threads.new.items
+        ≡ map (λ work. task_of work.config work.users (vec_len work.lines) (map duty_of work.jobs.items) work.orders.plan) works.items) }
     ensures few { OnOk result (vec_len threads.new ≡ length works.items) }
     ensures early { IfErr result EndsEarly }
 {
@@ -140,13 +183,21 @@ fn start_one<
     G: Gate + Drop + Send + Sync + 'static,
     R: Threads + Wait + Copy + Send + Sync + 'static,
 >(rt: &R, alloc: Global, work: Work<L, G>) -> Result<SetThread, BankFault>
-    ensures started { IfOk result (λ thread. thread.promise.0 ≡ work.config) }
+    ensures started { IfOk result (λ thread. promised thread.promise ≡ task_of work.config work.users (vec_len work.lines)
+        (map duty_of work.jobs.items) work.orders.plan) }
     ensures early { IfErr result EndsEarly }
 {
     let own = *rt;
-    match thread::spawn_with(rt, EndOf(work.config), move || one_set(&own, alloc, work)) {
+    let end = EndOf {
+        config: work.config,
+        users: work.users,
+        lines: work.lines.len(),
+        jobs: Snapshot::of(&work.jobs),
+        plan: work.orders.plan,
+    };
+    match thread::spawn_with(rt, end, move || one_set(&own, alloc, work)) {
         Ok(thread) => Ok(thread),
-        Err(_) => Err(BankFault::NoThread),
+        Err(_) => Err(BankFault::from(why_unstarted(alloc))),
     }
 }
 

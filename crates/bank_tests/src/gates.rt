@@ -270,7 +270,7 @@ fn all_meet<R: Threads + Wait + Copy + Send + Sync + 'static>(
     holds(read(&seen.missed) == 0 && read(&seen.met) >= least)?;
     are_legal(alloc, &configs, &ends)?;
     for end in ends.iter() {
-        holds(end.closed.books.messages == 2 && end.users.iter().all(|user| *user))?;
+        holds(end.closed.books.messages == 2 && end.users.iter().all(|user| user.is_ok()))?;
     }
     Ok(())
 }

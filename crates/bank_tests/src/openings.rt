@@ -141,7 +141,7 @@ fn offer_of(alloc: Global, user: u8, messages: u16) -> Result<Job, Fail> {
 }
 
 /// The jobs of the users of one set: each offers so many messages.
-fn offers_of_one(alloc: Global, users: u8, messages: u16) -> Result<Vec<Job>, Fail> {
+pub(crate) fn offers_of_one(alloc: Global, users: u8, messages: u16) -> Result<Vec<Job>, Fail> {
     let mut jobs = Vec::new(alloc);
     for user in 0..users {
         let job = offer_of(alloc, user, messages)?;

@@ -1,8 +1,8 @@
 //! Banks that run to their end.
 
 use super::openings::{
-    are_legal, bank_of, configs_of, ends_of, holds, loops_of, offers_of, placed, plan_of, rings_of,
-    takes_of,
+    are_legal, bank_of, configs_of, ends_of, holds, loops_of, offers_of, offers_of_one, placed,
+    plan_of, rings_of, takes_of,
 };
 use bank_core::SetEnd;
 use link_term::OpenGate;
@@ -30,9 +30,9 @@ fn turned(end: &SetEnd, links: usize, turns: u64, fail: Option<usize>) -> Result
     Ok(())
 }
 
-/// Each user got through, and each of their messages was accepted and stands in one place.
+/// Each user did its job, and each of their messages was accepted and stands in one place.
 fn accepted(end: &SetEnd, users: usize, messages: u64) -> Result<(), Fail> {
-    holds(end.users.len() == users && end.users.iter().all(|got_through| *got_through))?;
+    holds(end.users.len() == users && end.users.iter().all(|user| user.is_ok()))?;
     holds(end.closed.books.messages == messages && placed(end) == messages)
 }
 
@@ -68,6 +68,36 @@ fn four_sets_of_four_links(rt: HostRuntime) -> Result<(), Fail> {
 fn four_sets_of_four_links_by_cycles(rt: HostRuntime) -> Result<(), Fail> {
     let method = Method::Cyclic { n1: 127, n2: 8_000 };
     four_sets(&rt, rt.alloc(), method)
+}
+
+/// Two sets of one link, whose users have different jobs: two users offer 3 messages each, one of two offers 5.
+fn each_has_its_own_jobs<R: Threads + Wait + Copy + Send + Sync + 'static>(
+    rt: &R,
+    alloc: Global,
+) -> Result<(), Fail> {
+    let configs = configs_of(alloc, 2, 1, Method::Basic, 2, 1)?;
+    let mut jobs = Vec::new(alloc);
+    jobs.push(offers_of_one(alloc, 2, 3)?)?;
+    jobs.push(offers_of_one(alloc, 1, 5)?)?;
+    let ends = ends_of(
+        rt,
+        bank_of(alloc, &configs, 2)?,
+        loops_of(alloc, 2, 1)?,
+        jobs,
+        OpenGate,
+        plan_of(100, None),
+    )?;
+    are_legal(alloc, &configs, &ends)?;
+    let [first, second] = ends.as_slice() else {
+        return Err(Fail::from("not two"));
+    };
+    accepted(first, 2, 6)?;
+    accepted(second, 2, 5)
+}
+
+#[test]
+fn each_set_does_its_own_jobs(rt: HostRuntime) -> Result<(), Fail> {
+    each_has_its_own_jobs(&rt, rt.alloc())
 }
 
 /// The two ends of one set of two links, each in a bank of its own: four users at the one, one at the other.

@@ -102,7 +102,7 @@ pub(crate) fn came_through(alloc: Global, ends: &TrafficEnds) -> Result<bool, Fa
     let mut all = true;
     for end in ends.near.iter() {
         is_sound(alloc, end, 400)?;
-        holds(end.users.iter().all(|user| *user))?;
+        holds(end.users.iter().all(|user| user.is_ok()))?;
         all = all && end.closed.counts.acked == 400;
     }
     for end in ends.far.iter() {

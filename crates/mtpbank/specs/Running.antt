@@ -1,11 +1,18 @@
 -- WHAT EACH SUBCOMMAND MAKES OF AN INPUT.
-use Rattle.std.specs.Prelude.{◌≡◌, ◌^◌, ℕ, List, Result, Ok, Err}
+use Rattle.std.specs.Prelude.{◌≡◌, ◌≢◌, ◌⊎◌, ◌^◌, ℕ, List, Result, Ok, Err}
 use Rattle.std.specs.Option.{option_map}
 use Rattle.command_line.specs.declared.words.Words.{Words}
-use Rattle.command_line.specs.declared.words.Words.TheVariants.{Units, Play, PlayExplained, Decode, Capture, Ladder, Audit, HistoryOfA, HistoryOfB, Run}
+use Rattle.command_line.specs.declared.words.Words.TheVariants.{Units, Play, PlayExplained, Decode, DecodeWide, Capture, Ladder, Audit, HistoryOfA, HistoryOfB, Run}
+use Rattle.clap.specs.Values.{kind_of}
+use Rattle.clap.specs.declared.error.kind.ErrorKind.TheVariants.{DisplayHelp, DisplayVersion}
+use Rattle.command_line.specs.declared.run_words.RunWords.{RunWords}
+use Rattle.command_line.specs.declared.words.WordsFault.{WordsFault}
+use Rattle.command_line.specs.declared.words.WordsFault.TheVariants.{NoMemory, Words as WrongWords, Link, Said}
+use Rattle.run_text.specs.Asked.{IsTextAsked}
 use Rattle.printing.specs.declared.fault.Fault.{Fault}
 use Rattle.printing.specs.declared.fault.Fault.TheVariants.{Input, Memory, Read, Long, Write}
 use Rattle.printing.specs.Printing.{Printed}
+use Rattle.l2_units.specs.declared.profile.Profile.TheVariants.{Narrow, Wide}
 use Rattle.play_text.specs.PlayText.{IsPlayText, IsExplainedPlayText}
 use Rattle.units_text.specs.UnitsText.{IsUnitsText}
 use Rattle.decode_text.specs.Decoding.{IsDecodeText}
@@ -28,7 +35,8 @@ abbrev pub IsTextOf : Words → List ℕ → Printed TextFault → Type 0
 IsTextOf Units input text = IsText (IsUnitsText input) UnitsFault text
 IsTextOf Play input text = IsText (IsPlayText input) PlayFault text
 IsTextOf PlayExplained input text = IsText (IsExplainedPlayText input) ExplainedPlayFault text
-IsTextOf Decode input text = IsText (IsDecodeText input) DecodeFault text
+IsTextOf Decode input text = IsText (IsDecodeText Narrow input) DecodeFault text
+IsTextOf DecodeWide input text = IsText (IsDecodeText Wide input) DecodeFault text
 IsTextOf Capture input text = IsText (IsCapture input) PlayFault text
 IsTextOf Ladder input text = IsText (IsLadder input) PlayFault text
 IsTextOf Audit input text = IsText (IsAuditText input) AuditedFault text
@@ -45,6 +53,7 @@ ReadsInput words = Unit {0}
 abbrev pub longest_of : Words → ℕ
 longest_of Units = 2 ^ 60
 longest_of Decode = 2 ^ 60
+longest_of DecodeWide = 2 ^ 60
 longest_of words = 2 ^ 24
 
 -- the same answer with a fault of that type
@@ -56,3 +65,27 @@ with_fault of (Err Memory) = Err Memory
 with_fault of (Err Read) = Err Read
 with_fault of (Err Long) = Err Long
 with_fault of (Err Write) = Err Write
+
+-- THE STATUS.
+
+-- of what was done: 0, or 1 for a fault
+abbrev pub IsDone : ℕ → Type 0
+IsDone status = (status ≡ 0) ⊎ (status ≡ 1)
+
+-- of a run: 0 only where it came to its end, as the words ask, with all that it printed
+pub record EndsRun (words : RunWords) (status : ℕ) : Type 0 where
+  pub done : IsDone status
+  pub well : status ≡ 0 → (text : List ℕ) × IsTextAsked words text
+
+-- of wrong words: 2; what was asked to be shown may have been, or a fault
+abbrev pub EndsRefused : WordsFault → ℕ → Type 0
+EndsRefused NoMemory status = status ≡ 1
+EndsRefused (WrongWords error) status =
+    kind_of error ≢ DisplayHelp → kind_of error ≢ DisplayVersion → status ≡ 2
+EndsRefused Link status = status ≡ 2
+EndsRefused (Said said) status = status ≡ 2
+
+abbrev pub EndsAsAsked : Result Words WordsFault → ℕ → Type 0
+EndsAsAsked (Ok (Run words)) status = EndsRun words status
+EndsAsAsked (Ok words) status = IsDone status
+EndsAsAsked (Err fault) status = EndsRefused fault status

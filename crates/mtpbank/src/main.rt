@@ -8,22 +8,19 @@
 //! banks in threads, and prints what they came to.
 #![tactic(auto)]
 
-ghost use Rattle.std.specs.Prelude.{◌≡◌, ◌≢◌, IsOk, IsErr};
+ghost use Rattle.std.specs.Prelude.{◌≡◌, ◌≢◌, ◌⊎◌, Ok, Err, IsOk, IsErr};
 ghost use Rattle.std.specs.Process.{exit_status};
 ghost use Rattle.clap.specs.Values.{kind_of};
-ghost use Rattle.mtpbank.specs.Running.{ReadsInput};
+ghost use Rattle.command_line.specs.declared.words.Words.TheVariants.{Run};
+ghost use Rattle.command_line.specs.declared.words.WordsFault.TheVariants.{NoMemory, Words as WrongWords, Link, Said};
+ghost use Rattle.mtpbank.specs.Running.{EndsAsAsked, EndsRun, IsDone, ReadsInput};
 ghost use Rattle.clap.specs.declared.error.kind.ErrorKind.TheVariants.{DisplayHelp, DisplayVersion};
 
-mod progress;
 mod running;
 
 use command_line::{RunWords, Words, WordsFault, asked_by, not_unicode};
-use paced_banks::{Traffic, pace_gates};
-use printing::{Fault, Reader, Sink, Writer};
-use progress::Progress;
-use run_text::RunFault;
+use printing::{Fault, Reader, Writer};
 use running::run;
-use std::alloc::Global;
 use std::fmt::Display;
 use std::io;
 use std::io::{Eprint, IsTerminal, Print};
@@ -39,18 +36,24 @@ const FAULT: u8 = 1;
 const WRONG: u8 = 2;
 
 fn main(rt: HostRuntime) -> ExitCode {
-    match asked(&rt) {
-        Ok(Words::Run(words)) => {
-            let shows = rt.stderr().is_terminal();
-            let mut sink = Writer::new(io::writer(&rt));
-            let ran = ran(&rt, rt.alloc(), shows, &words, &mut sink);
-            ended(&rt, ran, sink.is_closed())
-        }
-        Ok(words) => done(&rt, words),
-        Err(WordsFault::Words(error)) => said(&rt, &error),
-        Err(WordsFault::Link) => linkless(&rt),
-        Err(WordsFault::Said(text)) => advised(&rt, &text),
-        Err(WordsFault::NoMemory) => told(&rt, "fault memory"),
+    answered(&rt, &rt, asked(&rt))
+}
+
+/// Does what the words ask for, or tells what is wrong with them. What starts threads is the same runtime.
+fn answered<R: Threads + Wait + Clock + Eprint + Copy + Send + Sync + 'static>(
+    rt: &HostRuntime,
+    threads: &R,
+    asked: Result<Words, WordsFault>,
+) -> ExitCode
+    ensures { EndsAsAsked asked (exit_status result) }
+{
+    match asked {
+        Ok(Words::Run(words)) => ran(rt, threads, &words),
+        Ok(words) => done(rt, words),
+        Err(WordsFault::Words(error)) => said(rt, &error),
+        Err(WordsFault::Link) => linkless(rt),
+        Err(WordsFault::Said(text)) => advised(rt, &text),
+        Err(WordsFault::NoMemory) => told(rt, "fault memory"),
     }
 }
 
@@ -119,6 +122,7 @@ fn linkless(rt: &HostRuntime) -> ExitCode
 /// Does what the words ask for, with standard input and output.
 fn done(rt: &HostRuntime, words: Words) -> ExitCode
     requires reads { ReadsInput words }
+    ensures { IsDone (exit_status result) }
 {
     let mut source = Reader::new(rt.reader());
     let mut sink = Writer::new(io::writer(rt));
@@ -126,50 +130,18 @@ fn done(rt: &HostRuntime, words: Words) -> ExitCode
     ended(rt, ran, sink.is_closed())
 }
 
-/// Runs two banks in threads, and prints what they came to; meanwhile it shows how far they are, if it's to.
-fn ran<R: Threads + Wait + Clock + Eprint + Copy + Send + Sync + 'static, W: Sink>(
-    rt: &R,
-    alloc: Global,
-    shows: bool,
+/// Runs two banks in threads, and prints what they came to; meanwhile it shows how far they are, where somebody looks.
+fn ran<R: Threads + Wait + Clock + Eprint + Copy + Send + Sync + 'static>(
+    rt: &HostRuntime,
+    threads: &R,
     words: &RunWords,
-    sink: &mut W,
-) -> Result<(), Fault<RunFault>> {
-    let traffic = traffic_of(words);
-    let Ok((near, far)) = pace_gates(alloc, traffic.sets, traffic.links) else {
-        return Err(Fault::Memory);
-    };
-    let progress = if shows {
-        let turns = u64::from(words.sets) * u64::from(words.links) * u64::from(words.turns);
-        Progress::start(rt, alloc, &near, turns)
-    } else {
-        None
-    };
-    run_text::run(rt, alloc, &traffic, (near, far), words.per_link, sink, || {
-        if let Some(progress) = progress {
-            progress.end(rt);
-        }
-    })
-}
-
-/// The traffic that these words ask for.
-fn traffic_of(words: &RunWords) -> Traffic
-    ensures sets { result.sets ≡ words.now.sets }
-    ensures links { result.links ≡ words.now.links }
-    ensures users { result.users ≡ words.now.users }
-    ensures messages { result.messages ≡ words.now.messages }
-    ensures fail { result.fail ≡ words.now.fail }
-    ensures cyclic { result.cyclic ≡ words.now.cyclic }
-    ensures turns { result.turns ≡ words.now.turns }
+) -> ExitCode
+    ensures { EndsRun words.now (exit_status result) }
 {
-    Traffic {
-        sets: words.sets,
-        links: words.links,
-        users: words.users,
-        messages: words.messages,
-        fail: words.fail,
-        cyclic: words.cyclic,
-        turns: u64::from(words.turns),
-    }
+    let shows = rt.stderr().is_terminal();
+    let mut sink = Writer::new(io::writer(rt));
+    let ran = run_text::run(threads, rt.alloc(), words, shows, &mut sink);
+    ended(rt, ran, sink.is_closed())
 }
 
 /// Ends with status 0, or with 1 and the fault in a line on standard error; no line where standard output is a pipe that

@@ -6,6 +6,7 @@ ghost use Rattle.mtpbank.specs.Running.{IsTextOf, ReadsInput, longest_of, with_f
 use audit_text::{AuditFault, audit};
 use command_line::Words;
 use decode_text::{UnreadableUnit, decode};
+use l2_units::Profile;
 use play_text::{ExplainedFault, ScriptFault, play, play_explained};
 use printing::{Fault, Sink, Source};
 use script_capture::capture;
@@ -53,7 +54,8 @@ pub fn run<S: Source, W: Sink>(
         Words::Units => of_any(units(alloc, source, sink)),
         Words::Play => of_any(play(alloc, source, sink)),
         Words::PlayExplained => of_any(play_explained(alloc, source, sink)),
-        Words::Decode => of_any(decode(alloc, source, sink)),
+        Words::Decode => of_any(decode(alloc, Profile::Narrow, source, sink)),
+        Words::DecodeWide => of_any(decode(alloc, Profile::Wide, source, sink)),
         Words::Capture => of_any(capture(alloc, source, sink)),
         Words::Ladder => of_any(ladder(alloc, source, sink)),
         Words::Audit => of_any(audit(alloc, source, sink)),

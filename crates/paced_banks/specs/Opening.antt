@@ -1,29 +1,94 @@
 -- WHAT TWO BANKS ARE OPENED WITH, and what their sets came to.
-use Rattle.std.specs.Prelude.{◌≡◌, ℕ, Bool, true, false, zero, suc, List, [], ◌∷◌, ◌++◌, map, All}
+use Rattle.std.specs.Prelude.{◌≡◌, ◌+◌, ◌*◌, ◌/◌, ◌%◌, ℕ, Bool, true, false, zero, suc, List, [], ◌∷◌, ◌++◌, map, All, Option, None}
 use Rattle.l2_units.specs.declared.profile.Profile.TheVariants.{Narrow}
 use Rattle.set_events.specs.declared.config.SetConfig.{SetConfig}
 use Rattle.set_events.specs.declared.config.Method.{Method}
 use Rattle.set_events.specs.declared.config.Method.TheVariants.{Basic, Cyclic}
 use Rattle.set_events.specs.Config.{IsConfigOf}
 use Rattle.set_crew.specs.declared.end.SetEnd.{SetEnd}
+use Rattle.set_crew.specs.declared.plan.Plan.{Plan}
+use Rattle.set_crew.specs.Ends.{Task}
+use Rattle.set_crew.specs.Jobs.{Duty, offers, takes}
+use Rattle.term_model.specs.declared.timers.Timers.{Timers}
 use Rattle.bank_core.specs.Ends.{AreEnds}
+use Rattle.paced_banks.specs.declared.asked.Traffic.{Traffic}
 
 -- 0, 1, .. below a number
 abbrev pub numbers_below : ℕ → List ℕ
 numbers_below zero = []
 numbers_below (suc n) = numbers_below n ++ n ∷ []
 
+-- by cycles, forced by 127 messages or 8,000 octets (Q.703 6.4), or by the basic method
+abbrev pub method_of : Bool → Method
+method_of true = Cyclic 127 8000
+method_of false = Basic
+
+-- THE MESSAGES. A user's are numbered from 0: SIO 0x85, a label to point code 1 from point code 2 whose SLS is the user's
+-- number (Q.704 2.2), and the message's number, the high octet first
+abbrev pub body_of : ℕ → ℕ → List ℕ
+body_of user number = 133 ∷ 1 ∷ 128 ∷ 0 ∷ (user % 16 * 16) ∷ (number / 256) ∷ (number % 256) ∷ []
+
+-- a user at an end a offers so many of them, in order; the one user at an end b takes a thousand times
+abbrev pub offers_of : ℕ → ℕ → Duty
+offers_of messages user = offers (map (body_of user) (numbers_below messages))
+
+abbrev pub near_jobs : ℕ → ℕ → List Duty
+near_jobs users messages = map (offers_of messages) (numbers_below users)
+
+abbrev pub far_jobs : List Duty
+far_jobs = takes 1000 ∷ []
+
+-- THE PLAN: all timers are 100,000 octet times, but T5, which is 800
+abbrev pub timers : Timers
+timers = record { t1 = 100000; t2 = 100000; t3 = 100000; t5 = 800; t6 = 100000; t7 = 100000 }
+
+pub record IsPlan (turns : ℕ) (fail : Option ℕ) (plan : Plan) : Type 0 where
+  pub timers_are : plan.timers ≡ timers
+  pub turns_are : plan.turns ≡ turns
+  pub fail_is : plan.fail ≡ fail
+
+-- the same for each of so many sets
+abbrev pub each_set : {X : Type 0} → ℕ → X → List X
+each_set zero x = []
+each_set (suc n) x = each_set n x ++ x ∷ []
+
+-- AN END of a traffic's sets: the point codes of this end and the other, its users, their jobs, and the link that fails here
+pub record OneEnd : Type 0 where
+  pub opc : ℕ
+  pub dpc : ℕ
+  pub users : ℕ
+  pub jobs : List Duty
+  pub fail : Option ℕ
+
+abbrev pub near_end : Traffic → OneEnd
+near_end traffic = record {
+  opc = 2;
+  dpc = 1;
+  users = traffic.users;
+  jobs = near_jobs traffic.users traffic.messages;
+  fail = traffic.fail;
+}
+
+abbrev pub far_end : OneEnd
+far_end = record { opc = 1; dpc = 2; users = 1; jobs = far_jobs; fail = None }
+
 -- the sets 0, 1, .., each of so many links, at the end of point code `opc`; the SIO of orders is 0x80
 pub record AreConfigs (sets links opc dpc : ℕ) (method : Method) (configs : List SetConfig) : Type 0 where
   pub numbers : map (λ (config : SetConfig). config.set) configs ≡ numbers_below sets
   pub alike : All (λ (config : SetConfig). IsConfigOf config Narrow config.set links opc dpc 128 method) configs
 
--- set by set, an end of such a configuration
-abbrev pub AreEndsOf : ℕ → ℕ → ℕ → ℕ → Method → List SetEnd → Type 0
-AreEndsOf sets links opc dpc method ends =
-    (configs : List SetConfig) × AreConfigs sets links opc dpc method configs × AreEnds configs ends
+-- what each set is to do at this end: all have a line for each link, the same jobs and the same plan
+pub record IsTaskOf (traffic : Traffic) (side : OneEnd) (task : Task) : Type 0 where
+  pub users_are : task.users ≡ side.users
+  pub lines_are : task.lines ≡ traffic.links
+  pub jobs_are : task.jobs ≡ side.jobs
+  pub plan_is : IsPlan traffic.turns side.fail task.plan
 
--- by cycles, forced by 127 messages or 8,000 octets (Q.703 6.4), or by the basic method
-abbrev pub method_of : Bool → Method
-method_of true = Cyclic 127 8000
-method_of false = Basic
+pub record AreTasks (traffic : Traffic) (side : OneEnd) (tasks : List Task) : Type 0 where
+  pub configs : AreConfigs traffic.sets traffic.links side.opc side.dpc (method_of traffic.cyclic)
+      (map (λ (task : Task). task.config) tasks)
+  pub each : All (IsTaskOf traffic side) tasks
+
+-- THE ENDS of a traffic at one side: set by set, its task was done
+abbrev pub AreEndsOf : Traffic → OneEnd → List SetEnd → Type 0
+AreEndsOf traffic side ends = (tasks : List Task) × AreTasks traffic side tasks × AreEnds tasks ends

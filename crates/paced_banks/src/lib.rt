@@ -12,9 +12,11 @@
 //! gate of these banks does ([`PaceGate`]): the end of a link that is 64 turns ahead of the other yields to it, a while.
 #![tactic(auto)]
 
+mod asked;
 mod opening;
 mod pace;
 mod traffic;
 
+pub use asked::Traffic;
 pub use pace::{PaceGate, pace_gates};
-pub use traffic::{Traffic, TrafficEnds, run_through, run_traffic};
+pub use traffic::{TrafficEnds, run_through, run_traffic};

@@ -1,6 +1,8 @@
 //! What two banks are opened with.
-ghost use Rattle.std.specs.Prelude.{◌≡◌, ◌<◌, ◌≤◌, ◌^◌, true, IfOk};
-ghost use Rattle.paced_banks.specs.Opening.{AreConfigs, method_of};
+ghost use Rattle.std.specs.Prelude.{◌≡◌, ◌<◌, ◌≤◌, ◌^◌, true, [], ◌∷◌, map, vec_len, IfOk};
+ghost use Rattle.set_crew.specs.Jobs.{duty_of, takes};
+ghost use Rattle.paced_banks.specs.Opening.{AreConfigs, body_of, each_set, method_of, near_jobs, numbers_below};
+ghost use Rattle.paced_banks.specs.Sides.{duties, line_counts};
 ghost use Rattle.l2_units.specs.declared.profile.Profile.TheVariants.{Narrow};
 ghost use Rattle.set_events.specs.Method.{is_method};
 
@@ -56,7 +58,10 @@ pub(crate) struct Lines {
 }
 
 /// A pair of rings for each link of each set.
-pub(crate) fn lines_of(alloc: Global, sets: u16, links: u8) -> Result<Lines, AllocError> {
+pub(crate) fn lines_of(alloc: Global, sets: u16, links: u8) -> Result<Lines, AllocError>
+    ensures near { IfOk result (λ lines. line_counts lines.near ≡ each_set sets links) }
+    ensures far { IfOk result (λ lines. line_counts lines.far ≡ each_set sets links) }
+{
     let mut lines = Lines {
         near: Vec::new(alloc),
         far: Vec::new(alloc),
@@ -72,7 +77,10 @@ pub(crate) fn lines_of(alloc: Global, sets: u16, links: u8) -> Result<Lines, All
 }
 
 /// A pair of rings for each link of one set.
-fn set_lines(alloc: Global, links: u8) -> Result<(Vec<RingLine>, Vec<RingLine>), AllocError> {
+fn set_lines(alloc: Global, links: u8) -> Result<(Vec<RingLine>, Vec<RingLine>), AllocError>
+    ensures near { IfOk result (λ lines. vec_len lines.0 ≡ links) }
+    ensures far { IfOk result (λ lines. vec_len lines.1 ≡ links) }
+{
     let mut near = Vec::new(alloc);
     let mut far = Vec::new(alloc);
     for _link in 0..links {
@@ -91,7 +99,9 @@ pub(crate) fn offers_of(
     sets: u16,
     users: u16,
     messages: u16,
-) -> Result<Vec<Vec<Job>>, AllocError> {
+) -> Result<Vec<Vec<Job>>, AllocError>
+    ensures { IfOk result (λ all. duties all ≡ each_set sets (near_jobs users messages)) }
+{
     let mut all = Vec::new(alloc);
     for _set in 0..sets {
         all.reserve(1)?;
@@ -102,7 +112,9 @@ pub(crate) fn offers_of(
 }
 
 /// The jobs of one set's users at end a.
-fn set_offers(alloc: Global, users: u16, messages: u16) -> Result<Vec<Job>, AllocError> {
+fn set_offers(alloc: Global, users: u16, messages: u16) -> Result<Vec<Job>, AllocError>
+    ensures { IfOk result (λ jobs. map duty_of jobs.items ≡ near_jobs users messages) }
+{
     let mut jobs = Vec::new(alloc);
     for user in 0..users {
         jobs.reserve(1)?;
@@ -113,7 +125,10 @@ fn set_offers(alloc: Global, users: u16, messages: u16) -> Result<Vec<Job>, Allo
 }
 
 /// The bodies of a user's messages.
-fn bodies_of(alloc: Global, user: u16, messages: u16) -> Result<Vec<Vec<u8>>, AllocError> {
+fn bodies_of(alloc: Global, user: u16, messages: u16) -> Result<Vec<Vec<u8>>, AllocError>
+    ensures { IfOk result (λ bodies. map (λ body. body.items) bodies.items
+        ≡ map (body_of user) (numbers_below messages)) }
+{
     let mut bodies = Vec::new(alloc);
     for number in 0..messages {
         bodies.reserve(1)?;
@@ -125,7 +140,9 @@ fn bodies_of(alloc: Global, user: u16, messages: u16) -> Result<Vec<Vec<u8>>, Al
 
 /// A message: SIO, a label to point code 1 from point code 2 whose SLS is the user's number modulo 16 (Q.704 2.2), and
 /// its own number, the high octet first.
-fn body_of(user: u16, number: u16) -> [u8; 7] {
+fn body_of(user: u16, number: u16) -> [u8; 7]
+    ensures { result ≡ body_of user number }
+{
     [
         0x85,
         0x01,
@@ -138,7 +155,9 @@ fn body_of(user: u16, number: u16) -> [u8; 7] {
 }
 
 /// The job of each set's one user at the ends b: to ask so often for a message.
-pub(crate) fn takes_of(alloc: Global, sets: u16, times: u32) -> Result<Vec<Vec<Job>>, AllocError> {
+pub(crate) fn takes_of(alloc: Global, sets: u16, times: u32) -> Result<Vec<Vec<Job>>, AllocError>
+    ensures { IfOk result (λ all. duties all ≡ each_set sets (takes times ∷ [])) }
+{
     let mut all = Vec::new(alloc);
     for _set in 0..sets {
         let mut jobs = Vec::new(alloc);

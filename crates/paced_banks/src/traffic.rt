@@ -2,8 +2,10 @@
 ghost use Rattle.std.specs.Prelude.{◌≡◌, ◌<◌, ◌≤◌, ◌^◌, IfOk, IfErr};
 ghost use Rattle.bank_core.specs.Ends.{AreEnds};
 ghost use Rattle.bank_core.specs.Faults.{EndsEarly};
-ghost use Rattle.paced_banks.specs.Opening.{AreConfigs, AreEndsOf, method_of};
+ghost use Rattle.paced_banks.specs.Opening.{AreConfigs, AreEndsOf, AreTasks, IsPlan, each_set, far_end, method_of, near_end};
+ghost use Rattle.paced_banks.specs.Sides.{line_counts, tasks_in};
 
+use super::asked::Traffic;
 use super::opening::{configs_of, lines_of, method_of, offers_of, takes_of};
 use super::pace::{PaceGate, pace_gates};
 use bank_core::{Bank, BankFault, Job, Plan, Running, SetEnd};
@@ -26,30 +28,6 @@ const TIMERS: Timers = Timers {
 /// How often the user at an end b asks for a message.
 const TAKES: u32 = 1_000;
 
-/// What runs between the ends a and b of sets.
-#[derive(Clone, Copy, Debug, PartialEq, Eq)]
-pub struct Traffic {
-    /// How many sets, 1 to 16.
-    pub sets: u16,
-    /// How many links each set has, 1 to 16.
-    pub links: u8,
-    /// How many users each set has at its end a, 1 to 16.
-    pub users: u16,
-    /// How many messages each of them offers, 1 to 1,024.
-    pub messages: u16,
-    /// The link whose terminal at end a is told Stop half way.
-    pub fail: Option<u8>,
-    /// Messages are kept safe by preventive cyclic retransmission (Q.703 6), with N1 127 and N2 8,000; else by the
-    /// basic method.
-    pub cyclic: bool,
-    /// How many turns each terminal takes, in octet times; at most 2^32.
-    pub turns: u64,
-    pub ghost few_sets: { (1 ≤ sets) × (sets ≤ 16) },
-    pub ghost few_links: { (1 ≤ links) × (links ≤ 16) },
-    pub ghost few_users: { (1 ≤ users) × (users ≤ 16) },
-    pub ghost few_turns: { turns ≤ 2 ^ 32 },
-}
-
 /// What the sets came to at their ends.
 #[derive(Drop)]
 pub struct TrafficEnds {
@@ -65,10 +43,8 @@ pub fn run_traffic<R: Threads + Wait + Copy + Send + Sync + 'static>(
     alloc: Global,
     traffic: &Traffic,
 ) -> Result<TrafficEnds, BankFault>
-    ensures near { IfOk result (λ ends. AreEndsOf traffic.now.sets traffic.now.links 2 1
-        (method_of traffic.now.cyclic) ends.near.items) }
-    ensures far { IfOk result (λ ends. AreEndsOf traffic.now.sets traffic.now.links 1 2
-        (method_of traffic.now.cyclic) ends.far.items) }
+    ensures near { IfOk result (λ ends. AreEndsOf traffic.now (near_end traffic.now) ends.near.items) }
+    ensures far { IfOk result (λ ends. AreEndsOf traffic.now far_end ends.far.items) }
     ensures early { IfErr result EndsEarly }
 {
     let (near_gate, far_gate) = pace_gates(alloc, traffic.sets, traffic.links)?;
@@ -87,10 +63,8 @@ pub fn run_through<R: Threads + Wait + Copy + Send + Sync + 'static>(
     near_gate: PaceGate,
     far_gate: PaceGate,
 ) -> Result<TrafficEnds, BankFault>
-    ensures near { IfOk result (λ ends. AreEndsOf traffic.now.sets traffic.now.links 2 1
-        (method_of traffic.now.cyclic) ends.near.items) }
-    ensures far { IfOk result (λ ends. AreEndsOf traffic.now.sets traffic.now.links 1 2
-        (method_of traffic.now.cyclic) ends.far.items) }
+    ensures near { IfOk result (λ ends. AreEndsOf traffic.now (near_end traffic.now) ends.near.items) }
+    ensures far { IfOk result (λ ends. AreEndsOf traffic.now far_end ends.far.items) }
     ensures early { IfErr result EndsEarly }
 {
     let lines = lines_of(alloc, traffic.sets, traffic.links)?;
@@ -115,7 +89,7 @@ impl Side {
         self,
         rt: &R,
     ) -> Result<Running, BankFault>
-        ensures running { IfOk result (λ running. running ≡ self.bank.configs) }
+        ensures running { IfOk result (λ running. running ≡ tasks_in self) }
         ensures early { IfErr result EndsEarly }
     {
         self.bank
@@ -130,8 +104,8 @@ fn near_side(
     lines: Vec<Vec<RingLine>>,
     gate: PaceGate,
 ) -> Result<Side, BankFault>
-    ensures configs { IfOk result (λ side. AreConfigs traffic.now.sets traffic.now.links 2 1
-        (method_of traffic.now.cyclic) side.bank.configs) }
+    requires { line_counts lines ≡ each_set traffic.now.sets traffic.now.links }
+    ensures tasks { IfOk result (λ side. AreTasks traffic.now (near_end traffic.now) (tasks_in side)) }
     ensures early { IfErr result EndsEarly }
 {
     let jobs = offers_of(alloc, traffic.sets, traffic.users, traffic.messages)?;
@@ -153,8 +127,8 @@ fn far_side(
     lines: Vec<Vec<RingLine>>,
     gate: PaceGate,
 ) -> Result<Side, BankFault>
-    ensures configs { IfOk result (λ side. AreConfigs traffic.now.sets traffic.now.links 1 2
-        (method_of traffic.now.cyclic) side.bank.configs) }
+    requires { line_counts lines ≡ each_set traffic.now.sets traffic.now.links }
+    ensures tasks { IfOk result (λ side. AreTasks traffic.now far_end (tasks_in side)) }
     ensures early { IfErr result EndsEarly }
 {
     let jobs = takes_of(alloc, traffic.sets, TAKES)?;
@@ -175,8 +149,8 @@ fn run_sides<R: Threads + Wait + Copy + Send + Sync + 'static>(
     near: Side,
     far: Side,
 ) -> Result<TrafficEnds, BankFault>
-    ensures near { IfOk result (λ ends. AreEnds near.bank.configs ends.near.items) }
-    ensures far { IfOk result (λ ends. AreEnds far.bank.configs ends.far.items) }
+    ensures near { IfOk result (λ ends. AreEnds (tasks_in near) ends.near.items) }
+    ensures far { IfOk result (λ ends. AreEnds (tasks_in far) ends.far.items) }
     ensures early { IfErr result EndsEarly }
 {
     match near.start(rt) {
@@ -192,7 +166,7 @@ fn run_beside<R: Threads + Wait + Copy + Send + Sync + 'static>(
     far: Side,
 ) -> Result<TrafficEnds, BankFault>
     ensures near { IfOk result (λ ends. AreEnds near ends.near.items) }
-    ensures far { IfOk result (λ ends. AreEnds far.bank.configs ends.far.items) }
+    ensures far { IfOk result (λ ends. AreEnds (tasks_in far) ends.far.items) }
     ensures early { IfErr result EndsEarly }
 {
     match far.start(rt) {
@@ -206,8 +180,7 @@ fn run_beside<R: Threads + Wait + Copy + Send + Sync + 'static>(
 
 /// What a bank's terminals do.
 fn plan_of(traffic: &Traffic, fail: Option<u8>) -> Plan
-    ensures turns { result.turns ≡ traffic.now.turns }
-    ensures fail { result.fail ≡ fail }
+    ensures { IsPlan traffic.now.turns fail result }
 {
     Plan {
         timers: TIMERS,
@@ -227,6 +200,7 @@ fn bank_of(
     requires codes { (opc < 2 ^ 14) × (dpc < 2 ^ 14) }
     ensures configs { IfOk result (λ bank. AreConfigs traffic.now.sets traffic.now.links opc dpc
         (method_of traffic.now.cyclic) bank.configs) }
+    ensures users { IfOk result (λ bank. bank.users ≡ users) }
     ensures early { IfErr result EndsEarly }
 {
     let method = method_of(traffic.cyclic);

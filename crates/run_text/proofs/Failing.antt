@@ -1,5 +1,5 @@
 -- Where no failure is told each user got through, and no terminal failed.
-use Rattle.std.proofs.Common.{refl, ◌≡◌, ℕ, suc, Bool, true, false, List, [], ◌∷◌, Option, None, Some, Result, Ok, Err, All, IsOk, IfErr}
+use Rattle.std.proofs.Common.{refl, ◌≡◌, ℕ, suc, List, [], ◌∷◌, Option, None, Some, Result, Ok, Err, All, IsOk, IfErr}
 use Rattle.std.specs.Option.{option_or}
 use Rattle.std.proofs.lemmas.List.Elements.{All-nil, All-cons}
 use Rattle.term_model.specs.declared.report.TermReport.{TermReport}
@@ -7,12 +7,14 @@ use Rattle.link_term.specs.declared.fault.TermFault.{TermFault}
 use Rattle.set_crew.specs.declared.end.SetEnd.{SetEnd}
 use Rattle.world_steps.specs.declared.step.End.{End}
 use Rattle.world_steps.specs.declared.step.End.TheVariants.{A, B}
+use Rattle.set_crew.specs.declared.fault.UserFault.{UserFault}
 use Rattle.run_text.specs.declared.failures.Failed.{Failed}
+use Rattle.run_text.specs.declared.failures.Stuck.{Stuck}
 use Rattle.run_text.specs.Failures.{stuck_from, failed_from, failure_in, failure_from, failure_of}
 use Rattle.printing.specs.declared.fault.Fault.{Fault}
 use Rattle.printing.specs.declared.fault.Fault.TheVariants.{Input, Memory, Read, Long, Write}
-use Rattle.paced_banks.specs.declared.traffic.Traffic.{Traffic}
-use Rattle.paced_banks.specs.Opening.{AreEndsOf, method_of}
+use Rattle.paced_banks.specs.declared.asked.Traffic.{Traffic}
+use Rattle.paced_banks.specs.Opening.{AreEndsOf, far_end, near_end}
 use Rattle.run_text.specs.declared.fault.RunFault.{RunFault}
 use Rattle.run_text.specs.declared.fault.RunFault.TheVariants.{Thread, Close, User, Terminal}
 use Rattle.run_text.specs.Running.{GotThrough, IsFailure, IsFaultOfEnds, IsFaultOfRun, TellsLack}
@@ -21,17 +23,17 @@ pub neither : {T : Type 0} (a b : Option T) → option_or a b ≡ None → (a �
 neither None b h = (refl, h)
 neither (Some x) b h = cc h
 
-none_stuck : (user : ℕ) (users : List Bool) → stuck_from user users ≡ None → All (λ (got_through : Bool). got_through ≡ true) users
-none_stuck user [] h = All-nil (λ (got_through : Bool). got_through ≡ true)
-none_stuck user (true ∷ users) h = All-cons (λ (got_through : Bool). got_through ≡ true) true users refl (none_stuck (suc user) users h)
-none_stuck user (false ∷ users) h = cc h
+none_stuck : (user : ℕ) (users : List (Result (Unit {0}) UserFault)) → stuck_from user users ≡ None → All IsOk users
+none_stuck user [] h = All-nil IsOk
+none_stuck user (Ok done ∷ users) h = All-cons IsOk (Ok done) users refl (none_stuck (suc user) users h)
+none_stuck user (Err fault ∷ users) h = cc h
 
 none_failed : (link : ℕ) (reports : List (Result TermReport TermFault)) → failed_from link reports ≡ None → All IsOk reports
 none_failed link [] h = All-nil IsOk
 none_failed link (Ok report ∷ reports) h = All-cons IsOk (Ok report) reports refl (none_failed (suc link) reports h)
 none_failed link (Err fault ∷ reports) h = cc h
 
-none_in : (end : End) (set : ℕ) (user : Option ℕ) (failed : Option Failed) → failure_in end set user failed ≡ None → (user ≡ None) × (failed ≡ None)
+none_in : (end : End) (set : ℕ) (user : Option Stuck) (failed : Option Failed) → failure_in end set user failed ≡ None → (user ≡ None) × (failed ≡ None)
 none_in end set (Some user) failed h = cc h
 none_in end set None (Some failed) h = cc h
 none_in end set None None h = (refl, refl)
@@ -56,23 +58,23 @@ ended_well near far (Ok done) none is = tt
 ended_well near far (Err fault) none is = rw is none
 
 -- what is told of ends is told of the traffic that came to them
-told : (traffic : Traffic) (near far : List SetEnd) → AreEndsOf traffic.sets traffic.links 2 1 (method_of traffic.cyclic) near
-    → AreEndsOf traffic.sets traffic.links 1 2 (method_of traffic.cyclic) far → (fault : RunFault) → failure_of near far ≡ Some fault → IsFailure traffic fault
+told : (traffic : Traffic) (near far : List SetEnd) → AreEndsOf traffic (near_end traffic) near
+    → AreEndsOf traffic far_end far → (fault : RunFault) → failure_of near far ≡ Some fault → IsFailure traffic fault
 told traffic near far a b Thread is = tt
 told traffic near far a b Close is = tt
-told traffic near far a b (User set end user) is = record { near = near; far = far; near_are = a; far_are = b; failure_is = is }
+told traffic near far a b (User set end user fault) is = record { near = near; far = far; near_are = a; far_are = b; failure_is = is }
 told traffic near far a b (Terminal set end link fault) is = record { near = near; far = far; near_are = a; far_are = b; failure_is = is }
 
-told_of_run : (traffic : Traffic) (near far : List SetEnd) → AreEndsOf traffic.sets traffic.links 2 1 (method_of traffic.cyclic) near
-    → AreEndsOf traffic.sets traffic.links 1 2 (method_of traffic.cyclic) far → (fault : Fault RunFault) → IsFaultOfEnds near far fault → IsFaultOfRun traffic fault
+told_of_run : (traffic : Traffic) (near far : List SetEnd) → AreEndsOf traffic (near_end traffic) near
+    → AreEndsOf traffic far_end far → (fault : Fault RunFault) → IsFaultOfEnds near far fault → IsFaultOfRun traffic fault
 told_of_run traffic near far a b (Input fault) is = told traffic near far a b fault is
 told_of_run traffic near far a b Memory is = tt
 told_of_run traffic near far a b Read is = is
 told_of_run traffic near far a b Long is = is
 told_of_run traffic near far a b Write is = tt
 
-pub fault_of_run : (traffic : Traffic) (near far : List SetEnd) → AreEndsOf traffic.sets traffic.links 2 1 (method_of traffic.cyclic) near
-    → AreEndsOf traffic.sets traffic.links 1 2 (method_of traffic.cyclic) far → (result : Result (Unit {0}) (Fault RunFault)) → IfErr result (IsFaultOfEnds near far)
+pub fault_of_run : (traffic : Traffic) (near far : List SetEnd) → AreEndsOf traffic (near_end traffic) near
+    → AreEndsOf traffic far_end far → (result : Result (Unit {0}) (Fault RunFault)) → IfErr result (IsFaultOfEnds near far)
     → IfErr result (IsFaultOfRun traffic)
 fault_of_run traffic near far a b (Ok done) is = tt
 fault_of_run traffic near far a b (Err fault) is = told_of_run traffic near far a b fault is
@@ -81,7 +83,7 @@ fault_of_run traffic near far a b (Err fault) is = told_of_run traffic near far 
 early : (traffic : Traffic) (fault : RunFault) → TellsLack (Input fault) → IsFailure traffic fault
 early traffic Thread is = tt
 early traffic Close is = tt
-early traffic (User set end user) is = absurd is
+early traffic (User set end user fault) is = absurd is
 early traffic (Terminal set end link fault) is = absurd is
 
 pub lack_of_run : (traffic : Traffic) (fault : Fault RunFault) → TellsLack fault → IsFaultOfRun traffic fault

@@ -1,12 +1,14 @@
--- WHO FAILED: the first user of an end that didn't get through its job, or terminal that stopped early.
-use Rattle.std.specs.Prelude.{ℕ, suc, Bool, List, [], ◌∷◌, Option, None, Some, Result, Ok, Err, if◌then◌else◌, codes}
+-- WHO FAILED: the first user of an end that ended before its job was done, or terminal that stopped early.
+use Rattle.std.specs.Prelude.{ℕ, suc, List, [], ◌∷◌, Option, None, Some, Result, Ok, Err, codes}
 use Rattle.std.specs.Option.{option_or}
 use Rattle.term_model.specs.declared.report.TermReport.{TermReport}
 use Rattle.link_term.specs.declared.fault.TermFault.{TermFault}
 use Rattle.set_crew.specs.declared.end.SetEnd.{SetEnd}
 use Rattle.world_steps.specs.declared.step.End.{End}
 use Rattle.world_steps.specs.declared.step.End.TheVariants.{A, B}
+use Rattle.set_crew.specs.declared.fault.UserFault.{UserFault}
 use Rattle.run_text.specs.declared.failures.Failed.{Failed}
+use Rattle.run_text.specs.declared.failures.Stuck.{Stuck}
 use Rattle.run_text.specs.declared.fault.RunFault.{RunFault}
 use Rattle.run_text.specs.declared.fault.RunFault.TheVariants.{User, Terminal}
 
@@ -14,10 +16,11 @@ abbrev pub end_word : End → List ℕ
 end_word A = codes "a"
 end_word B = codes "b"
 
--- the first user that didn't get through, from this number on
-abbrev pub stuck_from : ℕ → List Bool → Option ℕ
+-- the first user that ended early, from this number on
+abbrev pub stuck_from : ℕ → List (Result (Unit {0}) UserFault) → Option Stuck
 stuck_from user [] = None
-stuck_from user (got_through ∷ users) = if got_through then stuck_from (suc user) users else Some user
+stuck_from user (Ok done ∷ users) = stuck_from (suc user) users
+stuck_from user (Err fault ∷ users) = Some (record { user = user; fault = fault })
 
 -- the first terminal that failed, from the link of this number on
 abbrev pub failed_from : ℕ → List (Result TermReport TermFault) → Option Failed
@@ -26,8 +29,8 @@ failed_from link (Ok report ∷ reports) = failed_from (suc link) reports
 failed_from link (Err fault ∷ reports) = Some (record { link = link; fault = fault })
 
 -- of an end of a set: its users before its terminals
-abbrev pub failure_in : End → ℕ → Option ℕ → Option Failed → Option RunFault
-failure_in end set (Some user) failed = Some (User set end user)
+abbrev pub failure_in : End → ℕ → Option Stuck → Option Failed → Option RunFault
+failure_in end set (Some stuck) failed = Some (User set end stuck.user stuck.fault)
 failure_in end set None (Some failed) = Some (Terminal set end failed.link failed.fault)
 failure_in end set None None = None
 

@@ -1,3 +1,4 @@
+pub mod Asked
 pub mod Failures
 pub mod RunText
 pub mod Running

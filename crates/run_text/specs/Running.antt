@@ -1,11 +1,11 @@
 -- A RUN, from its traffic to what is written.
-use Rattle.std.specs.Prelude.{◌≡◌, ℕ, Bool, true, List, [], ◌++◌, Option, None, Some, Result, MatchResult, All, IsOk}
+use Rattle.std.specs.Prelude.{◌≡◌, ℕ, Bool, List, [], ◌++◌, Option, None, Some, Result, MatchResult, All, IsOk}
 use Rattle.std.specs.Io.KnownBytes.{Appends}
 use Rattle.set_events.specs.declared.config.SetConfig.{SetConfig}
 use Rattle.set_crew.specs.declared.end.SetEnd.{SetEnd}
 use Rattle.set_crew.specs.Ends.{IsEndOf}
-use Rattle.paced_banks.specs.declared.traffic.Traffic.{Traffic}
-use Rattle.paced_banks.specs.Opening.{AreEndsOf, method_of}
+use Rattle.paced_banks.specs.declared.asked.Traffic.{Traffic}
+use Rattle.paced_banks.specs.Opening.{AreEndsOf, far_end, near_end}
 use Rattle.printing.specs.declared.fault.Fault.{Fault}
 use Rattle.printing.specs.declared.fault.Fault.TheVariants.{Input, Memory, Read, Long, Write}
 use Rattle.run_text.specs.declared.fault.RunFault.{RunFault}
@@ -19,7 +19,7 @@ IsAnEnd end = (config : SetConfig) × IsEndOf config end
 
 -- each user got through, and no terminal failed
 pub record GotThrough (end : SetEnd) : Type 0 where
-  pub users : All (λ (got_through : Bool). got_through ≡ true) end.users.items
+  pub users : All IsOk end.users.items
   pub terminals : All IsOk end.reports.items
 
 -- what is printed of these ends: something only where each user got through, and no terminal failed
@@ -33,8 +33,8 @@ pub record IsTextOfEnds (per_link : Bool) (near far : List SetEnd) (text : List 
 pub record IsRunText (traffic : Traffic) (per_link : Bool) (text : List ℕ) : Type 0 where
   pub near : List SetEnd
   pub far : List SetEnd
-  pub near_are : AreEndsOf traffic.sets traffic.links 2 1 (method_of traffic.cyclic) near
-  pub far_are : AreEndsOf traffic.sets traffic.links 1 2 (method_of traffic.cyclic) far
+  pub near_are : AreEndsOf traffic (near_end traffic) near
+  pub far_are : AreEndsOf traffic far_end far
   pub of_ends : IsTextOfEnds per_link near far text
 
 -- where the sink failed, the text was begun; for any other fault nothing was written
@@ -79,14 +79,14 @@ IsFaultOfEnds near far Write = failure_of near far ≡ None
 pub record FailsAt (traffic : Traffic) (fault : RunFault) : Type 0 where
   pub near : List SetEnd
   pub far : List SetEnd
-  pub near_are : AreEndsOf traffic.sets traffic.links 2 1 (method_of traffic.cyclic) near
-  pub far_are : AreEndsOf traffic.sets traffic.links 1 2 (method_of traffic.cyclic) far
+  pub near_are : AreEndsOf traffic (near_end traffic) near
+  pub far_are : AreEndsOf traffic far_end far
   pub failure_is : failure_of near far ≡ Some fault
 
 abbrev pub IsFailure : Traffic → RunFault → Type 0
 IsFailure traffic Thread = Unit {0}
 IsFailure traffic Close = Unit {0}
-IsFailure traffic (User set end user) = FailsAt traffic (User set end user)
+IsFailure traffic (User set end user fault) = FailsAt traffic (User set end user fault)
 IsFailure traffic (Terminal set end link fault) = FailsAt traffic (Terminal set end link fault)
 
 abbrev pub IsFaultOfRun : Traffic → Fault RunFault → Type 0
@@ -100,7 +100,7 @@ IsFaultOfRun traffic Write = Unit {0}
 abbrev pub TellsLack : Fault RunFault → Type 0
 TellsLack (Input Thread) = Unit {0}
 TellsLack (Input Close) = Unit {0}
-TellsLack (Input (User set end user)) = ⊥
+TellsLack (Input (User set end user fault)) = ⊥
 TellsLack (Input (Terminal set end link fault)) = ⊥
 TellsLack Memory = Unit {0}
 TellsLack Read = ⊥

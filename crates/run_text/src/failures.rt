@@ -3,9 +3,18 @@ ghost use Rattle.std.specs.Prelude.{◌≡◌};
 ghost use Rattle.run_text.specs.Failures.{failed_from, failure_from, failure_in, failure_of, stuck_from};
 
 use super::fault::RunFault;
-use bank_core::SetEnd;
+use bank_core::{SetEnd, UserFault};
 use link_term::{TermFault, TermReport};
 use world_steps::End;
+
+/// A user that ended before its job was done.
+#[derive(Clone, Copy, Debug, PartialEq, Eq)]
+pub(crate) struct Stuck {
+    /// The user's number.
+    pub(crate) user: u64,
+    /// Why it ended.
+    pub(crate) fault: UserFault,
+}
 
 /// A terminal that stopped early.
 #[derive(Clone, Copy, Debug, PartialEq, Eq)]
@@ -16,7 +25,7 @@ pub(crate) struct Failed {
     pub(crate) fault: TermFault,
 }
 
-/// The first user that didn't get through, or terminal that failed: of the ends a before the ends b, set by set, and of a
+/// The first user that ended early, or terminal that failed: of the ends a before the ends b, set by set, and of a
 /// set its users before its terminals.
 pub(crate) fn find_failure(near: &[SetEnd], far: &[SetEnd]) -> Option<RunFault>
     ensures { result ≡ failure_of near.now far.now }
@@ -46,11 +55,12 @@ fn find_in(end: End, number: u64, set: &SetEnd) -> Option<RunFault>
     ensures { result ≡ failure_in end number
         (stuck_from 0 set.now.users.items) (failed_from 0 set.now.reports.items) }
 {
-    if let Some(user) = first_stuck(&set.users) {
+    if let Some(Stuck { user, fault }) = first_stuck(&set.users) {
         return Some(RunFault::User {
             set: number,
             end,
             user,
+            fault,
         });
     }
     let Failed { link, fault } = first_failed(&set.reports)?;
@@ -62,16 +72,19 @@ fn find_in(end: End, number: u64, set: &SetEnd) -> Option<RunFault>
     })
 }
 
-/// The first of these users that didn't get through.
-fn first_stuck(users: &[bool]) -> Option<u64>
+/// The first of these users that ended before its job was done.
+fn first_stuck(users: &[Result<(), UserFault>]) -> Option<Stuck>
     ensures { result ≡ stuck_from 0 users.now }
 {
-    let mut number: u64 = 0;
-    for got_through in users {
-        if !*got_through {
-            return Some(number);
+    let mut user: u64 = 0;
+    for ended in users {
+        if let Err(fault) = ended {
+            return Some(Stuck {
+                user,
+                fault: *fault,
+            });
         }
-        number += 1;
+        user += 1;
     }
     None
 }

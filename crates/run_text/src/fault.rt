@@ -2,6 +2,7 @@
 ghost use Rattle.std.specs.Prelude.{◌≡◌};
 ghost use Rattle.run_text.specs.Failures.{end_word};
 
+use bank_core::UserFault;
 use link_term::TermFault;
 use std::fmt;
 use std::fmt::Display;
@@ -14,11 +15,12 @@ pub enum RunFault {
     Thread,
     /// A set couldn't be closed.
     Close,
-    /// This user of this end of a set didn't get through its job.
+    /// This user of this end of a set ended before its job was done, by this fault.
     User {
         set: u64,
         end: End,
         user: u64,
+        fault: UserFault,
     },
     /// The terminal of this link of this end of a set stopped early, by this fault.
     Terminal {
@@ -34,9 +36,15 @@ impl Display for RunFault {
         match *self {
             RunFault::Thread => write!(f, "thread"),
             RunFault::Close => write!(f, "close"),
-            RunFault::User { set, end, user } => {
+            RunFault::User {
+                set,
+                end,
+                user,
+                fault,
+            } => {
                 let end = word_of(end);
-                write!(f, "user set={set} end={end} user={user}")
+                let number = fault.number();
+                write!(f, "user set={set} end={end} user={user} fault={number}")
             }
             RunFault::Terminal {
                 set,

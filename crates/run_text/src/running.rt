@@ -20,9 +20,9 @@ use std::thread::Threads;
 /// each link came to. When all threads have ended, before anything is written, `ended` is called.
 ///
 /// Faults: [`RunFault::Thread`] and [`RunFault::Close`] as [`run_through`] has them; [`Fault::Memory`] where memory was
-/// wanted there or here; [`RunFault::User`] or [`RunFault::Terminal`] of the first user that didn't get through or terminal
+/// wanted there or here; [`RunFault::User`] or [`RunFault::Terminal`] of the first user that ended early or terminal
 /// that failed. Nothing is written then. [`Fault::Write`] where the sink fails; what was written is a beginning of the text.
-pub fn run<R: Threads + Wait + Copy + Send + Sync + 'static, W: Sink, F: FnOnce()>(
+pub fn write_run<R: Threads + Wait + Copy + Send + Sync + 'static, W: Sink, F: FnOnce()>(
     rt: &R,
     alloc: Global,
     traffic: &Traffic,
@@ -60,7 +60,7 @@ fn fault_of(fault: BankFault) -> Fault<RunFault>
 
 /// Writes what these ends came to, at most 16 of each bank; with `per_link` behind that what each link came to.
 ///
-/// Faults: [`RunFault::User`] or [`RunFault::Terminal`] exactly where a user didn't get through or a terminal failed, of the
+/// Faults: [`RunFault::User`] or [`RunFault::Terminal`] exactly where a user ended early or a terminal failed, of the
 /// first one: the ends a come before the ends b, a set's users before its terminals. [`Fault::Memory`] where memory was
 /// wanted here. Nothing is written then. [`Fault::Write`] where the sink fails; what was written is a beginning of the text.
 pub fn write_ends<W: Sink>(

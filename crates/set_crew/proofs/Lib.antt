@@ -1,1 +1,7 @@
+pub mod Calling
+pub mod Configs
+pub mod Doing
+pub mod Done
 pub mod Ending
+pub mod Running
+pub mod Taking

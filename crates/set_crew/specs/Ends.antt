@@ -1,11 +1,13 @@
 -- THE END of a set: what it came to, whatever its threads did.
-use Rattle.std.specs.Prelude.{◌≡◌}
+use Rattle.std.specs.Prelude.{◌≡◌, ℕ, List, length}
 use Rattle.set_events.specs.declared.config.SetConfig.{SetConfig}
 use Rattle.set_ledger.specs.declared.ending.Closed.{Closed}
 use Rattle.set_model.specs.State.{new_state}
 use Rattle.set_model.specs.Checkpoint.{counts_in}
 use Rattle.set_model.specs.History.{IsLegal, after, books_of, opening_of}
 use Rattle.set_crew.specs.declared.end.SetEnd.{SetEnd}
+use Rattle.set_crew.specs.declared.plan.Plan.{Plan}
+use Rattle.set_crew.specs.Jobs.{Duty, DidJobs}
 
 -- what was closed has a history that is legal for this configuration, with that history's books and counts
 pub record IsClosedAs (config : SetConfig) (closed : Closed) : Type 0 where
@@ -16,3 +18,21 @@ pub record IsClosedAs (config : SetConfig) (closed : Closed) : Type 0 where
 
 abbrev pub IsEndOf : SetConfig → SetEnd → Type 0
 IsEndOf config end = IsClosedAs config end.closed
+
+-- what a set is to do: its users' jobs and its terminals' plan, and how many of its links have a line
+pub record Task : Type 0 where
+  pub config : SetConfig
+  pub users : ℕ
+  pub lines : ℕ
+  pub jobs : List Duty
+  pub plan : Plan
+
+abbrev pub task_of : SetConfig → ℕ → ℕ → List Duty → Plan → Task
+task_of config users lines jobs plan =
+    record { config = config; users = users; lines = lines; jobs = jobs; plan = plan }
+
+-- THE TASK WAS DONE: its history is legal, and holds of each user the calls of its job, as far as they came
+pub record IsDone (task : Task) (end : SetEnd) : Type 0 where
+  pub closed : IsEndOf task.config end
+  pub users : length end.users.items ≡ task.users
+  pub jobs : DidJobs 0 task.jobs end.users.items end.closed.history.items

@@ -1,1 +1,5 @@
 pub mod Ends
+pub mod Faults
+pub mod Jobs
+pub mod Keeping
+pub mod Shifts

@@ -1,11 +1,17 @@
 //! The threads of one set.
+ghost use Rattle.std.specs.Prelude.{◌≡◌, ◌++◌, [], ◌∷◌, map, IfOk, OnOk};
+ghost use Rattle.std.specs.Vec.Iter.{into_iter_items};
+ghost use Rattle.set_crew.specs.Keeping.{AreKept, KeepsJob};
 
-use super::fault::CrewFault;
+use super::fault::{CrewFault, UserFault};
+use super::terminal::ShiftOf;
+use super::user::JobOf;
 use link_term::{TermFault, TermReport};
-use set_shared::{TermSeat, UserSeat};
+use set_shared::{Opening, TermSeat, UserSeat};
 use std::alloc::{AllocError, Global};
 use std::sync::ledger::Ledger;
-use std::thread::{JoinHandle, Scope, Threads};
+use std::thread::{Promise, PromisedHandle, Scope, Threads};
+use std::vec::IntoIter;
 
 /// A seat whose thread has ended, and what the thread tells.
 #[derive(Drop)]
@@ -14,107 +20,137 @@ pub(crate) struct Ended<S: Drop, T: Drop> {
     pub(crate) told: T,
 }
 
-/// What a thread of a set does at a seat, and then tells.
-pub(crate) trait Shift<S: Drop, T: Drop> {
-    /// Does all of it.
-    fn work(self) -> Ended<S, T>;
-}
-
-/// A user's seat, and whether the user got through.
-pub(crate) type UserEnd<C, M, O, A> = Ended<UserSeat<C, M, O, A>, bool>;
+/// A user's seat, and why the user ended early, if it did.
+pub(crate) type UserEnd<C, M, O, A> = Ended<UserSeat<C, M, O, A>, Result<(), UserFault>>;
 
 /// A terminal's seat, and what its turns counted, or why they ended early.
 pub(crate) type TermEnd<C, M, O, A> = Ended<TermSeat<C, M, O, A>, Result<TermReport, TermFault>>;
 
+/// The thread of a user.
+pub(crate) type UserThread<C, M, O, A> = PromisedHandle<UserEnd<C, M, O, A>, JobOf>;
+
+/// The thread of a terminal.
+pub(crate) type TermThread<C, M, O, A> = PromisedHandle<TermEnd<C, M, O, A>, ShiftOf>;
+
 /// The threads of a set's users and terminals, and the seats of the terminals that have no line.
 #[derive(Drop)]
-pub(crate) struct Crew<C: Ledger, M: Ledger, O: Ledger, A: Ledger> {
-    pub(crate) users: Vec<JoinHandle<UserEnd<C, M, O, A>>>,
-    pub(crate) terminals: Vec<JoinHandle<TermEnd<C, M, O, A>>>,
-    idle: Vec<TermSeat<C, M, O, A>>,
+pub(crate) struct Crew<C: Opening, M: Ledger, O: Ledger, A: Ledger> {
+    pub(crate) users: Vec<UserThread<C, M, O, A>>,
+    pub(crate) terminals: Vec<TermThread<C, M, O, A>>,
+    pub(crate) idle: IntoIter<TermSeat<C, M, O, A>, Global>,
 }
 
 /// The seats of a set, and what was gathered beside them.
 #[derive(Drop)]
-pub(crate) struct Gathered<C: Ledger, M: Ledger, O: Ledger, A: Ledger> {
+pub(crate) struct Gathered<C: Opening, M: Ledger, O: Ledger, A: Ledger> {
     pub(crate) users: Vec<UserSeat<C, M, O, A>>,
-    pub(crate) got_through: Vec<bool>,
+    pub(crate) user_ends: Vec<Result<(), UserFault>>,
     pub(crate) terminals: Vec<TermSeat<C, M, O, A>>,
     pub(crate) reports: Vec<Result<TermReport, TermFault>>,
 }
 
-impl<C: Ledger, M: Ledger, O: Ledger, A: Ledger> Crew<C, M, O, A> {
-    /// No thread, and no seat.
-    pub(crate) fn new(alloc: Global) -> Crew<C, M, O, A> {
-        Crew {
-            users: Vec::new(alloc),
-            terminals: Vec::new(alloc),
-            idle: Vec::new(alloc),
-        }
-    }
+/// The seats of threads that have ended, and what each thread tells.
+#[derive(Drop)]
+struct Back<S: Drop, T: Drop> {
+    seats: Vec<S>,
+    told: Vec<T>,
+}
 
-    /// Keeps the seat of a terminal that has no line.
-    pub(crate) fn leave_idle(&mut self, seat: TermSeat<C, M, O, A>) -> Result<(), CrewFault> {
-        self.idle.reserve(1)?;
-        self.idle.push_reserved(seat);
-        Ok(())
-    }
-
-    /// Waits for the users and then for the terminals, whose seats stand behind the idle ones.
+impl<C: Opening, M: Ledger, O: Ledger, A: Ledger> Crew<C, M, O, A> {
+    /// Waits for the users and then for the terminals, whose seats stand before the idle ones.
     pub(crate) fn gather<R: Threads>(
         self,
         rt: &R,
         alloc: Global,
-    ) -> Result<Gathered<C, M, O, A>, CrewFault> {
+    ) -> Result<Gathered<C, M, O, A>, CrewFault>
+        ensures users { IfOk result (λ all. AreKept KeepsJob
+            (map (λ thread. thread.promise) self.users.items) all.users.items all.user_ends.items) }
+    {
         let Crew {
             users,
             terminals,
             idle,
         } = self;
-        let mut all = Gathered {
-            users: Vec::new(alloc),
-            got_through: Vec::new(alloc),
-            terminals: idle,
-            reports: Vec::new(alloc),
-        };
-        let of_users = wait_for_all(rt, users, &mut all.users, &mut all.got_through);
-        let of_terminals = wait_for_all(rt, terminals, &mut all.terminals, &mut all.reports);
-        match of_users.and(of_terminals) {
-            Ok(()) => Ok(all),
-            Err(_) => Err(CrewFault::NoMemory),
-        }
+        let of_users = wait_for_all(rt, alloc, users);
+        let of_terminals = wait_for_all(rt, alloc, terminals);
+        let of_users = of_users?;
+        let of_terminals = of_terminals?;
+        let Back { mut seats, told } = of_terminals;
+        add_idle(&mut seats, idle)?;
+        Ok(Gathered {
+            users: of_users.seats,
+            user_ends: of_users.told,
+            terminals: seats,
+            reports: told,
+        })
     }
 }
 
-/// Starts a thread that does this, until it ends.
-pub(crate) fn start_shift<
+/// Puts these seats behind those.
+fn add_idle<S: Drop>(seats: &mut Vec<S>, idle: IntoIter<S, Global>) -> Result<(), AllocError>
+    ensures { OnOk result (seats.new.items ≡ seats.old.items ++ into_iter_items idle) }
+{
+    let mut idle = idle;
+    while let Some(seat) = idle.next() {
+        seats.reserve(1)?;
+        seats.push_reserved(seat);
+    }
+    Ok(())
+}
+
+/// Starts a thread that does this until it ends, behind those that were started.
+///
+/// Faults: [`CrewFault::NoMemory`] where memory is wanted, [`CrewFault::NoThread`] where a thread is, though there is memory.
+pub(crate) fn start_thread<
     's,
     'e: 's,
-    S: Drop + Send + 's,
-    T: Drop + Send + 's,
-    W: Shift<S, T> + Drop + Send + 's,
+    P: Promise<T> + Drop,
+    T: Send + Drop + 's,
+    F: FnOnce() -> T + Send + Drop + 's,
 >(
     scope: &'s Scope<'s, &'e ()>,
-    shift: W,
-    threads: &mut Vec<JoinHandle<Ended<S, T>>>,
-) -> Result<(), CrewFault> {
+    alloc: Global,
+    threads: &mut Vec<PromisedHandle<T, P>>,
+    promise: P,
+    work: F,
+) -> Result<(), CrewFault>
+    requires runs { F.pre work }
+    requires keeps { (end : T) → F.post work end → P.kept_by promise end }
+    ensures started { OnOk result (map (λ thread. thread.promise) threads.new.items
+        ≡ map (λ thread. thread.promise) threads.old.items ++ promise ∷ []) }
+{
     threads.reserve(1)?;
-    match scope.spawn(move || shift.work()) {
+    match scope.spawn_with(promise, work) {
         Ok(started) => {
             threads.push_reserved(started);
             Ok(())
         }
-        Err(_) => Err(CrewFault::NoThread),
+        Err(_) => Err(why_unstarted(alloc)),
+    }
+}
+
+/// How many octets are asked for, to see whether there is memory: those of a thread's least stack.
+const STACK: usize = 131_072;
+
+/// Why a thread couldn't be started, which isn't told: for want of memory, where there is none now.
+pub fn why_unstarted(alloc: Global) -> CrewFault {
+    match Vec::<u8>::with_capacity(alloc, STACK) {
+        Ok(_) => CrewFault::NoThread,
+        Err(_) => CrewFault::NoMemory,
     }
 }
 
 /// Waits for these threads: their seats, and what each tells.
-fn wait_for_all<S: Drop, T: Drop, R: Threads>(
+fn wait_for_all<S: Drop, T: Drop, P: Promise<Ended<S, T>>, R: Threads>(
     rt: &R,
-    threads: Vec<JoinHandle<Ended<S, T>>>,
-    seats: &mut Vec<S>,
-    told: &mut Vec<T>,
-) -> Result<(), AllocError> {
+    alloc: Global,
+    threads: Vec<PromisedHandle<Ended<S, T>, P>>,
+) -> Result<Back<S, T>, AllocError>
+    ensures { IfOk result (λ back. AreKept P.kept_by (map (λ thread. thread.promise) threads.items)
+        back.seats.items back.told.items) }
+{
+    let mut seats = Vec::new(alloc);
+    let mut told = Vec::new(alloc);
     for thread in threads {
         seats.reserve(1)?;
         told.reserve(1)?;
@@ -122,5 +158,5 @@ fn wait_for_all<S: Drop, T: Drop, R: Threads>(
         seats.push_reserved(end.seat);
         told.push_reserved(end.told);
     }
-    Ok(())
+    Ok(Back { seats, told })
 }

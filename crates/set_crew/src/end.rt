@@ -1,5 +1,6 @@
 //! What a set came to.
 
+use super::fault::UserFault;
 use link_term::{TermFault, TermReport};
 use set_shared::Closed;
 
@@ -10,6 +11,6 @@ pub struct SetEnd {
     pub closed: Closed,
     /// What the turns of each terminal counted, by the links' numbers, or why they ended early.
     pub reports: Vec<Result<TermReport, TermFault>>,
-    /// Whether each user got through, by the users' numbers.
-    pub users: Vec<bool>,
+    /// That each user did its job, by the users' numbers, or why it ended early.
+    pub users: Vec<Result<(), UserFault>>,
 }

@@ -1,5 +1,8 @@
-//! Why a set ended early.
+//! Why a set ended early, and why a user did.
+ghost use Rattle.std.specs.Prelude.{◌≡◌};
+ghost use Rattle.set_crew.specs.Faults.{fault_number, fault_of};
 
+use set_events::SetFault;
 use std::alloc::AllocError;
 use thiserror::Error;
 
@@ -25,5 +28,39 @@ impl From<AllocError> for CrewFault {
 
     fn from(_error: AllocError) -> CrewFault {
         CrewFault::NoMemory
+    }
+}
+
+/// Why a user ended before its job was done.
+#[derive(Clone, Copy, Debug, Drop, PartialEq, Eq, Error)]
+pub enum UserFault {
+    /// 1: memory is wanted for a call.
+    #[error("out of memory")]
+    NoMemory = 1,
+    /// 2: the set's history is full.
+    #[error("the history is full")]
+    Exhausted = 2,
+    /// 3: a message that was accepted wasn't found.
+    #[error("an accepted message was not found")]
+    NotFound = 3,
+}
+
+impl UserFault {
+    /// The fault's number: 1 memory is wanted, 2 the history is full, 3 an accepted message wasn't found.
+    pub fn number(self) -> u8
+        ensures { result ≡ fault_number self }
+    {
+        self as u8
+    }
+}
+
+impl From<SetFault> for UserFault {
+    ghost from_gives = { λ fault told. told ≡ fault_of fault };
+
+    fn from(fault: SetFault) -> UserFault {
+        match fault {
+            SetFault::NoMemory => UserFault::NoMemory,
+            SetFault::Exhausted => UserFault::Exhausted,
+        }
     }
 }

@@ -23,9 +23,12 @@ mod plan;
 mod set_thread;
 mod terminal;
 mod user;
+mod work;
 
+pub use crew::why_unstarted;
 pub use end::SetEnd;
-pub use fault::CrewFault;
+pub use fault::{CrewFault, UserFault};
 pub use orders::Orders;
 pub use plan::{Job, Plan};
-pub use set_thread::{Work, one_set};
+pub use set_thread::one_set;
+pub use work::Work;

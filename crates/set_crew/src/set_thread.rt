@@ -1,45 +1,40 @@
 //! What a set's thread does.
-ghost use Rattle.std.specs.Prelude.{◌≡◌, ◌<◌, ◌≤◌, ◌↔◌, IsTrue, IfOk};
+ghost use Rattle.std.specs.Prelude.{◌≡◌, ◌<◌, ◌≤◌, ◌↔◌, [], length, map, vec_len, All, IsTrue, IfOk};
+ghost use Rattle.std.specs.Vec.Iter.{into_iter_items};
+ghost use Rattle.set_events.specs.declared.event.Actor.TheVariants.{User, Terminal};
+ghost use Rattle.set_ledger.specs.Ending.{IsFaithful};
+ghost use Rattle.set_ledger.specs.Seats.{new_seats};
 ghost use Rattle.set_ledger.specs.Totals.{AreParts, Names};
-ghost use Rattle.set_crew.specs.Ends.{IsEndOf, IsClosedAs};
+ghost use Rattle.set_events.specs.declared.config.SetConfig.{SetConfig};
+ghost use Rattle.set_model.specs.State.{settings_of};
+ghost use Rattle.set_crew.specs.Ends.{IsClosedAs, IsDone, IsEndOf, task_of};
+ghost use Rattle.set_crew.specs.Jobs.{duty_of};
+ghost use Rattle.set_crew.specs.Keeping.{AreNew, AreUsers, PromiseJobs};
 
-use super::crew::{Crew, Gathered, start_shift};
+use super::crew::{Crew, Gathered, TermThread, UserThread, start_thread};
 use super::end::SetEnd;
 use super::fault::CrewFault;
 use super::orders::Orders;
 use super::plan::Job;
-use super::terminal::TermShift;
-use super::user::UserShift;
+use super::terminal::{ShiftOf, TermShift};
+use super::user::{JobOf, UserShift};
+use super::work::Work;
 use line_ring::Line;
 use link_term::Gate;
 use set_events::SetConfig;
-use set_shared::{Blanks, Closed, LinkSet, Opened, TermSeat, UserSeat};
+use set_shared::{Blanks, Closed, LinkSet, Opened, Opening, TermSeat, UserSeat};
 use std::alloc::Global;
 use std::marker::Brand;
+use std::snapshot::Snapshot;
 use std::sync::Wait;
 use std::sync::ledger::{Blank, Ledger};
 use std::thread;
 use std::thread::{Scope, Threads};
-
-/// What the thread of one set is to do.
-#[derive(Drop)]
-pub struct Work<L: Line + Drop, G: Gate> {
-    /// What the set is opened with.
-    pub config: SetConfig,
-    /// How many users it has, 1 to 64.
-    pub users: u16,
-    /// The line of each link, by the links' numbers.
-    pub lines: Vec<L>,
-    /// The job of each user, by the users' numbers.
-    pub jobs: Vec<Job>,
-    /// What holds for all its terminals and users.
-    pub orders: Orders<G>,
-    pub ghost users_in_range: { (0 < users) × (users ≤ 64) },
-}
+use std::vec::IntoIter;
 
 /// The seats of a set, with what is to be done at them.
 #[derive(Drop)]
-struct Seats<C: Ledger, M: Ledger, O: Ledger, A: Ledger, L: Drop> {
+struct Seats<C: Opening, M: Ledger, O: Ledger, A: Ledger, L: Drop> {
     users: Vec<UserSeat<C, M, O, A>>,
     jobs: Vec<Job>,
     terminals: Vec<TermSeat<C, M, O, A>>,
@@ -58,7 +53,7 @@ pub fn one_set<L: Line + Drop + Send, G: Gate + Drop + Send + Sync, R: Threads +
     alloc: Global,
     work: Work<L, G>,
 ) -> Result<SetEnd, CrewFault>
-    ensures { IfOk result (IsEndOf work.config) }
+    ensures { IfOk result (IsDone (task_of work.config work.users (vec_len work.lines) (map duty_of work.jobs.items) work.orders.plan)) }
 {
     let users = u64::from(work.users);
     let links = u64::from(work.config.links);
@@ -73,7 +68,7 @@ pub fn one_set<L: Line + Drop + Send, G: Gate + Drop + Send + Sync, R: Threads +
 
 /// [`one_set`], with these blanks for the set's ledgers.
 fn run_set<
-    C: Ledger + Send + Sync,
+    C: Opening + Send + Sync,
     M: Ledger + Send + Sync,
     O: Ledger + Send + Sync,
     A: Ledger + Send + Sync,
@@ -86,7 +81,8 @@ fn run_set<
     requires octets { Names blanks.octets O.name O.parts }
     requires acknowledged { Names blanks.acknowledged A.name A.parts }
     requires parts { AreParts C.parts M.parts O.parts A.parts work.users work.config.links }
-    ensures { IfOk result (IsEndOf work.config) }
+    requires opening { settings_of work.config ≡ C.settings }
+    ensures { IfOk result (IsDone (task_of work.config work.users (vec_len work.lines) (map duty_of work.jobs.items) work.orders.plan)) }
 {
     let config = work.config;
     match LinkSet::<C, M, O, A>::create(alloc, &config, work.users, blanks) {
@@ -97,7 +93,7 @@ fn run_set<
 
 /// Runs the terminals and users of a set that was opened, and closes it.
 fn run_opened<
-    C: Ledger + Send + Sync,
+    C: Opening + Send + Sync,
     M: Ledger + Send + Sync,
     O: Ledger + Send + Sync,
     A: Ledger + Send + Sync,
@@ -105,7 +101,10 @@ fn run_opened<
     G: Gate + Drop + Send + Sync,
     R: Threads + Wait + Sync,
 >(rt: &R, alloc: Global, opened: Opened<C, M, O, A>, work: Work<L, G>) -> Result<SetEnd, CrewFault>
-    ensures { IfOk result (IsEndOf work.config) }
+    requires users { opened.users.items ≡ new_seats User work.users }
+    requires terminals { opened.terminals.items ≡ new_seats Terminal work.config.links }
+    requires opening { settings_of work.config ≡ C.settings }
+    ensures { IfOk result (IsDone (task_of work.config work.users (vec_len work.lines) (map duty_of work.jobs.items) work.orders.plan)) }
 {
     let Opened {
         set,
@@ -113,7 +112,7 @@ fn run_opened<
         terminals,
     } = opened;
     let Work {
-        config,
+        config: _,
         users: _,
         lines,
         jobs,
@@ -126,83 +125,54 @@ fn run_opened<
         lines,
     };
     match run_seats(rt, alloc, &set, seats, &orders) {
-        Ok(gathered) => end_set(set, gathered, &config),
+        Ok(gathered) => end_set(set, gathered),
         Err(fault) => Err(fault),
     }
 }
 
-/// What a set came to whose seats are gathered.
-fn end_set<C: Ledger, M: Ledger, O: Ledger, A: Ledger>(
+/// What a set came to whose seats are gathered: it was opened with the settings that its type tells.
+fn end_set<C: Opening, M: Ledger, O: Ledger, A: Ledger>(
     set: LinkSet<C, M, O, A>,
     gathered: Gathered<C, M, O, A>,
-    config: &SetConfig,
 ) -> Result<SetEnd, CrewFault>
-    ensures { IfOk result (IsEndOf config.now) }
+    ensures closed { (config : SetConfig) → settings_of config ≡ C.settings → IfOk result (IsEndOf config) }
+    ensures users { IfOk result (λ end. (end.users.items ≡ gathered.user_ends.items)
+        × All (IsFaithful end.closed.history.items) gathered.users.items) }
+    ensures reports { IfOk result (λ end. end.reports.items ≡ gathered.reports.items) }
 {
     let Gathered {
         users,
-        got_through,
+        user_ends,
         terminals,
         reports,
     } = gathered;
-    let closed = close(set, users, terminals, config)?;
+    let closed = close(set, users, terminals)?;
     Ok(SetEnd {
         closed,
         reports,
-        users: got_through,
+        users: user_ends,
     })
 }
 
 /// Closes a set whose seats are gathered.
-fn close<C: Ledger, M: Ledger, O: Ledger, A: Ledger>(
+fn close<C: Opening, M: Ledger, O: Ledger, A: Ledger>(
     set: LinkSet<C, M, O, A>,
     users: Vec<UserSeat<C, M, O, A>>,
     terminals: Vec<TermSeat<C, M, O, A>>,
-    config: &SetConfig,
 ) -> Result<Closed, CrewFault>
-    ensures { IfOk result (IsClosedAs config.now) }
+    ensures closed { (config : SetConfig) → settings_of config ≡ C.settings → IfOk result (IsClosedAs config) }
+    ensures users { IfOk result (λ closed. All (IsFaithful closed.history.items) users.items) }
 {
-    let Ok(closed) = set.close(users, terminals) else {
-        return Err(CrewFault::Unclosed);
-    };
-    // what stood under the lock has no name, so that its configuration is compared
-    if is_same(&closed.config, config) {
-        Ok(closed)
-    } else {
-        Err(CrewFault::Unclosed)
+    match set.close(users, terminals) {
+        Ok(closed) => Ok(closed),
+        Err(_) => Err(CrewFault::Unclosed),
     }
-}
-
-/// Whether they are one configuration.
-fn is_same(one: &SetConfig, other: &SetConfig) -> bool
-    ensures { IsTrue result ↔ (one.now ≡ other.now) }
-{
-    if !has_same_numbers(one, other) {
-        return false;
-    }
-    if one.profile != other.profile {
-        return false;
-    }
-    one.method == other.method
-}
-
-/// Whether they have the same numbers: their own, of links, of points and of the management's orders.
-fn has_same_numbers(one: &SetConfig, other: &SetConfig) -> bool
-    ensures { IsTrue result ↔ (one.now.set ≡ other.now.set) × (one.now.links ≡ other.now.links)
-        × (one.now.opc ≡ other.now.opc) × (one.now.dpc ≡ other.now.dpc)
-        × (one.now.sio ≡ other.now.sio) }
-{
-    one.set == other.set
-        && one.links == other.links
-        && one.opc == other.opc
-        && one.dpc == other.dpc
-        && one.sio == other.sio
 }
 
 /// Runs each user with its job and each terminal with its line, in threads of their own, until all have ended. A seat
 /// without a job or a line comes back as it is.
 fn run_seats<
-    C: Ledger + Send + Sync,
+    C: Opening + Send + Sync,
     M: Ledger + Send + Sync,
     O: Ledger + Send + Sync,
     A: Ledger + Send + Sync,
@@ -215,17 +185,23 @@ fn run_seats<
     set: &LinkSet<C, M, O, A>,
     seats: Seats<C, M, O, A, L>,
     orders: &Orders<G>,
-) -> Result<Gathered<C, M, O, A>, CrewFault> {
+) -> Result<Gathered<C, M, O, A>, CrewFault>
+    requires users { AreNew User 0 seats.users.items }
+    requires terminals { AreNew Terminal 0 seats.terminals.items }
+    ensures users { IfOk result (λ all.
+        AreUsers (length seats.users.items) (map duty_of seats.jobs.items) all.users.items all.user_ends.items) }
+{
     thread::scope(
         thread::scope_env(),
         rt,
         |scope| -> Result<Gathered<C, M, O, A>, CrewFault>
-            // nothing is told of it: with no clause all that its body gives would be
-            ensures { Unit {0} }
+            requires users { AreNew User 0 seats.users.items }
+            requires terminals { AreNew Terminal 0 seats.terminals.items }
+            ensures users { IfOk result (λ all.
+                AreUsers (length seats.users.items) (map duty_of seats.jobs.items) all.users.items all.user_ends.items) }
         {
-            let mut crew = Crew::new(alloc);
-            match start_all(scope, rt, set, seats, orders, &mut crew) {
-                Ok(()) => crew.gather(rt, alloc),
+            match start_all(scope, rt, alloc, set, seats, orders) {
+                Ok(crew) => crew.gather(rt, alloc),
                 Err(fault) => Err(fault),
             }
         },
@@ -236,7 +212,7 @@ fn run_seats<
 fn start_all<
     's,
     'e: 's,
-    C: Ledger + Send + Sync + 's,
+    C: Opening + Send + Sync + 's,
     M: Ledger + Send + Sync + 's,
     O: Ledger + Send + Sync + 's,
     A: Ledger + Send + Sync + 's,
@@ -246,28 +222,37 @@ fn start_all<
 >(
     scope: &'s Scope<'s, &'e ()>,
     rt: &'s R,
+    alloc: Global,
     set: &'s LinkSet<C, M, O, A>,
     seats: Seats<C, M, O, A, L>,
     orders: &'s Orders<G>,
-    crew: &mut Crew<C, M, O, A>,
-) -> Result<(), CrewFault> {
+) -> Result<Crew<C, M, O, A>, CrewFault>
+    requires users { AreNew User 0 seats.users.items }
+    requires terminals { AreNew Terminal 0 seats.terminals.items }
+    ensures users { IfOk result (λ crew. PromiseJobs (length seats.users.items) (map duty_of seats.jobs.items)
+        (map (λ thread. thread.promise) crew.users.items)) }
+{
     let Seats {
         users,
         jobs,
         terminals,
         lines,
     } = seats;
-    match start_terminals(scope, rt, set, terminals, lines, orders, crew) {
-        Ok(()) => start_users(scope, rt, set, users, jobs, orders, crew),
-        Err(fault) => Err(fault),
-    }
+    let mut left = terminals.into_iter();
+    let terminals = start_terminals(scope, rt, alloc, set, &mut left, lines, orders)?;
+    let users = start_users(scope, rt, alloc, set, users, jobs, orders)?;
+    Ok(Crew {
+        users,
+        terminals,
+        idle: left,
+    })
 }
 
-/// Starts a thread for each terminal that has a line. The seats of the others are idle.
+/// Starts a thread for each terminal that has a line. The seats of the others are left.
 fn start_terminals<
     's,
     'e: 's,
-    C: Ledger + Send + Sync + 's,
+    C: Opening + Send + Sync + 's,
     M: Ledger + Send + Sync + 's,
     O: Ledger + Send + Sync + 's,
     A: Ledger + Send + Sync + 's,
@@ -277,38 +262,41 @@ fn start_terminals<
 >(
     scope: &'s Scope<'s, &'e ()>,
     rt: &'s R,
+    alloc: Global,
     set: &'s LinkSet<C, M, O, A>,
-    seats: Vec<TermSeat<C, M, O, A>>,
+    seats: &mut IntoIter<TermSeat<C, M, O, A>, Global>,
     lines: Vec<L>,
     orders: &'s Orders<G>,
-    crew: &mut Crew<C, M, O, A>,
-) -> Result<(), CrewFault> {
+) -> Result<Vec<TermThread<C, M, O, A>>, CrewFault>
+    requires { AreNew Terminal 0 (into_iter_items seats.old) }
+{
+    let mut threads = Vec::new(alloc);
     let mut lines = lines.into_iter();
-    for seat in seats {
-        let started = match lines.next() {
-            Some(line) => start_shift(
-                scope,
-                TermShift {
-                    rt,
-                    set,
-                    seat,
-                    line,
-                    orders,
-                },
-                &mut crew.terminals,
-            ),
-            None => crew.leave_idle(seat),
+    while let Some(line) = lines.next() {
+        let Some(seat) = seats.next() else {
+            return Ok(threads);
         };
-        started?;
+        let promise = ShiftOf {
+            link: seat.link(),
+            plan: orders.plan,
+        };
+        let shift = TermShift {
+            rt,
+            set,
+            seat,
+            line,
+            orders,
+        };
+        start_thread(scope, alloc, &mut threads, promise, move || shift.work())?;
     }
-    Ok(())
+    Ok(threads)
 }
 
 /// Starts a thread for each user. One that has no job makes no call.
 fn start_users<
     's,
     'e: 's,
-    C: Ledger + Send + Sync + 's,
+    C: Opening + Send + Sync + 's,
     M: Ledger + Send + Sync + 's,
     O: Ledger + Send + Sync + 's,
     A: Ledger + Send + Sync + 's,
@@ -317,15 +305,25 @@ fn start_users<
 >(
     scope: &'s Scope<'s, &'e ()>,
     rt: &'s R,
+    alloc: Global,
     set: &'s LinkSet<C, M, O, A>,
     seats: Vec<UserSeat<C, M, O, A>>,
     jobs: Vec<Job>,
     orders: &'s Orders<G>,
-    crew: &mut Crew<C, M, O, A>,
-) -> Result<(), CrewFault> {
+) -> Result<Vec<UserThread<C, M, O, A>>, CrewFault>
+    requires { AreNew User 0 seats.items }
+    ensures { IfOk result (λ threads. PromiseJobs (length seats.items) (map duty_of jobs.items)
+        (map (λ thread. thread.promise) threads.items)) }
+{
+    let mut seats = seats.into_iter();
     let mut jobs = jobs.into_iter();
-    for seat in seats {
-        let job = jobs.next().unwrap_or(Job::Take { times: 0 });
+    let mut threads = Vec::new(alloc);
+    while let Some(seat) = seats.next() {
+        let job = jobs.next().unwrap_or(NO_JOB);
+        let promise = JobOf {
+            user: seat.number(),
+            job: Snapshot::of(&job),
+        };
         let shift = UserShift {
             rt,
             set,
@@ -333,7 +331,10 @@ fn start_users<
             job,
             orders,
         };
-        start_shift(scope, shift, &mut crew.users)?;
+        start_thread(scope, alloc, &mut threads, promise, move || shift.work())?;
     }
-    Ok(())
+    Ok(threads)
 }
+
+/// The job of a user that has none.
+const NO_JOB: Job = Job::Take { times: 0 };

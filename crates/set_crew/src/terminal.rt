@@ -1,19 +1,37 @@
 //! What a terminal's thread does.
+ghost use Rattle.std.specs.Prelude.{◌≡◌, ◌≤◌, ◌^◌, false, [], Ok, OnOk};
+ghost use Rattle.link_term.specs.Looking.{seen};
+ghost use Rattle.link_term.specs.Seats.{link_in};
+ghost use Rattle.set_crew.specs.Shifts.{AfterHalf, DoesShift, Halves, Turns, TurnsBy, both, is_to_fail, standing, with_first};
 
-use super::crew::{Ended, Shift, TermEnd};
+use super::crew::{Ended, TermEnd};
 use super::orders::{Lent, Orders};
 use super::plan::Plan;
 use line_ring::Line;
 use link_term::{Command, Door, Gate, SeatDoor, TermFault, TermReport, Terminal};
-use set_shared::{LinkSet, TermSeat};
+use set_shared::{LinkSet, Opening, TermSeat};
 use std::sync::Wait;
 use std::sync::ledger::Ledger;
+use std::thread::Promise;
+
+/// What the thread of the terminal of this link promises: its seat's entries are those of this plan's turns.
+#[derive(Drop)]
+pub(crate) struct ShiftOf {
+    pub(crate) link: u8,
+    pub(crate) plan: Plan,
+}
+
+impl<C: Opening, M: Ledger, O: Ledger, A: Ledger> Promise<TermEnd<C, M, O, A>> for ShiftOf {
+    ghost use Rattle.set_crew.specs.Keeping.{KeepsShift};
+
+    ghost kept_by = { KeepsShift };
+}
 
 /// A terminal's seat at its set, and the line over which it runs.
 #[derive(Drop)]
 pub(crate) struct TermShift<
     'a,
-    C: Ledger,
+    C: Opening,
     M: Ledger,
     O: Ledger,
     A: Ledger,
@@ -28,13 +46,22 @@ pub(crate) struct TermShift<
     pub(crate) orders: &'a Orders<G>,
 }
 
-impl<'a, C: Ledger, M: Ledger, O: Ledger, A: Ledger, L: Line + Drop, G: Gate, R: Wait> Shift<
-    TermSeat<C, M, O, A>,
-    Result<TermReport, TermFault>,
-> for TermShift<'a, C, M, O, A, L, G, R> {
+impl<'a, C: Opening, M: Ledger, O: Ledger, A: Ledger, L: Line + Drop, G: Gate, R: Wait> TermShift<
+    'a,
+    C,
+    M,
+    O,
+    A,
+    L,
+    G,
+    R,
+> {
     /// The terminal of the seat's link is told to come up in an emergency, and takes all its turns over the line. After
     /// a fault its seat comes back too.
-    fn work(self) -> TermEnd<C, M, O, A> {
+    pub(crate) fn work(self) -> TermEnd<C, M, O, A>
+        requires { self.seat.receipts ≡ [] }
+        ensures { DoesShift self.entry.orders.now.plan (link_in self.entry.seat.who) result.told result.seat.receipts }
+    {
         let TermShift {
             rt,
             set,
@@ -62,19 +89,101 @@ fn all_turns<D: Door, L: Line, G: Gate>(
     terminal: &mut Terminal<D, L, G>,
     link: u8,
     plan: &Plan,
-) -> Result<TermReport, TermFault> {
-    if plan.fail != Some(link) {
-        return terminal.run(plan.turns);
+) -> Result<TermReport, TermFault>
+    requires failed { terminal.old.failed ≡ false }
+    ensures turns { TurnsBy (is_to_fail plan.now.fail link) plan.now.turns result
+        (standing terminal.old.receiver terminal.old.inside (D.made terminal.old.door) (D.faults terminal.old.door)
+        (seen (L.taken_so_far terminal.old.line) (L.waiting terminal.old.line) (L.put_so_far terminal.old.line)
+        (L.free terminal.old.line)))
+        (standing terminal.new.receiver terminal.new.inside (D.made terminal.new.door) (D.faults terminal.new.door)
+        (seen (L.taken_so_far terminal.new.line) (L.waiting terminal.new.line) (L.put_so_far terminal.new.line)
+        (L.free terminal.new.line))) }
+{
+    if plan.fail == Some(link) {
+        both_halves(terminal, plan.turns)
+    } else {
+        so_many(terminal, plan.turns)
     }
-    let before = plan.turns / 2;
-    let first = terminal.run(before)?;
+}
+
+/// Half of so many turns, Stop, and the rest of them.
+fn both_halves<D: Door, L: Line, G: Gate>(
+    terminal: &mut Terminal<D, L, G>,
+    turns: u64,
+) -> Result<TermReport, TermFault>
+    requires failed { terminal.old.failed ≡ false }
+    requires few { turns ≤ 2 ^ 32 }
+    ensures turns { Halves turns result
+        (standing terminal.old.receiver terminal.old.inside (D.made terminal.old.door) (D.faults terminal.old.door)
+        (seen (L.taken_so_far terminal.old.line) (L.waiting terminal.old.line) (L.put_so_far terminal.old.line)
+        (L.free terminal.old.line)))
+        (standing terminal.new.receiver terminal.new.inside (D.made terminal.new.door) (D.faults terminal.new.door)
+        (seen (L.taken_so_far terminal.new.line) (L.waiting terminal.new.line) (L.put_so_far terminal.new.line)
+        (L.free terminal.new.line))) }
+{
+    match so_many(terminal, turns / 2) {
+        Ok(first) => after_half(terminal, turns, first),
+        Err(fault) => Err(fault),
+    }
+}
+
+/// Stop, and the rest of so many turns, of whose first half this was counted.
+fn after_half<D: Door, L: Line, G: Gate>(
+    terminal: &mut Terminal<D, L, G>,
+    turns: u64,
+    first: TermReport,
+) -> Result<TermReport, TermFault>
+    requires failed { terminal.old.failed ≡ false }
+    requires few { turns ≤ 2 ^ 32 }
+    ensures turns { AfterHalf turns (Ok first) result
+        (standing terminal.old.receiver terminal.old.inside (D.made terminal.old.door) (D.faults terminal.old.door)
+        (seen (L.taken_so_far terminal.old.line) (L.waiting terminal.old.line) (L.put_so_far terminal.old.line)
+        (L.free terminal.old.line)))
+        (standing terminal.new.receiver terminal.new.inside (D.made terminal.new.door) (D.faults terminal.new.door)
+        (seen (L.taken_so_far terminal.new.line) (L.waiting terminal.new.line) (L.put_so_far terminal.new.line)
+        (L.free terminal.new.line))) }
+{
     terminal.command(Command::Stop);
-    let second = terminal.run(plan.turns - before)?;
-    Ok(one_report(first, second))
+    let second = so_many(terminal, turns - turns / 2);
+    with_first(first, second)
+}
+
+/// So many turns.
+fn so_many<D: Door, L: Line, G: Gate>(
+    terminal: &mut Terminal<D, L, G>,
+    turns: u64,
+) -> Result<TermReport, TermFault>
+    requires failed { terminal.old.failed ≡ false }
+    requires few { turns ≤ 2 ^ 32 }
+    ensures turns { Turns turns result
+        (standing terminal.old.receiver terminal.old.inside (D.made terminal.old.door) (D.faults terminal.old.door)
+        (seen (L.taken_so_far terminal.old.line) (L.waiting terminal.old.line) (L.put_so_far terminal.old.line)
+        (L.free terminal.old.line)))
+        (standing terminal.new.receiver terminal.new.inside (D.made terminal.new.door) (D.faults terminal.new.door)
+        (seen (L.taken_so_far terminal.new.line) (L.waiting terminal.new.line) (L.put_so_far terminal.new.line)
+        (L.free terminal.new.line))) }
+    ensures goes_on { OnOk result (terminal.new.failed ≡ false) }
+{
+    terminal.run(turns)
+}
+
+/// What two runs of one terminal counted together, where the second one went whole.
+fn with_first(
+    first: TermReport,
+    second: Result<TermReport, TermFault>,
+) -> Result<TermReport, TermFault>
+    ensures { result ≡ with_first first second }
+{
+    match second {
+        Ok(second) => Ok(one_report(first, second)),
+        Err(fault) => Err(fault),
+    }
 }
 
 /// What two runs of one terminal counted together. No sum comes near the end of its range.
-fn one_report(first: TermReport, second: TermReport) -> TermReport {
+fn one_report(first: TermReport, second: TermReport) -> TermReport
+    ensures { result ≡ both first second }
+{
     TermReport {
         turns: first.turns.saturating_add(second.turns),
         sent: first.sent.saturating_add(second.sent),

@@ -1,17 +1,35 @@
 //! What a user's thread does.
+ghost use Rattle.std.specs.Prelude.{◌≡◌, [], map};
+ghost use Rattle.set_crew.specs.Jobs.{Does, duty_of, Finds, Offers, OffersOne, Takes, TakesOne, end_of_call, end_of_find, number_of};
 
-use super::crew::{Ended, Shift, UserEnd};
+use super::crew::{Ended, UserEnd};
+use super::fault::UserFault;
 use super::orders::Orders;
 use super::plan::Job;
 use link_term::Gate;
-use set_events::Answer;
-use set_shared::{LinkSet, UserSeat};
+use set_events::{Answer, SetFault};
+use set_shared::{LinkSet, Opening, UserSeat};
+use std::snapshot::Snapshot;
 use std::sync::Wait;
 use std::sync::ledger::Ledger;
+use std::thread::Promise;
+
+/// What the thread of the user of this number promises: its seat's entries are the calls of this job.
+#[derive(Drop)]
+pub(crate) struct JobOf {
+    pub(crate) user: u16,
+    pub(crate) job: Snapshot<Job>,
+}
+
+impl<C: Opening, M: Ledger, O: Ledger, A: Ledger> Promise<UserEnd<C, M, O, A>> for JobOf {
+    ghost use Rattle.set_crew.specs.Keeping.{KeepsJob};
+
+    ghost kept_by = { KeepsJob };
+}
 
 /// A user's seat at its set, and the job that is to be done there.
 #[derive(Drop)]
-pub(crate) struct UserShift<'a, C: Ledger, M: Ledger, O: Ledger, A: Ledger, G: Gate, R: Wait> {
+pub(crate) struct UserShift<'a, C: Opening, M: Ledger, O: Ledger, A: Ledger, G: Gate, R: Wait> {
     pub(crate) rt: &'a R,
     pub(crate) set: &'a LinkSet<C, M, O, A>,
     pub(crate) seat: UserSeat<C, M, O, A>,
@@ -19,12 +37,21 @@ pub(crate) struct UserShift<'a, C: Ledger, M: Ledger, O: Ledger, A: Ledger, G: G
     pub(crate) orders: &'a Orders<G>,
 }
 
-impl<'a, C: Ledger, M: Ledger, O: Ledger, A: Ledger, G: Gate, R: Wait> Shift<
-    UserSeat<C, M, O, A>,
-    bool,
-> for UserShift<'a, C, M, O, A, G, R> {
+impl<'a, C: Opening, M: Ledger, O: Ledger, A: Ledger, G: Gate, R: Wait> UserShift<
+    'a,
+    C,
+    M,
+    O,
+    A,
+    G,
+    R,
+> {
     /// The user does its job. It ends at the first fault of the set, or at a number that was accepted and isn't found.
-    fn work(self) -> UserEnd<C, M, O, A> {
+    pub(crate) fn work(self) -> UserEnd<C, M, O, A>
+        requires { self.seat.receipts ≡ [] }
+        ensures who { result.seat.who ≡ self.entry.seat.who }
+        ensures job { Does self.entry.seat.who (duty_of self.entry.job) result.told [] result.seat.receipts }
+    {
         let UserShift {
             rt,
             set,
@@ -32,67 +59,142 @@ impl<'a, C: Ledger, M: Ledger, O: Ledger, A: Ledger, G: Gate, R: Wait> Shift<
             job,
             orders,
         } = self;
-        let got_through = match job {
-            Job::Offer { bodies } => offer_all(rt, set, &mut seat, bodies, orders),
-            Job::Take { times } => take_often(rt, set, &mut seat, times, orders),
-        };
-        Ended {
-            seat,
-            told: got_through,
-        }
+        let told = do_job(rt, set, &mut seat, &job, orders);
+        Ended { seat, told }
+    }
+}
+
+/// Does this job.
+fn do_job<C: Opening, M: Ledger, O: Ledger, A: Ledger, G: Gate, R: Wait>(
+    rt: &R,
+    set: &LinkSet<C, M, O, A>,
+    seat: &mut UserSeat<C, M, O, A>,
+    job: &Job,
+    orders: &Orders<G>,
+) -> Result<(), UserFault>
+    ensures who { seat.new.who ≡ seat.old.who }
+    ensures job { Does seat.old.who (duty_of job.now) result seat.old.receipts seat.new.receipts }
+{
+    match job {
+        Job::Offer { bodies } => offer_all(rt, set, seat, bodies, orders),
+        Job::Take { times } => take_often(rt, set, seat, *times, orders),
     }
 }
 
 /// Offers all of these bodies, and finds each one that was accepted.
-fn offer_all<C: Ledger, M: Ledger, O: Ledger, A: Ledger, G: Gate, R: Wait>(
+fn offer_all<C: Opening, M: Ledger, O: Ledger, A: Ledger, G: Gate, R: Wait>(
     rt: &R,
     set: &LinkSet<C, M, O, A>,
     seat: &mut UserSeat<C, M, O, A>,
-    bodies: Vec<Vec<u8>>,
+    bodies: &[Vec<u8>],
     orders: &Orders<G>,
-) -> bool {
+) -> Result<(), UserFault>
+    ensures who { seat.new.who ≡ seat.old.who }
+    ensures offers { Offers seat.old.who (map (λ body. body.items) bodies.now) result
+        seat.old.receipts seat.new.receipts }
+{
     for body in bodies {
-        if !offer_one(rt, set, seat, body.as_slice(), orders) {
-            return false;
+        if let Err(fault) = offer_one(rt, set, seat, body, orders) {
+            return Err(fault);
         }
     }
-    true
+    Ok(())
 }
 
 /// Offers a message of these octets, and finds it where it was accepted.
-fn offer_one<C: Ledger, M: Ledger, O: Ledger, A: Ledger, G: Gate, R: Wait>(
+fn offer_one<C: Opening, M: Ledger, O: Ledger, A: Ledger, G: Gate, R: Wait>(
     rt: &R,
     set: &LinkSet<C, M, O, A>,
     seat: &mut UserSeat<C, M, O, A>,
     octets: &[u8],
     orders: &Orders<G>,
-) -> bool {
-    let user = seat.number();
-    orders.gate.user(orders.set, user);
-    match set.offer(rt, seat, octets) {
-        Ok(Answer::Accepted { number }) => {
-            orders.gate.user(orders.set, user);
-            matches!(set.find(rt, seat, number), Ok(Answer::Found { .. }))
-        }
-        Ok(_) => true,
-        Err(_) => false,
+) -> Result<(), UserFault>
+    ensures who { seat.new.who ≡ seat.old.who }
+    ensures offers { OffersOne seat.old.who octets.now result seat.old.receipts seat.new.receipts }
+{
+    orders.gate.user(orders.set, seat.number());
+    let offered = set.offer(rt, seat, octets);
+    match number_of(&offered) {
+        Some(number) => find_one(rt, set, seat, number, orders),
+        None => end_of_call(&offered),
     }
 }
 
+/// Finds the message that was accepted under this number.
+fn find_one<C: Opening, M: Ledger, O: Ledger, A: Ledger, G: Gate, R: Wait>(
+    rt: &R,
+    set: &LinkSet<C, M, O, A>,
+    seat: &mut UserSeat<C, M, O, A>,
+    number: u64,
+    orders: &Orders<G>,
+) -> Result<(), UserFault>
+    ensures who { seat.new.who ≡ seat.old.who }
+    ensures finds { Finds seat.old.who number result seat.old.receipts seat.new.receipts }
+{
+    orders.gate.user(orders.set, seat.number());
+    end_of_find(&set.find(rt, seat, number))
+}
+
 /// Asks so often for the oldest message that was heard.
-fn take_often<C: Ledger, M: Ledger, O: Ledger, A: Ledger, G: Gate, R: Wait>(
+fn take_often<C: Opening, M: Ledger, O: Ledger, A: Ledger, G: Gate, R: Wait>(
     rt: &R,
     set: &LinkSet<C, M, O, A>,
     seat: &mut UserSeat<C, M, O, A>,
     times: u32,
     orders: &Orders<G>,
-) -> bool {
-    let user = seat.number();
+) -> Result<(), UserFault>
+    ensures who { seat.new.who ≡ seat.old.who }
+    ensures takes { Takes seat.old.who times result seat.old.receipts seat.new.receipts }
+{
     for _time in 0..times {
-        orders.gate.user(orders.set, user);
-        if set.take(rt, seat).is_err() {
-            return false;
+        if let Err(fault) = take_one(rt, set, seat, orders) {
+            return Err(fault);
         }
     }
-    true
+    Ok(())
+}
+
+/// Asks for the oldest message that was heard.
+fn take_one<C: Opening, M: Ledger, O: Ledger, A: Ledger, G: Gate, R: Wait>(
+    rt: &R,
+    set: &LinkSet<C, M, O, A>,
+    seat: &mut UserSeat<C, M, O, A>,
+    orders: &Orders<G>,
+) -> Result<(), UserFault>
+    ensures who { seat.new.who ≡ seat.old.who }
+    ensures takes { TakesOne seat.old.who result seat.old.receipts seat.new.receipts }
+{
+    orders.gate.user(orders.set, seat.number());
+    end_of_call(&set.take(rt, seat))
+}
+
+/// The number under which an offer was accepted.
+fn number_of(offered: &Result<Answer, SetFault>) -> Option<u64>
+    ensures { result ≡ number_of offered.now }
+{
+    match offered {
+        Ok(Answer::Accepted { number }) => Some(*number),
+        _ => None,
+    }
+}
+
+/// How a user goes on whose message was looked for: one that was accepted is there.
+fn end_of_find(found: &Result<Answer, SetFault>) -> Result<(), UserFault>
+    ensures { result ≡ end_of_find found.now }
+{
+    match found {
+        Ok(Answer::Found { .. }) => Ok(()),
+        Ok(_) => Err(UserFault::NotFound),
+        Err(fault) => Err(UserFault::from(*fault)),
+    }
+}
+
+/// How a user goes on that was answered anything.
+fn end_of_call(answered: &Result<Answer, SetFault>) -> Result<(), UserFault>
+    ensures { result ≡ end_of_call answered.now }
+{
+    match answered {
+        Ok(_) => Ok(()),
+        Err(fault) => Err(UserFault::from(*fault)),
+    }
 }

@@ -1,7 +1,8 @@
 //! Stored runs: each script and each line of units beside which its output stands is run anew, and held against it.
 //!
 //! It reads the file `list` of the folder that it runs in: a name a line, of a script (`.play`), a line of units
-//! (`.units`), units to decode (`.decode`), a history to audit (`.history`), or a table of scripts that all give the same:
+//! (`.units`), units to decode (`.decode`, or `.decode_wide` of the wide profile), a history to audit (`.history`), or a
+//! table of scripts that all give the same:
 //! of each line of `NAME.first` a script is made, and of each line of `NAME.second` one with the opening before it. Beside
 //! `NAME.play` stands `NAME.stdout`, what the run prints, and where it ends with a fault `NAME.fault`, the line that tells
 //! it. `NAME.pcap` is what the capture of `NAME.play` writes, `NAME.history_a` and `NAME.history_b` what the histories of
@@ -15,7 +16,7 @@
 use audit_text::audit;
 use command_line::{RunWords, Words, words_of};
 use decode_text::decode;
-use paced_banks::{Traffic, pace_gates};
+use l2_units::Profile;
 use play_text::{play, play_explained};
 use printing::{Fault, Reader, Writer};
 use script_capture::capture;
@@ -23,9 +24,11 @@ use script_history::{End, history};
 use script_ladder::ladder;
 use std::alloc::Global;
 use std::fmt::Display;
+use std::io::Eprint;
 use std::process::ExitCode;
 use std::sync::Wait;
 use std::thread::Threads;
+use std::time::Clock;
 use std::{fs, io};
 use units_text::units;
 
@@ -50,7 +53,7 @@ fn main(rt: HostRuntime) -> io::Result<ExitCode> {
 
 /// Whether each run of this list gives what is stored beside it. A line is printed for each. What starts threads is the same
 /// runtime.
-fn all_are_as_stored<R: Threads + Wait + Copy + Send + Sync + 'static>(
+fn all_are_as_stored<R: Threads + Wait + Clock + Eprint + Copy + Send + Sync + 'static>(
     rt: &HostRuntime,
     threads: &R,
     list: &str,
@@ -66,7 +69,7 @@ fn all_are_as_stored<R: Threads + Wait + Copy + Send + Sync + 'static>(
 }
 
 /// Whether each run of this name gives what is stored beside it.
-fn is_as_stored<R: Threads + Wait + Copy + Send + Sync + 'static>(
+fn is_as_stored<R: Threads + Wait + Clock + Eprint + Copy + Send + Sync + 'static>(
     rt: &HostRuntime,
     threads: &R,
     name: &str,
@@ -143,6 +146,7 @@ fn is_told(alloc: Global, opening: &str, told: &[&str]) -> io::Result<bool> {
 enum Kind {
     Units,
     Decoded,
+    WideDecoded,
     HistoryOfA,
     HistoryOfB,
     Audited,
@@ -156,6 +160,7 @@ fn kind_of(name: &str) -> Kind {
     match ending_of(name) {
         "units" => Kind::Units,
         "decode" => Kind::Decoded,
+        "decode_wide" => Kind::WideDecoded,
         "history_a" => Kind::HistoryOfA,
         "history_b" => Kind::HistoryOfB,
         "history" => Kind::Audited,
@@ -178,7 +183,9 @@ impl Kind {
     /// Whether the run is told of the script beside its name: its capture, its chart, or the history of one of its ends.
     fn is_of_a_script(self) -> bool {
         match self {
-            Kind::Units | Kind::Decoded | Kind::Audited | Kind::Played => false,
+            Kind::Units | Kind::Decoded | Kind::WideDecoded | Kind::Audited | Kind::Played => {
+                false
+            }
             _ => true,
         }
     }
@@ -261,7 +268,8 @@ fn run_on(
 ) -> io::Result<String> {
     match kind {
         Kind::Units => told_of(alloc, units(alloc, source, sink)),
-        Kind::Decoded => told_of(alloc, decode(alloc, source, sink)),
+        Kind::Decoded => told_of(alloc, decode(alloc, Profile::Narrow, source, sink)),
+        Kind::WideDecoded => told_of(alloc, decode(alloc, Profile::Wide, source, sink)),
         Kind::HistoryOfA => told_of(alloc, history(alloc, End::A, source, sink)),
         Kind::HistoryOfB => told_of(alloc, history(alloc, End::B, source, sink)),
         Kind::Audited => told_of(alloc, audit(alloc, source, sink)),
@@ -273,7 +281,7 @@ fn run_on(
 }
 
 /// What the threads give that the words in the file of this name ask for, behind `run`.
-fn threads_of<R: Threads + Wait + Copy + Send + Sync + 'static>(
+fn threads_of<R: Threads + Wait + Clock + Eprint + Copy + Send + Sync + 'static>(
     threads: &R,
     rt: &HostRuntime,
     name: &str,
@@ -308,23 +316,13 @@ fn push_words<'a>(text: &'a str, words: &mut Vec<&'a str>) -> io::Result<()> {
 }
 
 /// What a run of threads gives.
-fn ran_as<R: Threads + Wait + Copy + Send + Sync + 'static>(
+fn ran_as<R: Threads + Wait + Clock + Eprint + Copy + Send + Sync + 'static>(
     rt: &R,
     alloc: Global,
     words: &RunWords,
 ) -> io::Result<Ran> {
-    let traffic = Traffic {
-        sets: words.sets,
-        links: words.links,
-        users: words.users,
-        messages: words.messages,
-        fail: words.fail,
-        cyclic: words.cyclic,
-        turns: u64::from(words.turns),
-    };
-    let gates = pace_gates(alloc, words.sets, words.links)?;
     let mut sink = Writer::new(Vec::new(alloc));
-    let ended = run_text::run(rt, alloc, &traffic, gates, words.per_link, &mut sink, || {});
+    let ended = run_text::run(rt, alloc, words, false, &mut sink);
     ran_with(sink.into_inner(), told_of(alloc, ended))
 }
 

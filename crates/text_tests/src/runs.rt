@@ -3,7 +3,7 @@
 use super::holds;
 use paced_banks::{Traffic, pace_gates};
 use printing::{Fault, Writer};
-use run_text::{End, RunFault, TermFault, run};
+use run_text::{End, RunFault, TermFault, UserFault, run, write_run};
 use std::alloc::Global;
 use std::sync::Wait;
 use std::test::Fail;
@@ -25,7 +25,7 @@ fn printed<R: Threads + Wait + Copy + Send + Sync + 'static>(
     };
     let gates = pace_gates(alloc, 1, 2)?;
     let mut sink = Writer::new(Vec::new(alloc));
-    let well = run(rt, alloc, &traffic, gates, true, &mut sink, || {}).is_ok();
+    let well = write_run(rt, alloc, &traffic, gates, true, &mut sink, || {}).is_ok();
     match String::from_utf8(sink.into_inner()) {
         Ok(text) if well => Ok(text),
         _ => Err(Fail::from("no text, or the run failed")),
@@ -95,6 +95,7 @@ fn a_fault_of_a_run_shows_its_line(rt: HostRuntime) -> Result<(), Fail> {
         set: 3,
         end: End::A,
         user: 2,
+        fault: UserFault::NotFound,
     };
     let terminal = RunFault::Terminal {
         set: 0,
@@ -105,7 +106,7 @@ fn a_fault_of_a_run_shows_its_line(rt: HostRuntime) -> Result<(), Fail> {
     holds(
         thread
             && shows(rt.alloc(), RunFault::Close, "fault close")
-            && shows(rt.alloc(), user, "fault user set=3 end=a user=2")
+            && shows(rt.alloc(), user, "fault user set=3 end=a user=2 fault=3")
             && shows(
                 rt.alloc(),
                 terminal,

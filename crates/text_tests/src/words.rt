@@ -12,6 +12,7 @@ fn told_of(alloc: Global, words: &[&str]) -> Result<String, AllocError> {
         Ok(Words::PlayExplained) => "play --explain".to_string(alloc),
         Ok(Words::Units) => "units".to_string(alloc),
         Ok(Words::Decode) => "decode".to_string(alloc),
+        Ok(Words::DecodeWide) => "decode --wide".to_string(alloc),
         Ok(Words::Capture) => "capture".to_string(alloc),
         Ok(Words::Ladder) => "ladder".to_string(alloc),
         Ok(Words::Audit) => "audit".to_string(alloc),
@@ -80,11 +81,12 @@ fn ask_for(alloc: Global, words: &[&str], subcommand: &str) -> bool {
 
 #[test]
 fn words_of_the_command_line(rt: HostRuntime) -> Result<(), Fail> {
-    let asked: [(&[&str], &str); 10] = [
+    let asked: [(&[&str], &str); 11] = [
         (&["play"], "play"),
         (&["play", "--explain"], "play --explain"),
         (&["units"], "units"),
         (&["decode"], "decode"),
+        (&["decode", "--wide"], "decode --wide"),
         (&["capture"], "capture"),
         (&["ladder"], "ladder"),
         (&["audit"], "audit"),
@@ -92,10 +94,12 @@ fn words_of_the_command_line(rt: HostRuntime) -> Result<(), Fail> {
         (&["history", "b"], "history b"),
         (&["play", "--"], "play"),
     ];
-    let refused: [&[&str]; 8] = [
+    let refused: [&[&str]; 10] = [
         &[],
         &["units", "--explain"],
         &["play", "--explain", "it"],
+        &["play", "--wide"],
+        &["decode", "--wide", "it"],
         &["play", "it"],
         &["--", "units"],
         &["history"],
@@ -228,12 +232,14 @@ fn a_file_is_read_from_standard_input(rt: HostRuntime) -> Result<(), Fail> {
     let alloc = rt.alloc();
     let play = "mtpbank play: reads standard input: mtpbank play < FILE";
     let units = "mtpbank units: reads standard input: mtpbank units < FILE";
+    let decode = "mtpbank decode: reads standard input: mtpbank decode < FILE";
     let history = "mtpbank history: reads standard input: mtpbank history END < FILE";
     let end = "mtpbank history: c isn't an end, a or b\nusage: mtpbank history END < FILE";
     holds(
         ask_for(alloc, &["play", "a.play"], play)
             && ask_for(alloc, &["play", "--explain", "a.play"], play)
             && ask_for(alloc, &["units", "a.units"], units)
+            && ask_for(alloc, &["decode", "--wide", "a.decode"], decode)
             && ask_for(alloc, &["history", "a", "a.play"], history)
             && ask_for(alloc, &["history", "c"], end),
     )
@@ -269,7 +275,7 @@ fn short_help_is_a_page(rt: HostRuntime) -> Result<(), Fail> {
     let asked = [
         ("units", "\nUsage: mtpbank units\n"),
         ("play", "\nUsage: mtpbank play [OPTIONS]\n"),
-        ("decode", "\nUsage: mtpbank decode\n"),
+        ("decode", "\nUsage: mtpbank decode [OPTIONS]\n"),
         ("capture", "\nUsage: mtpbank capture\n"),
         ("ladder", "\nUsage: mtpbank ladder\n"),
         ("audit", "\nUsage: mtpbank audit\n"),
@@ -295,6 +301,7 @@ fn all_have_help(alloc: Global, rows: &[(&str, &str)]) -> bool {
 fn the_help_shows_each_line(rt: HostRuntime) -> Result<(), Fail> {
     let lines = [
         "set links=L method=W a=X b=Y sio=HH\n",
+        " profile=wide: ",
         "  together L ",
         "  offer E HEX ",
         "  take E ",

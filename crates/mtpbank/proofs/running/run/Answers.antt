@@ -1,6 +1,7 @@
 use Rattle.units_text.specs.UnitsText.{IsUnitsText}
 use Rattle.play_text.specs.PlayText.{IsPlayText, IsExplainedPlayText}
 use Rattle.decode_text.specs.Decoding.{IsDecodeText}
+use Rattle.l2_units.specs.declared.profile.Profile.TheVariants.{Narrow, Wide}
 use Rattle.script_capture.specs.Capture.{IsCapture}
 use Rattle.script_ladder.specs.Ladder.{IsLadder}
 use Rattle.audit_text.specs.Auditing.{IsAuditText}
@@ -20,7 +21,10 @@ pub returns-in-PlayExplained-clause-text : goal.returns-in-PlayExplained-clause-
 returns-in-PlayExplained-clause-text g c = rw (c.of_any-in-PlayExplained.ensures, c.in-PlayExplained.is) (prints_all IsExplainedPlayText ExplainedPlayFault c.play_explained.result _ _ _ c.play_explained.ensures.text)
 
 pub returns-in-Decode-clause-text : goal.returns-in-Decode-clause-text
-returns-in-Decode-clause-text g c = rw (c.of_any-in-Decode.ensures, c.in-Decode.is) (prints_all IsDecodeText DecodeFault c.decode.result _ _ _ c.decode.ensures.text)
+returns-in-Decode-clause-text g c = rw (c.of_any-in-Decode.ensures, c.in-Decode.is) (prints_all (IsDecodeText Narrow) DecodeFault c.decode.result _ _ _ c.decode.ensures.text)
+
+pub returns-in-DecodeWide-clause-text : goal.returns-in-DecodeWide-clause-text
+returns-in-DecodeWide-clause-text g c = rw (c.of_any-in-DecodeWide.ensures, c.in-DecodeWide.is) (prints_all (IsDecodeText Wide) DecodeFault c.decode-in-DecodeWide.result _ _ _ c.decode-in-DecodeWide.ensures.text)
 
 pub returns-in-Capture-clause-text : goal.returns-in-Capture-clause-text
 returns-in-Capture-clause-text g c = rw (c.of_any-in-Capture.ensures, c.in-Capture.is) (prints_all IsCapture PlayFault c.capture.result _ _ _ c.capture.ensures.text)

@@ -1,3 +1,4 @@
+use Rattle.set_model.specs.State.{settings_of}
 use Rattle.set_crew.proofs.set_thread.one_set.Given as goal
 
 -- each ledger is named by its blank
@@ -12,3 +13,7 @@ ghosts-run_set-O-Ledger g a = record { name = a.blanks.octets.name; parts = a.bl
 
 abbrev pub ghosts-run_set-A-Ledger : goal.ghosts-run_set-A-Ledger
 ghosts-run_set-A-Ledger g a = record { name = a.blanks.acknowledged.name; parts = a.blanks.acknowledged.parts }
+
+-- and what the set is opened with is the work's configuration
+abbrev pub ghosts-run_set-C-Opening : goal.ghosts-run_set-C-Opening
+ghosts-run_set-C-Opening g a = record { settings = settings_of a.work.config }

@@ -1,12 +1,27 @@
-use Rattle.std.proofs.Common.{arith, ap, map, ◌∷◌, ◌++◌, [], ◌∙◌}
-use Rattle.std.proofs.lemmas.List.{length-append, map-append}
+use Rattle.std.proofs.Common.{arith, ap, [], length, map}
+use Rattle.std.proofs.lemmas.List.{length-append}
+use Rattle.std.specs.Option.{option_to_list}
+use Rattle.std.specs.Vec.{vec_len}
+use Rattle.std.specs.Vec.Iter.{into_iter_items}
+use Rattle.set_crew.specs.Ends.{task_of}
+use Rattle.set_crew.specs.Jobs.{duty_of}
+use Rattle.set_crew.proofs.Taking.{ran_out, taken}
+use Rattle.bank_core.proofs.Tasks.{first_task, put_one}
 use Rattle.bank_core.proofs.bank.Bank.put_works.Goals as goal
 
--- one set's work more
+-- src/bank.rt
 pub loop-config-preserved : goal.loop-config-preserved
 loop-config-preserved g c =
-    let kept = c.loop-config.invariant in (
-      ap (map (λ work. work.config)) c.push_reserved.ensures.items ∙ map-append (λ work. work.config) _ _ ∙ ap (λ configs. configs ++ c.in-Some.config ∷ []) kept.0,
-      omega (arith, length-append c.loop-config.yielded (c.in-Some.config ∷ []), kept.1, c.push_reserved.ensures.len),
-      omega (arith, kept.2, c.push_reserved.ensures.capacity),
+    let kept = c.loop-config.invariant in
+    let lines = taken (λ of_set. vec_len of_set) 0 (into_iter_items c.loop-config.lines) c.next-in-Some.result (into_iter_items c.next-in-Some.new.self) c.new.result c.unwrap_or.result c.next-in-Some.ensures.items
+    (λ none. ran_out _ _ c.next-in-Some.result _ _ c.next-in-Some.ensures.cases kept.2 none) c.unwrap_or.ensures c.new.ensures.len in
+    let jobs = taken (λ of_set. map duty_of of_set.items) [] (into_iter_items c.loop-config.jobs) c.next-in-Some-2.result (into_iter_items c.next-in-Some-2.new.self) c.new-in-Some.result c.unwrap_or-in-Some.result c.next-in-Some-2.ensures.items
+    (λ none. ran_out _ _ c.next-in-Some-2.result _ _ c.next-in-Some-2.ensures.cases kept.3 none) c.unwrap_or-in-Some.ensures (ap (map duty_of) c.new-in-Some.ensures.items) in
+    let left = first_task c.args.self.users c.self.inside.users (ap (λ bank. bank.users) c.self.view_is) c.args.plan c.in-Some.config (into_iter_items c.next.new.self) (into_iter_items c.loop-config.configs) _ _ _ _ _ _ c.in-Some.ensures.items lines.0 lines.1 jobs.0 jobs.1 in (
+      put_one (λ work. task_of work.config work.users (vec_len work.lines) (map duty_of work.jobs.items) work.orders.plan) c.loop-config.works.items c.push_reserved.new.self.items _ _ _ _ c.push_reserved.ensures.items left kept.0,
+      omega (arith, c.in-Some.ensures.len, ap length c.in-Some.ensures.items, kept.1),
+      omega (arith, c.next-in-Some.ensures.len, ap length c.next-in-Some.ensures.items, length-append (option_to_list c.next-in-Some.result) (into_iter_items c.next-in-Some.new.self), kept.2),
+      omega (arith, c.next-in-Some-2.ensures.len, ap length c.next-in-Some-2.ensures.items, length-append (option_to_list c.next-in-Some-2.result) (into_iter_items c.next-in-Some-2.new.self), kept.3),
+      omega (arith, c.in-Some.ensures.len, c.push_reserved.ensures.len, kept.4),
+      omega (arith, c.push_reserved.ensures.capacity, kept.5),
     )

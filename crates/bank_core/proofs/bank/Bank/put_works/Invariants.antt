@@ -1,8 +1,21 @@
-use Rattle.std.proofs.Common.{◌≡◌, ◌≤◌, map, length}
+use Rattle.std.proofs.Common.{◌≡◌, ◌≤◌, ◌+◌, ◌++◌, map, length}
 use Rattle.std.specs.Vec.{vec_len, vec_capacity}
+use Rattle.std.specs.Vec.Iter.{into_iter_items, into_iter_len}
+use Rattle.set_crew.specs.Ends.{task_of}
+use Rattle.set_crew.specs.Jobs.{duty_of}
+use Rattle.bank_core.specs.Ends.{tasks_from}
 use Rattle.bank_core.proofs.bank.Bank.put_works.Given as goal
 
+-- what is left completes it
 abbrev pub invariant-loop-config : goal.invariant-loop-config
-invariant-loop-config g l = (map (λ work. work.config) l.works.items ≡ l.yielded)
-    × (vec_len l.works ≡ length l.yielded)
+invariant-loop-config g l = (map (λ work. task_of work.config work.users (vec_len work.lines) (map duty_of work.jobs.items) work.orders.plan) l.works.items ++ tasks_from l.fn.self.users l.fn.plan (into_iter_items l.configs)
+    (map (λ of_set. vec_len of_set) (into_iter_items l.lines)) (map (λ of_set. map duty_of of_set.items) (into_iter_items l.jobs))
+    ≡ tasks_from l.fn.self.users l.fn.plan l.fn.self.configs (map (λ of_set. vec_len of_set) l.fn.lines.items) (map (λ of_set. map duty_of of_set.items) l.fn.jobs.items))
+    × (into_iter_len l.configs ≡ length (into_iter_items l.configs))
+    × (into_iter_len l.lines ≡ length (into_iter_items l.lines))
+    × (into_iter_len l.jobs ≡ length (into_iter_items l.jobs))
+    × (vec_len l.works + into_iter_len l.configs ≡ length l.fn.self.configs)
     × (length l.fn.self.configs ≤ vec_capacity l.works)
+
+abbrev pub decreases-loop-config : goal.decreases-loop-config
+decreases-loop-config g l = into_iter_len l.configs

@@ -1,0 +1,26 @@
+//! What is asked of two banks.
+ghost use Rattle.std.specs.Prelude.{◌≤◌, ◌^◌};
+
+/// What runs between the ends a and b of sets.
+#[derive(Clone, Copy, Debug, PartialEq, Eq)]
+pub struct Traffic {
+    /// How many sets, 1 to 16.
+    pub sets: u16,
+    /// How many links each set has, 1 to 16.
+    pub links: u8,
+    /// How many users each set has at its end a, 1 to 16.
+    pub users: u16,
+    /// How many messages each of them offers, 1 to 1,024.
+    pub messages: u16,
+    /// The link whose terminal at end a is told Stop half way.
+    pub fail: Option<u8>,
+    /// Messages are kept safe by preventive cyclic retransmission (Q.703 6), with N1 127 and N2 8,000; else by the
+    /// basic method.
+    pub cyclic: bool,
+    /// How many turns each terminal takes, in octet times; at most 2^32.
+    pub turns: u64,
+    pub ghost few_sets: { (1 ≤ sets) × (sets ≤ 16) },
+    pub ghost few_links: { (1 ≤ links) × (links ≤ 16) },
+    pub ghost few_users: { (1 ≤ users) × (users ≤ 16) },
+    pub ghost few_turns: { turns ≤ 2 ^ 32 },
+}

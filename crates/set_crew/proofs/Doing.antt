@@ -1,0 +1,107 @@
+-- What threads promise, one after another, and what comes of it.
+use Rattle.std.proofs.Common.{refl, arith, ◌≡◌, ◌∙◌, ap, sym, subst, ◌+◌, ◌<◌, ℕ, zero, suc, List, [], ◌∷◌, ◌++◌, map, length, drop, filter, All, Option, None, Some, Result}
+use Rattle.std.specs.Option.{option_to_list, unwrap_or}
+use Rattle.std.specs.List.{AllZip}
+use Rattle.std.proofs.lemmas.List.{length-append, length-map, map-append}
+use Rattle.std.proofs.lemmas.List.Elements.{All-head, All-tail}
+use Rattle.set_events.specs.declared.event.Actor.{Actor}
+use Rattle.set_events.specs.declared.event.Actor.TheVariants.{User}
+use Rattle.set_events.specs.declared.history.Entry.{Entry}
+use Rattle.set_ledger.specs.Ending.{IsFaithful, is_by}
+use Rattle.set_ledger.specs.Seats.{SeatState, new_seat, new_seats}
+use Rattle.set_crew.specs.declared.crew.Ended.{Ended}
+use Rattle.set_crew.specs.declared.fault.UserFault.{UserFault}
+use Rattle.set_crew.specs.declared.plan.Job.{Job}
+use Rattle.set_crew.specs.declared.user.JobOf.{JobOf}
+use Rattle.set_crew.specs.Jobs.{DidJobs, Does, Duty, duty_of, first_or, no_duty}
+use Rattle.set_crew.specs.Keeping.{AreJobs, AreKept, AreNew, KeepsJob}
+use Rattle.set_crew.proofs.Taking.{drop_one, one_dropped, taken}
+
+-- NEW SEATS are numbered from 0.
+new_more : (actor : ℕ → Actor) (n : ℕ) (seats : List SeatState) (m : ℕ) → m ≡ n + length seats → AreNew actor n seats → AreNew actor n (seats ++ new_seat (actor m) ∷ [])
+new_more actor n [] m e are = (ap (λ (k : ℕ). new_seat (actor k)) (omega (arith, e)), tt)
+new_more actor n (seat ∷ seats) m e are = (are.0, new_more actor (suc n) seats m (omega (arith, e)) are.1)
+
+pub many_new : (actor : ℕ → Actor) (n : ℕ) → length (new_seats actor n) ≡ n
+many_new actor zero = refl
+many_new actor (suc n) = omega (arith, many_new actor n, length-append (new_seats actor n) (new_seat (actor n) ∷ []))
+
+pub are_new : (actor : ℕ → Actor) (n : ℕ) → AreNew actor 0 (new_seats actor n)
+are_new actor zero = tt
+are_new actor (suc n) = new_more actor 0 (new_seats actor n) n (omega (arith, many_new actor n)) (are_new actor n)
+
+-- THREADS that were waited for, one more.
+pub each_more : {P E : Type 0} (kept : P → E → Type 0) (ps : List P) (p : P) (es : List E) (e : E) → AllZip kept ps es → kept p e → AllZip kept (ps ++ p ∷ []) (es ++ e ∷ [])
+each_more kept [] p [] e each is = (is, tt)
+each_more kept [] p (x ∷ es) e each is = absurd each
+each_more kept (q ∷ ps) p [] e each is = absurd each
+each_more kept (q ∷ ps) p (x ∷ es) e each is = (each.0, each_more kept ps p es e each.1 is)
+
+pub kept_more : {P S T : Type 0} (kept : P → Ended S T → Type 0) (ps : List P) (p : P) (end : Ended S T) (seats seats' : List S) (told told' : List T) → AreKept kept ps seats told → kept p end
+    → seats' ≡ seats ++ end.seat ∷ [] → told' ≡ told ++ end.told ∷ [] → AreKept kept (ps ++ p ∷ []) seats' told'
+kept_more {P} {S} {T} kept ps p end seats seats' told told' are is more_seats more_told = record {
+  ends = are.ends ++ end ∷ [];
+  each = each_more kept ps p are.ends end are.each is;
+  seats_are = more_seats ∙ ap (λ (xs : List S). xs ++ end.seat ∷ []) are.seats_are ∙ sym (map-append (λ (e : Ended S T). e.seat) are.ends (end ∷ []));
+  told_are = more_told ∙ ap (λ (xs : List T). xs ++ end.told ∷ []) are.told_are ∙ sym (map-append (λ (e : Ended S T). e.told) are.ends (end ∷ []));
+}
+
+pub kept_on : {H P S T : Type 0} (of : H → P) (kept : P → Ended S T → Type 0) (hs : List H) (h : H) (end : Ended S T) (seats more seats' : List S) (told more_told told' : List T) → AreKept kept (map of hs) seats told → kept (of h) end
+    → more ≡ seats → more_told ≡ told → seats' ≡ more ++ end.seat ∷ [] → told' ≡ more_told ++ end.told ∷ [] → AreKept kept (map of (hs ++ h ∷ [])) seats' told'
+kept_on {H} {P} {S} {T} of kept hs h end seats more seats' told more_told told' are is same same_told pushed pushed_told =
+    subst (λ (ps : List P). AreKept kept ps seats' told') (sym (map-append of hs (h ∷ [])))
+    (kept_more kept (map of hs) (of h) end seats seats' told told' are is (pushed ∙ ap (λ (xs : List S). xs ++ end.seat ∷ []) same) (pushed_told ∙ ap (λ (xs : List T). xs ++ end.told ∷ []) same_told))
+
+-- THREADS that were started, one more.
+pub jobs_more : (user : ℕ) (jobs : List Duty) (ps : List JobOf) (p : JobOf) → p.user ≡ user + length ps → duty_of p.job.value ≡ first_or no_duty (drop (length ps) jobs) → AreJobs user jobs ps → AreJobs user jobs (ps ++ p ∷ [])
+jobs_more user jobs [] p number duty are = ((omega (arith, number), duty), tt)
+jobs_more user jobs (q ∷ ps) p number duty are =
+    (are.0, jobs_more (suc user) (drop 1 jobs) ps p (omega (arith, number)) (duty ∙ ap (first_or no_duty) (sym (drop_one (length ps) jobs))) are.1)
+
+-- a user's thread was started: its seat is the next, and its job
+pub started_user : (all : List Duty) (ps ps' : List JobOf) (p : JobOf) (n n' : ℕ) (seats seats' : List SeatState) (seat : SeatState) (jobs jobs' : List Job) (next : Option Job) (job none : Job)
+    → AreNew User n seats → seats ≡ seat ∷ seats' → AreJobs 0 all ps → length ps ≡ n → ps' ≡ ps ++ p ∷ [] → length ps' ≡ n' → seat.who ≡ User p.user → p.job.value ≡ job
+    → map duty_of jobs ≡ drop n all → jobs ≡ option_to_list next ++ jobs' → (next ≡ None → length jobs ≡ 0) → job ≡ unwrap_or next none → duty_of none ≡ no_duty
+    → AreNew User n' seats' × AreJobs 0 all ps' × (map duty_of jobs' ≡ drop n' all) × (n' ≡ suc n)
+started_user all ps ps' p n n' seats seats' seat jobs jobs' next job none are is are_jobs many more many' who value duties from over job_is none_is =
+    let new = subst (AreNew User n) is are in
+    let same : User p.user ≡ User n = sym who ∙ ap (λ (s : SeatState). s.who) new.0 in
+    let number : p.user ≡ n = cc same in
+    let one = taken duty_of no_duty jobs next jobs' none job from over job_is none_is in
+    let next_is : n' ≡ suc n = omega (arith, many, many', ap length more, length-append ps (p ∷ [])) in
+    let duty : duty_of p.job.value ≡ first_or no_duty (drop (length ps) all) =
+    ap duty_of value ∙ sym one.0 ∙ ap (first_or no_duty) duties ∙ ap (λ (k : ℕ). first_or no_duty (drop k all)) (sym many) in (
+      subst (λ (k : ℕ). AreNew User k seats') (sym next_is) new.1,
+      subst (AreJobs 0 all) (sym more) (jobs_more 0 all ps p (omega (arith, number, many)) duty are_jobs),
+      sym one.1 ∙ ap (drop 1) duties ∙ one_dropped n all ∙ ap (λ (k : ℕ). drop k all) (sym next_is),
+      next_is,
+    )
+
+-- WHAT CAME OF THEM, in the history.
+did_one : (user number : ℕ) (who : Actor) (duty duty' : Duty) (told : Result (Unit {0}) UserFault) (made history : List Entry) → number ≡ user → who ≡ User number → duty ≡ duty' → made ≡ filter (is_by who) history
+    → Does (User number) duty told [] made → Does (User user) duty' told [] (filter (is_by (User user)) history)
+did_one user number who duty duty' told made history same is duties faithful does =
+    subst (λ (n : ℕ). Does (User n) duty' told [] (filter (is_by (User n)) history)) same
+    (subst (λ (d : Duty). Does (User number) d told [] (filter (is_by (User number)) history)) duties
+    (subst (λ (entries : List Entry). Does (User number) duty told [] entries) (faithful ∙ ap (λ (w : Actor). filter (is_by w) history) is) does))
+
+pub did_jobs : (user : ℕ) (jobs : List Duty) (ps : List JobOf) (ends : List (Ended SeatState (Result (Unit {0}) UserFault))) (history : List Entry) → AreJobs user jobs ps → AllZip KeepsJob ps ends
+    → All (IsFaithful history) (map (λ (end : Ended SeatState (Result (Unit {0}) UserFault)). end.seat) ends) → DidJobs user jobs (map (λ (end : Ended SeatState (Result (Unit {0}) UserFault)). end.told) ends) history
+did_jobs user jobs [] [] history are each faithful = tt
+did_jobs user jobs [] (end ∷ ends) history are each faithful = absurd each
+did_jobs user jobs (p ∷ ps) [] history are each faithful = absurd each
+did_jobs user jobs (p ∷ ps) (end ∷ ends) history are each faithful = (
+  did_one user p.user end.seat.who (duty_of p.job.value) (first_or no_duty jobs) end.told end.seat.receipts history are.0.0 each.0.0 are.0.1 (All-head (IsFaithful history) end.seat _ faithful) each.0.1,
+  did_jobs (suc user) (drop 1 jobs) ps ends history are.1 each.1 (All-tail (IsFaithful history) end.seat _ faithful),
+)
+
+-- as many were waited for as were started
+pub many_kept : {P S T : Type 0} (kept : P → Ended S T → Type 0) (ps : List P) (seats : List S) (told : List T) → AreKept kept ps seats told → length told ≡ length ps
+many_kept {P} {S} {T} kept ps seats told are =
+    omega (arith, ap length are.told_are, length-map are.ends (λ (e : Ended S T). e.told), many_each kept ps are.ends are.each)
+  where
+    many_each : {E : Type 0} (kept : P → E → Type 0) (ps : List P) (es : List E) → AllZip kept ps es → length es ≡ length ps
+    many_each kept [] [] each = refl
+    many_each kept [] (e ∷ es) each = absurd each
+    many_each kept (p ∷ ps) [] each = absurd each
+    many_each kept (p ∷ ps) (e ∷ es) each = omega (arith, many_each kept ps es each.1)

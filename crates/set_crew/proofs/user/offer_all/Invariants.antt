@@ -1,0 +1,12 @@
+use Rattle.std.proofs.Common.{◌≡◌, List, Result, drop, map}
+use Rattle.set_events.specs.declared.history.Entry.{Entry}
+use Rattle.set_crew.specs.declared.fault.UserFault.{UserFault}
+use Rattle.set_crew.specs.Jobs.{Offers}
+use Rattle.set_crew.proofs.user.offer_all.Given as goal
+
+-- what is left completes it
+abbrev pub invariant-loop-body : goal.invariant-loop-body
+invariant-loop-body g l = (l.seat.who ≡ l.initial.seat.who)
+    × ((ended : Result (Unit {0}) UserFault) (after : List Entry)
+    → Offers l.initial.seat.who (map (λ body. body.items) (drop l.body-index l.bodies)) ended l.seat.receipts after
+    → Offers l.initial.seat.who (map (λ body. body.items) l.bodies) ended l.initial.seat.receipts after)

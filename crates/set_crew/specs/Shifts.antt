@@ -1,0 +1,86 @@
+-- WHAT A TERMINAL DOES, turn by turn, as the entries that it leaves in the set's history.
+use Rattle.std.specs.Prelude.{◌≡◌, ◌==◌, ◌+◌, ◌-◌, ◌/◌, ◌^◌, ℕ, min, Bool, true, false, List, [], Option, None, Some, Result, Ok, Err, MatchResult}
+use Rattle.set_events.specs.declared.fault.SetFault.{SetFault}
+use Rattle.set_events.specs.declared.history.Entry.{Entry}
+use Rattle.term_model.specs.declared.command.Command.TheVariants.{Emergency, Start, Stop}
+use Rattle.term_model.specs.declared.report.TermReport.{TermReport}
+use Rattle.term_model.specs.declared.timers.Timers.{Timers}
+use Rattle.term_model.specs.Terminal.{Terminal, opened, told}
+use Rattle.link_term.specs.declared.fault.TermFault.{TermFault}
+use Rattle.link_term.specs.Looking.{Seen}
+use Rattle.link_term.specs.Running.{Runs, RunFails}
+use Rattle.set_crew.specs.declared.plan.Plan.{Plan}
+
+-- how a terminal stands: the octets that it took, its inside, its entries, its set's faults, and what it saw of its line
+pub record Standing : Type 0 where
+  pub taken : List ℕ
+  pub inside : Terminal
+  pub made : List Entry
+  pub faults : List SetFault
+  pub line : Seen
+
+abbrev pub standing : List ℕ → Terminal → List Entry → List SetFault → Seen → Standing
+standing taken inside made faults line =
+    record { taken = taken; inside = inside; made = made; faults = faults; line = line }
+
+-- SO MANY TURNS, or fewer, where a fault broke them off
+abbrev pub Turns : ℕ → Result TermReport TermFault → Standing → Standing → Type 0
+Turns turns told before after = MatchResult told
+    (λ report. Runs turns before.taken after.taken before.inside before.made after.made before.line after.line
+    report after.inside)
+    (λ fault. RunFails fault before.faults after.faults turns before.taken after.taken before.inside before.made
+    after.made before.line after.line after.inside)
+
+-- what two runs counted together; the second one knows why the link failed last
+abbrev pub added : ℕ → ℕ → ℕ
+added m n = min (m + n) (2 ^ 64 - 1)
+
+abbrev pub both : TermReport → TermReport → TermReport
+both first second = record {
+  turns = added first.turns second.turns;
+  sent = added first.sent second.sent;
+  good = added first.good second.good;
+  bad = added first.bad second.bad;
+  sixteen = added first.sixteen second.sixteen;
+  cause = second.cause;
+}
+
+abbrev pub with_first : TermReport → Result TermReport TermFault → Result TermReport TermFault
+with_first first (Ok second) = Ok (both first second)
+with_first first (Err fault) = Err fault
+
+abbrev pub commanded : Standing → Standing
+commanded t = record t { inside = told Stop t.inside }
+
+-- the rest of the turns, after Stop
+abbrev pub AfterHalf : ℕ → Result TermReport TermFault → Result TermReport TermFault → Standing → Standing → Type 0
+AfterHalf turns (Ok first) ended before after =
+    (second : Result TermReport TermFault) × Turns (turns - turns / 2) second (commanded before) after
+    × (ended ≡ with_first first second)
+AfterHalf turns (Err fault) ended before after = (ended ≡ Err fault) × (after ≡ before)
+
+-- half of the turns, Stop, and the rest of them
+abbrev pub Halves : ℕ → Result TermReport TermFault → Standing → Standing → Type 0
+Halves turns ended before after =
+    (first : Result TermReport TermFault) × (between : Standing) × Turns (turns / 2) first before between
+    × AfterHalf turns first ended between after
+
+-- THE TURNS OF A PLAN: all at once, but where this link is the one that is to fail
+abbrev pub is_to_fail : Option ℕ → ℕ → Bool
+is_to_fail None link = false
+is_to_fail (Some number) link = number == link
+
+abbrev pub TurnsBy : Bool → ℕ → Result TermReport TermFault → Standing → Standing → Type 0
+TurnsBy true = Halves
+TurnsBy false = Turns
+
+-- a terminal that did nothing yet, and is told to come up in an emergency
+abbrev pub fresh : ℕ → Timers → Seen → Standing
+fresh link timers line = standing [] (told Start (told Emergency (opened link timers))) [] [] line
+
+-- A SHIFT: all turns of the plan over some line, which left these entries
+pub record DoesShift (plan : Plan) (link : ℕ) (ended : Result TermReport TermFault) (made : List Entry) : Type 0 where
+  pub line : Seen
+  pub after : Standing
+  pub turns : TurnsBy (is_to_fail plan.fail link) plan.turns ended (fresh link plan.timers line) after
+  pub made_is : made ≡ after.made
