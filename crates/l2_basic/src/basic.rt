@@ -120,9 +120,9 @@ impl Basic {
                 Some(number) => Sending::Message { number, head },
                 None => unreachable!(),
             },
-            Choice::First => match window.send() {
-                Ok((number, _)) => Sending::Message { number, head },
-                Err(_) => unreachable!(),
+            Choice::First => Sending::Message {
+                number: window.send_new(),
+                head,
             },
             Choice::Fill => Sending::Fill { head },
         }

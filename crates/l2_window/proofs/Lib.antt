@@ -1,3 +1,4 @@
+pub mod Cycles
 pub mod Heard
 pub mod Line
 pub mod Numbers

@@ -34,7 +34,7 @@ mod law;
 mod queue;
 mod window;
 
-pub use control::{Choice, HeardPart, Sending, number_after};
+pub use control::{Choice, HeardPart, Sending};
 pub use fault::WindowFault;
 pub use l2_signals::ControlFault;
 pub use l2_units::Profile;

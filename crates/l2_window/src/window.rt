@@ -1,5 +1,7 @@
 //! The window: what was sent and isn't acknowledged, and what waits to be sent.
-use super::control::{in_cycle, number_after};
+ghost use Rattle.std.specs.Prelude.{◌≡◌, ◌+◌, ◌%◌};
+ghost use Rattle.l2_window.specs.Window.{Profile, fsn_count, most_unacked};
+
 use super::fault::WindowFault;
 use super::queue::Queue;
 use circular_buffer::HeapCircularBuffer;
@@ -17,6 +19,9 @@ pub type NoMemory = AllocError;
 #[derive(Debug, Drop)]
 pub struct Window {
     profile: Profile,
+    /// The most that can be unacknowledged, and the greatest number: 127, or 4,095. All its bits are ones, so a
+    /// number's place in the cycle is what it has in common with it.
+    most: u16,
     last: u16,
     unacked: HeapCircularBuffer<u64>,
     unsent: Queue,
@@ -41,12 +46,12 @@ impl Model for Window {
 }
 
 impl Window {
-    ghost use Rattle.std.specs.Prelude.{◌≡◌, ◌≢◌, ◌↔◌, ◌-◌, ◌<◌, ◌≤◌, ◌++◌, [], length, drop, slice_get, IsOk, IfOk, OnOk, OnErr, IfSome, IsNone, MatchOption};
+    ghost use Rattle.std.specs.Prelude.{◌≡◌, ◌≢◌, ◌↔◌, ◌-◌, ◌<◌, ◌≤◌, ◌++◌, true, [], length, drop, slice_get, IsOk, IfOk, OnOk, OnErr, IfSome, IsNone, MatchOption};
     ghost use Rattle.std.specs.Option.{SomeIff};
     ghost use Rattle.std.specs.Result.{OkIff};
     ghost use Rattle.l2_window.specs.Control.{has_new, bsn_of, fsn_after};
     ghost use Rattle.l2_window.specs.Window.{IsWindow, IsEmpty, IsReasonable, SameMessages, Pushes, Sends, Withdraws, Pops};
-    ghost use Rattle.l2_window.specs.Window.{Narrow, Wide, fsn_at, distance_to, fsn_count, most_unacked, fsn_before_first};
+    ghost use Rattle.l2_window.specs.Window.{Narrow, Wide, fsn_at, last_fsn, distance_to, fsn_count, most_unacked, fsn_before_first};
 
     /// A window with no messages. It takes the storage of all unacknowledged messages, so that
     /// [`Window::send`] takes none.
@@ -70,6 +75,7 @@ impl Window {
         let most = profile.most_unacked();
         Ok(Window {
             profile,
+            most,
             last: most,
             unacked: HeapCircularBuffer::with_capacity(alloc, usize::from(most))?,
             unsent: Queue::new(alloc)?,
@@ -97,7 +103,7 @@ impl Window {
         ensures value { result ≡ fsn_after number self.now }
         ensures in_range { result < fsn_count self.now.profile }
     {
-        in_cycle(self.profile, number + 1)
+        in_cycle(self.most, number + 1)
     }
 
     /// The number before this one, cyclically.
@@ -106,7 +112,24 @@ impl Window {
         ensures value { result ≡ bsn_of number self.now }
         ensures in_range { result < fsn_count self.now.profile }
     {
-        in_cycle(self.profile, number + self.profile.most_unacked())
+        in_cycle(self.most, number + self.most)
+    }
+
+    /// The FSN of the message at this place of the unacknowledged ones, the oldest at 0; of the first unsent one at the
+    /// place behind the last (Q.703 5.2.1).
+    pub fn fsn_at(&self, place: usize) -> u16
+        ensures value { result ≡ fsn_at self.now place }
+        ensures in_range { result < fsn_count self.now.profile }
+    {
+        behind(self.most, self.last, place)
+    }
+
+    /// The FSN of the last message sent, which a FISU carries too (Q.703 5.2.1).
+    pub fn last_fsn(&self) -> u16
+        ensures value { result ≡ last_fsn self.now }
+        ensures in_range { result < fsn_count self.now.profile }
+    {
+        in_cycle(self.most, self.last + self.unacked.len() as u16)
     }
 
     /// How many messages are unacknowledged, at most 127 (wide: 4,095).
@@ -143,7 +166,7 @@ impl Window {
     pub fn has_new(&self) -> bool
         ensures { result ≡ has_new self.now }
     {
-        !self.unsent.is_empty() && self.unacked.len() < usize::from(self.profile.most_unacked())
+        !self.unsent.is_empty() && self.unacked.len() < usize::from(self.most)
     }
 
     /// Makes room for `pushes` more pushes, which then can't fail. The messages stay as they are.
@@ -179,13 +202,28 @@ impl Window {
         ensures fsn { IfOk result (λ sent. sent.1 ≡ fsn_at self.old (length self.old.unacked)) }
         ensures err { OnErr result (self.new ≡ self.old) }
     {
+        if self.unsent.is_empty() {
+            return Err(WindowFault::Empty);
+        }
         let place = self.unacked.len();
-        if place >= usize::from(self.profile.most_unacked()) && !self.unsent.is_empty() {
+        if place >= usize::from(self.most) {
             return Err(WindowFault::Full);
         }
-        let message = self.unsent.pop().ok_or(WindowFault::Empty)?;
+        let message = self.send_new();
+        Ok((message, self.fsn_at(place)))
+    }
+
+    /// Sends the first unsent message where there is one that can be sent ([`Window::has_new`]). It is then the last of the
+    /// unacknowledged ones.
+    pub fn send_new(&mut self) -> u64
+        requires { has_new self.old ≡ true }
+        ensures { Sends result self.old self.new }
+    {
+        let Some(message) = self.unsent.pop() else {
+            unreachable!();
+        };
         match self.unacked.try_push_back(message) {
-            Ok(()) => Ok((message, number_after(self.profile, self.last, place + 1))),
+            Ok(()) => message,
             Err(_) => unreachable!(),
         }
     }
@@ -197,7 +235,7 @@ impl Window {
         ensures value { SomeIff result (IsReasonable self.now number) (distance_to self.now number) }
         ensures sound { IsWindow self.now }
     {
-        let distance = in_cycle(self.profile, number + self.profile.fsn_count() - self.last);
+        let distance = in_cycle(self.most, number + self.most + 1 - self.last);
         (usize::from(distance) <= self.unacked.len()).then_some(distance)
     }
 
@@ -269,7 +307,7 @@ impl Window {
         requires unsent { self.old.unsent ≡ [] }
         ensures { self.new ≡ record self.old { last = fsn_before_first self.old.profile } }
     {
-        self.last = self.profile.most_unacked();
+        self.last = self.most;
     }
 
     /// The two rings themselves, that of the unacknowledged messages first.
@@ -286,4 +324,22 @@ impl Window {
         } = self;
         (unacked, unsent.into_ring())
     }
+}
+
+/// This number of the cycle that `most` is the greatest of: modulo 128, or modulo 4,096.
+#[tactic(auto, using(crate::proofs::Cycles::low_bits))]
+fn in_cycle(most: u16, number: u16) -> u16
+    ensures value { (profile : Profile) → most ≡ most_unacked profile → result ≡ number % fsn_count profile }
+{
+    number & most
+}
+
+/// The number that stands so many places and one behind this one, cyclically.
+#[tactic(auto, using(crate::proofs::Cycles::low_bits, crate::proofs::Cycles::places_round))]
+fn behind(most: u16, number: u16, place: usize) -> u16
+    ensures value { (profile : Profile) → most ≡ most_unacked profile
+        → result ≡ (number + 1 + place) % fsn_count profile }
+{
+    let place = (place % 65536) as u16;
+    in_cycle(most, place.wrapping_add(number).wrapping_add(1))
 }

@@ -7,8 +7,8 @@ pub returns-in-Some : goal.returns-in-Some
 returns-in-Some c = next_again _ _ _ _ c.choice-choice.result _ c.send-head.ensures.bsn c.choice-choice.ensures c.send-head.ensures.header c.send-head.ensures.state _ _ c.in-Again.is (sym c.unacked_at.ensures ∙ c.in-Some.is) refl
 
 -- src/basic.rt:103:5
-pub returns-in-Ok : goal.returns-in-Ok
-returns-in-Ok c = next_first _ _ _ _ c.choice-choice.result _ c.send-head.ensures.bsn c.choice-choice.ensures c.send-head.ensures.header c.send-head.ensures.state _ c.in-First.is c.in-Ok.ensures.sent
+pub returns-in-First : goal.returns-in-First
+returns-in-First c = next_first _ _ _ _ c.choice-choice.result _ c.send-head.ensures.bsn c.choice-choice.ensures c.send-head.ensures.header c.send-head.ensures.state _ c.in-First.is c.send_new.ensures
 
 -- src/basic.rt:103:5
 pub returns-in-Fill : goal.returns-in-Fill
