@@ -3,7 +3,7 @@ ghost use Rattle.std.specs.Prelude.{◌≡◌, ◌+◌, ◌%◌};
 ghost use Rattle.l2_window.specs.Window.{Profile, fsn_count, most_unacked};
 
 use super::fault::WindowFault;
-use super::queue::Queue;
+use super::queue::{Queue, copy_of};
 use circular_buffer::HeapCircularBuffer;
 use l2_units::Profile;
 use std::alloc::{AllocError, Global};
@@ -79,6 +79,19 @@ impl Window {
             last: most,
             unacked: HeapCircularBuffer::with_capacity(alloc, usize::from(most))?,
             unsent: Queue::new(alloc)?,
+        })
+    }
+
+    /// A window of the same messages, with no room.
+    pub fn copied(&self) -> Result<Window, NoMemory>
+        ensures { IfOk result (λ window. window ≡ record self.now { room = window.room }) }
+    {
+        let most = usize::from(self.profile.most_unacked());
+        Ok(Window {
+            profile: self.profile,
+            last: self.last,
+            unacked: copy_of(&self.unacked, most)?,
+            unsent: self.unsent.copied()?,
         })
     }
 
