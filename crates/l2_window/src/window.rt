@@ -86,9 +86,10 @@ impl Window {
     pub fn copied(&self) -> Result<Window, NoMemory>
         ensures { IfOk result (λ window. window ≡ record self.now { room = window.room }) }
     {
-        let most = usize::from(self.profile.most_unacked());
+        let most = usize::from(self.most);
         Ok(Window {
             profile: self.profile,
+            most: self.most,
             last: self.last,
             unacked: copy_of(&self.unacked, most)?,
             unsent: self.unsent.copied()?,
