@@ -37,6 +37,7 @@ mod laws;
 mod message;
 mod messages;
 mod queues;
+mod slots;
 mod tally;
 
 pub use bodies::Bodies;
