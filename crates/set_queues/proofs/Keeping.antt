@@ -1,9 +1,9 @@
 -- WHAT STAYS at a checkpoint, place by place.
-use Rattle.std.proofs.Common.{refl, arith, ◌≡◌, ◌≢◌, ◌∙◌, ap, sym, ◌<◌, ◌≤◌, ◌+◌, ◌-◌, ◌==◌, ℕ, zero, suc, Bool, true, false, List, [], ◌∷◌, ◌++◌, length, map, Option, None, Some, option_map, option_and_then, slice_get, slice_index, cond, nat_le, nat_lt, get_or}
+use Rattle.std.proofs.Common.{refl, arith, ◌≡◌, ◌∙◌, ap, ◌<◌, ◌≤◌, ◌+◌, ◌-◌, ◌==◌, ℕ, zero, suc, Bool, true, false, List, [], ◌∷◌, ◌++◌, length, map, Option, None, Some, option_and_then, slice_get, cond, nat_lt, get_or}
 use Rattle.std.proofs.lemmas.Bool.Decides.{nat_tests}
 use Rattle.std.proofs.lemmas.Bool.{cases_eq, cases_lt}
-use Rattle.std.proofs.lemmas.List.{length-append, map-append, length-map}
-use Rattle.std.proofs.lemmas.Option.{slice_get_past, slice_get_within, slice_get-get_or, slice_get_cases}
+use Rattle.std.proofs.lemmas.List.{length-append, map-append}
+use Rattle.std.proofs.lemmas.Option.{slice_get_past}
 use Rattle.std.specs.Option.{option_or}
 use Rattle.set_queues.specs.Slots.{older_place, place_in, given_to, item_at, slots_to, slots_of, number_at, AreOlder, AreKept}
 use Rattle.set_queues.proofs.Placing.{rises, older_says, older_found, place_says, slots_same}

@@ -1,12 +1,10 @@
 -- WHERE AN ITEM STANDS, by its number.
-use Rattle.std.proofs.Common.{refl, arith, ◌≡◌, ◌≢◌, ◌∙◌, ap, sym, ◌<◌, ◌≤◌, ◌+◌, ◌-◌, ◌==◌, ℕ, zero, suc, Bool, true, false, List, [], ◌∷◌, ◌++◌, length, Option, None, Some, option_map, slice_get, slice_set, cond, nat_le, nat_lt, min, ◌^◌, get_or, Result, Ok, Err, MatchResult, ◌⊎◌, option_and_then}
+use Rattle.std.proofs.Common.{refl, arith, ◌≡◌, ◌≢◌, ◌∙◌, ap, ◌<◌, ◌≤◌, ◌+◌, ◌-◌, ◌==◌, ℕ, zero, suc, List, [], ◌∷◌, ◌++◌, length, Option, None, Some, option_map, slice_get, slice_set, cond, nat_lt, min, ◌^◌, get_or, Result, Ok, Err, MatchResult, ◌⊎◌, option_and_then}
 use Rattle.std.proofs.lemmas.Bool.Decides.{nat_tests}
 use Rattle.std.proofs.lemmas.Bool.{cases_eq, cases_lt}
-use Rattle.std.proofs.lemmas.List.{length-append, append-nil, length-set}
+use Rattle.std.proofs.lemmas.List.{length-append, length-set}
 use Rattle.std.proofs.Math.Nat.{min-le_right}
-use Rattle.std.proofs.lemmas.List.Sorted.{searched}
-use Rattle.std.proofs.lemmas.Option.{slice_get_past, slice_get_within, slice_get-get_or, slice_get_cases, get_or_from_slice_get}
-use Rattle.std.proofs.lemmas.List.{get_or-set_same, get_or-set_other}
+use Rattle.std.proofs.lemmas.Option.{slice_get_past}
 use Rattle.set_queues.specs.Buffers.{updated}
 use Rattle.set_queues.specs.Slots.{older_place, place_in, place_within, given_to, item_at, room_for, slot_at, slots_to, slots_of, AreOlder, AreSlots}
 use Rattle.set_queues.proofs.Standing.{get_push, slot_push}
@@ -110,9 +108,9 @@ pub set_slots : {X : Type 0} (number : ℕ) (older : List ℕ) (first : ℕ) (it
 set_slots number older first items p h x s e there =
     let says = within_says number older first items p s e in
     let one : (k : ℕ) → item_at k older first (slice_set items p (h x)) ≡ cond (k == number) (option_map h (item_at k older first items)) (item_at k older first items) = λ k.
-        let apart = λ (q : place_in k older first ≡ Some p). place_apart k number older first p s.order q says.0 in
-        let read = λ (q : ℕ). set_at items p q (h x) says.1 in
-        grind (arith, nat_tests, says, apart, read, cases_eq, slice_get_past, there) in
+    let apart = λ (q : place_in k older first ≡ Some p). place_apart k number older first p s.order q says.0 in
+    let read = λ (q : ℕ). set_at items p q (h x) says.1 in
+    grind (arith, nat_tests, says, apart, read, cases_eq, slice_get_past, there) in
     let n : ℕ = first + (length items - length older) in
     rw (slots_updated (λ k. item_at k older first items) (option_map h) n number, length-set items p (h x)) (slots_same (λ k. item_at k older first (slice_set items p (h x))) (λ k. cond (k == number) (option_map h (item_at k older first items)) (item_at k older first items)) n (λ k h. one k))
 
@@ -147,4 +145,3 @@ slot_found number older first items p x s e there = slot_is number older first i
 
 pub slot_none : {X : Type 0} (number : ℕ) (older : List ℕ) (first : ℕ) (items : List X) → AreSlots older first (length items) → place_within number older first (length items) ≡ None → slot_at number (slots_of older first items) ≡ None
 slot_none number older first items s e = slot_is number older first items s ∙ within_is number older first items s None e
-

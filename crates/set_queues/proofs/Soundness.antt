@@ -1,6 +1,6 @@
 -- What holds of every set's queues goes on holding.
 use Rattle.std.proofs.Common.{refl, arith, ◌≡◌, ◌∙◌, ap, sym, ◌+◌, ◌≤◌, ◌<◌, [], ◌∷◌, ◌++◌, length, ℕ, Bool, true, false, ◌==◌, List, Some, cond, take, drop, slice_get, ◌≢◌, subst, Option, append_assoc, IfSome}
-use Rattle.set_queues.specs.Messages.{one_if, Message, restood_one, restood, unfinished, kept_slot, slot_at, IsFit, AreFit}
+use Rattle.set_queues.specs.Messages.{one_if, Message, restood_one, restood, unfinished, kept_slot, IsFit, AreFit}
 use Rattle.set_queues.specs.Buffers.{Fate, Waiting, Unacked, no_lists, empty_lists, LinkLists, Lists, is_standing, same_fate, queue_at, with_queue, with_last, profile_at, on_link, IsKnown, IsQueued, Rooms, Held, room_at, TakesRoom}
 use Rattle.l2_units.specs.declared.profile.Profile.{Profile}
 use Rattle.l2_window.specs.Window.{most_unacked}
@@ -8,7 +8,7 @@ use Rattle.set_queues.specs.Queues.{occurs, stands, passed, passed_first, AreTie
 use Rattle.set_queues.proofs.Standing.{length-updated, updated_same, updated_other, slot_push, slot_past, slot_map, Moves, moved_tie, given_queue, take_get, same_is, occurs-append, occurs-split, occurs_here, queue_set, links_stay, queue_away, SameSize, size_stays, known_on, restood-append, same_self, queued_stands}
 use Rattle.set_queues.proofs.Tallies.{fit_push, fit_restood, fit_kept}
 use Rattle.std.proofs.lemmas.List.{get_or-replicate, get_or_past, length-replicate, length-append, length-take, length-drop}
-use Rattle.std.proofs.lemmas.Option.{slice_get_past, slice_get_cases}
+use Rattle.std.proofs.lemmas.Option.{slice_get_cases}
 use Rattle.std.proofs.lemmas.Bool.{eq-eqb}
 use Rattle.std.proofs.lemmas.Bool.Decides.{nat_tests}
 use Rattle.set_queues.specs.Settling.{fate_on, on, Settles}
@@ -93,7 +93,10 @@ stands_kept f number ms s = let is = slot_map kept_slot refl ms number in grind 
 
 pub sound_kept : (q : Lists) (ms : List (Option Message)) → AreSound q ms → AreSound q (unfinished ms)
 sound_kept q ms s = record {
-  one = s.one; few = s.few; codes = s.codes; narrow = s.narrow;
+  one = s.one;
+  few = s.few;
+  codes = s.codes;
+  narrow = s.narrow;
   tied = λ f t number. s.tied f t number ∙ ap one_if (sym (stands_kept f number ms t));
   fit = fit_kept ms s.fit;
 }

@@ -1,12 +1,12 @@
 -- The running counts of a list of messages, when one of them changes or joins, and the octets of their bodies.
 use Rattle.l2_window.proofs.Numbers.{most_small}
 use Rattle.set_queues.specs.Buffers.{profile_at}
-use Rattle.std.proofs.Common.{Fits, w32, ◌^◌, arith, ap, sym, ◌∙◌, map, option_map, option_and_then, ◌≡◌, ◌+◌, ◌≤◌, ◌<◌, [], ◌∷◌, ◌++◌, length, ℕ, zero, suc, Bool, List, Option, Some, None, refl, cond, filter, sum_by, slice_get, slice_set, slice_index, get_or, ◌-◌, true, false, ◌&&◌, nat_le, nat_lt, add-one}
+use Rattle.std.proofs.Common.{Fits, w32, ◌^◌, arith, sym, ◌∙◌, option_map, ◌≡◌, ◌+◌, ◌≤◌, ◌<◌, [], ◌∷◌, ◌++◌, length, ℕ, zero, suc, Bool, List, Option, Some, None, refl, cond, filter, sum_by, slice_get, slice_set, get_or, ◌-◌, true, false, ◌&&◌, nat_le, nat_lt, add-one}
 use Rattle.std.proofs.lemmas.List.Sums.{length-filter, count_by-le-length, get_or-le-sum_by, sum_by-set, sum_by_push, sum_by-le, sum_by-cons}
-use Rattle.std.proofs.lemmas.Option.{slice_get_read, slice_get_past, slice_get-get_or, slice_get_cases, slice_get_within, get_or_from_slice_get}
+use Rattle.std.proofs.lemmas.Option.{slice_get-get_or, slice_get_within, get_or_from_slice_get}
 use Rattle.std.specs.Option.{option_map_or}
 use Rattle.set_queues.specs.Buffers.{Fate, Waiting, Unacked, Acked, Held, Parked, Back, Discarded, Lists, queue_at, same_fate, is_standing}
-use Rattle.set_queues.specs.Messages.{Message, Tally, with_fate, restood_one, restood, slot_at, octets_at, octets_of, octets_on, count_of, unsent_of, kept_slot, unfinished, is_there, is_unsent, is_queued, stands_at, place_of, IsTally, IsMore, IsAmong, AreFew, Forgets, IsFit, AreFit, one_if}
+use Rattle.set_queues.specs.Messages.{Message, Tally, with_fate, restood_one, restood, slot_at, octets_at, octets_of, octets_on, count_of, kept_slot, unfinished, is_there, is_queued, stands_at, IsTally, IsMore, IsAmong, AreFew, Forgets, IsFit, AreFit, one_if}
 use Rattle.set_queues.proofs.Standing.{set_updated, restood_at, stood_is, stood_same, stood_other, slot_there, slot_get, slot_push, slot_map, fate_moves, fate_stays, length-restood, occurs-append, occurs_here}
 use Rattle.std.proofs.lemmas.Bool.Decides.{nat_tests}
 use Rattle.set_queues.specs.Queues.{occurs, stands, AreTied, AreSound}

@@ -166,7 +166,11 @@ impl Messages {
 }
 
 /// Those of the messages that aren't finished, and their numbers.
-fn keep(alloc: Global, numbers: &Numbers, all: &[Message]) -> Result<(Vec<u64>, Vec<Message>), AllocError>
+fn keep(
+    alloc: Global,
+    numbers: &Numbers,
+    all: &[Message],
+) -> Result<(Vec<u64>, Vec<Message>), AllocError>
     requires { AreSlots numbers.now.older.items numbers.now.first (length all.now) }
     ensures { IfOk result (λ kept. AreKept
         (λ number. is_unfinished (item_at number numbers.now.older.items numbers.now.first all.now))

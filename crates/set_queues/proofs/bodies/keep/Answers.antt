@@ -1,4 +1,4 @@
-use Rattle.std.proofs.Common.{arith, refl, ◌≡◌, ◌∙◌, ◌<◌, ◌+◌, sym, Some, slice_get, get_or, length, []}
+use Rattle.std.proofs.Common.{arith, refl, ◌≡◌, ◌∙◌, ◌+◌, sym, length, []}
 use Rattle.std.proofs.lemmas.Option.{slice_get-get_or}
 use Rattle.set_queues.specs.Bodies.{bodies_in}
 use Rattle.set_queues.specs.Messages.{is_unfinished}

@@ -1,4 +1,3 @@
-use Rattle.std.proofs.Common.{ℕ}
 use Rattle.set_queues.specs.Bodies.{bodies_in, AreAll}
 use Rattle.set_queues.specs.Messages.{is_unfinished}
 use Rattle.set_queues.specs.Slots.{AreKept, slot_at, number_at}

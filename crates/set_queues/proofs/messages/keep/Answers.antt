@@ -1,7 +1,7 @@
-use Rattle.std.proofs.Common.{arith, refl, ◌≡◌, ◌∙◌, ap, sym, Some, slice_get, option_and_then, ℕ, true, false}
+use Rattle.std.proofs.Common.{arith, ◌∙◌, ap, sym}
 use Rattle.std.proofs.lemmas.Option.{slice_get-get_or}
 use Rattle.set_queues.specs.Messages.{is_unfinished}
-use Rattle.set_queues.specs.Slots.{item_at, number_at}
+use Rattle.set_queues.specs.Slots.{item_at}
 use Rattle.set_queues.proofs.Keeping.{item_there, kept_end, kept_none, one_dropped, one_kept}
 use Rattle.set_queues.proofs.messages.keep.Goals as goal
 

@@ -1,4 +1,4 @@
-use Rattle.std.proofs.Common.{arith, ◌≡◌, ◌∙◌, ◌+◌, ◌++◌, length}
+use Rattle.std.proofs.Common.{arith, ◌≡◌, ◌+◌, ◌++◌, length}
 use Rattle.set_queues.specs.Bodies.{bodies_in}
 use Rattle.set_queues.proofs.Placing.{push_slots}
 use Rattle.set_queues.proofs.Storing.{length_bodies, bodies_more}

@@ -1,4 +1,4 @@
-use Rattle.std.proofs.Common.{arith, refl, ◌≡◌, ◌∙◌, sym, length, Some, None, slice_get}
+use Rattle.std.proofs.Common.{arith, refl, ◌≡◌, ◌∙◌, sym, length, Some}
 use Rattle.std.proofs.lemmas.Option.{slice_get_read}
 use Rattle.set_queues.specs.Slots.{place_within}
 use Rattle.set_queues.proofs.Placing.{within_says, slot_found, slot_none}

@@ -1,5 +1,5 @@
 use Rattle.std.proofs.Common.{arith, ◌≡◌, ◌∙◌, sym, length}
-use Rattle.set_queues.specs.Messages.{is_unfinished, kept_slot, unfinished}
+use Rattle.set_queues.specs.Messages.{kept_slot, unfinished}
 use Rattle.set_queues.specs.Slots.{given_to, item_at, slots_of}
 use Rattle.set_queues.proofs.Keeping.{kept_all, map_slots}
 use Rattle.set_queues.proofs.Placing.{slots_length}

@@ -1,4 +1,4 @@
-use Rattle.std.proofs.Common.{arith, refl, ◌∷◌, [], length}
+use Rattle.std.proofs.Common.{◌∷◌, [], length}
 use Rattle.std.proofs.lemmas.List.{length-append}
 use Rattle.set_queues.proofs.Placing.{few_slots, one_more, push_slots}
 use Rattle.set_queues.proofs.Tallies.{few, tally_push}

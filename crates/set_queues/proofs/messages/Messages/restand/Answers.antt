@@ -1,4 +1,4 @@
-use Rattle.std.proofs.Common.{arith, refl, ◌≡◌, ◌∙◌, sym, length, Some, None, slice_get}
+use Rattle.std.proofs.Common.{arith, refl, ◌≡◌, ◌∙◌, sym, length, Some}
 use Rattle.std.proofs.lemmas.List.{length-set}
 use Rattle.std.proofs.lemmas.Option.{slice_get_read}
 use Rattle.set_queues.specs.Messages.{with_fate}

@@ -9,4 +9,4 @@ invariant_of-self-2 c =
     let full = c.in_ok-number.ensures.full in
     let known : c.args.link < length c.self.inside.buffers.lists.links = rw (← c.self.view_is) at c.requires in
     rw c.restand.ensures.items (
-        sound_sent _ _ _ c.args.link c.in_ok-number.number c.self.invariant known (grind (arith, of_link)) (grind (arith, of_link)) (grind (arith, of_link)))
+    sound_sent _ _ _ c.args.link c.in_ok-number.number c.self.invariant known (grind (arith, of_link)) (grind (arith, of_link)) (grind (arith, of_link)))

@@ -13,8 +13,8 @@ invariant_of-self c =
     let known : IsKnown (Back c.args.code) c.self.inside.buffers.lists = omega (arith, c.ranges.code.fits, c.self.invariant.codes) in
     let other : IsKnown c.args.to c.self.inside.buffers.lists = rw (← c.self.view_is) at c.requires.other in
     let there = known_with (Back c.args.code) c.args.to _ _ _ c.pass.ensures.lists known in
-      sound_passed 1 (Back c.args.code) c.args.to _ _ _ _ c.self.invariant refl known other c.requires.apart (λ s. c.requires.queued)
-          (moved_one (Back c.args.code) c.args.to _ c.pass.new.buffers.lists _ other c.requires.apart c.pass.ensures.lists (grind (arith, of_code))) c.pass.ensures.messages
+    sound_passed 1 (Back c.args.code) c.args.to _ _ _ _ c.self.invariant refl known other c.requires.apart (λ s. c.requires.queued)
+    (moved_one (Back c.args.code) c.args.to _ c.pass.new.buffers.lists _ other c.requires.apart c.pass.ensures.lists (grind (arith, of_code))) c.pass.ensures.messages
 
 pub returns : goal.returns
 returns c =
