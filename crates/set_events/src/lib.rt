@@ -11,6 +11,7 @@ mod books;
 mod config;
 mod event;
 mod fault;
+mod finished;
 mod history;
 
 pub use answer::{Answer, Counts, DiscardCause, Fate, Refusal, Report, Took};
@@ -19,5 +20,6 @@ pub use books::Books;
 pub use config::{ConfigFault, Method, SetConfig};
 pub use event::{Actor, Event};
 pub use fault::SetFault;
+pub use finished::Finished;
 pub use history::Entry;
 pub use l2_signals::ControlFault;

@@ -1,14 +1,13 @@
 -- A CHECKPOINT: each message that is finished leaves the rows for one count.
 use Rattle.l2_units.specs.Profile.{longest_body}
-use Rattle.std.proofs.Common.{refl, arith, ◌≡◌, ◌≤◌, ℕ, ◌+◌, ◌==◌, ◌&&◌, ◌||◌, not, Bool, true, false, List, [], ◌∷◌, length, filter, Option, None, Some, slice_get, suc, ◌∙◌, ap, subst, sym}
-use Rattle.set_model.specs.Checkpoint.{Checkpoints, checkpointed, counts_in, stays, unfinished, was_discarded_by}
+use Rattle.std.proofs.Common.{refl, arith, ◌≡◌, ◌≤◌, ℕ, ◌+◌, ◌==◌, ◌&&◌, ◌||◌, not, Bool, true, false, List, [], ◌∷◌, length, filter, None, Some, slice_get, suc, ◌∙◌, ap, subst, sym}
+use Rattle.set_model.specs.Checkpoint.{Checkpoints, checkpointed, counts_in, rebuilt, stays, unfinished, was_discarded_by}
 use Rattle.set_model.specs.Rows.{Emergency, NoAnswer, Unreasonable, Fate, IsNumbered, Row, is_users, row_of, standing, users, was_acked, was_discarded}
 use Rattle.set_model.specs.Sound.{IsBackOf, IsSound, is_unfinished}
 use Rattle.set_model.specs.State.{State, given}
 use Rattle.set_model.proofs.Order.{before_filter}
 use Rattle.set_model.proofs.Rows.{at_most_one, each_filter, fewer_filter, filter_comm, filter_within, no_rows, row_in_filter, with_number}
-use Rattle.std.specs.Prelude.{unwrap_or}
-use Rattle.set_model.specs.Rows.{Parked, place, body_at, stands_back, numbers, waits, was_sent, was_held, is_on, is_held, is_unacked, is_waiting, is_parked}
+use Rattle.set_model.specs.Rows.{place, body_at, stands_back, numbers, waits, was_sent, was_held, is_on, is_held, is_unacked, is_waiting, is_parked}
 
 -- each that leaves is in one count
 all_ended : (rows : List Row) → length rows ≡ length (unfinished rows) + length (standing was_acked (users rows)) + length (standing (was_discarded_by Emergency) (users rows)) + length (standing (was_discarded_by Unreasonable) (users rows)) + length (standing (was_discarded_by NoAnswer) (users rows)) + length (filter (λ row. not (is_users row) && not (is_unfinished row.fate)) rows)
@@ -96,10 +95,6 @@ pub checkpoints : (s : State) → Checkpoints s
 checkpoints s = record { given_same = given_stays s; counts_same = counts_stay s; sound = checkpoint_sound s; kept = λ number t. stays_found number s.rows (at_most_one (given s) number s.rows t.numbered) }
 
 -- WHAT THE ROWS ARE, by their numbers in order and what is found under each
-abbrev pub rebuilt : (ℕ → Option Fate) → (ℕ → Option (List ℕ)) → List ℕ → List Row
-rebuilt fate body [] = []
-rebuilt fate body (n ∷ ns) = record { number = n; body = unwrap_or (body n) []; fate = unwrap_or (fate n) Parked } ∷ rebuilt fate body ns
-
 rebuilt_on : (given : ℕ) (all rows : List Row) → IsNumbered given all → ((i : ℕ) (row : Row) → slice_get rows i ≡ Some row → row_of row.number all ≡ Some row) → rebuilt (λ n. place n all) (λ n. body_at n all) (numbers rows) ≡ rows
 rebuilt_on given all [] numbered found = refl
 rebuilt_on given all (x ∷ rows) numbered found =

@@ -3,6 +3,8 @@ use Rattle.std.specs.Prelude.{ℕ, Bool, true, false, ◌+◌, ◌%◌, List, []
 pub use Rattle.l2_units.specs.declared.profile.Profile.{Profile}
 use Rattle.l2_window.specs.Window.{WindowState, fsn_count, fsn_before_first}
 use Rattle.set_events.specs.declared.config.SetConfig.{SetConfig}
+-- the messages that left the rows, since nothing more can become of them: those of users by how they ended, and orders
+pub use Rattle.set_events.specs.declared.finished.Finished.{Finished as FinishedCounts}
 use Rattle.set_model.specs.Rows.{Fate, Waiting, Held, Parked, Back, Row, unack, wait, numbers}
 pub use Rattle.set_route.specs.declared.place.Place.{Place}
 pub use Rattle.set_route.specs.declared.place.Place.TheVariants.{On, Changing, Nowhere}
@@ -52,14 +54,6 @@ settings_of config = record {
   dpc = config.dpc;
   opc = config.opc;
 }
-
--- the messages that left the rows, since nothing more can become of them: those of users by how they ended, and orders
-pub record FinishedCounts : Type 0 where
-  pub acked : ℕ
-  pub emergency : ℕ
-  pub unreasonable : ℕ
-  pub no_answer : ℕ
-  pub orders : ℕ
 
 abbrev pub none_finished : FinishedCounts
 none_finished = record { acked = 0; emergency = 0; unreasonable = 0; no_answer = 0; orders = 0 }

@@ -1,5 +1,5 @@
 -- WHAT A SET KEEPS, AND HOW IT AGREES WITH THE STATE that it stands for. Read this file first.
-use Rattle.std.specs.Prelude.{◌≡◌, ℕ, ◌+◌, ◌%◌, ◌==◌, Bool, true, List, length, Some, slice_get, if◌then◌else◌, option_map}
+use Rattle.std.specs.Prelude.{◌≡◌, ℕ, ◌+◌, ◌%◌, ◌==◌, Bool, true, List, length, Option, Some, slice_get, if◌then◌else◌, option_map}
 use Rattle.set_events.specs.declared.answer.Fate.{Fate}
 use Rattle.set_queues.specs.declared.message.Kind.{Kind}
 use Rattle.set_queues.specs.declared.message.Kind.TheVariants.{User, Order}
@@ -9,7 +9,8 @@ use Rattle.set_queues.specs.Messages.{fate_at}
 use Rattle.set_route.specs.Routing.{Routing}
 use Rattle.set_model.specs.Rows.{Row, numbers, standing, same_fate, place, body_at, service_indicator, stream_of, IsNumbered}
 use Rattle.set_model.specs.Sound.{IsSound, AreFew}
-use Rattle.set_model.specs.State.{LinkState, State, Settings, given}
+use Rattle.set_model.specs.State.{FinishedCounts, LinkState, State, Settings, given}
+use Rattle.set_model.specs.Checkpoint.{rebuilt}
 use Rattle.l2_window.specs.Window.{fsn_before_first, fsn_count}
 
 -- what contracts see of what a set keeps
@@ -20,9 +21,29 @@ pub record Kept : Type 0 where
   pub messages : List Message
   -- each message's body, by its number
   pub bodies : List (List ℕ)
+  -- how many messages left it
+  pub finished : FinishedCounts
   pub links : List LinkState
   pub routing : Routing
   pub inbox : List (List ℕ)
+
+-- where the message of a number stands, and its body: how messages and bodies are kept, these two alone tell
+abbrev pub place_in : ℕ → Kept → Option Fate
+place_in number k = fate_at number k.messages
+
+abbrev pub body_in : ℕ → Kept → Option (List ℕ)
+body_in number k = slice_get k.bodies number
+
+-- the state that is kept, with its rows in this order of their numbers, which the queues don't tell
+abbrev pub shown : List ℕ → Kept → State
+shown order k = record {
+  settings = k.settings;
+  rows = rebuilt (λ number. place_in number k) (λ number. body_in number k) order;
+  finished = k.finished;
+  links = k.links;
+  routing = k.routing;
+  inbox = k.inbox;
+}
 
 -- whether it's this fate, and the rows of a fate that isn't final
 abbrev pub is_there : Fate → Fate → Bool
@@ -62,6 +83,7 @@ pub record StandsFor (k : Kept) (s : State) : Type 0 where
   pub held_bodies : length k.bodies ≡ length k.messages
   -- a message has each number that was given out
   pub given_out : length k.messages ≡ given s
+  pub finished : k.finished ≡ s.finished
   pub links : k.links ≡ s.links
   pub as_many : length k.lists.links ≡ length s.links
   pub fsns : (number : ℕ) (link : LinkState) → slice_get s.links number ≡ Some link

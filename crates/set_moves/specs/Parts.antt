@@ -20,6 +20,7 @@ kept_of parts = record {
   lists = parts.queues.lists;
   messages = parts.queues.messages;
   bodies = parts.bodies.items;
+  finished = parts.finished;
   links = parts.links.items;
   routing = parts.routes;
   inbox = parts.inbox.items;

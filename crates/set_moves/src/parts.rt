@@ -13,7 +13,7 @@ ghost use Rattle.set_moves.specs.Room.{HasRoom, IsReady, SameButRoom, target_bes
 use super::inbox::Inbox;
 use super::link::Link;
 use arrayvec::ArrayVec;
-use set_events::{Answer, Fate, Refusal, SetConfig};
+use set_events::{Answer, Fate, Finished, Refusal, SetConfig};
 use set_model::{Phase, service_indicator, stream_of_body};
 use set_queues::{Bodies, Kind, Message, Queues, fate_on};
 use set_route::{Place, Routes};
@@ -30,6 +30,8 @@ pub struct Parts {
     pub queues: Queues,
     /// The bodies of its messages, by their numbers.
     pub bodies: Bodies,
+    /// How many of its messages left it, since nothing more could become of them.
+    pub finished: Finished,
     /// Where its streams run.
     pub routes: Routes,
     /// The messages heard for users.

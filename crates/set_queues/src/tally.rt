@@ -1,13 +1,13 @@
 //! How many of the users' messages stand in each place, how many of each stream aren't sent yet, and the octets
 //! of each link's unacknowledged bodies.
 ghost use Rattle.std.specs.Prelude.{◌≡◌, true};
-ghost use Rattle.set_queues.specs.Messages.{is_kind, place_of, is_unsent, IsAmong, IsMore, AreFew};
+ghost use Rattle.set_queues.specs.Messages.{is_kind, place_of, is_unsent, IsAmong, IsMore, AreFew, Forgets};
 
 use super::message::{Kind, Message};
 use set_events::Fate;
 
 /// The running counts of a list of messages.
-#[derive(Drop)]
+#[derive(Clone, Copy)]
 pub(crate) struct Tally {
     /// Of the users' messages, how many stand in each place, by [`place_of`].
     pub(crate) counts: [u64; 7],
@@ -48,6 +48,17 @@ pub(crate) fn leave(tally: &mut Tally, message: Message)
     }
     if let Fate::Unacked { link: link @ 0..16 } = message.fate {
         tally.octets[usize::from(link)] -= u128::from(message.octets);
+    }
+}
+
+/// Without the messages whose fate is final.
+pub(crate) fn forget_finished(tally: &Tally) -> Tally
+    ensures { Forgets tally.now result }
+{
+    let [waiting, unacked, _, held, parked, back, _] = tally.counts;
+    Tally {
+        counts: [waiting, unacked, 0, held, parked, back, 0],
+        ..*tally
     }
 }
 

@@ -4,10 +4,14 @@ use Rattle.std.proofs.lemmas.Bool.Decides.{nat_tests}
 use Rattle.set_queues.specs.Buffers.{Lists, is_standing, queue_at, last_at, profile_at, no_lists}
 use Rattle.l2_window.specs.Window.{fsn_count}
 use Rattle.l2_window.proofs.Numbers.{from_zero, number_at}
-use Rattle.set_model.specs.Rows.{Fate, Unacked, numbers, Waiting}
+use Rattle.set_queues.specs.Messages.{counts_of}
+use Rattle.set_model.specs.Rows.{Fate, Unacked, numbers, Waiting, is_users, total_of, users}
+use Rattle.set_events.specs.declared.answer.Counts.{Counts}
+use Rattle.set_model.specs.Checkpoint.{counts_in}
+use Rattle.set_model.proofs.Rows.{total_is, fewer_filter}
 use Rattle.set_moves.specs.Agreement.{Kept, StandsFor, Agrees, Holds, HoldsFew, rows_at}
 use Rattle.std.proofs.lemmas.Option.{slice_get_past, slice_get-map}
-use Rattle.set_model.specs.State.{State, LinkState, unacked_of, unacked_in, settings_of, new_link, new_state}
+use Rattle.set_model.specs.State.{State, LinkState, all_finished, none_finished, unacked_of, unacked_in, settings_of, new_link, new_state}
 use Rattle.set_model.proofs.Lists.{present}
 use Rattle.std.proofs.lemmas.List.{length-replicate}
 use Rattle.set_events.specs.declared.config.SetConfig.{SetConfig}
@@ -25,6 +29,7 @@ use Rattle.set_model.proofs.Settling.{settled_empty}
 use Rattle.set_moves.specs.Room.{SameButRoom}
 use Rattle.set_moves.proofs.Links.{agrees_same, is_in, whole_of}
 use Rattle.set_traffic.proofs.Traffic.{queue_there}
+use Rattle.set_traffic.proofs.Counts.{counts_are}
 
 -- THE UNACKNOWLEDGED MESSAGE at a place of a link, if there is one: its number is the queue's, and its FSN follows the last one
 pub unacked_is : (k : Kept) (s : State) (n place : ℕ) (o : Option ℕ) → StandsFor k s → n < length k.links → slice_get (queue_at (Unacked n) k.lists) place ≡ o → unacked_in s n place ≡ option_map (λ number. record { number = number; fsn = (last_at n k.lists + 1 + place) % fsn_count (profile_at n k.lists) }) o
@@ -36,6 +41,20 @@ unacked_is k s n place o f low at =
 -- there is none on a link that isn't there
 pub unacked_past : (k : Kept) (s : State) (n place : ℕ) → StandsFor k s → length k.links ≤ n → unacked_in s n place ≡ None
 unacked_past k s n place f past = ap (λ (o : Option LinkState). unacked_of o n place s.rows) (slice_get_past s.links n (omega (arith, past, ap length f.links)))
+
+-- HOW MANY MESSAGES are counted, where they stand or since they left: no more than were given out
+pub counted_few : (parts : Parts) → Holds (kept_of parts) → all_finished parts.finished + total_of (counts_of parts.queues.messages) ≤ length parts.queues.messages
+counted_few parts h =
+    let f = h.1.stands in
+    let out = f.given_out in
+    omega (arith, out, ap all_finished f.finished, ap total_of (counts_are parts.queues.lists parts.queues.messages h.0.rows f.stands), total_is h.0.rows, fewer_filter is_users h.0.rows)
+
+-- THE COUNTS of those that are there, with those that left
+pub counts_told : (k : Kept) (s : State) (here : Counts) → StandsFor k s → here ≡ counts_of k.messages → record here { acked = k.finished.acked + here.acked; discarded = k.finished.emergency + k.finished.unreasonable + k.finished.no_answer + here.discarded } ≡ counts_in s
+counts_told k s here f is = rw (is ∙ counts_are k.lists k.messages s.rows f.stands, f.finished) refl
+
+pub all_told : (s : State) → total_of (counts_in s) + s.finished.orders ≡ all_finished s.finished + length (users s.rows)
+all_told s = omega (arith, total_is s.rows)
 
 -- NO MESSAGE
 replicated : {X : Type 0} (n k : ℕ) (x : X) → slice_get (replicate n x) k ≡ (if nat_lt k n then Some x else None)
@@ -52,9 +71,9 @@ none_stands : (q : Lists) → AreSound q [] → (fate : Fate) → is_standing fa
 none_stands q sound fate stood = none_given (queue_at fate q) (given_queue q [] fate sound.tied stood)
 
 -- links that stand for new ones, sound queues with nothing, and nothing else
-pub opened : (config : SetConfig) (parts : Parts) → parts.config ≡ config → parts.links.items ≡ replicate config.links (new_link config.profile config.method) → parts.queues.lists.links ≡ replicate config.links (no_lists config.profile) → AreSound parts.queues.lists parts.queues.messages → parts.queues.messages ≡ [] → parts.bodies.items ≡ [] → parts.routes ≡ new_routing config.links → parts.inbox.items ≡ []
+pub opened : (config : SetConfig) (parts : Parts) → parts.config ≡ config → parts.links.items ≡ replicate config.links (new_link config.profile config.method) → parts.queues.lists.links ≡ replicate config.links (no_lists config.profile) → AreSound parts.queues.lists parts.queues.messages → parts.queues.messages ≡ [] → parts.bodies.items ≡ [] → parts.finished ≡ none_finished → parts.routes ≡ new_routing config.links → parts.inbox.items ≡ []
     → Agrees (kept_of parts) (new_state config)
-opened config parts c links lists sound messages bodies routes inbox = grind (arith, nat_tests, none_stands parts.queues.lists (rw messages at sound), length-replicate, replicated, from_zero config.profile, opened_sound (settings_of config))
+opened config parts c links lists sound messages bodies finished routes inbox = grind (arith, nat_tests, none_stands parts.queues.lists (rw messages at sound), length-replicate, replicated, from_zero config.profile, opened_sound (settings_of config))
 
 -- A LINK THAT COMES UP
 -- a settled link is there, and nothing stands on it, once room was taken

@@ -1,8 +1,9 @@
 //! What a set keeps, as one event after another changes it.
 ghost use Rattle.std.specs.Prelude.{◌≡◌, ◌<◌, ◌+◌, ◌%◌, ◌^◌, true, length, IsOk, IfOk, IfErr, OnOk, OnErr};
 ghost use Rattle.l2_window.specs.Window.{fsn_count};
-ghost use Rattle.set_model.specs.Rows.{place, counts_of, total_of, users};
-ghost use Rattle.set_model.specs.State.{State, given, new_state, link_count, is_up as is_up_in, is_settled as is_settled_in, unacked_in};
+ghost use Rattle.set_model.specs.Checkpoint.{checkpointed, counts_in};
+ghost use Rattle.set_model.specs.Rows.{place, total_of, users};
+ghost use Rattle.set_model.specs.State.{State, all_finished, given, new_state, link_count, is_up as is_up_in, is_settled as is_settled_in, unacked_in};
 ghost use Rattle.set_model.specs.History.{longest_history};
 ghost use Rattle.set_model.specs.Step.{step};
 ghost use Rattle.set_moves.specs.Agreement.{Kept, Agrees, StandsFor, Holds, HoldsFew};
@@ -12,7 +13,7 @@ ghost use Rattle.set_moves.specs.Parts.{kept_of};
 use super::step::carry_out;
 use l2_units::Profile;
 use l2_window::Window;
-use set_events::{Answer, Counts, Event, Fate, SetConfig, SetFault};
+use set_events::{Answer, Counts, Event, Fate, Finished, SetConfig, SetFault};
 use set_model::{Numbered, Phase};
 use set_moves::{Link, Parts, phase_of};
 use set_queues::{Bodies, Queues};
@@ -27,7 +28,8 @@ use std::marker::Model;
 ///
 /// Contracts see what is kept, and say of every state of the model that it agrees with what becomes of it.
 /// Readers: [`Core::place_of`], [`Core::links`], [`Core::is_up`], [`Core::is_settled`],
-/// [`Core::numbers_given`], [`Core::counts`], [`Core::unacked_at`]. The one input: [`Core::apply`].
+/// [`Core::numbers_given`], [`Core::finished`], [`Core::counts`], [`Core::unacked_at`]. The one input: [`Core::apply`].
+/// [`Core::kept`] is what a checkpoint keeps of it, and [`Core::copied`] the same again.
 #[derive(Drop)]
 pub struct Core {
     parts: Parts,
@@ -64,6 +66,13 @@ impl Core {
                 links,
                 queues,
                 bodies: Bodies::new(alloc),
+                finished: Finished {
+                    acked: 0,
+                    emergency: 0,
+                    unreasonable: 0,
+                    no_answer: 0,
+                    orders: 0,
+                },
                 routes: Routes::new(config.links),
                 inbox: VecDeque::new(alloc),
             },
@@ -130,15 +139,48 @@ impl Core {
         self.parts.queues.len() as u64
     }
 
-    /// How many of the users' messages stand in each place; each stands in one.
+    /// How many messages left it at checkpoints, since nothing more could become of them.
+    pub fn finished(&self) -> Finished
+        ensures { result ≡ self.now.finished }
+    {
+        self.parts.finished
+    }
+
+    /// How many of the users' messages stand in each place, or ended there; each counts in one.
+    #[tactic(auto, using(crate::proofs::Kept::counted_few))]
     pub fn counts(&self) -> Counts
-        ensures value { (s : State) → StandsFor self.now s → result ≡ counts_of s.rows }
-        ensures all { (s : State) → StandsFor self.now s → total_of result ≡ length (users s.rows) }
+        ensures value { (s : State) → StandsFor self.now s → result ≡ counts_in s }
+        ensures all { (s : State) → StandsFor self.now s
+            → total_of result + s.finished.orders ≡ all_finished s.finished + length (users s.rows) }
         ensures few { total_of result < 2 ^ 64 }
     {
-        // there are fewer than 2^63 messages
+        // each has a number that was given out, and there are fewer than 2^63
         self.parts.queues.len();
-        self.parts.queues.counts()
+        let here = self.parts.queues.counts();
+        let finished = self.parts.finished;
+        let given_up = finished.emergency + finished.unreasonable + finished.no_answer;
+        Counts {
+            acked: finished.acked + here.acked,
+            discarded: given_up + here.discarded,
+            ..here
+        }
+    }
+
+    // STUB
+    /// What a checkpoint keeps: the same without the messages of which nothing more can become, which are counted.
+    /// It fails only where memory was refused.
+    pub fn kept(&self) -> Result<Core, AllocError>
+        ensures { IfOk result (λ core. (s : State) → Agrees self.now s → Agrees core (checkpointed s)) }
+    {
+        Err(AllocError)
+    }
+
+    // STUB
+    /// The same again. It fails only where memory was refused.
+    pub fn copied(&self) -> Result<Core, AllocError>
+        ensures { IfOk result (λ core. core ≡ self.now) }
+    {
+        Err(AllocError)
     }
 
     /// The message at this place of the link's unacknowledged ones, the oldest at 0: its number, and the FSN

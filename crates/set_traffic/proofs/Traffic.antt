@@ -92,7 +92,7 @@ module _ (k : Kept) (s : State) (f : StandsFor k s) where
 
 -- THE INBOX
 pub delivered : (k : Kept) (s : State) (inbox : List (List ℕ)) (message : List ℕ) → StandsFor k s → inbox ≡ k.inbox ++ message ∷ [] → StandsFor (record k { inbox = inbox }) (record s { inbox = s.inbox ++ message ∷ [] })
-delivered k s inbox message f is = record { settings = f.settings; stands = f.stands; bodies = f.bodies; held_bodies = f.held_bodies; given_out = f.given_out; links = f.links; as_many = f.as_many; fsns = f.fsns; profiles = f.profiles; routing = f.routing; inbox = is ∙ ap (λ (i : List (List ℕ)). i ++ message ∷ []) f.inbox }
+delivered k s inbox message f is = record { settings = f.settings; stands = f.stands; bodies = f.bodies; held_bodies = f.held_bodies; given_out = f.given_out; finished = f.finished; links = f.links; as_many = f.as_many; fsns = f.fsns; profiles = f.profiles; routing = f.routing; inbox = is ∙ ap (λ (i : List (List ℕ)). i ++ message ∷ []) f.inbox }
 
 -- WHAT A UNIT BRINGS, if it's accepted
 module _ (parts : Parts) (s : State) (unit : SignalUnit) where
