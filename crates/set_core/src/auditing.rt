@@ -6,7 +6,7 @@ ghost use Rattle.set_model.specs.History.{IsActor, IsLegal, entries_of, longest_
 ghost use Rattle.set_moves.specs.Agreement.{Agrees};
 
 use super::base::Base;
-use super::set::LONGEST_HISTORY;
+use super::tally::LONGEST_HISTORY;
 use set_events::{Actor, Answer, Entry, SetConfig};
 use set_history::Reader;
 use set_step::{Core, SetFault};
@@ -41,7 +41,7 @@ pub fn audit_from(base: &Base, entries: &[Entry]) -> Result<bool, SetFault>
     ensures exhausted { (result ≡ Err SetFault.Exhausted)
         ↔ (longest_history < entries_of base.now entries.now) }
 {
-    if entries.len() as u64 > LONGEST_HISTORY - base.entries() {
+    if entries.len() as u64 > base.room() {
         return Err(SetFault::Exhausted);
     }
     let mut core = base.core()?;
@@ -103,7 +103,7 @@ pub fn audit_history_from(alloc: Global, base: &Base, entries: Reader<'_>) -> Re
     ensures exhausted { (result ≡ Err SetFault.Exhausted)
         ↔ (longest_history < entries_of base.now entries.entry) }
 {
-    if entries.len() as u64 > LONGEST_HISTORY - base.entries() {
+    if entries.len() as u64 > base.room() {
         return Err(SetFault::Exhausted);
     }
     let mut core = base.core()?;

@@ -1,7 +1,7 @@
 //! What a set goes on from: what it held at its last checkpoint, or when it was opened.
 ghost use Rattle.std.specs.Prelude.{◌≡◌};
 
-use super::tally::Tally;
+use super::tally::{LONGEST_HISTORY, Tally};
 use boxcar::tag::Tag;
 use set_events::{Books, Counts, Fate, Finished, SetConfig};
 use set_step::{Core, SetFault};
@@ -39,7 +39,7 @@ impl Model for Base {
 }
 
 impl Base {
-    ghost use Rattle.std.specs.Prelude.{◌≤◌, [], IfOk, IfErr};
+    ghost use Rattle.std.specs.Prelude.{◌≤◌, ◌+◌, [], IfOk, IfErr};
     ghost use Rattle.set_model.specs.Checkpoint.{counts_in};
     ghost use Rattle.set_model.specs.History.{entries_of, longest_history, opening_of};
     ghost use Rattle.set_model.specs.Rows.{place};
@@ -125,8 +125,15 @@ impl Base {
     pub fn entries(&self) -> u64
         ensures value { result ≡ entries_of self.now [] }
         ensures short { result ≤ longest_history }
-        ensures few { AreFew (entries_of self.now []) self.now.state }
     {
         self.tally.entries
+    }
+
+    /// How many entries more a set can make, and a law: no whole number of a link is greater than the entries so far.
+    pub(crate) fn room(&self) -> u64
+        ensures value { entries_of self.now [] + result ≡ longest_history }
+        ensures few { AreFew (entries_of self.now []) self.now.state }
+    {
+        LONGEST_HISTORY - self.tally.entries
     }
 }

@@ -4,16 +4,13 @@ ghost use Rattle.set_model.specs.Checkpoint.{checkpointed};
 ghost use Rattle.set_model.specs.Rows.{numbers};
 
 use super::base::Base;
-use super::tally::Tally;
+use super::tally::{LONGEST_HISTORY, Tally};
 use boxcar::tag::{Names, Tag};
 use set_events::{Actor, Answer, Books, Counts, Event, Fate, SetConfig};
 use set_history::{History, Reader};
 use set_step::{Core, Numbered, SetFault};
 use std::alloc::Global;
 use std::marker::Model;
-
-/// The most entries of a set since its opening, 2^48.
-pub(crate) const LONGEST_HISTORY: u64 = 0x1_0000_0000_0000;
 
 /// One set of links. Contracts see its base, which is the opening or its last checkpoint, what it holds, and its
 /// history since the base.
