@@ -83,11 +83,17 @@ pub terminals_added : (who : Actor) (before since : List ℕ) → length before 
 terminals_added (User number) before since b s a = refl
 terminals_added (Terminal link) before since b s a = added_more link before since (b ∙ sym s) (omega (arith, s, a))
 
+pub length-added : (before since : List ℕ) → length before ≡ length since → length (added before since) ≡ length before
+length-added [] ns e = sym e
+length-added (m ∷ ms) [] e = refl
+length-added (m ∷ ms) (n ∷ ns) e = ap suc (length-added ms ns (omega (arith, e)))
+
 -- of an empty history
-pub none_added : (is_it : ℕ → Actor → Bool) (k n : ℕ) → added (replicate n 0) (calls_from is_it k n []) ≡ replicate n 0
+pub none_added : (is_it : ℕ → Actor → Bool) (before : List ℕ) (k n : ℕ) → length before ≡ n → added before (calls_from is_it k n []) ≡ before
 unfolding calls_from
-none_added is_it k zero = refl
-none_added is_it k (suc n) = ap (λ (xs : List ℕ). 0 ∷ xs) (none_added is_it (suc k) n)
+none_added is_it [] k n e = grind (arith, e)
+none_added is_it (m ∷ ms) k zero e = refl
+none_added is_it (m ∷ ms) k (suc n) e = rw (none_added is_it ms (suc k) n (omega (arith, e))) (ap (λ (j : ℕ). j ∷ ms) (omega arith))
 
 pub no_sum : (n : ℕ) → sum (replicate n 0) ≡ 0
 no_sum n = omega (arith, sum_by-replicate (λ n. n) n 0)

@@ -1,5 +1,5 @@
 -- What a set keeps, entry by entry.
-use Rattle.std.proofs.Common.{refl, arith, ◌≡◌, ◌∙◌, ap, sym, subst, take, drop, get_or, ◌<◌, ◌≤◌, ◌^◌, [], ◌∷◌, length, ℕ, ◌+◌, sum, List, ◌++◌, ◌↔◌}
+use Rattle.std.proofs.Common.{refl, arith, ◌≡◌, ◌∙◌, ap, sym, subst, take, drop, get_or, ◌<◌, ◌≤◌, ◌^◌, [], ◌∷◌, length, ℕ, ◌+◌, sum, List, ◌++◌, ◌↔◌, ◌*◌}
 use Rattle.std.proofs.lemmas.List.{length-append, length-replicate, drop_more, take_more}
 use Rattle.std.proofs.lemmas.List.Elements.{filter-append}
 use Rattle.set_events.specs.declared.answer.Answer.{Answer}
@@ -13,19 +13,21 @@ use Rattle.set_events.specs.declared.event.Event.TheVariants.{Offer, Take, Find,
 use Rattle.set_events.specs.declared.history.Entry.{Entry}
 use Rattle.set_core.specs.declared.tally.Tally.{Tally}
 use Rattle.set_events.specs.declared.config.SetConfig.{SetConfig}
-use Rattle.set_model.specs.State.{State, FinishedCounts, none_finished, new_state, settings_of}
-use Rattle.set_model.specs.Checkpoint.{counts_in}
+use Rattle.set_model.specs.State.{State, FinishedCounts, new_state, settings_of}
+use Rattle.set_model.specs.Checkpoint.{checkpointed, counts_in}
+use Rattle.set_model.proofs.Checkpointing.{counts_stay, stand_still}
 use Rattle.set_model.specs.Sound.{AreFew}
-use Rattle.set_model.specs.Rows.{counts_of, total_of}
+use Rattle.set_model.specs.Rows.{counts_of, is_unacked, numbers, total_of}
 use Rattle.set_model.specs.Step.{Gains, step, messages_in, octets_of}
 use Rattle.set_model.proofs.Staying.{step_gains, step_grows, AcceptsNone, accepts_none, step_at_most}
 use Rattle.set_model.proofs.Soundness.{opened_new}
-use Rattle.set_moves.specs.Agreement.{Kept, Agrees}
+use Rattle.set_moves.specs.Agreement.{Kept, Agrees, shown}
+use Rattle.set_moves.proofs.Shown.{shown_is}
 use Rattle.set_step.specs.Answering.{AnswersFor}
 use Rattle.set_core.specs.Gaining.{BooksGain, IsOwn, GainsNoOther, AreBounded, users_after, terminals_after}
-use Rattle.set_model.specs.History.{Base, IsActor, IsStep, IsLegal, after, added, no_books, opening_of, books_of, entries_of, is_user, is_terminal, calls_from, messages_of, octets_in_all}
-use Rattle.set_core.specs.Keeping.{with_history, IsTally, IsKept}
-use Rattle.set_core.proofs.Calls.{all_in_sum, others, its_own, length-calls, no_sum, none_added, sum-added, sums_more, terminals_added, users_added}
+use Rattle.set_model.specs.History.{Base, LinkSet, based, books_in, entries_in, IsActor, IsStep, IsLegal, after, added, no_books, opening_of, books_of, entries_of, is_user, is_terminal, calls_from, messages_of, octets_in_all}
+use Rattle.set_core.specs.Keeping.{with_history, base_at, base_of, books_by, IsTally, IsKept}
+use Rattle.set_core.proofs.Calls.{all_in_sum, others, its_own, length-added, length-calls, no_sum, none_added, sum-added, sums_more, terminals_added, users_added}
 
 pub legal_more : (s : State) (history : List Entry) (entry : Entry) → IsLegal s history → IsActor entry.who → entry.answer ≡ (step (after s history) entry.event).answer → IsLegal s (history ++ entry ∷ [])
 legal_more s [] entry l a e = (a, e, tt)
@@ -92,13 +94,16 @@ pub record Counted (old : Tally) (entry : Entry) (new : Tally) : Type 0 where
   pub term_calls : new.term_calls ≡ terminals_after entry.who old.term_calls
   pub messages : new.messages ≡ old.messages + messages_in entry.answer
   pub octets : new.octets ≡ old.octets + octets_of entry.event entry.answer
+  pub entries : new.entries ≡ old.entries + 1
 
-tally_more : (old new : Tally) (books books' : Books) (entry : Entry) → IsTally old books → Counted old entry new → BooksGain books entry.who entry.event entry.answer books' → IsTally new books'
-tally_more old new books books' entry t c g = record {
+tally_more : (old new : Tally) (books books' : Books) (entry : Entry) → IsTally old books → Counted old entry new → BooksGain books entry.who entry.event entry.answer books' → sum books'.user_calls + sum books'.term_calls ≡ sum books.user_calls + sum books.term_calls + 1
+    → IsTally new books'
+tally_more old new books books' entry t c g one_more = record {
   user_calls = c.user_calls ∙ ap (users_after entry.who) t.user_calls ∙ sym g.user_calls;
   term_calls = c.term_calls ∙ ap (terminals_after entry.who) t.term_calls ∙ sym g.term_calls;
   messages = c.messages ∙ ap (λ (n : ℕ). n + messages_in entry.answer) t.messages ∙ sym g.messages;
   octets = c.octets ∙ ap (λ (n : ℕ). n + octets_of entry.event entry.answer) t.octets ∙ sym g.octets;
+  entries = c.entries ∙ ap (λ (n : ℕ). n + 1) t.entries ∙ sym one_more;
 }
 
 -- what users ask acknowledges nothing
@@ -130,17 +135,10 @@ given_up f = f.emergency + f.unreasonable + f.no_answer
 total_in : (s : State) → total_of (counts_in s) ≡ s.finished.acked + given_up s.finished + total_of (counts_of s.rows)
 total_in s = omega arith
 
--- no entry takes a message out of the rows
-none_gone : (s : State) (history : List Entry) → (after s history).finished ≡ s.finished
-none_gone s [] = refl
-none_gone s (entry ∷ entries) = none_gone (step s entry.event).state entries ∙ (step_grows s entry.event).gone_same
-
-without_gone : (s : State) → s.finished ≡ none_finished → counts_in s ≡ counts_of s.rows
-without_gone s e = grind (arith, e)
-
--- so after an opening all stand there
-pub counts_told : (config : SetConfig) (history : List Entry) → counts_in (after (new_state config) history) ≡ counts_of (after (new_state config) history).rows
-counts_told config history = without_gone (after (new_state config) history) (none_gone (new_state config) history)
+-- no entry changes what the set was opened with
+settings_stay : (s : State) (history : List Entry) → (after s history).settings ≡ s.settings
+settings_stay s [] = refl
+settings_stay s (entry ∷ entries) = settings_stay (step s entry.event).state entries ∙ (step_grows s entry.event).settings_same
 
 pub opened_entries : (config : SetConfig) (history : List Entry) → entries_of (opening_of config) history ≡ length history
 opened_entries config history = omega (arith, no_sum 64, no_sum 16)
@@ -193,13 +191,15 @@ module _ (base : Base) (old new : Kept) (history : List Entry) (entry : Entry) (
       let placed = k.placed in
       let messages = k.messages in
       let was = k.octets in
+      let before = k.calls in
+      let calls = calls_more base history entry k.calls actor in
       record {
         legal = legal_more base.state history entry k.legal actor answers.answer_is;
         agrees = agrees_more;
-        counted = tally_more tally tally' (books_of base history) (books_of base (history ++ entry ∷ [])) entry k.counted counted (gained k.users k.terminals);
+        counted = tally_more tally tally' (books_of base history) (books_of base (history ++ entry ∷ [])) entry k.counted counted (gained k.users k.terminals) (omega (arith, calls, long, before));
         users = k.users;
         terminals = k.terminals;
-        calls = calls_more base history entry k.calls actor;
+        calls = calls;
         placed = omega (
           arith,
           brought,
@@ -217,7 +217,7 @@ module _ (base : Base) (old new : Kept) (history : List Entry) (entry : Entry) (
 
 -- what the tally has, and how many are acknowledged, are the books
 pub books_told : (tally : Tally) (books : Books) (acked : ℕ) → IsTally tally books → acked ≡ books.acknowledged
-    → ◌≡◌ {A = Books} (record { user_calls = tally.user_calls; term_calls = tally.term_calls; messages = tally.messages; octets = tally.octets; acknowledged = acked }) books
+    → books_by tally acked ≡ books
 books_told tally books acked t a = rw (t.user_calls, t.term_calls, t.messages, t.octets, a) refl
 
 -- The bounds.
@@ -225,6 +225,13 @@ pub few_more : (events more : ℕ) (s : State) → events ≤ more → AreFew ev
 few_more events more s h a = λ number link there.
     let f = a number link there in
     record { sent = let low = f.sent in omega (arith, h, low); accepted = let low = f.accepted in omega (arith, h, low) }
+
+-- those that left a link's rows were acknowledged or given up
+few_left : (events : ℕ) (s : State) → AreFew events s → AreFew events (checkpointed s)
+few_left events s a = λ number link there.
+    let f = a number link there in
+    let sent = f.sent in
+    record { sent = omega (arith, sent, ap length (stand_still (is_unacked number) (λ f e. grind arith) s.rows)); accepted = f.accepted }
 
 pub within : (c : Counts) → c.acked ≤ total_of c
 within c = omega arith
@@ -247,30 +254,103 @@ bounded base kept tally history k =
 pub new_few : (config : SetConfig) → AreFew 0 (new_state config)
 new_few config = (opened_new (settings_of config) (record { some_link = config.has_links; at_most_16 = config.links_in_range; managed = config.management })).few
 
--- a set that was opened just now
+-- A BASE
+
+-- the books of a base, of which nothing was asked yet, are its own
+module _ (base : Base) (users : length base.books.user_calls ≡ 64) (terminals : length base.books.term_calls ≡ 16) where
+  pub books_begin : base.books.acknowledged ≡ (counts_in base.state).acked → books_of base [] ≡ base.books
+  books_begin acked = rw (none_added is_user base.books.user_calls 0 64 users, none_added is_terminal base.books.term_calls 0 16 terminals, ← acked) (grind arith)
+
+  -- what is kept of it is what a set keeps that goes on from it
+  kept_begin : (kept : Kept) (tally : Tally) → Agrees kept base.state → IsTally tally base.books → base.books.acknowledged ≡ (counts_in base.state).acked → total_of (counts_in base.state) ≡ base.books.messages → entries_of base [] ≤ 2 ^ 48 → base.books.messages ≤ entries_of base [] → base.books.octets ≤ 273 * entries_of base [] → AreFew (entries_of base []) base.state
+      → IsKept base kept tally []
+  kept_begin kept tally agrees counted acked placed short messages octets few =
+      let same = books_begin acked in
+      record {
+        legal = tt;
+        agrees = agrees;
+        counted = rw same counted;
+        users = users;
+        terminals = terminals;
+        calls = ap (λ (b : Books). sum b.user_calls + sum b.term_calls) same ∙ omega arith;
+        placed = placed ∙ sym (ap (λ (b : Books). b.messages) same);
+        short = short;
+        messages = omega (arith, messages);
+        octets = omega (arith, octets);
+        few = few;
+      }
+
+-- a base is shown by the tally of its books
+abbrev with_books : State → Books → Base
+with_books s books = record { state = s; books = books }
+
+books_at : (s : State) (tally : Tally) (books : Books) → IsTally tally books → (counts_in s).acked ≡ books.acknowledged → base_at s tally ≡ record { state = s; books = books }
+books_at s tally books t a = ap (with_books s) (books_told tally books (counts_in s).acked t a)
+
+-- of a set that is opened
+pub opened_base : (config : SetConfig) (kept : Kept) (tally : Tally) → Agrees kept (new_state config) → IsTally tally no_books → base_of [] kept tally ≡ opening_of config
+opened_base config kept tally agrees t =
+    let state : shown [] kept ≡ new_state config = shown_is kept (new_state config) agrees.stands in
+    ap (λ (s : State). base_at s tally) state ∙ books_at (new_state config) tally no_books t refl
+
 pub kept_new : (config : SetConfig) (kept : Kept) (tally : Tally) → Agrees kept (new_state config) → IsTally tally no_books → IsKept (opening_of config) kept tally []
 kept_new config kept tally agrees counted =
     let none = opened_entries config [] in
-    let users = none_added is_user 0 64 in
-    let terminals = none_added is_terminal 0 16 in
-    record {
-      legal = tt;
-      agrees = agrees;
-      counted = record {
-        user_calls = counted.user_calls ∙ sym users;
-        term_calls = counted.term_calls ∙ sym terminals;
-        messages = counted.messages;
-        octets = counted.octets;
-      };
-      users = length-replicate {A = ℕ} 64 0;
-      terminals = length-replicate {A = ℕ} 16 0;
-      calls = omega (arith, ap sum users, ap sum terminals, no_sum 64, no_sum 16);
-      placed = refl;
-      short = omega (arith, none);
-      messages = omega arith;
-      octets = omega arith;
-      few = rw none (new_few config);
-    }
+    kept_begin (opening_of config) (length-replicate {A = ℕ} 64 0) (length-replicate {A = ℕ} 16 0) kept tally agrees counted refl refl (omega (arith, none)) (omega arith) (omega arith) (rw none (new_few config))
+
+-- a checkpoint
+module _ (base : Base) (kept : Kept) (tally : Tally) (history : List Entry) (k : IsKept base kept tally history) where
+  abbrev now : LinkSet
+  now = with_history base history
+
+  pub based_books : books_in (based now) ≡ books_in now
+  based_books =
+      books_begin (based now).base
+      (length-added base.books.user_calls (calls_from is_user 0 64 history) (k.users ∙ sym (length-calls is_user 0 64 history)) ∙ k.users)
+      (length-added base.books.term_calls (calls_from is_terminal 0 16 history) (k.terminals ∙ sym (length-calls is_terminal 0 16 history)) ∙ k.terminals)
+      (sym (ap (λ (c : Counts). c.acked) (counts_stay now.state)))
+
+  pub based_entries : entries_in (based now) ≡ entries_in now
+  based_entries = let calls = k.calls in omega (arith, calls)
+
+  pub based_settings : (based now).base.state.settings ≡ base.state.settings
+  based_settings = settings_stay base.state history
+
+  -- what goes on from it
+  pub with_based : (begun : Base) (since : List Entry) → begun ≡ (based now).base → since ≡ [] → with_history begun since ≡ based now
+  with_based begun since b e = rw (b, e) refl
+
+  module _ (new : Kept) (agrees : Agrees new (checkpointed now.state)) where
+    based_is : base_of (numbers (checkpointed now.state).rows) new tally ≡ (based now).base
+    based_is =
+        let state : shown (numbers (checkpointed now.state).rows) new ≡ checkpointed now.state = shown_is new (checkpointed now.state) agrees.stands in
+        ap (λ (s : State). base_at s tally) state ∙ books_at (checkpointed now.state) tally (books_in now) k.counted (ap (λ (c : Counts). c.acked) (counts_stay now.state))
+
+    kept_based : IsKept (based now).base new tally []
+    kept_based =
+        let calls = k.calls in
+        let short = k.short in
+        let messages = k.messages in
+        let octets = k.octets in
+        let same : entries_of (based now).base [] ≡ entries_of base history = omega (arith, calls) in
+        kept_begin (based now).base
+        (length-added base.books.user_calls (calls_from is_user 0 64 history) (k.users ∙ sym (length-calls is_user 0 64 history)) ∙ k.users)
+        (length-added base.books.term_calls (calls_from is_terminal 0 16 history) (k.terminals ∙ sym (length-calls is_terminal 0 16 history)) ∙ k.terminals)
+        new tally agrees k.counted (sym (ap (λ (c : Counts). c.acked) (counts_stay now.state)))
+        (ap total_of (counts_stay now.state) ∙ k.placed)
+        (omega (arith, same, short)) (omega (arith, same, messages)) (omega (arith, same, octets))
+        (rw same (few_left (entries_of base history) now.state k.few))
+
+    -- it's shown by a copy of what is kept, and by the order of its rows
+    module _ (again : Kept) (copied : again ≡ new) (order : List ℕ) (rows : order ≡ numbers (checkpointed now.state).rows) where
+      pub shown_based : base_of order again tally ≡ (based now).base
+      shown_based = ap (λ (kept : Kept). base_of order kept tally) copied ∙ ap (λ (ns : List ℕ). base_of ns new tally) rows ∙ based_is
+
+      pub kept_by : IsKept (base_of order again tally) again tally []
+      kept_by = subst (λ (b : Base). IsKept b again tally []) (sym shown_based) (subst (λ (kept : Kept). IsKept (based now).base kept tally []) (sym copied) kept_based)
+
+      pub kept_on : (begun : Base) (since : List Entry) → begun ≡ (based now).base → since ≡ [] → IsKept begun new tally since
+      kept_on begun since b e = subst (λ (entries : List Entry). IsKept begun new tally entries) (sym e) (subst (λ (b : Base). IsKept b new tally []) (sym b) kept_based)
 
 -- A REPLAY. So many entries were replayed, and the rest is left: what is kept agrees with the state after them, and the
 -- rest decides from there.
@@ -279,8 +359,8 @@ pub record Replayed (opening : State) (entries : List Entry) (kept : Kept) (coun
   pub few : AreFew count (after opening before)
   pub left : IsLegal (after opening before) rest ↔ IsLegal opening entries
 
-pub replay_none : (config : SetConfig) (entries : List Entry) (kept : Kept) → Agrees kept (new_state config) → Replayed (new_state config) entries kept 0 [] entries
-replay_none config entries kept agrees = record { agrees = agrees; few = new_few config; left = (λ l. l, λ l. l) }
+pub replay_none : (opening : State) (entries : List Entry) (kept : Kept) (count : ℕ) → Agrees kept opening → AreFew count opening → Replayed opening entries kept count [] entries
+replay_none opening entries kept count agrees few = record { agrees = agrees; few = few; left = (λ l. l, λ l. l) }
 
 module _ (opening : State) (entries : List Entry) (kept : Kept) (count : ℕ) (before rest : List Entry) (entry : Entry) (replayed : Replayed opening entries kept count before (entry ∷ rest)) where
   -- an entry that is as the step has it
@@ -300,29 +380,33 @@ module _ (opening : State) (entries : List Entry) (kept : Kept) (count : ℕ) (b
   replay_answer new answer answers legal = answers.answer_is ∙ sym (replayed.left.1 legal).1
 
 -- the next entry is the first that is left
-pub replay_next : (opening : State) (entries : List Entry) (kept : Kept) (i : ℕ) (entry : Entry) → Replayed opening entries kept i (take i entries) (drop i entries) → i < length entries → entry ≡ get_or entries i entry → Replayed opening entries kept i (take i entries) (entry ∷ drop (i + 1) entries)
-replay_next opening entries kept i entry replayed low is =
+pub replay_next : (opening : State) (entries : List Entry) (kept : Kept) (count i : ℕ) (entry : Entry) → Replayed opening entries kept count (take i entries) (drop i entries) → i < length entries → entry ≡ get_or entries i entry → Replayed opening entries kept count (take i entries) (entry ∷ drop (i + 1) entries)
+replay_next opening entries kept count i entry replayed low is =
     let split : drop i entries ≡ entry ∷ drop (i + 1) entries = drop_more entries i entry low ∙ ap (λ (e : Entry). e ∷ drop (i + 1) entries) (sym is) in
-    subst (λ rest. Replayed opening entries kept i (take i entries) rest) split replayed
+    subst (λ rest. Replayed opening entries kept count (take i entries) rest) split replayed
 
-pub replay_taken : (opening : State) (entries : List Entry) (kept : Kept) (i : ℕ) (entry : Entry) → i < length entries → entry ≡ get_or entries i entry → Replayed opening entries kept (i + 1) (take i entries ++ entry ∷ []) (drop (i + 1) entries) → Replayed opening entries kept (i + 1) (take (i + 1) entries) (drop (i + 1) entries)
-replay_taken opening entries kept i entry low is replayed =
+pub replay_taken : (opening : State) (entries : List Entry) (kept : Kept) (count i : ℕ) (entry : Entry) → i < length entries → entry ≡ get_or entries i entry → Replayed opening entries kept count (take i entries ++ entry ∷ []) (drop (i + 1) entries) → Replayed opening entries kept count (take (i + 1) entries) (drop (i + 1) entries)
+replay_taken opening entries kept count i entry low is replayed =
     let grown : take i entries ++ entry ∷ [] ≡ take (i + 1) entries = ap (λ (e : Entry). take i entries ++ e ∷ []) is ∙ sym (take_more entries i entry low) in
-    subst (λ before. Replayed opening entries kept (i + 1) before (drop (i + 1) entries)) grown replayed
+    subst (λ before. Replayed opening entries kept count before (drop (i + 1) entries)) grown replayed
 
--- the same of entries that are read one after another: so many were replayed, and these are left
-abbrev pub Replaying : State → List Entry → Kept → List Entry → Type 0
-Replaying opening entries kept left = (before : List Entry) × Replayed opening entries kept (length before) before left × (length before + length left ≡ length entries)
+pub replay_count : (opening : State) (entries : List Entry) (kept : Kept) (count count' : ℕ) (before rest : List Entry) → count ≡ count' → Replayed opening entries kept count before rest → Replayed opening entries kept count' before rest
+replay_count opening entries kept count count' before rest e r = subst (λ (n : ℕ). Replayed opening entries kept n before rest) e r
 
-module _ (opening : State) (entries : List Entry) (kept : Kept) (left rest : List Entry) (entry : Entry) (replaying : Replaying opening entries kept left) (split : left ≡ entry ∷ rest) where
-  pub reading_now : Replayed opening entries kept (length replaying.0) replaying.0 (entry ∷ rest)
-  reading_now = subst (λ left. Replayed opening entries kept (length replaying.0) replaying.0 left) split replaying.1
+-- the same of entries that are read one after another, where so many were made before: some were replayed, and these
+-- are left
+abbrev pub Replaying : State → List Entry → Kept → ℕ → List Entry → Type 0
+Replaying opening entries kept first left = (before : List Entry) × Replayed opening entries kept (first + length before) before left × (length before + length left ≡ length entries)
 
-  pub reading_on : (new : Kept) (answer : Answer) → AnswersFor (step (after opening replaying.0) entry.event) answer new → IsActor entry.who → answer ≡ entry.answer → Replaying opening entries new rest
+module _ (opening : State) (entries : List Entry) (kept : Kept) (first : ℕ) (left rest : List Entry) (entry : Entry) (replaying : Replaying opening entries kept first left) (split : left ≡ entry ∷ rest) where
+  pub reading_now : Replayed opening entries kept (first + length replaying.0) replaying.0 (entry ∷ rest)
+  reading_now = subst (λ left. Replayed opening entries kept (first + length replaying.0) replaying.0 left) split replaying.1
+
+  pub reading_on : (new : Kept) (answer : Answer) → AnswersFor (step (after opening replaying.0) entry.event) answer new → IsActor entry.who → answer ≡ entry.answer → Replaying opening entries new first rest
   reading_on new answer answers actor same =
       let before = replaying.0 in
       let long : length (before ++ entry ∷ []) ≡ length before + 1 = length-append before (entry ∷ []) in (
         before ++ entry ∷ [],
-        rw long (replay_more opening entries kept (length before) before rest entry reading_now new answer answers actor same),
+        replay_count opening entries new (first + length before + 1) (first + length (before ++ entry ∷ [])) (before ++ entry ∷ []) rest (omega (arith, long)) (replay_more opening entries kept (first + length before) before rest entry reading_now new answer answers actor same),
         omega (arith, long, replaying.2, ap length split),
       )

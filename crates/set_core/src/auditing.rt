@@ -1,10 +1,12 @@
 //! Whether a list of entries is the history of a set.
-ghost use Rattle.std.specs.Prelude.{◌≡◌, ◌<◌, ◌≤◌, ◌↔◌, length, IfOk, IfErr, IsTrue};
+ghost use Rattle.std.specs.Prelude.{◌≡◌, ◌<◌, ◌≤◌, ◌↔◌, [], length, IfOk, IfErr, IsTrue};
 ghost use Rattle.set_model.specs.State.{new_state};
-ghost use Rattle.set_model.specs.History.{IsActor, IsLegal, longest_history};
+ghost use Rattle.set_model.specs.Sound.{AreFew};
+ghost use Rattle.set_model.specs.History.{IsActor, IsLegal, entries_of, longest_history};
 ghost use Rattle.set_moves.specs.Agreement.{Agrees};
 
-use super::set::LONGEST_HISTORY;
+use super::base::Base;
+use super::tally::LONGEST_HISTORY;
 use set_events::{Actor, Answer, Entry, SetConfig};
 use set_history::Reader;
 use set_step::{Core, SetFault};
@@ -16,25 +18,44 @@ use std::alloc::Global;
 ///
 /// Faults: 2 [`SetFault::Exhausted`] exactly where there are more than 2^48, tested first;
 /// 1 [`SetFault::NoMemory`] only where memory was refused.
+#[tactic(auto, using(crate::proofs::Keeping::opened_entries))]
 pub fn audit(alloc: Global, config: &SetConfig, entries: &[Entry]) -> Result<bool, SetFault>
     ensures legal { IfOk result
         (λ is_legal. IsTrue is_legal ↔ IsLegal (new_state config.now) entries.now) }
     ensures exhausted { (result ≡ Err SetFault.Exhausted) ↔ (longest_history < length entries.now) }
 {
-    if entries.len() > LONGEST_HISTORY {
+    if entries.len() as u64 > LONGEST_HISTORY {
         return Err(SetFault::Exhausted);
     }
-    let mut core = Core::new(alloc, config)?;
-    replay(&mut core, config, entries)
+    let opening = Base::opening(alloc, config)?;
+    audit_from(&opening, entries)
 }
 
-/// Whether these entries are a legal history from the opening, which `core` stands for at first. It goes by
-/// reference, as each way out of a function lets go of what it owns.
-fn replay(core: &mut Core, config: &SetConfig, entries: &[Entry]) -> Result<bool, SetFault>
-    requires opened { Agrees core.old (new_state config.now) }
-    requires few { length entries.now ≤ longest_history }
+/// [`audit`] of the entries that a set made since this base.
+///
+/// Faults: 2 [`SetFault::Exhausted`] exactly where those before the base and these are more than 2^48, tested first;
+/// 1 [`SetFault::NoMemory`] only where memory was refused.
+pub fn audit_from(base: &Base, entries: &[Entry]) -> Result<bool, SetFault>
     ensures legal { IfOk result
-        (λ is_legal. IsTrue is_legal ↔ IsLegal (new_state config.now) entries.now) }
+        (λ is_legal. IsTrue is_legal ↔ IsLegal base.now.state entries.now) }
+    ensures exhausted { (result ≡ Err SetFault.Exhausted)
+        ↔ (longest_history < entries_of base.now entries.now) }
+{
+    if entries.len() as u64 > base.room() {
+        return Err(SetFault::Exhausted);
+    }
+    let mut core = base.core()?;
+    replay(&mut core, base, entries)
+}
+
+/// Whether these entries are a legal history from this base, which `core` agrees with at first. It goes by
+/// reference, as each way out of a function lets go of what it owns.
+fn replay(core: &mut Core, base: &Base, entries: &[Entry]) -> Result<bool, SetFault>
+    requires begun { Agrees core.old base.now.state }
+    requires before { AreFew (entries_of base.now []) base.now.state }
+    requires few { entries_of base.now entries.now ≤ longest_history }
+    ensures legal { IfOk result
+        (λ is_legal. IsTrue is_legal ↔ IsLegal base.now.state entries.now) }
     ensures fault { IfErr result (λ fault. fault ≡ SetFault.NoMemory) }
 {
     let mut answer = Answer::Done;
@@ -54,6 +75,7 @@ fn replay(core: &mut Core, config: &SetConfig, entries: &[Entry]) -> Result<bool
 ///
 /// Faults: 2 [`SetFault::Exhausted`] exactly where there are more than 2^48, tested first;
 /// 1 [`SetFault::NoMemory`] only where memory was refused.
+#[tactic(auto, using(crate::proofs::Keeping::opened_entries))]
 pub fn audit_history(
     alloc: Global,
     config: &SetConfig,
@@ -64,24 +86,42 @@ pub fn audit_history(
     ensures exhausted { (result ≡ Err SetFault.Exhausted)
         ↔ (longest_history < length entries.entry) }
 {
-    if entries.len() > LONGEST_HISTORY {
+    if entries.len() as u64 > LONGEST_HISTORY {
         return Err(SetFault::Exhausted);
     }
-    let mut core = Core::new(alloc, config)?;
-    replay_history(alloc, &mut core, config, entries)
+    let opening = Base::opening(alloc, config)?;
+    audit_history_from(alloc, &opening, entries)
+}
+
+/// [`audit_from`] of a history where it's kept: the entries that are left to read.
+///
+/// Faults: 2 [`SetFault::Exhausted`] exactly where those before the base and these are more than 2^48, tested first;
+/// 1 [`SetFault::NoMemory`] only where memory was refused.
+pub fn audit_history_from(alloc: Global, base: &Base, entries: Reader<'_>) -> Result<bool, SetFault>
+    ensures legal { IfOk result
+        (λ is_legal. IsTrue is_legal ↔ IsLegal base.now.state entries.entry) }
+    ensures exhausted { (result ≡ Err SetFault.Exhausted)
+        ↔ (longest_history < entries_of base.now entries.entry) }
+{
+    if entries.len() as u64 > base.room() {
+        return Err(SetFault::Exhausted);
+    }
+    let mut core = base.core()?;
+    replay_history(alloc, &mut core, base, entries)
 }
 
 /// [`replay`] of the entries that are left to read.
 fn replay_history(
     alloc: Global,
     core: &mut Core,
-    config: &SetConfig,
+    base: &Base,
     entries: Reader<'_>,
 ) -> Result<bool, SetFault>
-    requires opened { Agrees core.old (new_state config.now) }
-    requires few { length entries ≤ longest_history }
+    requires begun { Agrees core.old base.now.state }
+    requires before { AreFew (entries_of base.now []) base.now.state }
+    requires few { entries_of base.now entries ≤ longest_history }
     ensures legal { IfOk result
-        (λ is_legal. IsTrue is_legal ↔ IsLegal (new_state config.now) entries.entry) }
+        (λ is_legal. IsTrue is_legal ↔ IsLegal base.now.state entries.entry) }
     ensures fault { IfErr result (λ fault. fault ≡ SetFault.NoMemory) }
 {
     let mut left = entries;

@@ -1,29 +1,33 @@
-//! The set: what it holds, and the history of all that was asked and answered.
+//! The set: what it goes on from, what it holds, and the history of all that was asked and answered since.
 ghost use Rattle.std.specs.Prelude.{◌≡◌};
+ghost use Rattle.set_model.specs.Checkpoint.{checkpointed};
+ghost use Rattle.set_model.specs.Rows.{numbers};
 
-use super::tally::Tally;
+use super::base::Base;
+use super::tally::{LONGEST_HISTORY, Tally};
+use boxcar::tag::{Names, Tag};
 use set_events::{Actor, Answer, Books, Counts, Event, Fate, SetConfig};
 use set_history::{History, Reader};
 use set_step::{Core, Numbered, SetFault};
 use std::alloc::Global;
 use std::marker::Model;
 
-/// The most entries of a history, 2^48.
-pub(crate) const LONGEST_HISTORY: usize = 0x1_0000_0000_0000;
-
-/// One set of links. Contracts see what it held when it was opened, what it holds, and its history.
+/// One set of links. Contracts see its base, which is the opening or its last checkpoint, what it holds, and its
+/// history since the base.
 ///
-/// Readers: [`SetCore::place_of`], [`SetCore::counts`], [`SetCore::books`], [`SetCore::acknowledged`],
+/// Readers: [`SetCore::base`], [`SetCore::place_of`], [`SetCore::counts`], [`SetCore::books`], [`SetCore::acknowledged`],
 /// [`SetCore::history`], [`SetCore::config`], [`SetCore::links`], [`SetCore::is_up`], [`SetCore::is_settled`],
 /// [`SetCore::unacked_at`].
 /// The one input: [`SetCore::apply`], or [`SetCore::apply_into`], which puts the answer where the caller has room for it.
+/// [`SetCore::checkpoint`] makes what it holds its base.
 ///
-/// What it holds is what the history leads to from the opening. Of every value it holds that the history
-/// is legal, that what is kept ([`SetCore::kept`]) agrees with what it leads to, and that the tally is the
-/// history's; [`SetCore::replays`] and the readers say so.
+/// What it holds is what the history leads to from the base. Of every value it holds that the history
+/// is legal, that what is kept ([`SetCore::kept`]) agrees with what it leads to, and that the tally is that of
+/// all entries since the opening; [`SetCore::replays`] and the readers say so.
 #[derive(Drop)]
 pub struct SetCore {
     config: SetConfig,
+    base: Base,
     core: Core,
     tally: Tally,
     history: History,
@@ -34,23 +38,32 @@ impl Model for SetCore {
 
     ghost Value = { LinkSet };
 
-    ghost use Rattle.set_model.specs.History.{opening_of};
+    ghost use Rattle.std.specs.Prelude.{◌≡◌};
+    ghost use Rattle.set_model.specs.State.{settings_of};
     ghost use Rattle.set_core.specs.Keeping.{with_history, IsKept};
 
-    ghost view = { λ s. with_history (opening_of s.config) s.history.items };
+    ghost view = { λ s. with_history s.base s.history.items };
 
-    ghost invariant = { λ s. IsKept (opening_of s.config) s.core s.tally s.history.items };
+    ghost invariant = { λ s. (IsKept s.base s.core s.tally s.history.items)
+        × (settings_of s.config ≡ s.base.state.settings) };
+}
+
+/// The messages that a checkpoint keeps, in the order of queueing.
+struct KeptRows;
+
+impl Names<SetCore> for KeptRows {
+    ghost numbers = { λ set. numbers (checkpointed set.state).rows };
 }
 
 impl SetCore {
     ghost use Rattle.std.specs.Prelude.{◌≡◌, ◌<◌, ◌≤◌, ◌^◌, ◌↔◌, ◌+◌, IfOk, IfErr, OnOk, OnErr, length, sum};
-    ghost use Rattle.set_model.specs.State.{given, link_count, is_up as is_up_in, is_settled as is_settled_in, unacked_in};
+    ghost use Rattle.set_model.specs.State.{given, settings_of, link_count, is_up as is_up_in, is_settled as is_settled_in, unacked_in};
     ghost use Rattle.set_model.specs.Sound.{IsSound};
     ghost use Rattle.set_model.specs.Rows.{place, total_of};
     ghost use Rattle.set_model.specs.Checkpoint.{counts_in};
     ghost use Rattle.set_core.specs.Gaining.{BooksGain, AreBounded};
     ghost use Rattle.set_moves.specs.Agreement.{Agrees};
-    ghost use Rattle.set_model.specs.History.{new_set, opening_of, IsStep, IsActor, IsLegal, after, books_in, entries_in, longest_history};
+    ghost use Rattle.set_model.specs.History.{new_set, based, IsStep, IsActor, IsLegal, after, books_in, entries_in, longest_history};
 
     /// A set as this configuration has it: no messages, no link up, no history.
     ///
@@ -61,6 +74,7 @@ impl SetCore {
     {
         Ok(SetCore {
             config: *config,
+            base: Base::opening(alloc, config)?,
             core: Core::new(alloc, config)?,
             tally: Tally::new(),
             history: History::new(alloc),
@@ -71,8 +85,8 @@ impl SetCore {
     /// those of its step, and the entry stands last in the history. The books gain a call of the
     /// actor, and the message if one was accepted.
     ///
-    /// Refusals are answers. Faults: 2 [`SetFault::Exhausted`] exactly where the history has 2^48
-    /// entries, tested first; 1 [`SetFault::NoMemory`] only where memory was refused. After a fault
+    /// Refusals are answers. Faults: 2 [`SetFault::Exhausted`] exactly where 2^48 entries were made
+    /// since the opening, tested first; 1 [`SetFault::NoMemory`] only where memory was refused. After a fault
     /// the set is as it was, and no entry was made.
     pub fn apply(&mut self, who: Actor, event: &Event) -> Result<Answer, SetFault>
         requires { IsActor who }
@@ -118,10 +132,41 @@ impl SetCore {
         Ok(())
     }
 
-    /// The configuration that the set was opened with, from which [`crate::audit`] replays its history.
-    /// Contracts see of it what the opening shows.
+    /// A checkpoint: what the set holds becomes its base, its history begins anew, and each message of which nothing
+    /// more can become leaves it and is counted. Books and counts stay as they are, and so does each other message,
+    /// with its number, its body, its fate and its place in the order of queueing.
+    ///
+    /// It's no event and makes no entry. Fault: 1 [`SetFault::NoMemory`], only where memory was refused; the set is
+    /// then as it was.
+    pub fn checkpoint(&mut self) -> Result<(), SetFault>
+        ensures ok { OnOk result (self.new ≡ based self.old) }
+        ensures books { OnOk result (books_in self.new ≡ books_in self.old) }
+        ensures counts { OnOk result (counts_in self.new.state ≡ counts_in self.old.state) }
+        ensures entries { OnOk result (entries_in self.new ≡ entries_in self.old) }
+        ensures err { OnErr result (self.new ≡ self.old) }
+        ensures fault { IfErr result (λ fault. fault ≡ SetFault.NoMemory) }
+    {
+        let kept = self.core.kept()?;
+        let again = kept.copied()?;
+        let order = Tag::of::<SetCore, KeptRows>(self);
+        // all memory is taken by now
+        self.base = Base::of(again, self.tally, order);
+        self.core = kept;
+        self.history.clear();
+        Ok(())
+    }
+
+    /// What the set goes on from, and its history starts at: the opening, or its last checkpoint.
+    pub fn base(&self) -> &Base
+        ensures { result.now ≡ self.now.base }
+    {
+        &self.base
+    }
+
+    /// The configuration that the set was opened with. Contracts see of it the settings, which no event and no
+    /// checkpoint changes.
     pub fn config(&self) -> &SetConfig
-        ensures { opening_of result.now ≡ self.now.base }
+        ensures { settings_of result.now ≡ self.now.base.state.settings }
     {
         &self.config
     }
@@ -148,7 +193,7 @@ impl SetCore {
         self.core.is_settled(link)
     }
 
-    /// Where the message of this number stands; none has it: `None`.
+    /// Where the message of this number stands; it was never given out, or left at a checkpoint: `None`.
     pub fn place_of(&self, number: u64) -> Option<Fate>
         ensures { result ≡ place number self.now.state.rows }
     {
@@ -162,7 +207,7 @@ impl SetCore {
         self.core.numbers_given()
     }
 
-    /// How many messages stand in each place; each message that was accepted stands in one.
+    /// How many of the users' messages stand in each place, or ended there; each that was accepted counts in one.
     pub fn counts(&self) -> Counts
         ensures value { result ≡ counts_in self.now.state }
         ensures all { total_of result ≡ (books_in self.now).messages }
@@ -180,8 +225,8 @@ impl SetCore {
         self.core.unacked_at(link, place)
     }
 
-    /// What the history adds up to: each entry is the call of one actor, and the messages stand in
-    /// the places that [`SetCore::counts`] tells.
+    /// What all entries since the opening add up to: each is the call of one actor, and the messages stand, or
+    /// ended, in the places that [`SetCore::counts`] tells.
     pub fn books(&self) -> Books
         ensures value { result ≡ books_in self.now }
         ensures bounded { AreBounded result }
@@ -204,22 +249,22 @@ impl SetCore {
         self.core.counts().acked
     }
 
-    /// How many calls of actors there were since the opening: each has an entry.
-    #[tactic(auto, using(crate::proofs::Keeping::opened_entries))]
-    fn entries(&self) -> usize
-        ensures { result ≡ entries_in self.now }
+    /// How many entries were made since the opening.
+    pub fn entries(&self) -> u64
+        ensures value { result ≡ entries_in self.now }
+        ensures short { result ≤ longest_history }
     {
-        self.history.len()
+        self.tally.entries
     }
 
-    /// All that was asked and answered, in order.
+    /// All that was asked and answered since the base, in order.
     pub fn history(&self) -> Reader<'_>
         ensures { result ≡ self.now.history }
     {
         self.history.reader()
     }
 
-    /// All that was asked and answered, in order, of a set that is given up. It takes no memory.
+    /// All that was asked and answered since the base, in order, of a set that is given up. It takes no memory.
     pub fn into_history(self) -> History
         ensures { result.items ≡ self.history }
     {
@@ -244,7 +289,7 @@ impl SetCore {
         &self.core
     }
 
-    /// A law: the numbers 0, 1, .. stand in one row each, no link has more than 127 unacknowledged
+    /// A law: no number stands in two rows, no link has more than 127 unacknowledged
     /// messages (4,095 in the wide profile), and the BSN that a link sends is the number of the body it last accepted.
     pub fn is_sound(&self)
         ensures { IsSound self.now.state }

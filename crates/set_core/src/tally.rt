@@ -7,6 +7,9 @@ ghost use Rattle.set_model.specs.Step.{messages_in, octets_of, octets_offered};
 
 use set_events::{Actor, Answer, Event};
 
+/// The most entries of a set since its opening, 2^48.
+pub(crate) const LONGEST_HISTORY: u64 = 0x1_0000_0000_0000;
+
 /// The books of a history, but for what is acknowledged, which is read off the set.
 #[derive(Clone, Copy, Debug)]
 pub struct Tally {
@@ -18,10 +21,13 @@ pub struct Tally {
     pub(crate) messages: u64,
     /// The octets of their bodies.
     pub(crate) octets: u64,
+    /// How many entries were made since the opening, those too that a checkpoint forgot.
+    pub(crate) entries: u64,
 }
 
 impl Tally {
     /// The tally of a set that nothing was asked of.
+    #[tactic(auto, using(crate::proofs::Calls::no_sum))]
     pub(crate) fn new() -> Tally
         ensures { IsTally result no_books }
     {
@@ -30,6 +36,7 @@ impl Tally {
             term_calls: [0; 16],
             messages: 0,
             octets: 0,
+            entries: 0,
         }
     }
 
@@ -40,12 +47,15 @@ impl Tally {
         requires term_calls { (n : ℕ) → slice_index self.old.term_calls n < 2 ^ 63 }
         requires messages { self.old.messages < 2 ^ 63 }
         requires octets { self.old.octets < 2 ^ 63 }
+        requires entries { self.old.entries < 2 ^ 63 }
         requires body { octets_of event.now answer.now ≤ 273 }
         ensures user_calls { self.new.user_calls ≡ users_after who self.old.user_calls }
         ensures term_calls { self.new.term_calls ≡ terminals_after who self.old.term_calls }
         ensures messages { self.new.messages ≡ self.old.messages + messages_in answer.now }
         ensures octets { self.new.octets ≡ self.old.octets + octets_of event.now answer.now }
+        ensures entries { self.new.entries ≡ self.old.entries + 1 }
     {
+        self.entries += 1;
         self.count_call(who);
         if let Answer::Accepted { .. } = answer {
             self.messages += 1;
@@ -62,6 +72,7 @@ impl Tally {
         ensures term_calls { self.new.term_calls ≡ terminals_after who self.old.term_calls }
         ensures messages { self.new.messages ≡ self.old.messages }
         ensures octets { self.new.octets ≡ self.old.octets }
+        ensures entries { self.new.entries ≡ self.old.entries }
     {
         match who {
             Actor::User(number) => self.user_calls[usize::from(number)] += 1,

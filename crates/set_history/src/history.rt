@@ -83,6 +83,14 @@ impl History {
         self.records.push_reserved(record);
     }
 
+    /// Forgets all entries, and gives their memory back.
+    pub fn clear(&mut self)
+        ensures { self.new.items ≡ [] }
+    {
+        let alloc = *self.records.allocator();
+        *self = History::new(alloc);
+    }
+
     /// The entries in order, from the first on.
     pub fn reader(&self) -> Reader<'_>
         ensures { result ≡ self.now.items }

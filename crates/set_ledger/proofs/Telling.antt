@@ -1,9 +1,8 @@
 -- What a set tells of its settings and its totals.
-use Rattle.std.proofs.Common.{◌≡◌, ◌∙◌, ap, sym, subst, ◌≤◌, ℕ, length}
-use Rattle.set_core.proofs.Keeping.{opened_entries}
+use Rattle.std.proofs.Common.{◌≡◌, ◌∙◌, ap, sym, subst, ◌≤◌, ℕ}
 use Rattle.set_events.specs.declared.books.Books.{Books}
 use Rattle.set_events.specs.declared.config.SetConfig.{SetConfig}
-use Rattle.set_model.specs.History.{Base, LinkSet, IsLegal, after, books_in, entries_in, entries_of, longest_history, opening_of}
+use Rattle.set_model.specs.History.{Base, LinkSet, IsLegal, after, books_in, entries_in, longest_history, opening_of}
 use Rattle.set_model.specs.State.{Settings, settings_of}
 use Rattle.set_ledger.specs.declared.share.SeatShare.{SeatShare}
 use Rattle.set_ledger.specs.Openings.{IsSetOf, opening_with}
@@ -19,13 +18,17 @@ set_of settings set is legal agrees short = record {
 }
 
 -- an opening has the settings that it was made with
-pub settings_told : (config : SetConfig) (base : Base) (settings : Settings) → opening_of config ≡ base → base ≡ opening_with settings → settings_of config ≡ settings
-settings_told config base settings told is = ap (λ (b : Base). b.state.settings) (told ∙ is)
+pub settings_told : (config : SetConfig) (base : Base) (settings : Settings) → settings_of config ≡ base.state.settings → base ≡ opening_with settings → settings_of config ≡ settings
+settings_told config base settings told is = told ∙ ap (λ (b : Base). b.state.settings) is
 
--- totals are read off the history's length and the books
-pub totals_told : (set : LinkSet) (config : SetConfig) (books : Books) (calls : ℕ) → opening_of config ≡ set.base → books ≡ books_in set → calls ≡ length set.history → AreTotals (totals_of calls books.messages books.octets books.acknowledged) set
-totals_told set config books calls told are many = record {
-  calls_is = many ∙ sym (opened_entries config set.history) ∙ ap (λ (base : Base). entries_of base set.history) told;
+-- and is told by them
+pub opening_told : (config : SetConfig) (base : Base) (settings : Settings) → settings_of config ≡ base.state.settings → base ≡ opening_with settings → opening_of config ≡ base
+opening_told config base settings told is = ap opening_with (settings_told config base settings told is) ∙ sym is
+
+-- totals are read off the entries and the books
+pub totals_told : (set : LinkSet) (books : Books) (calls : ℕ) → books ≡ books_in set → calls ≡ entries_in set → AreTotals (totals_of calls books.messages books.octets books.acknowledged) set
+totals_told set books calls are many = record {
+  calls_is = many;
   messages_is = ap (λ (b : Books). b.messages) are;
   octets_is = ap (λ (b : Books). b.octets) are;
   acknowledged_is = ap (λ (b : Books). b.acknowledged) are;

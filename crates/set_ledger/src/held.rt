@@ -146,11 +146,9 @@ impl<C: Opening, M: Ledger, O: Ledger, A: Ledger> Held<C, M, O, A> {
         ensures value { result ≡ self.now.totals }
         ensures adds_up { AreTotals result self.now.set }
     {
-        // the history is that since the opening
-        self.core.config();
         let books = self.core.books();
         SeatShare {
-            calls: self.core.history().len() as u64,
+            calls: self.core.entries(),
             messages: books.messages,
             octets: books.octets,
             acknowledged: books.acknowledged,

@@ -12,6 +12,8 @@ mod changeback;
 #[cfg(test)]
 mod changeover;
 #[cfg(test)]
+mod checkpoints;
+#[cfg(test)]
 mod coming_back;
 #[cfg(test)]
 mod events;

@@ -8,7 +8,7 @@ use std::alloc::Global;
 use std::test::Fail;
 
 /// The stream of each message here, but where each link has its own.
-const STREAM: u8 = 3;
+pub(crate) const STREAM: u8 = 3;
 
 /// A body of a message of this stream.
 fn body_of(stream: u8) -> ArrayVec<u8, LONGEST_BODY> {
@@ -25,18 +25,18 @@ fn sends_message(set: &mut SetCore, link: u8, stream: u8, fsn: u64) -> bool {
 }
 
 /// Link 0 sends the message of this number, under its FSN: both run from 0 on.
-fn sends_number(set: &mut SetCore, number: u64) -> bool {
+pub(crate) fn sends_number(set: &mut SetCore, number: u64) -> bool {
     sends_message(set, 0, STREAM, number)
 }
 
 /// Link 0 hears of so many messages more, the last of this number.
-fn are_acknowledged(set: &mut SetCore, messages: u16, last: u64) -> bool {
+pub(crate) fn are_acknowledged(set: &mut SetCore, messages: u16, last: u64) -> bool {
     let head = head_of(last, 127);
     heard(set, 0, Unit::Fisu { head }) == Some(report_of(messages, Took::Nothing))
 }
 
 /// The message is offered, sent and acknowledged.
-fn goes(alloc: Global, set: &mut SetCore, number: u64) -> bool {
+pub(crate) fn goes(alloc: Global, set: &mut SetCore, number: u64) -> bool {
     let fsn = (number % 128) as u16;
     is_accepted(alloc, set, &message_of(STREAM), number)
         && sends_number(set, number)

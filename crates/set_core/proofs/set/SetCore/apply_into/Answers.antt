@@ -1,6 +1,6 @@
-use Rattle.std.proofs.Common.{arith, ◌≡◌, ◌∙◌, ap, ◌<◌, ◌≤◌, ◌^◌, ◌∷◌, [], ◌++◌, ℕ, List}
+use Rattle.std.proofs.Common.{arith, ◌≡◌, ◌∙◌, ap, ◌<◌, ◌≤◌, ◌^◌, ◌∷◌, [], ◌++◌, ℕ, List, subst, sym}
 use Rattle.set_events.specs.declared.history.Entry.{Entry}
-use Rattle.set_model.specs.History.{Base, LinkSet, after, books_of, entries_in, entries_of, opening_of}
+use Rattle.set_model.specs.History.{Base, LinkSet, after, books_of, entries_in, entries_of}
 use Rattle.set_model.specs.Step.{step}
 use Rattle.set_model.proofs.Staying.{step_gains}
 use Rattle.set_step.specs.Answering.{AnswersFor}
@@ -14,7 +14,7 @@ abbrev entry : After-push → Entry
 entry c = record { who = c.args.who; event = c.args.event.now; answer = c.apply.new.answer }
 
 abbrev base : After-push → Base
-base c = opening_of c.self.inside.config
+base c = c.self.inside.base
 
 -- the entry stands last
 grown : (c : After-push) → c.push.new.self.items ≡ c.self.inside.history.items ++ entry c ∷ []
@@ -22,41 +22,41 @@ grown c = c.push.ensures ∙ ap (λ (xs : List Entry). xs ++ entry c ∷ []) c.r
 
 -- what is kept agreed with the state after the history, and is answered for
 told : (c : After-push) → AnswersFor (step (after (base c).state c.self.inside.history.items) (entry c).event) (entry c).answer c.apply.new.self
-told c = c.in_ok-apply.ensures.ok (after (base c).state c.self.inside.history.items) c.self.invariant.agrees
+told c = c.in_ok-apply.ensures.ok (after (base c).state c.self.inside.history.items) c.self.invariant.0.agrees
 
 kept : (c : After-push) → IsKept (base c) c.apply.new.self c.count.new.self c.push.new.self.items
 kept c =
-    let k = c.self.invariant in
+    let k = c.self.invariant.0 in
     let same : entries_of (base c) c.self.inside.history.items ≡ entries_in c.args.self.now = ap (λ (set : LinkSet). entries_in set) c.self.view_is in
-    let room : entries_of (base c) c.self.inside.history.items < 2 ^ 48 = omega (arith, c.if-entries-ge-LONGEST_HISTORY.false, c.entries.ensures, same) in
-    rw (grown c) (kept_more (base c) c.self.inside.core c.apply.new.self c.self.inside.history.items (entry c) c.requires k.agrees (told c) c.self.inside.tally c.count.new.self k room
-    (record { user_calls = c.count.ensures.user_calls; term_calls = c.count.ensures.term_calls; messages = c.count.ensures.messages; octets = c.count.ensures.octets }))
+    let room : entries_of (base c) c.self.inside.history.items < 2 ^ 48 = omega (arith, c.if-entries-ge-LONGEST_HISTORY.false, c.entries.ensures.value, same) in
+    subst (λ (entries : List Entry). IsKept (base c) c.apply.new.self c.count.new.self entries) (sym (grown c)) (kept_more (base c) c.self.inside.core c.apply.new.self c.self.inside.history.items (entry c) c.requires k.agrees (told c) c.self.inside.tally c.count.new.self k room
+    (record { user_calls = c.count.ensures.user_calls; term_calls = c.count.ensures.term_calls; messages = c.count.ensures.messages; octets = c.count.ensures.octets; entries = c.count.ensures.entries }))
 
 pub apply-requires : goal.apply-requires
 apply-requires c =
-    let k = c.self.invariant in
-    let s = after (opening_of c.self.inside.config).state c.self.inside.history.items in
-    (s, k.agrees, few_more (entries_of (opening_of c.self.inside.config) c.self.inside.history.items) (2 ^ 48) s k.short k.few)
+    let k = c.self.invariant.0 in
+    let s = after c.self.inside.base.state c.self.inside.history.items in
+    (s, k.agrees, few_more (entries_of c.self.inside.base c.self.inside.history.items) (2 ^ 48) s k.short k.few)
 
 pub count-requires-clause-user_calls : goal.count-requires-clause-user_calls
 count-requires-clause-user_calls c n =
-    let k = c.self.invariant in
+    let k = c.self.invariant.0 in
     let calls = k.calls in
     let short = k.short in
     let counted = k.counted.user_calls in
-    rw counted (omega (arith, in_sum (books_of (opening_of c.self.inside.config) c.self.inside.history.items).user_calls n, calls, short))
+    rw counted (omega (arith, in_sum (books_of c.self.inside.base c.self.inside.history.items).user_calls n, calls, short))
 
 pub count-requires-clause-term_calls : goal.count-requires-clause-term_calls
 count-requires-clause-term_calls c n =
-    let k = c.self.invariant in
+    let k = c.self.invariant.0 in
     let calls = k.calls in
     let short = k.short in
     let counted = k.counted.term_calls in
-    rw counted (omega (arith, in_sum (books_of (opening_of c.self.inside.config) c.self.inside.history.items).term_calls n, calls, short))
+    rw counted (omega (arith, in_sum (books_of c.self.inside.base c.self.inside.history.items).term_calls n, calls, short))
 
 pub count-requires-clause-messages : goal.count-requires-clause-messages
 count-requires-clause-messages c =
-    let k = c.self.invariant in
+    let k = c.self.invariant.0 in
     let counted = k.counted.messages in
     let few = k.messages in
     let short = k.short in
@@ -64,29 +64,37 @@ count-requires-clause-messages c =
 
 pub count-requires-clause-octets : goal.count-requires-clause-octets
 count-requires-clause-octets c =
-    let k = c.self.invariant in
+    let k = c.self.invariant.0 in
     let counted = k.counted.octets in
     let few = k.octets in
     let short = k.short in
     omega (arith, counted, few, short)
 
+pub count-requires-clause-entries : goal.count-requires-clause-entries
+count-requires-clause-entries c =
+    let k = c.self.invariant.0 in
+    let calls = k.calls in
+    let short = k.short in
+    let counted = k.counted.entries in
+    omega (arith, counted, calls, short)
+
 pub count-requires-clause-body : goal.count-requires-clause-body
 count-requires-clause-body c =
-    let k = c.self.invariant in
-    let s = after (opening_of c.self.inside.config).state c.self.inside.history.items in
+    let k = c.self.invariant.0 in
+    let s = after c.self.inside.base.state c.self.inside.history.items in
     let told = c.in_ok-apply.ensures.ok s k.agrees in
     rw told.answer_is (step_gains s c.args.event.now k.agrees.sound.managed).octets
 
 pub invariant_of-self-2 : goal.invariant_of-self-2
-invariant_of-self-2 c = kept c
+invariant_of-self-2 c = (kept c, c.self.invariant.1)
 
 pub returns-clause-ok : goal.returns-clause-ok
 returns-clause-ok c =
-    rw (← c.self.view_is, grown c) (is_step (base c) c.self.inside.core c.apply.new.self c.self.inside.history.items (entry c) c.requires c.self.invariant.agrees (told c))
+    rw (← c.self.view_is, grown c) (is_step (base c) c.self.inside.core c.apply.new.self c.self.inside.history.items (entry c) c.requires c.self.invariant.0.agrees (told c))
 
 pub returns-clause-gains : goal.returns-clause-gains
 returns-clause-gains c =
-    let k = c.self.invariant in
+    let k = c.self.invariant.0 in
     rw (← c.self.view_is, grown c) (gained (base c) c.self.inside.core c.apply.new.self c.self.inside.history.items (entry c) c.requires k.agrees (told c) k.users k.terminals)
 
 pub returns-clause-bounded : goal.returns-clause-bounded

@@ -1,9 +1,17 @@
-use Rattle.std.proofs.Common.{arith, ◌≡◌, ap, sym, subst, length}
+use Rattle.std.proofs.Common.{arith, ◌≡◌, ◌∙◌, ap, sym, subst, length}
 use Rattle.set_ledger.specs.declared.share.SeatShare.{SeatShare}
 use Rattle.set_ledger.specs.Ending.{AreFaithful}
 use Rattle.set_ledger.specs.Totals.{HeldState}
 use Rattle.set_ledger.proofs.Closing.{complete_lengths, whole_sum, whole_sums, closes}
+use Rattle.set_ledger.proofs.Telling.{opening_told, settings_told}
 use Rattle.set_ledger.proofs.held.Held.closed.Goals as goal
+
+pub returns-clause-config : goal.returns-clause-config
+returns-clause-config g c =
+    opening_told c.config-config.result.now c.self.inside.core.base g.C.Opening.settings c.config-config.ensures c.self.invariant.2 ∙ ap (λ (h : HeldState). h.set.base) c.self.view_is
+
+pub returns-clause-opening : goal.returns-clause-opening
+returns-clause-opening g c = settings_told c.config-config.result.now c.self.inside.core.base g.C.Opening.settings c.config-config.ensures c.self.invariant.2
 
 -- all seats are there, so together they have every part of each ledger
 pub returns-clause-closed : goal.returns-clause-closed
@@ -24,7 +32,7 @@ returns-clause-closed g c =
     let messages_cut = cut.messages_cut in
     let octets_cut = cut.octets_cut in
     let acked_cut = cut.acknowledged_cut in
-    rw (c.config-config.ensures, c.into_history.ensures) (closes us ts c.self.inside.core c.books-books.result c.counts-counts.result
+    rw (opening_told c.config-config.result.now c.self.inside.core.base g.C.Opening.settings c.config-config.ensures c.self.invariant.2, c.into_history.ensures) (closes us ts c.self.inside.core c.books-books.result c.counts-counts.result
     c.self.inside.calls.total c.self.inside.messages.total c.self.inside.octets.total c.self.inside.acknowledged.total
     c.replays.ensures.legal c.replays.ensures.agrees c.books-books.ensures.value c.counts-counts.ensures.value faithful totals
     (whole_sums (λ (share : SeatShare). share.calls) us ts _ _ _ _ _ _ _ _ rest.no_parts.0 rest.no_amount.0 c.merge_users.ensures.calls c.merge_terminals.ensures.calls (omega (arith, users_are, links_are, many, many_links, calls_cut)) c.audit.ensures.whole)
