@@ -13,6 +13,7 @@ pub mod LineLemmas
 pub mod FlagLemmas
 pub mod CountingLemmas
 pub mod MarkLemmas
+pub mod TwoMarkLemmas
 pub mod DeframingLemmas
 pub mod WindowLemmas
 pub mod FeedingLemmas

@@ -112,3 +112,10 @@ pub record FeedsUpTo (past bits rest : List Bool) (deframer : Deframer) (mark : 
   pub stands : StandsFor (past ++ taken) deframer
   pub marks : AreMarks past taken (option_to_list mark)
   pub last : mark ≢ None → NoneBeforeLast past taken
+
+-- the first of these bits were taken, with which these marks end
+pub record MarkedUpTo (past bits rest : List Bool) (deframer : Deframer) (marks : List Mark) : Type 0 where
+  pub taken : List Bool
+  pub split : bits ≡ taken ++ rest
+  pub stands : StandsFor (past ++ taken) deframer
+  pub are : AreMarks past taken marks

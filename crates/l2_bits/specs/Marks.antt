@@ -1,5 +1,5 @@
 -- What the error rate monitors are told of the bits of a line (Q.703 4.1, 10.2, 10.3)
-use Rattle.std.specs.Prelude.{◌≡◌, ℕ, ◌+◌, ◌%◌, Bool, List, [], ◌∷◌, ◌++◌, length, Option, Some, None}
+use Rattle.std.specs.Prelude.{◌≡◌, ℕ, ◌+◌, ◌%◌, ◌≤◌, Bool, List, [], ◌∷◌, ◌++◌, length, Option, Some, None}
 use Rattle.std.specs.Option.{option_to_list}
 use Rattle.l2_bits.specs.declared.marks.Mark.{Mark}
 use Rattle.l2_bits.specs.declared.marks.Mark.TheVariants.{Good, Bad, Sixteen}
@@ -41,6 +41,12 @@ BitHasOneMark =
 abbrev pub BitsHaveOneList : Type 0
 BitsHaveOneList =
     (past bits : List Bool) (a b : List Mark) → AreMarks past bits a → AreMarks past bits b → a ≡ b
+
+-- eight bits give two marks at most: two flags with bits between them end eight places apart or more, and so do
+-- sixteen octets that are counted
+abbrev pub OctetHasTwoMarks : Type 0
+OctetHasTwoMarks =
+    (past bits : List Bool) (marks : List Mark) → AreMarks past bits marks → length bits ≤ 8 → length marks ≤ 2
 
 -- one bit more adds its mark, if any
 abbrev pub OneBitMore : Type 0

@@ -33,7 +33,7 @@ ghost use Rattle.std.specs.Prelude.{
   take,
 };
 ghost use Rattle.l2_bits.specs.LineBits.{bits_of};
-ghost use Rattle.l2_bits.specs.declared.marks.MarkKind.TheVariants.{Sixteen};
+ghost use Rattle.l2_bits.specs.declared.marks.MarkKind.TheVariants.{Good, Sixteen};
 ghost use Rattle.l2_bits.specs.Flags.{flag, EndsIn, IsFlagEnd};
 ghost use Rattle.l2_bits.specs.Stuffing.{ones};
 ghost use Rattle.l2_bits.specs.Marks.{IsMark, AreMarks};
@@ -47,6 +47,7 @@ ghost use Rattle.l2_bits.specs.Deframing.{
   FeedsUpTo,
   GoesOn,
   mark_of,
+  marked,
   rest_of,
   left_in,
   unit_of,
@@ -118,15 +119,8 @@ impl Deframer {
             StandsFor past self.old → StandsFor (past ++ bit ∷ []) self.new }
         ensures mark { (past : List Bool) → StandsFor past self.old → IsMark past bit result }
     {
-        match self.step(bit)? {
-            MarkKind::Good => {
-                let mut octets = ArrayVec::new();
-                let _ = octets.try_extend_from_slice(self.unit());
-                Some(Mark::Good(octets))
-            }
-            MarkKind::Bad => Some(Mark::Bad),
-            MarkKind::Sixteen => Some(Mark::Sixteen),
-        }
+        let kind = self.step(bit)?;
+        Some(self.ended(kind))
     }
 
     /// Takes the next bit as `feed` does, and gives the kind of its mark alone. The octets of a good unit
@@ -248,10 +242,43 @@ impl Deframer {
         self.step(bit)
     }
 
-    /// Takes the bits of an octet, the lowest first, up to the first with which a mark ends, and gives its
-    /// kind; the others stay for the next call. None where no mark ends with any of them. The octets of a
+    /// Takes an octet of the line, its lowest bit first, and gives the marks that end with its bits, in order, as
+    /// eight calls of `feed` do: two at most, since a unit ends eight bits or more behind the one before it, and
+    /// sixteen octets are 128 bits.
+    pub fn feed_octet(&mut self, octet: u8) -> ArrayVec<Mark, 2>
+        ensures stands { (past : List Bool) → StandsFor past self.old
+            → StandsFor (past ++ bits_of 8 octet) self.new }
+        ensures marks { (past : List Bool) → StandsFor past self.old
+            → AreMarks past (bits_of 8 octet) result.items }
+    {
+        let mut marks = ArrayVec::new();
+        let mut rest = Rest::new(octet);
+        while let Some(kind) = self.feed_rest(&mut rest) {
+            // There is room for each: an octet has two at most.
+            let _ = marks.try_push(self.ended(kind));
+        }
+        marks
+    }
+
+    /// The mark of this kind that has just ended.
+    fn ended(&self, kind: MarkKind) -> Mark
+        ensures { (kind ≡ Good → length (unit_of self.now) ≤ 276) → result ≡ marked kind (unit_of self.now) }
+    {
+        match kind {
+            MarkKind::Good => {
+                let mut octets = ArrayVec::new();
+                let _ = octets.try_extend_from_slice(self.unit());
+                Mark::Good(octets)
+            }
+            MarkKind::Bad => Mark::Bad,
+            MarkKind::Sixteen => Mark::Sixteen,
+        }
+    }
+
+    /// Takes the bits of an octet, or of a few, up to the first with which a mark ends, the lowest first, and gives
+    /// its kind; the others stay for the next call. None where no mark ends with any of them. The octets of a
     /// good unit are those of `unit`.
-    pub fn feed_octet(&mut self, rest: &mut Rest) -> Option<MarkKind>
+    pub fn feed_rest(&mut self, rest: &mut Rest) -> Option<MarkKind>
         ensures marks { (past : List Bool) → StandsFor past self.old →
             FeedsUpTo past (rest_of rest.old) (rest_of rest.new) self.new
             (mark_of result (unit_of self.new)) }
@@ -271,7 +298,7 @@ impl Deframer {
         None
     }
 
-    /// Takes the bits of these octets as `feed_octet` does those of one: up to the first with which a mark ends,
+    /// Takes the bits of these octets as `feed_rest` does those of a few: up to the first with which a mark ends,
     /// and gives its kind; the others stay for the next call. None where no mark ends with any of them.
     pub fn feed_octets(&mut self, octets: &mut Octets<'_>) -> Option<MarkKind>
         ensures marks { (past : List Bool) → StandsFor past self.old →
@@ -281,7 +308,7 @@ impl Deframer {
         ensures fewer { result ≢ None → length (left_in octets.new) < length (left_in octets.old) }
     {
         loop {
-            let mark = self.feed_octet(&mut octets.first);
+            let mark = self.feed_rest(&mut octets.first);
             if mark.is_some() {
                 return mark;
             }

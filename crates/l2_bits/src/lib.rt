@@ -5,9 +5,9 @@
 //!
 //! To the line: `seal` gives the octets of a signal unit with their two check octets behind them
 //! (`check_of` gives those alone), `stuff_into` appends their text to the bits of the line, and
-//! `flag_into` a flag. From the line: a `Deframer` takes its bits one by one (`feed`, `step`) or its octets
-//! (`pass`, `feed_octet`, `feed_octets`), and gives a mark where a signal unit ends, a good one or a damaged one, or where
-//! octet counting tells an error.
+//! `flag_into` a flag. From the line: a `Deframer` takes its bits one by one (`feed`) or its octets (`feed_octet`), and
+//! gives a mark where a signal unit ends, a good one or a damaged one, or where octet counting tells an error. `step`,
+//! `pass`, `feed_rest` and `feed_octets` do so without a copy of a unit's octets, which `unit` lends.
 //!
 //! ```text
 //! octets   BSN BIB | FSN FIB | LI | body, 0 to 273 octets | check bits

@@ -7,7 +7,13 @@ ghost use Rattle.l2_bits.specs.OctetCounting.{
   GoesOn,
   EndsWithUnit,
 };
-ghost use Rattle.l2_bits.specs.Marks.{BitHasOneMark, BitsHaveOneList, OneBitMore, UnitGivesOneGood};
+ghost use Rattle.l2_bits.specs.Marks.{
+  BitHasOneMark,
+  BitsHaveOneList,
+  OctetHasTwoMarks,
+  OneBitMore,
+  UnitGivesOneGood,
+};
 
 use arrayvec::ArrayVec;
 
@@ -20,6 +26,18 @@ pub enum Mark {
     Bad,
     /// Sixteen octets more in octet counting.
     Sixteen,
+}
+
+/// A place for a mark that is empty yet, as an `ArrayVec` of marks fills its own.
+impl Default for Mark {
+    ghost use Rattle.std.specs.Prelude.{◌≡◌};
+    ghost use Rattle.l2_bits.specs.declared.marks.Mark.TheVariants.{Bad};
+
+    ghost is_default = { λ mark. mark ≡ Bad };
+
+    fn default() -> Mark {
+        Mark::Bad
+    }
 }
 
 /// The kind of a mark, without the octets of a good signal unit.
@@ -35,10 +53,11 @@ pub enum MarkKind {
 
 /// Laws over the definitions alone: a bit gives at most one mark, so bits give one list of marks, to which
 /// one bit more adds its own. A sealed text between flags gives one good signal unit and nothing else,
-/// whatever stood before the first flag outside octet counting.
+/// whatever stood before the first flag outside octet counting. An octet gives two marks at most.
 pub fn one_mark()
     ensures one_mark { BitHasOneMark }
     ensures one_list { BitsHaveOneList }
+    ensures two_marks { OctetHasTwoMarks }
     ensures one_more { OneBitMore }
     ensures one_good { UnitGivesOneGood }
 {}

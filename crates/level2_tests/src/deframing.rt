@@ -31,11 +31,11 @@ fn feed_bits(deframer: &mut Deframer, octet: u8, marks: &mut Vec<Mark>) -> Resul
     Ok(())
 }
 
-/// Feeds an octet.
-fn feed_octet(deframer: &mut Deframer, octet: u8, marks: &mut Vec<Mark>) -> Result<(), AllocError> {
+/// Feeds an octet, mark by mark.
+fn feed_rest(deframer: &mut Deframer, octet: u8, marks: &mut Vec<Mark>) -> Result<(), AllocError> {
     let mut rest = Rest::new(octet);
     for _ in 0..9u8 {
-        match deframer.feed_octet(&mut rest) {
+        match deframer.feed_rest(&mut rest) {
             Some(kind) => marks.push(mark_of(deframer, kind))?,
             None => break,
         }
@@ -75,7 +75,18 @@ fn marks_mixed(line: &[u8], marks: &mut Vec<Mark>) -> Result<(), AllocError> {
         if place % 3 == 0 {
             feed_bits(&mut deframer, *octet, marks)?;
         } else if place % 3 == 1 || !deframer.pass(*octet) {
-            feed_octet(&mut deframer, *octet, marks)?;
+            feed_rest(&mut deframer, *octet, marks)?;
+        }
+    }
+    Ok(())
+}
+
+/// The same by octets.
+fn marks_of_octets(line: &[u8], marks: &mut Vec<Mark>) -> Result<(), AllocError> {
+    let mut deframer = Deframer::new();
+    for octet in line {
+        for mark in deframer.feed_octet(*octet) {
+            marks.push(mark)?;
         }
     }
     Ok(())
@@ -101,6 +112,13 @@ fn gives(alloc: Global, line: &[u8], wanted: &[Mark]) -> bool {
 fn gives_mixed(alloc: Global, line: &[u8], wanted: &[Mark]) -> bool {
     let mut marks = Vec::new(alloc);
     let done = marks_mixed(line, &mut marks).is_ok();
+    done && marks.as_slice() == wanted
+}
+
+/// Whether it gives these marks by octets.
+fn gives_by_octets(alloc: Global, line: &[u8], wanted: &[Mark]) -> bool {
+    let mut marks = Vec::new(alloc);
+    let done = marks_of_octets(line, &mut marks).is_ok();
     done && marks.as_slice() == wanted
 }
 
@@ -147,7 +165,32 @@ fn unit_ends_octet_counting(rt: HostRuntime) -> Result<(), Fail> {
     line[0] = 0xFF;
     line[33..].copy_from_slice(&FILL_IN);
     let marks = [Mark::Sixteen, Mark::Sixteen, good(&[0xFF, 0xFF, 0x00])];
-    holds(gives(rt.alloc(), &line, &marks))
+    let alloc = rt.alloc();
+    holds(gives(alloc, &line, &marks) && gives_by_octets(alloc, &line, &marks))
+}
+
+/// Octet counting from the seventh one on; a unit between flags, the second of which ends a bit behind sixteen octets.
+const COUNTED: [u8; 18] = [
+    0xFF, 0x00, 0x00, 0x00, 0x00, 0x00, 0x00, 0x00, 0x00, 0x00, 0x7E, 0x55, 0x55, 0x55, 0xF5, 0xD4, 0x7E, 0x00,
+];
+
+#[test]
+fn eighteen_octets_give_the_marks_of_their_bits(rt: HostRuntime) -> Result<(), Fail> {
+    let marks = [Mark::Sixteen, good(&[0x55, 0x55, 0x55])];
+    let alloc = rt.alloc();
+    holds(gives(alloc, &COUNTED, &marks) && gives_by_octets(alloc, &COUNTED, &marks))
+}
+
+#[test]
+fn an_octet_gives_two_marks() -> Result<(), Fail> {
+    let mut deframer = Deframer::new();
+    let mut before = 0;
+    for octet in COUNTED[..16].iter() {
+        before += deframer.feed_octet(*octet).len();
+    }
+    let marks = deframer.feed_octet(COUNTED[16]);
+    let two = [Mark::Sixteen, good(&[0x55, 0x55, 0x55])];
+    holds(before == 0 && marks.as_slice() == two.as_slice())
 }
 
 #[test]
@@ -164,7 +207,7 @@ fn is_same_by_all(alloc: Global, line: &[u8], marks: &[Mark]) -> bool {
             return false;
         }
     }
-    marks.len() > 4 && gives_mixed(alloc, line, marks)
+    marks.len() > 4 && gives_mixed(alloc, line, marks) && gives_by_octets(alloc, line, marks)
 }
 
 #[test]

@@ -27,7 +27,7 @@ pub(crate) fn hear_bits<D: Door>(
     ensures few { IfOk result (λ counts. (counts.good ≤ length (rest_of rest.old))
         × (counts.bad ≤ length (rest_of rest.old)) × (counts.sixteen ≤ length (rest_of rest.old))) }
 {
-    let Some(kind) = deframer.feed_octet(rest) else {
+    let Some(kind) = deframer.feed_rest(rest) else {
         return Ok(MarkCounts::NONE);
     };
     match mark(inside, door, kind, deframer.unit()) {
@@ -48,7 +48,7 @@ fn drain(deframer: &mut Deframer, rest: &mut Rest)
     ensures { (past : List Bool) → StandsFor past deframer.old
         → FedSome past (rest_of rest.old) deframer.new }
 {
-    match deframer.feed_octet(rest) {
+    match deframer.feed_rest(rest) {
         Some(_kind) => drain(deframer, rest),
         None => {}
     }

@@ -1,54 +1,29 @@
-use Rattle.std.proofs.Common.{◌≡◌, ℕ, ◌++◌, None, ap, sym, ◌∙◌, arith}
+use Rattle.std.proofs.Common.{◌≤◌, length, arith}
 use Rattle.l2_bits.specs.LineBits.{bits_of}
-use Rattle.l2_bits.specs.Deframing.{mark_of, unit_of, rest_of}
-use Rattle.l2_bits.proofs.BitLemmas.{bits_of-zero, length-bits_of}
-use Rattle.l2_bits.proofs.FeedingLemmas.{fed_on, bit_fed, no_kind}
+use Rattle.l2_bits.specs.Deframing.{rest_of}
+use Rattle.l2_bits.proofs.BitLemmas.{length-bits_of}
+use Rattle.l2_bits.proofs.TwoMarkLemmas.{marked_on, has_room, unit_fits, marked_all, pushed}
 use Rattle.l2_bits.proofs.deframing.Deframer.feed_octet.Goals as goal
 
-pub returns-then-rest-eq0-clause-marks : goal.returns-then-rest-eq0-clause-marks
-returns-then-rest-eq0-clause-marks c = λ past is.
-    let first = c.loop-rest.invariant.fed past is in
-    fed_on past _ _ _ c.loop-rest.self c.take_run.new.self None first (c.take_run.ensures.takes (past ++ first.taken) first.stands)
+pub loop-kind-preserved : goal.loop-kind-preserved
+loop-kind-preserved c = λ past is.
+    let bits = bits_of 8 c.args.octet in
+    let first = c.loop-kind.invariant past is in
+    let eight : length bits ≤ 8 = omega (arith, length-bits_of 8 c.args.octet) in
+    let feeds = rw c.in-Some.is at c.feed_rest.ensures.marks in
+    let on = marked_on past bits (rest_of c.loop-kind.rest) (rest_of c.feed_rest.new.rest) c.loop-kind.self c.feed_rest.new.self c.loop-kind.marks.items c.in-Some.kind eight first feeds in
+    let room = has_room past bits (rest_of c.loop-kind.rest) (rest_of c.feed_rest.new.rest) c.loop-kind.self c.feed_rest.new.self c.loop-kind.marks.items c.in-Some.kind eight first feeds in
+    let fits = unit_fits past bits (rest_of c.loop-kind.rest) (rest_of c.feed_rest.new.rest) c.loop-kind.self c.feed_rest.new.self c.loop-kind.marks.items c.in-Some.kind eight first feeds in
+    rw (pushed c.try_push.result (c.try_push.ensures.variant.1 room) c.try_push.ensures.ok, c.ended.ensures fits) on
 
-pub returns-then-rest-eq0-clause-all : goal.returns-then-rest-eq0-clause-all
-returns-then-rest-eq0-clause-all c = λ same.
-    ap (λ (k : ℕ). bits_of k c.take_run.new.rest.bits) c.if-rest-eq0.true ∙ bits_of-zero c.take_run.new.rest.bits
-
-pub returns-then-is_some-clause-marks : goal.returns-then-is_some-clause-marks
-returns-then-is_some-clause-marks c = λ past is.
-    let first = c.loop-rest.invariant.fed past is in
-    let plain = fed_on past _ _ _ c.loop-rest.self c.take_run.new.self None first (c.take_run.ensures.takes (past ++ first.taken) first.stands) in
-    let mark = mark_of c.take_bit-mark.result (unit_of c.take_bit-mark.new.self) in
-    fed_on past _ _ _ c.take_run.new.self c.take_bit-mark.new.self mark plain
-    (rw (c.take_bit-mark.ensures.bits, c.take_bit-mark.ensures.left) (bit_fed (past ++ plain.taken) c.take_run.new.rest.left c.take_run.new.rest.bits c.take_bit-mark.new.self mark (omega arith) (c.take_bit-mark.ensures.stands (past ++ plain.taken) plain.stands) (c.take_bit-mark.ensures.mark (past ++ plain.taken) plain.stands)))
-
-pub returns-then-is_some-clause-fewer : goal.returns-then-is_some-clause-fewer
-returns-then-is_some-clause-fewer c = λ some.
-    omega (
-      arith,
-      c.loop-rest.invariant.fewer,
-      c.take_run.ensures.fewer,
-      c.take_bit-mark.ensures.left,
-      length-bits_of c.take_bit-mark.new.rest.left c.take_bit-mark.new.rest.bits,
-      length-bits_of c.args.rest.now.left c.args.rest.now.bits,
-    )
-
-pub loop-rest-preserved : goal.loop-rest-preserved
-loop-rest-preserved c = record {
-  fed = λ past is.
-      let none : c.take_bit-mark.result ≡ None = no_kind c.take_bit-mark.result (sym c.is_some.ensures ∙ c.if-is_some.false) in
-      let first = c.loop-rest.invariant.fed past is in
-      let plain = fed_on past _ _ _ c.loop-rest.self c.take_run.new.self None first (c.take_run.ensures.takes (past ++ first.taken) first.stands) in
-      let mark = mark_of c.take_bit-mark.result (unit_of c.take_bit-mark.new.self) in
-      rw none at (fed_on past _ _ (rest_of c.take_bit-mark.new.rest) c.take_run.new.self c.take_bit-mark.new.self mark plain
-      (rw (c.take_bit-mark.ensures.bits, c.take_bit-mark.ensures.left) (bit_fed (past ++ plain.taken) c.take_run.new.rest.left c.take_run.new.rest.bits c.take_bit-mark.new.self mark (omega arith) (c.take_bit-mark.ensures.stands (past ++ plain.taken) plain.stands) (c.take_bit-mark.ensures.mark (past ++ plain.taken) plain.stands))));
-  fewer = omega (arith, c.loop-rest.invariant.fewer, c.take_run.ensures.fewer, c.take_bit-mark.ensures.left);
-}
+pub returns-clause-stands : goal.returns-clause-stands
+returns-clause-stands c = λ past is.
+    let feeds = rw c.in_default.is at c.feed_rest.ensures.marks in
+    (marked_all past (bits_of 8 c.args.octet) (rest_of c.loop-kind.rest) (rest_of c.feed_rest.new.rest) c.loop-kind.self c.feed_rest.new.self c.loop-kind.marks.items
+    (c.loop-kind.invariant past is) feeds (c.feed_rest.ensures.all c.in_default.is)).0
 
 pub returns-clause-marks : goal.returns-clause-marks
-returns-clause-marks c = c.loop-rest.invariant.fed
-
-pub returns-clause-all : goal.returns-clause-all
-returns-clause-all c = λ same.
-    let done : c.loop-rest.rest.left ≡ 0 = omega arith in
-    ap (λ (k : ℕ). bits_of k c.loop-rest.rest.bits) done ∙ bits_of-zero c.loop-rest.rest.bits
+returns-clause-marks c = λ past is.
+    let feeds = rw c.in_default.is at c.feed_rest.ensures.marks in
+    (marked_all past (bits_of 8 c.args.octet) (rest_of c.loop-kind.rest) (rest_of c.feed_rest.new.rest) c.loop-kind.self c.feed_rest.new.self c.loop-kind.marks.items
+    (c.loop-kind.invariant past is) feeds (c.feed_rest.ensures.all c.in_default.is)).1
