@@ -1,5 +1,5 @@
 pub mod Feeding
-pub mod Filling
+pub mod Choices
 pub mod Links
 pub mod Rows
 pub mod SixSteps

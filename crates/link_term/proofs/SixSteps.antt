@@ -20,19 +20,19 @@ use Rattle.link_term.specs.declared.counts.Turned.{Turned}
 use Rattle.link_term.specs.declared.counts.Filling.{Filling}
 use Rattle.link_term.specs.declared.fault.TermFault.{TermFault}
 use Rattle.link_term.specs.Faults.{fault_of}
-use Rattle.link_term.specs.Filling.{FillsBits, filling_of, with_unit}
+use Rattle.link_term.specs.Filling.{FillsBits, Taps, filling_of, with_unit}
 use Rattle.link_term.specs.Talking.{Gains, Breaks}
 use Rattle.link_term.specs.Turning.{HearsMarks, BreaksMarks, from_marks, Steps, BrokenSteps, StepsTo, PutsOut, TurnsOnce, TurnBreaks, TurnFails, by_fault, by_profile}
 use Rattle.link_term.proofs.Talking.{gains_joined, breaks_at_first, breaks_at_last}
 
 -- the call that answers a fault of the door tells that one
 pub steps_broken : (past : List Bool) (octet : Option ℕ) (t after : Terminal) (result : Result Turned SetFault) (fault : SetFault)
-    (made made' : List Entry) (faults faults' : List SetFault) → IsErrAnd result (λ e. e ≡ fault)
-    → BrokenSteps past octet t made made' → faults' ≡ faults ++ fault ∷ []
-    → StepsTo past octet t result made made' faults faults' after
-steps_broken past octet t after (Ok turned) fault made made' faults faults' is broke told = absurd is
-steps_broken past octet t after (Err other) fault made made' faults faults' is broke told =
-    (broke, told ∙ ap (λ (f : SetFault). faults ++ f ∷ []) (sym is))
+    (made made' : List Entry) (faults faults' : List SetFault) {T : Type 0} (tells : T → SignalUnit → T → Type 0) (tap tap' : T)
+    → IsErrAnd result (λ e. e ≡ fault) → BrokenSteps past octet t made made' → faults' ≡ faults ++ fault ∷ [] → tap' ≡ tap
+    → StepsTo past octet t result made made' faults faults' after tells tap tap'
+steps_broken past octet t after (Ok turned) fault made made' faults faults' tells tap tap' is broke told none = absurd is
+steps_broken past octet t after (Err other) fault made made' faults faults' tells tap tap' is broke told none =
+    (broke, told ∙ ap (λ (f : SetFault). faults ++ f ∷ []) (sym is), none)
 
 -- a fault at a mark
 pub broken_marks : (past : List Bool) (octet : Option ℕ) (t : Terminal) (made made' : List Entry)
@@ -65,10 +65,11 @@ module _ (past : List Bool) (octet : Option ℕ) (t u : Terminal) (counts : Mark
   }
 
   -- nowhere
-  pub steps_went : (v after : Terminal) (filling : Filling) (later made' : List Entry) → Gains (timed u) mid later v
-      → FillsBits (filled v) filling later made' after
-      → Steps past octet t (record { marks = counts; filling = filling }) made made' after
-  steps_went v after filling later made' timers fills = record {
+  pub steps_went : (v after : Terminal) (filling : Filling) (later made' : List Entry)
+      {T : Type 0} (tells : T → SignalUnit → T → Type 0) (tap tap' : T) → Gains (timed u) mid later v
+      → FillsBits (filled v) filling later made' after tells tap tap'
+      → Steps past octet t (record { marks = counts; filling = filling }) made made' after tells tap tap'
+  steps_went v after filling later made' tells tap tap' timers fills = record {
     marks = heard.marks;
     gives = heard.are;
     chosen = fills.chosen;
@@ -79,18 +80,20 @@ module _ (past : List Bool) (octet : Option ℕ) (t u : Terminal) (counts : Mark
     counts_are = heard.counts_are;
     filling_is = fills.filling_is;
     unchanged = fills.unchanged;
+    told = fills.told;
+    untold = fills.untold;
   }
 
 -- STEPS 1 AND 6.
 
-pub turn_broken : {R : Type 0} (result : Result R TermFault) (told : SetFault) (taken taken' : List ℕ) (t after : Terminal)
-    (made made' : List Entry) (given given' put put' : List ℕ) (faults faults' : List SetFault)
+pub turn_broken : {R T : Type 0} (result : Result R TermFault) (told : SetFault) (taken taken' : List ℕ) (t after : Terminal)
+    (made made' : List Entry) (given given' put put' : List ℕ) (faults faults' : List SetFault) (tap tap' : T)
     → IsErrAnd result (λ e. e ≡ fault_of told) → TurnBreaks taken taken' t made made' given given' put put'
-    → faults' ≡ faults ++ told ∷ []
-    → IfErr result (λ e. TurnFails e faults faults' taken taken' t made made' given given' put put' after)
-turn_broken (Ok turned) told taken taken' t after made made' given given' put put' faults faults' is broke noted = absurd is
-turn_broken (Err fault) told taken taken' t after made made' given given' put put' faults faults' is broke noted =
-    by_fault (record { told = told; fault_is = is; faults_are = noted }) broke
+    → faults' ≡ faults ++ told ∷ [] → tap' ≡ tap
+    → IfErr result (λ e. TurnFails e faults faults' taken taken' t made made' given given' put put' after × (tap' ≡ tap))
+turn_broken (Ok turned) told taken taken' t after made made' given given' put put' faults faults' tap tap' is broke noted none = absurd is
+turn_broken (Err fault) told taken taken' t after made made' given given' put put' faults faults' tap tap' is broke noted none =
+    (by_fault (record { told = told; fault_is = is; faults_are = noted }) broke, none)
 
 -- a unit of the wide profile is told apart by what came of the choice
 narrow_of : (f : Filled) (filling : Filling) → filling ≡ filling_of f → (filling ≡ Filling.Wide → ⊥) → f.narrow ≡ true
@@ -145,59 +148,67 @@ breaks_after taken taken' octet t u made mid made' given given' put put' obeyed 
 -- none
 pub turn_went : (taken taken' : List ℕ) (octet : Option ℕ) (t u v after : Terminal) (turned : Turned)
     (made mid made' : List Entry) (given given' waiting put put_mid put' : List ℕ) (free : ℕ)
-    → Gains (commanded t) made mid u → Steps (line_bits taken) octet u turned mid made' v
+    {T : Type 0} (tells : T → SignalUnit → T → Type 0) (tap tap' : T)
+    → Gains (commanded t) made mid u → Steps (line_bits taken) octet u turned mid made' v tells tap tap'
     → PutsOut v after put_mid put' free → put_mid ≡ put → taken' ≡ taken ++ option_to_list octet → given' ≡ given ++ option_to_list octet
     → (octet ≡ None → waiting ≡ []) → (turned.filling ≡ Filling.Wide → ⊥)
-    → TurnsOnce taken taken' t turned made made' given given' waiting put put' free after
-turn_went taken taken' octet t u v after turned made mid made' given given' waiting put put_mid put' free obeyed steps puts same took gave none not =
-    let all = gains_joined (commanded t) (λ w. from_marks steps.marks w) made mid made' u steps.chosen obeyed steps.gains in record {
-      octet = octet;
-      entries = all.entries;
-      out = put_of puts.has_room v.bits;
-      marks = steps.marks;
-      turn = record {
-        gives = steps.gives;
-        chosen = steps.chosen;
-        went = all.went;
-        narrow = narrow_of steps.chosen turned.filling steps.filling_is not;
-        puts = record {
-          bits = v.bits;
-          appends = steps.appends;
-          has_room = puts.has_room;
-          put_is = refl;
-          after_is = puts.after_is ∙ ap (λ (w : Terminal). record w { bits = left_of puts.has_room v.bits }) steps.after_is;
+    → (turns : TurnsOnce taken taken' t turned made made' given given' waiting put put' free after)
+    × Taps tells turns.turn.chosen.unit tap tap'
+turn_went taken taken' octet t u v after turned made mid made' given given' waiting put put_mid put' free tells tap tap' obeyed steps puts same took gave none not =
+    let all = gains_joined (commanded t) (λ w. from_marks steps.marks w) made mid made' u steps.chosen obeyed steps.gains in (
+      record {
+        octet = octet;
+        entries = all.entries;
+        out = put_of puts.has_room v.bits;
+        marks = steps.marks;
+        turn = record {
+          gives = steps.gives;
+          chosen = steps.chosen;
+          went = all.went;
+          narrow = narrow_of steps.chosen turned.filling steps.filling_is not;
+          puts = record {
+            bits = v.bits;
+            appends = steps.appends;
+            has_room = puts.has_room;
+            put_is = refl;
+            after_is = puts.after_is ∙ ap (λ (w : Terminal). record w { bits = left_of puts.has_room v.bits }) steps.after_is;
+          };
         };
-      };
-      taken_is = took;
-      made_is = all.made_is;
-      given_is = gave;
-      put_is = puts.put_is ∙ ap (λ (p : List ℕ). p ++ put_of puts.has_room v.bits) same;
-      none_waited = none;
-      was_full = puts.was_full;
-      counts_are = steps.counts_are;
-      filling_is = steps.filling_is;
-    }
+        taken_is = took;
+        made_is = all.made_is;
+        given_is = gave;
+        put_is = puts.put_is ∙ ap (λ (p : List ℕ). p ++ put_of puts.has_room v.bits) same;
+        none_waited = none;
+        was_full = puts.was_full;
+        counts_are = steps.counts_are;
+        filling_is = steps.filling_is;
+      },
+      steps.told,
+    )
 
 -- a unit of the wide profile was given
 pub turn_wide : (taken taken' : List ℕ) (octet : Option ℕ) (t u after : Terminal) (turned : Turned)
     (made mid made' : List Entry) (given given' put put' : List ℕ) (faults faults' : List SetFault)
-    → Gains (commanded t) made mid u → Steps (line_bits taken) octet u turned mid made' after
+    {T : Type 0} (tells : T → SignalUnit → T → Type 0) (tap tap' : T)
+    → Gains (commanded t) made mid u → Steps (line_bits taken) octet u turned mid made' after tells tap tap'
     → put' ≡ put → taken' ≡ taken ++ option_to_list octet → given' ≡ given ++ option_to_list octet
     → turned.filling ≡ Filling.Wide → faults' ≡ faults
-    → TurnFails TermFault.Profile faults faults' taken taken' t made made' given given' put put' after
-turn_wide taken taken' octet t u after turned made mid made' given given' put put' faults faults' obeyed steps same took gave is none =
+    → TurnFails TermFault.Profile faults faults' taken taken' t made made' given given' put put' after × (tap' ≡ tap)
+turn_wide taken taken' octet t u after turned made mid made' given given' put put' faults faults' tells tap tap' obeyed steps same took gave is none =
     let all = gains_joined (commanded t) (λ w. from_marks steps.marks w) made mid made' u steps.chosen obeyed steps.gains in
-    let wide = wide_of steps.chosen turned.filling steps.filling_is is in
-    by_profile refl none (record {
-      octet = octet;
-      entries = all.entries;
-      turn = record { marks = steps.marks; gives = steps.gives; chosen = steps.chosen; went = all.went; wide = wide };
-      taken_is = took;
-      made_is = all.made_is;
-      given_is = gave;
-      put_is = same;
-      after_is = steps.unchanged wide;
-    })
+    let wide = wide_of steps.chosen turned.filling steps.filling_is is in (
+      by_profile refl none (record {
+        octet = octet;
+        entries = all.entries;
+        turn = record { marks = steps.marks; gives = steps.gives; chosen = steps.chosen; went = all.went; wide = wide };
+        taken_is = took;
+        made_is = all.made_is;
+        given_is = gave;
+        put_is = same;
+        after_is = steps.unchanged wide;
+      }),
+      steps.untold wide,
+    )
 
 -- what the line gave
 pub took : (octet : Option ℕ) (given given' waiting waiting' : List ℕ)

@@ -27,8 +27,14 @@ with_unit (Some unit) = Filling.Chosen
 abbrev pub filling_of : Filled → Filling
 filling_of f = if f.narrow then with_unit f.unit else Filling.Wide
 
+-- a tap was told of this unit, if any
+abbrev pub Taps : {T : Type 0} → (T → SignalUnit → T → Type 0) → Option SignalUnit → T → T → Type 0
+Taps told None before after = after ≡ before
+Taps told (Some unit) before after = told before unit after
+
 -- the talk of step 5 went, and the unit that was chosen, if any, was appended to what is left to send
-pub record FillsBits (talk : Talk Filled) (filling : Filling) (made made' : List Entry) (after : Terminal) : Type 0 where
+pub record FillsBits (talk : Talk Filled) (filling : Filling) (made made' : List Entry) (after : Terminal)
+    {T : Type 0} (tells : T → SignalUnit → T → Type 0) (tap tap' : T) : Type 0 where
   pub chosen : Filled
   pub gains : Gains talk made made' chosen
   pub appends : Appends chosen.unit chosen.after.bits after.bits
@@ -36,9 +42,12 @@ pub record FillsBits (talk : Talk Filled) (filling : Filling) (made made' : List
   pub filling_is : filling ≡ filling_of chosen
   -- where a unit of the wide profile was given nothing was appended
   pub unchanged : chosen.narrow ≡ false → after ≡ chosen.after
+  -- of the unit the tap was told
+  pub told : Taps tells chosen.unit tap tap'
+  pub untold : chosen.narrow ≡ false → tap' ≡ tap
 
-abbrev pub Fills : Talk Filled → Result Filling SetFault → List Entry → List Entry
-    → List SetFault → List SetFault → Terminal → Type 0
-Fills talk result made made' faults faults' after = MatchResult result
-    (λ filling. FillsBits talk filling made made' after × (faults' ≡ faults))
-    (λ fault. Breaks talk made made' × (faults' ≡ faults ++ fault ∷ []))
+abbrev pub Fills : {T : Type 0} → Talk Filled → Result Filling SetFault → List Entry → List Entry
+    → List SetFault → List SetFault → Terminal → (T → SignalUnit → T → Type 0) → T → T → Type 0
+Fills talk result made made' faults faults' after tells tap tap' = MatchResult result
+    (λ filling. FillsBits talk filling made made' after tells tap tap' × (faults' ≡ faults))
+    (λ fault. Breaks talk made made' × (faults' ≡ faults ++ fault ∷ []) × (tap' ≡ tap))

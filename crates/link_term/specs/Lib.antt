@@ -1,6 +1,5 @@
 pub mod Talking
 pub mod Faults
-pub mod Seats
 pub mod Reading
 pub mod Orders
 pub mod Filling
@@ -9,3 +8,4 @@ pub mod Turning
 pub mod Failing
 pub mod Looking
 pub mod Running
+pub mod States

@@ -2,6 +2,7 @@
 use Rattle.std.specs.Prelude.{◌≡◌, ℕ, Bool, false, List, [], ◌∷◌, ◌++◌, Option, None, Result, MatchResult}
 use Rattle.std.specs.Option.{option_to_list}
 use Rattle.l2_bits.specs.declared.marks.Mark.{Mark}
+use Rattle.l2_units.specs.declared.unit.Unit.{Unit as SignalUnit}
 use Rattle.l2_bits.specs.LineBits.{line_bits}
 use Rattle.l2_bits.specs.Marks.{AreMarks}
 use Rattle.set_events.specs.declared.event.Event.{Event}
@@ -20,7 +21,7 @@ use Rattle.link_term.specs.declared.counts.MarkCounts.{MarkCounts}
 use Rattle.link_term.specs.declared.counts.Turned.{Turned}
 use Rattle.link_term.specs.declared.fault.TermFault.{TermFault}
 use Rattle.link_term.specs.Failing.{HasBroken}
-use Rattle.link_term.specs.Filling.{filling_of}
+use Rattle.link_term.specs.Filling.{filling_of, Taps}
 use Rattle.link_term.specs.Octets.{counts_of}
 use Rattle.link_term.specs.Talking.{Gains, Breaks}
 
@@ -49,7 +50,7 @@ from_marks marks t = and_then (all_marked marks t) (λ t. and_then (timed t) (λ
 
 -- THESE STEPS went, and the unit that was chosen, if any, was appended; so many marks were heard
 pub record Steps (past : List Bool) (octet : Option ℕ) (before : Terminal) (turned : Turned) (made made' : List Entry)
-    (after : Terminal) : Type 0 where
+    (after : Terminal) {T : Type 0} (tells : T → SignalUnit → T → Type 0) (tap tap' : T) : Type 0 where
   pub marks : List Mark
   pub gives : GivesMarks past octet marks
   pub chosen : Filled
@@ -59,6 +60,8 @@ pub record Steps (past : List Bool) (octet : Option ℕ) (before : Terminal) (tu
   pub counts_are : turned.marks ≡ counts_of marks
   pub filling_is : turned.filling ≡ filling_of chosen
   pub unchanged : chosen.narrow ≡ false → after ≡ chosen.after
+  pub told : Taps tells chosen.unit tap tap'
+  pub untold : chosen.narrow ≡ false → tap' ≡ tap
 
 -- a fault broke them off
 pub record BrokenSteps (past : List Bool) (octet : Option ℕ) (before : Terminal) (made made' : List Entry) : Type 0 where
@@ -66,11 +69,11 @@ pub record BrokenSteps (past : List Bool) (octet : Option ℕ) (before : Termina
   pub gives : GivesMarks past octet marks
   pub breaks : Breaks (from_marks marks before) made made'
 
-abbrev pub StepsTo : List Bool → Option ℕ → Terminal → Result Turned SetFault → List Entry → List Entry
-    → List SetFault → List SetFault → Terminal → Type 0
-StepsTo past octet before result made made' faults faults' after = MatchResult result
-    (λ turned. Steps past octet before turned made made' after × (faults' ≡ faults))
-    (λ fault. BrokenSteps past octet before made made' × (faults' ≡ faults ++ fault ∷ []))
+abbrev pub StepsTo : {T : Type 0} → List Bool → Option ℕ → Terminal → Result Turned SetFault → List Entry → List Entry
+    → List SetFault → List SetFault → Terminal → (T → SignalUnit → T → Type 0) → T → T → Type 0
+StepsTo past octet before result made made' faults faults' after tells tap tap' = MatchResult result
+    (λ turned. Steps past octet before turned made made' after tells tap tap' × (faults' ≡ faults))
+    (λ fault. BrokenSteps past octet before made made' × (faults' ≡ faults ++ fault ∷ []) × (tap' ≡ tap))
 
 -- STEP 6: the next octet was put, or the line is full and it stays
 pub record PutsOut (before after : Terminal) (put put' : List ℕ) (free : ℕ) : Type 0 where

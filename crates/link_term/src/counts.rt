@@ -6,12 +6,15 @@ ghost use Rattle.link_term.specs.Octets.{counts_of};
 
 use l2_bits::MarkKind;
 
-/// How many marks of each kind.
+/// How many marks of each kind an octet gave (Q.703 4.1): two in all at most.
 #[derive(Clone, Copy, Debug, PartialEq, Eq)]
-pub(crate) struct MarkCounts {
-    pub(crate) good: u8,
-    pub(crate) bad: u8,
-    pub(crate) sixteen: u8,
+pub struct MarkCounts {
+    /// Good signal units.
+    pub good: u8,
+    /// Damaged ones.
+    pub bad: u8,
+    /// Sixteen octets each, in octet counting.
+    pub sixteen: u8,
 }
 
 impl MarkCounts {
@@ -51,14 +54,16 @@ impl MarkCounts {
 
 /// What a turn did.
 #[derive(Clone, Copy, Debug, PartialEq, Eq)]
-pub(crate) struct Turned {
-    pub(crate) marks: MarkCounts,
-    pub(crate) filling: Filling,
+pub struct Turned {
+    /// How many marks its octet gave.
+    pub marks: MarkCounts,
+    /// What came of the choice of a unit to send.
+    pub filling: Filling,
 }
 
 /// What came of the choice of a unit to send.
 #[derive(Clone, Copy, Debug, PartialEq, Eq)]
-pub(crate) enum Filling {
+pub enum Filling {
     /// Enough was left to send.
     Enough,
     /// A unit was appended to what is left to send.

@@ -1,10 +1,9 @@
 //! What a terminal asks of its link's set, and where tests may step in.
 ghost use Rattle.std.specs.Prelude.{◌≡◌, [], ◌∷◌, ◌++◌, IfOk, IfErr};
-ghost use Rattle.set_core.specs.Gaining.{IsOwn};
+ghost use Rattle.set_events.specs.Owners.{IsOwn};
 ghost use Rattle.set_events.specs.declared.event.Actor.TheVariants.{Terminal};
 
-use set_events::{Answer, Event};
-use set_shared::SetFault;
+use set_events::{Answer, Event, SetFault};
 
 /// The door of a link's set, for the terminal of that link.
 pub trait Door {

@@ -2,7 +2,7 @@
 ghost use Rattle.std.specs.Prelude.{◌≡◌};
 ghost use Rattle.link_term.specs.Faults.{fault_number, fault_of};
 
-use set_shared::SetFault;
+use set_events::SetFault;
 use thiserror::Error;
 
 /// Why a turn wasn't finished. Each later one answers [`TermFault::Failed`].

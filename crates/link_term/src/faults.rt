@@ -2,7 +2,7 @@
 ghost use Rattle.std.specs.Prelude.{◌≡◌, [], ◌∷◌, ◌++◌};
 
 use line_ring::Past;
-use set_shared::SetFault;
+use set_events::SetFault;
 use std::marker::Model;
 
 /// A list of faults that only contracts see, for a door to keep what it answered: it takes no octets at run time, and its

@@ -23,8 +23,7 @@ use l2_flow::FlowIn;
 use l2_signals::{Cause, ControlFault, Status};
 use l2_state::StateIn;
 use l2_units::{Unit, copy_of_unit, header_in, read};
-use set_events::{Answer, Event, Refusal, Report};
-use set_shared::SetFault;
+use set_events::{Answer, Event, Refusal, Report, SetFault};
 use term_core::{Inside, Verdict};
 
 /// A mark of this kind, of these octets where it's a good unit: the monitor that runs is told, and then a unit that is
@@ -39,6 +38,7 @@ pub(crate) fn mark<D: Door>(
     ensures talks { Talks (marked (mark_of kind octets.now) inside.old) result (D.made door.old)
         (D.made door.new) (D.faults door.old) (D.faults door.new) inside.new }
     ensures at { D.number door.new ≡ inside.new.link }
+    ensures number { D.number door.new ≡ D.number door.old }
 {
     match kind {
         MarkKind::Good => match &read(octets) {
@@ -55,6 +55,7 @@ fn damaged<D: Door>(inside: &mut Inside, door: &mut D) -> Result<(), SetFault>
     ensures talks { Talks (brings None inside.old) result (D.made door.old) (D.made door.new)
         (D.faults door.old) (D.faults door.new) inside.new }
     ensures at { D.number door.new ≡ inside.new.link }
+    ensures number { D.number door.new ≡ D.number door.old }
 {
     judge(inside, door, true)
 }
@@ -65,6 +66,7 @@ fn readable<D: Door>(inside: &mut Inside, door: &mut D, unit: &Unit) -> Result<(
     ensures talks { Talks (brings (Some unit.now) inside.old) result (D.made door.old) (D.made door.new)
         (D.faults door.old) (D.faults door.new) inside.new }
     ensures at { D.number door.new ≡ inside.new.link }
+    ensures number { D.number door.new ≡ D.number door.old }
 {
     judge(inside, door, false)?;
     hear(inside, door, unit)
@@ -77,6 +79,7 @@ fn judge<D: Door>(inside: &mut Inside, door: &mut D, error: bool) -> Result<(), 
     ensures talks { Talks (judged error inside.old) result (D.made door.old) (D.made door.new)
         (D.faults door.old) (D.faults door.new) inside.new }
     ensures at { D.number door.new ≡ inside.new.link }
+    ensures number { D.number door.new ≡ D.number door.old }
 {
     match inside.judge(error) {
         Verdict::Fine => Ok(()),
@@ -92,6 +95,7 @@ fn hear<D: Door>(inside: &mut Inside, door: &mut D, unit: &Unit) -> Result<(), S
     ensures talks { Talks (heard (Some unit.now) inside.old) result (D.made door.old) (D.made door.new)
         (D.faults door.old) (D.faults door.new) inside.new }
     ensures at { D.number door.new ≡ inside.new.link }
+    ensures number { D.number door.new ≡ D.number door.old }
 {
     input_align(inside, door, AlignIn::Good)?;
     tell_machines(inside, door, unit)?;
@@ -104,6 +108,7 @@ fn tell_machines<D: Door>(inside: &mut Inside, door: &mut D, unit: &Unit) -> Res
     ensures talks { Talks (machines_hear unit.now inside.old) result (D.made door.old)
         (D.made door.new) (D.faults door.old) (D.faults door.new) inside.new }
     ensures at { D.number door.new ≡ inside.new.link }
+    ensures number { D.number door.new ≡ D.number door.old }
 {
     match unit {
         Unit::Fisu { .. } => input_state(inside, door, StateIn::Fisu),
@@ -118,6 +123,7 @@ fn hear_status<D: Door>(inside: &mut Inside, door: &mut D, status: Status) -> Re
     ensures talks { Talks (status_heard status inside.old) result (D.made door.old)
         (D.made door.new) (D.faults door.old) (D.faults door.new) inside.new }
     ensures at { D.number door.new ≡ inside.new.link }
+    ensures number { D.number door.new ≡ D.number door.old }
 {
     input_align(inside, door, AlignIn::Heard(status))?;
     input_state(inside, door, StateIn::Heard(status))?;
@@ -130,6 +136,7 @@ fn tell_flow<D: Door>(inside: &mut Inside, door: &mut D, status: Status) -> Resu
     ensures talks { Talks (flow_hears status inside.old) result (D.made door.old) (D.made door.new)
         (D.faults door.old) (D.faults door.new) inside.new }
     ensures at { D.number door.new ≡ inside.new.link }
+    ensures number { D.number door.new ≡ D.number door.old }
 {
     match status {
         Status::Busy => input_flow(inside, door, FlowIn::HeardBusy),
@@ -143,6 +150,7 @@ fn tell_set<D: Door>(inside: &mut Inside, door: &mut D, unit: &Unit) -> Result<(
     ensures talks { Talks (set_hears unit.now inside.old) result (D.made door.old) (D.made door.new)
         (D.faults door.old) (D.faults door.new) inside.new }
     ensures at { D.number door.new ≡ inside.new.link }
+    ensures number { D.number door.new ≡ D.number door.old }
 {
     if inside.is_up() {
         return tell_heard(inside, door, unit);
@@ -156,6 +164,7 @@ fn tell_heard<D: Door>(inside: &mut Inside, door: &mut D, unit: &Unit) -> Result
     ensures talks { Talks (told_heard unit.now inside.old) result (D.made door.old) (D.made door.new)
         (D.faults door.old) (D.faults door.new) inside.new }
     ensures at { D.number door.new ≡ inside.new.link }
+    ensures number { D.number door.new ≡ D.number door.old }
 {
     let event = Event::Heard {
         link: inside.link(),
@@ -180,6 +189,7 @@ fn report<D: Door>(
     ensures talks { Talks (reported answer.now bsn inside.old) result (D.made door.old)
         (D.made door.new) (D.faults door.old) (D.faults door.new) inside.new }
     ensures at { D.number door.new ≡ inside.new.link }
+    ensures number { D.number door.new ≡ D.number door.old }
 {
     match answer {
         Answer::Heard { report } => obey_report(inside, door, *report, bsn),
@@ -204,6 +214,7 @@ fn obey_report<D: Door>(
     ensures talks { Talks (report_heard report bsn inside.old) result (D.made door.old)
         (D.made door.new) (D.faults door.old) (D.faults door.new) inside.new }
     ensures at { D.number door.new ≡ inside.new.link }
+    ensures number { D.number door.new ≡ D.number door.old }
 {
     tell_acks(inside, door, report, bsn)?;
     tell_faults(inside, door, report.fault)
@@ -221,6 +232,7 @@ fn tell_acks<D: Door>(
     ensures talks { Talks (acks report bsn inside.old) result (D.made door.old)
         (D.made door.new) (D.faults door.old) (D.faults door.new) inside.new }
     ensures at { D.number door.new ≡ inside.new.link }
+    ensures number { D.number door.new ≡ D.number door.old }
 {
     if report.acked > 0 || report.resend {
         let more = bsn != u16::from(inside.top());
@@ -239,6 +251,7 @@ fn tell_faults<D: Door>(
     ensures talks { Talks (faults fault inside.old) result (D.made door.old) (D.made door.new)
         (D.faults door.old) (D.faults door.new) inside.new }
     ensures at { D.number door.new ≡ inside.new.link }
+    ensures number { D.number door.new ≡ D.number door.old }
 {
     match fault {
         None => Ok(()),

@@ -1,8 +1,9 @@
 //! A signalling terminal of one link, turn by turn (ITU-T Q.703 7 to 12).
 //!
-//! A [`Terminal`] is the inside of a terminal (`term_core`) with the door of its link's set ([`Door`]), one end of a line
-//! (`line_ring`) and a [`Gate`]. A turn is one octet time, and what it does is what `term_model` defines: for every door,
-//! line and gate. It takes no memory, and waits only where its door does: a [`SeatDoor`] takes a set's lock.
+//! [`Works`] are the inside of a terminal (`term_core`) and the receiver of its line: a turn takes the door of its link's set
+//! ([`Door`]) and one end of a line (`line_ring`), and may tell a [`Tap`] of the unit that it sends. A [`Terminal`] has a door,
+//! a line and a [`Gate`] of its own. A turn is one octet time, and what it does is what `term_model` defines: for every
+//! door, line and gate. It takes no memory, and waits only where its door does.
 //!
 //! ```text
 //!  line ---> octet ---> bits ---> marks ---> units ---> machines <--- timers, commands
@@ -41,15 +42,18 @@ mod machines;
 mod obeying;
 mod octets;
 mod receiver;
-mod seat_door;
+mod tap;
 mod terminal;
 mod timing;
 mod turning;
+mod works;
 
+pub use counts::{Filling, MarkCounts, Turned};
 pub use door::{Door, Gate, OpenGate};
 pub use fault::TermFault;
 pub use faults::Faults;
-pub use seat_door::SeatDoor;
-pub use set_shared::SetFault;
+pub use set_events::SetFault;
+pub use tap::{LastUnit, NoTap, Tap};
 pub use term_model::{Command, TermReport, Timers};
 pub use terminal::Terminal;
+pub use works::{TermState, Works};

@@ -10,8 +10,7 @@ use l2_align::{AlignIn, End};
 use l2_flow::FlowIn;
 use l2_signals::Cause;
 use l2_state::{StateIn, Told};
-use set_events::Event;
-use set_shared::SetFault;
+use set_events::{Event, SetFault};
 use term_core::Inside;
 
 /// The link is in service here: the set is told.
@@ -21,6 +20,7 @@ pub(crate) fn ask_up<D: Door>(inside: &mut Inside, door: &mut D) -> Result<(), S
     ensures talks { Talks (asks_up inside.old) result (D.made door.old) (D.made door.new)
         (D.faults door.old) (D.faults door.new) inside.new }
     ensures at { D.number door.new ≡ inside.new.link }
+    ensures number { D.number door.new ≡ D.number door.old }
     ensures bits { IfOk result (λ done. inside.new.bits ≡ inside.old.bits) }
 {
     let link = inside.link();
@@ -48,6 +48,7 @@ fn ask_down<D: Door>(inside: &mut Inside, door: &mut D, cause: Cause) -> Result<
     ensures talks { Talks (asks_down cause inside.old) result (D.made door.old) (D.made door.new)
         (D.faults door.old) (D.faults door.new) inside.new }
     ensures at { D.number door.new ≡ inside.new.link }
+    ensures number { D.number door.new ≡ D.number door.old }
     ensures bits { IfOk result (λ done. inside.new.bits ≡ inside.old.bits) }
 {
     let event = down_event(inside);
@@ -66,6 +67,7 @@ pub(crate) fn leave<D: Door>(
     ensures talks { Talks (tells (Some (ToldDown cause)) inside.old) result (D.made door.old)
         (D.made door.new) (D.faults door.old) (D.faults door.new) inside.new }
     ensures at { D.number door.new ≡ inside.new.link }
+    ensures number { D.number door.new ≡ D.number door.old }
     ensures bits { IfOk result (λ done. inside.new.bits ≡ inside.old.bits) }
 {
     if inside.is_up() {
@@ -86,6 +88,7 @@ pub(crate) fn input_state<D: Door>(
     ensures talks { Talks (state_in input inside.old) result (D.made door.old) (D.made door.new)
         (D.faults door.old) (D.faults door.new) inside.new }
     ensures at { D.number door.new ≡ inside.new.link }
+    ensures number { D.number door.new ≡ D.number door.old }
     ensures bits { IfOk result (λ done. inside.new.bits ≡ inside.old.bits) }
 {
     match inside.state(input) {
@@ -105,6 +108,7 @@ pub(crate) fn input_align<D: Door>(
     ensures talks { Talks (align_in input inside.old) result (D.made door.old) (D.made door.new)
         (D.faults door.old) (D.faults door.new) inside.new }
     ensures at { D.number door.new ≡ inside.new.link }
+    ensures number { D.number door.new ≡ D.number door.old }
 {
     match inside.align(input) {
         None => Ok(()),
@@ -123,6 +127,7 @@ pub(crate) fn input_flow<D: Door>(
     ensures talks { Talks (flow_in input inside.old) result (D.made door.old) (D.made door.new)
         (D.faults door.old) (D.faults door.new) inside.new }
     ensures at { D.number door.new ≡ inside.new.link }
+    ensures number { D.number door.new ≡ D.number door.old }
     ensures bits { IfOk result (λ done. inside.new.bits ≡ inside.old.bits) }
 {
     match inside.control(input) {

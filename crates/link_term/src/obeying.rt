@@ -9,7 +9,7 @@ use super::machines::{input_align, input_flow, input_state};
 use l2_align::AlignIn;
 use l2_flow::FlowIn;
 use l2_state::StateIn;
-use set_shared::SetFault;
+use set_events::SetFault;
 use term_core::Inside;
 use term_model::{Command, Commands};
 
@@ -29,6 +29,7 @@ pub(crate) fn obey<D: Door>(inside: &mut Inside, door: &mut D) -> Result<(), Set
     ensures talks { Talks (commanded inside.old) result (D.made door.old) (D.made door.new)
         (D.faults door.old) (D.faults door.new) inside.new }
     ensures at { D.number door.new ≡ inside.new.link }
+    ensures number { D.number door.new ≡ D.number door.old }
 {
     let commands = inside.take_commands();
     obey_given(inside, door, commands)
@@ -45,6 +46,7 @@ fn obey_given<D: Door>(
     ensures talks { Talks (obeys_all commands every_command inside.old) result (D.made door.old)
         (D.made door.new) (D.faults door.old) (D.faults door.new) inside.new }
     ensures at { D.number door.new ≡ inside.new.link }
+    ensures number { D.number door.new ≡ D.number door.old }
 {
     if commands == Commands::NONE {
         return Ok(());
@@ -63,6 +65,7 @@ fn obey_each<D: Door>(
     ensures talks { Talks (obeys_all commands order.now inside.old) result (D.made door.old)
         (D.made door.new) (D.faults door.old) (D.faults door.new) inside.new }
     ensures at { D.number door.new ≡ inside.new.link }
+    ensures number { D.number door.new ≡ D.number door.old }
 {
     for command in order {
         obey_if(inside, door, commands, *command)?;
@@ -81,6 +84,7 @@ fn obey_if<D: Door>(
     ensures talks { Talks (obeys_among commands command inside.old) result (D.made door.old)
         (D.made door.new) (D.faults door.old) (D.faults door.new) inside.new }
     ensures at { D.number door.new ≡ inside.new.link }
+    ensures number { D.number door.new ≡ D.number door.old }
 {
     if contains(commands, command) {
         return obey_one(inside, door, command);
@@ -108,6 +112,7 @@ fn obey_one<D: Door>(inside: &mut Inside, door: &mut D, command: Command) -> Res
     ensures talks { Talks (obeys command inside.old) result (D.made door.old) (D.made door.new)
         (D.faults door.old) (D.faults door.new) inside.new }
     ensures at { D.number door.new ≡ inside.new.link }
+    ensures number { D.number door.new ≡ D.number door.old }
 {
     match command {
         Command::Emergency => input_align(inside, door, AlignIn::Emergency),

@@ -7,7 +7,7 @@ use super::counts::MarkCounts;
 use super::door::Door;
 use super::hearing::mark;
 use l2_bits::{Deframer, Rest};
-use set_shared::SetFault;
+use set_events::SetFault;
 use term_core::Inside;
 
 /// The bits that are left of an octet: each mark that they give is heard, in order. Answers how many of each kind there
@@ -24,6 +24,7 @@ pub(crate) fn hear_bits<D: Door>(
         → Hears past (rest_of rest.old) inside.old result (D.made door.old) (D.made door.new)
         (D.faults door.old) (D.faults door.new) inside.new deframer.new }
     ensures at { D.number door.new ≡ inside.new.link }
+    ensures number { D.number door.new ≡ D.number door.old }
     ensures few { IfOk result (λ counts. (counts.good ≤ length (rest_of rest.old))
         × (counts.bad ≤ length (rest_of rest.old)) × (counts.sixteen ≤ length (rest_of rest.old))) }
 {

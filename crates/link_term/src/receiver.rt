@@ -8,7 +8,7 @@ use super::door::Door;
 use super::octets::hear_bits;
 use l2_bits::{Deframer, Rest};
 use line_ring::Past;
-use set_shared::SetFault;
+use set_events::SetFault;
 use std::marker::Model;
 use term_core::Inside;
 
@@ -56,6 +56,7 @@ impl Receiver {
             (D.made door.old) (D.made door.new) (D.faults door.old) (D.faults door.new) inside.new }
         ensures taken { self.new ≡ self.old ++ octet ∷ [] }
         ensures at { D.number door.new ≡ inside.new.link }
+        ensures number { D.number door.new ≡ D.number door.old }
     {
         let heard = hear_bits(&mut self.deframer, &mut Rest::new(octet), inside, door);
         self.taken.note(octet);

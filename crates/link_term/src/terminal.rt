@@ -11,13 +11,11 @@ ghost use Rattle.term_model.specs.Terminal.{opened, told};
 use super::counts::{Filling, Turned};
 use super::door::{Door, Gate};
 use super::fault::TermFault;
-use super::receiver::Receiver;
-use super::turning::take_turn;
+use super::works::Works;
 use line_ring::Line;
-use term_core::Inside;
 use term_model::{Command, TermReport, Timers};
 
-/// A signalling terminal of one link (Q.703 7 to 12): its inside, the door of the link's set, one end of a line, and a
+/// A signalling terminal of one link (Q.703 7 to 12): its works, the door of the link's set, one end of a line, and a
 /// gate. It takes no memory; a turn waits only where the door does.
 #[derive(Drop)]
 pub struct Terminal<D: Door, L: Line, G: Gate> {
@@ -26,11 +24,8 @@ pub struct Terminal<D: Door, L: Line, G: Gate> {
     gate: G,
     /// The number of its set, which is told to the gate alone.
     set: u16,
-    inside: Inside,
-    receiver: Receiver,
-    /// A turn was broken off.
-    failed: bool,
-    ghost at: { D.number door ≡ inside.link },
+    works: Works,
+    ghost at: { D.number door ≡ works.inside.link },
 }
 
 impl<D: Door, L: Line, G: Gate> Terminal<D, L, G> {
@@ -38,32 +33,30 @@ impl<D: Door, L: Line, G: Gate> Terminal<D, L, G> {
     /// was taken from the line by it, and one flag is left to send.
     pub fn new(door: D, line: L, gate: G, set: u16, link: u8, lengths: Timers) -> Terminal<D, L, G>
         requires { D.number door ≡ link }
-        ensures inside { result.inside ≡ opened link lengths }
-        ensures taken { result.receiver ≡ [] }
+        ensures inside { result.works.inside ≡ opened link lengths }
+        ensures taken { result.works.receiver ≡ [] }
         ensures door { result.door ≡ door }
         ensures line { result.line ≡ line }
-        ensures failed { result.failed ≡ false }
+        ensures failed { result.works.failed ≡ false }
     {
         Terminal {
             door,
             line,
             gate,
             set,
-            inside: Inside::new(link, lengths),
-            receiver: Receiver::new(),
-            failed: false,
+            works: Works::new(link, lengths),
         }
     }
 
     /// A command, which is obeyed in the next turn; it's no matter that it was given before.
     pub fn command(&mut self, command: Command)
-        ensures inside { self.new.inside ≡ told command self.old.inside }
-        ensures taken { self.new.receiver ≡ self.old.receiver }
+        ensures inside { self.new.works.inside ≡ told command self.old.works.inside }
+        ensures taken { self.new.works.receiver ≡ self.old.works.receiver }
         ensures door { self.new.door ≡ self.old.door }
         ensures line { self.new.line ≡ self.old.line }
-        ensures failed { self.new.failed ≡ self.old.failed }
+        ensures failed { self.new.works.failed ≡ self.old.works.failed }
     {
-        self.inside.command(command);
+        self.works.command(command);
     }
 
     /// One turn, an octet time: commands, one octet in, marks, timers, what is sent next, one octet out.
@@ -72,25 +65,26 @@ impl<D: Door, L: Line, G: Gate> Terminal<D, L, G> {
     /// where it gave a unit that has a number of more than seven bits, whose entry stays with the door. The turn was broken off
     /// there, and nothing was put. After one, 2 [`TermFault::Failed`], and nothing is done.
     pub fn turn(&mut self) -> Result<(), TermFault>
-        ensures turns { IfOk result (λ done. (turned : WasTurned) × (self.old.failed ≡ false)
-            × TurnsOnce self.old.receiver self.new.receiver self.old.inside turned
+        ensures turns { IfOk result (λ done. (turned : WasTurned) × (self.old.works.failed ≡ false)
+            × TurnsOnce self.old.works.receiver self.new.works.receiver self.old.works.inside turned
             (D.made self.old.door) (D.made self.new.door)
             (L.taken_so_far self.old.line) (L.taken_so_far self.new.line) (L.waiting self.old.line)
             (L.put_so_far self.old.line) (L.put_so_far self.new.line) (L.free self.new.line)
-            self.new.inside
+            self.new.works.inside
             × (D.faults self.new.door ≡ D.faults self.old.door)) }
-        ensures breaks { self.old.failed ≡ false → IfErr result (λ fault. TurnFails fault
+        ensures breaks { self.old.works.failed ≡ false → IfErr result (λ fault. TurnFails fault
             (D.faults self.old.door) (D.faults self.new.door)
-            self.old.receiver self.new.receiver self.old.inside (D.made self.old.door)
+            self.old.works.receiver self.new.works.receiver self.old.works.inside (D.made self.old.door)
             (D.made self.new.door)
             (L.taken_so_far self.old.line) (L.taken_so_far self.new.line)
-            (L.put_so_far self.old.line) (L.put_so_far self.new.line) self.new.inside) }
-        ensures failed { self.old.failed ≡ true → (result ≡ Err Failed)
+            (L.put_so_far self.old.line) (L.put_so_far self.new.line) self.new.works.inside) }
+        ensures failed { self.old.works.failed ≡ true → (result ≡ Err Failed)
             × (self.new.door ≡ self.old.door)
-            × (self.new.line ≡ self.old.line) × (self.new.inside ≡ self.old.inside)
-            × (self.new.receiver ≡ self.old.receiver) }
-        ensures fails { OnErr result (self.new.failed ≡ true) }
-        ensures goes_on { OnOk result (self.new.failed ≡ false) }
+            × (self.new.line ≡ self.old.line) × (self.new.works.inside ≡ self.old.works.inside)
+            × (self.new.works.receiver ≡ self.old.works.receiver) }
+        ensures fails { OnErr result (self.new.works.failed ≡ true) }
+        ensures goes_on { OnOk result (self.new.works.failed ≡ false) }
+        ensures number { D.number self.new.door ≡ D.number self.old.door }
         ensures same { L.is_same self.old.line self.new.line }
     {
         self.take_turn()?;
@@ -103,33 +97,34 @@ impl<D: Door, L: Line, G: Gate> Terminal<D, L, G> {
     /// Faults as of [`Terminal::turn`]: the turns before the one that was broken off went whole, and it's the last.
     pub fn run(&mut self, turns: u64) -> Result<TermReport, TermFault>
         requires { turns ≤ 2 ^ 32 }
-        ensures runs { IfOk result (λ report. (self.old.failed ≡ false)
-            × Runs turns self.old.receiver self.new.receiver self.old.inside (D.made self.old.door)
+        ensures runs { IfOk result (λ report. (self.old.works.failed ≡ false)
+            × Runs turns self.old.works.receiver self.new.works.receiver self.old.works.inside (D.made self.old.door)
             (D.made self.new.door)
             (seen (L.taken_so_far self.old.line) (L.waiting self.old.line) (L.put_so_far self.old.line)
             (L.free self.old.line))
             (seen (L.taken_so_far self.new.line) (L.waiting self.new.line) (L.put_so_far self.new.line)
             (L.free self.new.line))
-            report self.new.inside
+            report self.new.works.inside
             × (D.faults self.new.door ≡ D.faults self.old.door)) }
-        ensures breaks { self.old.failed ≡ false → IfErr result (λ fault. RunFails fault
+        ensures breaks { self.old.works.failed ≡ false → IfErr result (λ fault. RunFails fault
             (D.faults self.old.door) (D.faults self.new.door) turns
-            self.old.receiver self.new.receiver self.old.inside
+            self.old.works.receiver self.new.works.receiver self.old.works.inside
             (D.made self.old.door) (D.made self.new.door)
             (seen (L.taken_so_far self.old.line) (L.waiting self.old.line) (L.put_so_far self.old.line)
             (L.free self.old.line))
             (seen (L.taken_so_far self.new.line) (L.waiting self.new.line) (L.put_so_far self.new.line)
             (L.free self.new.line))
-            self.new.inside) }
-        ensures failed { self.old.failed ≡ true → (result ≡ Err Failed)
+            self.new.works.inside) }
+        ensures failed { self.old.works.failed ≡ true → (result ≡ Err Failed)
             × (self.new.door ≡ self.old.door)
-            × (self.new.line ≡ self.old.line) × (self.new.inside ≡ self.old.inside)
-            × (self.new.receiver ≡ self.old.receiver) }
-        ensures fails { OnErr result (self.new.failed ≡ true) }
-        ensures goes_on { OnOk result (self.new.failed ≡ false) }
+            × (self.new.line ≡ self.old.line) × (self.new.works.inside ≡ self.old.works.inside)
+            × (self.new.works.receiver ≡ self.old.works.receiver) }
+        ensures fails { OnErr result (self.new.works.failed ≡ true) }
+        ensures goes_on { OnOk result (self.new.works.failed ≡ false) }
+        ensures number { D.number self.new.door ≡ D.number self.old.door }
         ensures same { L.is_same self.old.line self.new.line }
     {
-        if self.failed {
+        if self.works.failed {
             return Err(TermFault::Failed);
         }
         let mut report = NO_TURNS;
@@ -137,7 +132,7 @@ impl<D: Door, L: Line, G: Gate> Terminal<D, L, G> {
             report = and_one(report, self.take_turn()?);
         }
         Ok(TermReport {
-            cause: last_cause(&self.inside),
+            cause: last_cause(&self.works),
             ..report
         })
     }
@@ -152,43 +147,32 @@ impl<D: Door, L: Line, G: Gate> Terminal<D, L, G> {
 
     /// [`Terminal::turn`], which tells what it did.
     fn take_turn(&mut self) -> Result<Turned, TermFault>
-        ensures turns { IfOk result (λ turned. (self.old.failed ≡ false)
-            × TurnsOnce self.old.receiver self.new.receiver self.old.inside turned
+        ensures turns { IfOk result (λ turned. (self.old.works.failed ≡ false)
+            × TurnsOnce self.old.works.receiver self.new.works.receiver self.old.works.inside turned
             (D.made self.old.door) (D.made self.new.door)
             (L.taken_so_far self.old.line) (L.taken_so_far self.new.line) (L.waiting self.old.line)
             (L.put_so_far self.old.line) (L.put_so_far self.new.line) (L.free self.new.line)
-            self.new.inside
+            self.new.works.inside
             × (D.faults self.new.door ≡ D.faults self.old.door)) }
-        ensures breaks { self.old.failed ≡ false → IfErr result (λ fault. TurnFails fault
+        ensures breaks { self.old.works.failed ≡ false → IfErr result (λ fault. TurnFails fault
             (D.faults self.old.door) (D.faults self.new.door)
-            self.old.receiver self.new.receiver self.old.inside (D.made self.old.door)
+            self.old.works.receiver self.new.works.receiver self.old.works.inside (D.made self.old.door)
             (D.made self.new.door)
             (L.taken_so_far self.old.line) (L.taken_so_far self.new.line)
-            (L.put_so_far self.old.line) (L.put_so_far self.new.line) self.new.inside) }
-        ensures failed { self.old.failed ≡ true → (result ≡ Err Failed)
+            (L.put_so_far self.old.line) (L.put_so_far self.new.line) self.new.works.inside) }
+        ensures failed { self.old.works.failed ≡ true → (result ≡ Err Failed)
             × (self.new.door ≡ self.old.door)
-            × (self.new.line ≡ self.old.line) × (self.new.inside ≡ self.old.inside)
-            × (self.new.receiver ≡ self.old.receiver) }
-        ensures fails { OnErr result (self.new.failed ≡ true) }
-        ensures goes_on { OnOk result (self.new.failed ≡ false) }
+            × (self.new.line ≡ self.old.line) × (self.new.works.inside ≡ self.old.works.inside)
+            × (self.new.works.receiver ≡ self.old.works.receiver) }
+        ensures fails { OnErr result (self.new.works.failed ≡ true) }
+        ensures goes_on { OnOk result (self.new.works.failed ≡ false) }
+        ensures number { D.number self.new.door ≡ D.number self.old.door }
         ensures same { L.is_same self.old.line self.new.line }
     {
-        if self.failed {
-            return Err(TermFault::Failed);
+        if !self.works.failed {
+            self.gate.outside(self.set, self.works.link());
         }
-        self.gate.outside(self.set, self.inside.link());
-        match take_turn(
-            &mut self.receiver,
-            &mut self.inside,
-            &mut self.door,
-            &mut self.line,
-        ) {
-            Ok(turned) => Ok(turned),
-            Err(fault) => {
-                self.failed = true;
-                Err(fault)
-            }
-        }
+        self.works.turn(&mut self.door, &mut self.line)
     }
 }
 
@@ -237,10 +221,10 @@ fn one_if_chosen(filling: Filling) -> u64
 }
 
 /// The number of the cause for which the link failed last; 0: it didn't.
-fn last_cause(inside: &Inside) -> u8
-    ensures { result ≡ cause_or_0 inside.now.cause }
+fn last_cause(works: &Works) -> u8
+    ensures { result ≡ cause_or_0 works.now.inside.cause }
 {
-    match inside.cause() {
+    match works.cause() {
         None => 0,
         Some(cause) => cause.number(),
     }

@@ -9,7 +9,7 @@ use super::machines::{input_align, input_flow, input_state};
 use l2_align::AlignIn;
 use l2_flow::FlowIn;
 use l2_state::StateIn;
-use set_shared::SetFault;
+use set_events::SetFault;
 use term_core::{Inside, Timer, no_end_no_talk};
 
 /// The timers, in the order in which their ends are looked at (own).
@@ -29,6 +29,7 @@ pub(crate) fn end_timers<D: Door>(inside: &mut Inside, door: &mut D) -> Result<(
     ensures talks { Talks (timed inside.old) result (D.made door.old) (D.made door.new)
         (D.faults door.old) (D.faults door.new) inside.new }
     ensures at { D.number door.new ≡ inside.new.link }
+    ensures number { D.number door.new ≡ D.number door.old }
 {
     inside.lessen();
     if !inside.has_ended() {
@@ -44,6 +45,7 @@ fn end_each<D: Door>(inside: &mut Inside, door: &mut D, timers: &[Timer]) -> Res
     ensures talks { Talks (ends_all timers.now inside.old) result (D.made door.old)
         (D.made door.new) (D.faults door.old) (D.faults door.new) inside.new }
     ensures at { D.number door.new ≡ inside.new.link }
+    ensures number { D.number door.new ≡ D.number door.old }
 {
     for timer in timers {
         end(inside, door, *timer)?;
@@ -57,6 +59,7 @@ fn end<D: Door>(inside: &mut Inside, door: &mut D, timer: Timer) -> Result<(), S
     ensures talks { Talks (ends timer inside.old) result (D.made door.old) (D.made door.new)
         (D.faults door.old) (D.faults door.new) inside.new }
     ensures at { D.number door.new ≡ inside.new.link }
+    ensures number { D.number door.new ≡ D.number door.old }
 {
     if inside.ended(timer) {
         return tell_end(inside, door, timer);
@@ -70,6 +73,7 @@ fn tell_end<D: Door>(inside: &mut Inside, door: &mut D, timer: Timer) -> Result<
     ensures talks { Talks (end_told timer inside.old) result (D.made door.old) (D.made door.new)
         (D.faults door.old) (D.faults door.new) inside.new }
     ensures at { D.number door.new ≡ inside.new.link }
+    ensures number { D.number door.new ≡ D.number door.old }
 {
     match timer {
         Timer::T1 => input_state(inside, door, StateIn::T1),

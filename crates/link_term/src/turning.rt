@@ -3,6 +3,7 @@ ghost use Rattle.std.specs.Prelude.{◌≡◌, [], ◌∷◌, ◌++◌, IfOk, If
 ghost use Rattle.std.specs.Option.{option_to_list};
 ghost use Rattle.l2_bits.specs.LineBits.{line_bits};
 ghost use Rattle.link_term.specs.declared.counts.Filling.TheVariants.{Wide};
+ghost use Rattle.link_term.specs.Filling.{Taps};
 ghost use Rattle.link_term.specs.Turning.{HearsOctet, StepsTo, PutsOut, TurnsOnce, TurnFails};
 ghost use Rattle.term_model.specs.OctetIn.{bits_in};
 
@@ -12,37 +13,41 @@ use super::door::Door;
 use super::fault::TermFault;
 use super::obeying::obey;
 use super::receiver::Receiver;
+use super::tap::Tap;
 use super::timing::end_timers;
 use line_ring::Line;
-use set_shared::SetFault;
+use set_events::SetFault;
 use term_core::Inside;
 
 /// A turn: commands, one octet in, marks, timers, what is sent next, one octet out.
 ///
 /// Faults: those of the door; 4 [`TermFault::Profile`] where the set gives a unit of the wide profile: it's tested before
 /// anything of what is sent changes, and nothing is put.
-pub(crate) fn take_turn<D: Door, L: Line>(
+pub(crate) fn take_turn<D: Door, L: Line, T: Tap>(
     receiver: &mut Receiver,
     inside: &mut Inside,
     door: &mut D,
     line: &mut L,
+    tap: &mut T,
 ) -> Result<Turned, TermFault>
     requires { D.number door.old ≡ inside.old.link }
-    ensures turns { IfOk result (λ turned. TurnsOnce receiver.old receiver.new inside.old turned
+    ensures turns { IfOk result (λ turned. (turns : TurnsOnce receiver.old receiver.new inside.old turned
         (D.made door.old) (D.made door.new) (L.taken_so_far line.old) (L.taken_so_far line.new)
         (L.waiting line.old)
-        (L.put_so_far line.old) (L.put_so_far line.new) (L.free line.new) inside.new
+        (L.put_so_far line.old) (L.put_so_far line.new) (L.free line.new) inside.new)
+        × Taps T.told turns.turn.chosen.unit tap.old tap.new
         × (D.faults door.new ≡ D.faults door.old)) }
     ensures fails { IfErr result (λ fault. TurnFails fault (D.faults door.old) (D.faults door.new)
         receiver.old receiver.new inside.old
         (D.made door.old) (D.made door.new) (L.taken_so_far line.old) (L.taken_so_far line.new)
-        (L.put_so_far line.old) (L.put_so_far line.new) inside.new) }
+        (L.put_so_far line.old) (L.put_so_far line.new) inside.new × (tap.new ≡ tap.old)) }
     ensures at { D.number door.new ≡ inside.new.link }
+    ensures number { D.number door.new ≡ D.number door.old }
     ensures same { L.is_same line.old line.new }
 {
     obey(inside, door)?;
     let octet = line.take();
-    let turned = from_octet(receiver, inside, door, octet)?;
+    let turned = from_octet(receiver, inside, door, octet, tap)?;
     if is_wide(turned.filling) {
         return Err(TermFault::Profile);
     }
@@ -71,21 +76,24 @@ fn put_octet<L: Line>(inside: &mut Inside, line: &mut L)
 }
 
 /// Steps 2 to 5 of a turn: the marks of the octet that was taken, timers, and what is sent next.
-pub(crate) fn from_octet<D: Door>(
+pub(crate) fn from_octet<D: Door, T: Tap>(
     receiver: &mut Receiver,
     inside: &mut Inside,
     door: &mut D,
     octet: Option<u8>,
+    tap: &mut T,
 ) -> Result<Turned, SetFault>
     requires { D.number door.old ≡ inside.old.link }
     ensures steps { StepsTo (line_bits receiver.old) octet inside.old result
-        (D.made door.old) (D.made door.new) (D.faults door.old) (D.faults door.new) inside.new }
+        (D.made door.old) (D.made door.new) (D.faults door.old) (D.faults door.new) inside.new
+        T.told tap.old tap.new }
     ensures taken { receiver.new ≡ receiver.old ++ option_to_list octet }
     ensures at { D.number door.new ≡ inside.new.link }
+    ensures number { D.number door.new ≡ D.number door.old }
 {
     let marks = hear_octet(receiver, inside, door, octet)?;
     end_timers(inside, door)?;
-    let filling = fill(inside, door)?;
+    let filling = fill(inside, door, tap)?;
     Ok(Turned { marks, filling })
 }
 
@@ -101,6 +109,7 @@ fn hear_octet<D: Door>(
         (D.made door.old) (D.made door.new) (D.faults door.old) (D.faults door.new) inside.new }
     ensures taken { receiver.new ≡ receiver.old ++ option_to_list octet }
     ensures at { D.number door.new ≡ inside.new.link }
+    ensures number { D.number door.new ≡ D.number door.old }
 {
     match octet {
         Some(octet) => receiver.hear(octet, inside, door),

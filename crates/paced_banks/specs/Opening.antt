@@ -10,6 +10,7 @@ use Rattle.set_crew.specs.declared.plan.Plan.{Plan}
 use Rattle.set_crew.specs.Ends.{Task}
 use Rattle.set_crew.specs.Jobs.{Duty, offers, takes}
 use Rattle.term_model.specs.declared.timers.Timers.{Timers}
+use Rattle.term_model.specs.Lengths.{above_0}
 use Rattle.bank_core.specs.Ends.{AreEnds}
 use Rattle.paced_banks.specs.declared.asked.Traffic.{Traffic}
 
@@ -40,7 +41,20 @@ far_jobs = takes 1000 ∷ []
 
 -- THE PLAN: all timers are 100,000 octet times, but T5, which is 800
 abbrev pub timers : Timers
-timers = record { t1 = 100000; t2 = 100000; t3 = 100000; t5 = 800; t6 = 100000; t7 = 100000 }
+timers = record {
+  t1 = 100000;
+  t2 = 100000;
+  t3 = 100000;
+  t5 = 800;
+  t6 = 100000;
+  t7 = 100000;
+  t1_set = above_0 99999;
+  t2_set = above_0 99999;
+  t3_set = above_0 99999;
+  t5_set = above_0 799;
+  t6_set = above_0 99999;
+  t7_set = above_0 99999;
+}
 
 pub record IsPlan (turns : ℕ) (fail : Option ℕ) (plan : Plan) : Type 0 where
   pub timers_are : plan.timers ≡ timers

@@ -24,7 +24,8 @@ use Rattle.set_model.proofs.Soundness.{opened_new}
 use Rattle.set_moves.specs.Agreement.{Kept, Agrees, shown}
 use Rattle.set_moves.proofs.Shown.{shown_is}
 use Rattle.set_step.specs.Answering.{AnswersFor}
-use Rattle.set_core.specs.Gaining.{BooksGain, IsOwn, GainsNoOther, AreBounded, users_after, terminals_after}
+use Rattle.set_events.specs.Owners.{IsOwn}
+use Rattle.set_core.specs.Gaining.{BooksGain, GainsNoOther, AreBounded, users_after, terminals_after}
 use Rattle.set_model.specs.History.{Base, LinkSet, based, books_in, entries_in, IsActor, IsStep, IsLegal, after, added, no_books, opening_of, books_of, entries_of, is_user, is_terminal, calls_from, messages_of, octets_in_all}
 use Rattle.set_core.specs.Keeping.{with_history, base_at, base_of, books_by, IsTally, IsKept}
 use Rattle.set_core.proofs.Calls.{all_in_sum, others, its_own, length-added, length-calls, no_sum, none_added, sum-added, sums_more, terminals_added, users_added}

@@ -5,7 +5,7 @@ use Rattle.set_events.specs.declared.books.Books.{Books}
 use Rattle.set_events.specs.declared.event.Actor.{Actor}
 use Rattle.set_events.specs.declared.event.Actor.TheVariants.{User, Terminal}
 use Rattle.set_events.specs.declared.event.Event.{Event}
-use Rattle.set_events.specs.declared.event.Event.TheVariants.{Offer, Take, Find, Next, Heard, Up, Down, DownBlind, NoAnswer, Restore, BackTimeout}
+use Rattle.set_events.specs.Owners.{IsOwn}
 use Rattle.set_model.specs.Step.{messages_in, octets_of}
 use Rattle.set_model.specs.History.{longest_history}
 
@@ -21,21 +21,6 @@ users_after (Terminal link) calls = calls
 abbrev pub terminals_after : Actor → List ℕ → List ℕ
 terminals_after (User number) calls = calls
 terminals_after (Terminal link) calls = one_more link calls
-
--- WHOSE AN EVENT IS: a user offers, takes and finds; a terminal asks and tells of its own link.
-abbrev pub IsOwn : Actor → Event → Type 0
-IsOwn (User number) (Offer body) = Unit {0}
-IsOwn (User number) Take = Unit {0}
-IsOwn (User number) (Find message) = Unit {0}
-IsOwn (Terminal number) (Next link) = link ≡ number
-IsOwn (Terminal number) (Heard link unit) = link ≡ number
-IsOwn (Terminal number) (Up link) = link ≡ number
-IsOwn (Terminal number) (Down link) = link ≡ number
-IsOwn (Terminal number) (DownBlind link) = link ≡ number
-IsOwn (Terminal number) (NoAnswer link) = link ≡ number
-IsOwn (Terminal number) (Restore link) = link ≡ number
-IsOwn (Terminal number) (BackTimeout link) = link ≡ number
-IsOwn _ _ = ⊥
 
 -- a user acknowledges nothing; a terminal accepts nothing
 abbrev pub GainsNoOther : Actor → Books → Books → Type 0

@@ -1,4 +1,5 @@
 pub mod Config
 pub mod Method
 pub mod Numbers
+pub mod Owners
 pub mod Places

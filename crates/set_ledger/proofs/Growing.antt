@@ -7,7 +7,8 @@ use Rattle.set_events.specs.declared.event.Actor.TheVariants.{User, Terminal}
 use Rattle.set_events.specs.declared.event.Event.{Event}
 use Rattle.set_events.specs.declared.history.Entry.{Entry}
 use Rattle.set_core.proofs.Keeping.{messages_more, octets_more}
-use Rattle.set_core.specs.Gaining.{BooksGain, AreBounded, IsOwn, GainsNoOther as GainsNoOtherInBooks}
+use Rattle.set_core.specs.Gaining.{BooksGain, AreBounded, GainsNoOther as GainsNoOtherInBooks}
+use Rattle.set_events.specs.Owners.{IsOwn}
 use Rattle.set_model.specs.History.{Base, LinkSet, IsStep, books_in, entries_in, entries_of}
 use Rattle.set_model.specs.Step.{messages_in, octets_of}
 use Rattle.set_ledger.specs.declared.share.SeatShare.{SeatShare}

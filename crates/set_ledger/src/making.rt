@@ -1,6 +1,6 @@
 //! One step at a set that is lent, and its receipt.
 ghost use Rattle.std.specs.Prelude.{◌≡◌, ◌≤◌, ◌++◌, ◌∷◌, [], IfOk, OnErr};
-ghost use Rattle.set_core.specs.Gaining.{IsOwn};
+ghost use Rattle.set_events.specs.Owners.{IsOwn};
 ghost use Rattle.set_model.specs.History.{IsActor, IsStep, entries_in, longest_history};
 ghost use Rattle.set_ledger.specs.Totals.{Gains};
 

@@ -1,6 +1,6 @@
 //! How a seat makes a step. This module is private, so no other crate has a seat of its own.
 ghost use Rattle.std.specs.Prelude.{◌≡◌, ◌≤◌, IfOk, OnOk, OnErr};
-ghost use Rattle.set_core.specs.Gaining.{IsOwn};
+ghost use Rattle.set_events.specs.Owners.{IsOwn};
 ghost use Rattle.set_model.specs.History.{IsStep, entries_in, longest_history};
 ghost use Rattle.set_ledger.specs.Seats.{Receives, AcknowledgesAs};
 

@@ -2,7 +2,7 @@
 ghost use Rattle.std.specs.Prelude.{◌≡◌, ◌<◌, ◌≤◌, ◌↔◌, ◌⊎◌, true, IfOk, IfErr, OnOk, OnErr, if◌then◌else◌};
 ghost use Rattle.set_events.specs.declared.event.Actor.TheVariants.{User, Terminal};
 ghost use Rattle.set_events.specs.declared.event.Event.TheVariants.{Offer, Take, Find};
-ghost use Rattle.set_core.specs.Gaining.{IsOwn};
+ghost use Rattle.set_events.specs.Owners.{IsOwn};
 ghost use Rattle.set_ledger.specs.Seats.{Receives, new_seats};
 ghost use Rattle.set_ledger.specs.Totals.{AreParts, HeldState, Names};
 ghost use Rattle.set_ledger.specs.Ending.{is_complete, AreFaithful, IsClosed};

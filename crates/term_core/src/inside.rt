@@ -4,7 +4,7 @@ ghost use Rattle.std.specs.Prelude.{◌≡◌, ◌<◌, ◌^◌, ◌||◌, false
 ghost use Rattle.term_model.specs.Terminal.{opened, told, no_commands};
 
 use crate::bits_left::BitsLeft;
-use l2_align::Align;
+use l2_align::{Align, State as AlignState};
 use l2_flow::Flow;
 use l2_monitors::{Aerm, Suerm};
 use l2_signals::{Cause, Status};
@@ -130,6 +130,13 @@ impl Inside {
         ensures { result ≡ self.now.state }
     {
         self.state.state()
+    }
+
+    /// Where initial alignment stands (Q.703 7.3).
+    pub fn alignment(&self) -> AlignState
+        ensures { result ≡ self.now.align.state }
+    {
+        self.align.state()
     }
 
     /// The status that alignment sends (Q.703 7.2).

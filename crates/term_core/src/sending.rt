@@ -5,7 +5,7 @@ ghost use Rattle.l2_bits.specs.LineBits.{number_of};
 ghost use Rattle.l2_units.specs.Grammar.{IsHeadOf, head_of};
 ghost use Rattle.l2_units.specs.declared.profile.Profile.TheVariants.{Narrow};
 ghost use Rattle.term_model.specs.Terminal.{last_head as head_before, start_head};
-ghost use Rattle.term_model.specs.Choosing.{held_back, raised_top, with_head, withheld};
+ghost use Rattle.term_model.specs.Choosing.{raised_top, with_head, withheld};
 ghost use Rattle.term_model.specs.OctetOut.{Appends};
 
 use crate::inside::{Inside, NarrowHead};
@@ -64,22 +64,20 @@ impl Inside {
         });
     }
 
-    /// Appends a unit that the set gives, as it's sent: while this end is busy it acknowledges nothing new (Q.703 9.3).
-    /// Fewer than eight bits may be left, and its numbers have seven bits.
-    pub fn append_given(&mut self, unit: &Unit)
-        requires short { length self.old.bits < 8 }
-        requires narrow { IsHeadOf Narrow (head_of unit.now) }
-        ensures on_line { Appends (Some (held_back self.old unit.now)) self.old.bits self.new.bits }
-        ensures next { self.new ≡ record self.old {
-          bits = self.new.bits;
-          last = Some (head_of (held_back self.old unit.now));
-        } }
+    /// Whether this end is busy: then it acknowledges nothing new (Q.703 9.3).
+    #[inline(always)]
+    pub fn is_busy(&self) -> bool
+        ensures { result ≡ self.now.flow.busy }
     {
-        if !self.flow.is_busy() {
-            return self.append(unit);
-        }
-        let held = with_acknowledgement(self.last_head(), unit);
-        self.append(&held);
+        self.flow.is_busy()
+    }
+
+    /// A unit as a busy end sends it: with the acknowledgement of the last unit appended (Q.703 9.3).
+    pub fn withholding(&self, unit: &Unit) -> Unit
+        ensures value { result ≡ with_head (withheld (head_before self.now) (head_of unit.now)) unit.now }
+        ensures narrow { IsHeadOf Narrow (head_of unit.now) → IsHeadOf Narrow (head_of result) }
+    {
+        with_acknowledgement(self.last_head(), unit)
     }
 
     /// The next eight bits, the first the lowest (Q.703 2.4); where fewer are left, these.

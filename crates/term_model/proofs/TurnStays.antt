@@ -1,5 +1,5 @@
 -- What a turn keeps: step by step.
-use Rattle.std.proofs.Common.{refl, sym, subst, arith, ◌≡◌, ◌∙◌, ℕ, ◌+◌, ◌%◌, ◌==◌, ◌<◌, ◌^◌, ◌||◌, Bool, true, false, not, nat_lt, length, List, [], ◌∷◌, Option, Some, None, if◌then◌else◌}
+use Rattle.std.proofs.Common.{refl, sym, subst, arith, ◌≡◌, ◌∙◌, ℕ, ◌==◌, ◌<◌, ◌^◌, ◌||◌, Bool, true, false, not, nat_lt, length, List, [], ◌∷◌, Option, Some, None, if◌then◌else◌}
 use Rattle.std.proofs.lemmas.Bool.Decides.{nat_tests}
 use Rattle.l2_signals.specs.declared.cause.Cause.{Cause}
 use Rattle.l2_signals.specs.declared.cause.ControlFault.{ControlFault}

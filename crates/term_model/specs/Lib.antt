@@ -1,3 +1,4 @@
+pub mod Lengths
 pub mod Talk
 pub mod TalkLaws
 pub mod Terminal

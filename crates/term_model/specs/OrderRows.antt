@@ -17,6 +17,7 @@ use Rattle.term_model.specs.declared.command.Command.{Command}
 use Rattle.term_model.specs.Choosing.{filled}
 use Rattle.term_model.specs.Hearing.{all_marked}
 use Rattle.term_model.specs.Obeying.{commanded}
+use Rattle.term_model.specs.Lengths.{above_0}
 use Rattle.term_model.specs.Rows.{Leads, lengths, new, got, nothing_done, lssu, sio, sin, sipo, fisu, begins, serving, the_fisu, the_sipo}
 use Rattle.term_model.specs.Talk.{and_then}
 use Rattle.term_model.specs.Terminal.{Terminal, opened, told, no_clocks, start_head}
@@ -34,7 +35,7 @@ overdue = record serving {
 pub record TimerRows : Type 0 where
   -- a T2 of one octet time that Start sets off is over in the same turn
   pub short_t2 : Leads
-      (and_then (commanded (told Command.Start (opened 0 (record lengths { t2 = 1 })))) (λ t. timed t)) [] (λ t.
+      (and_then (commanded (told Command.Start (opened 0 (record lengths { t2 = 1; t2_set = above_0 0 })))) (λ t. timed t)) [] (λ t.
       (t.state ≡ State.OutOfService) × (t.cause ≡ Some Cause.NotPossible) × (t.clocks.t2 ≡ None))
   -- T6 brings the link down before T7 is looked at
   pub t6_and_t7 : Leads (timed overdue) (got (Event.Down 0) Answer.Done ∷ []) (λ t.

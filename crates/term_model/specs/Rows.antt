@@ -15,6 +15,7 @@ use Rattle.set_events.specs.declared.event.Event.{Event}
 use Rattle.set_events.specs.declared.history.Entry.{Entry}
 use Rattle.term_model.specs.declared.command.Command.{Command}
 use Rattle.term_model.specs.declared.timers.Timers.{Timers}
+use Rattle.term_model.specs.Lengths.{above_0}
 use Rattle.term_model.specs.Choosing.{filled}
 use Rattle.term_model.specs.Hearing.{all_marked}
 use Rattle.l2_monitors.specs.Suerm.{fresh}
@@ -29,7 +30,20 @@ abbrev pub Leads : {A : Type 0} → Talk A → List Entry → (A → Type 0) →
 Leads {A} talk entries so = (a : A) × Went talk entries a × so a
 
 abbrev pub lengths : Timers
-lengths = record { t1 = 100000; t2 = 100000; t3 = 100000; t5 = 800; t6 = 100000; t7 = 100000 }
+lengths = record {
+  t1 = 100000;
+  t2 = 100000;
+  t3 = 100000;
+  t5 = 800;
+  t6 = 100000;
+  t7 = 100000;
+  t1_set = above_0 99999;
+  t2_set = above_0 99999;
+  t3_set = above_0 99999;
+  t5_set = above_0 799;
+  t6_set = above_0 99999;
+  t7_set = above_0 99999;
+}
 
 abbrev pub new : Terminal
 new = opened 0 lengths

@@ -1,7 +1,7 @@
 //! A terminal that is joined to itself by its line.
 
 use super::core_door::{
-    CoreDoor, LONG, asked_up, downs, holds, is_legal, started, started_at, ups,
+    CoreDoor, LONG, asked_up, downs, holds, is_legal, started, started_at, timers_of, ups,
 };
 use super::test_lines::{FadingLine, FullLine};
 use line_ring::{Line, LossyLine};
@@ -57,17 +57,29 @@ fn is_legal_with(alloc: Global, door: &CoreDoor, up: usize, down: usize) -> bool
 
 #[test]
 fn t1_is_too_short(rt: HostRuntime) -> Result<(), Fail> {
-    holds(fails_for(rt.alloc(), Timers { t1: 1, ..LONG }, 4))
+    holds(fails_for(
+        rt.alloc(),
+        timers_of(1, 100_000, 100_000, 100_000, 100_000),
+        4,
+    ))
 }
 
 #[test]
 fn t2_is_too_short(rt: HostRuntime) -> Result<(), Fail> {
-    holds(fails_for(rt.alloc(), Timers { t2: 1, ..LONG }, 8))
+    holds(fails_for(
+        rt.alloc(),
+        timers_of(100_000, 1, 100_000, 100_000, 100_000),
+        8,
+    ))
 }
 
 #[test]
 fn t3_is_too_short(rt: HostRuntime) -> Result<(), Fail> {
-    holds(fails_for(rt.alloc(), Timers { t3: 1, ..LONG }, 8))
+    holds(fails_for(
+        rt.alloc(),
+        timers_of(100_000, 100_000, 1, 100_000, 100_000),
+        8,
+    ))
 }
 
 #[test]

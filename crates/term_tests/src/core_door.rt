@@ -1,5 +1,5 @@
 //! A door round a bare set, and what the tests open terminals with.
-ghost use Rattle.std.specs.Prelude.{◌≡◌, ◌<◌, []};
+ghost use Rattle.std.specs.Prelude.{◌≡◌, ◌<◌, [], IfSome};
 
 use line_ring::Line;
 use link_term::{Command, Door, Faults, OpenGate, SetFault, Terminal, Timers};
@@ -65,12 +65,16 @@ pub(crate) fn far_config_of() -> Option<SetConfig> {
 }
 
 /// A door of link 0 of a new set.
-pub(crate) fn door_of(alloc: Global) -> Option<CoreDoor> {
+pub(crate) fn door_of(alloc: Global) -> Option<CoreDoor>
+    ensures { IfSome result (λ door. door.link ≡ 0) }
+{
     door_at(alloc, &config_of()?)
 }
 
 /// A door of link 0 of a new set with these settings.
-fn door_at(alloc: Global, config: &SetConfig) -> Option<CoreDoor> {
+fn door_at(alloc: Global, config: &SetConfig) -> Option<CoreDoor>
+    ensures { IfSome result (λ door. door.link ≡ 0) }
+{
     match SetCore::new(alloc, config) {
         Ok(core) => Some(CoreDoor {
             core,
@@ -100,6 +104,20 @@ pub(crate) const LONG: Timers = Timers {
     t6: 100_000,
     t7: 100_000,
 };
+
+/// Timers of these lengths, and T5 of 800 octet times.
+pub(crate) fn timers_of(t1: u32, t2: u32, t3: u32, t6: u32, t7: u32) -> Timers
+    requires { (0 < t1) × (0 < t2) × (0 < t3) × (0 < t6) × (0 < t7) }
+{
+    Timers {
+        t1,
+        t2,
+        t3,
+        t5: 800,
+        t6,
+        t7,
+    }
+}
 
 /// A terminal of link 0 of a new set, which is told to come up in an emergency.
 pub(crate) fn started<L: Line + Drop>(

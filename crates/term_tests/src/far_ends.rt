@@ -2,7 +2,7 @@
 ghost use Rattle.std.specs.Prelude.{◌≤◌};
 
 use super::core_door::{
-    CoreDoor, LONG, config_of, downs, holds, is_legal, loaded, started_at, ups,
+    CoreDoor, LONG, config_of, downs, holds, is_legal, loaded, started_at, timers_of, ups,
 };
 use super::far_end::{FarEnd, Heard, Script};
 use l2_signals::Status;
@@ -134,7 +134,7 @@ fn eased(lengths: Timers, messages: u16) -> Near {
 
 #[test]
 fn a_far_end_is_busy_for_longer_than_t6(rt: HostRuntime) -> Result<(), Fail> {
-    let lengths = Timers { t6: 1_000, ..LONG };
+    let lengths = timers_of(100_000, 100_000, 100_000, 1_000, 100_000);
     let outcome = faces(rt.alloc(), BUSY, eased(lengths, 0))?;
     holds(outcome.failed_for(5))
 }
@@ -142,7 +142,7 @@ fn a_far_end_is_busy_for_longer_than_t6(rt: HostRuntime) -> Result<(), Fail> {
 /// An acknowledgement ends it in time, and stops T6 (Q.703 9.3).
 #[test]
 fn a_far_end_is_busy_for_less_than_t6(rt: HostRuntime) -> Result<(), Fail> {
-    let lengths = Timers { t6: 1_000, ..LONG };
+    let lengths = timers_of(100_000, 100_000, 100_000, 1_000, 100_000);
     let script = Script { to: 900, ..BUSY };
     let outcome = faces(rt.alloc(), script, eased(lengths, 1))?;
     holds(outcome.is_well() && outcome.acked == 1)
@@ -150,7 +150,7 @@ fn a_far_end_is_busy_for_less_than_t6(rt: HostRuntime) -> Result<(), Fail> {
 
 #[test]
 fn no_acknowledgement_comes_within_t7(rt: HostRuntime) -> Result<(), Fail> {
-    let lengths = Timers { t7: 1_000, ..LONG };
+    let lengths = timers_of(100_000, 100_000, 100_000, 100_000, 1_000);
     let outcome = faces(rt.alloc(), SILENT, eased(lengths, 1))?;
     holds(outcome.failed_for(6) && outcome.acked == 0 && outcome.heard.msus == 1)
 }
@@ -158,7 +158,7 @@ fn no_acknowledgement_comes_within_t7(rt: HostRuntime) -> Result<(), Fail> {
 /// Each SIB starts T7 anew (Q.703 9.3): it's held back for five times its length.
 #[test]
 fn a_busy_far_end_holds_t7_back(rt: HostRuntime) -> Result<(), Fail> {
-    let lengths = Timers { t7: 1_000, ..LONG };
+    let lengths = timers_of(100_000, 100_000, 100_000, 100_000, 1_000);
     let script = Script { to: 5_100, ..BUSY };
     let outcome = faces(rt.alloc(), script, eased(lengths, 1))?;
     holds(outcome.is_well() && outcome.acked == 1 && outcome.heard.msus == 1)

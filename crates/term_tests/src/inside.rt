@@ -322,7 +322,12 @@ fn fisu(bsn: u16, bib: bool, fsn: u16, fib: bool) -> Unit
 fn goes_out_with(inside: &mut Inside, unit: &Unit) -> Header {
     for _octet in 0..LONGEST_LEFT {
         if inside.is_short() && is_narrow(unit) {
-            inside.append_given(unit);
+            if inside.is_busy() {
+                let held = inside.withholding(unit);
+                inside.append(&held);
+            } else {
+                inside.append(unit);
+            }
             return inside.last_head();
         }
         inside.drop_octet();

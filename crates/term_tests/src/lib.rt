@@ -17,6 +17,8 @@ mod far_ends;
 #[cfg(test)]
 mod inside;
 #[cfg(test)]
+mod lent;
+#[cfg(test)]
 mod lines;
 #[cfg(test)]
 mod test_lines;

@@ -1,4 +1,4 @@
-use Rattle.std.proofs.Common.{arith, ◌≡◌, [], drop}
+use Rattle.std.proofs.Common.{arith, ◌≡◌, ◌∙◌, [], drop}
 use Rattle.std.proofs.lemmas.Grind.{common_steps}
 use Rattle.std.proofs.lemmas.List.{drop_more}
 use Rattle.term_model.specs.declared.command.Command.{Command}
@@ -17,6 +17,7 @@ pub loop-command-preserved : goal.loop-command-preserved
 loop-command-preserved g c =
     let went = c.in_ok-obey_if.ensures.talks in record {
       at = c.in_ok-obey_if.ensures.at;
+      number = c.in_ok-obey_if.ensures.number ∙ c.loop-command.invariant.number;
       completes = one_more (obeys_among c.args.commands) c.args.order.now _ _ _ _ _ _ _ _ _ _ _ _
           (drop_more c.args.order.now c.loop-command.command-index Command.Emergency c.loop-command-test.true)
           c.loop-command.invariant.completes went.0 went.1;

@@ -7,6 +7,7 @@ use Rattle.link_term.proofs.obeying.obey_each.Given as goal
 abbrev pub invariant-loop-command : goal.invariant-loop-command
 invariant-loop-command g l = record {
   at : g.D.Door.number l.door ≡ l.inside.link;
+  number : g.D.Door.number l.door ≡ g.D.Door.number l.initial.door;
   completes : Completes (obeys_among l.commands) l.order (drop l.command-index l.order) l.initial.inside l.inside
       (g.D.Door.made l.initial.door) (g.D.Door.made l.door) (g.D.Door.faults l.initial.door) (g.D.Door.faults l.door);
 }

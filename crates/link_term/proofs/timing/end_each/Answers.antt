@@ -1,4 +1,4 @@
-use Rattle.std.proofs.Common.{arith, ◌≡◌, [], drop}
+use Rattle.std.proofs.Common.{arith, ◌≡◌, ◌∙◌, [], drop}
 use Rattle.std.proofs.lemmas.Grind.{common_steps}
 use Rattle.std.proofs.lemmas.List.{drop_more}
 use Rattle.term_core.specs.declared.clocks.Timer.{Timer}
@@ -17,6 +17,7 @@ pub loop-timer-preserved : goal.loop-timer-preserved
 loop-timer-preserved g c =
     let went = c.in_ok-end.ensures.talks in record {
       at = c.in_ok-end.ensures.at;
+      number = c.in_ok-end.ensures.number ∙ c.loop-timer.invariant.number;
       completes = one_more ends c.args.timers.now _ _ _ _ _ _ _ _ _ _ _ _
           (drop_more c.args.timers.now c.loop-timer.timer-index Timer.T1 c.loop-timer-test.true)
           c.loop-timer.invariant.completes went.0 went.1;

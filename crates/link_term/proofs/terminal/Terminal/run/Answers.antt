@@ -1,12 +1,12 @@
 use Rattle.std.proofs.Common.{refl, ap, arith, rules, ◌≡◌, ◌∙◌, ◌≤◌}
 use Rattle.link_term.specs.Turning.{one_if_chosen}
-use Rattle.term_model.specs.declared.report.TermReport.{TermReport}
 use Rattle.link_term.proofs.Turns.{ran_none, ran_more, ran_all, run_failed, at_most_one}
 use Rattle.link_term.proofs.terminal.Terminal.run.Goals as goal
 
 pub loop-turn-init : goal.loop-turn-init
 loop-turn-init g c = record {
   so = ran_none _ _ _ _ _ refl;
+  number = refl;
   same = g.met.L.Line.same_self _;
   works = search rules;
   no_fault = refl;
@@ -25,6 +25,7 @@ loop-turn-preserved g c =
     let one : one_if_chosen c.in_ok-take_turn.field-0.filling ≤ 1 = at_most_one c.in_ok-take_turn.field-0.filling in record {
       so = ran_more _ _ _ _ _ _ _ _ _ _ _ _ _ _ _ so.so once.1
           sums.turns sums.sent sums.good.0 sums.bad.0 sums.sixteen.0;
+      number = c.in_ok-take_turn.ensures.number ∙ so.number;
       same = g.met.L.Line.same_on _ _ _ so.same c.in_ok-take_turn.ensures.same;
       works = c.in_ok-take_turn.ensures.goes_on;
       no_fault = once.2 ∙ so.no_fault;

@@ -1,11 +1,10 @@
 //! The door of a set that threads share.
 ghost use Rattle.std.specs.Prelude.{◌≡◌, [], ◌∷◌, ◌++◌};
-ghost use Rattle.link_term.specs.Seats.{link_in};
+ghost use Rattle.set_crew.specs.Seats.{link_in};
 
-use super::door::{Door, Gate};
-use super::faults::Faults;
-use set_events::{Answer, Event};
-use set_shared::{LinkSet, Opening, SetFault, TermSeat};
+use link_term::{Door, Faults, Gate};
+use set_events::{Answer, Event, SetFault};
+use set_shared::{LinkSet, Opening, TermSeat};
 use std::sync::Wait;
 use std::sync::ledger::Ledger;
 
@@ -63,7 +62,7 @@ impl<'a, C: Opening, M: Ledger, O: Ledger, A: Ledger, R: Wait, G: Gate> SeatDoor
 
 impl<'a, C: Opening, M: Ledger, O: Ledger, A: Ledger, R: Wait, G: Gate> Door
     for SeatDoor<'a, C, M, O, A, R, G> {
-    ghost use Rattle.link_term.specs.Seats.{link_in};
+    ghost use Rattle.set_crew.specs.Seats.{link_in};
 
     ghost number = { λ door. link_in door.seat.who };
 

@@ -1,0 +1,142 @@
+-- Step 5 of a turn, as it's carried out.
+use Rattle.std.proofs.Common.{refl, sym, subst, ap, ◌≡◌, ◌∙◌, true, false, nat_lt, length, List, [], ◌∷◌, ◌++◌, Some, None, Result, Ok, Err, if◌then◌else◌}
+use Rattle.std.specs.Result.{IsErrAnd}
+use Rattle.l2_units.specs.declared.unit.Unit.{Unit as SignalUnit}
+use Rattle.l2_units.specs.Grammar.{head_of}
+use Rattle.set_events.specs.declared.answer.Answer.{Answer}
+use Rattle.set_events.specs.declared.event.Actor.{Actor}
+use Rattle.set_events.specs.declared.event.Event.{Event}
+use Rattle.set_events.specs.declared.fault.SetFault.{SetFault}
+use Rattle.set_events.specs.declared.history.Entry.{Entry}
+use Rattle.term_model.specs.Choosing.{Filled, chosen, counts_sent, filled, given, held_back, is_narrow, sends}
+use Rattle.term_model.specs.OctetOut.{Appends}
+use Rattle.term_model.specs.Talk.{Talk, done, ask, and_then}
+use Rattle.term_model.specs.Terminal.{Terminal}
+use Rattle.link_term.specs.declared.counts.Filling.{Filling}
+use Rattle.link_term.specs.Filling.{FillsBits, Fills, Taps}
+use Rattle.link_term.specs.Talking.{Gains, Breaks}
+use Rattle.link_term.proofs.Talking.{gains_none, gains_asked, gains_joined, breaks_answered, breaks_at_first, breaks_at_last}
+
+-- eight bits or more are left
+pub none_chosen : (t : Terminal) (made : List Entry) {T : Type 0} (tells : T → SignalUnit → T → Type 0) (tap tap' : T) → nat_lt (length t.bits) 8 ≡ false
+    → Taps tells None tap tap' → FillsBits (filled t) Filling.Enough made made t tells tap tap'
+none_chosen t made tells tap tap' long none = record {
+  chosen = record { unit = None; narrow = true; after = t };
+  gains = subst (λ b. Gains (if b then chosen t.state t else done (record { unit = None; narrow = true; after = t })) made made (record { unit = None; narrow = true; after = t }))
+      (sym long) (gains_none (record { unit = None; narrow = true; after = t }) made);
+  appends = refl;
+  after_is = refl;
+  filling_is = refl;
+  unchanged = λ wide. refl;
+  told = none;
+  untold = λ wide. none;
+}
+
+-- a unit that the set wasn't asked for
+pub own_sent : (unit : SignalUnit) (t after : Terminal) (made : List Entry) {T : Type 0} (tells : T → SignalUnit → T → Type 0) (tap tap' : T)
+    → Appends (Some unit) t.bits after.bits → after ≡ record t { bits = after.bits; last = Some (head_of unit) }
+    → Taps tells (Some unit) tap tap' → FillsBits (sends unit t) Filling.Chosen made made after tells tap tap'
+own_sent unit t after made tells tap tap' appends is told =
+    let sent : Filled = record { unit = Some unit; narrow = true; after = record t { last = Some (head_of unit) } } in
+    record { chosen = sent; gains = gains_none sent made; appends = appends; after_is = is; filling_is = refl; unchanged = λ wide. absurd cc; told = told; untold = λ wide. absurd cc }
+
+-- a talk went before, and then the choice
+pub fills_then : (talk : Talk Terminal) (next : Terminal → Talk Filled) (filling : Filling) (made mid made' : List Entry)
+    (t after : Terminal) {T : Type 0} (tells : T → SignalUnit → T → Type 0) (tap tap' : T)
+    → Gains talk made mid t → FillsBits (next t) filling mid made' after tells tap tap'
+    → FillsBits (and_then talk next) filling made made' after tells tap tap'
+fills_then talk next filling made mid made' t after tells tap tap' first fills = record {
+  chosen = fills.chosen;
+  gains = gains_joined talk next made mid made' t fills.chosen first fills.gains;
+  appends = fills.appends;
+  after_is = fills.after_is;
+  filling_is = fills.filling_is;
+  unchanged = fills.unchanged;
+  told = fills.told;
+  untold = fills.untold;
+}
+
+-- which may break off
+pub sends_then : (talk : Talk Terminal) (next : Terminal → Talk Filled) (result : Result Filling SetFault)
+    (made mid made' : List Entry) (faults faults_mid faults' : List SetFault) (t after : Terminal)
+    {T : Type 0} (tells : T → SignalUnit → T → Type 0) (tap tap' : T) → Gains talk made mid t → faults_mid ≡ faults
+    → Fills (next t) result mid made' faults_mid faults' after tells tap tap'
+    → Fills (and_then talk next) result made made' faults faults' after tells tap tap'
+sends_then talk next (Ok it) made mid made' faults faults_mid faults' t after tells tap tap' first same second =
+    (fills_then talk next it made mid made' t after tells tap tap' first second.0, second.1 ∙ same)
+sends_then talk next (Err fault) made mid made' faults faults_mid faults' t after tells tap tap' first same second =
+    (breaks_at_last talk next made mid made' t first second.0, second.1 ∙ ap (λ (fs : List SetFault). fs ++ fault ∷ []) same, second.2)
+
+-- an event is asked, and the choice goes on by the answer
+pub asks_then : (event : Event) (more : Answer → Talk Filled) (who : Actor) (answer : Answer) (result : Result Filling SetFault)
+    (made mid made' : List Entry) (faults faults_mid faults' : List SetFault) (after : Terminal)
+    {T : Type 0} (tells : T → SignalUnit → T → Type 0) (tap tap' : T)
+    → mid ≡ made ++ record { who = who; event = event; answer = answer } ∷ [] → faults_mid ≡ faults
+    → Fills (more answer) result mid made' faults_mid faults' after tells tap tap'
+    → Fills (ask event more) result made made' faults faults' after tells tap tap'
+asks_then event more who answer (Ok it) made mid made' faults faults_mid faults' after tells tap tap' is same fills = (
+  record {
+    chosen = fills.0.chosen;
+    gains = gains_asked event more who answer made mid made' fills.0.chosen is fills.0.gains;
+    appends = fills.0.appends;
+    after_is = fills.0.after_is;
+    filling_is = fills.0.filling_is;
+    unchanged = fills.0.unchanged;
+    told = fills.0.told;
+    untold = fills.0.untold;
+  },
+  fills.1 ∙ same,
+)
+asks_then event more who answer (Err fault) made mid made' faults faults_mid faults' after tells tap tap' is same fills =
+    (breaks_answered event more who answer made mid made' is fills.0, fills.1 ∙ ap (λ (fs : List SetFault). fs ++ fault ∷ []) same, fills.2)
+
+-- the call that answers a fault of the door tells that one
+pub fills_broken : (talk : Talk Filled) (result : Result Filling SetFault) (fault : SetFault) (made made' : List Entry)
+    (faults faults' : List SetFault) (after : Terminal) {T : Type 0} (tells : T → SignalUnit → T → Type 0) (tap tap' : T) → IsErrAnd result (λ e. e ≡ fault)
+    → Breaks talk made made' → faults' ≡ faults ++ fault ∷ [] → Taps tells None tap tap' → Fills talk result made made' faults faults' after tells tap tap'
+fills_broken talk (Ok it) fault made made' faults faults' after tells tap tap' is broke told none = absurd is
+fills_broken talk (Err other) fault made made' faults faults' after tells tap tap' is broke told none =
+    (broke, told ∙ ap (λ (f : SetFault). faults ++ f ∷ []) (sym is), none)
+
+-- a choice that comes to this one
+pub as_chosen : (talk choice : Talk Filled) (filling : Filling) (made made' : List Entry) (after : Terminal)
+    {T : Type 0} (tells : T → SignalUnit → T → Type 0) (tap tap' : T) → choice ≡ talk
+    → FillsBits talk filling made made' after tells tap tap' → FillsBits choice filling made made' after tells tap tap'
+as_chosen talk choice filling made made' after tells tap tap' same fills =
+    subst (λ t. FillsBits t filling made made' after tells tap tap') (sym same) fills
+
+-- a unit of the wide profile
+pub wide_given : (t : Terminal) (made : List Entry) {T : Type 0} (tells : T → SignalUnit → T → Type 0) (tap tap' : T) → Taps tells None tap tap'
+    → FillsBits (done (record { unit = None; narrow = false; after = t })) Filling.Wide made made t tells tap tap'
+wide_given t made tells tap tap' none = record {
+  chosen = record { unit = None; narrow = false; after = t };
+  gains = gains_none (record { unit = None; narrow = false; after = t }) made;
+  appends = refl;
+  after_is = refl;
+  filling_is = refl;
+  unchanged = λ wide. refl;
+  told = none;
+  untold = λ wide. none;
+}
+
+-- which is told apart by the unit's header
+pub given_wide : (unit : SignalUnit) (t : Terminal) (made : List Entry) {T : Type 0} (tells : T → SignalUnit → T → Type 0) (tap tap' : T)
+    → is_narrow (head_of unit) ≡ false → Taps tells None tap tap' → FillsBits (given unit t) Filling.Wide made made t tells tap tap'
+given_wide unit t made tells tap tap' wide none =
+    subst (λ b. FillsBits (if b then and_then (counts_sent unit t) (λ t. sends (held_back t unit) t) else done (record { unit = None; narrow = false; after = t })) Filling.Wide made made t tells tap tap')
+    (sym wide) (wide_given t made tells tap tap' none)
+
+pub given_narrow : (unit : SignalUnit) (t after : Terminal) (made made' : List Entry) {T : Type 0} (tells : T → SignalUnit → T → Type 0) (tap tap' : T)
+    → is_narrow (head_of unit) ≡ true
+    → FillsBits (and_then (counts_sent unit t) (λ t. sends (held_back t unit) t)) Filling.Chosen made made' after tells tap tap'
+    → FillsBits (given unit t) Filling.Chosen made made' after tells tap tap'
+given_narrow unit t after made made' tells tap tap' narrow fills =
+    subst (λ b. FillsBits (if b then and_then (counts_sent unit t) (λ t. sends (held_back t unit) t) else done (record { unit = None; narrow = false; after = t })) Filling.Chosen made made' after tells tap tap')
+    (sym narrow) fills
+
+-- a message breaks off where it's counted
+pub given_broken : (unit : SignalUnit) (t : Terminal) (made made' : List Entry) → is_narrow (head_of unit) ≡ true
+    → Breaks (counts_sent unit t) made made' → Breaks (given unit t) made made'
+given_broken unit t made made' narrow broke =
+    subst (λ b. Breaks (if b then and_then (counts_sent unit t) (λ t. sends (held_back t unit) t) else done (record { unit = None; narrow = false; after = t })) made made')
+    (sym narrow) (breaks_at_first (counts_sent unit t) (λ t. sends (held_back t unit) t) made made' broke)

@@ -1,0 +1,199 @@
+//! A terminal without its surroundings: its door and its line are lent to it for a turn.
+ghost use Rattle.std.specs.Prelude.{◌≡◌, [], true, false, IfOk, IfErr, OnOk, OnErr};
+ghost use Rattle.link_term.specs.declared.fault.TermFault.TheVariants.{Failed};
+ghost use Rattle.link_term.specs.Filling.{Taps};
+ghost use Rattle.link_term.specs.States.{aligning_as, is_paused, state_of};
+ghost use Rattle.link_term.specs.Turning.{TurnsOnce, TurnFails};
+ghost use Rattle.term_model.specs.Terminal.{opened, told};
+
+use super::counts::Turned;
+use super::door::Door;
+use super::fault::TermFault;
+use super::receiver::Receiver;
+use super::tap::{NoTap, Tap};
+use super::turning::take_turn;
+use l2_align::State as Alignment;
+use l2_signals::Cause;
+use l2_state::State;
+use line_ring::Line;
+use term_core::Inside;
+use term_model::{Command, Timers};
+
+/// Where a terminal stands (Q.703 7.3, 12).
+#[derive(Clone, Copy, Debug, PartialEq, Eq)]
+pub enum TermState {
+    /// SIOS goes out.
+    OutOfService,
+    /// SIO goes out: nothing was heard from the far end yet.
+    NotAligned,
+    /// SIN or SIE goes out: the far end isn't known to be aligned.
+    Aligned,
+    /// The same, and the link is tried for errors.
+    Proving,
+    /// FISUs go out: none was heard yet.
+    Ready,
+    /// What the set gives goes out, once it has answered Done to an Up.
+    InService,
+}
+
+/// What a terminal is made of, but for its door and its line, which are lent to it turn by turn: the machines, timers
+/// and bits of its inside, and the receiver of its line (Q.703 2 to 12). Some 900 octets; it takes no memory.
+#[derive(Drop)]
+pub struct Works {
+    pub(crate) inside: Inside,
+    pub(crate) receiver: Receiver,
+    /// A turn was broken off.
+    pub(crate) failed: bool,
+}
+
+impl Works {
+    /// Those of a terminal of this link of its set, which is out of service, with timers of these lengths. No octet was
+    /// taken from a line, and one flag is left to send.
+    pub fn new(link: u8, lengths: Timers) -> Works
+        ensures inside { result.inside ≡ opened link lengths }
+        ensures taken { result.receiver ≡ [] }
+        ensures failed { result.failed ≡ false }
+    {
+        Works {
+            inside: Inside::new(link, lengths),
+            receiver: Receiver::new(),
+            failed: false,
+        }
+    }
+
+    /// A command, which is obeyed in the next turn; it's no matter that it was given before.
+    pub fn command(&mut self, command: Command)
+        ensures inside { self.new.inside ≡ told command self.old.inside }
+        ensures taken { self.new.receiver ≡ self.old.receiver }
+        ensures failed { self.new.failed ≡ self.old.failed }
+    {
+        self.inside.command(command);
+    }
+
+    /// One turn, an octet time, at the door of the terminal's link and one end of its line: commands, one octet in, marks,
+    /// timers, what is sent next, one octet out. Tells what it did.
+    ///
+    /// Faults, where the door answered so: 1 [`TermFault::NoMemory`], 3 [`TermFault::Exhausted`]; 4 [`TermFault::Profile`]
+    /// where it gave a unit that has a number of more than seven bits, whose entry stays with the door. The turn was broken off
+    /// there, and nothing was put. After one, 2 [`TermFault::Failed`], and nothing is done.
+    pub fn turn<D: Door, L: Line>(
+        &mut self,
+        door: &mut D,
+        line: &mut L,
+    ) -> Result<Turned, TermFault>
+        requires { D.number door.old ≡ self.old.inside.link }
+        ensures turns { IfOk result (λ turned. (self.old.failed ≡ false)
+            × TurnsOnce self.old.receiver self.new.receiver self.old.inside turned
+            (D.made door.old) (D.made door.new) (L.taken_so_far line.old) (L.taken_so_far line.new)
+            (L.waiting line.old) (L.put_so_far line.old) (L.put_so_far line.new) (L.free line.new)
+            self.new.inside
+            × (D.faults door.new ≡ D.faults door.old)) }
+        ensures breaks { self.old.failed ≡ false → IfErr result (λ fault. TurnFails fault
+            (D.faults door.old) (D.faults door.new) self.old.receiver self.new.receiver self.old.inside
+            (D.made door.old) (D.made door.new) (L.taken_so_far line.old) (L.taken_so_far line.new)
+            (L.put_so_far line.old) (L.put_so_far line.new) self.new.inside) }
+        ensures failed { self.old.failed ≡ true → (result ≡ Err Failed)
+            × (door.new ≡ door.old) × (line.new ≡ line.old) × (self.new ≡ self.old) }
+        ensures fails { OnErr result (self.new.failed ≡ true) }
+        ensures goes_on { OnOk result (self.new.failed ≡ false) }
+        ensures at { D.number door.new ≡ self.new.inside.link }
+        ensures number { D.number door.new ≡ D.number door.old }
+        ensures same { L.is_same line.old line.new }
+    {
+        self.turn_tapped(door, line, &mut NoTap)
+    }
+
+    /// [`Works::turn`], with a tap that is told of the unit which the turn appended to what is sent, if it did.
+    pub fn turn_tapped<D: Door, L: Line, T: Tap>(
+        &mut self,
+        door: &mut D,
+        line: &mut L,
+        tap: &mut T,
+    ) -> Result<Turned, TermFault>
+        requires { D.number door.old ≡ self.old.inside.link }
+        ensures turns { IfOk result (λ turned. (self.old.failed ≡ false)
+            × (turns : TurnsOnce self.old.receiver self.new.receiver self.old.inside turned
+            (D.made door.old) (D.made door.new) (L.taken_so_far line.old) (L.taken_so_far line.new)
+            (L.waiting line.old) (L.put_so_far line.old) (L.put_so_far line.new) (L.free line.new)
+            self.new.inside)
+            × Taps T.told turns.turn.chosen.unit tap.old tap.new
+            × (D.faults door.new ≡ D.faults door.old)) }
+        ensures breaks { self.old.failed ≡ false → IfErr result (λ fault. TurnFails fault
+            (D.faults door.old) (D.faults door.new) self.old.receiver self.new.receiver self.old.inside
+            (D.made door.old) (D.made door.new) (L.taken_so_far line.old) (L.taken_so_far line.new)
+            (L.put_so_far line.old) (L.put_so_far line.new) self.new.inside) }
+        ensures failed { self.old.failed ≡ true → (result ≡ Err Failed)
+            × (door.new ≡ door.old) × (line.new ≡ line.old) × (self.new ≡ self.old) }
+        ensures untold { OnErr result (tap.new ≡ tap.old) }
+        ensures fails { OnErr result (self.new.failed ≡ true) }
+        ensures goes_on { OnOk result (self.new.failed ≡ false) }
+        ensures at { D.number door.new ≡ self.new.inside.link }
+        ensures number { D.number door.new ≡ D.number door.old }
+        ensures same { L.is_same line.old line.new }
+    {
+        if self.failed {
+            return Err(TermFault::Failed);
+        }
+        match take_turn(&mut self.receiver, &mut self.inside, door, line, tap) {
+            Ok(turned) => Ok(turned),
+            Err(fault) => {
+                self.failed = true;
+                Err(fault)
+            }
+        }
+    }
+
+    /// The number of its link at the set.
+    pub fn link(&self) -> u8
+        ensures { result ≡ self.now.inside.link }
+    {
+        self.inside.link()
+    }
+
+    /// Where it stands (Q.703 7.3, 12).
+    pub fn state(&self) -> TermState
+        ensures { result ≡ state_of self.now.inside }
+    {
+        match self.inside.state_now() {
+            State::OutOfService => TermState::OutOfService,
+            State::Aligning => aligning_as(self.inside.alignment()),
+            State::Ready => TermState::Ready,
+            State::InService { .. } => TermState::InService,
+        }
+    }
+
+    /// Whether it's up at the set: that has answered Done to an Up, and the link didn't fail since.
+    pub fn is_up(&self) -> bool
+        ensures { result ≡ self.now.inside.up }
+    {
+        self.inside.is_up()
+    }
+
+    /// Whether it's in service, and the far end has a processor outage (Q.703 8.2).
+    pub fn is_paused(&self) -> bool
+        ensures { result ≡ is_paused self.now.inside.state }
+    {
+        match self.inside.state_now() {
+            State::InService { paused } => paused,
+            State::OutOfService | State::Aligning | State::Ready => false,
+        }
+    }
+
+    /// Why the link failed last, if it did.
+    pub fn cause(&self) -> Option<Cause>
+        ensures { result ≡ self.now.inside.cause }
+    {
+        self.inside.cause()
+    }
+}
+
+/// How far an alignment is.
+fn aligning_as(alignment: Alignment) -> TermState
+    ensures { result ≡ aligning_as alignment }
+{
+    match alignment {
+        Alignment::Idle | Alignment::NotAligned => TermState::NotAligned,
+        Alignment::Aligned => TermState::Aligned,
+        Alignment::Proving => TermState::Proving,
+    }
+}
