@@ -8,11 +8,12 @@
 //! ```
 //!
 //! [`Lines`] keeps the lines: a unit joins a line at its end and leaves it from any place, and a line can
-//! be emptied. No call touches the line of another link. Whether a unit that leaves was heard or lost is
+//! be emptied; [`Line`] is one of them to read. No call touches the line of another link. Whether a unit that leaves was heard or lost is
 //! the caller's to know; this crate knows no set and no event.
 #![tactic(auto)]
 
 mod line;
 mod lines;
 
+pub use line::Line;
 pub use lines::Lines;

@@ -1,15 +1,18 @@
 //! Units under way on one link.
-ghost use Rattle.std.specs.Prelude.{◌≡◌, [], ◌∷◌, ◌++◌, OnOk, OnErr};
+ghost use Rattle.std.specs.Prelude.{◌≡◌, ◌==◌, [], ◌∷◌, ◌++◌, OnOk, OnErr, length, slice_get};
+ghost use Rattle.std.specs.Option.{option_copied};
 ghost use Rattle.link_lines.specs.Lines.{IsTakenFrom};
 
 use l2_units::Unit;
 use std::alloc::{AllocFailed, Global};
+use std::collections::VecDeque;
 use std::marker::Model;
 
-/// Units under way on one link, oldest first. Contracts see the list.
+/// Units under way on one link, oldest first. Contracts see the list. The front leaves it at the same cost whatever stands
+/// behind.
 #[derive(Drop)]
-pub(crate) struct Line {
-    units: Vec<Unit>,
+pub struct Line {
+    units: VecDeque<Unit>,
 }
 
 impl Model for Line {
@@ -27,7 +30,7 @@ impl Line {
         ensures { result ≡ [] }
     {
         Line {
-            units: Vec::new(alloc),
+            units: VecDeque::new(alloc),
         }
     }
 
@@ -36,25 +39,38 @@ impl Line {
         ensures ok { OnOk result (self.new ≡ self.old ++ unit ∷ []) }
         ensures err { OnErr result (self.new ≡ self.old) }
     {
-        self.units.push(unit)
+        self.units.push_back(unit)
     }
 
-    /// The units, oldest first.
-    pub(crate) fn units(&self) -> &[Unit]
-        ensures { result.now ≡ self.now }
+    /// How many units are under way.
+    pub fn len(&self) -> usize
+        ensures { result ≡ length self.now }
     {
-        &self.units
+        self.units.len()
+    }
+
+    /// Whether none is.
+    pub fn is_empty(&self) -> bool
+        ensures { result ≡ (length self.now == 0) }
+    {
+        self.units.is_empty()
+    }
+
+    /// The unit at this place, the oldest at 0.
+    pub fn unit(&self, place: u64) -> Option<&Unit>
+        ensures { option_copied result ≡ slice_get self.now place }
+    {
+        self.units.get(place as usize)
     }
 
     /// Takes the unit at this place out of the line, if there is one.
     pub(crate) fn take_out(&mut self, place: u64) -> Option<Unit>
         ensures { IsTakenFrom result self.old place self.new }
     {
-        if place < self.units.len() as u64 {
-            Some(self.units.remove(place as usize))
-        } else {
-            None
+        if place == 0 {
+            return self.units.pop_front();
         }
+        self.units.remove(place as usize)
     }
 
     /// Nothing is under way any more.

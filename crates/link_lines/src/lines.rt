@@ -9,6 +9,8 @@ use std::marker::Model;
 #[derive(Drop)]
 pub struct Lines {
     lines: Vec<Line>,
+    /// That of a link which isn't there.
+    none: Line,
 }
 
 impl Model for Lines {
@@ -18,6 +20,10 @@ impl Model for Lines {
     ghost Value = { List (List SignalUnit) };
 
     ghost view = { λ l. l.lines.items };
+
+    ghost use Rattle.std.specs.Prelude.{◌≡◌, []};
+
+    ghost invariant = { λ l. l.none ≡ [] };
 }
 
 impl Lines {
@@ -32,7 +38,10 @@ impl Lines {
         for _ in 0..links {
             lines.push(Line::new(alloc))?;
         }
-        Ok(Lines { lines })
+        Ok(Lines {
+            lines,
+            none: Line::new(alloc),
+        })
     }
 
     /// The unit joins the line of this link; where memory is wanted, no line has changed.
@@ -47,12 +56,12 @@ impl Lines {
     }
 
     /// The units under way on this link, oldest first; none on a link that there isn't.
-    pub fn units(&self, link: u8) -> &[Unit]
+    pub fn line(&self, link: u8) -> &Line
         ensures { result.now ≡ units_on link self.now }
     {
         match self.lines.get(link as usize) {
-            Some(line) => line.units(),
-            None => &[],
+            Some(line) => line,
+            None => &self.none,
         }
     }
 

@@ -21,5 +21,6 @@ mod fault;
 mod world;
 
 pub use fault::PlayFault;
+pub use link_lines::Line;
 pub use world::World;
 pub use world_steps::{End, Shown, Step};

@@ -10,7 +10,7 @@ ghost use Rattle.pair_streams.specs.Arrived.{AreDone};
 
 use super::fault::PlayFault;
 use l2_units::{Unit, copy_of_unit};
-use link_lines::Lines;
+use link_lines::{Line, Lines};
 use set_core::{SetCore, SetFault};
 use set_events::{Actor, Answer, Counts, Event, SetConfig};
 use set_step::is_asked;
@@ -173,12 +173,12 @@ impl World {
     }
 
     /// The units under way to this end on the link, oldest first; none on a link that the world hasn't.
-    pub fn line(&self, end: End, link: u8) -> &[Unit]
+    pub fn line(&self, end: End, link: u8) -> &Line
         ensures { result.now ≡ line_to self.now end link }
     {
         match end {
-            End::A => self.to_a.units(link),
-            End::B => self.to_b.units(link),
+            End::A => self.to_a.line(link),
+            End::B => self.to_b.line(link),
         }
     }
 

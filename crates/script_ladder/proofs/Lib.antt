@@ -1,1 +1,2 @@
 mod Standing
+pub mod UnderWay

@@ -16,7 +16,7 @@ use super::units::{find_carried, write_any, write_sent_unit, write_unit};
 use arrayvec::ArrayVec;
 use decode_text::write_both;
 use l2_units::{Profile, Unit, copy_of_unit};
-use pair_world::{End, World};
+use pair_world::{End, Line, World};
 use printing::{Fault, Sink, Source};
 use script_text::{Account, ScriptFault, tell_script, world_profile};
 use set_core::SetCore;
@@ -129,10 +129,10 @@ fn find_affected(world: &World, step: &Step) -> Option<Unit>
 }
 
 /// The unit at this place of a line, from 0.
-fn unit_at(line: &[Unit], place: u64) -> Option<Unit>
+fn unit_at(line: &Line, place: u64) -> Option<Unit>
     ensures { result ≡ slice_get line.now place }
 {
-    match line.get(place as usize) {
+    match line.unit(place) {
         Some(unit) => Some(copy_of_unit(unit)),
         None => None,
     }

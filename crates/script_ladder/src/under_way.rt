@@ -5,11 +5,11 @@ ghost use Rattle.script_ladder.specs.Ladder.{marks, marks_below, marks_on, mark,
 use super::fitting::fit;
 use super::rows::UNDER_WAY;
 use l2_units::Unit;
-use pair_world::{End, World};
+use pair_world::{End, Line, World};
 use std::alloc::{AllocError, Global};
 
 /// The most units of a line that are told: four fill the place.
-const MOST: usize = 5;
+const MOST: u64 = 5;
 
 /// What is under way on all links, in both ways.
 #[tactic(auto, unfolding(crate::specs::Ladder::under_way))]
@@ -34,25 +34,21 @@ fn write_all(alloc: Global, world: &World) -> Result<Vec<u8>, AllocError>
 fn write_link(alloc: Global, world: &World, link: u8) -> Result<Vec<u8>, AllocError>
     ensures { IfOk result (λ text. text.items ≡ marks_on world.now link) }
 {
-    let mut text = write_marks(alloc, link, ">", first_of(world.line(End::B, link)))?;
-    text.extend_from_slice(&write_marks(alloc, link, "<", first_of(world.line(End::A, link)))?)?;
+    let mut text = write_marks(alloc, link, ">", world.line(End::B, link))?;
+    text.extend_from_slice(&write_marks(alloc, link, "<", world.line(End::A, link))?)?;
     Ok(text)
 }
 
-/// The first units of a line.
-fn first_of(units: &[Unit]) -> &[Unit]
-    ensures { result.now ≡ take 5 units.now }
-{
-    &units[..units.len().min(MOST)]
-}
-
-/// Each of these units with its link and its way.
-fn write_marks(alloc: Global, link: u8, way: &str, units: &[Unit]) -> Result<Vec<u8>, AllocError>
-    ensures { IfOk result (λ text. text.items ≡ marks link way.now units.now) }
+/// Each of the first units of a line with its link and its way.
+#[tactic(auto, using(crate::proofs::UnderWay::marks_next))]
+fn write_marks(alloc: Global, link: u8, way: &str, line: &Line) -> Result<Vec<u8>, AllocError>
+    ensures { IfOk result (λ text. text.items ≡ marks link way.now (take 5 line.now)) }
 {
     let mut text: Vec<u8> = Vec::new(alloc);
-    for unit in units {
-        text.extend_from_slice(&write_mark(alloc, link, way, unit)?)?;
+    for place in 0..MOST {
+        if let Some(unit) = line.unit(place) {
+            text.extend_from_slice(&write_mark(alloc, link, way, unit)?)?;
+        }
     }
     Ok(text)
 }
