@@ -1,1 +1,2 @@
+pub mod Forgetting
 pub mod Kept
