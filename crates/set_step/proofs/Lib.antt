@@ -1,2 +1,2 @@
-pub mod Forgetting
+pub mod Forgotten
 pub mod Kept

@@ -4,7 +4,7 @@ ghost use Rattle.set_model.specs.Checkpoint.{checkpointed};
 ghost use Rattle.set_model.specs.State.{State, all_finished};
 ghost use Rattle.set_moves.specs.Agreement.{Agrees, Holds};
 ghost use Rattle.set_moves.specs.Parts.{kept_of};
-ghost use Rattle.set_step.specs.Forgetting.{together};
+ghost use Rattle.set_step.specs.Forgotten.{together};
 
 use set_events::Finished;
 use set_moves::{HeardBody, Inbox, Link, Parts};
@@ -12,7 +12,7 @@ use std::alloc::{AllocError, Global};
 use std::collections::VecDeque;
 
 /// What a checkpoint keeps: the messages that aren't finished. Those that are leave, and are counted.
-#[tactic(auto, using(crate::proofs::Forgetting::fits))]
+#[tactic(auto, using(crate::proofs::Forgotten::fits))]
 pub(crate) fn kept(parts: &Parts) -> Result<Parts, AllocError>
     requires { Holds (kept_of parts.now) }
     ensures { IfOk result (λ kept. (s : State) → Agrees (kept_of parts.now) s

@@ -4,7 +4,7 @@ use Rattle.std.proofs.lemmas.Bool.Decides.{nat_tests}
 use Rattle.std.proofs.lemmas.List.{length-map}
 use Rattle.set_queues.specs.Bodies.{kept_bodies}
 use Rattle.set_queues.specs.Buffers.{is_standing}
-use Rattle.set_queues.specs.Messages.{Message, count_of, finished_in, is_ended_order, is_there, is_unfinished, is_users, kept_slot, slot_at, unfinished as unfinished_messages, was_acked, was_discarded_by}
+use Rattle.set_queues.specs.Messages.{count_of, finished_in, is_ended_order, is_there, is_unfinished, is_users, kept_slot, slot_at, unfinished as unfinished_messages, was_acked, was_discarded_by}
 use Rattle.set_queues.proofs.Placing.{length_slots, slot_in}
 use Rattle.set_queues.proofs.Standing.{same_is, slot_map, slot_past}
 use Rattle.set_model.specs.Checkpoint.{checkpointed, counted, stays, unfinished}
@@ -12,21 +12,21 @@ use Rattle.set_model.specs.Rows.{Emergency, NoAnswer, Unreasonable, Fate, IsNumb
 use Rattle.set_model.specs.Sound.{IsSound, is_unfinished as is_unfinished_fate}
 use Rattle.set_model.specs.State.{FinishedCounts, State, all_finished, given}
 use Rattle.set_model.proofs.Checkpointing.{checkpoints, stand_still}
-use Rattle.set_moves.specs.Agreement.{Agrees, Holds, Kept, Stands, StandsFor, is_there as is_fate, kind_of, label_in, label_of, rows_at}
+use Rattle.set_moves.specs.Agreement.{Message, Agrees, Holds, Kept, Stands, StandsFor, is_there as is_fate, kind_of, label_in, label_of, rows_at}
 use Rattle.set_moves.specs.Parts.{kept_of}
 use Rattle.set_moves.specs.declared.parts.Parts.{Parts}
 use Rattle.set_traffic.proofs.Counts.{counted as counted_by, users_there}
-use Rattle.set_step.specs.Forgetting.{together}
+use Rattle.set_step.specs.Forgotten.{together}
 
 -- a fate that isn't final is that of a queue
 pub final_is : (fate : Fate) → is_standing fate ≡ is_unfinished_fate fate
 final_is fate = grind arith
 
 -- THE SLOT OF A NUMBER and its row, if they stay
-record StaysAs (slot : Option Message) (body : Option (List ℕ)) (row : Option Row) : Type 0 where
+record StaysAs (slot : Option Message) (octets : Option (List ℕ)) (row : Option Row) : Type 0 where
   pub fate : option_map (λ (m : Message). m.fate) (kept_slot slot) ≡ option_map (λ (r : Row). r.fate) (stays row)
   pub label : option_map label_in (kept_slot slot) ≡ option_map label_of (option_map (λ (r : Row). r.body) (stays row))
-  pub body : cond (is_unfinished slot) body None ≡ option_map (λ (r : Row). r.body) (stays row)
+  pub body : cond (is_unfinished slot) octets None ≡ option_map (λ (r : Row). r.body) (stays row)
 
 stays_as : (slot : Option Message) (body : Option (List ℕ)) (row : Option Row) → option_map (λ (m : Message). m.fate) slot ≡ option_map (λ (r : Row). r.fate) row → option_map label_in slot ≡ option_map label_of (option_map (λ (r : Row). r.body) row) → body ≡ option_map (λ (r : Row). r.body) row → StaysAs slot body row
 stays_as None body None f l b = record { fate = refl; label = refl; body = refl }
@@ -46,12 +46,12 @@ finished_are k s f =
     rw (f.finished, in_place was_acked, in_place (was_discarded_by Emergency), in_place (was_discarded_by Unreasonable), in_place (was_discarded_by NoAnswer), orders) refl
 
 -- WHAT IS KEPT, without what is finished
-module _ (k : Kept) (s : State) (a : Agrees k s) where
-  abbrev pub kept : Kept
-  kept = record k { messages = unfinished_messages k.messages; bodies = kept_bodies k.messages k.bodies; finished = together k.finished (finished_in k.messages) }
+abbrev pub kept_in : Kept → Kept
+kept_in k = record k { messages = unfinished_messages k.messages; bodies = kept_bodies k.messages k.bodies; finished = together k.finished (finished_in k.messages) }
 
-  as : (number : ℕ) → StaysAs (slot_at number k.messages) (slot_at number k.bodies) (row_of number s.rows)
-  as number = stays_as _ _ _ (a.stands.stands.fates number) (a.stands.stands.labels number) (a.stands.bodies number)
+module _ (k : Kept) (s : State) (a : Agrees k s) where
+  staying : (number : ℕ) → StaysAs (slot_at number k.messages) (slot_at number k.bodies) (row_of number s.rows)
+  staying number = stays_as _ _ _ (a.stands.stands.fates number) (a.stands.stands.labels number) (a.stands.bodies number)
 
   row_is : (number : ℕ) → row_of number (unfinished s.rows) ≡ stays (row_of number s.rows)
   row_is number = (checkpoints s).kept number a.sound
@@ -68,17 +68,17 @@ module _ (k : Kept) (s : State) (a : Agrees k s) where
   stands : Stands k.lists (unfinished_messages k.messages) (unfinished s.rows)
   stands = record {
     queues = λ fate t. a.stands.stands.queues fate t ∙ ap numbers (sym (stand_still (is_fate fate) (λ f e. let is = same_is f fate t e in rw is (sym (final_is fate) ∙ t)) s.rows));
-    fates = λ number. ap (option_map (λ (m : Message). m.fate)) (slot_map kept_slot refl k.messages number) ∙ (as number).fate ∙ sym (ap (option_map (λ (r : Row). r.fate)) (row_is number));
-    labels = λ number. ap (option_map label_in) (slot_map kept_slot refl k.messages number) ∙ (as number).label ∙ sym (ap (λ (o : Option Row). option_map label_of (option_map (λ (r : Row). r.body) o)) (row_is number));
+    fates = λ number. ap (option_map (λ (m : Message). m.fate)) (slot_map kept_slot refl k.messages number) ∙ (staying number).fate ∙ sym (ap (option_map (λ (r : Row). r.fate)) (row_is number));
+    labels = λ number. ap (option_map label_in) (slot_map kept_slot refl k.messages number) ∙ (staying number).label ∙ sym (ap (λ (o : Option Row). option_map label_of (option_map (λ (r : Row). r.body) o)) (row_is number));
     numbered = subst (λ (n : ℕ). IsNumbered n (unfinished s.rows)) (sym many) ((checkpoints s).sound a.sound).numbered;
   }
 
-  pub kept_agrees : Agrees kept (checkpointed s)
+  pub kept_agrees : Agrees (kept_in k) (checkpointed s)
   kept_agrees = record {
     stands = record {
       settings = a.stands.settings;
       stands = stands;
-      bodies = λ number. body_is number ∙ (as number).body ∙ sym (ap (option_map (λ (r : Row). r.body)) (row_is number));
+      bodies = λ number. body_is number ∙ (staying number).body ∙ sym (ap (option_map (λ (r : Row). r.body)) (row_is number));
       held_bodies = length_slots _ (length k.bodies) ∙ a.stands.held_bodies ∙ sym (length-map k.messages kept_slot);
       given_out = many;
       finished = finished_are k s a.stands;
