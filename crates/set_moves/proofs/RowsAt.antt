@@ -15,7 +15,6 @@ use Rattle.set_moves.specs.Agreement.{Message, is_there, label_in, label_of, row
 use Rattle.std.proofs.lemmas.List.Elements.{filter-append}
 use Rattle.set_queues.specs.Queues.{occurs, AreGiven}
 use Rattle.set_queues.proofs.Standing.{same_is, same_self, occurs-split}
-use Rattle.std.proofs.lemmas.Bool.{cases_lt}
 
 -- a number occurs among the rows that a test picks as often as its row is picked
 occurs_picked : (p : Row → Bool) (n : ℕ) (rows : List Row) → occurs n (numbers (filter p rows)) ≡ length (filter p (with_number n rows))

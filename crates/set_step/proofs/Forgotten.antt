@@ -1,5 +1,5 @@
 -- WHAT A CHECKPOINT KEEPS agrees with the state that it leads to.
-use Rattle.std.proofs.Common.{refl, arith, ◌≡◌, ◌∙◌, ap, sym, subst, ◌+◌, ◌≤◌, ◌&&◌, [], ◌∷◌, List, ℕ, Bool, true, false, not, length, map, filter, cond, Option, None, Some, option_map, nat_lt}
+use Rattle.std.proofs.Common.{refl, arith, ◌≡◌, ◌∙◌, ap, sym, subst, ◌+◌, ◌≤◌, ◌&&◌, [], ◌∷◌, List, ℕ, Bool, not, length, filter, cond, Option, None, Some, option_map}
 use Rattle.std.proofs.lemmas.Bool.Decides.{nat_tests}
 use Rattle.std.proofs.lemmas.List.{length-map}
 use Rattle.set_queues.specs.Bodies.{kept_bodies}
@@ -8,11 +8,11 @@ use Rattle.set_queues.specs.Messages.{count_of, finished_in, is_ended_order, is_
 use Rattle.set_queues.proofs.Placing.{length_slots, slot_in}
 use Rattle.set_queues.proofs.Standing.{same_is, slot_map, slot_past}
 use Rattle.set_model.specs.Checkpoint.{checkpointed, counted, stays, unfinished}
-use Rattle.set_model.specs.Rows.{Emergency, NoAnswer, Unreasonable, Fate, IsNumbered, Row, body_at, is_users as is_users_row, numbers, place, row_of, standing, users}
-use Rattle.set_model.specs.Sound.{IsSound, is_unfinished as is_unfinished_fate}
-use Rattle.set_model.specs.State.{FinishedCounts, State, all_finished, given}
+use Rattle.set_model.specs.Rows.{Emergency, NoAnswer, Unreasonable, Fate, IsNumbered, Row, is_users as is_users_row, numbers, row_of, standing, users}
+use Rattle.set_model.specs.Sound.{is_unfinished as is_unfinished_fate}
+use Rattle.set_model.specs.State.{State, all_finished, given}
 use Rattle.set_model.proofs.Checkpointing.{checkpoints, stand_still}
-use Rattle.set_moves.specs.Agreement.{Message, Agrees, Holds, Kept, Stands, StandsFor, is_there as is_fate, kind_of, label_in, label_of, rows_at}
+use Rattle.set_moves.specs.Agreement.{Message, Agrees, Holds, Kept, Stands, StandsFor, is_there as is_fate, kind_of, label_in, label_of}
 use Rattle.set_moves.specs.Parts.{kept_of}
 use Rattle.set_moves.specs.declared.parts.Parts.{Parts}
 use Rattle.set_traffic.proofs.Counts.{counted as counted_by, users_there}
