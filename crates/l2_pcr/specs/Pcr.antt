@@ -1,6 +1,6 @@
 -- Error control by preventive cyclic retransmission (Q.703 6), as functions of its state and of the
 -- link's window.
-use Rattle.std.specs.Prelude.{◌≡◌, ◌≢◌, ℕ, ◌+◌, ◌-◌, ◌%◌, ◌<◌, ◌≤◌, Bool, true, false, not, ◌&&◌, ◌||◌, ◌==◌, nat_lt, nat_le, if◌then◌else◌, Some, None, [], drop, length, slice_get}
+use Rattle.std.specs.Prelude.{◌≡◌, ◌≢◌, ℕ, ◌+◌, ◌-◌, ◌<◌, ◌≤◌, Bool, true, false, not, ◌&&◌, ◌||◌, ◌==◌, nat_lt, nat_le, if◌then◌else◌, Some, None, [], drop, length, slice_get}
 use Rattle.l2_units.specs.declared.unit.Header.{Header}
 use Rattle.l2_window.specs.Window.{WindowState, Sends, fsn_at, last_fsn, distance_to, most_unacked}
 use Rattle.l2_window.specs.Control.{IsMessageAnd, IsFillAnd, has_new, header_of, bsn_of, fsn_after, acked_where, window_where}

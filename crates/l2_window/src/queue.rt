@@ -1,4 +1,6 @@
 //! A queue that wants no memory while there is room.
+ghost use Rattle.std.specs.Prelude.{◌≡◌, ◌≤◌, IfOk, length};
+
 use circular_buffer::HeapCircularBuffer;
 use std::alloc::{AllocError, Global};
 use std::marker::Model;
@@ -32,6 +34,15 @@ impl Queue {
     {
         Ok(Queue {
             ring: HeapCircularBuffer::with_capacity(alloc, 0)?,
+        })
+    }
+
+    /// A queue of the same messages, with no room.
+    pub fn copied(&self) -> Result<Queue, AllocError>
+        ensures { IfOk result (λ queue. queue.messages ≡ self.now.messages) }
+    {
+        Ok(Queue {
+            ring: copy_of(&self.ring, self.ring.len())?,
         })
     }
 
@@ -123,4 +134,19 @@ impl Queue {
         let Queue { ring } = self;
         ring
     }
+}
+
+/// A ring of this capacity, with the same messages.
+pub(crate) fn copy_of(
+    ring: &HeapCircularBuffer<u64>,
+    capacity: usize,
+) -> Result<HeapCircularBuffer<u64>, AllocError>
+    requires { length ring.now.items ≤ capacity }
+    ensures { IfOk result (λ copy. (copy.items ≡ ring.now.items) × (copy.capacity ≡ capacity)) }
+{
+    let mut copy = HeapCircularBuffer::with_capacity(*ring.allocator(), capacity)?;
+    let (first, rest) = ring.as_slices();
+    copy.extend_from_slice(first);
+    copy.extend_from_slice(rest);
+    Ok(copy)
 }

@@ -1,7 +1,7 @@
 //! The window: what was sent and isn't acknowledged, and what waits to be sent.
 use super::control::{in_cycle, number_after};
 use super::fault::WindowFault;
-use super::queue::Queue;
+use super::queue::{Queue, copy_of};
 use circular_buffer::HeapCircularBuffer;
 use l2_units::Profile;
 use std::alloc::{AllocError, Global};
@@ -73,6 +73,19 @@ impl Window {
             last: most,
             unacked: HeapCircularBuffer::with_capacity(alloc, usize::from(most))?,
             unsent: Queue::new(alloc)?,
+        })
+    }
+
+    /// A window of the same messages, with no room.
+    pub fn copied(&self) -> Result<Window, NoMemory>
+        ensures { IfOk result (λ window. window ≡ record self.now { room = window.room }) }
+    {
+        let most = usize::from(self.profile.most_unacked());
+        Ok(Window {
+            profile: self.profile,
+            last: self.last,
+            unacked: copy_of(&self.unacked, most)?,
+            unsent: self.unsent.copied()?,
         })
     }
 

@@ -1,14 +1,14 @@
 -- What holds of every set's queues goes on holding.
-use Rattle.std.proofs.Common.{refl, arith, ◌≡◌, ◌∙◌, ap, ◌+◌, ◌≤◌, ◌<◌, [], ◌∷◌, ◌++◌, length, ℕ, Bool, true, false, ◌==◌, List, Some, cond, take, drop, slice_get, ◌≢◌, subst, Option, append_assoc, IfSome}
-use Rattle.set_queues.specs.Messages.{one_if, Message, restood_one, restood, IsFit, AreFit}
+use Rattle.std.proofs.Common.{refl, arith, ◌≡◌, ◌∙◌, ap, sym, ◌+◌, ◌≤◌, ◌<◌, [], ◌∷◌, ◌++◌, length, ℕ, Bool, true, false, ◌==◌, List, Some, cond, take, drop, slice_get, ◌≢◌, subst, Option, append_assoc, IfSome}
+use Rattle.set_queues.specs.Messages.{one_if, Message, restood_one, restood, unfinished, kept_slot, IsFit, AreFit}
 use Rattle.set_queues.specs.Buffers.{Fate, Waiting, Unacked, no_lists, empty_lists, LinkLists, Lists, is_standing, same_fate, queue_at, with_queue, with_last, profile_at, on_link, IsKnown, IsQueued, Rooms, Held, room_at, TakesRoom}
 use Rattle.l2_units.specs.declared.profile.Profile.{Profile}
 use Rattle.l2_window.specs.Window.{most_unacked}
 use Rattle.set_queues.specs.Queues.{occurs, stands, passed, passed_first, AreTied, AreSound, AreNarrow}
-use Rattle.set_queues.proofs.Standing.{length-updated, updated_same, updated_other, get_push, Moves, moved_tie, given_queue, take_get, same_is, occurs-append, occurs-split, occurs_here, queue_set, links_stay, queue_away, SameSize, size_stays, known_on, restood-append, same_self, queued_stands}
-use Rattle.set_queues.proofs.Tallies.{fit_push, fit_restood}
+use Rattle.set_queues.proofs.Standing.{length-updated, updated_same, updated_other, slot_push, slot_past, slot_map, Moves, moved_tie, given_queue, take_get, same_is, occurs-append, occurs-split, occurs_here, queue_set, links_stay, queue_away, SameSize, size_stays, known_on, restood-append, same_self, queued_stands}
+use Rattle.set_queues.proofs.Tallies.{fit_push, fit_restood, fit_kept}
 use Rattle.std.proofs.lemmas.List.{get_or-replicate, get_or_past, length-replicate, length-append, length-take, length-drop}
-use Rattle.std.proofs.lemmas.Option.{slice_get_past, slice_get_cases}
+use Rattle.std.proofs.lemmas.Option.{slice_get_cases}
 use Rattle.std.proofs.lemmas.Bool.{eq-eqb}
 use Rattle.std.proofs.lemmas.Bool.Decides.{nat_tests}
 use Rattle.set_queues.specs.Settling.{fate_on, on, Settles}
@@ -45,12 +45,12 @@ pub profile_last : (l fsn k : ℕ) (q : Lists) → profile_at k (with_last l fsn
 profile_last l fsn k q = profile_updated (λ (z : LinkLists). record z { last = fsn }) (λ z. refl) l k q
 
 -- of as many links and codes
-sound_on : (q q' : Lists) (ms ms' : List Message) → AreSound q ms → SameSize q q' → AreNarrow q' → AreTied q' ms' → AreFit ms' → AreSound q' ms'
+sound_on : (q q' : Lists) (ms ms' : List (Option Message)) → AreSound q ms → SameSize q q' → AreNarrow q' → AreTied q' ms' → AreFit ms' → AreSound q' ms'
 sound_on q q' ms ms' s e n t f = record { one = omega (arith, s.one, e.links); few = omega (arith, s.few, e.links); codes = e.back ∙ s.codes; narrow = n; tied = t; fit = f }
 
 -- THE FIRST SO MANY OF A QUEUE stand last in another place
 
-pub sound_moved : (k : ℕ) (from to : Fate) (q : Lists) (ms : List Message) → is_standing from ≡ true → IsKnown from q → IsKnown to q → same_fate to from ≡ false → AreSound q ms → ((l : ℕ) → same_fate to (Unacked l) ≡ true → length (queue_at to q) + k ≤ most_unacked (profile_at l q)) → AreSound (passed_first k from to q) (restood (take k (queue_at from q)) to ms)
+pub sound_moved : (k : ℕ) (from to : Fate) (q : Lists) (ms : List (Option Message)) → is_standing from ≡ true → IsKnown from q → IsKnown to q → same_fate to from ≡ false → AreSound q ms → ((l : ℕ) → same_fate to (Unacked l) ≡ true → length (queue_at to q) + k ≤ most_unacked (profile_at l q)) → AreSound (passed_first k from to q) (restood (take k (queue_at from q)) to ms)
 sound_moved k from to q ms standing known other apart s n =
     let queues = both_replaced q from to (drop k (queue_at from q)) (queue_at to q ++ take k (queue_at from q)) known other in
     let moves : Moves (take k (queue_at from q)) from to q (passed_first k from to q) = λ f t m. let there = queues f t in let left = same_is from f t in let come = same_is to f t in grind (arith, occurs-split, occurs-append) in
@@ -62,7 +62,7 @@ pub unqueued : (to : Fate) (l : ℕ) → (is_standing to ≡ true → IsQueued t
 unqueued to l h = grind arith
 
 -- to where messages come otherwise than by being sent
-pub sound_passed : (k : ℕ) (from to : Fate) (q q' : Lists) (ms ms' : List Message) → AreSound q ms → is_standing from ≡ true → IsKnown from q → IsKnown to q → same_fate to from ≡ false → (is_standing to ≡ true → IsQueued to) → q' ≡ passed_first k from to q → ms' ≡ restood (take k (queue_at from q)) to ms → AreSound q' ms'
+pub sound_passed : (k : ℕ) (from to : Fate) (q q' : Lists) (ms ms' : List (Option Message)) → AreSound q ms → is_standing from ≡ true → IsKnown from q → IsKnown to q → same_fate to from ≡ false → (is_standing to ≡ true → IsQueued to) → q' ≡ passed_first k from to q → ms' ≡ restood (take k (queue_at from q)) to ms → AreSound q' ms'
 sound_passed k from to q q' ms ms' s standing known other apart n e m = rw (e, m) (sound_moved k from to q ms standing known other apart s (λ l f. let no = unqueued to l n in absurd (cc)))
 
 pub moved_one : (from to : Fate) (q mid new : Lists) → IsKnown to q → same_fate to from ≡ false → mid ≡ with_queue to (queue_at to q ++ take 1 (queue_at from q)) q → new ≡ with_queue from (drop 1 (queue_at from mid)) mid → new ≡ passed_first 1 from to q
@@ -70,15 +70,36 @@ moved_one from to q mid new o a m n = rw (n, queue_away to from _ q mid m o a, m
 
 -- A NEW MESSAGE
 
-added_tie : (q : Lists) (ms : List Message) (x : Message) → AreTied q ms → is_standing x.fate ≡ true → IsKnown x.fate q → AreTied (with_queue x.fate (queue_at x.fate q ++ length ms ∷ []) q) (ms ++ x ∷ [])
-added_tie q ms x tie u k f s m =
-    let stood : one_if (stands f m (ms ++ x ∷ [])) ≡ one_if (stands f m ms) + cond (length ms == m) (one_if (same_fate x.fate f)) 0 = grind (arith, get_push, slice_get_past) in
-    grind (arith, same_is, tie f s m, queue_set x.fate f (queue_at x.fate q ++ length ms ∷ []) q u k, stood, occurs-append m (queue_at x.fate q) (length ms ∷ []))
+stood_push : (f : Fate) (m : ℕ) (ms : List (Option Message)) (x : Message) (b : Bool) → (length ms == m) ≡ b → one_if (stands f m (ms ++ Some x ∷ [])) ≡ one_if (stands f m ms) + cond b (one_if (same_fate x.fate f)) 0
+stood_push f m ms x true e = let past : length ms ≤ m = grind (arith, nat_tests) in rw (slot_push ms (Some x) m, e, slot_past ms m past) (omega arith)
+stood_push f m ms x false e = rw (slot_push ms (Some x) m, e) (omega arith)
 
-pub sound_added : (q : Lists) (ms : List Message) (x : Message) → AreSound q ms → IsFit x → IsKnown x.fate q → IsQueued x.fate → AreSound (with_queue x.fate (queue_at x.fate q ++ length ms ∷ []) q) (ms ++ x ∷ [])
+added_tie : (q : Lists) (ms : List (Option Message)) (x : Message) → AreTied q ms → is_standing x.fate ≡ true → IsKnown x.fate q → AreTied (with_queue x.fate (queue_at x.fate q ++ length ms ∷ []) q) (ms ++ Some x ∷ [])
+added_tie q ms x tie u k f s m = rw (stood_push f m ms x (length ms == m) refl, queue_set x.fate f (queue_at x.fate q ++ length ms ∷ []) q u k) (go (same_fate x.fate f) refl)
+  where
+    go : (b : Bool) → same_fate x.fate f ≡ b → occurs m (cond b (queue_at x.fate q ++ length ms ∷ []) (queue_at f q)) ≡ one_if (stands f m ms) + cond (length ms == m) (one_if b) 0
+    go true e = let is = same_is x.fate f s e in let had = tie f s m in rw is (grind (arith, had, occurs-append m (queue_at f q) (length ms ∷ [])))
+    go false e = let had = tie f s m in grind (arith, had)
+
+pub sound_added : (q : Lists) (ms : List (Option Message)) (x : Message) → AreSound q ms → IsFit x → IsKnown x.fate q → IsQueued x.fate → AreSound (with_queue x.fate (queue_at x.fate q ++ length ms ∷ []) q) (ms ++ Some x ∷ [])
 sound_added q ms x s fit k u =
     let same : (l : ℕ) → queue_at (Unacked l) (with_queue x.fate (queue_at x.fate q ++ length ms ∷ []) q) ≡ queue_at (Unacked l) q = λ l. queue_away x.fate (Unacked l) _ q _ refl k (unqueued x.fate l (λ s. u)) in
     sound_on q _ ms _ s (size_stays x.fate _ q) (λ l. rw (same l, profile_queue x.fate (queue_at x.fate q ++ length ms ∷ []) l q) (s.narrow l)) (added_tie q ms x s.tied (queued_stands x.fate u) k) (fit_push ms x s.fit fit)
+
+-- WHAT IS FINISHED is forgotten
+
+stands_kept : (f : Fate) (number : ℕ) (ms : List (Option Message)) → is_standing f ≡ true → stands f number (unfinished ms) ≡ stands f number ms
+stands_kept f number ms s = let is = slot_map kept_slot refl ms number in grind arith
+
+pub sound_kept : (q : Lists) (ms : List (Option Message)) → AreSound q ms → AreSound q (unfinished ms)
+sound_kept q ms s = record {
+  one = s.one;
+  few = s.few;
+  codes = s.codes;
+  narrow = s.narrow;
+  tied = λ f t number. s.tied f t number ∙ ap one_if (sym (stands_kept f number ms t));
+  fit = fit_kept ms s.fit;
+}
 
 -- NO MESSAGE
 
@@ -97,7 +118,7 @@ sound_new p q n e low high = rw e (record {
 
 -- THE FIRST THAT WAITS IS SENT
 
-pub sound_sent : (q q' : Lists) (ms : List Message) (l n : ℕ) → AreSound q ms → l < length q.links → slice_get (queue_at (Waiting l) q) 0 ≡ Some n → length (queue_at (Unacked l) q) < most_unacked (profile_at l q) → q' ≡ passed_first 1 (Waiting l) (Unacked l) q → AreSound q' (restood_one n (Unacked l) ms)
+pub sound_sent : (q q' : Lists) (ms : List (Option Message)) (l n : ℕ) → AreSound q ms → l < length q.links → slice_get (queue_at (Waiting l) q) 0 ≡ Some n → length (queue_at (Unacked l) q) < most_unacked (profile_at l q) → q' ≡ passed_first 1 (Waiting l) (Unacked l) q → AreSound q' (restood_one n (Unacked l) ms)
 sound_sent q q' ms l n s b first few e =
     let one : take 1 (queue_at (Waiting l) q) ≡ n ∷ [] = take_get _ 0 n first in
     rw e (subst (λ (ns : List ℕ). AreSound (passed_first 1 (Waiting l) (Unacked l) q) (restood ns (Unacked l) ms)) one (sound_moved 1 (Waiting l) (Unacked l) q ms refl b b refl s
@@ -111,7 +132,7 @@ queue_last f l fsn q = grind (arith, updated_same, updated_other)
 pub last_links : (l fsn : ℕ) (q : Lists) → length (with_last l fsn q).links ≡ length q.links
 last_links l fsn q = length-updated (λ (z : LinkLists). record z { last = fsn }) q.links l
 
-pub sound_with_last : (q q' : Lists) (ms : List Message) (l fsn : ℕ) → q' ≡ with_last l fsn q → AreSound q ms → AreSound q' ms
+pub sound_with_last : (q q' : Lists) (ms : List (Option Message)) (l fsn : ℕ) → q' ≡ with_last l fsn q → AreSound q ms → AreSound q' ms
 sound_with_last q q' ms l fsn e s = rw e (sound_on q _ ms ms s (record { links = last_links l fsn q; back = refl }) (λ k. rw (queue_last (Unacked k) l fsn q, profile_last l fsn k q) (s.narrow k)) (λ f t m. rw (queue_last f l fsn q) (s.tied f t m)) s.fit)
 
 -- A LINK SETTLES: what stands on it goes elsewhere, first what was sent, then what waited, then what was held

@@ -3,7 +3,8 @@ use Rattle.std.proofs.Common.{refl, arith, ◌≡◌, ◌∙◌, ap, sym, ◌<�
 use Rattle.std.proofs.Math.Seq.{map-set_same}
 use Rattle.std.proofs.lemmas.List.{map-append, replicate_more, map-set, take-append-drop, append-nil, set-get_or, get_or-set_same, get_or-set_other}
 use Rattle.std.proofs.lemmas.Option.{slice_get-map, get_or_from_slice_get, slice_get_cases, slice_get_within, slice_get_past, slice_get-get_or}
-use Rattle.set_queues.specs.Messages.{one_if, Message, with_fate, restood_one, restood, fate_at}
+use Rattle.std.specs.Prelude.{IsSome}
+use Rattle.set_queues.specs.Messages.{one_if, Message, with_fate, restood_one, restood, slot_at, fate_at}
 use Rattle.std.proofs.lemmas.Bool.Decides.{nat_tests}
 use Rattle.std.proofs.lemmas.Bool.{eq-eqb}
 use Rattle.std.proofs.lemmas.Grind.{take_at_read}
@@ -87,24 +88,82 @@ occurs-split m k xs = omega (arith, occurs-append m (take k xs) (drop k xs), ap 
 pub occurs_here : (x m : ℕ) → x ≡ m → one_if (x == m) ≡ 1
 occurs_here x m e = ap one_if (eq-eqb x m e)
 
-pub length-restood : (ns : List ℕ) (f : Fate) (ms : List Message) → length (restood ns f ms) ≡ length ms
-length-restood [] f ms = refl
-length-restood (n ∷ ns) f ms = length-restood ns f (restood_one n f ms) ∙ length-updated (with_fate f) ms n
+length-restood_one : (n : ℕ) (f : Fate) (ms : List (Option Message)) → length (restood_one n f ms) ≡ length ms
+length-restood_one n f [] = refl
+length-restood_one zero f (m ∷ ms) = refl
+length-restood_one (suc n) f (m ∷ ms) = ap suc (length-restood_one n f ms)
 
-pub restood-append : (xs ys : List ℕ) (f : Fate) (ms : List Message) → restood (xs ++ ys) f ms ≡ restood ys f (restood xs f ms)
+pub length-restood : (ns : List ℕ) (f : Fate) (ms : List (Option Message)) → length (restood ns f ms) ≡ length ms
+length-restood [] f ms = refl
+length-restood (n ∷ ns) f ms = length-restood ns f (restood_one n f ms) ∙ length-restood_one n f ms
+
+pub restood-append : (xs ys : List ℕ) (f : Fate) (ms : List (Option Message)) → restood (xs ++ ys) f ms ≡ restood ys f (restood xs f ms)
 restood-append [] ys f ms = refl
 restood-append (x ∷ xs) ys f ms = restood-append xs ys f (restood_one x f ms)
 
--- each of them has the new fate, and any other stays as it is
-pub restood_at : (m : ℕ) (ns : List ℕ) (f : Fate) (ms : List Message) → slice_get (restood ns f ms) m ≡ cond (occurs m ns == 0) (slice_get ms m) (option_map (with_fate f) (slice_get ms m))
-restood_at m [] f ms = refl
-restood_at m (n ∷ ns) f ms = let again = restood_at m ns f (restood_one n f ms) in grind (arith, nat_tests, updated_same, updated_other, slice_get_cases)
+-- A SLOT, and a further one
+module _ {X : Type 0} where
+  pub slot_there : (xs : List (Option X)) (n : ℕ) (x : X) → slot_at n xs ≡ Some x → slice_get xs n ≡ Some (Some x)
+  slot_there [] n x e = absurd (cc)
+  slot_there (y ∷ ys) zero x e = ap Some e
+  slot_there (y ∷ ys) (suc n) x e = slot_there ys n x e
 
-pub fate_stays : (m : ℕ) (ns : List ℕ) (f : Fate) (ms : List Message) → occurs m ns ≡ 0 → fate_at m (restood ns f ms) ≡ fate_at m ms
+  pub slot_get : (xs : List (Option X)) (n : ℕ) (slot : Option X) → slice_get xs n ≡ Some slot → slot_at n xs ≡ slot
+  slot_get [] n slot e = absurd (cc)
+  slot_get (y ∷ ys) zero slot e = cc
+  slot_get (y ∷ ys) (suc n) slot e = slot_get ys n slot e
+
+  pub slot_push : (xs : List (Option X)) (slot : Option X) (k : ℕ) → slot_at k (xs ++ slot ∷ []) ≡ cond (length xs == k) slot (slot_at k xs)
+  slot_push [] slot zero = refl
+  slot_push [] slot (suc k) = grind arith
+  slot_push (x ∷ xs) slot zero = grind arith
+  slot_push (x ∷ xs) slot (suc k) = let again = slot_push xs slot k in grind arith
+
+  pub slot_past : (xs : List (Option X)) (k : ℕ) → length xs ≤ k → slot_at k xs ≡ None
+  slot_past [] k h = refl
+  slot_past (x ∷ xs) zero h = absurd (omega (arith, h))
+  slot_past (x ∷ xs) (suc k) h = slot_past xs k (omega (arith, h))
+
+  pub slot_map : (h : Option X → Option X) → h None ≡ None → (xs : List (Option X)) (k : ℕ) → slot_at k (map h xs) ≡ h (slot_at k xs)
+  slot_map h e [] k = sym e
+  slot_map h e (x ∷ xs) zero = refl
+  slot_map h e (x ∷ xs) (suc k) = slot_map h e xs k
+
+  -- slots are the same where each is
+  pub slots_equal : (xs ys : List (Option X)) → length xs ≡ length ys → ((k : ℕ) → slot_at k xs ≡ slot_at k ys) → xs ≡ ys
+  slots_equal [] [] e same = refl
+  slots_equal [] (y ∷ ys) e same = absurd (omega (arith, e))
+  slots_equal (x ∷ xs) [] e same = absurd (omega (arith, e))
+  slots_equal (x ∷ xs) (y ∷ ys) e same = rw (same 0, slots_equal xs ys (omega (arith, e)) (λ k. same (suc k))) refl
+
+-- a message that comes to stand elsewhere, and another one
+pub stood_is : (n : ℕ) (f : Fate) (ms : List (Option Message)) → restood_one n f ms ≡ updated n (option_map (with_fate f)) ms
+stood_is n f [] = refl
+stood_is zero f (m ∷ ms) = refl
+stood_is (suc n) f (m ∷ ms) = ap (λ (xs : List (Option Message)). m ∷ xs) (stood_is n f ms)
+
+pub stood_same : (n : ℕ) (f : Fate) (ms : List (Option Message)) → slot_at n (restood_one n f ms) ≡ option_map (with_fate f) (slot_at n ms)
+stood_same n f [] = refl
+stood_same zero f (m ∷ ms) = refl
+stood_same (suc n) f (m ∷ ms) = stood_same n f ms
+
+pub stood_other : (n k : ℕ) (f : Fate) (ms : List (Option Message)) → (n ≡ k → ⊥) → slot_at k (restood_one n f ms) ≡ slot_at k ms
+stood_other n k f [] ne = refl
+stood_other zero zero f (m ∷ ms) ne = absurd (ne refl)
+stood_other zero (suc k) f (m ∷ ms) ne = refl
+stood_other (suc n) zero f (m ∷ ms) ne = refl
+stood_other (suc n) (suc k) f (m ∷ ms) ne = stood_other n k f ms (λ e. ne (ap suc e))
+
+-- each of them has the new fate, and any other stays as it is
+pub restood_at : (m : ℕ) (ns : List ℕ) (f : Fate) (ms : List (Option Message)) → slot_at m (restood ns f ms) ≡ cond (occurs m ns == 0) (slot_at m ms) (option_map (with_fate f) (slot_at m ms))
+restood_at m [] f ms = refl
+restood_at m (n ∷ ns) f ms = let again = restood_at m ns f (restood_one n f ms) in grind (arith, nat_tests, stood_same, stood_other)
+
+pub fate_stays : (m : ℕ) (ns : List ℕ) (f : Fate) (ms : List (Option Message)) → occurs m ns ≡ 0 → fate_at m (restood ns f ms) ≡ fate_at m ms
 fate_stays m ns f ms z = grind (arith, restood_at)
 
-pub fate_moves : (m : ℕ) (ns : List ℕ) (f : Fate) (ms : List Message) → m < length ms → 0 < occurs m ns → fate_at m (restood ns f ms) ≡ Some f
-fate_moves m ns f ms b z = grind (arith, nat_tests, restood_at, slice_get_cases)
+pub fate_moves : (m : ℕ) (ns : List ℕ) (f : Fate) (ms : List (Option Message)) → IsSome (slot_at m ms) → 0 < occurs m ns → fate_at m (restood ns f ms) ≡ Some f
+fate_moves m ns f ms b z = grind (arith, nat_tests, restood_at)
 
 -- THE TIE, when messages move from one queue to another, or to none
 
@@ -118,10 +177,10 @@ pub same_self : (f : Fate) → is_standing f ≡ true → same_fate f f ≡ true
 same_self f s = grind arith
 
 -- what stands in a queue has been given out
-pub given_queue : (q : Lists) (ms : List Message) (f : Fate) → AreTied q ms → is_standing f ≡ true → AreGiven (queue_at f q) ms
-given_queue q ms f tie s n h = let stood = tie f s n in grind (arith, slice_get_past)
+pub given_queue : (q : Lists) (ms : List (Option Message)) (f : Fate) → AreTied q ms → is_standing f ≡ true → AreGiven (queue_at f q) ms
+given_queue q ms f tie s n h = let stood = tie f s n in grind arith
 
-pub moved_tie : (q q' : Lists) (ms : List Message) (ns : List ℕ) (from to : Fate) → AreTied q ms → is_standing from ≡ true → ((m : ℕ) → occurs m ns ≤ occurs m (queue_at from q)) → Moves ns from to q q' → AreTied q' (restood ns to ms)
+pub moved_tie : (q q' : Lists) (ms : List (Option Message)) (ns : List ℕ) (from to : Fate) → AreTied q ms → is_standing from ≡ true → ((m : ℕ) → occurs m ns ≤ occurs m (queue_at from q)) → Moves ns from to q q' → AreTied q' (restood ns to ms)
 moved_tie q q' ms ns from to tie s within moves f sf m = let given = given_queue q ms from tie s m in grind (arith, fate_stays, has_of, fate_moves)
 
 -- the first so many, one after another
@@ -132,7 +191,7 @@ take_get xs i x h = rw (get_or_from_slice_get xs i x x h) at (take_at_read xs i 
 pub none_past : (xs : List ℕ) (i : ℕ) → slice_get xs i ≡ None → i < length xs → ⊥
 none_past xs i e h = let some = slice_get-get_or xs i 0 h in absurd (cc)
 
-pub ruleset laws = (same_self, slice_get_past)
+pub ruleset laws = (same_self, slice_get_past, slot_past)
 
 -- A QUEUE is replaced by another list
 

@@ -1,9 +1,11 @@
 -- A body is found where it was put, and a further one leaves the earlier ones.
-use Rattle.std.proofs.Common.{get_or, arith, ◌≡◌, ◌≤◌, ◌<◌, ◌+◌, ◌∙◌, ap, refl, sym, ℕ, zero, suc, List, [], ◌∷◌, ◌++◌, length, Some, slice_get, slice_index}
-use Rattle.std.proofs.lemmas.Grind.{get_or_default_zero}
+use Rattle.std.proofs.Common.{arith, ◌≡◌, ◌≤◌, ◌<◌, ◌+◌, ◌∙◌, ap, refl, sym, ℕ, zero, suc, List, [], ◌∷◌, ◌++◌, length, Option, Some, None, cond, slice_get, slice_index}
 use Rattle.std.specs.List.{between}
 use Rattle.std.proofs.lemmas.List.{take_all, take-append-le, drop-append-le, drop_at, length-append, length-drop}
-use Rattle.set_queues.specs.Bodies.{bodies_in, AreAll}
+use Rattle.set_queues.specs.Bodies.{bodies_in, kept_bodies, AreAll}
+use Rattle.set_queues.specs.Messages.{Message, is_unfinished}
+use Rattle.set_queues.specs.Slots.{given_to, item_at, slot_at, slots_to, slots_of, AreSlots}
+use Rattle.set_queues.proofs.Placing.{slot_is, slots_length, slots_same}
 
 pub length_bodies : (start : ℕ) (ends octets : List ℕ) → length (bodies_in start ends octets) ≡ length ends
 length_bodies start [] octets = refl
@@ -36,11 +38,11 @@ abbrev IsFound : ℕ → ℕ → List ℕ → List ℕ → Type 0
 IsFound i start ends octets = (slice_get (bodies_in start ends octets) i ≡ Some (between (slice_index (start ∷ ends) i) (slice_index ends i) octets))
     × (slice_index (start ∷ ends) i ≤ slice_index ends i) × (slice_index ends i ≤ length octets)
 
-pub found : (i start : ℕ) (ends octets : List ℕ) → AreAll start ends octets → i < length (bodies_in start ends octets) → IsFound i start ends octets
+pub found : (i start : ℕ) (ends octets : List ℕ) → AreAll start ends octets → i < length ends → IsFound i start ends octets
 found i start [] octets all h = absurd (omega arith)
 found zero start (end ∷ ends) octets all h = (refl, all.0, starts_within end ends octets all.1)
 found (suc i) start (end ∷ ends) octets all h = found i end ends octets all.1 (omega arith)
 
--- the ends that the code reads
-pub spans : (i : ℕ) (ends seen octets : List ℕ) (start end : ℕ) → seen ≡ ends → AreAll 0 ends octets → i < length (bodies_in 0 ends octets) → start ≡ slice_index (0 ∷ seen) i → end ≡ get_or ends i end → (start ≤ end) × (end ≤ length octets)
-spans i ends seen octets start end e all h s t = let f = found i 0 ends octets all h in let d = get_or_default_zero ends i end (omega (arith, length_bodies 0 ends octets)) in rw (s, t, e, d) (f.1, f.2)
+-- WHAT STAYS of the bodies, by their numbers
+pub kept_bodies_are : (messages : List (Option Message)) (older : List ℕ) (first : ℕ) (bodies : List (List ℕ)) → AreSlots older first (length bodies) → slots_to (given_to older first (length bodies)) (λ k. cond (is_unfinished (slot_at k messages)) (item_at k older first bodies) None) ≡ kept_bodies messages (slots_of older first bodies)
+kept_bodies_are messages older first bodies s = rw (slots_length older first bodies) (slots_same (λ k. cond (is_unfinished (slot_at k messages)) (item_at k older first bodies) None) (λ k. cond (is_unfinished (slot_at k messages)) (slot_at k (slots_of older first bodies)) None) (given_to older first (length bodies)) (λ k low. ap (λ (o : Option (List ℕ)). cond (is_unfinished (slot_at k messages)) o None) (sym (slot_is k older first bodies s))))

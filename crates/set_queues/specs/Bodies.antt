@@ -1,6 +1,8 @@
 -- THE BODIES of a set's messages by their numbers, one behind another.
-use Rattle.std.specs.Prelude.{◌≡◌, ◌≤◌, ◌*◌, ℕ, List, [], ◌∷◌, length}
+use Rattle.std.specs.Prelude.{◌≡◌, ◌≤◌, ◌*◌, ℕ, List, [], ◌∷◌, length, Option, None, if◌then◌else◌}
 use Rattle.std.specs.List.{between}
+use Rattle.set_queues.specs.Messages.{Message, is_unfinished}
+use Rattle.set_queues.specs.Slots.{slot_at, slots_to}
 
 -- each body stands from where the one before it ends to where it ends itself
 abbrev pub bodies_in : ℕ → List ℕ → List ℕ → List (List ℕ)
@@ -12,12 +14,18 @@ abbrev pub AreAll : ℕ → List ℕ → List ℕ → Type 0
 AreAll start [] octets = length octets ≡ start
 AreAll start (end ∷ ends) octets = (start ≤ end) × AreAll end ends octets
 
--- what contracts see: the bodies, and how many more, and octets of them, want no memory
+-- what contracts see: the bodies by their numbers, an empty slot where one was forgotten; and how many more, and octets
+-- of them, want no memory
 pub record BodiesState : Type 0 where
-  pub items : List (List ℕ)
+  pub items : List (Option (List ℕ))
   pub places : ℕ
   pub octets : ℕ
 
 -- there is room for so many more, of at most 273 octets each (Q.703 2.3.8)
 abbrev pub CanHold : ℕ → BodiesState → Type 0
 CanHold more bodies = (more ≤ bodies.places) × (273 * more ≤ bodies.octets)
+
+-- those of the messages that aren't finished
+abbrev pub kept_bodies : List (Option Message) → List (Option (List ℕ)) → List (Option (List ℕ))
+kept_bodies messages bodies = slots_to (length bodies)
+    (λ number. if is_unfinished (slot_at number messages) then slot_at number bodies else None)

@@ -6,3 +6,4 @@ pub mod Messages
 pub mod Queues
 pub mod Sending
 pub mod Settling
+pub mod Slots

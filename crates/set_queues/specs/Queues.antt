@@ -1,7 +1,7 @@
 -- Where every message of a set stands.
-use Rattle.std.specs.Prelude.{◌≡◌, ℕ, ◌+◌, ◌<◌, ◌≤◌, ◌==◌, Bool, true, false, List, [], ◌∷◌, ◌++◌, length, Some, take, drop}
+use Rattle.std.specs.Prelude.{◌≡◌, ℕ, ◌+◌, ◌<◌, ◌≤◌, ◌==◌, Bool, true, false, List, [], ◌∷◌, ◌++◌, length, Some, None, Option, IsSome, take, drop}
 use Rattle.std.specs.Option.{option_map_or}
-use Rattle.set_queues.specs.Messages.{one_if, Message, AreFit, fate_at, restood, octets_at}
+use Rattle.set_queues.specs.Messages.{one_if, Message, AreFit, slot_at, fate_at, restood, octets_at}
 use Rattle.set_queues.specs.Buffers.{Fate, Unacked, Lists, Rooms, TakesRoom, KeepsRoom, is_standing, same_fate, queue_at, with_queue, profile_at}
 use Rattle.l2_window.specs.Window.{most_unacked}
 use Rattle.set_events.specs.Config.{most_links}
@@ -9,8 +9,8 @@ use Rattle.set_events.specs.Config.{most_links}
 -- what contracts see of the queues of a set
 pub record QueuesState : Type 0 where
   pub lists : Lists
-  -- the messages by their numbers
-  pub messages : List Message
+  -- the messages by their numbers, and an empty slot where one was forgotten
+  pub messages : List (Option Message)
   -- how many pushes on each queue want no memory
   pub rooms : Rooms
   -- how many new messages want none
@@ -22,17 +22,17 @@ occurs number [] = 0
 occurs number (n ∷ ns) = one_if (n == number) + occurs number ns
 
 -- the message of this number stands there
-abbrev pub stands : Fate → ℕ → List Message → Bool
+abbrev pub stands : Fate → ℕ → List (Option Message) → Bool
 stands fate number messages = option_map_or (λ f. same_fate f fate) (fate_at number messages) false
 
 -- EACH MESSAGE STANDS IN EXACTLY ONE QUEUE, the one that its fate names, or in none if its fate is final
-abbrev pub AreTied : Lists → List Message → Type 0
+abbrev pub AreTied : Lists → List (Option Message) → Type 0
 AreTied q messages = (fate : Fate) → is_standing fate ≡ true → (number : ℕ) → occurs number
     (queue_at fate q) ≡ one_if (stands fate number messages)
 
--- all of these numbers were given out
-abbrev pub AreGiven : List ℕ → List Message → Type 0
-AreGiven numbers messages = (number : ℕ) → 0 < occurs number numbers → number < length messages
+-- each of these numbers has a message
+abbrev pub AreGiven : List ℕ → List (Option Message) → Type 0
+AreGiven numbers messages = (number : ℕ) → 0 < occurs number numbers → IsSome (slot_at number messages)
 
 -- all of a queue go to another, in their order, or the first so many of it
 abbrev pub passed : Fate → Fate → Lists → Lists
@@ -70,7 +70,7 @@ AreNarrow q = (link : ℕ) → length (queue_at (Unacked link) q) ≤ most_unack
 
 -- of every set: it has 1 to 16 links and 256 codes of changebacks, at most 127 messages are unacknowledged on each
 -- link, and each message stands in exactly one queue, the one that its fate names, or in none if its fate is final
-pub record AreSound (q : Lists) (messages : List Message) : Type 0 where
+pub record AreSound (q : Lists) (messages : List (Option Message)) : Type 0 where
   pub one : 1 ≤ length q.links
   pub few : length q.links ≤ most_links
   pub codes : length q.back ≡ 256
@@ -80,22 +80,22 @@ pub record AreSound (q : Lists) (messages : List Message) : Type 0 where
 
 -- LAWS of where messages stand
 
--- LAW: a number stands once in the queue of its fate, if that isn't final, and in no other; one that wasn't given out
+-- LAW: a number stands once in the queue of its fate, if that isn't final, and in no other; one that has no message
 -- stands in none
-pub record StandsOnce (q : Lists) (messages : List Message) (number : ℕ) : Type 0 where
+pub record StandsOnce (q : Lists) (messages : List (Option Message)) (number : ℕ) : Type 0 where
   pub there : (fate : Fate) → is_standing fate ≡ true → fate_at number messages ≡ Some fate
       → occurs number (queue_at fate q) ≡ 1
   pub nowhere_else : (fate other : Fate) → is_standing other ≡ true → fate_at number messages
       ≡ Some fate → (fate ≡ other → ⊥) → occurs number (queue_at other q) ≡ 0
-  pub none : (fate : Fate) → is_standing fate ≡ true → length messages ≤ number → occurs number
+  pub none : (fate : Fate) → is_standing fate ≡ true → slot_at number messages ≡ None → occurs number
       (queue_at fate q) ≡ 0
 
 abbrev pub EachNumberStandsOnce : Type 0
-EachNumberStandsOnce = (q : Lists) (messages : List Message) (number : ℕ)
+EachNumberStandsOnce = (q : Lists) (messages : List (Option Message)) (number : ℕ)
     → AreSound q messages → StandsOnce q messages number
 
 -- LAW: what moves has its new fate, and all else stays as it is
-pub record MovesAlone (numbers : List ℕ) (to : Fate) (messages : List Message)
+pub record MovesAlone (numbers : List ℕ) (to : Fate) (messages : List (Option Message))
     (number : ℕ) : Type 0 where
   pub moved : 0 < occurs number numbers → fate_at number (restood numbers to messages) ≡ Some to
   pub stays : occurs number numbers ≡ 0 → fate_at number (restood numbers to messages)
@@ -104,5 +104,5 @@ pub record MovesAlone (numbers : List ℕ) (to : Fate) (messages : List Message)
   pub count : length (restood numbers to messages) ≡ length messages
 
 abbrev pub FatesMoveWithTheirNumbers : Type 0
-FatesMoveWithTheirNumbers = (numbers : List ℕ) (to : Fate) (messages : List Message)
+FatesMoveWithTheirNumbers = (numbers : List ℕ) (to : Fate) (messages : List (Option Message))
     (number : ℕ) → AreGiven numbers messages → MovesAlone numbers to messages number

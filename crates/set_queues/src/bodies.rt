@@ -1,17 +1,22 @@
 //! The bodies of the messages.
-ghost use Rattle.std.specs.Prelude.{◌≡◌, ◌<◌, ◌∷◌, length, slice_index, ◌-◌, vec_len, vec_capacity, ◌+◌, ◌≤◌, ◌++◌, ℕ, [], slice_get, Some, OnOk};
-ghost use Rattle.set_queues.specs.Bodies.{BodiesState, bodies_in, AreAll, CanHold};
+ghost use Rattle.std.specs.Prelude.{◌≡◌, ◌<◌, ◌∷◌, length, slice_index, ◌+◌, ◌≤◌, ◌++◌, ℕ, [], slice_get, Some, IfOk, IsSome, OnOk};
+ghost use Rattle.set_queues.specs.Bodies.{bodies_in, kept_bodies, AreAll, CanHold};
+ghost use Rattle.set_queues.specs.Messages.{is_unfinished};
+ghost use Rattle.set_queues.specs.Slots.{slot_at, given_to, AreKept, AreSlots};
 
+use super::queues::Queues;
+use super::slots::Numbers;
 use l2_units::LONGEST_BODY;
 use std::alloc::{AllocError, Global};
 use std::marker::Model;
 
 /// The bodies of a set's messages by their numbers 0, 1, .., one behind another.
 ///
-/// Contracts see the list, and the room that is left. A body takes 8 octets of memory and its own, and each call
-/// costs the same however many bodies there are.
+/// Contracts see a slot for each number, and the room that is left. A body takes 8 octets of memory and its own, and 8
+/// more once it outlived what was forgotten; each call but a copy costs the same however many bodies there are.
 #[derive(Drop)]
 pub struct Bodies {
+    numbers: Numbers,
     /// Where each ends.
     ends: Vec<usize>,
     /// The octets of all.
@@ -19,15 +24,21 @@ pub struct Bodies {
 }
 
 impl Model for Bodies {
+    ghost use Rattle.std.specs.Prelude.{◌-◌, length, min, vec_len, vec_capacity};
+    ghost use Rattle.set_queues.specs.Bodies.{BodiesState, bodies_in, AreAll};
+    ghost use Rattle.set_queues.specs.Slots.{AreSlots, slots_of, room_for};
+
     ghost Value = { BodiesState };
 
     ghost view = { λ b. record {
-      items = bodies_in 0 b.ends.items b.octets.items;
-      places = vec_capacity b.ends - vec_len b.ends;
+      items = slots_of b.numbers.older.items b.numbers.first (bodies_in 0 b.ends.items b.octets.items);
+      places = min (vec_capacity b.ends - vec_len b.ends)
+          (room_for b.numbers.older.items b.numbers.first (length b.ends.items));
       octets = vec_capacity b.octets - vec_len b.octets;
     } };
 
-    ghost invariant = { λ b. AreAll 0 b.ends.items b.octets.items };
+    ghost invariant = { λ b. (AreSlots b.numbers.older.items b.numbers.first (length b.ends.items))
+        × (AreAll 0 b.ends.items b.octets.items) };
 }
 
 impl Bodies {
@@ -36,6 +47,7 @@ impl Bodies {
         ensures { result.items ≡ [] }
     {
         Bodies {
+            numbers: Numbers::new(alloc),
             ends: Vec::new(alloc),
             octets: Vec::new(alloc),
         }
@@ -48,6 +60,7 @@ impl Bodies {
         ensures same { self.new.items ≡ self.old.items }
     {
         let octets = bodies.checked_mul(LONGEST_BODY).ok_or(AllocError)?;
+        self.numbers.reserve(self.ends.len(), bodies)?;
         self.ends.reserve(bodies)?;
         self.octets.reserve(octets)
     }
@@ -57,23 +70,88 @@ impl Bodies {
     pub fn add(&mut self, body: &[u8])
         requires room { CanHold 1 self.old }
         requires fits { length body.now ≤ 273 }
-        ensures items { self.new.items ≡ self.old.items ++ body.now ∷ [] }
+        ensures items { self.new.items ≡ self.old.items ++ Some body.now ∷ [] }
         ensures room { (more : ℕ) → CanHold (more + 1) self.old → CanHold more self.new }
     {
         self.octets.extend_from_slice(body).unwrap();
         self.ends.push_reserved(self.octets.len());
     }
 
-    /// The body of the message of this number.
-    #[tactic(auto, using(crate::proofs::Storing::found, crate::proofs::Storing::length_bodies, crate::proofs::Storing::spans))]
+    /// The body of the message of this number, which has one.
     pub fn body(&self, number: u64) -> &[u8]
-        requires { number < length self.now.items }
-        ensures { slice_get self.now.items number ≡ Some result.now }
+        requires { IsSome (slot_at number self.now.items) }
+        ensures { slot_at number self.now.items ≡ Some result.now }
     {
-        let place = number as usize;
-        let start = start_of(&self.ends, place);
-        &self.octets[start..self.ends[place]]
+        let place = self.numbers.place(self.ends.len(), number).unwrap();
+        body_in(&self.ends, &self.octets, place)
     }
+
+    /// The same bodies, with no room.
+    pub fn copied(&self) -> Result<Bodies, AllocError>
+        ensures { IfOk result (λ copy. copy.items ≡ self.now.items) }
+    {
+        Ok(Bodies {
+            numbers: self.numbers.copied()?,
+            ends: Vec::from_slice(*self.ends.allocator(), &self.ends)?,
+            octets: Vec::from_slice(*self.octets.allocator(), &self.octets)?,
+        })
+    }
+
+    /// The bodies of those messages that aren't finished, under their numbers, with no room.
+    pub fn kept(&self, queues: &Queues) -> Result<Bodies, AllocError>
+        ensures { IfOk result (λ kept. kept.items ≡ kept_bodies queues.now.messages self.now.items) }
+    {
+        let first = self.numbers.given(self.ends.len());
+        let alloc = *self.ends.allocator();
+        let (older, ends, octets) = keep(alloc, &self.numbers, &self.ends, &self.octets, queues)?;
+        Ok(Bodies {
+            numbers: Numbers { older, first },
+            ends,
+            octets,
+        })
+    }
+}
+
+/// Those of the bodies whose messages aren't finished: their numbers, where each ends, and the octets.
+fn keep(
+    alloc: Global,
+    numbers: &Numbers,
+    ends: &[usize],
+    octets: &[u8],
+    queues: &Queues,
+) -> Result<(Vec<u64>, Vec<usize>, Vec<u8>), AllocError>
+    requires slots { AreSlots numbers.now.older.items numbers.now.first (length ends.now) }
+    requires all { AreAll 0 ends.now octets.now }
+    ensures kept { IfOk result (λ kept. AreKept (λ number. is_unfinished (slot_at number queues.now.messages))
+        (given_to numbers.now.older.items numbers.now.first (length ends.now))
+        numbers.now.older.items numbers.now.first (bodies_in 0 ends.now octets.now)
+        kept.0.items (bodies_in 0 kept.1.items kept.2.items)) }
+    ensures all { IfOk result (λ kept. AreAll 0 kept.1.items kept.2.items) }
+{
+    let mut older = Vec::new(alloc);
+    let mut kept_ends = Vec::new(alloc);
+    let mut kept_octets = Vec::new(alloc);
+    for place in 0..ends.len() {
+        let number = numbers.number_at(ends.len(), place);
+        if !queues.is_unfinished(number) {
+            continue;
+        }
+        older.push(number)?;
+        kept_octets.extend_from_slice(body_in(ends, octets, place))?;
+        kept_ends.push(kept_octets.len())?;
+    }
+    Ok((older, kept_ends, kept_octets))
+}
+
+/// The body at this place.
+#[tactic(auto, using(crate::proofs::Storing::found))]
+fn body_in<'a>(ends: &[usize], octets: &'a [u8], place: usize) -> &'a [u8]
+    requires all { AreAll 0 ends.now octets.now }
+    requires within { place < length ends.now }
+    ensures { slice_get (bodies_in 0 ends.now octets.now) place ≡ Some result.now }
+{
+    let start = start_of(ends, place);
+    &octets[start..ends[place]]
 }
 
 /// Where the body at this place starts: where the one before it ends.

@@ -1,8 +1,8 @@
 //! The queues in which messages stand: of each link those of its window and the held ones, the parked
 //! ones, and of each changeback code those that wait for its acknowledgement.
 ghost use Rattle.set_queues.specs.Buffers.{BuffersState, empty_lists, IsKnown, CanTake, KeepsRoom, TakesRoom, queue_at, with_queue};
-ghost use Rattle.std.specs.Prelude.{◌≡◌, ◌<◌, ◌++◌, [], ◌∷◌, IfOk, length, drop, slice_get};
-ghost use Rattle.set_queues.specs.Kept.{state_of};
+ghost use Rattle.std.specs.Prelude.{◌≡◌, ◌<◌, ◌++◌, [], ◌∷◌, IfOk, length, drop, map, slice_get};
+ghost use Rattle.set_queues.specs.Kept.{lists_of, state_of};
 
 use l2_units::Profile;
 use l2_window::{Queue, Window};
@@ -53,6 +53,17 @@ impl Buffers {
             links: made,
             parked: Queue::new(alloc)?,
             back,
+        })
+    }
+
+    /// The same queues, with no room.
+    pub(crate) fn copied(&self) -> Result<Buffers, AllocError>
+        ensures { IfOk result (λ copy. copy.lists ≡ self.now.lists) }
+    {
+        Ok(Buffers {
+            links: links_copied(*self.links.allocator(), &self.links)?,
+            parked: self.parked.copied()?,
+            back: back_copied(*self.back.allocator(), &self.back)?,
         })
     }
 
@@ -107,4 +118,29 @@ impl Buffers {
             Fate::Acked { .. } | Fate::Discarded { .. } => (),
         }
     }
+}
+
+/// The queues of these links.
+fn links_copied(alloc: Global, links: &[Link]) -> Result<Vec<Link>, AllocError>
+    ensures { IfOk result (λ copy. map lists_of copy.items ≡ map lists_of links.now) }
+{
+    let mut copy = Vec::new(alloc);
+    for link in links {
+        let window = link.window.copied()?;
+        let held = link.held.copied()?;
+        copy.push(Link { window, held })?;
+    }
+    Ok(copy)
+}
+
+/// These queues.
+fn back_copied(alloc: Global, back: &[Queue]) -> Result<Vec<Queue>, AllocError>
+    ensures { IfOk result (λ copy. map (λ queue. queue.messages) copy.items
+        ≡ map (λ queue. queue.messages) back.now) }
+{
+    let mut copy = Vec::new(alloc);
+    for queue in back {
+        copy.push(queue.copied()?)?;
+    }
+    Ok(copy)
 }

@@ -3,8 +3,9 @@
 //!
 //! [`Queues`] has of each of 1 to 16 links a window (`l2_window`) and the messages that are held for
 //! it, the parked messages, of each of 256 changeback codes those that wait for its acknowledgement, and
-//! of every number ever given out its [`Message`]: where it stands, whose it is, and the octets of its
-//! body. The bodies themselves are [`Bodies`], which knows nothing of queues. A fate that isn't final names a queue;
+//! of the numbers given out each one's [`Message`]: where it stands, whose it is, and the octets of its
+//! body. The bodies themselves are [`Bodies`]. [`Queues::kept`] and [`Bodies::kept`] are copies without the messages
+//! of final fates: their numbers stay given out, and nothing stands under them. A fate that isn't final names a queue;
 //! [`fate_on`] is that of what moves to a link, or of what no link takes:
 //!
 //! ```text
@@ -19,16 +20,19 @@
 //! ```
 //!
 //! [`Queues::settle`] moves all of a link to the target, or parks them: sent, waiting, held; [`Queues::reset`] begins
-//! its new life. Only [`Queues::new`] and the calls that reserve take memory, here and in [`Bodies`]: a call that
-//! adds or moves needs its room reserved before. Each call costs the same however many messages there ever were;
-//! discarding, diverting and settling are linear in what moves. A number takes 8 octets, and 8 more while it stands
-//! in a queue; a queue of a code takes none for messages until one stands in it. A body takes 8 octets and its own.
+//! its new life. Only [`Queues::new`], the copies and the calls that reserve take memory, here and in [`Bodies`]: a call
+//! that adds or moves needs its room reserved before. Each call costs the same however many messages there ever were;
+//! discarding, diverting and settling are linear in what moves, a copy in what is there, and a number that outlived a
+//! `kept` is searched for among those that did. A message takes 8 octets, and 8 more while it stands in a queue; a queue
+//! of a code takes none for messages until one stands in it. A body takes 8 octets and its own. Each of the two takes 8
+//! more once it outlived a `kept`.
 //!
 //! This crate decides nothing: which messages are sent, acknowledged or moved, and when, is the
 //! caller's to know. It reads no clock, does no IO and takes no lock.
 //!
 //! The files: `message` what is kept of one; `messages` all of them with their counts (`tally`), and the
-//! first of a queue that go elsewhere; `buffers` the queues; `queues` the whole; `bodies` the bodies.
+//! first of a queue that go elsewhere; `buffers` the queues; `queues` the whole; `bodies` the bodies; `slots` which
+//! number each message and body has.
 #![tactic(auto)]
 
 mod bodies;
@@ -37,6 +41,7 @@ mod laws;
 mod message;
 mod messages;
 mod queues;
+mod slots;
 mod tally;
 
 pub use bodies::Bodies;

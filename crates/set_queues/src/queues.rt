@@ -1,10 +1,10 @@
 //! Where every message of a set stands, with what the counts need.
-ghost use Rattle.std.specs.Prelude.{◌≡◌, ◌+◌, ◌<◌, ℕ, slice_index, if◌then◌else◌, IfSome, ◌-◌, vec_len, vec_capacity, ◌≢◌, ◌↔◌, ◌%◌, ◌≤◌, ◌^◌, ◌++◌, [], ◌∷◌, Some, true, false, IsOk, IfOk, OnOk, OnErr, length, replicate, take, slice_get};
+ghost use Rattle.std.specs.Prelude.{◌≡◌, ◌+◌, ◌<◌, ℕ, slice_index, if◌then◌else◌, IfSome, ◌≢◌, ◌↔◌, ◌%◌, ◌≤◌, ◌^◌, ◌++◌, [], ◌∷◌, Some, true, false, IsOk, IfOk, OnOk, OnErr, length, replicate, take, slice_get};
 ghost use Rattle.set_queues.specs.Buffers.{empty_lists, IsQueued, same_fate, IsKnown, CanTake, KeepsRoom, TakesRoom, HaveRoom, is_standing, queue_at, with_queue, last_at, profile_at, with_last, room_at};
 ghost use Rattle.l2_window.specs.Window.{fsn_count, most_unacked, fsn_before_first};
 ghost use Rattle.set_queues.specs.Settling.{fate_on, on, settled};
 ghost use Rattle.set_queues.specs.Queues.{QueuesState, AreSound, Moves, MovesAll, MovesFirst, MakesRoom};
-ghost use Rattle.set_queues.specs.Messages.{IsTally, restood, fate_at, octets_of, counts_of, unsent_of, IsFit};
+ghost use Rattle.set_queues.specs.Messages.{restood, slot_at, fate_at, octets_of, counts_of, unsent_of, finished_in, is_unfinished, unfinished, IsFit};
 ghost use Rattle.std.specs.Result.{OkIff};
 ghost use Rattle.set_queues.specs.Backs.{IsOldestOf, back_count};
 ghost use Rattle.set_queues.specs.Sending.{acknowledged, reach};
@@ -12,10 +12,10 @@ ghost use Rattle.set_queues.specs.Sending.{acknowledged, reach};
 use super::buffers::Buffers;
 use super::message::Message;
 use super::messages::{Messages, pass};
-use super::tally::{Tally, enter};
+use super::tally::is_standing;
 use l2_units::Profile;
 use l2_window::{Queue, Window, WindowFault};
-use set_events::{Counts, DiscardCause, Fate};
+use set_events::{Counts, DiscardCause, Fate, Finished};
 use std::alloc::{AllocError, Global};
 use std::marker::Model;
 
@@ -34,13 +34,12 @@ impl Model for Queues {
 
     ghost view = { λ q. record {
       lists = q.buffers.lists;
-      messages = q.messages.all.items;
+      messages = q.messages.items;
       rooms = q.buffers.rooms;
-      room = vec_capacity q.messages.all - vec_len q.messages.all;
+      room = q.messages.room;
     } };
 
-    ghost invariant = { λ q. (AreSound q.buffers.lists q.messages.all.items)
-        × (IsTally q.messages.tally q.messages.all.items) };
+    ghost invariant = { λ q. AreSound q.buffers.lists q.messages.items };
 }
 
 impl Queues {
@@ -53,14 +52,30 @@ impl Queues {
     {
         Ok(Queues {
             buffers: Buffers::new(alloc, profile, links)?,
-            messages: Messages {
-                all: Vec::new(alloc),
-                tally: Tally {
-                    counts: [0; 7],
-                    unsent: [0; 16],
-                    octets: [0; 16],
-                },
-            },
+            messages: Messages::new(alloc),
+        })
+    }
+
+    /// The same queues and messages, with no room.
+    pub fn copied(&self) -> Result<Queues, AllocError>
+        ensures lists { IfOk result (λ copy. copy.lists ≡ self.now.lists) }
+        ensures messages { IfOk result (λ copy. copy.messages ≡ self.now.messages) }
+    {
+        Ok(Queues {
+            buffers: self.buffers.copied()?,
+            messages: self.messages.copied()?,
+        })
+    }
+
+    /// The same queues, and of the messages those that aren't finished, under their numbers, with no room: what was
+    /// acknowledged or discarded leaves, and no number is given out anew.
+    pub fn kept(&self) -> Result<Queues, AllocError>
+        ensures lists { IfOk result (λ kept. kept.lists ≡ self.now.lists) }
+        ensures messages { IfOk result (λ kept. kept.messages ≡ unfinished self.now.messages) }
+    {
+        Ok(Queues {
+            buffers: self.buffers.copied()?,
+            messages: self.messages.kept()?,
         })
     }
 
@@ -81,19 +96,19 @@ impl Queues {
         self.buffers.links.len()
     }
 
-    /// How many messages there are: their numbers are those below it.
+    /// How many numbers were given out: those below it.
     pub fn len(&self) -> usize
         ensures value { result ≡ length self.now.messages }
         ensures few { result < 2 ^ 63 }
     {
-        self.messages.all.len()
+        self.messages.given() as usize
     }
 
     /// What is kept of the message of this number, if there is one.
     pub fn message(&self, number: u64) -> Option<Message>
-        ensures { result ≡ slice_get self.now.messages number }
+        ensures { result ≡ slot_at number self.now.messages }
     {
-        self.messages.all.get(number as usize).copied()
+        self.messages.at(number)
     }
 
     /// Where the message of this number stands, if there is one.
@@ -103,20 +118,25 @@ impl Queues {
         Some(self.message(number)?.fate)
     }
 
+    /// Whether there is a message of this number, and its fate isn't final.
+    pub(crate) fn is_unfinished(&self, number: u64) -> bool
+        ensures { result ≡ is_unfinished (slot_at number self.now.messages) }
+    {
+        self.fate_of(number).is_some_and(is_standing)
+    }
+
     /// How many of the users' messages stand in each place.
     pub fn counts(&self) -> Counts
         ensures { result ≡ counts_of self.now.messages }
     {
-        let [waiting, unacked, acked, held, parked, back, discarded] = self.messages.tally.counts;
-        Counts {
-            waiting,
-            unacked,
-            acked,
-            held,
-            parked,
-            back,
-            discarded,
-        }
+        self.messages.counts()
+    }
+
+    /// How many messages are finished, which [`Queues::kept`] forgets: the users' by how they ended, and orders.
+    pub fn finished(&self) -> Finished
+        ensures { result ≡ finished_in self.now.messages }
+    {
+        self.messages.finished()
     }
 
     /// How many of the users' messages of this stream aren't sent yet.
@@ -124,17 +144,16 @@ impl Queues {
         requires { stream < 16 }
         ensures { result ≡ unsent_of stream self.now.messages }
     {
-        self.messages.tally.unsent[usize::from(stream)]
+        self.messages.unsent(stream)
     }
 
     /// The octets of the unacknowledged bodies of the link.
-    #[tactic(auto, using(crate::proofs::Tallies::weighs))]
     pub fn octets(&self, link: u8) -> u32
         requires { link < length self.now.lists.links }
         ensures { result ≡ octets_of (queue_at
             (Fate.Unacked link) self.now.lists) self.now.messages }
     {
-        self.messages.tally.octets[usize::from(link)] as u32
+        self.messages.octets(link) as u32
     }
 
     /// The window of the link.
@@ -223,7 +242,7 @@ impl Queues {
             ≡ self.old.messages) × (self.new.rooms ≡ self.old.rooms) }
         ensures kept { self.old.room ≤ self.new.room }
     {
-        self.messages.all.reserve(messages)
+        self.messages.reserve(messages)
     }
 
     /// Makes room for so many more in that queue.
@@ -290,15 +309,14 @@ impl Queues {
         requires room { 0 < self.old.room }
         requires place { 0 < room_at message.fate self.old.rooms }
         ensures number { result ≡ length self.old.messages }
-        ensures messages { self.new.messages ≡ self.old.messages ++ message ∷ [] }
+        ensures messages { self.new.messages ≡ self.old.messages ++ Some message ∷ [] }
         ensures lists { self.new.lists ≡ with_queue message.fate
             (queue_at message.fate self.old.lists ++ length self.old.messages ∷ []) self.old.lists }
         ensures room { self.old.room ≤ self.new.room + 1 }
         ensures rooms { TakesRoom message.fate 1 self.old.rooms self.new.rooms }
     {
         let number = self.len() as u64;
-        enter(&mut self.messages.tally, message);
-        self.messages.all.push_reserved(message);
+        self.messages.push(message);
         self.buffers.push(message.fate, number);
         number
     }

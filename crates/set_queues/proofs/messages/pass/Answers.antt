@@ -9,8 +9,7 @@ loop-place-preserved c =
     let got : slice_get (queue_at c.args.from c.args.buffers.now.lists) c.loop-place.place ≡ Some c.unwrap-number.result = ap (λ (ns : List ℕ). slice_get ns c.loop-place.place) (sym same) ∙ sym c.at.ensures ∙ c.unwrap-number.ensures in
     record {
       lists = queue_next c.args.to _ _ _ _ _ _ _ c.requires.other c.loop-place.invariant.lists got c.push.ensures.lists;
-      messages = rw (c.restand.ensures.messages, c.loop-place.invariant.messages, take_get _ c.loop-place.place c.unwrap-number.result got, restood-append) refl;
+      messages = rw (c.restand.ensures.items, c.loop-place.invariant.messages, take_get _ c.loop-place.place c.unwrap-number.result got, restood-append) refl;
       rooms = λ fate. let before = c.loop-place.invariant.rooms fate in let one = c.push.ensures.room fate in grind arith;
-      counted = c.restand.ensures.counted;
       room = c.restand.ensures.room ∙ c.loop-place.invariant.room;
     }

@@ -7,8 +7,6 @@ pub invariant_of-self-2 : goal.invariant_of-self-2
 invariant_of-self-2 c =
     let sent = c.in_ok-number.ensures.sent in
     let full = c.in_ok-number.ensures.full in
-    let known : c.args.link < length c.self.inside.buffers.lists.links = rw (← c.self.view_is) at c.requires in (
-      rw c.restand.ensures.messages (
-          sound_sent _ _ _ c.args.link c.in_ok-number.number c.self.invariant.0 known (grind (arith, of_link)) (grind (arith, of_link)) (grind (arith, of_link))),
-      c.restand.ensures.counted,
-    )
+    let known : c.args.link < length c.self.inside.buffers.lists.links = rw (← c.self.view_is) at c.requires in
+    rw c.restand.ensures.items (
+    sound_sent _ _ _ c.args.link c.in_ok-number.number c.self.invariant known (grind (arith, of_link)) (grind (arith, of_link)) (grind (arith, of_link)))

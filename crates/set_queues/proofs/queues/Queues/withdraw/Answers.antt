@@ -7,11 +7,9 @@ use Rattle.set_queues.proofs.queues.Queues.withdraw.Goals as goal
 pub invariant_of-self : goal.invariant_of-self
 invariant_of-self c =
     let known : IsKnown (Waiting c.args.link) c.self.inside.buffers.lists = rw (← c.self.view_is) at c.requires.known in
-    let same : c.pass.new.buffers.lists ≡ c.self.inside.buffers.lists = c.pass.ensures.lists in (
-      sound_passed 1 (Waiting c.args.link) (Discarded c.args.cause) _ _ _ _ c.self.invariant.0 refl known tt refl (λ s. absurd cc)
-          (moved_one (Waiting c.args.link) (Discarded c.args.cause) _ c.pass.new.buffers.lists _ tt refl c.pass.ensures.lists (grind (arith, of_link))) c.pass.ensures.messages,
-      c.pass.ensures.counted,
-    )
+    let same : c.pass.new.buffers.lists ≡ c.self.inside.buffers.lists = c.pass.ensures.lists in
+    sound_passed 1 (Waiting c.args.link) (Discarded c.args.cause) _ _ _ _ c.self.invariant refl known tt refl (λ s. absurd cc)
+    (moved_one (Waiting c.args.link) (Discarded c.args.cause) _ c.pass.new.buffers.lists _ tt refl c.pass.ensures.lists (grind (arith, of_link))) c.pass.ensures.messages
 
 pub returns : goal.returns
 returns c =
