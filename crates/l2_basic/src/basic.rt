@@ -48,6 +48,21 @@ impl Basic {
     ghost use Rattle.l2_basic.specs.Basic.{start, same, told_fault, is_repeated, is_successor, IsNext, Hears};
     ghost use Rattle.l2_basic.specs.Basic.{choice_of, head_of, control_after, part_of, window_heard, control_heard};
 
+    /// The same control again.
+    pub fn copied(&self) -> Basic
+        ensures { result ≡ self.now }
+    {
+        Basic {
+            expected: self.expected,
+            bib: self.bib,
+            fib: self.fib,
+            asked: self.asked,
+            cursor: self.cursor,
+            bsns: self.bsns,
+            fibs: self.fibs,
+        }
+    }
+
     /// The control at the beginning of a link's life, in either profile: FSN 0 is expected, both indicator
     /// bits are 1 (Q.703 5.2.1).
     pub fn new() -> Basic

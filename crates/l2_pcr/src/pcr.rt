@@ -46,6 +46,20 @@ impl Pcr {
     ghost use Rattle.l2_pcr.specs.Pcr.{start, is_forced, cycle_place, round, is_second, IsNext, Hears};
     ghost use Rattle.l2_pcr.specs.Pcr.{choice_of, head_of, control_after, part_of, window_heard, control_heard};
 
+    /// The same control again.
+    pub fn copied(&self) -> Pcr
+        ensures { result ≡ self.now }
+    {
+        Pcr {
+            n1: self.n1,
+            n2: self.n2,
+            expected: self.expected,
+            place: self.place,
+            forced: self.forced,
+            bsns: self.bsns,
+        }
+    }
+
     /// The control at the beginning of a link's life: FSN 127 counts as accepted.
     ///
     /// `n1` unacknowledged messages, or `n2` octets of their bodies, force a cycle (Q.703 6.4.2).

@@ -1,5 +1,5 @@
 -- The calls of actors, entry by entry.
-use Rattle.std.proofs.Common.{refl, arith, ◌≡◌, ◌∙◌, ap, sym, ◌<◌, ◌≤◌, [], ◌∷◌, length, ℕ, zero, suc, ◌+◌, Bool, true, false, List, ◌++◌, ◌==◌, All, replicate, slice_index, ◌*◌, sum}
+use Rattle.std.proofs.Common.{refl, arith, ◌≡◌, ◌∙◌, ap, sym, ◌<◌, ◌≤◌, [], ◌∷◌, length, ℕ, zero, suc, ◌+◌, Bool, true, false, List, ◌++◌, ◌==◌, All, replicate, slice_index, sum}
 use Rattle.std.specs.Prelude.{if◌then◌else◌}
 use Rattle.std.proofs.lemmas.Bool.Decides.{nat_tests}
 use Rattle.set_events.specs.declared.event.Actor.{Actor}

@@ -1,19 +1,20 @@
 -- WHAT STANDS IN EACH PLACE after rows came to stand elsewhere, queue after queue, and where each number stands then.
-use Rattle.std.proofs.Common.{arith, refl, ◌≡◌, ◌≤◌, ◌<◌, [], ◌∷◌, length, ℕ, zero, suc, Bool, true, false, List, ◌++◌, Some, None, take, drop, cond, not, filter, option_map}
+use Rattle.std.proofs.Common.{arith, refl, ap, sym, ◌∙◌, Option, ◌≡◌, ◌≤◌, ◌<◌, [], ◌∷◌, length, ℕ, zero, suc, Bool, true, false, List, ◌++◌, Some, None, take, drop, cond, not, filter, option_map}
 use Rattle.std.specs.List.{drop-map}
 use Rattle.std.proofs.lemmas.Bool.Decides.{nat_tests}
 use Rattle.std.proofs.lemmas.List.{map-append, append-nil}
 use Rattle.set_queues.specs.Buffers.{is_standing, same_fate}
-use Rattle.set_model.specs.Rows.{Fate, Row, standing, numbers, turned, moved, all_with, appended, IsNumbered, AreBefore, row_of, place}
+use Rattle.set_model.specs.Rows.{Fate, Row, standing, numbers, turned, moved, all_with, appended, IsNumbered, AreBefore, row_of, place, body_at}
 use Rattle.set_model.specs.Laws.{SameMessages}
 use Rattle.set_model.proofs.Events.{numbers_joined, appended_in, appended_out}
 use Rattle.set_model.proofs.Rows.{turned_same, turned_left, moved_same, moved_gone, moved_joined, fewer_filter, filter_within, filter_apart, with_number, at_most_one, row_is_first, place_moved, not_found}
 use Rattle.set_model.proofs.Staying.{messages_stay}
-use Rattle.set_moves.specs.Agreement.{Message, is_there, rows_at}
+use Rattle.std.specs.Prelude.{IsSome}
+use Rattle.set_queues.specs.Slots.{slot_at}
+use Rattle.set_moves.specs.Agreement.{Message, is_there, label_in, label_of, rows_at}
 use Rattle.std.proofs.lemmas.List.Elements.{filter-append}
 use Rattle.set_queues.specs.Queues.{occurs, AreGiven}
 use Rattle.set_queues.proofs.Standing.{same_is, same_self, occurs-split}
-use Rattle.std.proofs.lemmas.Bool.{cases_lt}
 
 -- a number occurs among the rows that a test picks as often as its row is picked
 occurs_picked : (p : Row → Bool) (n : ℕ) (rows : List Row) → occurs n (numbers (filter p rows)) ≡ length (filter p (with_number n rows))
@@ -37,12 +38,17 @@ module _ (test : Fate → Bool) (to : Fate) where
   told n rows new [] is one e = grind (arith, occurs_picked (λ (row : Row). test row.fate) n rows, row_is_first n rows)
   told n rows new (x ∷ here) is one e = grind (arith, occurs_picked (λ (row : Row). test row.fate) n rows, row_is_first n rows, fewer_filter (λ (row : Row). test row.fate) here)
 
--- WHAT STANDS SOMEWHERE was given out.
+-- WHAT STANDS SOMEWHERE has a message.
 pub none_at : (given n : ℕ) (rows : List Row) → IsNumbered given rows → given ≤ n → row_of n rows ≡ None
 none_at given n rows numbered far = not_found given n rows numbered far
 
-pub given_all : (ns : List ℕ) (to : Fate) (ms : List Message) (rows new : List Row) → IsNumbered (length ms) new → ((n : ℕ) → GoesTo ns to n rows new) → AreGiven ns ms
-given_all ns to ms rows new numbered goes n h = let there = (goes n).goes h in let none = none_at (length ms) n new numbered in grind (arith, nat_tests, cases_lt, none)
+given_one : (slot : Option Message) (row : Option Row) (to : Fate) → option_map (λ (r : Row). r.fate) row ≡ Some to → option_map label_in slot ≡ option_map label_of (option_map (λ (r : Row). r.body) row) → IsSome slot
+given_one slot None to there label = absurd cc
+given_one None (Some row) to there label = absurd cc
+given_one (Some m) (Some row) to there label = refl
+
+pub given_all : (ns : List ℕ) (to : Fate) (ms : List (Option Message)) (rows new : List Row) → ((n : ℕ) → option_map label_in (slot_at n ms) ≡ option_map label_of (body_at n rows)) → ((n : ℕ) → body_at n new ≡ body_at n rows) → ((n : ℕ) → GoesTo ns to n rows new) → AreGiven ns ms
+given_all ns to ms rows new labels bodies goes n h = given_one (slot_at n ms) (row_of n new) to ((goes n).goes h) (labels n ∙ ap (option_map label_of) (sym (bodies n)))
 
 -- A NEW MESSAGE stands last in the place of its fate.
 pub appended_at : (number : ℕ) (rows : List Row) (body : List ℕ) (fate f : Fate) → is_standing f ≡ true → numbers (rows_at f (appended number rows body fate)) ≡ cond (same_fate fate f) (numbers (rows_at f rows) ++ number ∷ []) (numbers (rows_at f rows))

@@ -11,7 +11,7 @@ use Rattle.set_queues.specs.Messages.{restood, fate_at}
 use Rattle.set_queues.specs.Sending.{acknowledged as acked_lists, reach}
 use Rattle.set_queues.specs.Queues.{occurs, passed, passed_first}
 use Rattle.set_queues.specs.Settling.{on as on_lists, settled}
-use Rattle.set_queues.proofs.Standing.{get_push, restood_at, length-updated, updated_same, updated_other, updated_there, same_is, length-restood, fate_stays, fate_moves, queue_set, links_stay}
+use Rattle.set_queues.proofs.Standing.{slot_push, restood_at, length-updated, updated_same, updated_other, updated_there, same_is, length-restood, fate_stays, fate_moves, queue_set, links_stay}
 use Rattle.set_queues.proofs.Soundness.{both_replaced, passed_replaces, profile_last, profile_queue, queue_last, last_links, IsAside, settling}
 use Rattle.set_model.specs.Rows.{Fate, Waiting, Unacked, Acked, Held, Parked, Back, Discarded, DiscardCause, Emergency, Unreasonable, NoAnswer, Row, standing, is_waiting, is_unacked, is_on, is_parked, is_back, on, numbers, turned, changed, moved, all_with, appended, row_of, place, IsNumbered, IsInOrder, IsHeldLast, AreBefore}
 use Rattle.set_model.specs.Changeover.{fate_on, reached_by, is_reasonable, judged, judged_link}
@@ -28,15 +28,15 @@ use Rattle.set_moves.specs.Parts.{Reached, Upto, Unknown, Unanswered}
 use Rattle.set_model.proofs.Events.{acknowledged as acked_rows, given_up}
 
 -- THE QUEUES STAND FOR THE ROWS, which are the same messages,
-pub record Moves (q : Lists) (ms : List Message) (rows new : List Row) : Type 0 where
+pub record Moves (q : Lists) (ms : List (Option Message)) (rows new : List Row) : Type 0 where
   pub stands : Stands q ms new
   pub same : SameMessages (length ms) rows new
 
 -- where the queues change as the places of the rows do
-pub shifts_stand : {q q' : Lists} {ms : List Message} {rows new : List Row} {test : Fate → Bool} {to : Fate} {ns xs left : List ℕ} → Stands q ms rows → Shifts (length ms) test to ns left rows new
+pub shifts_stand : {q q' : Lists} {ms : List (Option Message)} {rows new : List Row} {test : Fate → Bool} {to : Fate} {ns xs left : List ℕ} → Stands q ms rows → Shifts (length ms) test to ns left rows new
     → ((f : Fate) → is_standing f ≡ true → queue_at f q' ≡ cond (test f) left (cond (same_fate to f) (queue_at f q ++ ns) (queue_at f q))) → xs ≡ ns → Moves q' (restood xs to ms) rows new
 shifts_stand {q} {q'} {ms} {rows} {new} {test} {to} {ns} s shifts queues e =
-    let given = given_all ns to ms rows new shifts.messages.numbered shifts.goes in
+    let given = given_all ns to ms rows new s.labels shifts.messages.bodies shifts.goes in
     let fates : (n : ℕ) → fate_at n (restood ns to ms) ≡ place n new = λ n. let goes = shifts.goes n in grind (arith, cases_lt 0 (occurs n ns), given n, goes.stays, goes.goes, fate_stays n ns to ms, fate_moves n ns to ms, s.fates n) in
     rw e (grind (arith, s, shifts, queues, restood_at, length-restood, fates))
 
@@ -54,15 +54,15 @@ last_set l fsn q n h = let x = present q.links l h in grind (arith, nat_tests, c
 
 -- A NEW MESSAGE.
 pub appended_for : (k : Kept) (s : State) (body : List ℕ) (fate : Fate) → StandsFor k s → is_standing fate ≡ true → IsKnown fate k.lists
-    → StandsFor (record k { lists = with_queue fate (queue_at fate k.lists ++ length k.messages ∷ []) k.lists; messages = k.messages ++ record { fate = fate; kind = kind_of body; octets = length body } ∷ []; bodies = k.bodies ++ body ∷ [] }) (record s { rows = appended (given s) s.rows body fate })
+    → StandsFor (record k { lists = with_queue fate (queue_at fate k.lists ++ length k.messages ∷ []) k.lists; messages = k.messages ++ Some (record { fate = fate; kind = kind_of body; octets = length body }) ∷ []; bodies = k.bodies ++ Some body ∷ [] }) (record s { rows = appended (given s) s.rows body fate })
 appended_for k s body fate f standing known =
     let pushed = λ (n : ℕ). row_push (length k.messages) n s.rows body fate f.stands.numbered in
     let more = numbered_appended (length k.messages) s.rows body fate f.stands.numbered in
     let out = f.given_out in
-    grind (arith, nat_tests, length-append, same_is, queue_set, appended_at, get_push, pushed, more, out, links_stay, last_stays, profile_queue)
+    grind (arith, nat_tests, length-append, same_is, queue_set, appended_at, slot_push, pushed, more, out, links_stay, last_stays, profile_queue)
 
 -- MESSAGES COME TO STAND ELSEWHERE, and links and routing may change.
-module _ (k : Kept) (s : State) (f : StandsFor k s) (lists : Lists) (messages : List Message) (new : List Row) (moves : Moves lists messages s.rows new) (many : length messages ≡ length k.messages) (as_many : length lists.links ≡ length k.lists.links) (routing routing' : Routing) (way : routing ≡ routing') where
+module _ (k : Kept) (s : State) (f : StandsFor k s) (lists : Lists) (messages : List (Option Message)) (new : List Row) (moves : Moves lists messages s.rows new) (many : length messages ≡ length k.messages) (as_many : length lists.links ≡ length k.lists.links) (routing routing' : Routing) (way : routing ≡ routing') where
   -- no link changes
   pub queues_for : ((n : ℕ) → last_at n lists ≡ last_at n k.lists) → ((n : ℕ) → profile_at n lists ≡ profile_at n k.lists) → StandsFor (record k { lists = lists; messages = messages; routing = routing }) (record s { rows = new; routing = routing' })
   queues_for last profiles = grind (arith, last, profiles, f.fsns, f.profiles)
@@ -155,7 +155,7 @@ settled_for k s n target link link' routing f order last there e p aside =
     (λ m ne. search last_stays) (search last_stays ∙ f.fsns n link there ∙ rw (e, p) refl) (λ m. search profile_queue) (f.profiles n link there ∙ sym p)
 
 -- ALL OF A PLACE WAIT FOR A LINK: what was parked, or stood back by a code.
-passed_moves : (from to : Fate) (q : Lists) (ms : List Message) (rows : List Row) → Stands q ms rows → is_standing from ≡ true → IsKnown from q → IsKnown to q → is_standing to ≡ true → is_there from to ≡ false → Moves (passed from to q) (restood (queue_at from q) to ms) rows (moved (is_there from) (all_with to) rows)
+passed_moves : (from to : Fate) (q : Lists) (ms : List (Option Message)) (rows : List Row) → Stands q ms rows → is_standing from ≡ true → IsKnown from q → IsKnown to q → is_standing to ≡ true → is_there from to ≡ false → Moves (passed from to q) (restood (queue_at from q) to ms) rows (moved (is_there from) (all_with to) rows)
 passed_moves from to q ms rows s stood known other there off =
     shifts_stand s (moved_shifts (length ms) (is_there from) to rows s.numbered off there) (λ g t. passed_replaces q from to stood known other g t ∙ grind (arith, nat_tests, same_is, s.queues from stood)) (s.queues from stood)
 

@@ -6,7 +6,7 @@ use Rattle.std.proofs.lemmas.List.Elements.{filter-append}
 use Rattle.std.proofs.lemmas.List.{append_assoc, length-append, get_or_past}
 use Rattle.set_queues.specs.Backs.{IsOldest, back_from, NoneBack}
 use Rattle.set_queues.specs.Buffers.{Lists, is_standing, same_fate, queue_at, HaveRoom, TakesRoom}
-use Rattle.set_queues.specs.Messages.{restood}
+use Rattle.set_queues.specs.Messages.{restood, slot_at}
 use Rattle.set_queues.proofs.Standing.{same_is}
 use Rattle.set_route.specs.Routing.{home_of, place_of}
 use Rattle.set_model.specs.Rows.{turned, with_fate, fated, AreBefore, Fate, Waiting, Held, Back, Unacked, Row, standing, is_back, is_back_to, numbers, stream_of, service_indicator, Each, stands_back, is_users, back}
@@ -136,7 +136,7 @@ module _ (home : ℕ) (s : State) (k : Kept) (t : TurnsOn home s k) where
         let turns = it_turns.1 it_turns.0 in
         let first = ap (λ (rows : List Row). slice_get (standing (is_back code) (t.gone ++ rows)) 0) it.rest_is ∙ grind (arith, filter-append, none_gone code o.of_home, it.on) in
         let found = row_in_filter (length k.messages) (λ (row : Row). is_back code row.fate) (t.gone ++ t.rest) 0 it.row.number it.row t.stands.stands.numbered first refl in
-        let label = users_label it.row.body (slice_get k.messages it.row.number) (t.stands.stands.labels it.row.number ∙ ap (option_map label_of) (ap (option_map (λ (row : Row). row.body)) found)) (not-true (service_indicator it.row.body == 0) turns.0) in
+        let label = users_label it.row.body (slot_at it.row.number k.messages) (t.stands.stands.labels it.row.number ∙ ap (option_map label_of) (ap (option_map (λ (row : Row). row.body)) found)) (not-true (service_indicator it.row.body == 0) turns.0) in
         record { number = it.row.number; first = o.first ∙ ap Some (sym it.number_is); message = label.0; message_is = label.1; stream = stream_of it.row.body; kind_is = label.2; few = turns.1; via = turns.2; place_is = ap (place_of (stream_of it.row.body)) t.stands.routing ∙ turns.3; known = subst (λ (n : ℕ). turns.2 < n) (ap length (sym t.stands.links)) turns.4 }
 
     -- and turns

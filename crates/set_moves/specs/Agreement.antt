@@ -5,7 +5,7 @@ use Rattle.set_queues.specs.declared.message.Kind.{Kind}
 use Rattle.set_queues.specs.declared.message.Kind.TheVariants.{User, Order}
 pub use Rattle.set_queues.specs.declared.message.Message.{Message}
 use Rattle.set_queues.specs.Buffers.{Lists, is_standing, queue_at, last_at, profile_at}
-use Rattle.set_queues.specs.Messages.{fate_at}
+use Rattle.set_queues.specs.Messages.{fate_at, slot_at}
 use Rattle.set_route.specs.Routing.{Routing}
 use Rattle.set_model.specs.Rows.{Row, numbers, standing, same_fate, place, body_at, service_indicator, stream_of, IsNumbered}
 use Rattle.set_model.specs.Sound.{IsSound, AreFew}
@@ -16,11 +16,12 @@ use Rattle.l2_window.specs.Window.{fsn_before_first, fsn_count}
 -- what contracts see of what a set keeps
 pub record Kept : Type 0 where
   pub settings : Settings
-  -- the queues of numbers, and by its number each message's fate, whose it is, and its octets
+  -- the queues of numbers, and by its number each message's fate, whose it is, and its octets; a number whose message
+  -- left has an empty slot
   pub lists : Lists
-  pub messages : List Message
+  pub messages : List (Option Message)
   -- each message's body, by its number
-  pub bodies : List (List ℕ)
+  pub bodies : List (Option (List ℕ))
   -- how many messages left it
   pub finished : FinishedCounts
   pub links : List LinkState
@@ -32,7 +33,7 @@ abbrev pub place_in : ℕ → Kept → Option Fate
 place_in number k = fate_at number k.messages
 
 abbrev pub body_in : ℕ → Kept → Option (List ℕ)
-body_in number k = slice_get k.bodies number
+body_in number k = slot_at number k.bodies
 
 -- the state that is kept, with its rows in this order of their numbers, which the queues don't tell
 abbrev pub shown : List ℕ → Kept → State
@@ -68,20 +69,20 @@ abbrev pub label_of : List ℕ → Label
 label_of body = record { kind = kind_of body; octets = length body }
 
 -- THE QUEUES STAND FOR THE ROWS: each queue holds the numbers of the rows of its fate, in their order; each number's
--- fate is its row's, and its label its body's
-pub record Stands (q : Lists) (ms : List Message) (rows : List Row) : Type 0 where
+-- fate is its row's, and its label its body's; no row has the number of an empty slot
+pub record Stands (q : Lists) (ms : List (Option Message)) (rows : List Row) : Type 0 where
   pub queues : (fate : Fate) → is_standing fate ≡ true → queue_at fate q ≡ numbers (rows_at fate rows)
   pub fates : (number : ℕ) → fate_at number ms ≡ place number rows
-  pub labels : (number : ℕ) → option_map label_in (slice_get ms number) ≡ option_map label_of (body_at number rows)
+  pub labels : (number : ℕ) → option_map label_in (slot_at number ms) ≡ option_map label_of (body_at number rows)
   pub numbered : IsNumbered (length ms) rows
 
 -- WHAT IS KEPT STANDS FOR THE STATE. The FSN last acknowledged on a link is its whole number's (Q.703 2.2).
 pub record StandsFor (k : Kept) (s : State) : Type 0 where
   pub settings : k.settings ≡ s.settings
   pub stands : Stands k.lists k.messages s.rows
-  pub bodies : (number : ℕ) → slice_get k.bodies number ≡ body_at number s.rows
+  pub bodies : (number : ℕ) → slot_at number k.bodies ≡ body_at number s.rows
   pub held_bodies : length k.bodies ≡ length k.messages
-  -- a message has each number that was given out
+  -- each number that was given out has a slot
   pub given_out : length k.messages ≡ given s
   pub finished : k.finished ≡ s.finished
   pub links : k.links ≡ s.links

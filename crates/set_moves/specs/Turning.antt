@@ -3,6 +3,7 @@ use Rattle.std.specs.Prelude.{◌≡◌, ◌≤◌, ◌<◌, ◌+◌, ℕ, true,
 use Rattle.set_queues.specs.Buffers.{Fate, Back, queue_at, room_at}
 use Rattle.set_queues.specs.declared.message.Kind.TheVariants.{User}
 use Rattle.set_queues.specs.Queues.{QueuesState}
+use Rattle.set_queues.specs.Slots.{slot_at}
 use Rattle.set_queues.specs.Settling.{on}
 use Rattle.set_route.specs.Routing.{place_of}
 use Rattle.set_model.specs.Rows.{Row, is_users, is_back_to, standing, stream_of, numbers, Each}
@@ -29,7 +30,7 @@ pub record HasWay (code : ℕ) (k : Kept) : Type 0 where
   pub number : ℕ
   pub first : slice_get (queue_at (Back code) k.lists) 0 ≡ Some number
   pub message : Message
-  pub message_is : slice_get k.messages number ≡ Some message
+  pub message_is : slot_at number k.messages ≡ Some message
   pub stream : ℕ
   pub kind_is : message.kind ≡ User stream
   pub few : stream < 16

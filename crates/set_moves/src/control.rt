@@ -45,6 +45,17 @@ impl Control {
         Control { by }
     }
 
+    /// The same control again.
+    pub(crate) fn copied(&self) -> Control
+        ensures { result ≡ self.now }
+    {
+        let by = match &self.by {
+            ByMethod::Basic(basic) => ByMethod::Basic(basic.copied()),
+            ByMethod::Cyclic(pcr) => ByMethod::Cyclic(pcr.copied()),
+        };
+        Control { by }
+    }
+
     /// What is to be sent next, where the bodies of the unacknowledged messages have so many octets.
     pub fn choice(&self, window: &Window, octets: u32) -> Choice
         ensures value { result ≡ choice_of octets self.now window.now }

@@ -34,6 +34,15 @@ impl HeardBody {
         })
     }
 
+    /// The same body again.
+    pub fn copied(&self) -> Result<HeardBody, AllocError>
+        ensures { IfOk result (λ heard. heard ≡ self.now) }
+    {
+        Ok(HeardBody {
+            octets: Vec::from_slice(*self.octets.allocator(), &self.octets)?,
+        })
+    }
+
     /// The body as a unit has it. It takes no memory.
     pub fn body(&self) -> ArrayVec<u8, LONGEST_BODY>
         ensures { result.items ≡ self.now }

@@ -62,6 +62,21 @@ impl Link {
         }
     }
 
+    /// The same link again.
+    pub fn copied(&self) -> Link
+        ensures { result ≡ self.now }
+    {
+        Link {
+            phase: self.phase,
+            profile: self.profile,
+            blind: self.blind,
+            answered: self.answered,
+            acked: self.acked,
+            accepted: self.accepted,
+            control: self.control.copied(),
+        }
+    }
+
     /// The link is in service from now on; its error control starts anew.
     pub fn rise(&mut self, profile: Profile, method: Method)
         ensures { self.new ≡ risen_link profile method }

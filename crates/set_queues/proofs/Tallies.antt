@@ -5,8 +5,8 @@ use Rattle.std.proofs.Common.{Fits, w32, ◌^◌, arith, sym, ◌∙◌, option_
 use Rattle.std.proofs.lemmas.List.Sums.{length-filter, count_by-le-length, get_or-le-sum_by, sum_by-set, sum_by_push, sum_by-le, sum_by-cons}
 use Rattle.std.proofs.lemmas.Option.{slice_get-get_or, slice_get_within, get_or_from_slice_get}
 use Rattle.std.specs.Option.{option_map_or}
-use Rattle.set_queues.specs.Buffers.{Fate, Waiting, Unacked, Acked, Held, Parked, Back, Discarded, Lists, queue_at, same_fate, is_standing}
-use Rattle.set_queues.specs.Messages.{Message, Tally, with_fate, restood_one, restood, slot_at, octets_at, octets_of, octets_on, count_of, kept_slot, unfinished, is_there, is_queued, stands_at, IsTally, IsMore, IsAmong, AreFew, Forgets, IsFit, AreFit, one_if}
+use Rattle.set_queues.specs.Buffers.{Acked, Back, Discarded, Emergency, Fate, Held, Lists, NoAnswer, Parked, Unacked, Unreasonable, Waiting, is_standing, queue_at, same_fate}
+use Rattle.set_queues.specs.Messages.{AreFew, AreFit, Forgets, IsAmong, IsFit, IsMore, IsTally, Message, Tally, count_of, is_ended_order, is_queued, is_there, kept_slot, octets_at, octets_of, octets_on, one_if, restood, restood_one, slot_at, stands_at, unfinished, was_discarded, was_discarded_by, with_fate}
 use Rattle.set_queues.proofs.Standing.{set_updated, restood_at, stood_is, stood_same, stood_other, slot_there, slot_get, slot_push, slot_map, fate_moves, fate_stays, length-restood, occurs-append, occurs_here}
 use Rattle.std.proofs.lemmas.Bool.Decides.{nat_tests}
 use Rattle.set_queues.specs.Queues.{occurs, stands, AreTied, AreSound}
@@ -16,7 +16,7 @@ use Rattle.set_queues.specs.Backs.{back_from}
 sum_set : {X : Type 0} (w : X → ℕ) (xs : List X) (n : ℕ) (x y : X) → slice_get xs n ≡ Some x → sum_by w (slice_set xs n y) + w x ≡ sum_by w xs + w y
 sum_set w xs n x y e = rw (get_or_from_slice_get xs n x x e) at (sum_by-set w xs n y x (slice_get_within xs n x e))
 
-count_few : {X : Type 0} (p : X → Bool) (xs : List X) → length (filter p xs) ≤ length xs
+pub count_few : {X : Type 0} (p : X → Bool) (xs : List X) → length (filter p xs) ≤ length xs
 count_few p xs = rw length-filter (count_by-le-length p xs)
 
 pub tally_in : (t : Tally) (xs : List (Option Message)) (n : ℕ) (x : Message) → IsTally t xs → slot_at n xs ≡ Some x → IsAmong x t
@@ -36,6 +36,7 @@ few t xs h n = record {
   counts = λ f. omega (arith, n, h.counts f, count_few (is_there (stands_at f)) xs);
   unsent = λ s b. omega (arith, n, h.unsent s b, count_few (is_queued s) xs);
   octets = λ l b. omega (arith, n, h.octets l b, sum_by-le (octets_on l) 273 xs (λ k d w. light l xs k _ h.fit (slice_get-get_or xs k d w)));
+  orders = omega (arith, n, h.orders, count_few is_ended_order xs);
 }
 
 pub few_left : (t u : Tally) (xs : List (Option Message)) (x : Message) → IsTally t xs → length xs < 2 ^ 63 → IsMore x u t → AreFew u
@@ -62,6 +63,10 @@ tally_push t u xs y h f i =
     let counts = λ (p : Option Message → Bool). rw (← length-filter p xs, ← length-filter p (xs ++ Some y ∷ [])) at (sums (λ m. cond (p m) 1 0)) in
     grind arith
 
+if_is : (b : Bool) → cond b 1 0 ≡ one_if b
+if_is true = refl
+if_is false = refl
+
 pub tally_stood : (t u v : Tally) (xs : List (Option Message)) (n : ℕ) (x : Message) (fate : Fate) → IsTally t xs → slot_at n xs ≡ Some x → IsMore x u t → IsMore (with_fate fate x) u v → IsTally v (restood_one n fate xs)
 tally_stood t u v xs n x fate h at i j =
     let e = slot_there xs n x at in
@@ -69,7 +74,19 @@ tally_stood t u v xs n x fate h at i j =
     let set : slice_set xs n (Some (with_fate fate x)) ≡ restood_one n fate xs = set_updated (option_map (with_fate fate)) xs n (Some x) e ∙ sym (stood_is n fate xs) in
     let sums = λ (w : Option Message → ℕ). rw set at (sum_set w xs n (Some x) (Some (with_fate fate x)) e) in
     let counts = λ (p : Option Message → Bool). rw (← length-filter p xs, ← length-filter p (restood_one n fate xs)) at (sums (λ m. cond (p m) 1 0)) in
-    grind arith
+    record {
+      counts = λ place. omega (arith, h.counts place, i.counts place, j.counts place, counts (is_there (stands_at place)), if_is (is_there (stands_at place) (Some x)), if_is (is_there (stands_at place) (Some (with_fate fate x))));
+      unsent = λ s b. omega (arith, h.unsent s b, i.unsent s b, j.unsent s b, counts (is_queued s), if_is (is_queued s (Some x)), if_is (is_queued s (Some (with_fate fate x))));
+      octets = λ l b. omega (arith, h.octets l b, i.octets l b, j.octets l b, sums (octets_on l));
+      orders = omega (arith, h.orders, i.orders, j.orders, counts is_ended_order, if_is (is_ended_order (Some x)), if_is (is_ended_order (Some (with_fate fate x))));
+      fit = fit;
+    }
+
+-- what was discarded was for one of the causes
+pub by_cause : (ms : List (Option Message)) → count_of was_discarded ms ≡ count_of (was_discarded_by Emergency) ms + count_of (was_discarded_by Unreasonable) ms + count_of (was_discarded_by NoAnswer) ms
+by_cause [] = refl
+by_cause (None ∷ ms) = by_cause ms
+by_cause (Some m ∷ ms) = grind (arith, by_cause ms)
 
 -- WHAT IS FINISHED is forgotten: a place of which none is finished keeps its count, and one where all are has none
 module _ (p : Option Message → Bool) (none : p None ≡ false) where
@@ -103,6 +120,7 @@ tally_kept t u ms h f = record {
   counts = λ place. let kept = counts_kept place ms in let had = h.counts place in let is = f.counts place in grind arith;
   unsent = λ s b. rw f.unsent (h.unsent s b ∙ sym (count_still (is_queued s) refl (λ m e. grind arith) ms));
   octets = λ l b. rw f.octets (h.octets l b ∙ sym (octets_still l ms));
+  orders = f.orders ∙ sym (count_gone is_ended_order refl (λ m e. grind arith) ms);
   fit = fit_kept ms h.fit;
 }
 

@@ -1,6 +1,6 @@
 -- The messages of a set by their numbers: whose each is, where it stands, and its octets. A number whose message was
 -- forgotten has an empty slot.
-use Rattle.std.specs.Prelude.{ℕ, zero, suc, Bool, true, false, nat_lt, ◌==◌, ◌+◌, ◌&&◌, List, [], ◌∷◌, length, filter, map, sum_by, Option, None, Some, ◌≡◌, ◌<◌, ◌≤◌, ◌^◌, slice_index, option_map, if◌then◌else◌}
+use Rattle.std.specs.Prelude.{ℕ, zero, suc, Bool, true, false, not, nat_lt, ◌==◌, ◌+◌, ◌&&◌, List, [], ◌∷◌, length, filter, map, sum_by, Option, None, Some, ◌≡◌, ◌<◌, ◌≤◌, ◌^◌, slice_index, option_map, if◌then◌else◌}
 use Rattle.std.specs.Option.{option_map_or}
 use Rattle.set_queues.specs.declared.message.Kind.{Kind}
 use Rattle.set_queues.specs.declared.message.Kind.TheVariants.{User, Order}
@@ -8,6 +8,10 @@ use Rattle.set_events.specs.declared.answer.Fate.{Fate}
 use Rattle.set_events.specs.declared.answer.Fate.TheVariants.{Waiting, Unacked, Acked, Held, Parked, Back, Discarded}
 pub use Rattle.set_events.specs.Places.{waits, was_sent, was_acked, was_held, is_parked, stands_back, was_discarded, is_unsent, one_if}
 use Rattle.set_events.specs.declared.answer.Counts.{Counts}
+use Rattle.set_events.specs.declared.answer.DiscardCause.{DiscardCause}
+use Rattle.set_events.specs.declared.answer.DiscardCause.TheVariants.{Emergency, Unreasonable, NoAnswer}
+use Rattle.set_events.specs.declared.finished.Finished.{Finished}
+use Rattle.set_events.specs.Numbers.{cause_number}
 use Rattle.set_queues.specs.Buffers.{same_fate, is_standing}
 pub use Rattle.set_queues.specs.Slots.{slot_at}
 pub use Rattle.set_queues.specs.declared.message.Message.{Message}
@@ -29,7 +33,10 @@ abbrev pub is_of : ℕ → Kind → Bool
 is_of stream (User s) = s == stream
 is_of stream Order = false
 
--- THE PLACES in which messages are counted
+-- THE PLACES in which messages are counted, those that were discarded by their causes
+
+abbrev pub was_discarded_by : DiscardCause → Fate → Bool
+was_discarded_by cause fate = same_fate fate (Discarded cause)
 
 -- the place of a fate
 abbrev pub place_of : Fate → ℕ
@@ -39,7 +46,7 @@ place_of (Acked l) = 2
 place_of (Held l) = 3
 place_of Parked = 4
 place_of (Back code) = 5
-place_of (Discarded cause) = 6
+place_of (Discarded cause) = 5 + cause_number cause
 
 -- whether a message of a fate stands there
 abbrev pub stands_at : Fate → Fate → Bool
@@ -49,7 +56,7 @@ stands_at (Acked l) = was_acked
 stands_at (Held l) = was_held
 stands_at Parked = is_parked
 stands_at (Back c) = stands_back
-stands_at (Discarded cause) = was_discarded
+stands_at (Discarded cause) = was_discarded_by cause
 
 -- THE MESSAGES
 
@@ -116,6 +123,21 @@ abbrev pub is_unfinished : Option Message → Bool
 is_unfinished None = false
 is_unfinished (Some m) = is_standing m.fate
 
+-- an order of a final fate
+abbrev pub is_ended_order : Option Message → Bool
+is_ended_order None = false
+is_ended_order (Some m) = not (is_users m.kind) && not (is_standing m.fate)
+
+-- how many there are of those that are forgotten: of the users' by how they ended, and orders
+abbrev pub finished_in : List (Option Message) → Finished
+finished_in messages = record {
+  acked = count_of was_acked messages;
+  emergency = count_of (was_discarded_by Emergency) messages;
+  unreasonable = count_of (was_discarded_by Unreasonable) messages;
+  no_answer = count_of (was_discarded_by NoAnswer) messages;
+  orders = length (filter is_ended_order messages);
+}
+
 abbrev pub kept_slot : Option Message → Option Message
 kept_slot slot = if is_unfinished slot then slot else None
 
@@ -138,6 +160,7 @@ pub record IsTally (tally : Tally) (messages : List (Option Message)) : Type 0 w
   pub unsent : (stream : ℕ) → stream < 16 → slice_index tally.unsent stream
       ≡ unsent_of stream messages
   pub octets : (link : ℕ) → link < 16 → slice_index tally.octets link ≡ sum_by (octets_on link) messages
+  pub orders : tally.orders ≡ length (filter is_ended_order messages)
   pub fit : AreFit messages
 
 -- new counts this message too
@@ -147,6 +170,7 @@ pub record IsMore (m : Message) (old new : Tally) : Type 0 where
   pub unsent : (stream : ℕ) → stream < 16 → slice_index new.unsent stream
       ≡ slice_index old.unsent stream + one_if (is_queued stream (Some m))
   pub octets : (link : ℕ) → link < 16 → slice_index new.octets link ≡ slice_index old.octets link + octets_on link (Some m)
+  pub orders : new.orders ≡ old.orders + one_if (is_ended_order (Some m))
 
 -- the message is counted
 pub record IsAmong (m : Message) (tally : Tally) : Type 0 where
@@ -154,6 +178,7 @@ pub record IsAmong (m : Message) (tally : Tally) : Type 0 where
   pub unsent : (stream : ℕ) → stream < 16 → one_if (is_queued stream (Some m))
       ≤ slice_index tally.unsent stream
   pub octets : (link : ℕ) → link < 16 → octets_on link (Some m) ≤ slice_index tally.octets link
+  pub orders : one_if (is_ended_order (Some m)) ≤ tally.orders
 
 -- with those of final fates forgotten
 pub record Forgets (old new : Tally) : Type 0 where
@@ -161,12 +186,14 @@ pub record Forgets (old new : Tally) : Type 0 where
       ≡ (if is_standing place then slice_index old.counts (place_of place) else 0)
   pub unsent : new.unsent ≡ old.unsent
   pub octets : new.octets ≡ old.octets
+  pub orders : new.orders ≡ 0
 
 -- far from the end of their range
 pub record AreFew (tally : Tally) : Type 0 where
   pub counts : (place : Fate) → slice_index tally.counts (place_of place) < 2 ^ 63
   pub unsent : (stream : ℕ) → stream < 16 → slice_index tally.unsent stream < 2 ^ 63
   pub octets : (link : ℕ) → link < 16 → slice_index tally.octets link < 2 ^ 72
+  pub orders : tally.orders < 2 ^ 63
 
 -- what contracts see of the messages: their slots, and how many more want no memory
 pub record MessagesState : Type 0 where

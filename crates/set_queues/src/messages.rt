@@ -1,14 +1,14 @@
 //! Where each message stands, with the counts of all of them, and what is done with the first of a queue.
 ghost use Rattle.std.specs.Prelude.{◌≡◌, ◌*◌, ◌≤◌, ◌<◌, ◌+◌, ◌-◌, ◌^◌, ◌++◌, ◌∷◌, [], false, Some, IfOk, OnOk, length, sum_by, take};
-ghost use Rattle.set_queues.specs.Messages.{restood, restood_one, slot_at, counts_of, unsent_of, octets_on, unfinished, is_unfinished, IsFit};
-ghost use Rattle.set_queues.specs.Buffers.{IsKnown, CanTake, TakesRoom, is_standing, queue_at, with_queue, same_fate};
+ghost use Rattle.set_queues.specs.Messages.{restood, restood_one, slot_at, counts_of, unsent_of, octets_on, finished_in, unfinished, is_unfinished, IsFit};
+ghost use Rattle.set_queues.specs.Buffers.{IsKnown, CanTake, TakesRoom, queue_at, with_queue, same_fate};
 ghost use Rattle.set_queues.specs.Slots.{AreSlots, AreKept, item_at, given_to};
 
 use super::buffers::Buffers;
 use super::message::Message;
 use super::slots::Numbers;
-use super::tally::{Tally, enter, forget_finished, leave};
-use set_events::{Counts, Fate};
+use super::tally::{Tally, enter, forget_finished, is_standing, leave};
+use set_events::{Counts, Fate, Finished};
 use std::alloc::{AllocError, Global};
 use std::marker::Model;
 
@@ -49,9 +49,10 @@ impl Messages {
             numbers: Numbers::new(alloc),
             all: Vec::new(alloc),
             tally: Tally {
-                counts: [0; 7],
+                counts: [0; 9],
                 unsent: [0; 16],
                 octets: [0; 16],
+                orders: 0,
             },
         }
     }
@@ -76,7 +77,9 @@ impl Messages {
     pub(crate) fn counts(&self) -> Counts
         ensures { result ≡ counts_of self.now.items }
     {
-        let [waiting, unacked, acked, held, parked, back, discarded] = self.tally.counts;
+        // each message is counted once
+        self.given();
+        let [waiting, unacked, acked, held, parked, back, emergency, unreasonable, no_answer] = self.tally.counts;
         Counts {
             waiting,
             unacked,
@@ -84,7 +87,21 @@ impl Messages {
             held,
             parked,
             back,
-            discarded,
+            discarded: emergency + unreasonable + no_answer,
+        }
+    }
+
+    /// How many messages are finished: the users' by how they ended, and orders.
+    pub(crate) fn finished(&self) -> Finished
+        ensures { result ≡ finished_in self.now.items }
+    {
+        let [_, _, acked, _, _, _, emergency, unreasonable, no_answer] = self.tally.counts;
+        Finished {
+            acked,
+            emergency,
+            unreasonable,
+            no_answer,
+            orders: self.tally.orders,
         }
     }
 
@@ -188,13 +205,6 @@ fn keep(
         kept.push(message)?;
     }
     Ok((older, kept))
-}
-
-/// Whether the fate isn't final: it names a queue.
-pub(crate) fn is_standing(fate: Fate) -> bool
-    ensures { result ≡ is_standing fate }
-{
-    !matches!(fate, Fate::Acked { .. } | Fate::Discarded { .. })
 }
 
 /// The first `count` that stand in one queue have another fate from now on, and stand last there too, in

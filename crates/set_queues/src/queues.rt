@@ -4,17 +4,18 @@ ghost use Rattle.set_queues.specs.Buffers.{empty_lists, IsQueued, same_fate, IsK
 ghost use Rattle.l2_window.specs.Window.{fsn_count, most_unacked, fsn_before_first};
 ghost use Rattle.set_queues.specs.Settling.{fate_on, on, settled};
 ghost use Rattle.set_queues.specs.Queues.{QueuesState, AreSound, Moves, MovesAll, MovesFirst, MakesRoom};
-ghost use Rattle.set_queues.specs.Messages.{restood, slot_at, fate_at, octets_of, counts_of, unsent_of, is_unfinished, unfinished, IsFit};
+ghost use Rattle.set_queues.specs.Messages.{restood, slot_at, fate_at, octets_of, counts_of, unsent_of, finished_in, is_unfinished, unfinished, IsFit};
 ghost use Rattle.std.specs.Result.{OkIff};
 ghost use Rattle.set_queues.specs.Backs.{IsOldestOf, back_count};
 ghost use Rattle.set_queues.specs.Sending.{acknowledged, reach};
 
 use super::buffers::Buffers;
 use super::message::Message;
-use super::messages::{Messages, is_standing, pass};
+use super::messages::{Messages, pass};
+use super::tally::is_standing;
 use l2_units::Profile;
 use l2_window::{Queue, Window, WindowFault};
-use set_events::{Counts, DiscardCause, Fate};
+use set_events::{Counts, DiscardCause, Fate, Finished};
 use std::alloc::{AllocError, Global};
 use std::marker::Model;
 
@@ -129,6 +130,13 @@ impl Queues {
         ensures { result ≡ counts_of self.now.messages }
     {
         self.messages.counts()
+    }
+
+    /// How many messages are finished, which [`Queues::kept`] forgets: the users' by how they ended, and orders.
+    pub fn finished(&self) -> Finished
+        ensures { result ≡ finished_in self.now.messages }
+    {
+        self.messages.finished()
     }
 
     /// How many of the users' messages of this stream aren't sent yet.

@@ -2,19 +2,22 @@
 //! of each link's unacknowledged bodies.
 ghost use Rattle.std.specs.Prelude.{◌≡◌, true};
 ghost use Rattle.set_queues.specs.Messages.{is_kind, place_of, is_unsent, IsAmong, IsMore, AreFew, Forgets};
+ghost use Rattle.set_queues.specs.Buffers.{is_standing};
 
 use super::message::{Kind, Message};
-use set_events::Fate;
+use set_events::{DiscardCause, Fate};
 
 /// The running counts of a list of messages.
 #[derive(Clone, Copy)]
 pub(crate) struct Tally {
     /// Of the users' messages, how many stand in each place, by [`place_of`].
-    pub(crate) counts: [u64; 7],
+    pub(crate) counts: [u64; 9],
     /// Of each stream's, how many aren't sent yet.
     pub(crate) unsent: [u64; 16],
     /// Of each link, the octets of the bodies that are sent and not acknowledged.
     pub(crate) octets: [u128; 16],
+    /// How many orders have a final fate.
+    pub(crate) orders: u64,
 }
 
 /// One more message.
@@ -23,11 +26,15 @@ pub(crate) fn enter(tally: &mut Tally, message: Message)
     requires known { is_kind message.kind ≡ true }
     ensures { IsMore message tally.old tally.new }
 {
-    if let Kind::User { stream } = message.kind {
-        tally.counts[place_of(message.fate)] += 1;
-        if counts_as_unsent(message.fate) {
-            tally.unsent[usize::from(stream)] += 1;
+    match message.kind {
+        Kind::User { stream } => {
+            tally.counts[place_of(message.fate)] += 1;
+            if counts_as_unsent(message.fate) {
+                tally.unsent[usize::from(stream)] += 1;
+            }
         }
+        Kind::Order if is_standing(message.fate) => (),
+        Kind::Order => tally.orders += 1,
     }
     if let Fate::Unacked { link: link @ 0..16 } = message.fate {
         tally.octets[usize::from(link)] += u128::from(message.octets);
@@ -40,11 +47,15 @@ pub(crate) fn leave(tally: &mut Tally, message: Message)
     requires known { is_kind message.kind ≡ true }
     ensures { IsMore message tally.new tally.old }
 {
-    if let Kind::User { stream } = message.kind {
-        tally.counts[place_of(message.fate)] -= 1;
-        if counts_as_unsent(message.fate) {
-            tally.unsent[usize::from(stream)] -= 1;
+    match message.kind {
+        Kind::User { stream } => {
+            tally.counts[place_of(message.fate)] -= 1;
+            if counts_as_unsent(message.fate) {
+                tally.unsent[usize::from(stream)] -= 1;
+            }
         }
+        Kind::Order if is_standing(message.fate) => (),
+        Kind::Order => tally.orders -= 1,
     }
     if let Fate::Unacked { link: link @ 0..16 } = message.fate {
         tally.octets[usize::from(link)] -= u128::from(message.octets);
@@ -55,9 +66,10 @@ pub(crate) fn leave(tally: &mut Tally, message: Message)
 pub(crate) fn forget_finished(tally: &Tally) -> Tally
     ensures { Forgets tally.now result }
 {
-    let [waiting, unacked, _, held, parked, back, _] = tally.counts;
+    let [waiting, unacked, _, held, parked, back, ..] = tally.counts;
     Tally {
-        counts: [waiting, unacked, 0, held, parked, back, 0],
+        counts: [waiting, unacked, 0, held, parked, back, 0, 0, 0],
+        orders: 0,
         ..*tally
     }
 }
@@ -73,8 +85,19 @@ fn place_of(fate: Fate) -> usize
         Fate::Held { .. } => 3,
         Fate::Parked => 4,
         Fate::Back { .. } => 5,
-        Fate::Discarded { .. } => 6,
+        Fate::Discarded { cause } => match cause {
+            DiscardCause::Emergency => 6,
+            DiscardCause::Unreasonable => 7,
+            DiscardCause::NoAnswer => 8,
+        },
     }
+}
+
+/// Whether the fate isn't final: it names a queue.
+pub(crate) fn is_standing(fate: Fate) -> bool
+    ensures { result ≡ is_standing fate }
+{
+    !matches!(fate, Fate::Acked { .. } | Fate::Discarded { .. })
 }
 
 /// Whether a message of this fate isn't sent yet.

@@ -62,6 +62,17 @@ impl Routes {
         }
     }
 
+    /// The same again.
+    pub fn copied(&self) -> Routes
+        ensures { result ≡ self.now }
+    {
+        Routes {
+            links: self.links,
+            streams: self.streams,
+            codes: self.codes,
+        }
+    }
+
     /// Where this stream runs; the links that it names are of the set.
     ///
     /// Condition: a stream below 16.

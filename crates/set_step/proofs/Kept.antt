@@ -65,7 +65,7 @@ replicated (suc n) (suc k) x = grind (arith, nat_tests, replicated n k x)
 -- of no messages none stands in a queue
 none_given : (ns : List ℕ) → AreGiven ns [] → ns ≡ []
 none_given [] given = refl
-none_given (n ∷ ns) given = absurd (omega (arith, given n (omega (arith, occurs_here n n refl))))
+none_given (n ∷ ns) given = let there = given n (omega (arith, occurs_here n n refl)) in absurd cc
 
 none_stands : (q : Lists) → AreSound q [] → (fate : Fate) → is_standing fate ≡ true → queue_at fate q ≡ numbers (rows_at fate [])
 none_stands q sound fate stood = none_given (queue_at fate q) (given_queue q [] fate sound.tied stood)

@@ -1,1 +1,2 @@
+pub mod Forgotten
 pub mod Kept

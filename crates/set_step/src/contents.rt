@@ -10,6 +10,7 @@ ghost use Rattle.set_moves.specs.Agreement.{Kept, Agrees, StandsFor, Holds, Hold
 ghost use Rattle.set_step.specs.Answering.{AnswersFor, wants_none};
 ghost use Rattle.set_moves.specs.Parts.{kept_of};
 
+use super::forgetting::{copied, kept};
 use super::step::carry_out;
 use l2_units::Profile;
 use l2_window::Window;
@@ -166,21 +167,23 @@ impl Core {
         }
     }
 
-    // STUB
     /// What a checkpoint keeps: the same without the messages of which nothing more can become, which are counted.
     /// It fails only where memory was refused.
     pub fn kept(&self) -> Result<Core, AllocError>
         ensures { IfOk result (λ core. (s : State) → Agrees self.now s → Agrees core (checkpointed s)) }
     {
-        Err(AllocError)
+        Ok(Core {
+            parts: kept(&self.parts)?,
+        })
     }
 
-    // STUB
     /// The same again. It fails only where memory was refused.
     pub fn copied(&self) -> Result<Core, AllocError>
         ensures { IfOk result (λ core. core ≡ self.now) }
     {
-        Err(AllocError)
+        Ok(Core {
+            parts: copied(&self.parts)?,
+        })
     }
 
     /// The message at this place of the link's unacknowledged ones, the oldest at 0: its number, and the FSN

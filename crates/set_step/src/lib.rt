@@ -18,13 +18,14 @@
 //! `set_traffic`, whose law [`is_asked`] says that whatever is offered is of one of the 16 streams, as the model asks
 //! of an event.
 //!
-//! The files: `step` the case of each event; `contents` the whole.
+//! The files: `step` the case of each event; `forgetting` what a checkpoint keeps; `contents` the whole.
 //!
 //! This crate reads no clock, waits for nothing, takes no lock and does no IO. A call that may want memory
 //! takes it before it changes anything.
 #![tactic(auto)]
 
 mod contents;
+mod forgetting;
 mod step;
 
 pub use contents::Core;

@@ -41,6 +41,7 @@ pub(crate) fn carry_out(
         Event::Find { number } => {
             *answer = match parts.queues.fate_of(*number) {
                 Some(fate) => Answer::Found { fate },
+                None if *number < parts.queues.len() as u64 => Refusal::Finished.into(),
                 None => Refusal::UnknownNumber.into(),
             };
             Ok(())

@@ -298,9 +298,12 @@ fn no_counts() -> Counts {
 /// Run with each allocation failing in turn (tools/refuse-memory); with memory it passes as it is.
 #[test]
 fn a_refused_growth_makes_no_checkpoint(rt: HostRuntime) -> Result<(), Fail> {
-    match set_of(rt.alloc(), 1) {
+    let Some(config) = config() else {
+        return Err(Fail::from("refused"));
+    };
+    match SetCore::new(rt.alloc(), &config) {
         Ok(mut set) => holds(is_based_or_as_before(rt.alloc(), &mut set)),
-        Err(_) => Ok(()),
+        Err(fault) => holds(fault == SetFault::NoMemory),
     }
 }
 

@@ -1,9 +1,10 @@
 -- HOW MANY MESSAGES stand somewhere, by what is kept of them and by their rows.
-use Rattle.std.proofs.Common.{refl, arith, ◌≡◌, ◌∙◌, ap, sym, ◌≤◌, ◌+◌, [], ◌∷◌, List, ℕ, suc, length, ◌&&◌, Bool, nat_le, Option, Some, slice_get, filter, option_map}
+use Rattle.std.proofs.Common.{refl, arith, ◌≡◌, ◌∙◌, ap, sym, ◌≤◌, ◌+◌, [], ◌∷◌, List, ℕ, suc, length, ◌&&◌, Bool, false, nat_le, Option, None, Some, slice_get, filter, option_map}
 use Rattle.std.proofs.Math.Nat.{zero-add}
 use Rattle.std.proofs.lemmas.Bool.Decides.{nat_tests}
 use Rattle.set_queues.specs.Buffers.{Lists}
-use Rattle.set_queues.specs.Messages.{one_if, is_of, is_users, unsent_of, count_of, counts_of}
+use Rattle.std.specs.Option.{option_map_or}
+use Rattle.set_queues.specs.Messages.{one_if, is_of, is_queued, is_there, is_users, slot_at, unsent_of, count_of, counts_of}
 use Rattle.set_model.specs.Rows.{Fate, Row, row_of, unsent, is_unsent, IsNumbered, standing, users, counts_of as counts_in}
 use Rattle.set_model.proofs.Rows.{with_number, row_is_first, at_most_one}
 use Rattle.set_moves.specs.Agreement.{Message, Label, Stands, kind_of, label_in, label_of}
@@ -21,39 +22,47 @@ none_past : (r : Row → Bool) (n : ℕ) (rows : List Row) → ((m : ℕ) → n 
 none_past r n [] none = refl
 none_past r n (x ∷ rows) none = grind (arith, nat_tests, none x.number, none_past r n rows (λ m past. grind (arith, nat_tests, none m past)))
 
-alone : (r : Row → Bool) (rows : List Row) (b : Bool) → length rows ≤ 1 → Some b ≡ option_map r (slice_get rows 0) → length (filter r rows) ≡ one_if b
-alone r [] b one is = absurd (cc)
-alone r (x ∷ []) b one is = grind arith
-alone r (x ∷ y ∷ rows) b one is = absurd (omega (arith, one))
+-- a row passes the test, if there is one
+abbrev picked : (Row → Bool) → Option Row → Bool
+picked r row = option_map_or r row false
 
--- THE SAME COUNT: what a message is picked by, its row is.
-as_many : (p : Message → Bool) (r : Row → Bool) (ms : List Message) (k given : ℕ) (rows : List Row) → IsNumbered given rows → k + length ms ≡ given → ((i n : ℕ) → n ≡ k + i → option_map p (slice_get ms i) ≡ option_map r (row_of n rows)) → length (filter p ms) ≡ from r k rows
+alone : (r : Row → Bool) (rows : List Row) → length rows ≤ 1 → length (filter r rows) ≡ one_if (picked r (slice_get rows 0))
+alone r [] one = refl
+alone r (x ∷ []) one = grind arith
+alone r (x ∷ y ∷ rows) one = absurd (omega (arith, one))
+
+-- THE SAME COUNT: what a slot is picked by, the row of its number is.
+as_many : (p : Option Message → Bool) (r : Row → Bool) (ms : List (Option Message)) (k given : ℕ) (rows : List Row) → IsNumbered given rows → k + length ms ≡ given → ((i n : ℕ) → n ≡ k + i → p (slot_at i ms) ≡ picked r (row_of n rows)) → length (filter p ms) ≡ from r k rows
 as_many p r [] k given rows numbered count same = sym (none_past r k rows (λ m past. let none = numbered m in grind (arith, nat_tests, none)))
 as_many p r (m ∷ ms) k given rows numbered count same =
-    let here = alone r (with_number k rows) (p m) (at_most_one given k rows numbered) (same 0 k (omega arith) ∙ ap (option_map r) (row_is_first k rows)) in
+    let here = alone r (with_number k rows) (at_most_one given k rows numbered) in
+    let is = same 0 k (omega arith) ∙ ap (picked r) (row_is_first k rows) in
     let rest = as_many p r ms (suc k) given rows numbered (omega (arith, count)) (λ i n e. same (suc i) n (omega (arith, e))) in
     grind (arith, one_less r k rows)
 
 -- by label and fate, as a message has them and its row
-module _ (f : Label → Fate → Bool) where
-  by_label : (o : Option Message) (d : Option Row) → option_map (λ (m : Message). m.fate) o ≡ option_map (λ (r : Row). r.fate) d → option_map label_in o ≡ option_map label_of (option_map (λ (r : Row). r.body) d) → option_map (λ (m : Message). f (label_in m) m.fate) o ≡ option_map (λ (r : Row). f (label_of r.body) r.fate) d
-  by_label o d e g = grind arith
+module _ (f : Label → Fate → Bool) (p : Option Message → Bool) (none : p None ≡ false) (by : (m : Message) → p (Some m) ≡ f (label_in m) m.fate) where
+  by_label : (o : Option Message) (d : Option Row) → option_map (λ (m : Message). m.fate) o ≡ option_map (λ (r : Row). r.fate) d → option_map label_in o ≡ option_map label_of (option_map (λ (r : Row). r.body) d) → p o ≡ picked (λ (r : Row). f (label_of r.body) r.fate) d
+  by_label None None e g = none
+  by_label None (Some r) e g = absurd (cc)
+  by_label (Some m) None e g = absurd (cc)
+  by_label (Some m) (Some r) e g = let is = by m in grind arith
 
-  pub counted : (q : Lists) (ms : List Message) (rows : List Row) → Stands q ms rows → length (filter (λ (m : Message). f (label_in m) m.fate) ms) ≡ length (filter (λ (r : Row). f (label_of r.body) r.fate) rows)
+  pub counted : (q : Lists) (ms : List (Option Message)) (rows : List Row) → Stands q ms rows → length (filter p ms) ≡ length (filter (λ (r : Row). f (label_of r.body) r.fate) rows)
   counted q ms rows s =
-      as_many (λ (m : Message). f (label_in m) m.fate) (λ (r : Row). f (label_of r.body) r.fate) ms 0 (length ms) rows s.numbered (omega arith) (λ i n e. rw (e, zero-add) (by_label (slice_get ms i) (row_of i rows) (s.fates i) (s.labels i)))
+      as_many p (λ (r : Row). f (label_of r.body) r.fate) ms 0 (length ms) rows s.numbered (omega arith) (λ i n e. rw (e, zero-add) (by_label (slot_at i ms) (row_of i rows) (s.fates i) (s.labels i)))
       ∙ ap length (filter_agree _ _ (λ row. grind (arith, nat_tests)) rows)
 
 -- THE UNSENT MESSAGES of a stream
-pub unsent_is : (stream : ℕ) (q : Lists) (ms : List Message) (rows : List Row) → Stands q ms rows → unsent_of stream ms ≡ length (unsent stream rows)
-unsent_is stream q ms rows s = counted (λ l fate. is_of stream l.kind && is_unsent fate) q ms rows s ∙ ap length (filter_agree _ _ (λ row. grind arith) rows)
+pub unsent_is : (stream : ℕ) (q : Lists) (ms : List (Option Message)) (rows : List Row) → Stands q ms rows → unsent_of stream ms ≡ length (unsent stream rows)
+unsent_is stream q ms rows s = counted (λ l fate. is_of stream l.kind && is_unsent fate) (is_queued stream) refl (λ m. refl) q ms rows s ∙ ap length (filter_agree _ _ (λ row. grind arith) rows)
 
 -- THE USERS' MESSAGES of one place
-users_there : (test : Fate → Bool) (rows : List Row) → length (filter (λ (r : Row). is_users (kind_of r.body) && test r.fate) rows) ≡ length (standing test (users rows))
+pub users_there : (test : Fate → Bool) (rows : List Row) → length (filter (λ (r : Row). is_users (kind_of r.body) && test r.fate) rows) ≡ length (standing test (users rows))
 users_there test [] = refl
 users_there test (x ∷ rows) = grind (arith, users_there test rows)
 
-pub counts_are : (q : Lists) (ms : List Message) (rows : List Row) → Stands q ms rows → counts_of ms ≡ counts_in rows
+pub counts_are : (q : Lists) (ms : List (Option Message)) (rows : List Row) → Stands q ms rows → counts_of ms ≡ counts_in rows
 counts_are q ms rows s =
-    let in_place : (test : Fate → Bool) → count_of test ms ≡ length (standing test (users rows)) = λ test. counted (λ l fate. is_users l.kind && test fate) q ms rows s ∙ users_there test rows in
+    let in_place : (test : Fate → Bool) → count_of test ms ≡ length (standing test (users rows)) = λ test. counted (λ l fate. is_users l.kind && test fate) (is_there test) refl (λ m. refl) q ms rows s ∙ users_there test rows in
     grind (arith, in_place)

@@ -2,10 +2,10 @@
 use Rattle.std.proofs.lemmas.Bool.{eq-eqb}
 use Rattle.std.proofs.lemmas.Option.{same_Some}
 use Rattle.std.proofs.Common.{refl, arith, ◌≡◌, ◌≢◌, ◌∙◌, ap, sym, subst, ℕ, zero, suc, ◌<◌, Bool, true, false, List, [], ◌∷◌, length, drop, slice_get, Option, Some, None, option_map}
-use Rattle.l3_orders.specs.declared.order.Order.{Order}
 use Rattle.l3_orders.specs.Grammar.{order_of}
-use Rattle.set_queues.specs.Buffers.{Lists, queue_at, with_queue}
+use Rattle.set_queues.specs.Buffers.{Lists, queue_at}
 use Rattle.set_queues.specs.Queues.{passed_first}
+use Rattle.set_queues.specs.Slots.{slot_at}
 use Rattle.set_queues.proofs.Standing.{links_stay, queue_set}
 use Rattle.set_model.specs.Changeover.{cleared, is_overtaken, leading, overtakes, withdrawn}
 use Rattle.set_model.specs.Rows.{Fate, Waiting, Discarded, NoAnswer, Row, IsInOrder, is_waiting, numbers, turned, wait}
@@ -84,7 +84,7 @@ none_first n s k f e = go (wait n s.rows) refl
     go [] w = refl
     go (row ∷ rest) w = let no : None ≡ Some row.number = sym e ∙ ap (λ (ns : List ℕ). slice_get ns 0) (f.stands.queues (Waiting n) refl ∙ ap numbers w) in absurd cc
 
-pub first_is : (n message : ℕ) (s : State) (k : Kept) (body : List ℕ) → StandsFor k s → slice_get (queue_at (Waiting n) k.lists) 0 ≡ Some message → slice_get k.bodies message ≡ Some body → holds_first (is_overtaken s) (wait n s.rows) ≡ overtakes s (order_of s.settings.profile body)
+pub first_is : (n message : ℕ) (s : State) (k : Kept) (body : List ℕ) → StandsFor k s → slice_get (queue_at (Waiting n) k.lists) 0 ≡ Some message → slot_at message k.bodies ≡ Some body → holds_first (is_overtaken s) (wait n s.rows) ≡ overtakes s (order_of s.settings.profile body)
 first_is n message s k body f e found = go (wait n s.rows) refl
   where
     there : option_map (λ (row : Row). row.body) (slice_get (wait n s.rows) 0) ≡ Some body

@@ -21,7 +21,7 @@ use Rattle.set_moves.specs.Agreement.{Holds, StandsFor, Message as KeptMessage, 
 use Rattle.set_moves.specs.Parts.{Up, kept_of, Gives, Obeys}
 use Rattle.set_moves.proofs.Links.{IsHere, served, stands_for, same_ups, same_target, profile_of, whole_of}
 use Rattle.set_traffic.specs.Traffic.{ReachesTo, KeepsSpace, Brought, Nothing, Message, OrderBrought, Unread, brought_by, HasSpaceFor}
-use Rattle.set_queues.specs.Messages.{octets_at, octets_of}
+use Rattle.set_queues.specs.Messages.{octets_at, octets_of, slot_at}
 use Rattle.set_model.proofs.Rows.{Found, found_by_number, row_in_filter}
 use Rattle.set_model.proofs.Lists.{present}
 use Rattle.std.proofs.lemmas.List.{length-map}
@@ -72,7 +72,7 @@ pub fit_at : (p : Profile) (number : ℕ) (rows : List Row) (body : List ℕ) �
 fit_at p number [] body fit e = absurd (cc)
 fit_at p number (x ∷ rows) body fit e = let few = longest_few p in grind (arith, few, fit_at p number rows body fit.1)
 
-sum_of : (xs : List Row) (ms : List KeptMessage) → ((i : ℕ) (row : Row) → slice_get xs i ≡ Some row → octets_at row.number ms ≡ length row.body) → octets_of (numbers xs) ms ≡ octets_in xs
+sum_of : (xs : List Row) (ms : List (Option KeptMessage)) → ((i : ℕ) (row : Row) → slice_get xs i ≡ Some row → octets_at row.number ms ≡ length row.body) → octets_of (numbers xs) ms ≡ octets_in xs
 sum_of [] ms h = refl
 sum_of (x ∷ xs) ms h = let here = h 0 x refl in let rest = sum_of xs ms (λ i row e. h (suc i) row e) in omega (arith, here, rest, sum_by-cons (λ (n : ℕ). octets_at n ms) x.number (numbers xs))
 
@@ -81,7 +81,7 @@ module _ (k : Kept) (s : State) (f : StandsFor k s) where
   pub found_at : (fate : Fate) (i message : ℕ) → is_standing fate ≡ true → slice_get (queue_at fate k.lists) i ≡ Some message → Found (length k.messages) (λ (row : Row). is_there fate row.fate) s.rows i message
   found_at fate i message stands e = found_by_number (length k.messages) _ s.rows i message f.stands.numbered (ap (λ (ns : List ℕ). slice_get ns i) (sym (f.stands.queues fate stands)) ∙ e)
 
-  pub body_is : (fate : Fate) (i message : ℕ) → is_standing fate ≡ true → slice_get (queue_at fate k.lists) i ≡ Some message → option_map (λ (row : Row). row.body) (slice_get (rows_at fate s.rows) i) ≡ slice_get k.bodies message
+  pub body_is : (fate : Fate) (i message : ℕ) → is_standing fate ≡ true → slice_get (queue_at fate k.lists) i ≡ Some message → option_map (λ (row : Row). row.body) (slice_get (rows_at fate s.rows) i) ≡ slot_at message k.bodies
   body_is fate i message stands e = let at = found_at fate i message stands e in rw at.there (sym (f.bodies message ∙ at.body_is))
 
   -- the octets that are kept are the rows'

@@ -1,8 +1,8 @@
-use Rattle.std.proofs.Common.{arith, ◌≡◌, ◌+◌, ◌^◌, ℕ, [], ◌∷◌, ◌++◌, sym, subst, drop, take, refl, List, length}
+use Rattle.std.proofs.Common.{arith, ◌≡◌, ◌+◌, ◌^◌, ℕ, [], ◌∷◌, ◌++◌, sym, subst, drop, take, refl, List}
 use Rattle.std.proofs.lemmas.List.{drop_all}
 use Rattle.set_events.specs.declared.history.Entry.{Entry}
 use Rattle.set_model.specs.History.{IsLegal, after, entries_of}
-use Rattle.set_core.proofs.Keeping.{Replayed, replay_none, replay_next, replay_taken, replay_more, replay_count, replay_actor, replay_answer, few_more}
+use Rattle.set_core.proofs.Keeping.{replay_none, replay_next, replay_taken, replay_more, replay_count, replay_actor, replay_answer, few_more}
 use Rattle.set_core.proofs.auditing.replay.Goals as goal
 
 pub loop-entry-init : goal.loop-entry-init

@@ -1,4 +1,4 @@
-use Rattle.std.proofs.Common.{◌≡◌, ◌<◌, length, ℕ}
+use Rattle.std.proofs.Common.{◌≡◌, ◌<◌, length}
 use Rattle.set_queues.specs.Buffers.{Waiting, queue_at}
 use Rattle.set_model.specs.State.{State}
 use Rattle.set_moves.specs.Agreement.{StandsFor}

@@ -1,4 +1,4 @@
-use Rattle.std.proofs.Common.{arith, refl, ap, sym, ◌∙◌}
+use Rattle.std.proofs.Common.{refl, ap, sym, ◌∙◌}
 use Rattle.l2_units.specs.declared.profile.Profile.{Profile}
 use Rattle.l3_orders.specs.Grammar.{order_of}
 use Rattle.set_queues.specs.Buffers.{Waiting}
@@ -16,7 +16,7 @@ pub body-requires : goal.body-requires
 body-requires c =
     let f = c.requires.stands.1 in
     let at = found_at _ _ f (Waiting c.args.number) 0 c.in-Some.message refl (sym c.number_at.ensures ∙ c.in-Some.is) in
-    omega (arith, at.below, f.held_bodies)
+    rw (f.bodies c.in-Some.message, at.body_is) refl
 
 pub returns : goal.returns
 returns c = λ s f.

@@ -1,6 +1,6 @@
 use Rattle.std.proofs.Common.{arith, ◌≡◌, ◌∙◌, ap, sym, subst, refl, true, ℕ}
 use Rattle.l2_units.specs.Grammar.{head_of as header_in}
-use Rattle.set_model.specs.Control.{Header, HeardPart, part_of}
+use Rattle.set_model.specs.Control.{HeardPart, part_of}
 use Rattle.set_model.specs.Sound.{IsSound}
 use Rattle.set_model.specs.State.{LinkState, Profile, Settings, State, window_of}
 use Rattle.set_model.specs.Step.{SignalUnit, Took, is_heard, HeardBack, heard as heard_of, controls, after_control, report_of, is_msu}

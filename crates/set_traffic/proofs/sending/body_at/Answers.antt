@@ -1,4 +1,4 @@
-use Rattle.std.proofs.Common.{arith, ◌∙◌, ap, sym, Some}
+use Rattle.std.proofs.Common.{◌∙◌, ap, refl, sym, Some}
 use Rattle.set_moves.specs.Parts.{kept_of}
 use Rattle.set_traffic.proofs.Traffic.{found_at, body_is}
 use Rattle.set_traffic.proofs.sending.body_at.Goals as goal
@@ -10,4 +10,4 @@ pub body-requires : goal.body-requires
 body-requires c =
     let f = c.requires.holds.1.1.stands in
     let at = found_at _ _ f c.args.fate c.args.place c.unwrap-message.result c.requires.standing (sym c.number_at.ensures ∙ c.unwrap-message.ensures) in
-    omega (arith, at.below, f.held_bodies)
+    rw (f.bodies c.unwrap-message.result, at.body_is) refl

@@ -1,4 +1,4 @@
-use Rattle.std.proofs.Common.{arith, ◌≡◌, ◌∙◌, ap, ◌<◌, ◌≤◌, ◌^◌, ◌∷◌, [], ◌++◌, ℕ, List, subst, sym}
+use Rattle.std.proofs.Common.{arith, ◌≡◌, ◌∙◌, ap, ◌<◌, ◌^◌, ◌∷◌, [], ◌++◌, List, subst, sym}
 use Rattle.set_events.specs.declared.history.Entry.{Entry}
 use Rattle.set_model.specs.History.{Base, LinkSet, after, books_of, entries_in, entries_of}
 use Rattle.set_model.specs.Step.{step}

@@ -1,0 +1,85 @@
+//! What a checkpoint keeps, and the same again: both in memory of their own.
+ghost use Rattle.std.specs.Prelude.{◌≡◌, ◌+◌, ◌<◌, ◌^◌, IfOk, List, ℕ};
+ghost use Rattle.set_model.specs.Checkpoint.{checkpointed};
+ghost use Rattle.set_model.specs.State.{State, all_finished};
+ghost use Rattle.set_moves.specs.Agreement.{Agrees, Holds};
+ghost use Rattle.set_moves.specs.Parts.{kept_of};
+ghost use Rattle.set_step.specs.Forgotten.{together};
+
+use set_events::Finished;
+use set_moves::{HeardBody, Inbox, Link, Parts};
+use std::alloc::{AllocError, Global};
+use std::collections::VecDeque;
+
+/// What a checkpoint keeps: the messages that aren't finished. Those that are leave, and are counted.
+#[tactic(auto, using(crate::proofs::Forgotten::fits))]
+pub(crate) fn kept(parts: &Parts) -> Result<Parts, AllocError>
+    requires { Holds (kept_of parts.now) }
+    ensures { IfOk result (λ kept. (s : State) → Agrees (kept_of parts.now) s
+        → Agrees (kept_of kept) (checkpointed s)) }
+{
+    // no more messages are counted than numbers were given out
+    parts.queues.len();
+    let alloc = *parts.links.allocator();
+    Ok(Parts {
+        config: parts.config,
+        links: links_copied(alloc, &parts.links)?,
+        queues: parts.queues.kept()?,
+        bodies: parts.bodies.kept(&parts.queues)?,
+        finished: together(parts.finished, parts.queues.finished()),
+        routes: parts.routes.copied(),
+        inbox: inbox_copied(alloc, &parts.inbox)?,
+    })
+}
+
+/// The same again.
+pub(crate) fn copied(parts: &Parts) -> Result<Parts, AllocError>
+    ensures { IfOk result (λ copy. kept_of copy ≡ kept_of parts.now) }
+{
+    let alloc = *parts.links.allocator();
+    Ok(Parts {
+        config: parts.config,
+        links: links_copied(alloc, &parts.links)?,
+        queues: parts.queues.copied()?,
+        bodies: parts.bodies.copied()?,
+        finished: parts.finished,
+        routes: parts.routes.copied(),
+        inbox: inbox_copied(alloc, &parts.inbox)?,
+    })
+}
+
+/// The links.
+fn links_copied(alloc: Global, links: &[Link]) -> Result<Vec<Link>, AllocError>
+    ensures { IfOk result (λ copy. copy.items ≡ links.now) }
+{
+    let mut copy = Vec::new(alloc);
+    for link in links {
+        copy.push(link.copied())?;
+    }
+    Ok(copy)
+}
+
+/// The messages heard for users.
+fn inbox_copied(alloc: Global, inbox: &Inbox) -> Result<Inbox, AllocError>
+    ensures { IfOk result (λ copy. copy.items ≡ inbox.now.items) }
+{
+    let mut copy = VecDeque::new(alloc);
+    for place in 0..inbox.len() {
+        copy.push_back(inbox[place].copied()?)?;
+    }
+    Ok(copy)
+}
+
+/// Those that left before, and those that leave now.
+fn together(before: Finished, now: Finished) -> Finished
+    requires { all_finished before + all_finished now < 2 ^ 64 }
+    ensures { result ≡ together before now }
+{
+    Finished {
+        acked: before.acked + now.acked,
+        emergency: before.emergency + now.emergency,
+        unreasonable: before.unreasonable + now.unreasonable,
+        no_answer: before.no_answer + now.no_answer,
+        orders: before.orders + now.orders,
+    }
+}
