@@ -1,5 +1,5 @@
 -- THE ENDS of sets: what each came to.
-use Rattle.std.specs.Prelude.{◌≡◌, ℕ, List, [], ◌∷◌, map, drop, Result, Ok, Err, MatchResult}
+use Rattle.std.specs.Prelude.{ℕ, List, [], ◌∷◌, drop, Result, Ok, Err}
 use Rattle.set_events.specs.declared.config.SetConfig.{SetConfig}
 use Rattle.set_crew.specs.declared.end.SetEnd.{SetEnd}
 use Rattle.set_crew.specs.declared.fault.CrewFault.{CrewFault}

@@ -1,10 +1,12 @@
 -- THE FAULTS of a bank, by their numbers.
-use Rattle.std.specs.Prelude.{◌≡◌, ℕ}
+use Rattle.std.specs.Prelude.{◌≡◌, ℕ, List, Result, Err}
 use Rattle.l2_units.specs.declared.profile.Profile.TheVariants.{Narrow}
 use Rattle.set_events.specs.declared.config.SetConfig.{SetConfig}
+use Rattle.set_crew.specs.declared.end.SetEnd.{SetEnd}
 use Rattle.set_crew.specs.declared.fault.CrewFault.{CrewFault}
 use Rattle.set_crew.specs.declared.fault.CrewFault.TheVariants as crew
 use Rattle.bank_core.specs.declared.fault.BankFault.{BankFault}
+use Rattle.bank_core.specs.Ends.{outcome}
 use Rattle.bank_core.specs.declared.fault.BankFault.TheVariants.{NoMemory, Users, Sets, NoThread, Unclosed, Wide}
 
 abbrev pub fault_number : BankFault → ℕ
@@ -28,8 +30,23 @@ EndsEarly NoThread = Unit {0}
 EndsEarly Unclosed = Unit {0}
 EndsEarly Wide = ⊥
 
+-- why none is started
+abbrev pub CannotStart : BankFault → Type 0
+CannotStart NoMemory = Unit {0}
+CannotStart Users = ⊥
+CannotStart Sets = ⊥
+CannotStart NoThread = Unit {0}
+CannotStart Unclosed = ⊥
+CannotStart Wide = ⊥
+
 -- what the bank tells of a set that didn't
 abbrev pub fault_of : CrewFault → BankFault
 fault_of crew.NoMemory = NoMemory
 fault_of crew.NoThread = NoThread
 fault_of crew.Unclosed = Unclosed
+
+-- the first set that came to no end is told
+pub record TellsFirst (answers : List (Result SetEnd CrewFault)) (fault : BankFault) : Type 0 where
+  pub first : CrewFault
+  pub first_is : outcome answers ≡ Err first
+  pub told : fault ≡ fault_of first

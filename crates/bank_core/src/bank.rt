@@ -3,7 +3,7 @@ ghost use Rattle.std.specs.Prelude.{◌≡◌, ◌<◌, ◌≤◌, ◌↔◌, �
 ghost use Rattle.set_crew.specs.Ends.{task_of};
 ghost use Rattle.set_crew.specs.Jobs.{duty_of};
 ghost use Rattle.bank_core.specs.Ends.{tasks_from};
-ghost use Rattle.bank_core.specs.Faults.{EndsEarly, IsNarrow};
+ghost use Rattle.bank_core.specs.Faults.{CannotStart, EndsEarly, IsNarrow};
 ghost use Rattle.bank_core.specs.Room.{IsRoomFor};
 
 use super::fault::BankFault;
@@ -82,8 +82,8 @@ impl Bank {
     /// given up. Each terminal is told to come up in an emergency before its first turn. Each set gets a clone of the
     /// gate.
     ///
-    /// Faults: 1 [`BankFault::NoMemory`], before any thread was started; 4 [`BankFault::NoThread`], once the threads
-    /// that were started have ended.
+    /// Faults, once the threads that were started have ended: 1 [`BankFault::NoMemory`]; 4 [`BankFault::NoThread`], where a
+    /// thread is wanted, though there is memory.
     pub fn start<
         L: Line + Drop + Send + 'static,
         G: Gate + Clone + Drop + Send + Sync + 'static,
@@ -99,6 +99,7 @@ impl Bank {
         ensures running { IfOk result (λ running. running ≡ tasks_from self.users plan self.configs
             (map (λ of_set. vec_len of_set) lines.items) (map (λ of_set. map duty_of of_set.items) jobs.items)) }
         ensures early { IfErr result EndsEarly }
+        ensures fault { IfErr result CannotStart }
     {
         let alloc = self.alloc;
         let works = self.works(lines, jobs, gate, plan)?;
@@ -116,7 +117,7 @@ impl Bank {
         ensures works { IfOk result (λ works. map (λ work. task_of work.config work.users (vec_len work.lines) (map duty_of work.jobs.items) work.orders.plan) works.items
             ≡ tasks_from self.users plan self.configs
             (map (λ of_set. vec_len of_set) lines.items) (map (λ of_set. map duty_of of_set.items) jobs.items)) }
-        ensures early { IfErr result EndsEarly }
+        ensures fault { IfErr result CannotStart }
     {
         match Vec::with_capacity(self.alloc, self.configs.len()) {
             Ok(room) => self.put_works(room, lines, jobs, gate, plan),
@@ -137,7 +138,7 @@ impl Bank {
         ensures works { IfOk result (λ works. map (λ work. task_of work.config work.users (vec_len work.lines) (map duty_of work.jobs.items) work.orders.plan) works.items
             ≡ tasks_from self.users plan self.configs
             (map (λ of_set. vec_len of_set) lines.items) (map (λ of_set. map duty_of of_set.items) jobs.items)) }
-        ensures early { IfErr result EndsEarly }
+        ensures fault { IfErr result CannotStart }
     {
         let Bank {
             configs,

@@ -26,6 +26,6 @@ mod summing;
 
 pub use bank::Bank;
 pub use fault::BankFault;
-pub use running::Running;
-pub use set_crew::{Job, Plan, SetEnd, UserFault};
+pub use running::{Running, sort_out};
+pub use set_crew::{CrewFault, Job, Plan, SetEnd, UserFault};
 pub use summing::{SetTotals, totals};

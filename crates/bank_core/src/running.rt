@@ -1,11 +1,11 @@
 //! Sets that run in threads, and what they come to.
-ghost use Rattle.std.specs.Prelude.{◌≡◌, length, map, vec_len, Ok, Err, IfOk, IfErr, OnOk};
+ghost use Rattle.std.specs.Prelude.{◌≡◌, length, map, vec_len, Ok, IfOk, IfErr, OnOk};
 ghost use Rattle.std.specs.List.{AllZip};
 ghost use Rattle.set_crew.specs.Ends.{task_of};
 ghost use Rattle.set_crew.specs.Jobs.{duty_of};
 ghost use Rattle.bank_core.specs.Ends.{AreEnds, outcome};
 ghost use Rattle.bank_core.specs.Promises.{Keeps, promised};
-ghost use Rattle.bank_core.specs.Faults.{EndsEarly};
+ghost use Rattle.bank_core.specs.Faults.{CannotStart, EndsEarly, TellsFirst};
 ghost use Rattle.bank_core.specs.Room.{IsRoomFor};
 
 use super::fault::BankFault;
@@ -80,7 +80,7 @@ impl Running {
         R: Threads + Wait + Copy + Send + Sync + 'static,
     >(rt: &R, alloc: Global, works: Vec<Work<L, G>>) -> Result<Running, BankFault>
         ensures running { IfOk result (λ running. running ≡ map (λ work. task_of work.config work.users (vec_len work.lines) (map duty_of work.jobs.items) work.orders.plan) works.items) }
-        ensures early { IfErr result EndsEarly }
+        ensures fault { IfErr result CannotStart }
     {
         match room_for(alloc, works.len()) {
             Ok((mut threads, room)) => match start_each(rt, alloc, works, &mut threads) {
@@ -104,7 +104,7 @@ impl Running {
     {
         let Room { answers, ends } = self.room;
         let answers = wait_for_all(rt, self.threads, answers);
-        Ok(sort_out(answers, ends)?)
+        sort_out(answers, ends)
     }
 }
 
@@ -125,14 +125,18 @@ fn wait_for_all<R: Threads>(
     answers
 }
 
-/// The ends that these sets came to, put into this room, or else the fault of the first that came to none.
-pub(crate) fn sort_out(
+/// What [`Running::join`] makes of the answers of the sets' threads, once all have ended: the ends that the sets came to,
+/// put into this room, or else the fault of the first that came to none.
+///
+/// Faults: 1 [`BankFault::NoMemory`], 4 [`BankFault::NoThread`], 5 [`BankFault::Unclosed`], as that set answered.
+pub fn sort_out(
     answers: Vec<Result<SetEnd, CrewFault>>,
     room: Vec<SetEnd>,
-) -> Result<Vec<SetEnd>, CrewFault>
+) -> Result<Vec<SetEnd>, BankFault>
     requires { IsRoomFor (length answers.items) room }
     ensures ends { IfOk result (λ ends. outcome answers.items ≡ Ok ends.items) }
-    ensures first { IfErr result (λ fault. outcome answers.items ≡ Err fault) }
+    ensures first { IfErr result (TellsFirst answers.items) }
+    ensures early { IfErr result EndsEarly }
 {
     let mut ends = room;
     let mut answers = answers.into_iter();
@@ -169,7 +173,7 @@ fn start_each<
     ensures started { OnOk result (map (λ thread. promised thread.promise) threads.new.items
         ≡ map (λ work. task_of work.config work.users (vec_len work.lines) (map duty_of work.jobs.items) work.orders.plan) works.items) }
     ensures few { OnOk result (vec_len threads.new ≡ length works.items) }
-    ensures early { IfErr result EndsEarly }
+    ensures fault { IfErr result CannotStart }
 {
     for work in works {
         threads.push_reserved(start_one(rt, alloc, work)?);
@@ -185,7 +189,7 @@ fn start_one<
 >(rt: &R, alloc: Global, work: Work<L, G>) -> Result<SetThread, BankFault>
     ensures started { IfOk result (λ thread. promised thread.promise ≡ task_of work.config work.users (vec_len work.lines)
         (map duty_of work.jobs.items) work.orders.plan) }
-    ensures early { IfErr result EndsEarly }
+    ensures fault { IfErr result CannotStart }
 {
     let own = *rt;
     let end = EndOf {

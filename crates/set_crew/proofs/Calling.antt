@@ -1,5 +1,5 @@
 -- What a user's call leaves at its seat.
-use Rattle.std.proofs.Common.{refl, arith, ◌≡◌, ◌∙◌, ap, sym, subst, ◌+◌, ◌-◌, ◌<◌, ◌≤◌, ℕ, suc, List, [], ◌∷◌, ◌++◌, length, map, drop, drop-cons, add-one, get_or, Option, None, Some, MatchOption, Result, Ok, Err, IfOk, OnErr}
+use Rattle.std.proofs.Common.{refl, arith, ◌≡◌, ◌∙◌, ap, sym, subst, ◌+◌, ◌-◌, ◌<◌, ◌≤◌, ℕ, suc, List, ◌∷◌, length, map, drop, drop-cons, add-one, get_or, Option, None, Some, MatchOption, Result, Ok, Err, IfOk, OnErr}
 use Rattle.std.proofs.lemmas.List.{drop_all}
 use Rattle.set_events.specs.declared.answer.Answer.{Answer}
 use Rattle.set_events.specs.declared.event.Actor.{Actor}

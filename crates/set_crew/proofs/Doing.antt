@@ -1,20 +1,26 @@
 -- What threads promise, one after another, and what comes of it.
-use Rattle.std.proofs.Common.{refl, arith, ◌≡◌, ◌∙◌, ap, sym, subst, ◌+◌, ◌<◌, ℕ, zero, suc, List, [], ◌∷◌, ◌++◌, map, length, drop, filter, All, Option, None, Some, Result}
+use Rattle.std.proofs.Common.{refl, arith, ◌≡◌, ◌∙◌, ap, sym, subst, ◌+◌, ◌<◌, ◌≤◌, inl, inr, ℕ, zero, suc, List, [], ◌∷◌, ◌++◌, map, length, drop, filter, All, Option, None, Result}
 use Rattle.std.specs.Option.{option_to_list, unwrap_or}
 use Rattle.std.specs.List.{AllZip}
 use Rattle.std.proofs.lemmas.List.{length-append, length-map, map-append}
+use Rattle.std.proofs.lemmas.Bool.{cases_lt}
 use Rattle.std.proofs.lemmas.List.Elements.{All-head, All-tail}
 use Rattle.set_events.specs.declared.event.Actor.{Actor}
-use Rattle.set_events.specs.declared.event.Actor.TheVariants.{User}
+use Rattle.set_events.specs.declared.event.Actor.TheVariants.{User, Terminal}
 use Rattle.set_events.specs.declared.history.Entry.{Entry}
 use Rattle.set_ledger.specs.Ending.{IsFaithful, is_by}
 use Rattle.set_ledger.specs.Seats.{SeatState, new_seat, new_seats}
 use Rattle.set_crew.specs.declared.crew.Ended.{Ended}
 use Rattle.set_crew.specs.declared.fault.UserFault.{UserFault}
 use Rattle.set_crew.specs.declared.plan.Job.{Job}
+use Rattle.set_crew.specs.declared.plan.Plan.{Plan}
+use Rattle.set_crew.specs.declared.terminal.ShiftOf.{ShiftOf}
+use Rattle.link_term.specs.declared.fault.TermFault.{TermFault}
+use Rattle.term_model.specs.declared.report.TermReport.{TermReport}
 use Rattle.set_crew.specs.declared.user.JobOf.{JobOf}
 use Rattle.set_crew.specs.Jobs.{DidJobs, Does, Duty, duty_of, first_or, no_duty}
-use Rattle.set_crew.specs.Keeping.{AreJobs, AreKept, AreNew, KeepsJob}
+use Rattle.set_crew.specs.Keeping.{AreJobs, AreKept, AreNew, AreShifts, KeepsJob, KeepsShift}
+use Rattle.set_crew.specs.Shifts.{DidShifts, DoesShift}
 use Rattle.set_crew.proofs.Taking.{drop_one, one_dropped, taken}
 
 -- NEW SEATS are numbered from 0.
@@ -105,3 +111,58 @@ many_kept {P} {S} {T} kept ps seats told are =
     many_each kept [] (e ∷ es) each = absurd each
     many_each kept (p ∷ ps) [] each = absurd each
     many_each kept (p ∷ ps) (e ∷ es) each = omega (arith, many_each kept ps es each.1)
+
+-- A TERMINAL'S THREAD was started: its seat is the next.
+shifts_more : (link : ℕ) (plan : Plan) (ps : List ShiftOf) (p : ShiftOf) → p.link ≡ link + length ps → p.plan ≡ plan → AreShifts link plan ps → AreShifts link plan (ps ++ p ∷ [])
+shifts_more link plan [] p number same are = ((omega (arith, number), same), tt)
+shifts_more link plan (q ∷ ps) p number same are = (are.0, shifts_more (suc link) plan ps p (omega (arith, number)) same are.1)
+
+pub started_terminal : (plan : Plan) (ps ps' : List ShiftOf) (p : ShiftOf) (n n' : ℕ) (seats seats' : List SeatState) (seat : SeatState)
+    → AreNew Terminal n seats → seats ≡ seat ∷ seats' → AreShifts 0 plan ps → length ps ≡ n → ps' ≡ ps ++ p ∷ [] → length ps' ≡ n' → seat.who ≡ Terminal p.link → p.plan ≡ plan
+    → AreNew Terminal n' seats' × AreShifts 0 plan ps' × (n' ≡ suc n)
+started_terminal plan ps ps' p n n' seats seats' seat are is are_shifts many more many' who same =
+    let new = subst (AreNew Terminal n) is are in
+    let named : Terminal p.link ≡ Terminal n = sym who ∙ ap (λ (s : SeatState). s.who) new.0 in
+    let number : p.link ≡ n = cc named in
+    let next_is : n' ≡ suc n = omega (arith, many, many', ap length more, length-append ps (p ∷ [])) in (
+      subst (λ (k : ℕ). AreNew Terminal k seats') (sym next_is) new.1,
+      subst (AreShifts 0 plan) (sym more) (shifts_more 0 plan ps p (omega (arith, number, many)) same are_shifts),
+      next_is,
+    )
+
+-- WHAT CAME OF THE TERMINALS, in the history.
+did_turns : (link number : ℕ) (who : Actor) (plan plan' : Plan) (told : Result TermReport TermFault) (made history : List Entry) → number ≡ link → who ≡ Terminal number → plan ≡ plan' → made ≡ filter (is_by who) history
+    → DoesShift plan number told made → DoesShift plan' link told (filter (is_by (Terminal link)) history)
+did_turns link number who plan plan' told made history same is plans faithful does =
+    subst (λ (n : ℕ). DoesShift plan' n told (filter (is_by (Terminal n)) history)) same
+    (subst (λ (p : Plan). DoesShift p number told (filter (is_by (Terminal number)) history)) plans
+    (subst (λ (entries : List Entry). DoesShift plan number told entries) (faithful ∙ ap (λ (w : Actor). filter (is_by w) history) is) does))
+
+pub did_shifts : (link : ℕ) (plan : Plan) (ps : List ShiftOf) (ends : List (Ended SeatState (Result TermReport TermFault))) (idle : List SeatState) (history : List Entry) → AreShifts link plan ps → AllZip KeepsShift ps ends
+    → All (IsFaithful history) (map (λ (end : Ended SeatState (Result TermReport TermFault)). end.seat) ends ++ idle)
+    → DidShifts link plan (map (λ (end : Ended SeatState (Result TermReport TermFault)). end.told) ends) history × All (IsFaithful history) idle
+did_shifts link plan [] [] idle history are each faithful = (tt, faithful)
+did_shifts link plan [] (end ∷ ends) idle history are each faithful = absurd each
+did_shifts link plan (p ∷ ps) [] idle history are each faithful = absurd each
+did_shifts link plan (p ∷ ps) (end ∷ ends) idle history are each faithful =
+    let later = did_shifts (suc link) plan ps ends idle history are.1 each.1 (All-tail (IsFaithful history) end.seat _ faithful) in (
+      (
+        did_turns link p.link end.seat.who p.plan plan end.told end.seat.receipts history are.0.0 each.0.0 are.0.1 (All-head (IsFaithful history) end.seat _ faithful) each.0.1,
+        later.0,
+      ),
+      later.1,
+    )
+
+-- and of those that have no line
+pub asked_nothing : (n link : ℕ) (seats : List SeatState) (history : List Entry) → AreNew Terminal n seats → All (IsFaithful history) seats
+    → n ≤ link → link < n + length seats → filter (is_by (Terminal link)) history ≡ []
+asked_nothing n link [] history new faithful from to = absurd (omega (arith, from, to))
+asked_nothing n link (seat ∷ seats) history new faithful from to = elim (cases_lt n link) [
+  | inl later ↦
+      asked_nothing (suc n) link seats history new.1 (All-tail (IsFaithful history) seat seats faithful) (omega (arith, later)) (omega (arith, to))
+  | inr here ↦
+      let same : n ≡ link = omega (arith, from, here) in
+      let mine = All-head (IsFaithful history) seat seats faithful in
+      ap (λ (k : ℕ). filter (is_by (Terminal k)) history) (sym same) ∙ ap (λ (w : Actor). filter (is_by w) history) (sym (ap (λ (s : SeatState). s.who) new.0))
+      ∙ sym mine ∙ ap (λ (s : SeatState). s.receipts) new.0
+]

@@ -1,8 +1,13 @@
 -- A terminal's turns.
-use Rattle.std.proofs.Common.{refl, ◌≡◌, sym, subst, ◌/◌, ℕ, Result, Ok, Err, IfOk, IfErr, MatchResult}
+use Rattle.std.proofs.Common.{refl, ap, ◌≡◌, ◌∙◌, sym, subst, ◌/◌, ℕ, List, [], Result, Ok, Err, IfOk, IfErr, MatchResult}
 use Rattle.term_model.specs.declared.report.TermReport.{TermReport}
 use Rattle.link_term.specs.declared.fault.TermFault.{TermFault}
-use Rattle.set_crew.specs.Shifts.{AfterHalf, Halves, Standing, Turns}
+use Rattle.set_events.specs.declared.fault.SetFault.{SetFault}
+use Rattle.set_events.specs.declared.history.Entry.{Entry}
+use Rattle.term_model.specs.Terminal.{Terminal, opened, told}
+use Rattle.term_model.specs.declared.command.Command.TheVariants.{Emergency, Start}
+use Rattle.set_crew.specs.declared.plan.Plan.{Plan}
+use Rattle.set_crew.specs.Shifts.{AfterHalf, DoesShift, Halves, Standing, Turns, TurnsBy, fresh, is_to_fail, standing}
 
 -- it went, or it failed
 pub either_way : (A B : Type 0) (P : TermReport → Type 0) (Q : TermFault → Type 0) (result : Result TermReport TermFault) → IfOk result (λ report. A × P report × B) → IfErr result Q → MatchResult result P Q
@@ -20,3 +25,22 @@ by_halves turns first report ended before between after is went rest =
 pub by_first_half : (turns : ℕ) (first : Result TermReport TermFault) (fault : TermFault) (before between : Standing) → first ≡ Err fault → Turns (turns / 2) first before between → Halves turns (Err fault) before between
 by_first_half turns first fault before between is went =
     (first, between, went, subst (λ (f : Result TermReport TermFault). AfterHalf turns f (Err fault) between between) (sym is) (refl, refl))
+
+-- A SHIFT, from a new terminal on
+pub shift_of : (plan : Plan) (link number : ℕ) (ended : Result TermReport TermFault) (before after : Standing) (made : List Entry)
+    → TurnsBy (is_to_fail plan.fail number) plan.turns ended before after → before.taken ≡ [] → before.inside ≡ told Start (told Emergency (opened number plan.timers))
+    → before.made ≡ [] → before.faults ≡ [] → number ≡ link → made ≡ after.made → DoesShift plan link ended made
+shift_of plan link number ended before after made turned taken_is inside_is made_is faults_is same end_is =
+    let new = told Start (told Emergency (opened number plan.timers)) in
+    let start : before ≡ fresh number plan.timers before.line =
+    ap (λ (t : List ℕ). standing t before.inside before.made before.faults before.line) taken_is
+    ∙ ap (λ (t : Terminal). standing [] t before.made before.faults before.line) inside_is
+    ∙ ap (λ (m : List Entry). standing [] new m before.faults before.line) made_is
+    ∙ ap (λ (fs : List SetFault). standing [] new [] fs before.line) faults_is in
+    subst (λ (k : ℕ). DoesShift plan k ended made) same
+    (record {
+      line = before.line;
+      after = after;
+      turns = subst (λ (b : Standing). TurnsBy (is_to_fail plan.fail number) plan.turns ended b after) start turned;
+      made_is = end_is;
+    })

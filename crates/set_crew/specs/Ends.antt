@@ -1,5 +1,5 @@
 -- THE END of a set: what it came to, whatever its threads did.
-use Rattle.std.specs.Prelude.{◌≡◌, ℕ, List, length}
+use Rattle.std.specs.Prelude.{◌≡◌, ℕ, min, List, length}
 use Rattle.set_events.specs.declared.config.SetConfig.{SetConfig}
 use Rattle.set_ledger.specs.declared.ending.Closed.{Closed}
 use Rattle.set_model.specs.State.{new_state}
@@ -8,6 +8,7 @@ use Rattle.set_model.specs.History.{IsLegal, after, books_of, opening_of}
 use Rattle.set_crew.specs.declared.end.SetEnd.{SetEnd}
 use Rattle.set_crew.specs.declared.plan.Plan.{Plan}
 use Rattle.set_crew.specs.Jobs.{Duty, DidJobs}
+use Rattle.set_crew.specs.Shifts.{AskNothing, DidShifts}
 
 -- what was closed has a history that is legal for this configuration, with that history's books and counts
 pub record IsClosedAs (config : SetConfig) (closed : Closed) : Type 0 where
@@ -31,8 +32,12 @@ abbrev pub task_of : SetConfig → ℕ → ℕ → List Duty → Plan → Task
 task_of config users lines jobs plan =
     record { config = config; users = users; lines = lines; jobs = jobs; plan = plan }
 
--- THE TASK WAS DONE: its history is legal, and holds of each user the calls of its job, as far as they came
+-- THE TASK WAS DONE: its history is legal, and holds of each user the calls of its job, and of each terminal that has a
+-- line what the turns of its plan asked, as far as they came; of the others nothing
 pub record IsDone (task : Task) (end : SetEnd) : Type 0 where
   pub closed : IsEndOf task.config end
   pub users : length end.users.items ≡ task.users
   pub jobs : DidJobs 0 task.jobs end.users.items end.closed.history.items
+  pub terminals : length end.reports.items ≡ min task.lines task.config.links
+  pub shifts : DidShifts 0 task.plan end.reports.items end.closed.history.items
+  pub idle : AskNothing task.lines task.config.links end.closed.history.items

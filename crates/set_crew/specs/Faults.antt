@@ -1,5 +1,6 @@
--- THE FAULTS of a user, by their numbers.
+-- THE FAULTS of a user, by their numbers, and those of a set's threads.
 use Rattle.std.specs.Prelude.{ℕ}
+use Rattle.set_crew.specs.declared.fault.CrewFault.{CrewFault}
 use Rattle.set_events.specs.declared.fault.SetFault.{SetFault}
 use Rattle.set_crew.specs.declared.fault.UserFault.{UserFault}
 
@@ -12,3 +13,9 @@ fault_number UserFault.NotFound = 3
 abbrev pub fault_of : SetFault → UserFault
 fault_of SetFault.NoMemory = UserFault.NoMemory
 fault_of SetFault.Exhausted = UserFault.Exhausted
+
+-- why a thread can't be started: for want of memory, or of a thread
+abbrev pub CannotStart : CrewFault → Type 0
+CannotStart CrewFault.NoMemory = Unit {0}
+CannotStart CrewFault.NoThread = Unit {0}
+CannotStart CrewFault.Unclosed = ⊥

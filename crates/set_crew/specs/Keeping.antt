@@ -1,12 +1,13 @@
 -- WHAT THREADS PROMISE, and that they keep it.
-use Rattle.std.specs.Prelude.{◌≡◌, ℕ, suc, List, [], ◌∷◌, length, map, drop, Result}
+use Rattle.std.specs.Prelude.{◌≡◌, ℕ, suc, ◌+◌, min, List, [], ◌∷◌, ◌++◌, length, map, drop, Result}
 use Rattle.std.specs.List.{AllZip}
 use Rattle.set_ledger.specs.Seats.{SeatState, new_seat}
 use Rattle.set_events.specs.declared.event.Actor.{Actor}
-use Rattle.set_events.specs.declared.event.Actor.TheVariants.{User}
+use Rattle.set_events.specs.declared.event.Actor.TheVariants.{User, Terminal}
 use Rattle.term_model.specs.declared.report.TermReport.{TermReport}
 use Rattle.link_term.specs.declared.fault.TermFault.{TermFault}
 use Rattle.set_crew.specs.declared.crew.Ended.{Ended}
+use Rattle.set_crew.specs.declared.plan.Plan.{Plan}
 use Rattle.set_crew.specs.declared.user.JobOf.{JobOf}
 use Rattle.set_crew.specs.declared.terminal.ShiftOf.{ShiftOf}
 use Rattle.set_crew.specs.declared.fault.UserFault.{UserFault}
@@ -39,7 +40,22 @@ KeepsJob promise end = (end.seat.who ≡ User promise.user)
 
 -- A TERMINAL'S: they are those of its turns.
 abbrev pub KeepsShift : ShiftOf → Ended SeatState (Result TermReport TermFault) → Type 0
-KeepsShift promise end = DoesShift promise.plan promise.link end.told end.seat.receipts
+KeepsShift promise end = (end.seat.who ≡ Terminal promise.link)
+    × DoesShift promise.plan promise.link end.told end.seat.receipts
+
+-- the terminals' promises, from this link on: all the same plan
+abbrev pub AreShifts : ℕ → Plan → List ShiftOf → Type 0
+AreShifts link plan [] = Unit {0}
+AreShifts link plan (promise ∷ promises) =
+    ((promise.link ≡ link) × (promise.plan ≡ plan)) × AreShifts (suc link) plan promises
+
+-- of so many terminals those that have one of so many lines promise the turns of this plan; the seats of the others are
+-- left, and new
+pub record PromiseShifts (lines links : ℕ) (plan : Plan) (promises : List ShiftOf) (idle : List SeatState) : Type 0 where
+  pub many : length promises ≡ min lines links
+  pub are : AreShifts 0 plan promises
+  pub new : AreNew Terminal (length promises) idle
+  pub all : length promises + length idle ≡ links
 
 -- so many users promise these jobs
 pub record PromiseJobs (users : ℕ) (jobs : List Duty) (promises : List JobOf) : Type 0 where
@@ -52,3 +68,18 @@ pub record AreUsers (users : ℕ) (jobs : List Duty) (seats : List SeatState) (t
   pub promises : List JobOf
   pub promised : PromiseJobs users jobs promises
   pub kept : AreKept KeepsJob promises seats told
+
+-- the seats of these terminals, and then those of which nothing was asked
+pub record GathersTerminals (promises : List ShiftOf) (idle seats : List SeatState)
+    (told : List (Result TermReport TermFault)) : Type 0 where
+  pub run : List SeatState
+  pub kept : AreKept KeepsShift promises run told
+  pub seats_are : seats ≡ run ++ idle
+
+-- AND OF THE TERMINALS: each that has a line took its turns, and of the others nothing was asked
+pub record AreTerminals (lines links : ℕ) (plan : Plan) (seats : List SeatState)
+    (told : List (Result TermReport TermFault)) : Type 0 where
+  pub promises : List ShiftOf
+  pub idle : List SeatState
+  pub promised : PromiseShifts lines links plan promises idle
+  pub gathered : GathersTerminals promises idle seats told

@@ -2,4 +2,5 @@ pub mod Ends
 pub mod Faults
 pub mod Jobs
 pub mod Keeping
+pub mod Seats
 pub mod Shifts

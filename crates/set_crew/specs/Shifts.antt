@@ -1,11 +1,13 @@
 -- WHAT A TERMINAL DOES, turn by turn, as the entries that it leaves in the set's history.
-use Rattle.std.specs.Prelude.{◌≡◌, ◌==◌, ◌+◌, ◌-◌, ◌/◌, ◌^◌, ℕ, min, Bool, true, false, List, [], Option, None, Some, Result, Ok, Err, MatchResult}
+use Rattle.std.specs.Prelude.{◌≡◌, ◌==◌, ◌<◌, ◌≤◌, ◌+◌, ◌-◌, ◌/◌, ◌^◌, ℕ, suc, min, filter, Bool, true, false, List, [], ◌∷◌, Option, None, Some, Result, Ok, Err, MatchResult}
+use Rattle.set_events.specs.declared.event.Actor.{Actor}
 use Rattle.set_events.specs.declared.fault.SetFault.{SetFault}
 use Rattle.set_events.specs.declared.history.Entry.{Entry}
 use Rattle.term_model.specs.declared.command.Command.TheVariants.{Emergency, Start, Stop}
 use Rattle.term_model.specs.declared.report.TermReport.{TermReport}
 use Rattle.term_model.specs.declared.timers.Timers.{Timers}
 use Rattle.term_model.specs.Terminal.{Terminal, opened, told}
+use Rattle.set_ledger.specs.Ending.{is_by}
 use Rattle.link_term.specs.declared.fault.TermFault.{TermFault}
 use Rattle.link_term.specs.Looking.{Seen}
 use Rattle.link_term.specs.Running.{Runs, RunFails}
@@ -84,3 +86,14 @@ pub record DoesShift (plan : Plan) (link : ℕ) (ended : Result TermReport TermF
   pub after : Standing
   pub turns : TurnsBy (is_to_fail plan.fail link) plan.turns ended (fresh link plan.timers line) after
   pub made_is : made ≡ after.made
+
+-- THE TERMINALS, from this link on, each took its own turns, and asked the set nothing else
+abbrev pub DidShifts : ℕ → Plan → List (Result TermReport TermFault) → List Entry → Type 0
+DidShifts link plan [] history = Unit {0}
+DidShifts link plan (ended ∷ more) history =
+    DoesShift plan link ended (filter (is_by (Actor.Terminal link)) history) × DidShifts (suc link) plan more history
+
+-- and those that have no line asked it nothing
+abbrev pub AskNothing : ℕ → ℕ → List Entry → Type 0
+AskNothing lines links history =
+    (link : ℕ) → lines ≤ link → link < links → filter (is_by (Actor.Terminal link)) history ≡ []

@@ -1,7 +1,8 @@
 //! The threads of one set.
-ghost use Rattle.std.specs.Prelude.{◌≡◌, ◌++◌, [], ◌∷◌, map, IfOk, OnOk};
+ghost use Rattle.std.specs.Prelude.{◌≡◌, ◌++◌, [], ◌∷◌, map, IfErr, IfOk, OnOk};
 ghost use Rattle.std.specs.Vec.Iter.{into_iter_items};
-ghost use Rattle.set_crew.specs.Keeping.{AreKept, KeepsJob};
+ghost use Rattle.set_crew.specs.Faults.{CannotStart};
+ghost use Rattle.set_crew.specs.Keeping.{AreKept, GathersTerminals, KeepsJob};
 
 use super::fault::{CrewFault, UserFault};
 use super::terminal::ShiftOf;
@@ -65,6 +66,9 @@ impl<C: Opening, M: Ledger, O: Ledger, A: Ledger> Crew<C, M, O, A> {
     ) -> Result<Gathered<C, M, O, A>, CrewFault>
         ensures users { IfOk result (λ all. AreKept KeepsJob
             (map (λ thread. thread.promise) self.users.items) all.users.items all.user_ends.items) }
+        ensures terminals { IfOk result (λ all. GathersTerminals
+            (map (λ thread. thread.promise) self.terminals.items) (into_iter_items self.idle)
+            all.terminals.items all.reports.items) }
     {
         let Crew {
             users,
@@ -118,6 +122,7 @@ pub(crate) fn start_thread<
     requires keeps { (end : T) → F.post work end → P.kept_by promise end }
     ensures started { OnOk result (map (λ thread. thread.promise) threads.new.items
         ≡ map (λ thread. thread.promise) threads.old.items ++ promise ∷ []) }
+    ensures fault { IfErr result CannotStart }
 {
     threads.reserve(1)?;
     match scope.spawn_with(promise, work) {
@@ -132,8 +137,11 @@ pub(crate) fn start_thread<
 /// How many octets are asked for, to see whether there is memory: those of a thread's least stack.
 const STACK: usize = 131_072;
 
-/// Why a thread couldn't be started, which isn't told: for want of memory, where there is none now.
-pub fn why_unstarted(alloc: Global) -> CrewFault {
+/// Why a thread couldn't be started, which isn't told: [`CrewFault::NoMemory`] where the memory of a stack is refused now,
+/// else [`CrewFault::NoThread`].
+pub fn why_unstarted(alloc: Global) -> CrewFault
+    ensures { CannotStart result }
+{
     match Vec::<u8>::with_capacity(alloc, STACK) {
         Ok(_) => CrewFault::NoThread,
         Err(_) => CrewFault::NoMemory,

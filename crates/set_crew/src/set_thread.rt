@@ -9,7 +9,7 @@ ghost use Rattle.set_events.specs.declared.config.SetConfig.{SetConfig};
 ghost use Rattle.set_model.specs.State.{settings_of};
 ghost use Rattle.set_crew.specs.Ends.{IsClosedAs, IsDone, IsEndOf, task_of};
 ghost use Rattle.set_crew.specs.Jobs.{duty_of};
-ghost use Rattle.set_crew.specs.Keeping.{AreNew, AreUsers, PromiseJobs};
+ghost use Rattle.set_crew.specs.Keeping.{AreNew, AreTerminals, AreUsers, PromiseJobs, PromiseShifts};
 
 use super::crew::{Crew, Gathered, TermThread, UserThread, start_thread};
 use super::end::SetEnd;
@@ -138,6 +138,7 @@ fn end_set<C: Opening, M: Ledger, O: Ledger, A: Ledger>(
     ensures closed { (config : SetConfig) → settings_of config ≡ C.settings → IfOk result (IsEndOf config) }
     ensures users { IfOk result (λ end. (end.users.items ≡ gathered.user_ends.items)
         × All (IsFaithful end.closed.history.items) gathered.users.items) }
+    ensures terminals { IfOk result (λ end. All (IsFaithful end.closed.history.items) gathered.terminals.items) }
     ensures reports { IfOk result (λ end. end.reports.items ≡ gathered.reports.items) }
 {
     let Gathered {
@@ -162,6 +163,7 @@ fn close<C: Opening, M: Ledger, O: Ledger, A: Ledger>(
 ) -> Result<Closed, CrewFault>
     ensures closed { (config : SetConfig) → settings_of config ≡ C.settings → IfOk result (IsClosedAs config) }
     ensures users { IfOk result (λ closed. All (IsFaithful closed.history.items) users.items) }
+    ensures terminals { IfOk result (λ closed. All (IsFaithful closed.history.items) terminals.items) }
 {
     match set.close(users, terminals) {
         Ok(closed) => Ok(closed),
@@ -190,6 +192,8 @@ fn run_seats<
     requires terminals { AreNew Terminal 0 seats.terminals.items }
     ensures users { IfOk result (λ all.
         AreUsers (length seats.users.items) (map duty_of seats.jobs.items) all.users.items all.user_ends.items) }
+    ensures terminals { IfOk result (λ all. AreTerminals (vec_len seats.lines) (length seats.terminals.items)
+        orders.now.plan all.terminals.items all.reports.items) }
 {
     thread::scope(
         thread::scope_env(),
@@ -199,6 +203,8 @@ fn run_seats<
             requires terminals { AreNew Terminal 0 seats.terminals.items }
             ensures users { IfOk result (λ all.
                 AreUsers (length seats.users.items) (map duty_of seats.jobs.items) all.users.items all.user_ends.items) }
+            ensures terminals { IfOk result (λ all. AreTerminals (vec_len seats.lines) (length seats.terminals.items)
+                orders.entry.now.plan all.terminals.items all.reports.items) }
         {
             match start_all(scope, rt, alloc, set, seats, orders) {
                 Ok(crew) => crew.gather(rt, alloc),
@@ -231,6 +237,8 @@ fn start_all<
     requires terminals { AreNew Terminal 0 seats.terminals.items }
     ensures users { IfOk result (λ crew. PromiseJobs (length seats.users.items) (map duty_of seats.jobs.items)
         (map (λ thread. thread.promise) crew.users.items)) }
+    ensures terminals { IfOk result (λ crew. PromiseShifts (vec_len seats.lines) (length seats.terminals.items)
+        orders.now.plan (map (λ thread. thread.promise) crew.terminals.items) (into_iter_items crew.idle)) }
 {
     let Seats {
         users,
@@ -269,6 +277,8 @@ fn start_terminals<
     orders: &'s Orders<G>,
 ) -> Result<Vec<TermThread<C, M, O, A>>, CrewFault>
     requires { AreNew Terminal 0 (into_iter_items seats.old) }
+    ensures { IfOk result (λ threads. PromiseShifts (vec_len lines) (length (into_iter_items seats.old))
+        orders.now.plan (map (λ thread. thread.promise) threads.items) (into_iter_items seats.new)) }
 {
     let mut threads = Vec::new(alloc);
     let mut lines = lines.into_iter();

@@ -1,14 +1,15 @@
 //! What a terminal's thread does.
 ghost use Rattle.std.specs.Prelude.{◌≡◌, ◌≤◌, ◌^◌, false, [], Ok, OnOk};
 ghost use Rattle.link_term.specs.Looking.{seen};
-ghost use Rattle.link_term.specs.Seats.{link_in};
+ghost use Rattle.set_crew.specs.Seats.{link_in};
 ghost use Rattle.set_crew.specs.Shifts.{AfterHalf, DoesShift, Halves, Turns, TurnsBy, both, is_to_fail, standing, with_first};
 
 use super::crew::{Ended, TermEnd};
 use super::orders::{Lent, Orders};
 use super::plan::Plan;
+use super::seat_door::SeatDoor;
 use line_ring::Line;
-use link_term::{Command, Door, Gate, SeatDoor, TermFault, TermReport, Terminal};
+use link_term::{Command, Door, Gate, TermFault, TermReport, Terminal};
 use set_shared::{LinkSet, Opening, TermSeat};
 use std::sync::Wait;
 use std::sync::ledger::Ledger;
@@ -60,7 +61,8 @@ impl<'a, C: Opening, M: Ledger, O: Ledger, A: Ledger, L: Line + Drop, G: Gate, R
     /// a fault its seat comes back too.
     pub(crate) fn work(self) -> TermEnd<C, M, O, A>
         requires { self.seat.receipts ≡ [] }
-        ensures { DoesShift self.entry.orders.now.plan (link_in self.entry.seat.who) result.told result.seat.receipts }
+        ensures who { result.seat.who ≡ self.entry.seat.who }
+        ensures shift { DoesShift self.entry.orders.now.plan (link_in self.entry.seat.who) result.told result.seat.receipts }
     {
         let TermShift {
             rt,
@@ -77,10 +79,10 @@ impl<'a, C: Opening, M: Ledger, O: Ledger, A: Ledger, L: Line + Drop, G: Gate, R
         terminal.command(Command::Start);
         let report = all_turns(&mut terminal, link, &orders.plan);
         let (door, _line, _gate) = terminal.into_parts();
-        Ended {
-            seat: door.into_seat(),
-            told: report,
-        }
+        let seat = door.into_seat();
+        // it's the seat of that link still
+        seat.link();
+        Ended { seat, told: report }
     }
 }
 
@@ -90,14 +92,15 @@ fn all_turns<D: Door, L: Line, G: Gate>(
     link: u8,
     plan: &Plan,
 ) -> Result<TermReport, TermFault>
-    requires failed { terminal.old.failed ≡ false }
+    requires failed { terminal.old.works.failed ≡ false }
     ensures turns { TurnsBy (is_to_fail plan.now.fail link) plan.now.turns result
-        (standing terminal.old.receiver terminal.old.inside (D.made terminal.old.door) (D.faults terminal.old.door)
+        (standing terminal.old.works.receiver terminal.old.works.inside (D.made terminal.old.door) (D.faults terminal.old.door)
         (seen (L.taken_so_far terminal.old.line) (L.waiting terminal.old.line) (L.put_so_far terminal.old.line)
         (L.free terminal.old.line)))
-        (standing terminal.new.receiver terminal.new.inside (D.made terminal.new.door) (D.faults terminal.new.door)
+        (standing terminal.new.works.receiver terminal.new.works.inside (D.made terminal.new.door) (D.faults terminal.new.door)
         (seen (L.taken_so_far terminal.new.line) (L.waiting terminal.new.line) (L.put_so_far terminal.new.line)
         (L.free terminal.new.line))) }
+    ensures number { D.number terminal.new.door ≡ D.number terminal.old.door }
 {
     if plan.fail == Some(link) {
         both_halves(terminal, plan.turns)
@@ -111,15 +114,16 @@ fn both_halves<D: Door, L: Line, G: Gate>(
     terminal: &mut Terminal<D, L, G>,
     turns: u64,
 ) -> Result<TermReport, TermFault>
-    requires failed { terminal.old.failed ≡ false }
+    requires failed { terminal.old.works.failed ≡ false }
     requires few { turns ≤ 2 ^ 32 }
     ensures turns { Halves turns result
-        (standing terminal.old.receiver terminal.old.inside (D.made terminal.old.door) (D.faults terminal.old.door)
+        (standing terminal.old.works.receiver terminal.old.works.inside (D.made terminal.old.door) (D.faults terminal.old.door)
         (seen (L.taken_so_far terminal.old.line) (L.waiting terminal.old.line) (L.put_so_far terminal.old.line)
         (L.free terminal.old.line)))
-        (standing terminal.new.receiver terminal.new.inside (D.made terminal.new.door) (D.faults terminal.new.door)
+        (standing terminal.new.works.receiver terminal.new.works.inside (D.made terminal.new.door) (D.faults terminal.new.door)
         (seen (L.taken_so_far terminal.new.line) (L.waiting terminal.new.line) (L.put_so_far terminal.new.line)
         (L.free terminal.new.line))) }
+    ensures number { D.number terminal.new.door ≡ D.number terminal.old.door }
 {
     match so_many(terminal, turns / 2) {
         Ok(first) => after_half(terminal, turns, first),
@@ -133,15 +137,16 @@ fn after_half<D: Door, L: Line, G: Gate>(
     turns: u64,
     first: TermReport,
 ) -> Result<TermReport, TermFault>
-    requires failed { terminal.old.failed ≡ false }
+    requires failed { terminal.old.works.failed ≡ false }
     requires few { turns ≤ 2 ^ 32 }
     ensures turns { AfterHalf turns (Ok first) result
-        (standing terminal.old.receiver terminal.old.inside (D.made terminal.old.door) (D.faults terminal.old.door)
+        (standing terminal.old.works.receiver terminal.old.works.inside (D.made terminal.old.door) (D.faults terminal.old.door)
         (seen (L.taken_so_far terminal.old.line) (L.waiting terminal.old.line) (L.put_so_far terminal.old.line)
         (L.free terminal.old.line)))
-        (standing terminal.new.receiver terminal.new.inside (D.made terminal.new.door) (D.faults terminal.new.door)
+        (standing terminal.new.works.receiver terminal.new.works.inside (D.made terminal.new.door) (D.faults terminal.new.door)
         (seen (L.taken_so_far terminal.new.line) (L.waiting terminal.new.line) (L.put_so_far terminal.new.line)
         (L.free terminal.new.line))) }
+    ensures number { D.number terminal.new.door ≡ D.number terminal.old.door }
 {
     terminal.command(Command::Stop);
     let second = so_many(terminal, turns - turns / 2);
@@ -153,16 +158,17 @@ fn so_many<D: Door, L: Line, G: Gate>(
     terminal: &mut Terminal<D, L, G>,
     turns: u64,
 ) -> Result<TermReport, TermFault>
-    requires failed { terminal.old.failed ≡ false }
+    requires failed { terminal.old.works.failed ≡ false }
     requires few { turns ≤ 2 ^ 32 }
     ensures turns { Turns turns result
-        (standing terminal.old.receiver terminal.old.inside (D.made terminal.old.door) (D.faults terminal.old.door)
+        (standing terminal.old.works.receiver terminal.old.works.inside (D.made terminal.old.door) (D.faults terminal.old.door)
         (seen (L.taken_so_far terminal.old.line) (L.waiting terminal.old.line) (L.put_so_far terminal.old.line)
         (L.free terminal.old.line)))
-        (standing terminal.new.receiver terminal.new.inside (D.made terminal.new.door) (D.faults terminal.new.door)
+        (standing terminal.new.works.receiver terminal.new.works.inside (D.made terminal.new.door) (D.faults terminal.new.door)
         (seen (L.taken_so_far terminal.new.line) (L.waiting terminal.new.line) (L.put_so_far terminal.new.line)
         (L.free terminal.new.line))) }
-    ensures goes_on { OnOk result (terminal.new.failed ≡ false) }
+    ensures number { D.number terminal.new.door ≡ D.number terminal.old.door }
+    ensures goes_on { OnOk result (terminal.new.works.failed ≡ false) }
 {
     terminal.run(turns)
 }

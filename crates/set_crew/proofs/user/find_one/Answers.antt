@@ -1,4 +1,3 @@
-use Rattle.std.proofs.Common.{refl}
 use Rattle.set_crew.proofs.Calling.{called, same_who}
 use Rattle.set_crew.proofs.user.find_one.Goals as goal
 
