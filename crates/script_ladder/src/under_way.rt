@@ -46,9 +46,10 @@ fn write_marks(alloc: Global, link: u8, way: &str, line: &Line) -> Result<Vec<u8
 {
     let mut text: Vec<u8> = Vec::new(alloc);
     for place in 0..MOST {
-        if let Some(unit) = line.unit(place) {
-            text.extend_from_slice(&write_mark(alloc, link, way, unit)?)?;
-        }
+        let Some(unit) = line.unit(place) else {
+            continue;
+        };
+        text.extend_from_slice(&write_mark(alloc, link, way, unit)?)?;
     }
     Ok(text)
 }
