@@ -169,7 +169,8 @@ pub record IsMore (m : Message) (old new : Tally) : Type 0 where
       + one_if (is_there (stands_at place) (Some m))
   pub unsent : (stream : ℕ) → stream < 16 → slice_index new.unsent stream
       ≡ slice_index old.unsent stream + one_if (is_queued stream (Some m))
-  pub octets : (link : ℕ) → link < 16 → slice_index new.octets link ≡ slice_index old.octets link + octets_on link (Some m)
+  pub octets : (link : ℕ) → link < 16 → slice_index new.octets link
+      ≡ slice_index old.octets link + octets_on link (Some m)
   pub orders : new.orders ≡ old.orders + one_if (is_ended_order (Some m))
 
 -- the message is counted

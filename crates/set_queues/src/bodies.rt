@@ -53,8 +53,8 @@ impl Bodies {
         }
     }
 
-    /// Makes room for so many more bodies, which then want no memory; it fails only where memory is wanted. The
-    /// bodies stay either way.
+    /// Makes room for so many more bodies, which then want no memory; it fails only where memory is wanted, or a number
+    /// past 2^63 - 1. The bodies stay either way.
     pub fn reserve(&mut self, bodies: usize) -> Result<(), AllocError>
         ensures room { OnOk result (CanHold bodies self.new) }
         ensures same { self.new.items ≡ self.old.items }

@@ -20,12 +20,12 @@
 //! ```
 //!
 //! [`Queues::settle`] moves all of a link to the target, or parks them: sent, waiting, held; [`Queues::reset`] begins
-//! its new life. Only [`Queues::new`], the copies and the calls that reserve take memory, here and in [`Bodies`]: a call
-//! that adds or moves needs its room reserved before. Each call costs the same however many messages there ever were;
-//! discarding, diverting and settling are linear in what moves, a copy in what is there, and a number that outlived a
-//! `kept` is searched for among those that did. A message takes 8 octets, and 8 more while it stands in a queue; a queue
-//! of a code takes none for messages until one stands in it. A body takes 8 octets and its own. Each of the two takes 8
-//! more once it outlived a `kept`.
+//! its new life. Only [`Queues::new`], the copies and the calls that reserve take memory, here and in [`Bodies`]: a
+//! call that adds or moves needs its room reserved before. Each call costs the same however many messages there ever
+//! were; discarding, diverting and settling are linear in what moves, a copy in what is there, and a number that
+//! outlived a `kept` is searched for among those that did. A message takes 8 octets, and 8 more while it stands in a
+//! queue; a queue of a code takes none for messages until one stands in it. A body takes 8 octets and its own. Each of
+//! the two takes 8 more once it outlived a `kept`.
 //!
 //! This crate decides nothing: which messages are sent, acknowledged or moved, and when, is the
 //! caller's to know. It reads no clock, does no IO and takes no lock.

@@ -79,7 +79,17 @@ impl Messages {
     {
         // each message is counted once
         self.given();
-        let [waiting, unacked, acked, held, parked, back, emergency, unreasonable, no_answer] = self.tally.counts;
+        let [
+            waiting,
+            unacked,
+            acked,
+            held,
+            parked,
+            back,
+            emergency,
+            unreasonable,
+            no_answer,
+        ] = self.tally.counts;
         Counts {
             waiting,
             unacked,

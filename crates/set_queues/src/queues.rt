@@ -235,7 +235,8 @@ impl Queues {
         Some(oldest?.0)
     }
 
-    /// Makes room for so many new messages.
+    /// Makes room for so many new messages; it fails only where memory is wanted, or a number past 2^63 - 1, which is
+    /// more than a history's entries can come to.
     pub fn reserve(&mut self, messages: usize) -> Result<(), AllocError>
         ensures room { OnOk result (messages ≤ self.new.room) }
         ensures same { (self.new.lists ≡ self.old.lists) × (self.new.messages
