@@ -6,11 +6,12 @@ use Rattle.std.proofs.lemmas.Bool.{cases_lt}
 use Rattle.set_events.specs.declared.books.Books.{Books}
 use Rattle.set_events.specs.declared.fault.SetFault.{SetFault}
 use Rattle.set_events.specs.declared.fault.SetFault.TheVariants.{Exhausted}
-use Rattle.set_core.proofs.Keeping.{counts_told, messages_few}
+use Rattle.set_core.proofs.Keeping.{messages_few}
 use Rattle.set_crew.specs.declared.end.SetEnd.{SetEnd}
 use Rattle.run_text.specs.Running.{IsAnEnd}
 use Rattle.set_model.specs.Rows.{counts_of, total_of}
-use Rattle.set_model.specs.State.{State, new_state}
+use Rattle.set_model.specs.State.{State, new_state, none_finished}
+use Rattle.set_model.specs.Checkpoint.{counts_in}
 use Rattle.set_model.specs.Sound.{IsManaged}
 use Rattle.set_model.specs.Step.{step, messages_in}
 use Rattle.set_model.specs.History.{IsLegal, after, messages_of, longest_history}
@@ -34,6 +35,17 @@ placed config history legal =
     let all = placed_after (new_state config) history config.management legal in
     let none : total_of (counts_of (new_state config).rows) ≡ 0 = refl in
     omega (arith, all, none)
+
+-- no entry takes a message out of the rows, so after an opening all stand there
+none_gone : (s : State) (history : List Entry) → (after s history).finished ≡ s.finished
+none_gone s [] = refl
+none_gone s (entry ∷ entries) = none_gone (step s entry.event).state entries ∙ (step_grows s entry.event).gone_same
+
+without_gone : (s : State) → s.finished ≡ none_finished → counts_in s ≡ counts_of s.rows
+without_gone s e = grind (arith, e)
+
+counts_told : (config : SetConfig) (history : List Entry) → counts_in (after (new_state config) history) ≡ counts_of (after (new_state config) history).rows
+counts_told config history = without_gone (after (new_state config) history) (none_gone (new_state config) history)
 
 -- What holds of an end: its history is legal, and each message that it accepted stands in one place.
 pub record EndFacts (end : SetEnd) : Type 0 where

@@ -342,6 +342,10 @@ module _ (base : Base) (kept : Kept) (tally : Tally) (history : List Entry) (k :
         (omega (arith, same, short)) (omega (arith, same, messages)) (omega (arith, same, octets))
         (rw same (few_left (entries_of base history) now.state k.few))
 
+    -- a set goes on from it
+    pub kept_on : (begun : Base) (since : List Entry) → begun ≡ (based now).base → since ≡ [] → IsKept begun new tally since
+    kept_on begun since b e = subst (λ (entries : List Entry). IsKept begun new tally entries) (sym e) (subst (λ (b : Base). IsKept b new tally []) (sym b) kept_based)
+
     -- it's shown by a copy of what is kept, and by the order of its rows
     module _ (again : Kept) (copied : again ≡ new) (order : List ℕ) (rows : order ≡ numbers (checkpointed now.state).rows) where
       pub shown_based : base_of order again tally ≡ (based now).base
@@ -349,9 +353,6 @@ module _ (base : Base) (kept : Kept) (tally : Tally) (history : List Entry) (k :
 
       pub kept_by : IsKept (base_of order again tally) again tally []
       kept_by = subst (λ (b : Base). IsKept b again tally []) (sym shown_based) (subst (λ (kept : Kept). IsKept (based now).base kept tally []) (sym copied) kept_based)
-
-      pub kept_on : (begun : Base) (since : List Entry) → begun ≡ (based now).base → since ≡ [] → IsKept begun new tally since
-      kept_on begun since b e = subst (λ (entries : List Entry). IsKept begun new tally entries) (sym e) (subst (λ (b : Base). IsKept b new tally []) (sym b) kept_based)
 
 -- A REPLAY. So many entries were replayed, and the rest is left: what is kept agrees with the state after them, and the
 -- rest decides from there.

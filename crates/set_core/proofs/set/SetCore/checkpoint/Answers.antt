@@ -1,10 +1,13 @@
-use Rattle.std.proofs.Common.{◌∙◌, ap, sym}
+use Rattle.std.proofs.Common.{◌≡◌, ◌∙◌, ap, sym}
 use Rattle.set_model.specs.Checkpoint.{checkpointed, counts_in}
 use Rattle.set_model.specs.History.{Base, LinkSet, after, based, books_in}
 use Rattle.set_model.specs.Rows.{numbers}
 use Rattle.set_model.proofs.Checkpointing.{counts_stay}
+use Rattle.set_moves.specs.Agreement.{Agrees}
+use Rattle.set_core.specs.Keeping.{with_history}
 use Rattle.set_core.proofs.Keeping.{based_books, based_settings, kept_by, kept_on, shown_based, with_based}
 use Rattle.set_core.proofs.set.SetCore.checkpoint.Goals as goal
+use Rattle.set_core.proofs.set.SetCore.checkpoint.Goals.{After-clear}
 
 pub of-requires : goal.of-requires
 of-requires c =
@@ -15,44 +18,36 @@ of-requires c =
     let rows = c.of-order.ensures ∙ ap (λ (set : LinkSet). numbers (checkpointed set.state).rows) (sym c.self.view_is) in
     kept_by s.base s.core s.tally history k c.in_ok-kept.kept agrees c.in_ok-again.again c.in_ok-again.ensures c.of-order.result.numbers rows
 
-pub invariant_of-self : goal.invariant_of-self
-invariant_of-self c =
+-- the set before it
+abbrev before : After-clear → LinkSet
+before c = with_history c.self.inside.base c.self.inside.history.items
+
+-- what is kept agrees with what the checkpoint leaves
+agrees : (c : After-clear) → Agrees c.in_ok-kept.kept (checkpointed (before c).state)
+agrees c = c.in_ok-kept.ensures (before c).state c.self.invariant.0.agrees
+
+-- and its base is what the model says
+base_is : (c : After-clear) → c.of.result ≡ (based (before c)).base
+base_is c =
     let s = c.self.inside in
-    let history = s.history.items in
-    let k = c.self.invariant.0 in
-    let agrees = c.in_ok-kept.ensures (after s.base.state history) k.agrees in
     let rows = c.of-order.ensures ∙ ap (λ (set : LinkSet). numbers (checkpointed set.state).rows) (sym c.self.view_is) in
-    let is = c.of.ensures ∙ shown_based s.base s.core s.tally history k c.in_ok-kept.kept agrees c.in_ok-again.again c.in_ok-again.ensures c.of-order.result.numbers rows in (
-      kept_on s.base s.core s.tally history k c.in_ok-kept.kept agrees c.in_ok-again.again c.in_ok-again.ensures c.of-order.result.numbers rows c.of.result c.clear.new.self.items is c.clear.ensures,
-      c.self.invariant.1 ∙ sym (ap (λ (b : Base). b.state.settings) is ∙ based_settings s.base s.core s.tally history k),
-    )
+    c.of.ensures ∙ shown_based s.base s.core s.tally s.history.items c.self.invariant.0 c.in_ok-kept.kept (agrees c) c.in_ok-again.again c.in_ok-again.ensures c.of-order.result.numbers rows
+
+-- so is the set after it
+set_is : (c : After-clear) → with_history c.of.result c.clear.new.self.items ≡ based (before c)
+set_is c = let s = c.self.inside in with_based s.base s.core s.tally s.history.items c.self.invariant.0 c.of.result c.clear.new.self.items (base_is c) c.clear.ensures
+
+pub invariant_of-self : goal.invariant_of-self
+invariant_of-self c = let s = c.self.inside in (
+  kept_on s.base s.core s.tally s.history.items c.self.invariant.0 c.in_ok-kept.kept (agrees c) c.of.result c.clear.new.self.items (base_is c) c.clear.ensures,
+  c.self.invariant.1 ∙ sym (ap (λ (b : Base). b.state.settings) (base_is c) ∙ based_settings s.base s.core s.tally s.history.items c.self.invariant.0),
+)
 
 pub returns-clause-ok : goal.returns-clause-ok
-returns-clause-ok c =
-    let s = c.self.inside in
-    let history = s.history.items in
-    let k = c.self.invariant.0 in
-    let agrees = c.in_ok-kept.ensures (after s.base.state history) k.agrees in
-    let rows = c.of-order.ensures ∙ ap (λ (set : LinkSet). numbers (checkpointed set.state).rows) (sym c.self.view_is) in
-    let is = c.of.ensures ∙ shown_based s.base s.core s.tally history k c.in_ok-kept.kept agrees c.in_ok-again.again c.in_ok-again.ensures c.of-order.result.numbers rows in
-    with_based s.base s.core s.tally history k c.of.result c.clear.new.self.items is c.clear.ensures ∙ ap based c.self.view_is
+returns-clause-ok c = set_is c ∙ ap based c.self.view_is
 
 pub returns-clause-books : goal.returns-clause-books
-returns-clause-books c =
-    let s = c.self.inside in
-    let history = s.history.items in
-    let k = c.self.invariant.0 in
-    let agrees = c.in_ok-kept.ensures (after s.base.state history) k.agrees in
-    let rows = c.of-order.ensures ∙ ap (λ (set : LinkSet). numbers (checkpointed set.state).rows) (sym c.self.view_is) in
-    let is = c.of.ensures ∙ shown_based s.base s.core s.tally history k c.in_ok-kept.kept agrees c.in_ok-again.again c.in_ok-again.ensures c.of-order.result.numbers rows in
-    ap books_in (with_based s.base s.core s.tally history k c.of.result c.clear.new.self.items is c.clear.ensures) ∙ based_books s.base s.core s.tally history k ∙ ap books_in c.self.view_is
+returns-clause-books c = let s = c.self.inside in ap books_in (set_is c) ∙ based_books s.base s.core s.tally s.history.items c.self.invariant.0 ∙ ap books_in c.self.view_is
 
 pub returns-clause-counts : goal.returns-clause-counts
-returns-clause-counts c =
-    let s = c.self.inside in
-    let history = s.history.items in
-    let k = c.self.invariant.0 in
-    let agrees = c.in_ok-kept.ensures (after s.base.state history) k.agrees in
-    let rows = c.of-order.ensures ∙ ap (λ (set : LinkSet). numbers (checkpointed set.state).rows) (sym c.self.view_is) in
-    let is = c.of.ensures ∙ shown_based s.base s.core s.tally history k c.in_ok-kept.kept agrees c.in_ok-again.again c.in_ok-again.ensures c.of-order.result.numbers rows in
-    ap (λ (set : LinkSet). counts_in set.state) (with_based s.base s.core s.tally history k c.of.result c.clear.new.self.items is c.clear.ensures) ∙ counts_stay (after s.base.state history) ∙ ap (λ (set : LinkSet). counts_in set.state) c.self.view_is
+returns-clause-counts c = ap (λ (set : LinkSet). counts_in set.state) (set_is c) ∙ counts_stay (before c).state ∙ ap (λ (set : LinkSet). counts_in set.state) c.self.view_is
