@@ -22,7 +22,8 @@ pub fn audit<S: Source, W: Sink>(
         (λ input. Prints result (IsAuditText input) (W.written sink.old) (W.written sink.new)) }
     ensures bounded { IfSome (S.left source.old) (λ input. OnOk result (length input ≤ 2 ^ 24)) }
     ensures devices { IfSome (S.left source.old)
-        (FailsByDevices (2 ^ 24) result (S.has_failed source.new) (W.has_failed sink.new)) }
+        (FailsByDevices (2 ^ 24) result (S.failures source.old) (S.failures source.new)
+        (W.failures sink.old) (W.failures sink.new)) }
 {
     print_all(alloc, Auditor::new(alloc), LONGEST_KEPT, source, sink)
 }

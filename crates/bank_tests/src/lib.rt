@@ -14,6 +14,8 @@ mod refusals;
 #[cfg(test)]
 mod runs;
 #[cfg(test)]
+mod sorting;
+#[cfg(test)]
 mod sums;
 #[cfg(test)]
 mod traffic;

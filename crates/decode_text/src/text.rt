@@ -24,7 +24,8 @@ pub fn decode<S: Source, W: Sink>(
         (λ input. Prints result (IsDecodeText profile input) (W.written sink.old) (W.written sink.new)) }
     ensures bounded { IfSome (S.left source.old) (λ input. OnOk result (length input ≤ 2 ^ 60)) }
     ensures devices { IfSome (S.left source.old)
-        (FailsByDevices (2 ^ 60) result (S.has_failed source.new) (W.has_failed sink.new)) }
+        (FailsByDevices (2 ^ 60) result (S.failures source.old) (S.failures source.new)
+        (W.failures sink.old) (W.failures sink.new)) }
 {
     match profile {
         Profile::Narrow => {

@@ -37,7 +37,7 @@ pub enum TermState {
 }
 
 /// What a terminal is made of, but for its door and its line, which are lent to it turn by turn: the machines, timers
-/// and bits of its inside, and the receiver of its line (Q.703 2 to 12). Some 900 octets; it takes no memory.
+/// and bits of its inside, and the receiver of its line (Q.703 2 to 12). Less than 1,000 octets; it takes no memory.
 #[derive(Drop)]
 pub struct Works {
     pub(crate) inside: Inside,

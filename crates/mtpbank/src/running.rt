@@ -48,7 +48,8 @@ pub fn run<S: Source, W: Sink>(
         (λ input. Prints result (IsTextOf words input) (W.written sink.old) (W.written sink.new)) }
     ensures bounded { IfSome (S.left source.old) (λ input. OnOk result (length input ≤ longest_of words)) }
     ensures devices { IfSome (S.left source.old)
-        (FailsByDevices (longest_of words) result (S.has_failed source.new) (W.has_failed sink.new)) }
+        (FailsByDevices (longest_of words) result (S.failures source.old) (S.failures source.new)
+        (W.failures sink.old) (W.failures sink.new)) }
 {
     match words {
         Words::Units => of_any(units(alloc, source, sink)),

@@ -1,5 +1,5 @@
 -- What each set of a traffic is to do.
-use Rattle.std.proofs.Common.{refl, arith, ◌≡◌, ◌∙◌, ap, sym, ℕ, zero, suc, List, [], ◌∷◌, ◌++◌, map, length, All}
+use Rattle.std.proofs.Common.{refl, arith, ◌≡◌, ap, ℕ, zero, suc, List, [], ◌∷◌, map, length, All}
 use Rattle.std.proofs.lemmas.List.{length-append, length-map}
 use Rattle.std.proofs.lemmas.List.Elements.{All-cons, All-head, All-nil, All-push, All-tail}
 use Rattle.set_events.specs.declared.config.SetConfig.{SetConfig}

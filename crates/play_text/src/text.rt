@@ -22,7 +22,8 @@ pub fn play<S: Source, W: Sink>(
         (λ input. Prints result (IsPlayText input) (W.written sink.old) (W.written sink.new)) }
     ensures bounded { IfSome (S.left source.old) (λ input. OnOk result (length input ≤ 2 ^ 24)) }
     ensures devices { IfSome (S.left source.old)
-        (FailsByDevices (2 ^ 24) result (S.has_failed source.new) (W.has_failed sink.new)) }
+        (FailsByDevices (2 ^ 24) result (S.failures source.old) (S.failures source.new)
+        (W.failures sink.old) (W.failures sink.new)) }
 {
     tell_script::<Answers, S, W>(alloc, source, sink)
 }
@@ -41,7 +42,8 @@ pub fn play_explained<S: Source, W: Sink>(
         (W.written sink.old) (W.written sink.new)) }
     ensures bounded { IfSome (S.left source.old) (λ input. OnOk result (length input ≤ 2 ^ 24)) }
     ensures devices { IfSome (S.left source.old)
-        (FailsByDevices (2 ^ 24) result (S.has_failed source.new) (W.has_failed sink.new)) }
+        (FailsByDevices (2 ^ 24) result (S.failures source.old) (S.failures source.new)
+        (W.failures sink.old) (W.failures sink.new)) }
 {
     tell_explained::<Answers, S, W>(alloc, source, sink)
 }

@@ -1,5 +1,5 @@
 -- What is printed and written, piece after piece.
-use Rattle.std.proofs.Common.{refl, arith, ◌≡◌, ◌∙◌, ap, sym, ◌<◌, ◌≤◌, [], length, ℕ, ◌+◌, ◌-◌, ◌^◌, List, ◌++◌, take, drop, Option, Some, None, Result, Ok, Err, IfErr, IfSome, OnOk, OnErr, subst, length-append, append_assoc, append-nil, take-append-drop}
+use Rattle.std.proofs.Common.{refl, arith, ◌≡◌, ◌≢◌, ◌∙◌, ap, sym, ◌<◌, ◌≤◌, [], length, ℕ, ◌+◌, ◌-◌, ◌^◌, List, ◌++◌, take, drop, Option, Some, None, Result, Ok, Err, MatchResult, IfSome, OnOk, subst, length-append, append_assoc, append-nil, take-append-drop}
 use Rattle.std.proofs.lemmas.Grind.{common_steps}
 use Rattle.std.proofs.Math.Seq.{take-add}
 use Rattle.std.specs.Result.{IsErrAnd}
@@ -9,8 +9,8 @@ use Rattle.printing.specs.declared.device.DeviceFault.{DeviceFault}
 use Rattle.printing.specs.declared.fault.Stop.{Stop}
 use Rattle.printing.specs.declared.fault.Stop.TheVariants.{Input as InputStops, Memory as MemoryStops}
 use Rattle.printing.specs.declared.fault.Fault.{Fault}
-use Rattle.printing.specs.declared.fault.Fault.TheVariants.{Read, Long}
-use Rattle.printing.specs.Printing.{Printed, IsBegun, StopsIn, EndsIn, fault_of, answer_of, Texts, Progress, Ends, ReadsOrStops, Writes, Passes, Breaks, PassesOrBreaks, Closes, Prints, IsDevices}
+use Rattle.printing.specs.declared.fault.Fault.TheVariants.{Input, Memory, Read, Long, Write}
+use Rattle.printing.specs.Printing.{Printed, IsBegun, StopsIn, EndsIn, fault_of, answer_of, Texts, Progress, Ends, ReadsOrStops, Writes, Passes, Breaks, PassesOrBreaks, Closes, Prints, IsDevices, FailsByDevices, FailsBySink}
 
 -- what is written after what was written
 pub appends_more : (a b c : Option (List ℕ)) (xs ys zs : List ℕ) → Appends a b xs → Appends b c ys → zs ≡ xs ++ ys → Appends a c zs
@@ -50,9 +50,9 @@ shorter IsIt lines printed written rest e b text is =
     (rest ++ more.0, more.1 ∙ ap (λ (x : List ℕ). (lines ++ x) ++ more.0) e ∙ ap (λ (x : List ℕ). x ++ more.0) (sym (append_assoc lines written rest)) ∙ append_assoc (lines ++ written) rest more.0)
 
 -- and is none of a device
-no_device : {F : Type 0} (stop : Stop F) (R L W : Type 0) → IsDevices (fault_of stop) R L W
-no_device (InputStops fault) R L W = tt
-no_device MemoryStops R L W = tt
+no_device : {F : Type 0} (stop : Stop F) (R L W N : Type 0) → N → IsDevices (fault_of stop) R L W N
+no_device (InputStops fault) R L W N none = none
+no_device MemoryStops R L W N none = none
 
 -- What was added is then written.
 
@@ -111,12 +111,28 @@ module _ {F : Type 0} (IsText : Texts F) where
         shorter (IsText past) lines r.printed w.written w.more (some_written before after a b r.printed fault e r.added w) (r.begun past lines fits had);
   }
 
--- a writer's failure is told where a write failed, and a reader's never
-pub devices : {F : Type 0} (read : Result (Unit {0}) (Stop F)) (wrote : Result (Unit {0}) DeviceFault) (W : Type 0) → OnErr wrote W → IfErr (answer_of read wrote) (λ fault. IsDevices fault ⊥ ⊥ W)
-devices (Ok done) (Ok all) W h = tt
-devices (Err stop) (Ok all) W h = no_device stop ⊥ ⊥ W
-devices (Ok done) (Err fault) W h = h
-devices (Err stop) (Err fault) W h = h
+-- a writer's failure is told where a write failed, and nowhere else; a reader's never
+pub devices : {F : Type 0} (read : Result (Unit {0}) (Stop F)) (wrote : Result (Unit {0}) DeviceFault) (w w' : ℕ)
+    → MatchResult wrote (λ done. w' ≡ w) (λ fault. w' ≢ w) → FailsBySink (answer_of read wrote) w w'
+devices (Ok done) (Ok all) w w' h = h
+devices (Err stop) (Ok all) w w' h = no_device stop ⊥ ⊥ (w' ≢ w) (w' ≡ w) h
+devices (Ok done) (Err fault) w w' h = h
+devices (Err stop) (Err fault) w w' h = h
+
+-- the same of the whole, where nothing failed before
+pub whole_devices : {F : Type 0} (fault : Fault F) (r r1 w w1 w' : ℕ) (L : Type 0) → r1 ≡ r → w1 ≡ w
+    → IsDevices fault ⊥ ⊥ (w' ≢ w1) (w' ≡ w1)
+    → IsDevices fault ((r1 ≢ r) × (w' ≡ w)) (L × (r1 ≡ r) × (w' ≡ w)) ((r1 ≡ r) × (w' ≢ w)) ((r1 ≡ r) × (w' ≡ w))
+whole_devices (Input fault) r r1 w w1 w' L read wrote is = (read, is ∙ wrote)
+whole_devices Memory r r1 w w1 w' L read wrote is = (read, is ∙ wrote)
+whole_devices Read r r1 w w1 w' L read wrote is = absurd is
+whole_devices Long r r1 w w1 w' L read wrote is = absurd is
+whole_devices Write r r1 w w1 w' L read wrote is = (read, λ same. is (same ∙ sym wrote))
+
+pub ended_devices : {F : Type 0} (result : Result (Unit {0}) (Fault F)) (longest r r1 w w1 w' : ℕ) (input : List ℕ) → r1 ≡ r → w1 ≡ w
+    → FailsBySink result w1 w' → FailsByDevices longest result r r1 w w' input
+ended_devices (Ok done) longest r r1 w w1 w' input read wrote is = (read, is ∙ wrote)
+ended_devices (Err fault) longest r r1 w w1 w' input read wrote is = whole_devices fault r r1 w w1 w' (longest < length input) read wrote is
 
 -- A source that is read piece by piece.
 

@@ -1,5 +1,5 @@
 -- A text that is printed while another is read: what calls print, and what the devices give and take.
-use Rattle.std.specs.Prelude.{◌≡◌, ℕ, ◌+◌, ◌^◌, ◌<◌, ◌≤◌, Bool, true, List, [], ◌++◌, length, Option, Some, None, Result, Ok, Err, MatchResult, OnOk, IfErr}
+use Rattle.std.specs.Prelude.{◌≡◌, ◌≢◌, ℕ, ◌+◌, ◌^◌, ◌<◌, ◌≤◌, List, [], ◌++◌, length, Option, Some, None, Result, Ok, Err, MatchResult, OnOk}
 use Rattle.std.specs.Io.KnownBytes.{Appends}
 use Rattle.printing.specs.declared.device.DeviceFault.{DeviceFault}
 use Rattle.printing.specs.declared.fault.Stop.{Stop}
@@ -161,16 +161,30 @@ pub record Prints {F : Type 0} (result : Result (Unit {0}) (Fault F)) (IsIt : Pr
   pub added : Appends old new printed
   pub ends : IsEnd result IsIt printed
 
--- a fault of a device is answered only where that device has failed, and that of an input that is too long where it is
-abbrev pub IsDevices : {F : Type 0} → Fault F → Type 0 → Type 0 → Type 0 → Type 0
-IsDevices (Input fault) reader_failed is_long writer_failed = Unit {0}
-IsDevices Memory reader_failed is_long writer_failed = Unit {0}
-IsDevices Read reader_failed is_long writer_failed = reader_failed
-IsDevices Long reader_failed is_long writer_failed = is_long
-IsDevices Write reader_failed is_long writer_failed = writer_failed
+-- what each fault tells of the call that answers it: that a read failed in it, that the input is too long, that a write
+-- failed in it, or, of the others, that no device did
+abbrev pub IsDevices : {F : Type 0} → Fault F → Type 0 → Type 0 → Type 0 → Type 0 → Type 0
+IsDevices (Input fault) read_failed is_long write_failed none_failed = none_failed
+IsDevices Memory read_failed is_long write_failed none_failed = none_failed
+IsDevices Read read_failed is_long write_failed none_failed = read_failed
+IsDevices Long read_failed is_long write_failed none_failed = is_long
+IsDevices Write read_failed is_long write_failed none_failed = write_failed
 
--- which devices have failed, the most octets that are read, and the input that was there
-abbrev pub FailsByDevices : {F : Type 0} → ℕ → Result (Unit {0}) (Fault F) → Bool → Bool → List ℕ
-    → Type 0
-FailsByDevices longest result reader_failed writer_failed input =
-    IfErr result (λ fault. IsDevices fault (reader_failed ≡ true) (longest < length input) (writer_failed ≡ true))
+-- A FAULT OF A DEVICE IS ANSWERED WHERE THAT DEVICE FAILED IN THE CALL, and nowhere else: how often its reads have failed
+-- before the call and behind it, and its writes; whatever failed before excuses nothing. That of an input that is too
+-- long is answered only where it is
+abbrev pub FailsByDevices : {F : Type 0} → ℕ → Result (Unit {0}) (Fault F) → ℕ → ℕ → ℕ → ℕ → List ℕ → Type 0
+FailsByDevices longest result reads reads' writes writes' input =
+    MatchResult result
+    (λ done. (reads' ≡ reads) × (writes' ≡ writes))
+    (λ fault. IsDevices fault
+    ((reads' ≢ reads) × (writes' ≡ writes))
+    ((longest < length input) × (reads' ≡ reads) × (writes' ≡ writes))
+    ((reads' ≡ reads) × (writes' ≢ writes))
+    ((reads' ≡ reads) × (writes' ≡ writes)))
+
+-- the same of what only writes
+abbrev pub FailsBySink : {F : Type 0} → Result (Unit {0}) (Fault F) → ℕ → ℕ → Type 0
+FailsBySink result writes writes' =
+    MatchResult result (λ done. writes' ≡ writes)
+    (λ fault. IsDevices fault ⊥ ⊥ (writes' ≢ writes) (writes' ≡ writes))

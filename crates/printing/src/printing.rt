@@ -1,6 +1,6 @@
 //! Prints the whole text of a source to a sink.
-ghost use Rattle.std.specs.Prelude.{◌≡◌, ◌+◌, ◌<◌, ◌≤◌, ◌^◌, true, [], take, length, IfErr, IfSome, OnOk, OnErr};
-ghost use Rattle.printing.specs.Printing.{Writes, answer_of, PassesOrBreaks, Closes, Prints, IsDevices, FailsByDevices};
+ghost use Rattle.std.specs.Prelude.{◌≡◌, ◌≢◌, ◌+◌, ◌<◌, ◌≤◌, ◌^◌, [], take, length, IfSome, MatchResult, OnOk};
+ghost use Rattle.printing.specs.Printing.{Writes, answer_of, PassesOrBreaks, Closes, Prints, FailsByDevices, FailsBySink};
 
 use super::device::{DeviceFault, Sink, Source};
 use super::fault::{Fault, Stop, into_fault};
@@ -33,7 +33,8 @@ pub fn print_all<P: Printer + Drop, S: Source, W: Sink>(
         (λ input. Prints result (P.is_text input) (W.written sink.old) (W.written sink.new)) }
     ensures bounded { IfSome (S.left source.old) (λ input. OnOk result (length input ≤ longest)) }
     ensures devices { IfSome (S.left source.old)
-        (FailsByDevices longest result (S.has_failed source.new) (W.has_failed sink.new)) }
+        (FailsByDevices longest result (S.failures source.old) (S.failures source.new)
+        (W.failures sink.old) (W.failures sink.new)) }
 {
     let mut left = longest;
     // each read but the last gives an octet
@@ -65,7 +66,7 @@ fn pass<P: Printer, W: Sink>(
 ) -> Result<(), Fault<P::Fault>>
     ensures passes { PassesOrBreaks P.is_text result (P.has_read printer.old) octets.now
         (W.written sink.old) (W.written sink.new) (P.has_read printer.new) }
-    ensures failed { IfErr result (λ fault. IsDevices fault ⊥ ⊥ (W.has_failed sink.new ≡ true)) }
+    ensures failed { FailsBySink result (W.failures sink.old) (W.failures sink.new) }
 {
     let mut out = Vec::new(alloc);
     let read = printer.read(octets, &mut out);
@@ -81,7 +82,7 @@ fn end<P: Printer + Drop, W: Sink>(
 ) -> Result<(), Fault<P::Fault>>
     ensures closes { Closes P.is_text result (P.has_read printer)
         (W.written sink.old) (W.written sink.new) }
-    ensures failed { IfErr result (λ fault. IsDevices fault ⊥ ⊥ (W.has_failed sink.new ≡ true)) }
+    ensures failed { FailsBySink result (W.failures sink.old) (W.failures sink.new) }
 {
     let mut out = Vec::new(alloc);
     let ended = printer.end(&mut out);
@@ -92,7 +93,8 @@ fn end<P: Printer + Drop, W: Sink>(
 /// Writes all these octets.
 fn write_all<W: Sink>(sink: &mut W, octets: &[u8]) -> Result<(), DeviceFault>
     ensures writes { Writes result octets.now (W.written sink.old) (W.written sink.new) }
-    ensures failed { OnErr result (W.has_failed sink.new ≡ true) }
+    ensures failed { MatchResult result (λ done. W.failures sink.new ≡ W.failures sink.old)
+        (λ fault. W.failures sink.new ≢ W.failures sink.old) }
 {
     let mut written: usize = 0;
     while written < octets.len() {

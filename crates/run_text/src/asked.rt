@@ -28,7 +28,7 @@ pub fn run<R: Threads + Wait + Clock + Eprint + Copy + Send + Sync + 'static, W:
 ) -> Result<(), Fault<RunFault>>
     ensures text { RunsAsked words.now result (W.written sink.old) (W.written sink.new) }
     ensures fault { IfErr result (IsFaultOfAsked words.now) }
-    ensures failed { IfErr result (λ fault. fault ≡ Fault.Write → W.has_failed sink.new ≡ true) }
+    ensures failed { IfErr result (λ fault. fault ≡ Fault.Write → W.failures sink.new ≢ W.failures sink.old) }
 {
     let traffic = traffic_of(words);
     let Ok((near, far)) = pace_gates(alloc, traffic.sets, traffic.links) else {

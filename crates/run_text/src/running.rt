@@ -34,7 +34,7 @@ pub fn write_run<R: Threads + Wait + Copy + Send + Sync + 'static, W: Sink, F: F
     requires callable { F.IsAlwaysCallable ended }
     ensures text { Runs traffic.now per_link result (W.written sink.old) (W.written sink.new) }
     ensures fault { IfErr result (IsFaultOfRun traffic.now) }
-    ensures failed { IfErr result (λ fault. fault ≡ Fault.Write → W.has_failed sink.new ≡ true) }
+    ensures failed { IfErr result (λ fault. fault ≡ Fault.Write → W.failures sink.new ≢ W.failures sink.old) }
 {
     let (near_gate, far_gate) = gates;
     let came_to = run_through(rt, alloc, traffic, near_gate, far_gate);
@@ -74,7 +74,7 @@ pub fn write_ends<W: Sink>(
     requires few { (length near.now ≤ 16) × (length far.now ≤ 16) }
     ensures text { WritesEnds per_link near.now far.now result (W.written sink.old) (W.written sink.new) }
     ensures fault { IfErr result (IsFaultOfEnds near.now far.now) }
-    ensures failed { IfErr result (λ fault. fault ≡ Fault.Write → W.has_failed sink.new ≡ true) }
+    ensures failed { IfErr result (λ fault. fault ≡ Fault.Write → W.failures sink.new ≢ W.failures sink.old) }
 {
     match find_failure(near, far) {
         Some(fault) => Err(Fault::Input(fault)),
@@ -95,7 +95,7 @@ fn write_text<W: Sink>(
     requires none { failure_of near.now far.now ≡ None }
     ensures text { WritesEnds per_link near.now far.now result (W.written sink.old) (W.written sink.new) }
     ensures fault { IfErr result (IsFaultOfEnds near.now far.now) }
-    ensures failed { IfErr result (λ fault. fault ≡ Fault.Write → W.has_failed sink.new ≡ true) }
+    ensures failed { IfErr result (λ fault. fault ≡ Fault.Write → W.failures sink.new ≢ W.failures sink.old) }
 {
     match text_of(alloc, near, far, per_link) {
         Ok(text) => write_all(sink, &text),
@@ -129,7 +129,7 @@ fn text_of(
 fn write_all<W: Sink>(sink: &mut W, octets: &[u8]) -> Result<(), Fault<RunFault>>
     ensures writes { WritesAll octets.now result (W.written sink.old) (W.written sink.new) }
     ensures fault { IfErr result (λ fault. fault ≡ Fault.Write) }
-    ensures failed { IfErr result (λ fault. W.has_failed sink.new ≡ true) }
+    ensures failed { IfErr result (λ fault. W.failures sink.new ≢ W.failures sink.old) }
 {
     let mut written: usize = 0;
     while written < octets.len() {

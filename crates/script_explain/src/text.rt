@@ -29,7 +29,8 @@ pub fn tell_explained<A: Account, S: Source, W: Sink>(
         (W.written sink.old) (W.written sink.new)) }
     ensures bounded { IfSome (S.left source.old) (λ input. OnOk result (length input ≤ 2 ^ 24)) }
     ensures devices { IfSome (S.left source.old)
-        (FailsByDevices (2 ^ 24) result (S.has_failed source.new) (W.has_failed sink.new)) }
+        (FailsByDevices (2 ^ 24) result (S.failures source.old) (S.failures source.new)
+        (W.failures sink.old) (W.failures sink.new)) }
 {
     print_lines(alloc, Explaining::<A>::new(), LONGEST_KEPT, source, sink)
 }

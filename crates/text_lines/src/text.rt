@@ -26,7 +26,8 @@ pub fn print_lines<L: LineText + Drop, S: Source, W: Sink>(
         (W.written sink.old) (W.written sink.new)) }
     ensures bounded { IfSome (S.left source.old) (λ input. OnOk result (length input ≤ longest)) }
     ensures devices { IfSome (S.left source.old)
-        (FailsByDevices longest result (S.has_failed source.new) (W.has_failed sink.new)) }
+        (FailsByDevices longest result (S.failures source.old) (S.failures source.new)
+        (W.failures sink.old) (W.failures sink.new)) }
 {
     print_all(alloc, LineReader::new(alloc, lines), longest, source, sink)
 }

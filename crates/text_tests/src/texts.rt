@@ -19,18 +19,19 @@ struct Text<'a> {
     piece: usize,
     /// How many reads succeed.
     reads: u32,
-    failed: bool,
+    /// How often it has failed.
+    failures: u32,
     ghost moves: { 0 < piece },
 }
 
 impl Source for Text<'_> {
     ghost left = { λ s. Some s.rest.now };
 
-    ghost has_failed = { λ s. s.failed };
+    ghost failures = { λ s. s.failures };
 
     fn read(&mut self, buffer: &mut [u8]) -> Result<usize, DeviceFault> {
         if self.reads == 0 {
-            self.failed = true;
+            self.failures = self.failures.wrapping_add(1);
             return Err(DeviceFault);
         }
         self.reads -= 1;
@@ -50,18 +51,19 @@ pub(crate) struct Page {
     piece: usize,
     /// How many writes succeed.
     writes: u32,
-    failed: bool,
+    /// How often it has failed.
+    failures: u32,
     ghost moves: { 0 < piece },
 }
 
 impl Sink for Page {
     ghost written = { λ s. Some s.octets.items };
 
-    ghost has_failed = { λ s. s.failed };
+    ghost failures = { λ s. s.failures };
 
     fn write(&mut self, octets: &[u8]) -> Result<usize, DeviceFault> {
         if self.writes == 0 {
-            self.failed = true;
+            self.failures = self.failures.wrapping_add(1);
             return Err(DeviceFault);
         }
         self.writes -= 1;
@@ -69,7 +71,7 @@ impl Sink for Page {
         match self.octets.extend_from_slice(&octets[..count]) {
             Ok(()) => Ok(count),
             Err(_) => {
-                self.failed = true;
+                self.failures = self.failures.wrapping_add(1);
                 Err(DeviceFault)
             }
         }
@@ -90,13 +92,13 @@ fn run_of(
         rest: script,
         piece,
         reads,
-        failed: false,
+        failures: 0,
     };
     let mut page = Page {
         octets: Vec::new(alloc),
         piece,
         writes,
-        failed: false,
+        failures: 0,
     };
     let end = play(alloc, &mut text, &mut page);
     (page, end)
@@ -161,7 +163,7 @@ fn a_reader_fails_in_mid_stream(rt: HostRuntime) -> Result<(), Fail> {
 
 /// Whether a page that failed has the first so many octets of these.
 fn is_cut(page: &Page, all: &[u8], writes: usize) -> bool {
-    page.failed && page.octets.len() == writes && all.starts_with(&page.octets)
+    page.failures == 1 && page.octets.len() == writes && all.starts_with(&page.octets)
 }
 
 /// One octet a call: so many were written, and nothing after the call that failed.
@@ -203,13 +205,13 @@ pub(crate) fn seen_of(
         rest: digits,
         piece,
         reads: 1000,
-        failed: false,
+        failures: 0,
     };
     let mut page = Page {
         octets: Vec::new(alloc),
         piece,
         writes,
-        failed: false,
+        failures: 0,
     };
     let end = units(alloc, &mut text, &mut page);
     (page, end)
@@ -295,11 +297,11 @@ struct Remarks {
 }
 
 impl Source for Remarks {
-    ghost use Rattle.std.specs.Prelude.{None, false};
+    ghost use Rattle.std.specs.Prelude.{None};
 
     ghost left = { λ s. None };
 
-    ghost has_failed = { λ s. false };
+    ghost failures = { λ s. 0 };
 
     fn read(&mut self, buffer: &mut [u8]) -> Result<usize, DeviceFault> {
         if self.pieces == 0 {
@@ -322,7 +324,7 @@ fn end_of_remarks(alloc: Global, pieces: u32) -> Result<(), Fault<ScriptFault>> 
         octets: Vec::new(alloc),
         piece: 1,
         writes: 0,
-        failed: false,
+        failures: 0,
     };
     let mut remarks = Remarks { pieces };
     play(alloc, &mut remarks, &mut page)

@@ -23,7 +23,8 @@ pub fn units<S: Source, W: Sink>(
         (λ input. Prints result (IsUnitsText input) (W.written sink.old) (W.written sink.new)) }
     ensures bounded { IfSome (S.left source.old) (λ input. OnOk result (length input ≤ 2 ^ 60)) }
     ensures devices { IfSome (S.left source.old)
-        (FailsByDevices (2 ^ 60) result (S.has_failed source.new) (W.has_failed sink.new)) }
+        (FailsByDevices (2 ^ 60) result (S.failures source.old) (S.failures source.new)
+        (W.failures sink.old) (W.failures sink.new)) }
 {
     print_all(alloc, UnitsReader::new(alloc), LONGEST_READ, source, sink)
 }

@@ -7,4 +7,4 @@ returns-clause-closes g c =
     c.end-ended.ensures (rw (← c.deref.ensures.value) c.write_all-written.ensures.writes))
 
 pub returns-clause-failed : goal.returns-clause-failed
-returns-clause-failed g c = rw c.answered.ensures (devices c.end-ended.result c.write_all-written.result _ c.write_all-written.ensures.failed)
+returns-clause-failed g c = rw c.answered.ensures (devices c.end-ended.result c.write_all-written.result _ _ c.write_all-written.ensures.failed)

@@ -6,11 +6,11 @@ use Rattle.printing.proofs.printing.print_all.Goals as goal
 -- src/printing.rt:43:27
 pub returns-in-Err-pass-clause-text : goal.returns-in-Err-pass-clause-text
 returns-in-Err-pass-clause-text g c =
-    piece_broke g.P.Printer.is_text _ (g.P.Printer.has_read c.loop.printer) _ _ _ _ _ _ _ _ _ c.requires.longest c.loop.invariant c.in-Err-pass.fault _ _ _
+    piece_broke g.P.Printer.is_text _ (g.P.Printer.has_read c.loop.printer) _ _ _ _ _ _ _ _ _ c.requires.longest c.loop.invariant.2 c.in-Err-pass.fault _ _ _
     (grind (arith, common_steps, c.min.ensures)) (grind (arith, common_steps, c.min.ensures)) c.in-Ok.ensures.octets.0 c.in-Err-pass.ensures.passes
 
 -- src/printing.rt:46:13
 pub returns-then-count-left-clause-text : goal.returns-then-count-left-clause-text
 returns-then-count-left-clause-text g c =
-    piece_too_much g.P.Printer.is_text _ _ _ _ _ _ _ _ _ _ _ c.requires.longest c.loop.invariant _ _ _
+    piece_too_much g.P.Printer.is_text _ _ _ _ _ _ _ _ _ _ _ c.requires.longest c.loop.invariant.2 _ _ _
     (grind (arith, common_steps, c.min.ensures)) (grind (arith, common_steps, c.min.ensures)) c.in-Ok.ensures.octets.0 c.in-Ok-pass.ensures.passes
