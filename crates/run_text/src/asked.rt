@@ -1,5 +1,5 @@
 //! A run as its words ask for it.
-ghost use Rattle.std.specs.Prelude.{◌≡◌, true, IfErr};
+ghost use Rattle.std.specs.Prelude.{◌≡◌, ◌≢◌, IfErr, OnOk};
 ghost use Rattle.run_text.specs.Asked.{IsFaultOfAsked, IsTrafficOf, RunsAsked};
 
 use super::fault::RunFault;
@@ -29,6 +29,7 @@ pub fn run<R: Threads + Wait + Clock + Eprint + Copy + Send + Sync + 'static, W:
     ensures text { RunsAsked words.now result (W.written sink.old) (W.written sink.new) }
     ensures fault { IfErr result (IsFaultOfAsked words.now) }
     ensures failed { IfErr result (λ fault. fault ≡ Fault.Write → W.failures sink.new ≢ W.failures sink.old) }
+    ensures sound { OnOk result (W.failures sink.new ≡ W.failures sink.old) }
 {
     let traffic = traffic_of(words);
     let Ok((near, far)) = pace_gates(alloc, traffic.sets, traffic.links) else {

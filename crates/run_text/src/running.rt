@@ -1,5 +1,5 @@
 //! A run, from its traffic to what is written.
-ghost use Rattle.std.specs.Prelude.{◌≡◌, ◌≤◌, All, IfErr, IfOk, None, length, true};
+ghost use Rattle.std.specs.Prelude.{◌≡◌, ◌≢◌, ◌≤◌, All, IfErr, IfOk, OnOk, None, length};
 ghost use Rattle.bank_core.specs.Faults.{EndsEarly};
 ghost use Rattle.run_text.specs.Failures.{failure_of};
 ghost use Rattle.run_text.specs.RunText.{run_text};
@@ -35,6 +35,7 @@ pub fn write_run<R: Threads + Wait + Copy + Send + Sync + 'static, W: Sink, F: F
     ensures text { Runs traffic.now per_link result (W.written sink.old) (W.written sink.new) }
     ensures fault { IfErr result (IsFaultOfRun traffic.now) }
     ensures failed { IfErr result (λ fault. fault ≡ Fault.Write → W.failures sink.new ≢ W.failures sink.old) }
+    ensures sound { OnOk result (W.failures sink.new ≡ W.failures sink.old) }
 {
     let (near_gate, far_gate) = gates;
     let came_to = run_through(rt, alloc, traffic, near_gate, far_gate);
@@ -75,6 +76,7 @@ pub fn write_ends<W: Sink>(
     ensures text { WritesEnds per_link near.now far.now result (W.written sink.old) (W.written sink.new) }
     ensures fault { IfErr result (IsFaultOfEnds near.now far.now) }
     ensures failed { IfErr result (λ fault. fault ≡ Fault.Write → W.failures sink.new ≢ W.failures sink.old) }
+    ensures sound { OnOk result (W.failures sink.new ≡ W.failures sink.old) }
 {
     match find_failure(near, far) {
         Some(fault) => Err(Fault::Input(fault)),
@@ -96,6 +98,7 @@ fn write_text<W: Sink>(
     ensures text { WritesEnds per_link near.now far.now result (W.written sink.old) (W.written sink.new) }
     ensures fault { IfErr result (IsFaultOfEnds near.now far.now) }
     ensures failed { IfErr result (λ fault. fault ≡ Fault.Write → W.failures sink.new ≢ W.failures sink.old) }
+    ensures sound { OnOk result (W.failures sink.new ≡ W.failures sink.old) }
 {
     match text_of(alloc, near, far, per_link) {
         Ok(text) => write_all(sink, &text),
@@ -130,6 +133,7 @@ fn write_all<W: Sink>(sink: &mut W, octets: &[u8]) -> Result<(), Fault<RunFault>
     ensures writes { WritesAll octets.now result (W.written sink.old) (W.written sink.new) }
     ensures fault { IfErr result (λ fault. fault ≡ Fault.Write) }
     ensures failed { IfErr result (λ fault. W.failures sink.new ≢ W.failures sink.old) }
+    ensures sound { OnOk result (W.failures sink.new ≡ W.failures sink.old) }
 {
     let mut written: usize = 0;
     while written < octets.len() {

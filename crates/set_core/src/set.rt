@@ -15,11 +15,11 @@ use std::marker::Model;
 /// One set of links. Contracts see its base, which is the opening or its last checkpoint, what it holds, and its
 /// history since the base.
 ///
-/// Readers: [`SetCore::base`], [`SetCore::place_of`], [`SetCore::counts`], [`SetCore::books`], [`SetCore::acknowledged`],
-/// [`SetCore::history`], [`SetCore::config`], [`SetCore::links`], [`SetCore::is_up`], [`SetCore::is_settled`],
-/// [`SetCore::unacked_at`].
-/// The one input: [`SetCore::apply`], or [`SetCore::apply_into`], which puts the answer where the caller has room for it.
-/// [`SetCore::checkpoint`] makes what it holds its base.
+/// Readers: [`SetCore::base`], [`SetCore::place_of`], [`SetCore::counts`], [`SetCore::books`],
+/// [`SetCore::acknowledged`], [`SetCore::entries`], [`SetCore::history`], [`SetCore::config`], [`SetCore::links`],
+/// [`SetCore::is_up`], [`SetCore::is_settled`], [`SetCore::unacked_at`].
+/// The one input: [`SetCore::apply`], or [`SetCore::apply_into`], which puts the answer where the caller has room for
+/// it. [`SetCore::checkpoint`] makes what it holds its base.
 ///
 /// What it holds is what the history leads to from the base. Of every value it holds that the history
 /// is legal, that what is kept ([`SetCore::kept`]) agrees with what it leads to, and that the tally is that of
@@ -103,8 +103,8 @@ impl SetCore {
         Ok(answer)
     }
 
-    /// [`SetCore::apply`] with the answer put into `answer`, whatever stood there: an answer has room for a unit, and one that
-    /// is handed on by value is copied each time.
+    /// [`SetCore::apply`] with the answer put into `answer`, whatever stood there: an answer has room for a unit, and
+    /// one that is handed on by value is copied each time.
     ///
     /// Faults: as of [`SetCore::apply`]; of what stands in `answer` then nothing is said.
     pub fn apply_into(

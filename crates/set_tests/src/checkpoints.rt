@@ -1,4 +1,5 @@
-//! Checkpoints: what is finished leaves the set and is counted, and its history begins anew. Values are worked out by hand.
+//! Checkpoints: what is finished leaves the set and is counted, and its history begins anew. Values are worked out by
+//! hand.
 use super::bench::*;
 use super::many::{STREAM, are_acknowledged, goes, sends_number};
 use set_core::{Base, SetCore, SetFault, audit_from, audit_history_from};
@@ -42,8 +43,8 @@ fn one_goes(alloc: Global, set: &mut SetCore) -> bool {
         && acknowledges(set, 0, head_of(0, 127), 1)
 }
 
-/// A message that was acknowledged leaves at the checkpoint: its number is refused 11 then, the next one 8. The history has
-/// these two entries, which are legal from the base, and with the second told as the first they aren't.
+/// A message that was acknowledged leaves at the checkpoint: its number is refused 11 then, the next one 8. The history
+/// has these two entries, which are legal from the base, and with the second told as the first they aren't.
 #[test]
 fn an_acknowledged_message_leaves(rt: HostRuntime) -> Result<(), Fail> {
     let mut set = set_of(rt.alloc(), 1)?;
@@ -117,8 +118,8 @@ fn copy_as_finished(entries: &[Entry], copies: &mut Vec<Entry>) -> Result<(), Al
     Ok(())
 }
 
-/// A message is parked, since no link is up, and stays so over three checkpoints, between which it is found and refused to
-/// the terminal. Then the link comes up, and it's sent under FSN 0 with its body.
+/// A message is parked, since no link is up, and stays so over three checkpoints, between which it's found, and a
+/// Restore is refused. Then the link comes up, and the message is sent under FSN 0 with its body.
 #[test]
 fn a_parked_message_stays_over_checkpoints(rt: HostRuntime) -> Result<(), Fail> {
     let mut set = set_of(rt.alloc(), 1)?;
@@ -145,8 +146,8 @@ fn is_sent_with_its_body(set: &mut SetCore) -> bool {
         && is_unknown(set, 1)
 }
 
-/// 2,000 messages with a checkpoint each 100, so that the FSNs go round more than fifteen times. The last of each hundred
-/// isn't acknowledged yet at the checkpoint, and is after it.
+/// 2,000 messages with a checkpoint each 100, so that the FSNs go round more than fifteen times. The last of each
+/// hundred isn't acknowledged yet at the checkpoint, and is after it.
 #[test]
 fn fsns_go_round_over_checkpoints(rt: HostRuntime) -> Result<(), Fail> {
     let mut set = set_of(rt.alloc(), 1)?;
@@ -201,8 +202,9 @@ fn are_finished(set: &mut SetCore) -> bool {
         && set.base().finished() == acked_alone(2_000)
 }
 
-/// A link that is given up discards message 0, and its order, number 1, is parked; message 2 waits for the link again. Then
-/// order 1 is discarded, since the link is up. At a checkpoint both leave, each for its own count, and message 2 stays.
+/// A link that is given up discards message 0, and its order, number 1, is parked; message 2 waits for the link again.
+/// Then order 1 is discarded, since the link is up. At a checkpoint both leave, each for its own count, and message 2
+/// stays.
 #[test]
 fn what_was_discarded_is_counted_by_its_cause(rt: HostRuntime) -> Result<(), Fail> {
     let mut set = set_of(rt.alloc(), 1)?;

@@ -1,4 +1,4 @@
-use Rattle.std.proofs.Common.{refl, arith, subst, length, take, drop, take-append-drop, ◌≤◌}
+use Rattle.std.proofs.Common.{refl, arith, ◌∙◌, subst, length, take, drop, take-append-drop, ◌≤◌}
 use Rattle.std.proofs.lemmas.Grind.{common_steps}
 use Rattle.std.proofs.lemmas.List.{take_all}
 use Rattle.std.specs.Io.KnownBytes.{Appends}
@@ -11,6 +11,7 @@ pub loop-written-preserved : goal.loop-written-preserved
 loop-written-preserved g c = (
   omega (arith, c.in-Ok.ensures.within, length-slice c.args.octets.now c.loop-written.written, c.loop-written-test.true, c.loop-written.invariant.0),
   appends_more _ _ _ _ _ _ c.loop-written.invariant.1 c.in-Ok.ensures.octets (take_then c.args.octets.now c.loop-written.written c.in-Ok.count c.in-Ok.ensures.within),
+  c.in-Ok.ensures.sound ∙ c.loop-written.invariant.2,
 )
 
 pub returns-clause-writes : goal.returns-clause-writes
