@@ -4,7 +4,7 @@ use super::bench::*;
 use super::many::{STREAM, are_acknowledged, goes, sends_number};
 use set_core::{Base, SetCore, SetFault, audit_from, audit_history_from};
 use set_events::{
-    Answer, Books, Body, Counts, Entry, Event, Fate, Finished, Method, Refusal, SetConfig,
+    Answer, Body, Books, Counts, Entry, Event, Fate, Finished, Method, Refusal, SetConfig,
 };
 use std::alloc::{AllocError, Global};
 use std::test::Fail;
