@@ -1,5 +1,5 @@
 //! The bodies of a set, one behind another.
-ghost use Rattle.std.specs.Prelude.{◌≡◌, ◌≤◌, ◌++◌, [], ◌∷◌, length, OnOk};
+ghost use Rattle.std.specs.Prelude.{◌≡◌, ◌≤◌, ◌++◌, [], ◌∷◌, Some, length, OnOk};
 
 use super::bench::holds;
 use set_queues::Bodies;
@@ -9,7 +9,7 @@ use std::test::Fail;
 /// A body stands last.
 fn put(bodies: &mut Bodies, octets: &[u8]) -> Result<(), AllocError>
     requires { length octets.now ≤ 273 }
-    ensures { OnOk result (bodies.new.items ≡ bodies.old.items ++ octets.now ∷ []) }
+    ensures { OnOk result (bodies.new.items ≡ bodies.old.items ++ Some octets.now ∷ []) }
 {
     bodies.reserve(1)?;
     bodies.add(octets);
