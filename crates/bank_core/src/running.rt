@@ -11,7 +11,7 @@ ghost use Rattle.bank_core.specs.Room.{IsRoomFor};
 use super::fault::BankFault;
 use line_ring::Line;
 use link_term::Gate;
-use set_crew::{CrewFault, Job, Plan, SetEnd, Work, one_set, why_unstarted};
+use set_crew::{CrewFault, Job, Plan, SetEnd, Work, ask_for_stack, one_set, why_unstarted};
 use set_events::SetConfig;
 use std::alloc::{AllocError, Global};
 use std::marker::Model;
@@ -201,7 +201,7 @@ fn start_one<
     };
     match thread::spawn_with(rt, end, move || one_set(&own, alloc, work)) {
         Ok(thread) => Ok(thread),
-        Err(_) => Err(BankFault::from(why_unstarted(alloc))),
+        Err(_) => Err(BankFault::from(why_unstarted(&ask_for_stack(alloc)))),
     }
 }
 

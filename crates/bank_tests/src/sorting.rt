@@ -3,8 +3,9 @@
 use super::openings::{bank_of, configs_of, ends_of, holds, loops_of, plan_of, takes_of};
 use bank_core::{BankFault, CrewFault, SetEnd, sort_out};
 use link_term::OpenGate;
+use set_crew::why_unstarted;
 use set_events::Method;
-use std::alloc::Global;
+use std::alloc::{AllocError, Global};
 use std::sync::Wait;
 use std::test::Fail;
 use std::thread::Threads;
@@ -89,4 +90,12 @@ fn where_all_came_to_their_end_all_are_told(rt: HostRuntime) -> Result<(), Fail>
     let alloc = rt.alloc();
     let answers = answers_of(alloc, two_ends(&rt, alloc)?, &[])?;
     holds(told(alloc, answers, 2)?.is_none())
+}
+
+#[test]
+fn a_refused_thread_is_want_of_memory_where_a_stack_is_refused_too(
+    rt: HostRuntime,
+) -> Result<(), Fail> {
+    holds(why_unstarted(&Err(AllocError)) == CrewFault::NoMemory)?;
+    holds(why_unstarted(&Ok(Vec::new(rt.alloc()))) == CrewFault::NoThread)
 }

@@ -3,6 +3,7 @@ ghost use Rattle.std.specs.Prelude.{◌≡◌, ◌++◌, [], ◌∷◌, map, IfE
 ghost use Rattle.std.specs.Vec.Iter.{into_iter_items};
 ghost use Rattle.set_crew.specs.Faults.{CannotStart};
 ghost use Rattle.set_crew.specs.Keeping.{AreKept, GathersTerminals, KeepsJob};
+ghost use Rattle.set_crew.specs.declared.fault.CrewFault.TheVariants.{NoMemory, NoThread};
 
 use super::fault::{CrewFault, UserFault};
 use super::terminal::ShiftOf;
@@ -130,19 +131,26 @@ pub(crate) fn start_thread<
             threads.push_reserved(started);
             Ok(())
         }
-        Err(_) => Err(why_unstarted(alloc)),
+        Err(_) => Err(why_unstarted(&ask_for_stack(alloc))),
     }
 }
 
 /// How many octets are asked for, to see whether there is memory: those of a thread's least stack.
 const STACK: usize = 131_072;
 
-/// Why a thread couldn't be started, which isn't told: [`CrewFault::NoMemory`] where the memory of a stack is refused now,
-/// else [`CrewFault::NoThread`].
-pub fn why_unstarted(alloc: Global) -> CrewFault
-    ensures { CannotStart result }
+/// Asks for the memory of a thread's least stack, 131,072 octets, which is given back with the answer.
+pub fn ask_for_stack(alloc: Global) -> Result<Vec<u8>, AllocError> {
+    Vec::with_capacity(alloc, STACK)
+}
+
+/// Why a thread couldn't be started, which the system doesn't tell: [`CrewFault::NoMemory`] exactly where the memory of
+/// a stack was refused too, else [`CrewFault::NoThread`].
+pub fn why_unstarted(stack: &Result<Vec<u8>, AllocError>) -> CrewFault
+    ensures memory { IfErr stack (λ _. result ≡ NoMemory) }
+    ensures thread { IfOk stack (λ _. result ≡ NoThread) }
+    ensures fault { CannotStart result }
 {
-    match Vec::<u8>::with_capacity(alloc, STACK) {
+    match stack {
         Ok(_) => CrewFault::NoThread,
         Err(_) => CrewFault::NoMemory,
     }

@@ -26,7 +26,7 @@ mod terminal;
 mod user;
 mod work;
 
-pub use crew::why_unstarted;
+pub use crew::{ask_for_stack, why_unstarted};
 pub use end::SetEnd;
 pub use fault::{CrewFault, UserFault};
 pub use orders::Orders;
