@@ -146,8 +146,8 @@ pub fn ask_for_stack(alloc: Global) -> Result<Vec<u8>, AllocError> {
 /// Why a thread couldn't be started, which the system doesn't tell: [`CrewFault::NoMemory`] exactly where the memory of
 /// a stack was refused too, else [`CrewFault::NoThread`].
 pub fn why_unstarted(stack: &Result<Vec<u8>, AllocError>) -> CrewFault
-    ensures memory { IfErr stack (λ _. result ≡ NoMemory) }
-    ensures thread { IfOk stack (λ _. result ≡ NoThread) }
+    ensures memory { IfErr stack.now (λ _. result ≡ NoMemory) }
+    ensures thread { IfOk stack.now (λ _. result ≡ NoThread) }
     ensures fault { CannotStart result }
 {
     match stack {
