@@ -1,0 +1,4 @@
+pub mod Timers
+pub mod Units
+pub mod Heads
+pub mod Lines
