@@ -34,6 +34,7 @@ pub(crate) fn fill<D: Door, T: Tap>(
         T.told tap.old tap.new }
     ensures at { D.number door.new ≡ inside.new.link }
     ensures number { D.number door.new ≡ D.number door.old }
+    ensures door { D.is_same door.old door.new }
 {
     if !inside.is_short() {
         return Ok(Filling::Enough);
@@ -54,6 +55,7 @@ fn choose<D: Door, T: Tap>(
         T.told tap.old tap.new }
     ensures at { D.number door.new ≡ inside.new.link }
     ensures number { D.number door.new ≡ D.number door.old }
+    ensures door { D.is_same door.old door.new }
 {
     match inside.state_now() {
         State::OutOfService => send_status(inside, Status::OutOfService, tap),
@@ -130,6 +132,7 @@ fn serve<D: Door, T: Tap>(
         T.told tap.old tap.new }
     ensures at { D.number door.new ≡ inside.new.link }
     ensures number { D.number door.new ≡ D.number door.old }
+    ensures door { D.is_same door.old door.new }
 {
     ask_up_first(inside, door)?;
     serve_up(inside, door, paused, tap)
@@ -142,6 +145,7 @@ fn ask_up_first<D: Door>(inside: &mut Inside, door: &mut D) -> Result<(), SetFau
         (D.faults door.old) (D.faults door.new) inside.new }
     ensures at { D.number door.new ≡ inside.new.link }
     ensures number { D.number door.new ≡ D.number door.old }
+    ensures door { D.is_same door.old door.new }
     ensures bits { IfOk result (λ done. inside.new.bits ≡ inside.old.bits) }
 {
     if inside.is_up() {
@@ -165,6 +169,7 @@ fn serve_up<D: Door, T: Tap>(
         T.told tap.old tap.new }
     ensures at { D.number door.new ≡ inside.new.link }
     ensures number { D.number door.new ≡ D.number door.old }
+    ensures door { D.is_same door.old door.new }
 {
     if !inside.is_up() {
         send_own(inside, &start_fisu(), tap);
@@ -195,6 +200,7 @@ fn ask_next<D: Door, T: Tap>(
         T.told tap.old tap.new }
     ensures at { D.number door.new ≡ inside.new.link }
     ensures number { D.number door.new ≡ D.number door.old }
+    ensures door { D.is_same door.old door.new }
 {
     let link = inside.link();
     // an answer has room for a unit, so it's looked at where it is
@@ -220,6 +226,7 @@ fn send<D: Door, T: Tap>(
         T.told tap.old tap.new }
     ensures at { D.number door.new ≡ inside.new.link }
     ensures number { D.number door.new ≡ D.number door.old }
+    ensures door { D.is_same door.old door.new }
 {
     match answer {
         Answer::Sent { unit } => return send_given(inside, door, unit, tap),
@@ -248,6 +255,7 @@ fn send_given<D: Door, T: Tap>(
         T.told tap.old tap.new }
     ensures at { D.number door.new ≡ inside.new.link }
     ensures number { D.number door.new ≡ D.number door.old }
+    ensures door { D.is_same door.old door.new }
 {
     if !has_narrow_numbers(unit) {
         return Ok(Filling::Wide);
@@ -288,6 +296,7 @@ fn count_sent<D: Door>(inside: &mut Inside, door: &mut D, unit: &Unit) -> Result
         (D.made door.new) (D.faults door.old) (D.faults door.new) inside.new }
     ensures at { D.number door.new ≡ inside.new.link }
     ensures number { D.number door.new ≡ D.number door.old }
+    ensures door { D.is_same door.old door.new }
     ensures bits { IfOk result (λ done. inside.new.bits ≡ inside.old.bits) }
 {
     match unit {

@@ -20,6 +20,9 @@ pub trait Door {
     /// Each fault that it answered, oldest first.
     ghost faults: { Self → List SetFault };
 
+    /// The second is the same door of the same set as the first.
+    ghost is_same: { Self → Self → Type 0 };
+
     /// The number of its link.
     fn link(&self) -> u8
         ensures { result ≡ number self.now };
@@ -35,7 +38,12 @@ pub trait Door {
             × (faults self.new ≡ faults self.old)) }
         ensures err { IfErr result (λ fault. (made self.new ≡ made self.old)
             × (faults self.new ≡ faults self.old ++ fault ∷ [])) }
-        ensures number { number self.new ≡ number self.old };
+        ensures number { number self.new ≡ number self.old }
+        ensures same { is_same self.old self.new };
+
+    ghost same_self: { (door : Self) → is_same door door };
+
+    ghost same_on: { (first second third : Self) → is_same first second → is_same second third → is_same first third };
 }
 
 /// Where the threads of sets pass, by the numbers of a set, a link and a user: a test may hold them up there, so as to

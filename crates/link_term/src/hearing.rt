@@ -39,6 +39,7 @@ pub(crate) fn mark<D: Door>(
         (D.made door.new) (D.faults door.old) (D.faults door.new) inside.new }
     ensures at { D.number door.new ≡ inside.new.link }
     ensures number { D.number door.new ≡ D.number door.old }
+    ensures door { D.is_same door.old door.new }
 {
     match kind {
         MarkKind::Good => match &read(octets) {
@@ -56,6 +57,7 @@ fn damaged<D: Door>(inside: &mut Inside, door: &mut D) -> Result<(), SetFault>
         (D.faults door.old) (D.faults door.new) inside.new }
     ensures at { D.number door.new ≡ inside.new.link }
     ensures number { D.number door.new ≡ D.number door.old }
+    ensures door { D.is_same door.old door.new }
 {
     judge(inside, door, true)
 }
@@ -67,6 +69,7 @@ fn readable<D: Door>(inside: &mut Inside, door: &mut D, unit: &Unit) -> Result<(
         (D.faults door.old) (D.faults door.new) inside.new }
     ensures at { D.number door.new ≡ inside.new.link }
     ensures number { D.number door.new ≡ D.number door.old }
+    ensures door { D.is_same door.old door.new }
 {
     judge(inside, door, false)?;
     hear(inside, door, unit)
@@ -80,6 +83,7 @@ fn judge<D: Door>(inside: &mut Inside, door: &mut D, error: bool) -> Result<(), 
         (D.faults door.old) (D.faults door.new) inside.new }
     ensures at { D.number door.new ≡ inside.new.link }
     ensures number { D.number door.new ≡ D.number door.old }
+    ensures door { D.is_same door.old door.new }
 {
     match inside.judge(error) {
         Verdict::Fine => Ok(()),
@@ -96,6 +100,7 @@ fn hear<D: Door>(inside: &mut Inside, door: &mut D, unit: &Unit) -> Result<(), S
         (D.faults door.old) (D.faults door.new) inside.new }
     ensures at { D.number door.new ≡ inside.new.link }
     ensures number { D.number door.new ≡ D.number door.old }
+    ensures door { D.is_same door.old door.new }
 {
     input_align(inside, door, AlignIn::Good)?;
     tell_machines(inside, door, unit)?;
@@ -109,6 +114,7 @@ fn tell_machines<D: Door>(inside: &mut Inside, door: &mut D, unit: &Unit) -> Res
         (D.made door.new) (D.faults door.old) (D.faults door.new) inside.new }
     ensures at { D.number door.new ≡ inside.new.link }
     ensures number { D.number door.new ≡ D.number door.old }
+    ensures door { D.is_same door.old door.new }
 {
     match unit {
         Unit::Fisu { .. } => input_state(inside, door, StateIn::Fisu),
@@ -124,6 +130,7 @@ fn hear_status<D: Door>(inside: &mut Inside, door: &mut D, status: Status) -> Re
         (D.made door.new) (D.faults door.old) (D.faults door.new) inside.new }
     ensures at { D.number door.new ≡ inside.new.link }
     ensures number { D.number door.new ≡ D.number door.old }
+    ensures door { D.is_same door.old door.new }
 {
     input_align(inside, door, AlignIn::Heard(status))?;
     input_state(inside, door, StateIn::Heard(status))?;
@@ -137,6 +144,7 @@ fn tell_flow<D: Door>(inside: &mut Inside, door: &mut D, status: Status) -> Resu
         (D.faults door.old) (D.faults door.new) inside.new }
     ensures at { D.number door.new ≡ inside.new.link }
     ensures number { D.number door.new ≡ D.number door.old }
+    ensures door { D.is_same door.old door.new }
 {
     match status {
         Status::Busy => input_flow(inside, door, FlowIn::HeardBusy),
@@ -151,6 +159,7 @@ fn tell_set<D: Door>(inside: &mut Inside, door: &mut D, unit: &Unit) -> Result<(
         (D.faults door.old) (D.faults door.new) inside.new }
     ensures at { D.number door.new ≡ inside.new.link }
     ensures number { D.number door.new ≡ D.number door.old }
+    ensures door { D.is_same door.old door.new }
 {
     if inside.is_up() {
         return tell_heard(inside, door, unit);
@@ -165,6 +174,7 @@ fn tell_heard<D: Door>(inside: &mut Inside, door: &mut D, unit: &Unit) -> Result
         (D.faults door.old) (D.faults door.new) inside.new }
     ensures at { D.number door.new ≡ inside.new.link }
     ensures number { D.number door.new ≡ D.number door.old }
+    ensures door { D.is_same door.old door.new }
 {
     let event = Event::Heard {
         link: inside.link(),
@@ -190,6 +200,7 @@ fn report<D: Door>(
         (D.made door.new) (D.faults door.old) (D.faults door.new) inside.new }
     ensures at { D.number door.new ≡ inside.new.link }
     ensures number { D.number door.new ≡ D.number door.old }
+    ensures door { D.is_same door.old door.new }
 {
     match answer {
         Answer::Heard { report } => obey_report(inside, door, *report, bsn),
@@ -215,6 +226,7 @@ fn obey_report<D: Door>(
         (D.made door.new) (D.faults door.old) (D.faults door.new) inside.new }
     ensures at { D.number door.new ≡ inside.new.link }
     ensures number { D.number door.new ≡ D.number door.old }
+    ensures door { D.is_same door.old door.new }
 {
     tell_acks(inside, door, report, bsn)?;
     tell_faults(inside, door, report.fault)
@@ -233,6 +245,7 @@ fn tell_acks<D: Door>(
         (D.made door.new) (D.faults door.old) (D.faults door.new) inside.new }
     ensures at { D.number door.new ≡ inside.new.link }
     ensures number { D.number door.new ≡ D.number door.old }
+    ensures door { D.is_same door.old door.new }
 {
     if report.acked > 0 || report.resend {
         let more = bsn != u16::from(inside.top());
@@ -252,6 +265,7 @@ fn tell_faults<D: Door>(
         (D.faults door.old) (D.faults door.new) inside.new }
     ensures at { D.number door.new ≡ inside.new.link }
     ensures number { D.number door.new ≡ D.number door.old }
+    ensures door { D.is_same door.old door.new }
 {
     match fault {
         None => Ok(()),

@@ -21,6 +21,7 @@ pub(crate) fn ask_up<D: Door>(inside: &mut Inside, door: &mut D) -> Result<(), S
         (D.faults door.old) (D.faults door.new) inside.new }
     ensures at { D.number door.new ≡ inside.new.link }
     ensures number { D.number door.new ≡ D.number door.old }
+    ensures door { D.is_same door.old door.new }
     ensures bits { IfOk result (λ done. inside.new.bits ≡ inside.old.bits) }
 {
     let link = inside.link();
@@ -49,6 +50,7 @@ fn ask_down<D: Door>(inside: &mut Inside, door: &mut D, cause: Cause) -> Result<
         (D.faults door.old) (D.faults door.new) inside.new }
     ensures at { D.number door.new ≡ inside.new.link }
     ensures number { D.number door.new ≡ D.number door.old }
+    ensures door { D.is_same door.old door.new }
     ensures bits { IfOk result (λ done. inside.new.bits ≡ inside.old.bits) }
 {
     let event = down_event(inside);
@@ -68,6 +70,7 @@ pub(crate) fn leave<D: Door>(
         (D.made door.new) (D.faults door.old) (D.faults door.new) inside.new }
     ensures at { D.number door.new ≡ inside.new.link }
     ensures number { D.number door.new ≡ D.number door.old }
+    ensures door { D.is_same door.old door.new }
     ensures bits { IfOk result (λ done. inside.new.bits ≡ inside.old.bits) }
 {
     if inside.is_up() {
@@ -89,6 +92,7 @@ pub(crate) fn input_state<D: Door>(
         (D.faults door.old) (D.faults door.new) inside.new }
     ensures at { D.number door.new ≡ inside.new.link }
     ensures number { D.number door.new ≡ D.number door.old }
+    ensures door { D.is_same door.old door.new }
     ensures bits { IfOk result (λ done. inside.new.bits ≡ inside.old.bits) }
 {
     match inside.state(input) {
@@ -109,6 +113,7 @@ pub(crate) fn input_align<D: Door>(
         (D.faults door.old) (D.faults door.new) inside.new }
     ensures at { D.number door.new ≡ inside.new.link }
     ensures number { D.number door.new ≡ D.number door.old }
+    ensures door { D.is_same door.old door.new }
 {
     match inside.align(input) {
         None => Ok(()),
@@ -128,6 +133,7 @@ pub(crate) fn input_flow<D: Door>(
         (D.faults door.old) (D.faults door.new) inside.new }
     ensures at { D.number door.new ≡ inside.new.link }
     ensures number { D.number door.new ≡ D.number door.old }
+    ensures door { D.is_same door.old door.new }
     ensures bits { IfOk result (λ done. inside.new.bits ≡ inside.old.bits) }
 {
     match inside.control(input) {

@@ -30,6 +30,7 @@ pub(crate) fn obey<D: Door>(inside: &mut Inside, door: &mut D) -> Result<(), Set
         (D.faults door.old) (D.faults door.new) inside.new }
     ensures at { D.number door.new ≡ inside.new.link }
     ensures number { D.number door.new ≡ D.number door.old }
+    ensures door { D.is_same door.old door.new }
 {
     let commands = inside.take_commands();
     obey_given(inside, door, commands)
@@ -47,6 +48,7 @@ fn obey_given<D: Door>(
         (D.made door.new) (D.faults door.old) (D.faults door.new) inside.new }
     ensures at { D.number door.new ≡ inside.new.link }
     ensures number { D.number door.new ≡ D.number door.old }
+    ensures door { D.is_same door.old door.new }
 {
     if commands == Commands::NONE {
         return Ok(());
@@ -66,6 +68,7 @@ fn obey_each<D: Door>(
         (D.made door.new) (D.faults door.old) (D.faults door.new) inside.new }
     ensures at { D.number door.new ≡ inside.new.link }
     ensures number { D.number door.new ≡ D.number door.old }
+    ensures door { D.is_same door.old door.new }
 {
     for command in order {
         obey_if(inside, door, commands, *command)?;
@@ -85,6 +88,7 @@ fn obey_if<D: Door>(
         (D.made door.new) (D.faults door.old) (D.faults door.new) inside.new }
     ensures at { D.number door.new ≡ inside.new.link }
     ensures number { D.number door.new ≡ D.number door.old }
+    ensures door { D.is_same door.old door.new }
 {
     if contains(commands, command) {
         return obey_one(inside, door, command);
@@ -113,6 +117,7 @@ fn obey_one<D: Door>(inside: &mut Inside, door: &mut D, command: Command) -> Res
         (D.faults door.old) (D.faults door.new) inside.new }
     ensures at { D.number door.new ≡ inside.new.link }
     ensures number { D.number door.new ≡ D.number door.old }
+    ensures door { D.is_same door.old door.new }
 {
     match command {
         Command::Emergency => input_align(inside, door, AlignIn::Emergency),

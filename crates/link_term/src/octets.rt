@@ -25,6 +25,7 @@ pub(crate) fn hear_bits<D: Door>(
         (D.faults door.old) (D.faults door.new) inside.new deframer.new }
     ensures at { D.number door.new ≡ inside.new.link }
     ensures number { D.number door.new ≡ D.number door.old }
+    ensures door { D.is_same door.old door.new }
     ensures few { IfOk result (λ counts. (counts.good ≤ length (rest_of rest.old))
         × (counts.bad ≤ length (rest_of rest.old)) × (counts.sixteen ≤ length (rest_of rest.old))) }
 {

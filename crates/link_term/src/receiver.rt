@@ -57,6 +57,7 @@ impl Receiver {
         ensures taken { self.new ≡ self.old ++ octet ∷ [] }
         ensures at { D.number door.new ≡ inside.new.link }
         ensures number { D.number door.new ≡ D.number door.old }
+        ensures door { D.is_same door.old door.new }
     {
         let heard = hear_bits(&mut self.deframer, &mut Rest::new(octet), inside, door);
         self.taken.note(octet);

@@ -85,6 +85,7 @@ impl<D: Door, L: Line, G: Gate> Terminal<D, L, G> {
         ensures fails { OnErr result (self.new.works.failed ≡ true) }
         ensures goes_on { OnOk result (self.new.works.failed ≡ false) }
         ensures number { D.number self.new.door ≡ D.number self.old.door }
+        ensures door { D.is_same self.old.door self.new.door }
         ensures same { L.is_same self.old.line self.new.line }
     {
         self.take_turn()?;
@@ -122,6 +123,7 @@ impl<D: Door, L: Line, G: Gate> Terminal<D, L, G> {
         ensures fails { OnErr result (self.new.works.failed ≡ true) }
         ensures goes_on { OnOk result (self.new.works.failed ≡ false) }
         ensures number { D.number self.new.door ≡ D.number self.old.door }
+        ensures door { D.is_same self.old.door self.new.door }
         ensures same { L.is_same self.old.line self.new.line }
     {
         if self.works.failed {
@@ -167,6 +169,7 @@ impl<D: Door, L: Line, G: Gate> Terminal<D, L, G> {
         ensures fails { OnErr result (self.new.works.failed ≡ true) }
         ensures goes_on { OnOk result (self.new.works.failed ≡ false) }
         ensures number { D.number self.new.door ≡ D.number self.old.door }
+        ensures door { D.is_same self.old.door self.new.door }
         ensures same { L.is_same self.old.line self.new.line }
     {
         if !self.works.failed {

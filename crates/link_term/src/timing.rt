@@ -30,6 +30,7 @@ pub(crate) fn end_timers<D: Door>(inside: &mut Inside, door: &mut D) -> Result<(
         (D.faults door.old) (D.faults door.new) inside.new }
     ensures at { D.number door.new ≡ inside.new.link }
     ensures number { D.number door.new ≡ D.number door.old }
+    ensures door { D.is_same door.old door.new }
 {
     inside.lessen();
     if !inside.has_ended() {
@@ -46,6 +47,7 @@ fn end_each<D: Door>(inside: &mut Inside, door: &mut D, timers: &[Timer]) -> Res
         (D.made door.new) (D.faults door.old) (D.faults door.new) inside.new }
     ensures at { D.number door.new ≡ inside.new.link }
     ensures number { D.number door.new ≡ D.number door.old }
+    ensures door { D.is_same door.old door.new }
 {
     for timer in timers {
         end(inside, door, *timer)?;
@@ -60,6 +62,7 @@ fn end<D: Door>(inside: &mut Inside, door: &mut D, timer: Timer) -> Result<(), S
         (D.faults door.old) (D.faults door.new) inside.new }
     ensures at { D.number door.new ≡ inside.new.link }
     ensures number { D.number door.new ≡ D.number door.old }
+    ensures door { D.is_same door.old door.new }
 {
     if inside.ended(timer) {
         return tell_end(inside, door, timer);
@@ -74,6 +77,7 @@ fn tell_end<D: Door>(inside: &mut Inside, door: &mut D, timer: Timer) -> Result<
         (D.faults door.old) (D.faults door.new) inside.new }
     ensures at { D.number door.new ≡ inside.new.link }
     ensures number { D.number door.new ≡ D.number door.old }
+    ensures door { D.is_same door.old door.new }
 {
     match timer {
         Timer::T1 => input_state(inside, door, StateIn::T1),

@@ -43,6 +43,7 @@ pub(crate) fn take_turn<D: Door, L: Line, T: Tap>(
         (L.put_so_far line.old) (L.put_so_far line.new) inside.new × (tap.new ≡ tap.old)) }
     ensures at { D.number door.new ≡ inside.new.link }
     ensures number { D.number door.new ≡ D.number door.old }
+    ensures door { D.is_same door.old door.new }
     ensures same { L.is_same line.old line.new }
 {
     obey(inside, door)?;
@@ -90,6 +91,7 @@ pub(crate) fn from_octet<D: Door, T: Tap>(
     ensures taken { receiver.new ≡ receiver.old ++ option_to_list octet }
     ensures at { D.number door.new ≡ inside.new.link }
     ensures number { D.number door.new ≡ D.number door.old }
+    ensures door { D.is_same door.old door.new }
 {
     let marks = hear_octet(receiver, inside, door, octet)?;
     end_timers(inside, door)?;
@@ -110,6 +112,7 @@ fn hear_octet<D: Door>(
     ensures taken { receiver.new ≡ receiver.old ++ option_to_list octet }
     ensures at { D.number door.new ≡ inside.new.link }
     ensures number { D.number door.new ≡ D.number door.old }
+    ensures door { D.is_same door.old door.new }
 {
     match octet {
         Some(octet) => receiver.hear(octet, inside, door),

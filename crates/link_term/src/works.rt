@@ -98,6 +98,7 @@ impl Works {
         ensures goes_on { OnOk result (self.new.failed ≡ false) }
         ensures at { D.number door.new ≡ self.new.inside.link }
         ensures number { D.number door.new ≡ D.number door.old }
+        ensures door { D.is_same door.old door.new }
         ensures same { L.is_same line.old line.new }
     {
         self.turn_tapped(door, line, &mut NoTap)
@@ -129,6 +130,7 @@ impl Works {
         ensures goes_on { OnOk result (self.new.failed ≡ false) }
         ensures at { D.number door.new ≡ self.new.inside.link }
         ensures number { D.number door.new ≡ D.number door.old }
+        ensures door { D.is_same door.old door.new }
         ensures same { L.is_same line.old line.new }
     {
         if self.failed {

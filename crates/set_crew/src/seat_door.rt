@@ -62,13 +62,21 @@ impl<'a, C: Opening, M: Ledger, O: Ledger, A: Ledger, R: Wait, G: Gate> SeatDoor
 
 impl<'a, C: Opening, M: Ledger, O: Ledger, A: Ledger, R: Wait, G: Gate> Door
     for SeatDoor<'a, C, M, O, A, R, G> {
+    ghost use Rattle.std.specs.Prelude.{⊤};
     ghost use Rattle.set_crew.specs.Seats.{link_in};
+    ghost use Rattle.std.specs.Prelude.{⊤};
 
     ghost number = { λ door. link_in door.seat.who };
 
     ghost made = { λ door. door.seat.receipts };
 
     ghost faults = { λ door. door.faults };
+
+    ghost is_same = { λ a b. ⊤ };
+
+    ghost same_self = { λ door. tt };
+
+    ghost same_on = { λ first second third a b. tt };
 
     fn link(&self) -> u8 {
         self.seat.link()

@@ -18,11 +18,19 @@ struct FailingDoor {
 }
 
 impl Door for FailingDoor {
+    ghost use Rattle.std.specs.Prelude.{⊤};
+
     ghost number = { λ door. door.door.link };
 
     ghost made = { λ door. door.door.core.history };
 
     ghost faults = { λ door. door.faults };
+
+    ghost is_same = { λ a b. ⊤ };
+
+    ghost same_self = { λ door. tt };
+
+    ghost same_on = { λ first second third a b. tt };
 
     fn link(&self) -> u8 {
         self.door.link()

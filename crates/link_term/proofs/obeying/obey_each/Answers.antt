@@ -18,6 +18,7 @@ loop-command-preserved g c =
     let went = c.in_ok-obey_if.ensures.talks in record {
       at = c.in_ok-obey_if.ensures.at;
       number = c.in_ok-obey_if.ensures.number ∙ c.loop-command.invariant.number;
+      door = g.met.D.Door.same_on _ _ _ c.loop-command.invariant.door c.in_ok-obey_if.ensures.door;
       completes = one_more (obeys_among c.args.commands) c.args.order.now _ _ _ _ _ _ _ _ _ _ _ _
           (drop_more c.args.order.now c.loop-command.command-index Command.Emergency c.loop-command-test.true)
           c.loop-command.invariant.completes went.0 went.1;

@@ -8,6 +8,7 @@ abbrev pub invariant-loop-command : goal.invariant-loop-command
 invariant-loop-command g l = record {
   at : g.D.Door.number l.door ≡ l.inside.link;
   number : g.D.Door.number l.door ≡ g.D.Door.number l.initial.door;
+  door : g.D.Door.is_same l.initial.door l.door;
   completes : Completes (obeys_among l.commands) l.order (drop l.command-index l.order) l.initial.inside l.inside
       (g.D.Door.made l.initial.door) (g.D.Door.made l.door) (g.D.Door.faults l.initial.door) (g.D.Door.faults l.door);
 }

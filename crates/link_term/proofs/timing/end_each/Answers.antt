@@ -18,6 +18,7 @@ loop-timer-preserved g c =
     let went = c.in_ok-end.ensures.talks in record {
       at = c.in_ok-end.ensures.at;
       number = c.in_ok-end.ensures.number ∙ c.loop-timer.invariant.number;
+      door = g.met.D.Door.same_on _ _ _ c.loop-timer.invariant.door c.in_ok-end.ensures.door;
       completes = one_more ends c.args.timers.now _ _ _ _ _ _ _ _ _ _ _ _
           (drop_more c.args.timers.now c.loop-timer.timer-index Timer.T1 c.loop-timer-test.true)
           c.loop-timer.invariant.completes went.0 went.1;

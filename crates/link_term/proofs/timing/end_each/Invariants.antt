@@ -8,6 +8,7 @@ abbrev pub invariant-loop-timer : goal.invariant-loop-timer
 invariant-loop-timer g l = record {
   at : g.D.Door.number l.door ≡ l.inside.link;
   number : g.D.Door.number l.door ≡ g.D.Door.number l.initial.door;
+  door : g.D.Door.is_same l.initial.door l.door;
   completes : Completes ends l.timers (drop l.timer-index l.timers) l.initial.inside l.inside
       (g.D.Door.made l.initial.door) (g.D.Door.made l.door) (g.D.Door.faults l.initial.door) (g.D.Door.faults l.door);
 }

@@ -7,6 +7,7 @@ pub loop-turn-init : goal.loop-turn-init
 loop-turn-init g c = record {
   so = ran_none _ _ _ _ _ refl;
   number = refl;
+  door = g.met.D.Door.same_self _;
   same = g.met.L.Line.same_self _;
   works = search rules;
   no_fault = refl;
@@ -26,6 +27,7 @@ loop-turn-preserved g c =
       so = ran_more _ _ _ _ _ _ _ _ _ _ _ _ _ _ _ so.so once.1
           sums.turns sums.sent sums.good.0 sums.bad.0 sums.sixteen.0;
       number = c.in_ok-take_turn.ensures.number ∙ so.number;
+      door = g.met.D.Door.same_on _ _ _ so.door c.in_ok-take_turn.ensures.door;
       same = g.met.L.Line.same_on _ _ _ so.same c.in_ok-take_turn.ensures.same;
       works = c.in_ok-take_turn.ensures.goes_on;
       no_fault = once.2 ∙ so.no_fault;

@@ -13,6 +13,7 @@ invariant-loop-turn g l = record {
       (seen (g.L.Line.taken_so_far l.self.line) (g.L.Line.waiting l.self.line)
       (g.L.Line.put_so_far l.self.line) (g.L.Line.free l.self.line)) l.report l.self.works.inside;
   number : g.D.Door.number l.self.door ≡ g.D.Door.number l.initial.self.door;
+  door : g.D.Door.is_same l.initial.self.door l.self.door;
   same : g.L.Line.is_same l.initial.self.line l.self.line;
   works : l.self.works.failed ≡ false;
   no_fault : g.D.Door.faults l.self.door ≡ g.D.Door.faults l.initial.self.door;

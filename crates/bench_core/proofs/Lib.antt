@@ -1,0 +1,6 @@
+pub mod TalkLemmas
+pub mod SlotLemmas
+pub mod LinkLemmas
+pub mod BenchLemmas
+pub mod WaitingLemmas
+pub mod HearingLemmas
