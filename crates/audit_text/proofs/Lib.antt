@@ -1,2 +1,3 @@
+mod Courses
+mod Lines
 mod Verdicts
-mod Keeping

@@ -1,16 +1,16 @@
 -- THE TEXT OF `audit`: whether the history that is read is legal, and what it adds up to.
-use Rattle.std.specs.Prelude.{◌≡◌, ◌<◌, ◌≤◌, ℕ, List, [], ◌++◌, length, Option, None, Some, Result, MatchResult, get_or, codes, decimal}
+use Rattle.std.specs.Prelude.{◌≡◌, ◌<◌, ◌≤◌, ℕ, List, [], ◌++◌, length, Option, None, Some, get_or, codes, decimal}
 use Rattle.printing.specs.Printing.{Printed}
-use Rattle.printing.specs.declared.fault.Stop.{Stop}
-use Rattle.printing.specs.declared.fault.Stop.TheVariants.{Input, Memory}
 use Rattle.l2_units.specs.declared.profile.Profile.{Profile}
 use Rattle.set_events.specs.declared.books.Books.{Books}
-use Rattle.set_events.specs.declared.history.Entry.{Entry}
 use Rattle.set_model.specs.State.{State, opened_with}
-use Rattle.set_model.specs.History.{Base, IsLegal, no_books, books_of, longest_history}
+use Rattle.set_model.specs.History.{longest_history}
+use Rattle.history_items.specs.declared.item.Item.{Item}
+use Rattle.history_items.specs.Items.{AreLegal, books_over, entries_among}
 use Rattle.set_events.specs.declared.answer.Answer.{Answer}
 use Rattle.answer_texts.specs.Texts.{answer_text}
 use Rattle.history_audit.specs.FirstWrong.{IsFirstWrong, answer_at}
+use Rattle.history_audit.specs.Hearing.{unasked}
 use Rattle.history_lines.specs.Telling.{Telling, tells, unreadable, history_in}
 use Rattle.audit_text.specs.declared.fault.AuditFault.{AuditFault}
 use Rattle.audit_text.specs.declared.fault.AuditFault.TheVariants.{Text, Illegal, Exhausted}
@@ -24,13 +24,10 @@ books_text calls books =
     ++ (codes " octets=" ++ (decimal books.octets
     ++ (codes " acked=" ++ (decimal books.acknowledged ++ codes "\n")))))))
 
--- a set that nothing was asked of yet
-abbrev pub unasked : State → Base
-unasked opening = record { state = opening; books = no_books }
-
-abbrev pub legal_text : State → List Entry → List ℕ
-legal_text opening entries =
-    codes "legal=yes" ++ books_text (length entries) (books_of (unasked opening) entries)
+-- the books run on over checkpoints
+abbrev pub legal_text : State → List Item → List ℕ
+legal_text opening items =
+    codes "legal=yes" ++ books_text (length (entries_among items)) (books_over (unasked opening) items)
 
 -- what a set answers there, as in a history; nothing to an actor that it hasn't
 abbrev pub there_text : Profile → Option Answer → List ℕ
@@ -53,21 +50,21 @@ refuses profile line answer =
 abbrev pub fails : AuditFault → Printed AuditFault
 fails fault = record { printed = []; fault = Some fault }
 
--- YES exactly where the entries are a legal history of a set that opened so; NO with the line of the first that isn't
+-- YES exactly where the items are a legal history of a set that opened so; NO with the line of the first that isn't
 -- the step's answer, and that answer. No history has more than 2^48 entries.
-pub data IsAudited (opening : State) (entries : List Entry) (lines : List ℕ)
+pub data IsAudited (opening : State) (items : List Item) (lines : List ℕ)
     (text : Printed AuditFault) : Type 0 where
-  legal : length entries ≤ longest_history → IsLegal opening entries
-      → text ≡ says (legal_text opening entries) → IsAudited opening entries lines text
-  wrong : (place : ℕ) → length entries ≤ longest_history → IsFirstWrong opening entries place
-      → text ≡ refuses opening.settings.profile (get_or lines place 0) (answer_at opening entries place)
-      → IsAudited opening entries lines text
-  full : longest_history < length entries → text ≡ fails Exhausted
-      → IsAudited opening entries lines text
+  legal : length (entries_among items) ≤ longest_history → AreLegal opening items
+      → text ≡ says (legal_text opening items) → IsAudited opening items lines text
+  wrong : (place : ℕ) → length (entries_among items) ≤ longest_history → IsFirstWrong opening items place
+      → text ≡ refuses opening.settings.profile (get_or lines place 0) (answer_at opening items place)
+      → IsAudited opening items lines text
+  full : longest_history < length (entries_among items) → text ≡ fails Exhausted
+      → IsAudited opening items lines text
 
 abbrev pub IsAuditOf : Telling → Printed AuditFault → Type 0
 IsAuditOf (unreadable n flaw) text = text ≡ fails (Text n flaw)
-IsAuditOf (tells s entries lines) text = IsAudited (opened_with s) entries lines text
+IsAuditOf (tells s items lines) text = IsAudited (opened_with s) items lines text
 
 -- THE TEXT
 abbrev pub IsAuditText : List ℕ → Printed AuditFault → Type 0
@@ -78,26 +75,6 @@ abbrev pub OneAuditText : Type 0
 OneAuditText =
     (input : List ℕ) (a b : Printed AuditFault) → IsAuditText input a → IsAuditText input b → a ≡ b
 
--- The auditor beside the definition.
-
--- a text and a fault are all that is said
+-- A verdict beside the definition: a text and a fault are all that is said.
 abbrev pub told_of : Verdict → Printed AuditFault
 told_of verdict = record { printed = verdict.text.items; fault = verdict.fault }
-
--- the text of what is said of a history was appended, and it ends so
-pub record Says (IsIt : Printed AuditFault → Type 0) (fault : Option AuditFault)
-    (before after : List ℕ) : Type 0 where
-  pub printed : List ℕ
-  pub added : after ≡ before ++ printed
-  pub said : IsIt (record { printed = printed; fault = fault })
-
--- where memory is wanted nothing was
-abbrev pub Stopped : Stop AuditFault → (Printed AuditFault → Type 0) → List ℕ → List ℕ → Type 0
-Stopped (Input fault) IsIt before after = Says IsIt (Some fault) before after
-Stopped Memory IsIt before after = after ≡ before
-
-abbrev pub IsSaid : Result (Unit {0}) (Stop AuditFault) → (Printed AuditFault → Type 0)
-    → List ℕ → List ℕ → Type 0
-IsSaid result IsIt before after =
-    MatchResult result (λ done. Says IsIt None before after)
-    (λ stop. Stopped stop IsIt before after)

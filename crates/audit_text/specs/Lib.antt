@@ -1,1 +1,2 @@
 pub mod Auditing
+pub mod Reading

@@ -1,19 +1,24 @@
-//! The text of `audit`: a history that is read, wherever it comes from, and whether it's legal.
+//! The text of `audit`: whether a history that is read is legal.
 //!
 //! ```text
-//! octets -> configuration and entries (history_lines) -> the first wrong one (history_audit) -> legal=yes, or legal=no and
-//!     what a set answers there (history_audit)
+//! octets -> a line -> its item (history_lines) -> held against the set (history_audit) -> at the end legal=yes and the
+//!     books, or legal=no and what a set answers at the first wrong entry
 //! ```
 //!
 //! [`audit`] reads a source's history and writes one line about it. `specs/Auditing.antt` is the text: `legal=yes`
-//! exactly where the entries are a legal history, with the books; else the line of the first that isn't what a set
-//! answers then, and its answer there, which is a fault too. [`one_audit_text`] is the law that an input has one text.
+//! exactly where the items are a legal history, with the books; else the line of the first entry that isn't what a set
+//! answers then, and its answer there, which is a fault too. [`one_audit_text`] is the law that an input has one text:
+//! in whatever pieces it's read, the same is said of it.
 //!
-//! The whole input is kept until it has ended, since a line that can't be read at the end makes the text no history.
+//! Each item is heard when its line has ended, and nothing is said before the end, since a line that can't be read
+//! makes the text no history. Neither lines nor entries are kept: what is kept is the line that is being read, and what the
+//! set keeps, which at a checkpoint forgets what is finished. `specs/Reading.antt` says what a reader under way stands
+//! for.
 #![tactic(auto)]
 
-mod auditor;
+mod course;
 mod fault;
+mod reader;
 mod text;
 mod verdict;
 

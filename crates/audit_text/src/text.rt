@@ -3,16 +3,17 @@ ghost use Rattle.std.specs.Prelude.{◌≤◌, ◌^◌, length, IfSome, OnOk};
 ghost use Rattle.printing.specs.Printing.{Prints, FailsByDevices};
 ghost use Rattle.audit_text.specs.Auditing.{IsAuditText, OneAuditText};
 
-use super::auditor::Auditor;
 use super::fault::AuditFault;
-use printing::{Fault, LONGEST_KEPT, Sink, Source, print_all};
+use super::reader::HistoryReader;
+use printing::{Fault, LONGEST_READ, Sink, Source, print_all};
 use std::alloc::Global;
 
 /// Reads the history that the source gives, and writes whether it's legal.
 ///
 /// A line that can't be read is a fault, and nothing is written then; an entry that no set makes is one too, behind the
-/// line that is written about it. An input of more than 2^24 octets ends with [`Fault::Long`],
-/// unless another fault comes before.
+/// line that is written about it. What is kept is one line, what the set keeps, and the books: with checkpoints it
+/// doesn't grow with the input. An input of more than 2^60 octets ends with [`Fault::Long`], unless another fault comes
+/// before.
 pub fn audit<S: Source, W: Sink>(
     alloc: Global,
     source: &mut S,
@@ -20,12 +21,12 @@ pub fn audit<S: Source, W: Sink>(
 ) -> Result<(), Fault<AuditFault>>
     ensures text { IfSome (S.left source.old)
         (λ input. Prints result (IsAuditText input) (W.written sink.old) (W.written sink.new)) }
-    ensures bounded { IfSome (S.left source.old) (λ input. OnOk result (length input ≤ 2 ^ 24)) }
+    ensures bounded { IfSome (S.left source.old) (λ input. OnOk result (length input ≤ 2 ^ 60)) }
     ensures devices { IfSome (S.left source.old)
-        (FailsByDevices (2 ^ 24) result (S.failures source.old) (S.failures source.new)
+        (FailsByDevices (2 ^ 60) result (S.failures source.old) (S.failures source.new)
         (W.failures sink.old) (W.failures sink.new)) }
 {
-    print_all(alloc, Auditor::new(alloc), LONGEST_KEPT, source, sink)
+    print_all(alloc, HistoryReader::new(alloc), LONGEST_READ, source, sink)
 }
 
 /// A law over the definitions alone: an input has one text.

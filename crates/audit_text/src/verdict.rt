@@ -1,19 +1,16 @@
 //! What is said of a history that has ended.
-ghost use Rattle.std.specs.Prelude.{◌≡◌, ◌++◌, ◌<◌, ◌≤◌, [], IfOk, MatchResult, codes, decimal, get_or, length, take};
-ghost use Rattle.set_model.specs.State.{new_state};
-ghost use Rattle.set_model.specs.History.{IsLegal, longest_history};
-ghost use Rattle.history_audit.specs.FirstWrong.{answer_at};
-ghost use Rattle.audit_text.specs.Auditing.{IsAuditText, IsAudited, books_text, legal_text, told_of, there_text, wrong_text};
+ghost use Rattle.std.specs.Prelude.{◌≡◌, ◌++◌, [], IfOk, None, Some, codes, decimal};
+ghost use Rattle.history_lines.specs.Telling.{Told, told_in_all};
+ghost use Rattle.audit_text.specs.Auditing.{IsAuditOf, books_text, there_text, told_of, wrong_text};
+ghost use Rattle.audit_text.specs.Reading.{IsCourse, IsSaidOf, StandsFor};
 
+use super::course::{Course, Stand};
 use super::fault::AuditFault;
-use history_audit::{add_up_books, answer_there, first_wrong};
-use history_lines::read_history;
 use history_text::write_answer;
 use l2_units::Profile;
-use printing::Stop;
-use set_core::SetFault;
-use set_events::{Answer, Books, Entry, SetConfig};
+use set_events::{Answer, Books};
 use std::alloc::{AllocError, Global};
+use text_lines::LineFlaw;
 
 /// What is said of a history: a text, and how it's at fault, if it is.
 #[derive(Drop)]
@@ -22,20 +19,36 @@ pub(crate) struct Verdict {
     pub(crate) fault: Option<AuditFault>,
 }
 
-/// What is said of the history that this text tells.
-pub(crate) fn judge(alloc: Global, input: &[u8]) -> Result<Verdict, AllocError>
-    ensures { IfOk result (λ verdict. IsAuditText input.now (told_of verdict)) }
+/// What is said of what the lines before this one told.
+pub(crate) fn judge(
+    alloc: Global,
+    course: &Option<Course>,
+    number: u64,
+) -> Result<Verdict, AllocError>
+    ensures { (told : Told) → StandsFor told course.now
+        → IfOk result (λ verdict. IsAuditOf (told_in_all number told.settings told) (told_of verdict)) }
 {
-    match read_history(alloc, input) {
-        Ok(history) => judge_entries(alloc, &history.config, &history.entries, &history.lines),
-        Err(Stop::Input(fault)) => Ok(at_fault(
+    match course {
+        Some(course) => judge_course(alloc, course),
+        None => Ok(at_fault(
             alloc,
             AuditFault::Text {
-                line: fault.line,
-                flaw: fault.flaw,
+                line: number,
+                flaw: LineFlaw::Words,
             },
         )),
-        Err(Stop::Memory) => Err(AllocError),
+    }
+}
+
+/// What is said of a history whose configuration was told.
+fn judge_course(alloc: Global, course: &Course) -> Result<Verdict, AllocError>
+    ensures { (told : Told) → IsCourse told course.now
+        → IfOk result (λ verdict. IsSaidOf told (told_of verdict)) }
+{
+    match &course.stand {
+        Stand::Legal => accept(alloc, course.auditor.entries(), &course.auditor.books()),
+        Stand::Wrong { line, answer, .. } => refuse(alloc, course.profile, *line, answer),
+        Stand::Full => Ok(at_fault(alloc, AuditFault::Exhausted)),
     }
 }
 
@@ -50,75 +63,31 @@ fn at_fault(alloc: Global, fault: AuditFault) -> Verdict
     }
 }
 
-/// What is said of a history that was read.
-fn judge_entries(
-    alloc: Global,
-    config: &SetConfig,
-    entries: &[Entry],
-    lines: &[u64],
-) -> Result<Verdict, AllocError>
-    ensures { IfOk result
-        (λ verdict. IsAudited (new_state config.now) entries.now lines.now (told_of verdict)) }
-{
-    match first_wrong(alloc, config, entries) {
-        Ok(Some(place)) => refuse(alloc, config, entries, lines, place),
-        Ok(None) => accept(alloc, config, entries),
-        Err(SetFault::NoMemory) => Err(AllocError),
-        Err(SetFault::Exhausted) => Ok(at_fault(alloc, AuditFault::Exhausted)),
-    }
-}
-
-/// What is said of a history whose entry at this place is the first wrong one.
-fn refuse(
-    alloc: Global,
-    config: &SetConfig,
-    entries: &[Entry],
-    lines: &[u64],
-    place: usize,
-) -> Result<Verdict, AllocError>
-    requires within { place < length entries.now }
-    requires legal { IsLegal (new_state config.now) (take place entries.now) }
-    requires few { length entries.now ≤ longest_history }
-    ensures text { IfOk result (λ verdict. verdict.text.items ≡
-        wrong_text config.now.profile (get_or lines.now place 0) (answer_at (new_state config.now) entries.now place)) }
-    ensures fault { IfOk result (λ verdict.
-        verdict.fault ≡ Some (AuditFault.Illegal (get_or lines.now place 0))) }
-{
-    let line = line_at(lines, place);
-    match answer_there(alloc, config, entries, place) {
-        Ok(answer) => Ok(Verdict {
-            text: write_wrong(alloc, config.profile(), line, &answer)?,
-            fault: Some(AuditFault::Illegal { line }),
-        }),
-        Err(_) => Err(AllocError),
-    }
-}
-
 /// What is said of a legal history.
-fn accept(alloc: Global, config: &SetConfig, entries: &[Entry]) -> Result<Verdict, AllocError>
-    requires legal { IsLegal (new_state config.now) entries.now }
-    requires few { length entries.now ≤ longest_history }
-    ensures text { IfOk result
-        (λ verdict. verdict.text.items ≡ legal_text (new_state config.now) entries.now) }
+fn accept(alloc: Global, calls: u64, books: &Books) -> Result<Verdict, AllocError>
+    ensures text { IfOk result (λ verdict. verdict.text.items ≡ codes "legal=yes" ++ books_text calls books.now) }
     ensures fault { IfOk result (λ verdict. verdict.fault ≡ None) }
 {
-    match add_up_books(alloc, config, entries) {
-        Ok(books) => Ok(Verdict {
-            text: write_legal(alloc, entries.len() as u64, &books)?,
-            fault: None,
-        }),
-        Err(_) => Err(AllocError),
-    }
+    Ok(Verdict {
+        text: write_legal(alloc, calls, books)?,
+        fault: None,
+    })
 }
 
-/// The line number at this place; past the last one 0.
-fn line_at(lines: &[u64], place: usize) -> u64
-    ensures { result ≡ get_or lines.now place 0 }
+/// What is said of a history whose first wrong entry stands on this line.
+fn refuse(
+    alloc: Global,
+    profile: Profile,
+    line: u64,
+    answer: &Option<Answer>,
+) -> Result<Verdict, AllocError>
+    ensures text { IfOk result (λ verdict. verdict.text.items ≡ wrong_text profile line answer.now) }
+    ensures fault { IfOk result (λ verdict. verdict.fault ≡ Some (AuditFault.Illegal line)) }
 {
-    match lines.get(place) {
-        Some(line) => *line,
-        None => 0,
-    }
+    Ok(Verdict {
+        text: write_wrong(alloc, profile, line, answer)?,
+        fault: Some(AuditFault::Illegal { line }),
+    })
 }
 
 /// Yes, and the books.

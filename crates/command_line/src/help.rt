@@ -88,7 +88,9 @@ lower case with one space between two words:
   .. down L, blind L, noanswer L, restore L, backtimeout L
   .. -> ANSWER        as `mtpbank play` prints it; the octets that were sent stand with their check octets. Where these
                       are wrong, or a number stands in it that no set answers, the line can't be read
-The set is replayed from its opening. It prints one line:
+A line checkpoint between entries says that the set took a checkpoint there: what is finished leaves it, and who looks
+for it is refused 11. So the pieces of a history, each up to its checkpoint, are read one behind another.
+The set is replayed from its opening, an entry as it's read; what is kept is what the set keeps. It prints one line:
   legal=yes calls=N accepted=M octets=O acked=A      every entry is what such a set answers then: there are N, which
                       accepted M messages with O octets in all, of which A are acknowledged
   legal=no line=N -> ANSWER                          the entry on line N, from 1, is the first that isn't: such a set
@@ -101,7 +103,7 @@ with status 1; but for the first, nothing is printed then:
                       space at its end, a tab, a space before it, two spaces
   fault exhausted     there are more than 2^48 entries
   fault read          standard input failed
-  fault long          standard input has more than 2^24 octets
+  fault long          standard input has more than 2^60 octets
   fault write, fault memory
 The status is 0 for legal=yes, and 1 else.";
 

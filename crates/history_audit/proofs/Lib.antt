@@ -1,1 +1,1 @@
-mod There
+mod Heard

@@ -1,1 +1,2 @@
 pub mod FirstWrong
+pub mod Hearing

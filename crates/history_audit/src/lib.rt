@@ -1,10 +1,14 @@
-//! The audit of a history, with the place of the first entry that no set makes, and what a set answers there.
+//! The audit of a history, item by item: the first that no set makes, and what a set answers there; or the books.
 //!
-//! Whether a list of entries is legal is `set_core`'s question, [`set_core::audit`]. A list that goes on from a wrong
-//! entry is wrong too, so the first one is found by halving: a history of n entries is replayed some log n times, and
-//! once where it's legal.
+//! ```text
+//! opening --item--> state --item--> state -- ..      an entry: the set is asked, and its answer compared
+//!                                                    a checkpoint: what is finished leaves the set
+//! ```
+//!
+//! An [`Auditor`] keeps what a set keeps ([`set_core::Core`]) and its books, and no entry: what isn't finished, and of
+//! what was finished since the last checkpoint the fates and bodies. `specs/Hearing.antt` says what it has heard.
 #![tactic(auto)]
 
-mod auditing;
+mod auditor;
 
-pub use auditing::{add_up_books, answer_there, first_wrong};
+pub use auditor::{Auditor, Finding};

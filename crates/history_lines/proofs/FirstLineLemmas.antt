@@ -1,19 +1,17 @@
 -- The first line is read back, word by word.
-use Rattle.std.proofs.Common.{refl, arith, sym, ◌≡◌, ◌∙◌, ap, ap₂, ◌<◌, ◌≤◌, ◌^◌, ◌-◌, ◌+◌, ◌*◌, ◌/◌, ◌%◌, ◌==◌, ◌&&◌, [], ◌∷◌, ◌++◌, length, ℕ, zero, suc, Bool, true, false, List, Option, Some, None, drop, take, decimal, codes, nat_lt, nat_le, if◌then◌else◌, is_none, append-nil}
+use Rattle.std.proofs.Common.{refl, arith, ◌≡◌, ◌∙◌, ap, ◌<◌, ◌≤◌, ◌^◌, ◌+◌, ◌*◌, ◌/◌, ◌%◌, ◌==◌, ◌&&◌, [], ◌∷◌, ◌++◌, length, ℕ, zero, suc, Bool, true, false, List, Option, Some, None, decimal, codes, nat_lt, nat_le, append-nil}
 use Rattle.std.proofs.lemmas.Bool.Decides.{nat_tests}
 use Rattle.std.proofs.lemmas.Fmt.{decimal_is_IsNumeral}
 use Rattle.std.proofs.lemmas.List.{take_all}
 use Rattle.std.proofs.lemmas.Str.Parse.{tells_digits}
 use Rattle.std.specs.Str.Parse.{AllDigits}
-use Rattle.std.specs.Str.{bytes_eq}
-use Rattle.std.specs.Option.{option_map, option_and_then}
 use Rattle.std.specs.List.{position_or_len, before_first, after_first}
-use Rattle.figures.specs.Figures.{number_of, number_below, hex_value, hex_digit, hex_text, octet_of}
+use Rattle.figures.specs.Figures.{number_below, hex_text}
 use Rattle.history_text.specs.Entries.{AreOctets}
-use Rattle.history_text.specs.Reading.{until, behind, is_gap}
+use Rattle.history_text.specs.Reading.{is_gap}
 use Rattle.history_text.proofs.WordLemmas.{passes, until_is, behind_is, until_passed, behind_ended}
-use Rattle.history_text.proofs.FigureLemmas.{number_again, below_again, digit_again, number_is_word, octets_are_word}
-use Rattle.play_script.specs.Script.{is_space, is_colon, first_word, other_words, OpeningWords, opening_words, value_in, links_of, code_of, sio_of, method_of, limits_of, n1_of, n2_of, profile_or_narrow, values_of, fitting, is_end_of, first_line}
+use Rattle.history_text.proofs.FigureLemmas.{below_again, digit_again, number_is_word, octets_are_word}
+use Rattle.play_script.specs.Script.{is_space, is_colon, first_word, other_words, OpeningWords, opening_words, links_of, code_of, sio_of, method_of, n1_of, n2_of, profile_or_narrow, values_of, fitting, first_line}
 use Rattle.play_script.specs.declared.script.Values.{Values}
 use Rattle.set_events.specs.Config.{fault_of}
 use Rattle.l2_units.specs.declared.profile.Profile.{Profile}
@@ -23,7 +21,7 @@ use Rattle.set_events.specs.Method.{is_method, is_limit, most_octets}
 use Rattle.set_events.specs.declared.config.Method.{Method}
 use Rattle.set_events.specs.declared.config.Method.TheVariants.{Basic, Cyclic}
 use Rattle.set_model.specs.State.{Settings}
-use Rattle.history_lines.specs.FirstLine.{method_text, profile_text, settings_text, own_settings, settings_in, SettingsFit, IsReadBack}
+use Rattle.history_lines.specs.FirstLine.{method_text, profile_text, settings_text, own_settings, SettingsFit, IsReadBack}
 
 -- A word that is cut off.
 

@@ -1,2 +1,1 @@
-mod CuttingLemmas
 mod FirstLineLemmas

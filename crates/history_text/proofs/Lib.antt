@@ -1,3 +1,4 @@
 pub mod WordLemmas
 pub mod FigureLemmas
 pub mod ReadingLemmas
+mod ItemLemmas

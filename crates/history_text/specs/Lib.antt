@@ -1,2 +1,3 @@
 pub mod Entries
 pub mod Reading
+pub mod Pieces

@@ -49,11 +49,12 @@ abbrev pub ReadsInput : Words → Type 0
 ReadsInput (Run run) = ⊥
 ReadsInput words = Unit {0}
 
--- the most octets that are read: units and decode keep nothing of them
+-- the most octets that are read: units and decode keep nothing of them, and audit what its set keeps
 abbrev pub longest_of : Words → ℕ
 longest_of Units = 2 ^ 60
 longest_of Decode = 2 ^ 60
 longest_of DecodeWide = 2 ^ 60
+longest_of Audit = 2 ^ 60
 longest_of words = 2 ^ 24
 
 -- the same answer with a fault of that type
