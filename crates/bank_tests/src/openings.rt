@@ -4,7 +4,7 @@ ghost use Rattle.std.specs.Prelude.{◌≡◌};
 use bank_core::{Bank, Job, Plan, SetEnd};
 use line_ring::{Line, LossyLine, RingLine, ring_pair};
 use link_term::{Gate, Timers};
-use set_core::audit_history;
+use set_core::audit_history_from;
 use set_events::{Method, SetConfig};
 use std::alloc::Global;
 use std::sync::Wait;
@@ -32,10 +32,16 @@ const LONG: Timers = Timers {
 
 /// So many turns, and the link that is to fail.
 pub(crate) fn plan_of(turns: u32, fail: Option<u8>) -> Plan {
+    plan_with(turns, fail, None)
+}
+
+/// The same, and after how many of its accepted offers a user takes a checkpoint.
+pub(crate) fn plan_with(turns: u32, fail: Option<u8>, checkpoint: Option<u16>) -> Plan {
     Plan {
         timers: LONG,
         turns: u64::from(turns),
         fail,
+        checkpoint,
     }
 }
 
@@ -210,12 +216,12 @@ pub(crate) fn bank_of(alloc: Global, configs: &[SetConfig], users: u16) -> Resul
     }
 }
 
-/// Each end is that of the set in its place, and its history is legal.
+/// Each end is that of the set in its place, and its history is legal from its base.
 pub(crate) fn are_legal(alloc: Global, configs: &[SetConfig], ends: &[SetEnd]) -> Result<(), Fail> {
     holds(configs.len() == ends.len())?;
     for (config, end) in configs.iter().zip(ends) {
         holds(end.closed.config == *config)?;
-        match audit_history(alloc, config, end.closed.history.reader()) {
+        match audit_history_from(alloc, &end.closed.base, end.closed.history.reader()) {
             Ok(legal) => holds(legal)?,
             Err(_) => return Err(Fail::from("no memory")),
         }

@@ -2,7 +2,7 @@
 
 use super::openings::{
     are_legal, bank_of, configs_of, ends_of, holds, loops_of, offers_of, offers_of_one, placed,
-    plan_of, rings_of, takes_of,
+    plan_of, plan_with, rings_of, takes_of,
 };
 use bank_core::SetEnd;
 use link_term::OpenGate;
@@ -68,6 +68,47 @@ fn four_sets_of_four_links(rt: HostRuntime) -> Result<(), Fail> {
 fn four_sets_of_four_links_by_cycles(rt: HostRuntime) -> Result<(), Fail> {
     let method = Method::Cyclic { n1: 127, n2: 8_000 };
     four_sets(&rt, rt.alloc(), method)
+}
+
+/// The base lies behind the opening, and the history is what came since: the books count both.
+fn is_since_a_checkpoint(end: &SetEnd) -> Result<(), Fail> {
+    let base = &end.closed.base;
+    let books = &end.closed.books;
+    let calls = books
+        .user_calls
+        .iter()
+        .chain(&books.term_calls)
+        .fold(0, |sum: u64, calls| sum.saturating_add(*calls));
+    let since = end.closed.history.len() as u64;
+    holds(base.books().messages > 0 && base.entries().saturating_add(since) == calls)
+}
+
+/// Two sets of two links, each with two users, which take a checkpoint after each ten of their messages.
+fn sets_with_checkpoints<R: Threads + Wait + Copy + Send + Sync + 'static>(
+    rt: &R,
+    alloc: Global,
+) -> Result<(), Fail> {
+    let configs = configs_of(alloc, 2, 2, Method::Basic, 2, 1)?;
+    let ends = ends_of(
+        rt,
+        bank_of(alloc, &configs, 2)?,
+        loops_of(alloc, 2, 2)?,
+        offers_of(alloc, 2, 2, 50)?,
+        OpenGate,
+        plan_with(12_000, None, Some(10)),
+    )?;
+    are_legal(alloc, &configs, &ends)?;
+    for end in ends.iter() {
+        turned(end, 2, 12_000, None)?;
+        accepted(end, 2, 100)?;
+        is_since_a_checkpoint(end)?;
+    }
+    Ok(())
+}
+
+#[test]
+fn users_take_checkpoints(rt: HostRuntime) -> Result<(), Fail> {
+    sets_with_checkpoints(&rt, rt.alloc())
 }
 
 /// Two sets of one link, whose users have different jobs: two users offer 3 messages each, one of two offers 5.

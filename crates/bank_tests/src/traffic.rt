@@ -6,7 +6,7 @@ use arrayvec::ArrayVec;
 use bank_core::SetEnd;
 use l2_units::{LONGEST_BODY, Unit};
 use paced_banks::{Traffic, TrafficEnds, run_traffic};
-use set_core::audit_history;
+use set_core::audit_history_from;
 use set_events::{Answer, Took};
 use set_history::{Asked, Told};
 use std::alloc::Global;
@@ -87,10 +87,10 @@ fn heard_all(end: &SetEnd, messages: u16) -> Result<bool, Fail> {
     Ok(next_heard.numbers == [messages; 4])
 }
 
-/// A legal history, with so many messages accepted, each in one place.
+/// A legal history from the opening, with so many messages accepted, each in one place.
 fn is_sound(alloc: Global, end: &SetEnd, messages: u64) -> Result<(), Fail> {
-    match audit_history(alloc, &end.closed.config, end.closed.history.reader()) {
-        Ok(legal) => holds(legal)?,
+    match audit_history_from(alloc, &end.closed.base, end.closed.history.reader()) {
+        Ok(legal) => holds(legal && end.closed.base.entries() == 0)?,
         Err(_) => return Err(Fail::from("no memory")),
     }
     holds(end.closed.books.messages == messages && placed(end) == messages)

@@ -60,6 +60,7 @@ pub record IsPlan (turns : ℕ) (fail : Option ℕ) (plan : Plan) : Type 0 where
   pub timers_are : plan.timers ≡ timers
   pub turns_are : plan.turns ≡ turns
   pub fail_is : plan.fail ≡ fail
+  pub checkpoint_is : plan.checkpoint ≡ None
 
 -- the same for each of so many sets
 abbrev pub each_set : {X : Type 0} → ℕ → X → List X

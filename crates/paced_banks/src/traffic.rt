@@ -186,6 +186,7 @@ fn plan_of(traffic: &Traffic, fail: Option<u8>) -> Plan
         timers: TIMERS,
         turns: traffic.turns,
         fail,
+        checkpoint: None,
     }
 }
 

@@ -6,7 +6,7 @@ ghost use Rattle.run_text.specs.RunText.{end_totals};
 ghost use Rattle.run_text.specs.Running.{IsAnEnd};
 
 use bank_core::{SetEnd, SetTotals};
-use set_core::audit_history;
+use set_core::audit_history_from;
 use set_events::Counts;
 use std::alloc::{AllocError, Global};
 
@@ -32,7 +32,7 @@ fn add_up_end(alloc: Global, end: &SetEnd) -> Result<SetTotals, AllocError>
     ensures small { IfOk result IsInRange }
 {
     let closed = &end.closed;
-    let Ok(legal) = audit_history(alloc, &closed.config, closed.history.reader()) else {
+    let Ok(legal) = audit_history_from(alloc, &closed.base, closed.history.reader()) else {
         return Err(AllocError);
     };
     Ok(SetTotals {

@@ -4,6 +4,8 @@
 #![tactic(auto)]
 
 #[cfg(test)]
+mod checkpoints;
+#[cfg(test)]
 mod ends;
 #[cfg(test)]
 mod openings;

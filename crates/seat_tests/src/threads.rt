@@ -162,6 +162,8 @@ fn adds_up(closed: &Closed) -> bool {
         && closed.books.messages == 400
         && closed.books.octets == 2000
         && closed.history.len() == 1205
+        && closed.base.entries() == 0
+        && closed.base.books().messages == 0
 }
 
 fn ends_well(closed: Option<Closed>) -> bool {

@@ -264,11 +264,12 @@ impl SetCore {
         self.history.reader()
     }
 
-    /// All that was asked and answered since the base, in order, of a set that is given up. It takes no memory.
-    pub fn into_history(self) -> History
-        ensures { result.items ≡ self.history }
+    /// The base, and all that was asked and answered since, in order, of a set that is given up. It takes no memory.
+    pub fn into_base_and_history(self) -> (Base, History)
+        ensures base { result.0 ≡ self.base }
+        ensures history { result.1.items ≡ self.history }
     {
-        self.history
+        (self.base, self.history)
     }
 
     /// A law: the history is legal, and what the set holds is what it leads to. To contracts it is that by

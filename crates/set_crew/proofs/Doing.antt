@@ -5,6 +5,7 @@ use Rattle.std.specs.List.{AllZip}
 use Rattle.std.proofs.lemmas.List.{length-append, length-map, map-append}
 use Rattle.std.proofs.lemmas.Bool.{cases_lt}
 use Rattle.std.proofs.lemmas.List.Elements.{All-head, All-tail}
+use Rattle.set_events.specs.declared.books.Books.{Books}
 use Rattle.set_events.specs.declared.event.Actor.{Actor}
 use Rattle.set_events.specs.declared.event.Actor.TheVariants.{User, Terminal}
 use Rattle.set_events.specs.declared.history.Entry.{Entry}
@@ -20,6 +21,7 @@ use Rattle.term_model.specs.declared.report.TermReport.{TermReport}
 use Rattle.set_crew.specs.declared.user.JobOf.{JobOf}
 use Rattle.set_crew.specs.Jobs.{DidJobs, Does, Duty, duty_of, first_or, no_duty}
 use Rattle.set_crew.specs.Keeping.{AreJobs, AreKept, AreNew, AreShifts, KeepsJob, KeepsShift}
+use Rattle.set_crew.specs.Seats.{AreCalls}
 use Rattle.set_crew.specs.Shifts.{DidShifts, DoesShift}
 use Rattle.set_crew.proofs.Taking.{drop_one, one_dropped, taken}
 
@@ -83,22 +85,26 @@ started_user all ps ps' p n n' seats seats' seat jobs jobs' next job none are is
       next_is,
     )
 
--- WHAT CAME OF THEM, in the history.
-did_one : (user number : ℕ) (who : Actor) (duty duty' : Duty) (told : Result (Unit {0}) UserFault) (made history : List Entry) → number ≡ user → who ≡ User number → duty ≡ duty' → made ≡ filter (is_by who) history
-    → Does (User number) duty told [] made → Does (User user) duty' told [] (filter (is_by (User user)) history)
-did_one user number who duty duty' told made history same is duties faithful does =
-    subst (λ (n : ℕ). Does (User n) duty' told [] (filter (is_by (User n)) history)) same
-    (subst (λ (d : Duty). Does (User number) d told [] (filter (is_by (User number)) history)) duties
-    (subst (λ (entries : List Entry). Does (User number) duty told [] entries) (faithful ∙ ap (λ (w : Actor). filter (is_by w) history) is) does))
+-- WHAT CAME OF THEM, in the history: a seat's calls are those before the base, and then those of the history.
+all_calls : (who : Actor) (seat : SeatState) (books : Books) (history : List Entry) → seat.who ≡ who → IsFaithful books history seat → AreCalls who books history seat.receipts
+all_calls who seat books history same is = subst (λ (w : Actor). AreCalls w books history seat.receipts) same is
 
-pub did_jobs : (user : ℕ) (jobs : List Duty) (ps : List JobOf) (ends : List (Ended SeatState (Result (Unit {0}) UserFault))) (history : List Entry) → AreJobs user jobs ps → AllZip KeepsJob ps ends
-    → All (IsFaithful history) (map (λ (end : Ended SeatState (Result (Unit {0}) UserFault)). end.seat) ends) → DidJobs user jobs (map (λ (end : Ended SeatState (Result (Unit {0}) UserFault)). end.told) ends) history
-did_jobs user jobs [] [] history are each faithful = tt
-did_jobs user jobs [] (end ∷ ends) history are each faithful = absurd each
-did_jobs user jobs (p ∷ ps) [] history are each faithful = absurd each
-did_jobs user jobs (p ∷ ps) (end ∷ ends) history are each faithful = (
-  did_one user p.user end.seat.who (duty_of p.job.value) (first_or no_duty jobs) end.told end.seat.receipts history are.0.0 each.0.0 are.0.1 (All-head (IsFaithful history) end.seat _ faithful) each.0.1,
-  did_jobs (suc user) (drop 1 jobs) ps ends history are.1 each.1 (All-tail (IsFaithful history) end.seat _ faithful),
+did_one : (user number : ℕ) (seat : SeatState) (duty duty' : Duty) (told : Result (Unit {0}) UserFault) (books : Books) (history : List Entry) → number ≡ user → seat.who ≡ User number → duty ≡ duty' → IsFaithful books history seat
+    → Does (User number) duty told [] seat.receipts → (calls : List Entry) × AreCalls (User user) books history calls × Does (User user) duty' told [] calls
+did_one user number seat duty duty' told books history same is duties faithful does = (
+  seat.receipts,
+  all_calls (User user) seat books history (is ∙ ap User same) faithful,
+  subst (λ (n : ℕ). Does (User n) duty' told [] seat.receipts) same (subst (λ (d : Duty). Does (User number) d told [] seat.receipts) duties does),
+)
+
+pub did_jobs : (user : ℕ) (jobs : List Duty) (ps : List JobOf) (ends : List (Ended SeatState (Result (Unit {0}) UserFault))) (books : Books) (history : List Entry) → AreJobs user jobs ps → AllZip KeepsJob ps ends
+    → All (IsFaithful books history) (map (λ (end : Ended SeatState (Result (Unit {0}) UserFault)). end.seat) ends) → DidJobs user jobs (map (λ (end : Ended SeatState (Result (Unit {0}) UserFault)). end.told) ends) books history
+did_jobs user jobs [] [] books history are each faithful = tt
+did_jobs user jobs [] (end ∷ ends) books history are each faithful = absurd each
+did_jobs user jobs (p ∷ ps) [] books history are each faithful = absurd each
+did_jobs user jobs (p ∷ ps) (end ∷ ends) books history are each faithful = (
+  did_one user p.user end.seat (duty_of p.job.value) (first_or no_duty jobs) end.told books history are.0.0 each.0.0 are.0.1 (All-head (IsFaithful books history) end.seat _ faithful) each.0.1,
+  did_jobs (suc user) (drop 1 jobs) ps ends books history are.1 each.1 (All-tail (IsFaithful books history) end.seat _ faithful),
 )
 
 -- as many were waited for as were started
@@ -131,38 +137,38 @@ started_terminal plan ps ps' p n n' seats seats' seat are is are_shifts many mor
     )
 
 -- WHAT CAME OF THE TERMINALS, in the history.
-did_turns : (link number : ℕ) (who : Actor) (plan plan' : Plan) (told : Result TermReport TermFault) (made history : List Entry) → number ≡ link → who ≡ Terminal number → plan ≡ plan' → made ≡ filter (is_by who) history
-    → DoesShift plan number told made → DoesShift plan' link told (filter (is_by (Terminal link)) history)
-did_turns link number who plan plan' told made history same is plans faithful does =
-    subst (λ (n : ℕ). DoesShift plan' n told (filter (is_by (Terminal n)) history)) same
-    (subst (λ (p : Plan). DoesShift p number told (filter (is_by (Terminal number)) history)) plans
-    (subst (λ (entries : List Entry). DoesShift plan number told entries) (faithful ∙ ap (λ (w : Actor). filter (is_by w) history) is) does))
+did_turns : (link number : ℕ) (seat : SeatState) (plan plan' : Plan) (told : Result TermReport TermFault) (books : Books) (history : List Entry) → number ≡ link → seat.who ≡ Terminal number → plan ≡ plan' → IsFaithful books history seat
+    → DoesShift plan number told seat.receipts → (calls : List Entry) × AreCalls (Terminal link) books history calls × DoesShift plan' link told calls
+did_turns link number seat plan plan' told books history same is plans faithful does = (
+  seat.receipts,
+  all_calls (Terminal link) seat books history (is ∙ ap Terminal same) faithful,
+  subst (λ (n : ℕ). DoesShift plan' n told seat.receipts) same (subst (λ (p : Plan). DoesShift p number told seat.receipts) plans does),
+)
 
-pub did_shifts : (link : ℕ) (plan : Plan) (ps : List ShiftOf) (ends : List (Ended SeatState (Result TermReport TermFault))) (idle : List SeatState) (history : List Entry) → AreShifts link plan ps → AllZip KeepsShift ps ends
-    → All (IsFaithful history) (map (λ (end : Ended SeatState (Result TermReport TermFault)). end.seat) ends ++ idle)
-    → DidShifts link plan (map (λ (end : Ended SeatState (Result TermReport TermFault)). end.told) ends) history × All (IsFaithful history) idle
-did_shifts link plan [] [] idle history are each faithful = (tt, faithful)
-did_shifts link plan [] (end ∷ ends) idle history are each faithful = absurd each
-did_shifts link plan (p ∷ ps) [] idle history are each faithful = absurd each
-did_shifts link plan (p ∷ ps) (end ∷ ends) idle history are each faithful =
-    let later = did_shifts (suc link) plan ps ends idle history are.1 each.1 (All-tail (IsFaithful history) end.seat _ faithful) in (
+pub did_shifts : (link : ℕ) (plan : Plan) (ps : List ShiftOf) (ends : List (Ended SeatState (Result TermReport TermFault))) (idle : List SeatState) (books : Books) (history : List Entry) → AreShifts link plan ps → AllZip KeepsShift ps ends
+    → All (IsFaithful books history) (map (λ (end : Ended SeatState (Result TermReport TermFault)). end.seat) ends ++ idle)
+    → DidShifts link plan (map (λ (end : Ended SeatState (Result TermReport TermFault)). end.told) ends) books history × All (IsFaithful books history) idle
+did_shifts link plan [] [] idle books history are each faithful = (tt, faithful)
+did_shifts link plan [] (end ∷ ends) idle books history are each faithful = absurd each
+did_shifts link plan (p ∷ ps) [] idle books history are each faithful = absurd each
+did_shifts link plan (p ∷ ps) (end ∷ ends) idle books history are each faithful =
+    let later = did_shifts (suc link) plan ps ends idle books history are.1 each.1 (All-tail (IsFaithful books history) end.seat _ faithful) in (
       (
-        did_turns link p.link end.seat.who p.plan plan end.told end.seat.receipts history are.0.0 each.0.0 are.0.1 (All-head (IsFaithful history) end.seat _ faithful) each.0.1,
+        did_turns link p.link end.seat p.plan plan end.told books history are.0.0 each.0.0 are.0.1 (All-head (IsFaithful books history) end.seat _ faithful) each.0.1,
         later.0,
       ),
       later.1,
     )
 
 -- and of those that have no line
-pub asked_nothing : (n link : ℕ) (seats : List SeatState) (history : List Entry) → AreNew Terminal n seats → All (IsFaithful history) seats
-    → n ≤ link → link < n + length seats → filter (is_by (Terminal link)) history ≡ []
-asked_nothing n link [] history new faithful from to = absurd (omega (arith, from, to))
-asked_nothing n link (seat ∷ seats) history new faithful from to = elim (cases_lt n link) [
+pub asked_nothing : (n link : ℕ) (seats : List SeatState) (books : Books) (history : List Entry) → AreNew Terminal n seats → All (IsFaithful books history) seats
+    → n ≤ link → link < n + length seats → AreCalls (Terminal link) books history []
+asked_nothing n link [] books history new faithful from to = absurd (omega (arith, from, to))
+asked_nothing n link (seat ∷ seats) books history new faithful from to = elim (cases_lt n link) [
   | inl later ↦
-      asked_nothing (suc n) link seats history new.1 (All-tail (IsFaithful history) seat seats faithful) (omega (arith, later)) (omega (arith, to))
+      asked_nothing (suc n) link seats books history new.1 (All-tail (IsFaithful books history) seat seats faithful) (omega (arith, later)) (omega (arith, to))
   | inr here ↦
       let same : n ≡ link = omega (arith, from, here) in
-      let mine = All-head (IsFaithful history) seat seats faithful in
-      ap (λ (k : ℕ). filter (is_by (Terminal k)) history) (sym same) ∙ ap (λ (w : Actor). filter (is_by w) history) (sym (ap (λ (s : SeatState). s.who) new.0))
-      ∙ sym mine ∙ ap (λ (s : SeatState). s.receipts) new.0
+      subst (AreCalls (Terminal link) books history) (ap (λ (s : SeatState). s.receipts) new.0)
+      (all_calls (Terminal link) seat books history (ap (λ (s : SeatState). s.who) new.0 ∙ ap Terminal same) (All-head (IsFaithful books history) seat seats faithful))
 ]

@@ -1,19 +1,21 @@
 -- WHAT A USER DOES, as the entries that its calls leave in the set's history.
-use Rattle.std.specs.Prelude.{◌≡◌, ℕ, zero, suc, List, [], ◌∷◌, ◌++◌, map, drop, filter, Option, None, Some, MatchOption, Result, Ok, Err}
+use Rattle.std.specs.Prelude.{◌≡◌, ℕ, zero, suc, List, [], ◌∷◌, ◌++◌, map, drop, Option, None, Some, MatchOption, Result, Ok, Err}
 use Rattle.set_events.specs.declared.answer.Answer.{Answer}
-use Rattle.set_events.specs.declared.answer.Answer.TheVariants.{Accepted, Found}
+use Rattle.set_events.specs.declared.answer.Answer.TheVariants.{Accepted, Found, Refused}
 use Rattle.set_events.specs.declared.event.Actor.{Actor}
 use Rattle.set_events.specs.declared.event.Actor.TheVariants.{User}
 use Rattle.set_events.specs.declared.event.Event.{Event}
 use Rattle.set_events.specs.declared.event.Event.TheVariants.{Offer, Take as TakeOne, Find}
 use Rattle.set_events.specs.declared.fault.SetFault.{SetFault}
 use Rattle.set_events.specs.declared.history.Entry.{Entry}
-use Rattle.set_ledger.specs.Ending.{is_by}
+use Rattle.set_events.specs.declared.answer.Refusal.TheVariants.{Finished}
+use Rattle.set_events.specs.declared.books.Books.{Books}
 use Rattle.set_crew.specs.declared.plan.Job.{Job}
 use Rattle.set_crew.specs.declared.plan.Job.TheVariants.{Offer as OfferAll, Take}
 use Rattle.set_crew.specs.declared.fault.UserFault.{UserFault}
 use Rattle.set_crew.specs.declared.fault.UserFault.TheVariants.{NotFound}
 use Rattle.set_crew.specs.Faults.{fault_of}
+use Rattle.set_crew.specs.Seats.{AreCalls}
 
 -- WHAT IS DONE at a seat: how it ends, and the entries before it and after it
 abbrev pub Deed : Type 1
@@ -38,9 +40,10 @@ Calls who event (Ok answer) before after =
     after ≡ before ++ record { who = who; event = event; answer = answer } ∷ []
 Calls who event (Err fault) before after = after ≡ before
 
--- a message that was accepted is there
+-- a message that was accepted is there, or is finished and left at a checkpoint
 abbrev pub end_of_find : Result Answer SetFault → Result (Unit {0}) UserFault
 end_of_find (Ok (Found fate)) = Ok tt
+end_of_find (Ok (Refused Finished)) = Ok tt
 end_of_find (Ok answer) = Err NotFound
 end_of_find (Err fault) = Err (fault_of fault)
 
@@ -106,8 +109,8 @@ first_or none [] = none
 first_or none (x ∷ xs) = x
 
 -- THE USERS, from this number on, each did its own job, and nothing else
-abbrev pub DidJobs : ℕ → List Duty → List (Result (Unit {0}) UserFault) → List Entry → Type 0
-DidJobs user jobs [] history = Unit {0}
-DidJobs user jobs (ended ∷ more) history =
-    Does (User user) (first_or no_duty jobs) ended [] (filter (is_by (User user)) history)
-    × DidJobs (suc user) (drop 1 jobs) more history
+abbrev pub DidJobs : ℕ → List Duty → List (Result (Unit {0}) UserFault) → Books → List Entry → Type 0
+DidJobs user jobs [] books history = Unit {0}
+DidJobs user jobs (ended ∷ more) books history =
+    ((calls : List Entry) × AreCalls (User user) books history calls × Does (User user) (first_or no_duty jobs) ended [] calls)
+    × DidJobs (suc user) (drop 1 jobs) more books history

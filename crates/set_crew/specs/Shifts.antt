@@ -1,5 +1,6 @@
 -- WHAT A TERMINAL DOES, turn by turn, as the entries that it leaves in the set's history.
-use Rattle.std.specs.Prelude.{◌≡◌, ◌==◌, ◌<◌, ◌≤◌, ◌+◌, ◌-◌, ◌/◌, ◌^◌, ℕ, suc, min, filter, Bool, true, false, List, [], ◌∷◌, Option, None, Some, Result, Ok, Err, MatchResult}
+use Rattle.std.specs.Prelude.{◌≡◌, ◌==◌, ◌<◌, ◌≤◌, ◌+◌, ◌-◌, ◌/◌, ◌^◌, ℕ, suc, min, Bool, true, false, List, [], ◌∷◌, Option, None, Some, Result, Ok, Err, MatchResult}
+use Rattle.set_events.specs.declared.books.Books.{Books}
 use Rattle.set_events.specs.declared.event.Actor.{Actor}
 use Rattle.set_events.specs.declared.fault.SetFault.{SetFault}
 use Rattle.set_events.specs.declared.history.Entry.{Entry}
@@ -7,11 +8,11 @@ use Rattle.term_model.specs.declared.command.Command.TheVariants.{Emergency, Sta
 use Rattle.term_model.specs.declared.report.TermReport.{TermReport}
 use Rattle.term_model.specs.declared.timers.Timers.{Timers}
 use Rattle.term_model.specs.Terminal.{Terminal, opened, told}
-use Rattle.set_ledger.specs.Ending.{is_by}
 use Rattle.link_term.specs.declared.fault.TermFault.{TermFault}
 use Rattle.link_term.specs.Looking.{Seen}
 use Rattle.link_term.specs.Running.{Runs, RunFails}
 use Rattle.set_crew.specs.declared.plan.Plan.{Plan}
+use Rattle.set_crew.specs.Seats.{AreCalls}
 
 -- how a terminal stands: the octets that it took, its inside, its entries, its set's faults, and what it saw of its line
 pub record Standing : Type 0 where
@@ -88,12 +89,13 @@ pub record DoesShift (plan : Plan) (link : ℕ) (ended : Result TermReport TermF
   pub made_is : made ≡ after.made
 
 -- THE TERMINALS, from this link on, each took its own turns, and asked the set nothing else
-abbrev pub DidShifts : ℕ → Plan → List (Result TermReport TermFault) → List Entry → Type 0
-DidShifts link plan [] history = Unit {0}
-DidShifts link plan (ended ∷ more) history =
-    DoesShift plan link ended (filter (is_by (Actor.Terminal link)) history) × DidShifts (suc link) plan more history
+abbrev pub DidShifts : ℕ → Plan → List (Result TermReport TermFault) → Books → List Entry → Type 0
+DidShifts link plan [] books history = Unit {0}
+DidShifts link plan (ended ∷ more) books history =
+    ((calls : List Entry) × AreCalls (Actor.Terminal link) books history calls × DoesShift plan link ended calls)
+    × DidShifts (suc link) plan more books history
 
 -- and those that have no line asked it nothing
-abbrev pub AskNothing : ℕ → ℕ → List Entry → Type 0
-AskNothing lines links history =
-    (link : ℕ) → lines ≤ link → link < links → filter (is_by (Actor.Terminal link)) history ≡ []
+abbrev pub AskNothing : ℕ → ℕ → Books → List Entry → Type 0
+AskNothing lines links books history =
+    (link : ℕ) → lines ≤ link → link < links → AreCalls (Actor.Terminal link) books history []

@@ -7,7 +7,7 @@ use set_shared::Closed;
 /// What a set came to.
 #[derive(Drop)]
 pub struct SetEnd {
-    /// The history, legal for the set's configuration, with its books and counts.
+    /// The base and the history since, legal for the set's configuration, with its books and counts.
     pub closed: Closed,
     /// What the turns of each terminal counted, by the links' numbers, or why they ended early.
     pub reports: Vec<Result<TermReport, TermFault>>,

@@ -137,8 +137,8 @@ fn end_set<C: Opening, M: Ledger, O: Ledger, A: Ledger>(
 ) -> Result<SetEnd, CrewFault>
     ensures closed { (config : SetConfig) → settings_of config ≡ C.settings → IfOk result (IsEndOf config) }
     ensures users { IfOk result (λ end. (end.users.items ≡ gathered.user_ends.items)
-        × All (IsFaithful end.closed.history.items) gathered.users.items) }
-    ensures terminals { IfOk result (λ end. All (IsFaithful end.closed.history.items) gathered.terminals.items) }
+        × All (IsFaithful end.closed.base.books end.closed.history.items) gathered.users.items) }
+    ensures terminals { IfOk result (λ end. All (IsFaithful end.closed.base.books end.closed.history.items) gathered.terminals.items) }
     ensures reports { IfOk result (λ end. end.reports.items ≡ gathered.reports.items) }
 {
     let Gathered {
@@ -162,8 +162,8 @@ fn close<C: Opening, M: Ledger, O: Ledger, A: Ledger>(
     terminals: Vec<TermSeat<C, M, O, A>>,
 ) -> Result<Closed, CrewFault>
     ensures closed { (config : SetConfig) → settings_of config ≡ C.settings → IfOk result (IsClosedAs config) }
-    ensures users { IfOk result (λ closed. All (IsFaithful closed.history.items) users.items) }
-    ensures terminals { IfOk result (λ closed. All (IsFaithful closed.history.items) terminals.items) }
+    ensures users { IfOk result (λ closed. All (IsFaithful closed.base.books closed.history.items) users.items) }
+    ensures terminals { IfOk result (λ closed. All (IsFaithful closed.base.books closed.history.items) terminals.items) }
 {
     match set.close(users, terminals) {
         Ok(closed) => Ok(closed),

@@ -7,8 +7,8 @@ use super::fault::UserFault;
 use super::orders::Orders;
 use super::plan::Job;
 use link_term::Gate;
-use set_events::{Answer, SetFault};
-use set_shared::{LinkSet, Opening, UserSeat};
+use set_events::{Answer, Refusal, SetFault};
+use set_shared::{LinkSet, Opening, Seat, UserSeat};
 use std::snapshot::Snapshot;
 use std::sync::Wait;
 use std::sync::ledger::Ledger;
@@ -93,10 +93,13 @@ fn offer_all<C: Opening, M: Ledger, O: Ledger, A: Ledger, G: Gate, R: Wait>(
     ensures offers { Offers seat.old.who (map (λ body. body.items) bodies.now) result
         seat.old.receipts seat.new.receipts }
 {
+    let mut pauses = Pauses::of(orders.plan.checkpoint);
     for body in bodies {
         if let Err(fault) = offer_one(rt, set, seat, body, orders) {
             return Err(fault);
         }
+        let accepted = seat.share().messages;
+        pause(rt, set, &mut pauses, accepted);
     }
     Ok(())
 }
@@ -146,10 +149,13 @@ fn take_often<C: Opening, M: Ledger, O: Ledger, A: Ledger, G: Gate, R: Wait>(
     ensures who { seat.new.who ≡ seat.old.who }
     ensures takes { Takes seat.old.who times result seat.old.receipts seat.new.receipts }
 {
+    let mut pauses = Pauses::of(orders.plan.checkpoint);
     for _time in 0..times {
         if let Err(fault) = take_one(rt, set, seat, orders) {
             return Err(fault);
         }
+        let asked = seat.share().calls;
+        pause(rt, set, &mut pauses, asked);
     }
     Ok(())
 }
@@ -168,6 +174,44 @@ fn take_one<C: Opening, M: Ledger, O: Ledger, A: Ledger, G: Gate, R: Wait>(
     end_of_call(&set.take(rt, seat))
 }
 
+/// When a user takes checkpoints: each time that so much more was done.
+#[derive(Drop)]
+struct Pauses {
+    every: Option<u16>,
+    /// How much had been done at the last one.
+    last: u64,
+}
+
+impl Pauses {
+    /// After so much each.
+    fn of(every: Option<u16>) -> Pauses {
+        Pauses { every, last: 0 }
+    }
+
+    /// Whether so much is enough for the next one, from which it's counted anew.
+    fn are_due(&mut self, done: u64) -> bool {
+        match self.every {
+            Some(every) if done.saturating_sub(self.last) >= u64::from(every) => {
+                self.last = done;
+                true
+            }
+            _ => false,
+        }
+    }
+}
+
+/// A checkpoint, where one is due when so much is done. Where memory is refused all stays, and the next one makes up for it.
+fn pause<C: Opening, M: Ledger, O: Ledger, A: Ledger, R: Wait>(
+    rt: &R,
+    set: &LinkSet<C, M, O, A>,
+    pauses: &mut Pauses,
+    done: u64,
+) {
+    if pauses.are_due(done) {
+        let _ = set.checkpoint(rt);
+    }
+}
+
 /// The number under which an offer was accepted.
 fn number_of(offered: &Result<Answer, SetFault>) -> Option<u64>
     ensures { result ≡ number_of offered.now }
@@ -178,12 +222,17 @@ fn number_of(offered: &Result<Answer, SetFault>) -> Option<u64>
     }
 }
 
-/// How a user goes on whose message was looked for: one that was accepted is there.
+/// How a user goes on whose message was looked for: one that was accepted is there, or left at a checkpoint.
 fn end_of_find(found: &Result<Answer, SetFault>) -> Result<(), UserFault>
     ensures { result ≡ end_of_find found.now }
 {
     match found {
         Ok(Answer::Found { .. }) => Ok(()),
+        Ok(
+            Answer::Refused {
+                why: Refusal::Finished,
+            },
+        ) => Ok(()),
         Ok(_) => Err(UserFault::NotFound),
         Err(fault) => Err(UserFault::from(*fault)),
     }

@@ -9,7 +9,9 @@ use Rattle.set_events.specs.declared.books.Books.{Books}
 use Rattle.set_events.specs.declared.event.Actor.TheVariants.{User, Terminal}
 use Rattle.set_events.specs.declared.history.Entry.{Entry}
 use Rattle.set_model.specs.Checkpoint.{counts_in}
+use Rattle.set_core.specs.Gaining.{AreBounded}
 use Rattle.set_model.specs.History.{LinkSet, IsLegal, after, books_of}
+use Rattle.set_model.specs.Rows.{total_of}
 use Rattle.set_ledger.specs.declared.share.SeatShare.{SeatShare}
 use Rattle.set_ledger.specs.Seats.{SeatState, Returns}
 use Rattle.set_ledger.specs.Ending.{are_seats, is_complete, AreFaithful, IsClosed, IsMerged}
@@ -36,8 +38,8 @@ complete_lengths users links us ts e =
 pub complete_as : (users links : ℕ) (us us' ts ts' : List SeatState) (told is : Bool) → told ≡ is_complete users links us' ts' → us' ≡ us → ts' ≡ ts → told ≡ is → is_complete users links us ts ≡ is
 complete_as users links us us' ts ts' told is e same_users same_terms answer = ap (is_complete users links us) (sym same_terms) ∙ ap (λ (seats : List SeatState). is_complete users links seats ts') (sym same_users) ∙ sym e ∙ answer
 
-pub faithful_as : (history : List Entry) (us us' ts ts' : List SeatState) (told : Bool) → (IsTrue told ↔ AreFaithful history us' ts') → us' ≡ us → ts' ≡ ts → (IsTrue told ↔ AreFaithful history us ts)
-faithful_as history us us' ts ts' told way same_users same_terms = subst (λ (seats : List SeatState). IsTrue told ↔ AreFaithful history us seats) same_terms (subst (λ (seats : List SeatState). IsTrue told ↔ AreFaithful history seats ts') same_users way)
+pub faithful_as : (before : Books) (history : List Entry) (us us' ts ts' : List SeatState) (told : Bool) → (IsTrue told ↔ AreFaithful before history us' ts') → us' ≡ us → ts' ≡ ts → (IsTrue told ↔ AreFaithful before history us ts)
+faithful_as before history us us' ts ts' told way same_users same_terms = subst (λ (seats : List SeatState). IsTrue told ↔ AreFaithful before history us seats) same_terms (subst (λ (seats : List SeatState). IsTrue told ↔ AreFaithful before history seats ts') same_users way)
 
 -- one seat more gave back its part
 pub merged_more : (number : SeatShare → ℕ) (seats : List SeatState) (seat : SeatState) (parts amount parts' amount' parts'' amount'' : ℕ) → IsMerged number seats parts amount parts' amount' → Returns parts' amount' (number seat.share) parts'' amount'' → IsMerged number (seats ++ seat ∷ []) parts amount parts'' amount''
@@ -73,14 +75,16 @@ whole_sums number us ts parts amount parts' amount' parts'' amount'' all total n
     let is : amount'' ≡ total = whole (omega (arith, none, parts_first, parts_then, many)) in
     omega (arith, is, amount_first, amount_then, nothing)
 
-pub closes : (us ts : List SeatState) (set : LinkSet) (books : Books) (counts : Counts) (calls messages octets acknowledged : ℕ) → IsLegal set.base.state set.history → set.state ≡ after set.base.state set.history → books ≡ books_of set.base set.history → counts ≡ counts_in set.state → AreFaithful set.history us ts
-    → AreTotals (totals_of calls messages octets acknowledged) set
+pub closes : (us ts : List SeatState) (set : LinkSet) (books : Books) (counts : Counts) (calls messages octets acknowledged : ℕ) → IsLegal set.base.state set.history → set.state ≡ after set.base.state set.history → books ≡ books_of set.base set.history → counts ≡ counts_in set.state → AreFaithful set.base.books set.history us ts
+    → total_of counts ≡ (books_of set.base set.history).messages → AreBounded books → AreTotals (totals_of calls messages octets acknowledged) set
     → calls ≡ sum_by (λ (seat : SeatState). seat.share.calls) us + sum_by (λ (seat : SeatState). seat.share.calls) ts → messages ≡ sum_by (λ (seat : SeatState). seat.share.messages) us → octets ≡ sum_by (λ (seat : SeatState). seat.share.octets) us → acknowledged ≡ sum_by (λ (seat : SeatState). seat.share.acknowledged) ts
     → IsClosed us ts set.base set.history books counts
-closes us ts set books counts calls messages octets acknowledged legal replays books_are counts_are faithful totals c m o a = record {
+closes us ts set books counts calls messages octets acknowledged legal replays books_are counts_are faithful placed bounded totals c m o a = record {
   legal = legal;
   books_are = books_are;
   counts_are = counts_are ∙ ap counts_in replays;
+  placed = placed ∙ sym (ap (λ (b : Books). b.messages) books_are);
+  few = bounded.messages;
   users_faithful = faithful.0;
   terminals_faithful = faithful.1;
   calls = sym totals.calls_is ∙ c;

@@ -1,4 +1,5 @@
 pub mod Closing
+pub mod Receipts
 pub mod Growing
 pub mod Searching
 pub mod Telling

@@ -1,12 +1,13 @@
--- THE END of a set: all its seats are back, and their receipts are its history.
-use Rattle.std.specs.Prelude.{◌≡◌, ◌+◌, ◌==◌, ℕ, zero, suc, Bool, true, false, List, [], ◌∷◌, length, filter, sum_by, All, if◌then◌else◌}
+-- THE END of a set: all its seats are back, and their receipts end with its history.
+use Rattle.std.specs.Prelude.{◌≡◌, ◌≤◌, ◌+◌, ◌==◌, ℕ, zero, suc, Bool, true, false, List, [], ◌∷◌, ◌++◌, length, filter, sum_by, slice_get, unwrap_or, All, if◌then◌else◌}
 use Rattle.set_events.specs.declared.event.Actor.{Actor}
 use Rattle.set_events.specs.declared.event.Actor.TheVariants.{User, Terminal}
 use Rattle.set_events.specs.declared.history.Entry.{Entry}
 use Rattle.set_events.specs.declared.answer.Counts.{Counts}
 use Rattle.set_events.specs.declared.books.Books.{Books}
 use Rattle.set_model.specs.Checkpoint.{counts_in}
-use Rattle.set_model.specs.History.{Base, IsLegal, after, books_of, entries_of, is_user, is_terminal}
+use Rattle.set_model.specs.History.{Base, IsLegal, after, books_of, entries_of, is_user, is_terminal, longest_history}
+use Rattle.set_model.specs.Rows.{total_of}
 use Rattle.set_ledger.specs.declared.share.SeatShare.{SeatShare}
 use Rattle.set_ledger.specs.Seats.{SeatState}
 
@@ -30,15 +31,26 @@ abbrev pub is_complete : ℕ → ℕ → List SeatState → List SeatState → B
 is_complete users links user_seats term_seats =
     if are_seats (λ seat. seat) User users user_seats then are_seats (λ seat. seat) Terminal links term_seats else false
 
--- FAITHFUL: a seat's receipts are its entries of the history, in order.
+-- how many calls of this actor the books count
+abbrev pub calls_at : Actor → Books → ℕ
+calls_at (User number) books = unwrap_or (slice_get books.user_calls number) 0
+calls_at (Terminal link) books = unwrap_or (slice_get books.term_calls link) 0
+
 abbrev pub is_by : Actor → Entry → Bool
 is_by who entry = is_actor who entry.who
 
-abbrev pub IsFaithful : List Entry → SeatState → Type 0
-IsFaithful history seat = seat.receipts ≡ filter (is_by seat.who) history
+-- FAITHFUL, where these are the base's books and this is the history since: a seat's receipts end with its entries of
+-- the history, in order, and as many stand before them as the base's books count.
+pub record EndsWith (receipts : List Entry) (calls : ℕ) (own : List Entry) : Type 0 where
+  pub before : List Entry
+  pub receipts_are : receipts ≡ before ++ own
+  pub all_before : length before ≡ calls
 
-abbrev pub AreFaithful : List Entry → List SeatState → List SeatState → Type 0
-AreFaithful history users terminals = All (IsFaithful history) users × All (IsFaithful history) terminals
+abbrev pub IsFaithful : Books → List Entry → SeatState → Type 0
+IsFaithful books history seat = EndsWith seat.receipts (calls_at seat.who books) (filter (is_by seat.who) history)
+
+abbrev pub AreFaithful : Books → List Entry → List SeatState → List SeatState → Type 0
+AreFaithful books history users terminals = All (IsFaithful books history) users × All (IsFaithful books history) terminals
 
 -- CLOSED: what a set went on from, its history since and its totals, once its seats are back.
 pub record IsClosed (users terminals : List SeatState) (base : Base) (history : List Entry) (books : Books)
@@ -46,8 +58,11 @@ pub record IsClosed (users terminals : List SeatState) (base : Base) (history : 
   pub legal : IsLegal base.state history
   pub books_are : books ≡ books_of base history
   pub counts_are : counts ≡ counts_in (after base.state history)
-  pub users_faithful : All (IsFaithful history) users
-  pub terminals_faithful : All (IsFaithful history) terminals
+  -- each message that was accepted stands, or ended, in one place
+  pub placed : total_of counts ≡ books.messages
+  pub few : books.messages ≤ longest_history
+  pub users_faithful : All (IsFaithful base.books history) users
+  pub terminals_faithful : All (IsFaithful base.books history) terminals
   -- the totals are the sums of the shares
   pub calls : entries_of base history ≡ sum_by (λ (seat : SeatState). seat.share.calls) users
       + sum_by (λ (seat : SeatState). seat.share.calls) terminals

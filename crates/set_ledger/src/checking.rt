@@ -1,11 +1,11 @@
-//! Whether all seats of a set are there, and whether their receipts are its history.
-ghost use Rattle.std.specs.Prelude.{◌≡◌, ◌∷◌, ◌↔◌, IsTrue, All, filter};
+//! Whether all seats of a set are there, and whether their receipts end with its history.
+ghost use Rattle.std.specs.Prelude.{◌≡◌, ◌∷◌, ◌↔◌, IsTrue, All, drop, filter};
 ghost use Rattle.set_events.specs.declared.event.Actor.TheVariants.{User, Terminal};
-ghost use Rattle.set_ledger.specs.Ending.{has_seat, are_seats, is_by, IsFaithful};
+ghost use Rattle.set_ledger.specs.Ending.{has_seat, are_seats, calls_at, is_by, EndsWith, IsFaithful};
 
 use super::opening::Opening;
 use super::seat::{Seat, TermSeat, UserSeat};
-use set_events::Actor;
+use set_events::{Actor, Books};
 use set_history::{Reader, Told};
 use std::sync::ledger::Ledger;
 
@@ -58,23 +58,65 @@ fn has_seat_of<C: Opening, M: Ledger, O: Ledger, A: Ledger, S: Seat<C, M, O, A>>
     false
 }
 
-/// Whether the receipts of each of these seats are its entries of the history, in order.
+/// Whether the receipts of each of these seats end with its entries of the history since a base, in order, and what
+/// stands before them is as many as the base's books say.
 pub(crate) fn are_faithful<C: Opening, M: Ledger, O: Ledger, A: Ledger, S: Seat<C, M, O, A>>(
+    books: &Books,
     history: &Reader<'_>,
     seats: &[S],
 ) -> bool
-    ensures { IsTrue result ↔ All (λ seat. IsFaithful history.now (S.state seat)) seats.now }
+    ensures { IsTrue result ↔ All (λ seat. IsFaithful books.now history.now (S.state seat)) seats.now }
 {
     for seat in seats {
-        if !is_faithful(history.again(), seat.actor(), seat.receipts()) {
+        let who = seat.actor();
+        let calls = count_calls(books, who);
+        if !is_faithful(history.again(), who, seat.receipts(), calls) {
             return false;
         }
     }
     true
 }
 
+/// [`are_faithful`] of the receipts of one seat, whose actor has so many calls before the base.
+fn is_faithful(history: Reader<'_>, who: Actor, receipts: Reader<'_>, calls: u64) -> bool
+    ensures { IsTrue result ↔ EndsWith receipts.entry calls (filter (is_by who) history.entry) }
+{
+    if calls > receipts.len() as u64 {
+        return false;
+    }
+    let mut own = receipts;
+    skip(&mut own, calls);
+    are_all(history, who, own)
+}
+
+/// How many calls of this actor the books count.
+fn count_calls(books: &Books, who: Actor) -> u64
+    ensures { result ≡ calls_at who books.now }
+{
+    let calls = match who {
+        Actor::User(number) => books.user_calls.get(usize::from(number)),
+        Actor::Terminal(link) => books.term_calls.get(usize::from(link)),
+    };
+    match calls {
+        Some(calls) => *calls,
+        None => 0,
+    }
+}
+
+/// Reads past so many entries, or all, where there are fewer.
+fn skip(entries: &mut Reader<'_>, many: u64)
+    ensures { entries.new ≡ drop many entries.old }
+{
+    for _entry in 0..many {
+        if entries.len() == 0 {
+            return;
+        }
+        let _ = entries.next();
+    }
+}
+
 /// Whether these receipts are the entries that this actor has in the history, in order.
-fn is_faithful(history: Reader<'_>, who: Actor, receipts: Reader<'_>) -> bool
+fn are_all(history: Reader<'_>, who: Actor, receipts: Reader<'_>) -> bool
     ensures { IsTrue result ↔ (receipts.entry ≡ filter (is_by who) history.entry) }
 {
     let mut left = history;

@@ -1,13 +1,14 @@
-//! The end of a set: all its seats are back, and their receipts are held against its history.
+//! The end of a set: all its seats are back, and their receipts are held against its base and its history.
 ghost use Rattle.std.specs.Prelude.{◌≡◌, ◌↔◌, true, IsTrue, IfOk, IfErr, OnOk, OnErr, if◌then◌else◌};
-ghost use Rattle.set_model.specs.History.{opening_of};
 ghost use Rattle.set_model.specs.State.{settings_of};
 ghost use Rattle.set_ledger.specs.Ending.{is_complete, AreFaithful, IsClosed, IsMerged};
+ghost use Rattle.set_ledger.specs.Openings.{IsBaseOf};
 
 use super::checking::{are_faithful, are_terminals, are_users};
 use super::held::{Held, Rest};
 use super::opening::Opening;
 use super::seat::{TermSeat, UserSeat};
+use set_core::Base;
 use set_events::{Books, Counts, SetConfig};
 use set_history::History;
 use std::sync::ledger::{Ledger, Share};
@@ -15,11 +16,13 @@ use std::sync::ledger::{Ledger, Share};
 /// A set that came to its end, with its totals.
 #[derive(Drop)]
 pub struct Closed {
-    /// What the set was opened with: its history replays from there.
+    /// What the set was opened with.
     pub config: SetConfig,
-    /// All that was asked and answered, in order.
+    /// What the history replays from: the opening, or the last checkpoint.
+    pub base: Base,
+    /// All that was asked and answered since, in order.
     pub history: History,
-    /// What it adds up to.
+    /// What all that was asked and answered from the opening on adds up to.
     pub books: Books,
     /// How many messages stand in each place.
     pub counts: Counts,
@@ -38,7 +41,7 @@ pub struct Back<C: Opening, M: Ledger, O: Ledger, A: Ledger> {
 pub enum EndFault<C: Opening, M: Ledger, O: Ledger, A: Ledger> {
     /// 1: a seat of the set isn't there. It's tested first.
     Missing(Back<C, M, O, A>),
-    /// 2: the receipts of a seat aren't its entries of the history, in order.
+    /// 2: the receipts of a seat don't end with its entries of the history, or aren't as many as its calls.
     Strange(Back<C, M, O, A>),
 }
 
@@ -56,13 +59,14 @@ impl<C: Opening, M: Ledger, O: Ledger, A: Ledger> EndFault<C, M, O, A> {
 }
 
 impl<C: Opening, M: Ledger, O: Ledger, A: Ledger> Held<C, M, O, A> {
-    /// Ends a set with all its seats: the history is legal, each seat's receipts are its entries in order, and the
-    /// totals are the sums of the shares. The configuration is that which the set was opened with, by the settings of its
-    /// type. It takes no memory.
+    /// Ends a set with all its seats: the history is legal from its base, each seat's receipts end with its entries in
+    /// order, and the totals are the sums of the shares. The configuration is that which the set was opened with, by the
+    /// settings of its type, and the base is one that legal histories lead to from there. It takes no memory.
     ///
     /// Faults, which hand back the set and the seats: 1 [`EndFault::Missing`] exactly where there isn't one seat for
     /// each user and each link of the set and no other; else 2 [`EndFault::Strange`] exactly where the receipts of a
-    /// seat aren't its entries.
+    /// seat don't end with its entries since the base, or what stands before those isn't as many as its calls before
+    /// the base.
     pub fn end(
         self,
         users: Vec<UserSeat<C, M, O, A>>,
@@ -71,9 +75,10 @@ impl<C: Opening, M: Ledger, O: Ledger, A: Ledger> Held<C, M, O, A> {
         ensures complete { OnOk result
             (is_complete self.users self.links users.items terminals.items ≡ true) }
         ensures closed { IfOk result (λ closed.
-            IsClosed users.items terminals.items (opening_of closed.config) closed.history.items
+            IsClosed users.items terminals.items closed.base closed.history.items
             closed.books closed.counts) }
-        ensures config { IfOk result (λ closed. opening_of closed.config ≡ self.set.base) }
+        ensures base { IfOk result (λ closed. closed.base ≡ self.set.base) }
+        ensures opened { IfOk result (λ closed. IsBaseOf C.settings closed.base) }
         ensures opening { IfOk result (λ closed. settings_of closed.config ≡ C.settings) }
         ensures history { IfOk result (λ closed. closed.history.items ≡ self.set.history) }
         ensures back { IfErr result (λ fault. fault ≡
@@ -82,7 +87,7 @@ impl<C: Opening, M: Ledger, O: Ledger, A: Ledger> Held<C, M, O, A> {
             (record { held = self; users = users; terminals = terminals })) }
         ensures strange { OnErr result
             (is_complete self.users self.links users.items terminals.items ≡ true
-            → AreFaithful self.set.history users.items terminals.items → ⊥) }
+            → AreFaithful self.set.base.books self.set.history users.items terminals.items → ⊥) }
     {
         if !self.has_all_seats(&users, &terminals) {
             return Err(EndFault::Missing(Back {
@@ -112,17 +117,19 @@ impl<C: Opening, M: Ledger, O: Ledger, A: Ledger> Held<C, M, O, A> {
         are_users(users, self.users) && are_terminals(terminals, self.links)
     }
 
-    /// Whether the receipts of each seat are its entries of the history, in order.
+    /// Whether the receipts of each seat end with its entries of the history, in order.
     fn are_faithful(
         &self,
         users: &[UserSeat<C, M, O, A>],
         terminals: &[TermSeat<C, M, O, A>],
     ) -> bool
-        ensures { IsTrue result ↔ AreFaithful self.now.set.history users.now terminals.now }
+        ensures { IsTrue result
+            ↔ AreFaithful self.now.set.base.books self.now.set.history users.now terminals.now }
     {
+        let books = self.core.base().books();
         let history = self.core.history();
-        are_faithful::<C, M, O, A, UserSeat<C, M, O, A>>(&history, users)
-            && are_faithful::<C, M, O, A, TermSeat<C, M, O, A>>(&history, terminals)
+        are_faithful::<C, M, O, A, UserSeat<C, M, O, A>>(&books, &history, users)
+            && are_faithful::<C, M, O, A, TermSeat<C, M, O, A>>(&books, &history, terminals)
     }
 
     /// The end of a set whose seats are all there.
@@ -132,10 +139,11 @@ impl<C: Opening, M: Ledger, O: Ledger, A: Ledger> Held<C, M, O, A> {
         terminals: Vec<TermSeat<C, M, O, A>>,
     ) -> Closed
         requires complete { is_complete self.users self.links users.items terminals.items ≡ true }
-        requires faithful { AreFaithful self.set.history users.items terminals.items }
-        ensures closed { IsClosed users.items terminals.items (opening_of result.config)
+        requires faithful { AreFaithful self.set.base.books self.set.history users.items terminals.items }
+        ensures closed { IsClosed users.items terminals.items result.base
             result.history.items result.books result.counts }
-        ensures config { opening_of result.config ≡ self.set.base }
+        ensures base { result.base ≡ self.set.base }
+        ensures opened { IsBaseOf C.settings result.base }
         ensures opening { settings_of result.config ≡ C.settings }
         ensures history { result.history.items ≡ self.set.history }
     {
@@ -165,9 +173,11 @@ impl<C: Opening, M: Ledger, O: Ledger, A: Ledger> Held<C, M, O, A> {
         message_book.audit(&mut messages);
         octet_book.audit(&mut octets);
         acked_book.audit(&mut acknowledged);
+        let (base, history) = core.into_base_and_history();
         Closed {
             config,
-            history: core.into_history(),
+            base,
+            history,
             books,
             counts,
         }

@@ -1,9 +1,9 @@
 //! What stands under the lock of a set: the set, and the books of its ledgers.
-ghost use Rattle.std.specs.Prelude.{◌≡◌, ◌<◌, ◌≤◌, ◌↔◌, ◌⊎◌, IfOk};
+ghost use Rattle.std.specs.Prelude.{◌≡◌, ◌<◌, ◌≤◌, ◌↔◌, ◌⊎◌, IfOk, IfErr, OnOk, OnErr};
 ghost use Rattle.set_events.specs.declared.event.Actor.TheVariants.{User, Terminal};
-ghost use Rattle.set_model.specs.History.{new_set};
+ghost use Rattle.set_model.specs.History.{based, new_set};
 ghost use Rattle.set_model.specs.State.{settings_of};
-ghost use Rattle.set_ledger.specs.Openings.{IsSetOf, opening_with};
+ghost use Rattle.set_ledger.specs.Openings.{IsBaseOf, IsSetOf};
 ghost use Rattle.set_ledger.specs.Seats.{new_seats, no_share};
 ghost use Rattle.set_ledger.specs.Totals.{AreTotals, AreParts, IsRoom, Names};
 
@@ -22,8 +22,8 @@ pub const MOST_USERS: u16 = 64;
 
 /// A set with the books of its ledgers. Contracts see how many users and links have a seat, the books' totals, and the set.
 ///
-/// Of every value it holds that the totals are what the set's history adds up to ([`Held::totals`]), and that this history
-/// is legal for what its type says that it was opened with ([`Held::replays`]).
+/// Of every value it holds that the totals are what the set's history adds up to since its opening ([`Held::totals`]), and
+/// that legal histories lead to its base from what its type says that it was opened with ([`Held::replays`]).
 #[derive(Drop)]
 pub struct Held<C: Opening, M: Ledger, O: Ledger, A: Ledger> {
     pub(crate) core: SetCore,
@@ -42,7 +42,7 @@ impl<C: Opening, M: Ledger, O: Ledger, A: Ledger> Model for Held<C, M, O, A> {
     ghost Value = { HeldState };
 
     ghost use Rattle.std.specs.Prelude.{◌≡◌};
-    ghost use Rattle.set_ledger.specs.Openings.{opening_with};
+    ghost use Rattle.set_ledger.specs.Openings.{IsBaseOf};
     ghost use Rattle.set_ledger.specs.Totals.{AreTotals, AreParts, totals_of};
 
     ghost view = { λ h. record {
@@ -56,7 +56,7 @@ impl<C: Opening, M: Ledger, O: Ledger, A: Ledger> Model for Held<C, M, O, A> {
     ghost invariant = { λ h. AreTotals (totals_of
         h.calls.total h.messages.total h.octets.total h.acknowledged.total) h.core
         × AreParts C.parts M.parts O.parts A.parts h.users h.links
-        × (h.core.base ≡ opening_with C.settings) };
+        × IsBaseOf C.settings h.core.base };
 }
 
 /// What is left of the ledgers once each seat has its parts: none, and no amount.
@@ -155,8 +155,24 @@ impl<C: Opening, M: Ledger, O: Ledger, A: Ledger> Held<C, M, O, A> {
         }
     }
 
-    /// A law: whenever the set is lent, it's one of the settings that its type tells, and holds what its history leads to
-    /// from their opening.
+    /// A checkpoint, as of [`SetCore::checkpoint`]: what the set holds becomes its base, and its history begins anew. The
+    /// totals stay, and so do all seats: it's no step of any of them.
+    ///
+    /// Fault: 1 [`SetFault::NoMemory`], only where memory was refused; all is then as it was.
+    pub fn checkpoint(&mut self) -> Result<(), SetFault>
+        ensures set { OnOk result (self.new.set ≡ based self.old.set) }
+        ensures totals { self.new.totals ≡ self.old.totals }
+        ensures seats { (self.new.users ≡ self.old.users) × (self.new.links ≡ self.old.links) }
+        ensures err { OnErr result (self.new ≡ self.old) }
+        ensures fault { IfErr result (λ fault. fault ≡ SetFault.NoMemory) }
+    {
+        self.core.replays();
+        self.core.checkpoint()?;
+        Ok(())
+    }
+
+    /// A law: whenever the set is lent, it's one of the settings that its type tells: legal histories, with a checkpoint
+    /// after each, lead from their opening to its base, and its history to what it holds.
     pub fn replays(&self)
         ensures { IsSetOf C.settings self.now.set }
     {
@@ -214,7 +230,7 @@ fn with_seats<C: Opening, M: Ledger, O: Ledger, A: Ledger>(
 ) -> Opened<C, M, O, A>
     requires few { (users ≤ 64) × (links ≤ 16) }
     requires new { AreTotals no_share core }
-    requires opening { core.base ≡ opening_with C.settings }
+    requires opening { IsBaseOf C.settings core.base }
     requires calls { Names blanks.calls C.name C.parts }
     requires messages { Names blanks.messages M.name M.parts }
     requires octets { Names blanks.octets O.name O.parts }

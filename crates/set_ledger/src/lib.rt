@@ -6,6 +6,9 @@
 //! moves only together with its book, and [`step_in`] alone makes receipts, so that whoever gets all seats back
 //! can hold them against the history: [`Held::end`] does.
 //!
+//! [`Held::checkpoint`] makes what the set holds its base, from which the history begins anew; the seats keep all their
+//! receipts, of which the last are the history's.
+//!
 //! ```text
 //! users      UserSeat 0, 1, ..     calls, messages, octets        \
 //!                                                                   step_in -> Held: SetCore and the books
@@ -35,5 +38,5 @@ pub use ending::{Back, Closed, EndFault};
 pub use held::{CreateFault, Held, MOST_USERS, Opened};
 pub use opening::Opening;
 pub use seat::{Seat, TermSeat, UserSeat, step_in};
-pub use set_core::{SetCore, SetFault};
+pub use set_core::{Base, SetCore, SetFault};
 pub use share::{Blanks, SeatShare};

@@ -1,5 +1,6 @@
 -- WHAT A CALL UNDER THE LOCK IS ANSWERED. What stands there has no name outside, so a call tells that there is a set of
--- these settings that answers so: one that holds what a legal history leads to from their opening.
+-- these settings that answers so: one that holds what legal histories lead to from their opening, with a checkpoint after
+-- each but the last.
 use Rattle.std.specs.Prelude.{◌≡◌, ◌≤◌}
 use Rattle.set_ledger.specs.Openings.{IsSetOf}
 use Rattle.set_model.specs.History.{LinkSet, entries_in, longest_history}

@@ -4,13 +4,15 @@
 //! one step there, and gives the lock back, so each entry of the history is made under one holding of it.
 //!
 //! ```text
-//! user threads      offer, take, find               \
+//! user threads      offer, take, find, checkpoint   \
 //!                                                     one Mutex: Held (SetCore and the ledgers' books)
 //! terminal threads  term_step, term_step_held        /
 //! ```
 //!
 //! What stands under the lock has no name outside, so a call says of the set only what its seat shows: the receipt that
 //! was made there and nowhere else. What they come to together is known when all seats are back: [`LinkSet::close`].
+//!
+//! [`LinkSet::checkpoint`] keeps the history short. Seats keep all their receipts, 24 octets a call and the bodies.
 //!
 //! The calls that take the lock may wait for it, and nothing is promised of who gets it, or when.
 #![tactic(auto)]
@@ -19,6 +21,6 @@ mod link_set;
 
 pub use link_set::{LinkSet, Opened};
 pub use set_ledger::{
-    Back, Blanks, Closed, CreateFault, EndFault, Held, Opening, Seat, SeatShare, SetFault,
+    Back, Base, Blanks, Closed, CreateFault, EndFault, Held, Opening, Seat, SeatShare, SetFault,
     TermSeat, UserSeat,
 };

@@ -3,10 +3,10 @@ ghost use Rattle.std.specs.Prelude.{◌≡◌, ◌<◌, ◌≤◌, ◌↔◌, �
 ghost use Rattle.set_events.specs.declared.event.Actor.TheVariants.{User, Terminal};
 ghost use Rattle.set_events.specs.declared.event.Event.TheVariants.{Offer, Take, Find};
 ghost use Rattle.set_events.specs.Owners.{IsOwn};
+ghost use Rattle.set_ledger.specs.Openings.{IsBaseOf};
 ghost use Rattle.set_ledger.specs.Seats.{Receives, new_seats};
 ghost use Rattle.set_ledger.specs.Totals.{AreParts, HeldState, Names};
 ghost use Rattle.set_ledger.specs.Ending.{is_complete, AreFaithful, IsClosed};
-ghost use Rattle.set_model.specs.History.{opening_of};
 ghost use Rattle.set_model.specs.State.{settings_of};
 ghost use Rattle.set_shared.specs.Asking.{IsAnswered, IsFull};
 
@@ -197,13 +197,25 @@ impl<C: Opening, M: Ledger, O: Ledger, A: Ledger> LinkSet<C, M, O, A> {
         ask(&mut *guard, seat, event)
     }
 
-    /// Ends a set with all its seats, under no lock: the history is legal, each seat's receipts are its entries in
-    /// order, and the totals are the sums of the shares. The configuration is that of [`LinkSet::create`], by the settings
-    /// that the type tells. It takes no memory, and waits for nothing.
+    /// A checkpoint: what stands under the lock goes on from what it holds, with a history that begins anew. No seat
+    /// has a receipt of it, and none changes. Of what stands there nothing can be said here: [`Held::checkpoint`] does.
+    ///
+    /// Fault: 1 [`SetFault::NoMemory`], only where memory was refused; all is then as it was.
+    pub fn checkpoint<R: Wait>(&self, rt: &R) -> Result<(), SetFault>
+        ensures fault { IfErr result (λ fault. fault ≡ SetFault.NoMemory) }
+    {
+        self.held.lock(rt).checkpoint()
+    }
+
+    /// Ends a set with all its seats, under no lock: the history is legal from its base, each seat's receipts end with its
+    /// entries in order, and the totals are the sums of the shares. The configuration is that of [`LinkSet::create`], by
+    /// the settings that the type tells, and legal histories lead from there to the base. It takes no memory, and waits
+    /// for nothing.
     ///
     /// Faults, which hand back the set, unlocked ([`LinkSet::of`] makes it shared again), and all seats:
     /// 1 [`EndFault::Missing`] exactly where there isn't one seat for each user and each link of the set and no
-    /// other; else 2 [`EndFault::Strange`] exactly where the receipts of a seat aren't its entries.
+    /// other; else 2 [`EndFault::Strange`] exactly where the receipts of a seat don't end with its entries since the base, or
+    /// what stands before those isn't as many as its calls before the base.
     pub fn close(
         self,
         users: Vec<UserSeat<C, M, O, A>>,
@@ -211,14 +223,15 @@ impl<C: Opening, M: Ledger, O: Ledger, A: Ledger> LinkSet<C, M, O, A> {
     ) -> Result<Closed, EndFault<C, M, O, A>>
         ensures complete { OnOk result (is_complete self.users self.links users.items terminals.items ≡ true) }
         ensures closed { IfOk result (λ closed.
-            IsClosed users.items terminals.items (opening_of closed.config) closed.history.items
+            IsClosed users.items terminals.items closed.base closed.history.items
             closed.books closed.counts) }
+        ensures opened { IfOk result (λ closed. IsBaseOf C.settings closed.base) }
         ensures config { IfOk result (λ closed. settings_of closed.config ≡ C.settings) }
         ensures back { IfErr result (λ fault. (held : HeldState) × (held.users ≡ self.users) × (held.links ≡ self.links)
             × (fault ≡ (if is_complete self.users self.links users.items terminals.items
             then EndFault.Strange else EndFault.Missing) (record { held = held; users = users; terminals = terminals }))
             × (is_complete self.users self.links users.items terminals.items ≡ true
-            → AreFaithful held.set.history users.items terminals.items → ⊥)) }
+            → AreFaithful held.set.base.books held.set.history users.items terminals.items → ⊥)) }
     {
         let held = self.held.into_inner();
         // it has as many seats as this set tells

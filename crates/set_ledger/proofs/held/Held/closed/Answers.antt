@@ -1,14 +1,17 @@
 use Rattle.std.proofs.Common.{arith, ◌≡◌, ◌∙◌, ap, sym, subst, length}
 use Rattle.set_ledger.specs.declared.share.SeatShare.{SeatShare}
 use Rattle.set_ledger.specs.Ending.{AreFaithful}
+use Rattle.set_ledger.specs.Openings.{IsBaseOf}
 use Rattle.set_ledger.specs.Totals.{HeldState}
 use Rattle.set_ledger.proofs.Closing.{complete_lengths, whole_sum, whole_sums, closes}
-use Rattle.set_ledger.proofs.Telling.{opening_told, settings_told}
+use Rattle.set_ledger.proofs.Telling.{settings_told}
 use Rattle.set_ledger.proofs.held.Held.closed.Goals as goal
 
-pub returns-clause-config : goal.returns-clause-config
-returns-clause-config g c =
-    opening_told c.config-config.result.now c.self.inside.core.base g.C.Opening.settings c.config-config.ensures c.self.invariant.2 ∙ ap (λ (h : HeldState). h.set.base) c.self.view_is
+pub returns-clause-base : goal.returns-clause-base
+returns-clause-base g c = c.into_base_and_history-base.ensures.base ∙ ap (λ (h : HeldState). h.set.base) c.self.view_is
+
+pub returns-clause-opened : goal.returns-clause-opened
+returns-clause-opened g c = subst (IsBaseOf g.C.Opening.settings) (sym c.into_base_and_history-base.ensures.base) c.self.invariant.2
 
 pub returns-clause-opening : goal.returns-clause-opening
 returns-clause-opening g c = settings_told c.config-config.result.now c.self.inside.core.base g.C.Opening.settings c.config-config.ensures c.self.invariant.2
@@ -25,16 +28,16 @@ returns-clause-closed g c =
     let links_are : c.self.inside.links ≡ c.args.self.links = ap (λ (h : HeldState). h.links) held in
     let many : length us ≡ c.args.self.users = complete.0 in
     let many_links : length ts ≡ c.args.self.links = complete.1 in
-    let faithful : AreFaithful c.self.inside.core.history us ts = subst (λ (h : HeldState). AreFaithful h.set.history us ts) (sym held) c.requires.faithful in
+    let faithful : AreFaithful c.self.inside.core.base.books c.self.inside.core.history us ts = subst (λ (h : HeldState). AreFaithful h.set.base.books h.set.history us ts) (sym held) c.requires.faithful in
     let totals = c.self.invariant.0 in
     let cut = c.self.invariant.1 in
     let calls_cut = cut.calls_cut in
     let messages_cut = cut.messages_cut in
     let octets_cut = cut.octets_cut in
     let acked_cut = cut.acknowledged_cut in
-    rw (opening_told c.config-config.result.now c.self.inside.core.base g.C.Opening.settings c.config-config.ensures c.self.invariant.2, c.into_history.ensures) (closes us ts c.self.inside.core c.books-books.result c.counts-counts.result
+    rw (c.into_base_and_history-base.ensures.base, c.into_base_and_history-base.ensures.history) (closes us ts c.self.inside.core c.books-books.result c.counts-counts.result
     c.self.inside.calls.total c.self.inside.messages.total c.self.inside.octets.total c.self.inside.acknowledged.total
-    c.replays.ensures.legal c.replays.ensures.agrees c.books-books.ensures.value c.counts-counts.ensures.value faithful totals
+    c.replays.ensures.legal c.replays.ensures.agrees c.books-books.ensures.value c.counts-counts.ensures.value faithful c.counts-counts.ensures.all c.books-books.ensures.bounded totals
     (whole_sums (λ (share : SeatShare). share.calls) us ts _ _ _ _ _ _ _ _ rest.no_parts.0 rest.no_amount.0 c.merge_users.ensures.calls c.merge_terminals.ensures.calls (omega (arith, users_are, links_are, many, many_links, calls_cut)) c.audit.ensures.whole)
     (whole_sum (λ (share : SeatShare). share.messages) us _ _ _ _ _ _ rest.no_parts.1 rest.no_amount.1 c.merge_users.ensures.messages (omega (arith, users_are, many, messages_cut)) c.audit-2.ensures.whole)
     (whole_sum (λ (share : SeatShare). share.octets) us _ _ _ _ _ _ rest.no_parts.2 rest.no_amount.2 c.merge_users.ensures.octets (omega (arith, users_are, many, octets_cut)) c.audit-3.ensures.whole)

@@ -4,6 +4,7 @@ use Rattle.set_core.proofs.Keeping.{opened_entries}
 use Rattle.set_ledger.specs.Openings.{opening_with}
 use Rattle.set_ledger.specs.Seats.{no_share}
 use Rattle.set_ledger.proofs.Closing.{in_range, few_users}
+use Rattle.set_ledger.proofs.Telling.{opens}
 use Rattle.set_ledger.proofs.held.Held.open.Goals as goal
 
 pub returns-clause-held : goal.returns-clause-held
@@ -39,4 +40,4 @@ pub with_seats-requires-clause-parts : goal.with_seats-requires-clause-parts
 with_seats-requires-clause-parts g c = c.requires.parts (few_users c.args.users c.if-users-eq0.false c.if-users-gt-MOST_USERS.false)
 
 pub with_seats-requires-clause-opening : goal.with_seats-requires-clause-opening
-with_seats-requires-clause-opening g c = ap (λ (set : LinkSet). set.base) c.in_ok-core.ensures.core ∙ ap opening_with (c.requires.opening (few_users c.args.users c.if-users-eq0.false c.if-users-gt-MOST_USERS.false))
+with_seats-requires-clause-opening g c = opens g.C.Opening.settings c.in_ok-core.core.base (ap (λ (set : LinkSet). set.base) c.in_ok-core.ensures.core ∙ ap opening_with (c.requires.opening (few_users c.args.users c.if-users-eq0.false c.if-users-gt-MOST_USERS.false)))

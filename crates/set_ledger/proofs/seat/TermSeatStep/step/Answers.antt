@@ -1,7 +1,8 @@
-use Rattle.std.proofs.Common.{◌∙◌, ap, refl, List}
+use Rattle.std.proofs.Common.{◌∙◌, ap, refl, subst, sym, List}
 use Rattle.set_events.specs.declared.history.Entry.{Entry}
 use Rattle.set_model.specs.History.{LinkSet}
 use Rattle.set_ledger.specs.Seats.{term_state}
+use Rattle.set_ledger.specs.Openings.{IsBaseOf}
 use Rattle.set_ledger.specs.Totals.{HeldState, totals_of}
 use Rattle.set_ledger.proofs.Growing.{term_adds_up, term_totals, term_grows, term_acknowledges, room_for, few_enough}
 use Rattle.set_ledger.proofs.seat.TermSeatStep.step.Goals as goal
@@ -24,7 +25,7 @@ pub invariant_of-held : goal.invariant_of-held
 invariant_of-held g c = (
   term_totals c.self.inside.link _ _ _ _ _ _ c.args.event.now c.in-Ok.made.answer c.in-Ok.made.gained c.held.inside.core c.make.new.core c.held.invariant.0 c.in-Ok.ensures.gains c.gain.ensures.total c.gain-in-Ok.ensures.total,
   c.held.invariant.1,
-  c.in-Ok.ensures.step.base_is ∙ c.held.invariant.2,
+  subst (IsBaseOf g.C.Opening.settings) (sym c.in-Ok.ensures.step.base_is) c.held.invariant.2,
 )
 
 pub returns-in-Ok-clause-step : goal.returns-in-Ok-clause-step

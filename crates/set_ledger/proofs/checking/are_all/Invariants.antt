@@ -1,6 +1,6 @@
 use Rattle.std.proofs.Common.{◌≡◌, ◌↔◌, filter, length}
 use Rattle.set_ledger.specs.Ending.{is_by}
-use Rattle.set_ledger.proofs.checking.is_faithful.Given as goal
+use Rattle.set_ledger.proofs.checking.are_all.Given as goal
 
 -- what is left of both decides
 abbrev pub invariant-loop-entry : goal.invariant-loop-entry

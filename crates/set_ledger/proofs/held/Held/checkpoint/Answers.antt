@@ -1,0 +1,15 @@
+use Rattle.std.proofs.Common.{subst, sym}
+use Rattle.set_model.specs.History.{LinkSet}
+use Rattle.set_ledger.specs.Openings.{IsBaseOf}
+use Rattle.set_ledger.proofs.Telling.{checkpoints, totals_stay}
+use Rattle.set_ledger.proofs.held.Held.checkpoint.Goals as goal
+
+-- the books are as they were, and one history more leads to the base
+pub invariant_of-self-2 : goal.invariant_of-self-2
+invariant_of-self-2 g c =
+    let old = c.self.inside.core in
+    let is = c.in_ok-checkpoint.ensures in (
+      totals_stay _ old c.checkpoint.new.self is.books is.entries c.self.invariant.0,
+      c.self.invariant.1,
+      subst (λ (set : LinkSet). IsBaseOf g.C.Opening.settings set.base) (sym is.ok) (checkpoints g.C.Opening.settings old c.self.invariant.2 c.replays.ensures.legal c.replays.ensures.agrees),
+    )
