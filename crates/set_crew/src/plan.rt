@@ -29,7 +29,8 @@ pub struct Plan {
     /// The link whose terminal, in each set, is told Stop before turn `turns / 2`, where turns count from 0.
     pub fail: Option<u8>,
     /// After how many of its accepted offers a user takes a checkpoint of its set, and after how many of its calls one
-    /// that takes messages does; 1 to 1,024. Where it's refused memory the next one makes up for it.
+    /// that takes messages does; 0 is after each body or call. Where it's refused memory the next one makes up for it.
+    /// No contract says when one is taken, since it's no entry: tests do.
     pub checkpoint: Option<u16>,
     pub ghost few_turns: { turns ≤ 2 ^ 32 },
 }
