@@ -27,5 +27,5 @@ mod summing;
 pub use bank::Bank;
 pub use fault::BankFault;
 pub use running::{Running, sort_out};
-pub use set_crew::{CrewFault, Job, Plan, SetEnd, UserFault};
+pub use set_crew::{Answered, CrewFault, Job, Plan, SetEnd, ShiftReport, UserFault};
 pub use summing::{SetTotals, totals};

@@ -106,7 +106,7 @@ fn was_left_in_the_midst(end: &SetEnd, link: u8) -> bool {
 /// The terminal of this link ended with the cause of one that was told to stop.
 fn was_told_to_stop(end: &SetEnd, link: u8) -> bool {
     match end.reports.get(usize::from(link)) {
-        Some(Ok(report)) => report.cause == 9,
+        Some(Ok(report)) => report.turns.cause == 9,
         _ => false,
     }
 }

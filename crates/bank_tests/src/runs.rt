@@ -22,7 +22,7 @@ fn turned(end: &SetEnd, links: usize, turns: u64, fail: Option<usize>) -> Result
         match report {
             Ok(report) => {
                 let cause = if fail == Some(link) { STOPPED } else { 0 };
-                holds(report.turns == turns && report.cause == cause)?;
+                holds(report.turns.turns == turns && report.turns.cause == cause)?;
             }
             Err(_) => return Err(Fail::from("a terminal failed")),
         }

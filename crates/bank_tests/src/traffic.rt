@@ -130,6 +130,7 @@ fn goes_through<R: Threads + Wait + Copy + Send + Sync + 'static>(
         fail: None,
         cyclic,
         turns: 100_000,
+        checkpoint: None,
     };
     let Ok(ends) = run_traffic(rt, alloc, &traffic) else {
         return Err(Fail::from("not run"));

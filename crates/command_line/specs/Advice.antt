@@ -6,7 +6,7 @@ use Rattle.figures.specs.Figures.{number_of}
 use Rattle.command_line.specs.declared.advice.Input.{Input}
 use Rattle.command_line.specs.declared.advice.Input.TheVariants.{Units, Play, Decode, Capture, Ladder, Audit, History}
 use Rattle.command_line.specs.declared.advice.RunOption.{RunOption}
-use Rattle.command_line.specs.declared.advice.RunOption.TheVariants.{Sets, Links, Users, Messages, Fail, Method, Turns}
+use Rattle.command_line.specs.declared.advice.RunOption.TheVariants.{Sets, Links, Users, Messages, Fail, Method, Turns, Checkpoint}
 
 -- a word is shown on one line, with a dot for each control character
 abbrev pub plain : ℕ → ℕ
@@ -83,7 +83,8 @@ option_of word =
     else (if bytes_eq word (codes "--messages") then Some Messages
     else (if bytes_eq word (codes "--fail") then Some Fail
     else (if bytes_eq word (codes "--method") then Some Method
-    else (if bytes_eq word (codes "--turns") then Some Turns else None))))))
+    else (if bytes_eq word (codes "--turns") then Some Turns
+    else (if bytes_eq word (codes "--checkpoint") then Some Checkpoint else None)))))))
 
 abbrev pub option_name : RunOption → List ℕ
 option_name Sets = codes "--sets"
@@ -93,6 +94,7 @@ option_name Messages = codes "--messages"
 option_name Fail = codes "--fail"
 option_name Method = codes "--method"
 option_name Turns = codes "--turns"
+option_name Checkpoint = codes "--checkpoint"
 
 abbrev pub range_text : RunOption → List ℕ
 range_text Sets = codes "a number from 1 to 16"
@@ -102,6 +104,7 @@ range_text Messages = codes "a number from 1 to 1024"
 range_text Fail = codes "the number of a link, 0 to 15"
 range_text Method = codes "basic or cyclic"
 range_text Turns = codes "a number from 1 to 1000000"
+range_text Checkpoint = codes "a number from 1 to 1024"
 
 -- a decimal number in this range, without leading zeros
 abbrev pub is_in : ℕ → ℕ → Option ℕ → Bool
@@ -120,10 +123,11 @@ fits Fail value = is_number_in 0 15 value
 fits Method value =
     if bytes_eq value (codes "basic") then true else bytes_eq value (codes "cyclic")
 fits Turns value = is_number_in 1 1000000 value
+fits Checkpoint value = is_number_in 1 1024 value
 
 abbrev pub run_usage : List ℕ
 run_usage =
-    codes "\nusage: mtpbank run [--sets N] [--links L] [--users U] [--messages M] [--fail K] [--method WORD] [--turns T] [--per-link]"
+    codes "\nusage: mtpbank run [--sets N] [--links L] [--users U] [--messages M] [--fail K] [--method WORD] [--turns T] [--checkpoint C] [--per-link]"
 
 abbrev pub value_text : RunOption → List ℕ → List ℕ
 value_text option value =

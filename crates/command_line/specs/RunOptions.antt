@@ -25,7 +25,7 @@ size_rules =
 abbrev pub way_rules : List Rule
 way_rules =
     option_rule (codes "fail") ∷ option_rule (codes "method") ∷ option_rule (codes "turns")
-    ∷ flag_rule (codes "per-link") ∷ []
+    ∷ option_rule (codes "checkpoint") ∷ flag_rule (codes "per-link") ∷ []
 
 abbrev pub with_rules : Shape → List Rule → Shape
 with_rules shape rules = record shape { rules = shape.rules ++ rules }
@@ -42,12 +42,12 @@ abbrev pub IsNumber : ℕ → ℕ → ℕ → ℕ → Option Text → Type 0
 IsNumber least most usual n None = n ≡ usual
 IsNumber least most usual n (Some word) = IsWithin least most n word
 
--- no link fails, or the one that is told
-abbrev pub IsFail : Option ℕ → Option Text → Type 0
-IsFail None None = Unit {0}
-IsFail (Some link) None = ⊥
-IsFail None (Some word) = ⊥
-IsFail (Some link) (Some word) = IsWithin 0 15 link word
+-- none where the option isn't there, else one in this range
+abbrev pub IsOptional : ℕ → ℕ → Option ℕ → Option Text → Type 0
+IsOptional least most None None = Unit {0}
+IsOptional least most (Some n) None = ⊥
+IsOptional least most None (Some word) = ⊥
+IsOptional least most (Some n) (Some word) = IsWithin least most n word
 
 -- the basic method, unless the other is told
 abbrev pub IsMethod : Bool → Option Text → Type 0
@@ -62,9 +62,10 @@ pub record AreValues (run : RunWords) (rows : List Row) : Type 0 where
   pub links : IsNumber 1 16 2 run.links (first_of (codes "links") rows)
   pub users : IsNumber 1 16 4 run.users (first_of (codes "users") rows)
   pub messages : IsNumber 1 1024 1000 run.messages (first_of (codes "messages") rows)
-  pub fail : IsFail run.fail (first_of (codes "fail") rows)
+  pub fail : IsOptional 0 15 run.fail (first_of (codes "fail") rows)
   pub method : IsMethod run.cyclic (first_of (codes "method") rows)
   pub turns : IsNumber 1 1000000 20000 run.turns (first_of (codes "turns") rows)
+  pub checkpoint : IsOptional 1 1024 run.checkpoint (first_of (codes "checkpoint") rows)
   pub per_link : IsTrue run.per_link ↔ (first_of (codes "per-link") rows ≡ Some (codes "true"))
 
 -- THE RUN that is asked for: each number in its range, the failing link below the links

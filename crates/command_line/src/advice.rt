@@ -9,7 +9,7 @@ use std::convert::AsStr;
 
 /// The line with the usage of `run`, behind another.
 const RUN_USAGE: &[u8] = b"\nusage: mtpbank run [--sets N] [--links L] [--users U] [--messages M] \
-[--fail K] [--method WORD] [--turns T] [--per-link]";
+[--fail K] [--method WORD] [--turns T] [--checkpoint C] [--per-link]";
 
 /// A subcommand that reads standard input.
 #[derive(Clone, Copy, Debug, PartialEq, Eq)]
@@ -33,6 +33,7 @@ pub enum RunOption {
     Fail,
     Method,
     Turns,
+    Checkpoint,
 }
 
 /// What is said of these words, which the program doesn't take, at most two lines without the last LF; `None`: what the
@@ -247,6 +248,8 @@ fn find_option(word: &[u8]) -> Option<RunOption>
         Some(RunOption::Method)
     } else if is_word(word, b"--turns") {
         Some(RunOption::Turns)
+    } else if is_word(word, b"--checkpoint") {
+        Some(RunOption::Checkpoint)
     } else {
         None
     }
@@ -264,6 +267,7 @@ fn name(option: RunOption) -> &'static [u8]
         RunOption::Fail => b"--fail",
         RunOption::Method => b"--method",
         RunOption::Turns => b"--turns",
+        RunOption::Checkpoint => b"--checkpoint",
     }
 }
 
@@ -279,6 +283,7 @@ fn range(option: RunOption) -> &'static [u8]
         RunOption::Fail => b"the number of a link, 0 to 15",
         RunOption::Method => b"basic or cyclic",
         RunOption::Turns => b"a number from 1 to 1000000",
+        RunOption::Checkpoint => b"a number from 1 to 1024",
     }
 }
 
@@ -294,6 +299,7 @@ fn takes(option: RunOption, value: &[u8]) -> bool
         RunOption::Fail => is_within(0, 15, value),
         RunOption::Method => is_word(value, b"basic") || is_word(value, b"cyclic"),
         RunOption::Turns => is_within(1, 1_000_000, value),
+        RunOption::Checkpoint => is_within(1, 1_024, value),
     }
 }
 

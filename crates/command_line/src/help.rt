@@ -199,8 +199,12 @@ of rings between its two terminals, which take T turns each: an octet is sent
 and, if there is one, an octet is heard. A terminal that is 64 turns ahead of
 the other waits for it a while. Links come up by emergency proving. With --fail
 the terminal of that link at end a, in each set, is told to stop after half of
-its turns. When all threads have ended each set is closed and audited, and
-these lines are printed, the sets from 0:
+its turns. With --checkpoint each user of end a takes a checkpoint of its set
+after each C of its messages that were accepted, and the user of end b after
+each C of its questions: finished messages leave the set then, which is as good
+as found, and its history begins anew, to be audited from there. When all
+threads have ended each set is closed and audited, and these lines are printed,
+the sets from 0:
   set=I end=a accepted=X placed=Y legal=yes
                     so many messages were accepted from users at end a of set
                     I, so many stand in some place, and the history is one

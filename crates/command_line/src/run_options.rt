@@ -4,7 +4,7 @@ ghost use Rattle.std.specs.Option.{option_map};
 ghost use Rattle.clap.specs.Words.{app_of, first_of, found_of, rows_of, rule_of};
 ghost use Rattle.clap.specs.Simple.{new_shape, shape_of};
 ghost use Rattle.clap.specs.declared.builder.command.Command.{out-Command};
-ghost use Rattle.command_line.specs.RunOptions.{AreValues, IsFail, IsMethod, IsNumber, IsRun, IsUnasked, IsWithin, flag_rule, option_rule, run_shape, size_rules, with_rules};
+ghost use Rattle.command_line.specs.RunOptions.{AreValues, IsMethod, IsNumber, IsOptional, IsRun, IsUnasked, IsWithin, flag_rule, option_rule, run_shape, size_rules, with_rules};
 
 use super::help::{RUN_HELP, RUN_PAGE};
 use super::run_words::{RunWords, Unasked};
@@ -62,6 +62,9 @@ fn values_of(found: &ArgMatches<'_>) -> Result<RunWords, &'static str>
     let Some(turns) = number_in(found, "turns", 1, 1_000_000, 20_000) else {
         return Err("--turns is a number from 1 to 1000000");
     };
+    let Some(checkpoint) = checkpoint_in(value_of(found, "checkpoint")) else {
+        return Err("--checkpoint is a number from 1 to 1024");
+    };
     Ok(RunWords {
         sets: sets as u16,
         links: links as u8,
@@ -70,6 +73,7 @@ fn values_of(found: &ArgMatches<'_>) -> Result<RunWords, &'static str>
         fail,
         cyclic,
         turns: turns as u32,
+        checkpoint,
         per_link: is_set(value_of(found, "per-link")),
     })
 }
@@ -112,12 +116,27 @@ fn within(word: &str, least: u64, most: u64) -> Option<u64>
 /// The link behind `--fail`.
 fn fail_in(word: Option<&str>) -> Option<Option<u8>>
     ensures { MatchOption result ((fail : Option ℕ)
-        → IsFail fail (option_map (λ s. s.now) word.entry) → ⊥)
-        (λ fail. IsFail fail (option_map (λ s. s.now) word.entry)) }
+        → IsOptional 0 15 fail (option_map (λ s. s.now) word.entry) → ⊥)
+        (λ fail. IsOptional 0 15 fail (option_map (λ s. s.now) word.entry)) }
 {
     match word {
         Some(word) => match within(word, 0, 15) {
             Some(link) => Some(Some(link as u8)),
+            None => None,
+        },
+        None => Some(None),
+    }
+}
+
+/// The number of messages behind `--checkpoint`.
+fn checkpoint_in(word: Option<&str>) -> Option<Option<u16>>
+    ensures { MatchOption result ((checkpoint : Option ℕ)
+        → IsOptional 1 1024 checkpoint (option_map (λ s. s.now) word.entry) → ⊥)
+        (λ checkpoint. IsOptional 1 1024 checkpoint (option_map (λ s. s.now) word.entry)) }
+{
+    match word {
+        Some(word) => match within(word, 1, 1_024) {
+            Some(messages) => Some(Some(messages as u16)),
             None => None,
         },
         None => Some(None),
@@ -167,8 +186,15 @@ pub(crate) fn run_command<'a>(alloc: Global) -> Result<Command<'a>, AllocError>
         "Turns of each terminal, 1 to 1000000 [20000]",
     );
     let timed = with_option(by_method, turns)?;
+    let checkpoint = option(
+        alloc,
+        "checkpoint",
+        "C",
+        "Messages between checkpoints, 1 to 1024 [none]",
+    );
+    let checkpointed = with_option(timed, checkpoint)?;
     with_option(
-        timed,
+        checkpointed,
         flag(alloc, "per-link", "A line for each link and end, too"),
     )
 }

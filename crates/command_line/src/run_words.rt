@@ -18,6 +18,8 @@ pub struct RunWords {
     pub cyclic: bool,
     /// How many turns each terminal takes, 1 to 1,000,000.
     pub turns: u32,
+    /// After how many of its accepted messages a user takes a checkpoint of its set, 1 to 1,024, if it takes any.
+    pub checkpoint: Option<u16>,
     /// A line is printed for each link too.
     pub per_link: bool,
     pub ghost sets_in_range: { (1 ≤ sets) × (sets ≤ 16) },

@@ -26,7 +26,7 @@ configs_in : (users : ℕ) (plan : Plan) (configs : List SetConfig) (lines : Lis
 configs_in users plan [] lines jobs = refl
 configs_in users plan (config ∷ configs) lines jobs = ap (λ (more : List SetConfig). config ∷ more) (configs_in users plan configs _ _)
 
-each_task : (traffic : Traffic) (side : OneEnd) (users : ℕ) (plan : Plan) (configs : List SetConfig) (lines : List ℕ) (jobs : List (List Duty)) → users ≡ side.users → IsPlan traffic.turns side.fail plan
+each_task : (traffic : Traffic) (side : OneEnd) (users : ℕ) (plan : Plan) (configs : List SetConfig) (lines : List ℕ) (jobs : List (List Duty)) → users ≡ side.users → IsPlan traffic side.fail plan
     → length lines ≡ length configs → length jobs ≡ length configs → All (λ n. n ≡ traffic.links) lines → All (λ of_set. of_set ≡ side.jobs) jobs → All (IsTaskOf traffic side) (tasks_from users plan configs lines jobs)
 each_task traffic side users plan [] lines jobs u p many_lines many_jobs all_lines all_jobs = All-nil (IsTaskOf traffic side)
 each_task traffic side users plan (config ∷ configs) [] jobs u p many_lines many_jobs all_lines all_jobs = absurd (omega (arith, many_lines))
@@ -42,7 +42,7 @@ each_task traffic side users plan (config ∷ configs) (line ∷ lines) (job ∷
     (each_task traffic side users plan configs lines jobs u p (omega (arith, many_lines)) (omega (arith, many_jobs)) (All-tail (λ n. n ≡ traffic.links) line lines all_lines) (All-tail (λ of_set. of_set ≡ side.jobs) job jobs all_jobs))
 
 -- a bank of this end's configurations and users, whose sets all have these lines and jobs
-pub tasks_of : (traffic : Traffic) (side : OneEnd) (users : ℕ) (plan : Plan) (configs : List SetConfig) (lines : List ℕ) (jobs : List (List Duty)) → users ≡ side.users → IsPlan traffic.turns side.fail plan
+pub tasks_of : (traffic : Traffic) (side : OneEnd) (users : ℕ) (plan : Plan) (configs : List SetConfig) (lines : List ℕ) (jobs : List (List Duty)) → users ≡ side.users → IsPlan traffic side.fail plan
     → AreConfigs traffic.sets traffic.links side.opc side.dpc (method_of traffic.cyclic) configs → lines ≡ each_set traffic.sets traffic.links → jobs ≡ each_set traffic.sets side.jobs → AreTasks traffic side (tasks_from users plan configs lines jobs)
 tasks_of traffic side users plan configs lines jobs u p are lines_are jobs_are =
     let sets = traffic.sets in

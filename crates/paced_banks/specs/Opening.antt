@@ -39,7 +39,7 @@ near_jobs users messages = map (offers_of messages) (numbers_below users)
 abbrev pub far_jobs : List Duty
 far_jobs = takes 1000 ∷ []
 
--- THE PLAN: all timers are 100,000 octet times, but T5, which is 800
+-- THE PLAN: all timers are 100,000 octet times, but T5, which is 800; turns and checkpoints are the traffic's
 abbrev pub timers : Timers
 timers = record {
   t1 = 100000;
@@ -56,11 +56,11 @@ timers = record {
   t7_set = above_0 99999;
 }
 
-pub record IsPlan (turns : ℕ) (fail : Option ℕ) (plan : Plan) : Type 0 where
+pub record IsPlan (traffic : Traffic) (fail : Option ℕ) (plan : Plan) : Type 0 where
   pub timers_are : plan.timers ≡ timers
-  pub turns_are : plan.turns ≡ turns
+  pub turns_are : plan.turns ≡ traffic.turns
   pub fail_is : plan.fail ≡ fail
-  pub checkpoint_is : plan.checkpoint ≡ None
+  pub checkpoint_is : plan.checkpoint ≡ traffic.checkpoint
 
 -- the same for each of so many sets
 abbrev pub each_set : {X : Type 0} → ℕ → X → List X
@@ -97,7 +97,7 @@ pub record IsTaskOf (traffic : Traffic) (side : OneEnd) (task : Task) : Type 0 w
   pub users_are : task.users ≡ side.users
   pub lines_are : task.lines ≡ traffic.links
   pub jobs_are : task.jobs ≡ side.jobs
-  pub plan_is : IsPlan traffic.turns side.fail task.plan
+  pub plan_is : IsPlan traffic side.fail task.plan
 
 pub record AreTasks (traffic : Traffic) (side : OneEnd) (tasks : List Task) : Type 0 where
   pub configs : AreConfigs traffic.sets traffic.links side.opc side.dpc (method_of traffic.cyclic)

@@ -19,6 +19,9 @@ pub struct Traffic {
     pub cyclic: bool,
     /// How many turns each terminal takes, in octet times; at most 2^32.
     pub turns: u64,
+    /// After how many of its accepted offers a user at an end a takes a checkpoint of its set, and after how many of its
+    /// calls the one at an end b does, as of [`bank_core::Plan`].
+    pub checkpoint: Option<u16>,
     pub ghost few_sets: { (1 ≤ sets) × (sets ≤ 16) },
     pub ghost few_links: { (1 ≤ links) × (links ≤ 16) },
     pub ghost few_users: { (1 ≤ users) × (users ≤ 16) },

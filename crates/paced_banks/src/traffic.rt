@@ -180,13 +180,13 @@ fn run_beside<R: Threads + Wait + Copy + Send + Sync + 'static>(
 
 /// What a bank's terminals do.
 fn plan_of(traffic: &Traffic, fail: Option<u8>) -> Plan
-    ensures { IsPlan traffic.now.turns fail result }
+    ensures { IsPlan traffic.now fail result }
 {
     Plan {
         timers: TIMERS,
         turns: traffic.turns,
         fail,
-        checkpoint: None,
+        checkpoint: traffic.checkpoint,
     }
 }
 

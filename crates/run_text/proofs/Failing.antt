@@ -2,7 +2,7 @@
 use Rattle.std.proofs.Common.{refl, ◌≡◌, ℕ, suc, List, [], ◌∷◌, Option, None, Some, Result, Ok, Err, All, IsOk, IfErr}
 use Rattle.std.specs.Option.{option_or}
 use Rattle.std.proofs.lemmas.List.Elements.{All-nil, All-cons}
-use Rattle.term_model.specs.declared.report.TermReport.{TermReport}
+use Rattle.set_crew.specs.declared.report.ShiftReport.{ShiftReport}
 use Rattle.link_term.specs.declared.fault.TermFault.{TermFault}
 use Rattle.set_crew.specs.declared.end.SetEnd.{SetEnd}
 use Rattle.world_steps.specs.declared.step.End.{End}
@@ -28,7 +28,7 @@ none_stuck user [] h = All-nil IsOk
 none_stuck user (Ok done ∷ users) h = All-cons IsOk (Ok done) users refl (none_stuck (suc user) users h)
 none_stuck user (Err fault ∷ users) h = cc h
 
-none_failed : (link : ℕ) (reports : List (Result TermReport TermFault)) → failed_from link reports ≡ None → All IsOk reports
+none_failed : (link : ℕ) (reports : List (Result ShiftReport TermFault)) → failed_from link reports ≡ None → All IsOk reports
 none_failed link [] h = All-nil IsOk
 none_failed link (Ok report ∷ reports) h = All-cons IsOk (Ok report) reports refl (none_failed (suc link) reports h)
 none_failed link (Err fault ∷ reports) h = cc h

@@ -1,7 +1,7 @@
 -- Where the other end has none left, nothing is left to tell.
 use Rattle.std.proofs.Common.{refl, arith, ◌≡◌, ◌∙◌, ap, sym, ℕ, ◌<◌, List, [], ◌∷◌, ◌++◌, length, Result}
 use Rattle.std.proofs.lemmas.List.{append-nil}
-use Rattle.term_model.specs.declared.report.TermReport.{TermReport}
+use Rattle.set_crew.specs.declared.report.ShiftReport.{ShiftReport}
 use Rattle.link_term.specs.declared.fault.TermFault.{TermFault}
 use Rattle.set_crew.specs.declared.end.SetEnd.{SetEnd}
 use Rattle.bank_core.specs.declared.summing.SetTotals.{SetTotals}
@@ -12,11 +12,10 @@ no_sets set [] far few = refl
 no_sets set (a ∷ near) [] few = refl
 no_sets set (a ∷ near) (b ∷ far) few = absurd (omega (arith, few))
 
-pub no_set_links : (set link : ℕ) (a b : SetEnd) (near far : List (Result TermReport TermFault)) → length far < 1
-    → set_links_text set link a b near far ≡ []
-no_set_links set link a b [] far few = refl
-no_set_links set link a b (x ∷ near) [] few = refl
-no_set_links set link a b (x ∷ near) (y ∷ far) few = absurd (omega (arith, few))
+pub no_set_links : (set link : ℕ) (near far : List (Result ShiftReport TermFault)) → length far < 1 → set_links_text set link near far ≡ []
+no_set_links set link [] far few = refl
+no_set_links set link (a ∷ near) [] few = refl
+no_set_links set link (a ∷ near) (b ∷ far) few = absurd (omega (arith, few))
 
 pub no_links : (set : ℕ) (near far : List SetEnd) → length far < 1 → links_text set near far ≡ []
 no_links set [] far few = refl

@@ -15,6 +15,7 @@ pub record IsTrafficOf (words : RunWords) (traffic : Traffic) : Type 0 where
   pub fail_is : traffic.fail ≡ words.fail
   pub cyclic_is : traffic.cyclic ≡ words.cyclic
   pub turns_are : traffic.turns ≡ words.turns
+  pub checkpoint_is : traffic.checkpoint ≡ words.checkpoint
 
 -- what came of it, as it's printed
 abbrev pub IsTextAsked : RunWords → List ℕ → Type 0

@@ -1,7 +1,7 @@
 -- WHO FAILED: the first user of an end that ended before its job was done, or terminal that stopped early.
 use Rattle.std.specs.Prelude.{ℕ, suc, List, [], ◌∷◌, Option, None, Some, Result, Ok, Err, codes}
 use Rattle.std.specs.Option.{option_or}
-use Rattle.term_model.specs.declared.report.TermReport.{TermReport}
+use Rattle.set_crew.specs.declared.report.ShiftReport.{ShiftReport}
 use Rattle.link_term.specs.declared.fault.TermFault.{TermFault}
 use Rattle.set_crew.specs.declared.end.SetEnd.{SetEnd}
 use Rattle.world_steps.specs.declared.step.End.{End}
@@ -23,7 +23,7 @@ stuck_from user (Ok done ∷ users) = stuck_from (suc user) users
 stuck_from user (Err fault ∷ users) = Some (record { user = user; fault = fault })
 
 -- the first terminal that failed, from the link of this number on
-abbrev pub failed_from : ℕ → List (Result TermReport TermFault) → Option Failed
+abbrev pub failed_from : ℕ → List (Result ShiftReport TermFault) → Option Failed
 failed_from link [] = None
 failed_from link (Ok report ∷ reports) = failed_from (suc link) reports
 failed_from link (Err fault ∷ reports) = Some (record { link = link; fault = fault })

@@ -1,14 +1,7 @@
 -- THE TEXT of `run`: what its sets came to at both ends, and each of their links.
-use Rattle.std.specs.Prelude.{◌==◌, ◌&&◌, ◌+◌, ℕ, suc, Bool, true, false, List, [], ◌∷◌, ◌++◌, map, codes, decimal, Result, Ok, Err, if◌then◌else◌}
-use Rattle.set_events.specs.declared.answer.Answer.{Answer}
-use Rattle.set_events.specs.declared.answer.Answer.TheVariants.{Done, Heard as HeardAnswer}
-use Rattle.set_events.specs.declared.answer.Took.{Took}
-use Rattle.set_events.specs.declared.answer.Took.TheVariants.{Message}
-use Rattle.set_events.specs.declared.event.Event.{Event}
-use Rattle.set_events.specs.declared.event.Event.TheVariants.{Heard, Up}
-use Rattle.set_events.specs.declared.history.Entry.{Entry}
+use Rattle.std.specs.Prelude.{ℕ, suc, Bool, true, false, List, [], ◌∷◌, ◌++◌, map, codes, decimal, Result, Ok, Err, if◌then◌else◌}
 use Rattle.set_model.specs.Rows.{total_of}
-use Rattle.term_model.specs.declared.report.TermReport.{TermReport}
+use Rattle.set_crew.specs.declared.report.ShiftReport.{ShiftReport}
 use Rattle.link_term.specs.declared.fault.TermFault.{TermFault}
 use Rattle.set_crew.specs.declared.end.SetEnd.{SetEnd}
 use Rattle.bank_core.specs.declared.summing.SetTotals.{SetTotals}
@@ -62,48 +55,15 @@ all_text near far = sets_text 0 near far ++ total_text near far
 
 -- THE LINKS.
 
-abbrev pub is_up : ℕ → Event → Bool
-is_up link (Up l) = l == link
-is_up link event = false
-
-abbrev pub is_heard : ℕ → Event → Bool
-is_heard link (Heard l unit) = l == link
-is_heard link event = false
-
-abbrev pub is_done : Answer → Bool
-is_done Done = true
-is_done answer = false
-
-abbrev pub is_message : Took → Bool
-is_message Message = true
-is_message took = false
-
-abbrev pub took_message : Answer → Bool
-took_message (HeardAnswer report) = is_message report.took
-took_message answer = false
-
--- the set answered Done to an Up of the link
-abbrev pub came_up : ℕ → List Entry → Bool
-came_up link [] = false
-came_up link (entry ∷ entries) =
-    if is_up link entry.event && is_done entry.answer then true else came_up link entries
-
--- how many messages were heard on the link and accepted
-abbrev pub taken_on : ℕ → List Entry → ℕ
-taken_on link [] = 0
-taken_on link (entry ∷ entries) =
-    (if is_heard link entry.event && took_message entry.answer then 1 else 0)
-    + taken_on link entries
-
--- what the terminal of a link of this end counted, and what the other end accepted of what it sent
-abbrev pub link_end : ℕ → SetEnd → SetEnd → TermReport → LinkEnd
-link_end link own other report = record {
-  up = came_up link own.closed.history.items;
-  sent = report.sent;
-  good = report.good;
-  bad = report.bad;
-  cause = report.cause;
-  delivered = taken_on link other.closed.history.items;
+-- what the terminal of a link of this end came to, and what the other end accepted of what it sent
+abbrev pub link_end : ShiftReport → ShiftReport → LinkEnd
+link_end own other = record {
+  up = own.answered.came_up;
+  sent = own.turns.sent;
+  good = own.turns.good;
+  bad = own.turns.bad;
+  cause = own.turns.cause;
+  delivered = other.answered.messages;
 }
 
 abbrev pub counted_text : LinkEnd → List ℕ
@@ -117,31 +77,25 @@ link_text set link end l =
     codes "set=" ++ (decimal set ++ (codes " link=" ++ (decimal link ++ (codes " end=" ++ (end
     ++ (codes " up=" ++ (yes_or_no l.up ++ counted_text l)))))))
 
--- a terminal that failed has no line
-abbrev pub report_text : ℕ → ℕ → List ℕ → SetEnd → SetEnd → Result TermReport TermFault → List ℕ
-report_text set link end own other (Ok report) =
-    link_text set link end (link_end link own other report)
-report_text set link end own other (Err fault) = []
-
-abbrev pub both_text : ℕ → ℕ → SetEnd → SetEnd → Result TermReport TermFault
-    → Result TermReport TermFault → List ℕ
-both_text set link a b x y =
-    report_text set link (codes "a") a b x ++ report_text set link (codes "b") b a y
+-- where a terminal failed there is no line
+abbrev pub both_text : ℕ → ℕ → Result ShiftReport TermFault → Result ShiftReport TermFault → List ℕ
+both_text set link (Err fault) b = []
+both_text set link (Ok a) (Err fault) = []
+both_text set link (Ok a) (Ok b) =
+    link_text set link (codes "a") (link_end a b) ++ link_text set link (codes "b") (link_end b a)
 
 -- both ends of each link of a set, from this number on
-abbrev pub set_links_text : ℕ → ℕ → SetEnd → SetEnd → List (Result TermReport TermFault)
-    → List (Result TermReport TermFault) → List ℕ
-set_links_text set link a b [] far = []
-set_links_text set link a b (x ∷ near) [] = []
-set_links_text set link a b (x ∷ near) (y ∷ far) =
-    both_text set link a b x y ++ set_links_text set (suc link) a b near far
+abbrev pub set_links_text : ℕ → ℕ → List (Result ShiftReport TermFault) → List (Result ShiftReport TermFault) → List ℕ
+set_links_text set link [] far = []
+set_links_text set link (a ∷ near) [] = []
+set_links_text set link (a ∷ near) (b ∷ far) = both_text set link a b ++ set_links_text set (suc link) near far
 
 -- those of each set, from this number on
 abbrev pub links_text : ℕ → List SetEnd → List SetEnd → List ℕ
 links_text set [] far = []
 links_text set (a ∷ near) [] = []
 links_text set (a ∷ near) (b ∷ far) =
-    set_links_text set 0 a b a.reports.items b.reports.items ++ links_text (suc set) near far
+    set_links_text set 0 a.reports.items b.reports.items ++ links_text (suc set) near far
 
 -- THE TEXT
 abbrev pub run_text : Bool → List SetEnd → List SetEnd → List ℕ

@@ -70,5 +70,6 @@ fn traffic_of(words: &RunWords) -> Traffic
         fail: words.fail,
         cyclic: words.cyclic,
         turns: u64::from(words.turns),
+        checkpoint: words.checkpoint,
     }
 }

@@ -3,8 +3,8 @@ ghost use Rattle.std.specs.Prelude.{◌≡◌};
 ghost use Rattle.run_text.specs.Failures.{failed_from, failure_from, failure_in, failure_of, stuck_from};
 
 use super::fault::RunFault;
-use bank_core::{SetEnd, UserFault};
-use link_term::{TermFault, TermReport};
+use bank_core::{SetEnd, ShiftReport, UserFault};
+use link_term::TermFault;
 use world_steps::End;
 
 /// A user that ended before its job was done.
@@ -90,7 +90,7 @@ fn first_stuck(users: &[Result<(), UserFault>]) -> Option<Stuck>
 }
 
 /// The first of the terminals with these reports that failed.
-fn first_failed(reports: &[Result<TermReport, TermFault>]) -> Option<Failed>
+fn first_failed(reports: &[Result<ShiftReport, TermFault>]) -> Option<Failed>
     ensures { result ≡ failed_from 0 reports.now }
 {
     let mut link: u64 = 0;

@@ -15,7 +15,6 @@
 #![tactic(auto)]
 
 mod asked;
-mod counting;
 mod failures;
 mod fault;
 mod link;

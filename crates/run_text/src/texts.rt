@@ -1,12 +1,11 @@
 //! The lines of a run.
 ghost use Rattle.std.specs.Prelude.{◌≡◌, ◌++◌, ◌≤◌, IfOk, All, length};
 ghost use Rattle.bank_core.specs.Totals.{IsInRange};
-ghost use Rattle.run_text.specs.RunText.{all_text, counted_text, end_text, link_text, links_text, report_text, set_links_text, set_text, sets_text, total_text, yes_or_no};
+ghost use Rattle.run_text.specs.RunText.{all_text, both_text, counted_text, end_text, link_text, links_text, set_links_text, set_text, sets_text, total_text, yes_or_no};
 
-use super::counting::count_link_end;
 use super::link::LinkEnd;
-use bank_core::{SetEnd, SetTotals, totals};
-use link_term::{TermFault, TermReport};
+use bank_core::{SetEnd, SetTotals, ShiftReport, totals};
+use link_term::TermFault;
 use std::alloc::{AllocError, Global};
 
 /// The lines about all sets, and that of all together.
@@ -107,7 +106,7 @@ pub(crate) fn write_links(
         let [b, more @ ..] = left else {
             return Ok(text);
         };
-        let lines = write_set_links(alloc, set, a, b)?;
+        let lines = write_set_links(alloc, set, &a.reports, &b.reports)?;
         text.extend_from_slice(&lines)?;
         set += 1;
         left = more;
@@ -116,20 +115,22 @@ pub(crate) fn write_links(
 }
 
 /// The lines about both ends of each link of a set.
-fn write_set_links(alloc: Global, set: u64, a: &SetEnd, b: &SetEnd) -> Result<Vec<u8>, AllocError>
-    ensures { IfOk result (λ text. text.items ≡
-        set_links_text set 0 a.now b.now a.now.reports.items b.now.reports.items) }
+fn write_set_links(
+    alloc: Global,
+    set: u64,
+    near: &[Result<ShiftReport, TermFault>],
+    far: &[Result<ShiftReport, TermFault>],
+) -> Result<Vec<u8>, AllocError>
+    ensures { IfOk result (λ text. text.items ≡ set_links_text set 0 near.now far.now) }
 {
     let mut text = Vec::new(alloc);
     let mut link: u64 = 0;
-    let mut left = b.reports.as_slice();
-    for near in a.reports.as_slice() {
-        let [far, more @ ..] = left else {
+    let mut left = far;
+    for a in near {
+        let [b, more @ ..] = left else {
             return Ok(text);
         };
-        let mut lines = write_report(alloc, set, link, "a", a, b, near)?;
-        let other = write_report(alloc, set, link, "b", b, a, far)?;
-        lines.extend_from_slice(&other)?;
+        let lines = write_both(alloc, set, link, a, b)?;
         text.extend_from_slice(&lines)?;
         link += 1;
         left = more;
@@ -137,29 +138,26 @@ fn write_set_links(alloc: Global, set: u64, a: &SetEnd, b: &SetEnd) -> Result<Ve
     Ok(text)
 }
 
-/// The line about an end of a link; of a terminal that failed there is none.
-fn write_report(
+/// The lines about both ends of a link; of one at which a terminal failed there is none.
+fn write_both(
     alloc: Global,
     set: u64,
     link: u64,
-    end: &str,
-    own: &SetEnd,
-    other: &SetEnd,
-    report: &Result<TermReport, TermFault>,
+    a: &Result<ShiftReport, TermFault>,
+    b: &Result<ShiftReport, TermFault>,
 ) -> Result<Vec<u8>, AllocError>
-    ensures { IfOk result (λ text. text.items
-        ≡ report_text set link end.now own.now other.now report.now) }
+    ensures { IfOk result (λ text. text.items ≡ both_text set link a.now b.now) }
 {
-    match report {
-        Ok(report) => write_link(
-            alloc,
-            set,
-            link,
-            end,
-            &count_link_end(link, own, other, report),
-        ),
-        Err(_) => Ok(Vec::new(alloc)),
-    }
+    let Ok(a) = a else {
+        return Ok(Vec::new(alloc));
+    };
+    let Ok(b) = b else {
+        return Ok(Vec::new(alloc));
+    };
+    let mut lines = write_link(alloc, set, link, "a", &LinkEnd::of(a, b))?;
+    let other = write_link(alloc, set, link, "b", &LinkEnd::of(b, a))?;
+    lines.extend_from_slice(&other)?;
+    Ok(lines)
 }
 
 /// The line about an end of a link.

@@ -1,5 +1,5 @@
 -- What threads promise, one after another, and what comes of it.
-use Rattle.std.proofs.Common.{refl, arith, ◌≡◌, ◌∙◌, ap, sym, subst, ◌+◌, ◌<◌, ◌≤◌, inl, inr, ℕ, zero, suc, List, [], ◌∷◌, ◌++◌, map, length, drop, filter, All, Option, None, Result}
+use Rattle.std.proofs.Common.{refl, arith, ◌≡◌, ◌∙◌, ap, sym, subst, ◌+◌, ◌<◌, ◌≤◌, inl, inr, ℕ, zero, suc, List, [], ◌∷◌, ◌++◌, map, length, drop, All, Option, None, Result}
 use Rattle.std.specs.Option.{option_to_list, unwrap_or}
 use Rattle.std.specs.List.{AllZip}
 use Rattle.std.proofs.lemmas.List.{length-append, length-map, map-append}
@@ -9,7 +9,7 @@ use Rattle.set_events.specs.declared.books.Books.{Books}
 use Rattle.set_events.specs.declared.event.Actor.{Actor}
 use Rattle.set_events.specs.declared.event.Actor.TheVariants.{User, Terminal}
 use Rattle.set_events.specs.declared.history.Entry.{Entry}
-use Rattle.set_ledger.specs.Ending.{IsFaithful, is_by}
+use Rattle.set_ledger.specs.Ending.{IsFaithful}
 use Rattle.set_ledger.specs.Seats.{SeatState, new_seat, new_seats}
 use Rattle.set_crew.specs.declared.crew.Ended.{Ended}
 use Rattle.set_crew.specs.declared.fault.UserFault.{UserFault}
@@ -17,7 +17,7 @@ use Rattle.set_crew.specs.declared.plan.Job.{Job}
 use Rattle.set_crew.specs.declared.plan.Plan.{Plan}
 use Rattle.set_crew.specs.declared.terminal.ShiftOf.{ShiftOf}
 use Rattle.link_term.specs.declared.fault.TermFault.{TermFault}
-use Rattle.term_model.specs.declared.report.TermReport.{TermReport}
+use Rattle.set_crew.specs.declared.report.ShiftReport.{ShiftReport}
 use Rattle.set_crew.specs.declared.user.JobOf.{JobOf}
 use Rattle.set_crew.specs.Jobs.{DidJobs, Does, Duty, duty_of, first_or, no_duty}
 use Rattle.set_crew.specs.Keeping.{AreJobs, AreKept, AreNew, AreShifts, KeepsJob, KeepsShift}
@@ -137,7 +137,7 @@ started_terminal plan ps ps' p n n' seats seats' seat are is are_shifts many mor
     )
 
 -- WHAT CAME OF THE TERMINALS, in the history.
-did_turns : (link number : ℕ) (seat : SeatState) (plan plan' : Plan) (told : Result TermReport TermFault) (books : Books) (history : List Entry) → number ≡ link → seat.who ≡ Terminal number → plan ≡ plan' → IsFaithful books history seat
+did_turns : (link number : ℕ) (seat : SeatState) (plan plan' : Plan) (told : Result ShiftReport TermFault) (books : Books) (history : List Entry) → number ≡ link → seat.who ≡ Terminal number → plan ≡ plan' → IsFaithful books history seat
     → DoesShift plan number told seat.receipts → (calls : List Entry) × AreCalls (Terminal link) books history calls × DoesShift plan' link told calls
 did_turns link number seat plan plan' told books history same is plans faithful does = (
   seat.receipts,
@@ -145,9 +145,9 @@ did_turns link number seat plan plan' told books history same is plans faithful 
   subst (λ (n : ℕ). DoesShift plan' n told seat.receipts) same (subst (λ (p : Plan). DoesShift p number told seat.receipts) plans does),
 )
 
-pub did_shifts : (link : ℕ) (plan : Plan) (ps : List ShiftOf) (ends : List (Ended SeatState (Result TermReport TermFault))) (idle : List SeatState) (books : Books) (history : List Entry) → AreShifts link plan ps → AllZip KeepsShift ps ends
-    → All (IsFaithful books history) (map (λ (end : Ended SeatState (Result TermReport TermFault)). end.seat) ends ++ idle)
-    → DidShifts link plan (map (λ (end : Ended SeatState (Result TermReport TermFault)). end.told) ends) books history × All (IsFaithful books history) idle
+pub did_shifts : (link : ℕ) (plan : Plan) (ps : List ShiftOf) (ends : List (Ended SeatState (Result ShiftReport TermFault))) (idle : List SeatState) (books : Books) (history : List Entry) → AreShifts link plan ps → AllZip KeepsShift ps ends
+    → All (IsFaithful books history) (map (λ (end : Ended SeatState (Result ShiftReport TermFault)). end.seat) ends ++ idle)
+    → DidShifts link plan (map (λ (end : Ended SeatState (Result ShiftReport TermFault)). end.told) ends) books history × All (IsFaithful books history) idle
 did_shifts link plan [] [] idle books history are each faithful = (tt, faithful)
 did_shifts link plan [] (end ∷ ends) idle books history are each faithful = absurd each
 did_shifts link plan (p ∷ ps) [] idle books history are each faithful = absurd each

@@ -1,5 +1,6 @@
 pub mod Calling
 pub mod Configs
+pub mod Counting
 pub mod Doing
 pub mod Done
 pub mod Ending

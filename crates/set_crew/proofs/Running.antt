@@ -7,6 +7,9 @@ use Rattle.set_events.specs.declared.history.Entry.{Entry}
 use Rattle.term_model.specs.Terminal.{Terminal, opened, told}
 use Rattle.term_model.specs.declared.command.Command.TheVariants.{Emergency, Start}
 use Rattle.set_crew.specs.declared.plan.Plan.{Plan}
+use Rattle.set_crew.specs.declared.report.Answered.{Answered}
+use Rattle.set_crew.specs.declared.report.ShiftReport.{ShiftReport}
+use Rattle.set_crew.specs.Counts.{answered_in, reported}
 use Rattle.set_crew.specs.Shifts.{AfterHalf, DoesShift, Halves, Standing, Turns, TurnsBy, fresh, is_to_fail, standing}
 
 -- it went, or it failed
@@ -27,10 +30,10 @@ by_first_half turns first fault before between is went =
     (first, between, went, subst (λ (f : Result TermReport TermFault). AfterHalf turns f (Err fault) between between) (sym is) (refl, refl))
 
 -- A SHIFT, from a new terminal on
-pub shift_of : (plan : Plan) (link number : ℕ) (ended : Result TermReport TermFault) (before after : Standing) (made : List Entry)
-    → TurnsBy (is_to_fail plan.fail number) plan.turns ended before after → before.taken ≡ [] → before.inside ≡ told Start (told Emergency (opened number plan.timers))
-    → before.made ≡ [] → before.faults ≡ [] → number ≡ link → made ≡ after.made → DoesShift plan link ended made
-shift_of plan link number ended before after made turned taken_is inside_is made_is faults_is same end_is =
+pub shift_of : (plan : Plan) (link number : ℕ) (counts : Result TermReport TermFault) (ended : Result ShiftReport TermFault) (answered : Answered) (before after : Standing) (made : List Entry)
+    → TurnsBy (is_to_fail plan.fail number) plan.turns counts before after → before.taken ≡ [] → before.inside ≡ told Start (told Emergency (opened number plan.timers))
+    → before.made ≡ [] → before.faults ≡ [] → number ≡ link → made ≡ after.made → ended ≡ reported answered counts → answered ≡ answered_in number made → DoesShift plan link ended made
+shift_of plan link number counts ended answered before after made turned taken_is inside_is made_is faults_is same end_is told_is counted =
     let new = told Start (told Emergency (opened number plan.timers)) in
     let start : before ≡ fresh number plan.timers before.line =
     ap (λ (t : List ℕ). standing t before.inside before.made before.faults before.line) taken_is
@@ -41,6 +44,8 @@ shift_of plan link number ended before after made turned taken_is inside_is made
     (record {
       line = before.line;
       after = after;
-      turns = subst (λ (b : Standing). TurnsBy (is_to_fail plan.fail number) plan.turns ended b after) start turned;
+      counts = counts;
+      turns = subst (λ (b : Standing). TurnsBy (is_to_fail plan.fail number) plan.turns counts b after) start turned;
       made_is = end_is;
+      ended_is = told_is ∙ ap (λ (a : Answered). reported a counts) counted;
     })

@@ -4,7 +4,7 @@ use Rattle.std.specs.List.{AllZip}
 use Rattle.set_ledger.specs.Seats.{SeatState, new_seat}
 use Rattle.set_events.specs.declared.event.Actor.{Actor}
 use Rattle.set_events.specs.declared.event.Actor.TheVariants.{User, Terminal}
-use Rattle.term_model.specs.declared.report.TermReport.{TermReport}
+use Rattle.set_crew.specs.declared.report.ShiftReport.{ShiftReport}
 use Rattle.link_term.specs.declared.fault.TermFault.{TermFault}
 use Rattle.set_crew.specs.declared.crew.Ended.{Ended}
 use Rattle.set_crew.specs.declared.plan.Plan.{Plan}
@@ -39,7 +39,7 @@ KeepsJob promise end = (end.seat.who ≡ User promise.user)
     × Does (User promise.user) (duty_of promise.job.value) end.told [] end.seat.receipts
 
 -- A TERMINAL'S: they are those of its turns.
-abbrev pub KeepsShift : ShiftOf → Ended SeatState (Result TermReport TermFault) → Type 0
+abbrev pub KeepsShift : ShiftOf → Ended SeatState (Result ShiftReport TermFault) → Type 0
 KeepsShift promise end = (end.seat.who ≡ Terminal promise.link)
     × DoesShift promise.plan promise.link end.told end.seat.receipts
 
@@ -71,14 +71,14 @@ pub record AreUsers (users : ℕ) (jobs : List Duty) (seats : List SeatState) (t
 
 -- the seats of these terminals, and then those of which nothing was asked
 pub record GathersTerminals (promises : List ShiftOf) (idle seats : List SeatState)
-    (told : List (Result TermReport TermFault)) : Type 0 where
+    (told : List (Result ShiftReport TermFault)) : Type 0 where
   pub run : List SeatState
   pub kept : AreKept KeepsShift promises run told
   pub seats_are : seats ≡ run ++ idle
 
 -- AND OF THE TERMINALS: each that has a line took its turns, and of the others nothing was asked
 pub record AreTerminals (lines links : ℕ) (plan : Plan) (seats : List SeatState)
-    (told : List (Result TermReport TermFault)) : Type 0 where
+    (told : List (Result ShiftReport TermFault)) : Type 0 where
   pub promises : List ShiftOf
   pub idle : List SeatState
   pub promised : PromiseShifts lines links plan promises idle

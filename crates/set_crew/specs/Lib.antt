@@ -1,3 +1,4 @@
+pub mod Counts
 pub mod Ends
 pub mod Faults
 pub mod Jobs

@@ -12,6 +12,8 @@ use Rattle.link_term.specs.declared.fault.TermFault.{TermFault}
 use Rattle.link_term.specs.Looking.{Seen}
 use Rattle.link_term.specs.Running.{Runs, RunFails}
 use Rattle.set_crew.specs.declared.plan.Plan.{Plan}
+use Rattle.set_crew.specs.declared.report.ShiftReport.{ShiftReport}
+use Rattle.set_crew.specs.Counts.{answered_in, reported}
 use Rattle.set_crew.specs.Seats.{AreCalls}
 
 -- how a terminal stands: the octets that it took, its inside, its entries, its set's faults, and what it saw of its line
@@ -81,15 +83,17 @@ TurnsBy false = Turns
 abbrev pub fresh : ℕ → Timers → Seen → Standing
 fresh link timers line = standing [] (told Start (told Emergency (opened link timers))) [] [] line
 
--- A SHIFT: all turns of the plan over some line, which left these entries
-pub record DoesShift (plan : Plan) (link : ℕ) (ended : Result TermReport TermFault) (made : List Entry) : Type 0 where
+-- A SHIFT: all turns of the plan over some line, which left these entries, and what is reported of both
+pub record DoesShift (plan : Plan) (link : ℕ) (ended : Result ShiftReport TermFault) (made : List Entry) : Type 0 where
   pub line : Seen
   pub after : Standing
-  pub turns : TurnsBy (is_to_fail plan.fail link) plan.turns ended (fresh link plan.timers line) after
+  pub counts : Result TermReport TermFault
+  pub turns : TurnsBy (is_to_fail plan.fail link) plan.turns counts (fresh link plan.timers line) after
   pub made_is : made ≡ after.made
+  pub ended_is : ended ≡ reported (answered_in link made) counts
 
 -- THE TERMINALS, from this link on, each took its own turns, and asked the set nothing else
-abbrev pub DidShifts : ℕ → Plan → List (Result TermReport TermFault) → Books → List Entry → Type 0
+abbrev pub DidShifts : ℕ → Plan → List (Result ShiftReport TermFault) → Books → List Entry → Type 0
 DidShifts link plan [] books history = Unit {0}
 DidShifts link plan (ended ∷ more) books history =
     ((calls : List Entry) × AreCalls (Actor.Terminal link) books history calls × DoesShift plan link ended calls)

@@ -6,9 +6,10 @@ ghost use Rattle.set_crew.specs.Keeping.{AreKept, GathersTerminals, KeepsJob};
 ghost use Rattle.set_crew.specs.declared.fault.CrewFault.TheVariants.{NoMemory, NoThread};
 
 use super::fault::{CrewFault, UserFault};
+use super::report::ShiftReport;
 use super::terminal::ShiftOf;
 use super::user::JobOf;
-use link_term::{TermFault, TermReport};
+use link_term::TermFault;
 use set_shared::{Opening, TermSeat, UserSeat};
 use std::alloc::{AllocError, Global};
 use std::sync::ledger::Ledger;
@@ -25,8 +26,8 @@ pub(crate) struct Ended<S: Drop, T: Drop> {
 /// A user's seat, and why the user ended early, if it did.
 pub(crate) type UserEnd<C, M, O, A> = Ended<UserSeat<C, M, O, A>, Result<(), UserFault>>;
 
-/// A terminal's seat, and what its turns counted, or why they ended early.
-pub(crate) type TermEnd<C, M, O, A> = Ended<TermSeat<C, M, O, A>, Result<TermReport, TermFault>>;
+/// A terminal's seat, and what its turns came to, or why they ended early.
+pub(crate) type TermEnd<C, M, O, A> = Ended<TermSeat<C, M, O, A>, Result<ShiftReport, TermFault>>;
 
 /// The thread of a user.
 pub(crate) type UserThread<C, M, O, A> = PromisedHandle<UserEnd<C, M, O, A>, JobOf>;
@@ -48,7 +49,7 @@ pub(crate) struct Gathered<C: Opening, M: Ledger, O: Ledger, A: Ledger> {
     pub(crate) users: Vec<UserSeat<C, M, O, A>>,
     pub(crate) user_ends: Vec<Result<(), UserFault>>,
     pub(crate) terminals: Vec<TermSeat<C, M, O, A>>,
-    pub(crate) reports: Vec<Result<TermReport, TermFault>>,
+    pub(crate) reports: Vec<Result<ShiftReport, TermFault>>,
 }
 
 /// The seats of threads that have ended, and what each thread tells.

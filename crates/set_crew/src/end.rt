@@ -1,7 +1,8 @@
 //! What a set came to.
 
 use super::fault::UserFault;
-use link_term::{TermFault, TermReport};
+use super::report::ShiftReport;
+use link_term::TermFault;
 use set_shared::Closed;
 
 /// What a set came to.
@@ -9,8 +10,8 @@ use set_shared::Closed;
 pub struct SetEnd {
     /// The base and the history since, legal for the set's configuration, with its books and counts.
     pub closed: Closed,
-    /// What the turns of each terminal counted, by the links' numbers, or why they ended early.
-    pub reports: Vec<Result<TermReport, TermFault>>,
+    /// What the turns of each terminal came to, by the links' numbers, or why they ended early.
+    pub reports: Vec<Result<ShiftReport, TermFault>>,
     /// That each user did its job, by the users' numbers, or why it ended early.
     pub users: Vec<Result<(), UserFault>>,
 }

@@ -1,10 +1,12 @@
 //! The door of a set that threads share.
-ghost use Rattle.std.specs.Prelude.{◌≡◌, [], ◌∷◌, ◌++◌};
+ghost use Rattle.std.specs.Prelude.{◌≡◌, ◌<◌, ◌^◌, [], ◌∷◌, ◌++◌, length};
+ghost use Rattle.set_crew.specs.Counts.{answered_in};
 ghost use Rattle.set_crew.specs.Seats.{link_in};
 
+use super::report::{Answered, NOTHING};
 use link_term::{Door, Faults, Gate};
 use set_events::{Answer, Event, SetFault};
-use set_shared::{LinkSet, Opening, TermSeat};
+use set_shared::{LinkSet, Opening, Seat, TermSeat};
 use std::sync::Wait;
 use std::sync::ledger::Ledger;
 
@@ -19,6 +21,8 @@ pub struct SeatDoor<'a, C: Opening, M: Ledger, O: Ledger, A: Ledger, R: Wait, G:
     seat: TermSeat<C, M, O, A>,
     gate: &'a G,
     faults: Faults,
+    answered: Answered,
+    ghost is_counted: { answered ≡ answered_in (link_in seat.who) seat.receipts },
 }
 
 impl<'a, C: Opening, M: Ledger, O: Ledger, A: Ledger, R: Wait, G: Gate> SeatDoor<
@@ -30,8 +34,8 @@ impl<'a, C: Opening, M: Ledger, O: Ledger, A: Ledger, R: Wait, G: Gate> SeatDoor
     R,
     G,
 > {
-    /// The door of this seat's link, at its set, whose number is only told to the gate. Its link is the seat's, and what
-    /// it made are the seat's receipts.
+    /// The door of this seat's link, at its set, whose number is only told to the gate. Its link is the seat's, which
+    /// made no step yet, and what it makes are the seat's receipts.
     pub fn new(
         rt: &'a R,
         set: &'a LinkSet<C, M, O, A>,
@@ -39,6 +43,7 @@ impl<'a, C: Opening, M: Ledger, O: Ledger, A: Ledger, R: Wait, G: Gate> SeatDoor
         seat: TermSeat<C, M, O, A>,
         gate: &'a G,
     ) -> SeatDoor<'a, C, M, O, A, R, G>
+        requires { seat.receipts ≡ [] }
         ensures seat { result.seat ≡ seat }
         ensures faults { result.faults ≡ [] }
     {
@@ -49,7 +54,15 @@ impl<'a, C: Opening, M: Ledger, O: Ledger, A: Ledger, R: Wait, G: Gate> SeatDoor
             seat,
             gate,
             faults: Faults::new(),
+            answered: NOTHING,
         }
+    }
+
+    /// What the set answered to the steps that were made through the door.
+    pub fn answered(&self) -> Answered
+        ensures { result ≡ answered_in (link_in self.now.seat.who) self.now.seat.receipts }
+    {
+        self.answered
     }
 
     /// The seat, with a receipt for each step that was made through the door.
@@ -89,9 +102,22 @@ impl<'a, C: Opening, M: Ledger, O: Ledger, A: Ledger, R: Wait, G: Gate> Door
         let answered = self
             .set
             .term_step_held(self.rt, &mut self.seat, event, inside);
-        if let Err(fault) = &answered {
-            self.faults.note(*fault);
+        match &answered {
+            Ok(answer) => {
+                // each that is counted is a call
+                count_calls(&self.seat);
+                self.answered = self.answered.with(link, event, answer);
+            }
+            Err(fault) => self.faults.note(*fault),
         }
         answered
     }
+}
+
+/// How many steps were made at this seat.
+fn count_calls<C: Opening, M: Ledger, O: Ledger, A: Ledger>(seat: &TermSeat<C, M, O, A>) -> u64
+    ensures value { result ≡ length seat.now.receipts }
+    ensures few { result < 2 ^ 64 }
+{
+    seat.share().calls
 }

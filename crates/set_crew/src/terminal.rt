@@ -7,6 +7,7 @@ ghost use Rattle.set_crew.specs.Shifts.{AfterHalf, DoesShift, Halves, Turns, Tur
 use super::crew::{Ended, TermEnd};
 use super::orders::{Lent, Orders};
 use super::plan::Plan;
+use super::report::reported;
 use super::seat_door::SeatDoor;
 use line_ring::Line;
 use link_term::{Command, Door, Gate, TermFault, TermReport, Terminal};
@@ -79,10 +80,11 @@ impl<'a, C: Opening, M: Ledger, O: Ledger, A: Ledger, L: Line + Drop, G: Gate, R
         terminal.command(Command::Start);
         let report = all_turns(&mut terminal, link, &orders.plan);
         let (door, _line, _gate) = terminal.into_parts();
+        let told = reported(report, door.answered());
         let seat = door.into_seat();
         // it's the seat of that link still
         seat.link();
-        Ended { seat, told: report }
+        Ended { seat, told }
     }
 }
 

@@ -13,6 +13,7 @@ use std::thread::Threads;
 fn printed<R: Threads + Wait + Copy + Send + Sync + 'static>(
     rt: &R,
     alloc: Global,
+    checkpoint: Option<u16>,
 ) -> Result<String, Fail> {
     let traffic = Traffic {
         sets: 1,
@@ -22,6 +23,7 @@ fn printed<R: Threads + Wait + Copy + Send + Sync + 'static>(
         fail: Some(0),
         cyclic: false,
         turns: 50_000,
+        checkpoint,
     };
     let gates = pace_gates(alloc, 1, 2)?;
     let mut sink = Writer::new(Vec::new(alloc));
@@ -54,8 +56,22 @@ fn number_of(text: &str, beginning: &str) -> Option<u64> {
 /// offered: threads that come very late have too few turns left.
 #[test]
 fn links_are_told_one_by_one(rt: HostRuntime) -> Result<(), Fail> {
+    one_is_delivered(&rt, rt.alloc(), None)
+}
+
+/// What a link did is told of all the run, though each user takes a checkpoint after each ten of its messages.
+#[test]
+fn a_checkpoint_takes_nothing_from_what_links_did(rt: HostRuntime) -> Result<(), Fail> {
+    one_is_delivered(&rt, rt.alloc(), Some(10))
+}
+
+fn one_is_delivered<R: Threads + Wait + Copy + Send + Sync + 'static>(
+    rt: &R,
+    alloc: Global,
+    checkpoint: Option<u16>,
+) -> Result<(), Fail> {
     for _run in 0..10u8 {
-        let text = printed(&rt, rt.alloc())?;
+        let text = printed(rt, alloc, checkpoint)?;
         holds(is_told_by_link(&text))?;
         if all_is_delivered(&text) {
             return Ok(());

@@ -49,8 +49,14 @@ fn run_told(alloc: Global, run: &RunWords) -> Result<String, AllocError> {
         None => "none".to_string(alloc)?,
     };
     let method = if run.cyclic { "cyclic" } else { "basic" };
+    let checkpoint = match run.checkpoint {
+        Some(messages) => messages.to_string(alloc)?,
+        None => "never".to_string(alloc)?,
+    };
     let lines = if run.per_link { " per-link" } else { "" };
-    format!(in alloc; "run {sets} {links} {users} {messages} {fail} {method} {turns}{lines}")
+    format!(in alloc;
+        "run {sets} {links} {users} {messages} {fail} {method} {turns} {checkpoint}{lines}"
+    )
 }
 
 /// The words are refused.
@@ -131,6 +137,7 @@ fn numbers_of_a_run(rt: HostRuntime) -> Result<(), Fail> {
         "--messages=1",
         "--fail=0",
         "--turns=1",
+        "--checkpoint=1",
     ];
     let most = [
         "run",
@@ -141,14 +148,15 @@ fn numbers_of_a_run(rt: HostRuntime) -> Result<(), Fail> {
         "--fail=15",
         "--method=cyclic",
         "--turns=1000000",
+        "--checkpoint=1024",
         "--per-link",
     ];
     let split = ["run", "--method", "basic", "--fail", "1"];
     holds(
-        ask_for(alloc, &["run"], "run 1 2 4 1000 none basic 20000")
-            && ask_for(alloc, &least, "run 1 1 1 1 0 basic 1")
-            && ask_for(alloc, &most, "run 16 16 16 1024 15 cyclic 1000000 per-link")
-            && ask_for(alloc, &split, "run 1 2 4 1000 1 basic 20000"),
+        ask_for(alloc, &["run"], "run 1 2 4 1000 none basic 20000 never")
+            && ask_for(alloc, &least, "run 1 1 1 1 0 basic 1 1")
+            && ask_for(alloc, &most, "run 16 16 16 1024 15 cyclic 1000000 1024 per-link")
+            && ask_for(alloc, &split, "run 1 2 4 1000 1 basic 20000 never"),
     )
 }
 
@@ -173,7 +181,10 @@ fn a_run_of_wrong_numbers(rt: HostRuntime) -> Result<(), Fail> {
         "--turns=18446744073709551617",
         "--method=other",
         "--per-link=yes",
-        "--checkpoint=1",
+        "--checkpoint=0",
+        "--checkpoint=1025",
+        "--checkpoint=",
+        "--checkpoints=1",
     ];
     let others: [&[&str]; 3] = [
         &["run", "--sets"],
@@ -205,7 +216,7 @@ fn a_run_without_the_link_that_fails(rt: HostRuntime) -> Result<(), Fail> {
 }
 
 const USAGE: &str = "\nusage: mtpbank run [--sets N] [--links L] [--users U] [--messages M] \
-[--fail K] [--method WORD] [--turns T] [--per-link]";
+[--fail K] [--method WORD] [--turns T] [--checkpoint C] [--per-link]";
 
 /// This is said of the words behind `run`, and the usage in a second line.
 fn says_of_run(alloc: Global, first: &str, second: &str, said: &str) -> Result<bool, AllocError> {
@@ -219,9 +230,11 @@ fn a_wrong_value_is_told_with_its_range(rt: HostRuntime) -> Result<(), Fail> {
     let alloc = rt.alloc();
     let links = "mtpbank run: --links 99 isn't a number from 1 to 16";
     let turns = "mtpbank run: --turns 0 isn't a number from 1 to 1000000";
+    let checkpoint = "mtpbank run: --checkpoint 0 isn't a number from 1 to 1024";
     holds(
         says_of_run(alloc, "--links", "99", links)?
             && says_of_run(alloc, "--per-link", "--turns=0", turns)?
+            && says_of_run(alloc, "--checkpoint", "0", checkpoint)?
             && says_of_run(alloc, "--per-link", "x", "mtpbank run: x isn't an option")?,
     )
 }

@@ -13,11 +13,13 @@ returns-clause-shape c =
     let fail = option_rule (codes "fail") in
     let method = option_rule (codes "method") in
     let turns = option_rule (codes "turns") in
+    let checkpoint = option_rule (codes "checkpoint") in
     let none = c.in_ok-sized.ensures.shape ∙ ap (λ (bare : Shape). with_rules bare size_rules) c.bare_command.ensures.shape in
     let first = c.in_ok-failing.ensures.shape
     ∙ ap₂ (λ (shape : Shape) (rule : Rule). with_rules shape (rule ∷ [])) none c.option-link.ensures.rule in
     let second = one_more _ _ sized (fail ∷ []) _ _ first c.in_ok-by_method.ensures.shape c.option-method.ensures.rule in
     let third = one_more _ _ sized (fail ∷ method ∷ []) _ _ second c.in_ok-timed.ensures.shape c.option-turns.ensures.rule in
-    IfOk-weaker c.with_option-4.result _ _
-    (λ more is. one_more _ _ sized (fail ∷ method ∷ turns ∷ []) _ _ third is c.flag.ensures.rule)
-    c.with_option-4.ensures.shape
+    let fourth = one_more _ _ sized (fail ∷ method ∷ turns ∷ []) _ _ third c.in_ok-checkpointed.ensures.shape c.option-checkpoint.ensures.rule in
+    IfOk-weaker c.with_option-5.result _ _
+    (λ more is. one_more _ _ sized (fail ∷ method ∷ turns ∷ checkpoint ∷ []) _ _ fourth is c.flag.ensures.rule)
+    c.with_option-5.ensures.shape
