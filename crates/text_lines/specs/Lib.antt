@@ -1,3 +1,5 @@
 pub mod Flaws
 pub mod Lines
 pub mod Reading
+pub mod Talks
+pub mod Talking

@@ -5,7 +5,8 @@
 //! ```
 //!
 //! [`print_lines`] reads a source and writes what its lines print, each when it has ended, for every [`LineText`]: the
-//! rules of a text, and the code that carries out one line of it. It has the line ends, the remarks, the longest
+//! rules of a text, and the code that carries out one line of it. [`print_talk`] does so for every [`TalkText`], whose rules
+//! are a relation by which a line has one outcome (`specs/Talks.antt`). It has the line ends, the remarks, the longest
 //! line and the numbers of the lines, once. `specs/Lines.antt` says what is printed: a function from the octets of
 //! the input and the rules. [`find_flaw`] tells of a line that can't be read which octet besides its words is at fault
 //! (`specs/Flaws.antt`). [`end_of_line`] and [`is_passed_over`] are for who reads such lines in another way.
@@ -13,13 +14,16 @@
 //! This crate knows no text.
 #![tactic(auto)]
 
+mod by_function;
 mod flaw;
 mod line_reader;
 mod line_text;
 mod lines;
+mod talk_text;
 mod text;
 
 pub use flaw::{LineFlaw, find_flaw};
 pub use line_text::LineText;
 pub use lines::{end_of_line, is_passed_over};
-pub use text::print_lines;
+pub use talk_text::TalkText;
+pub use text::{print_lines, print_talk};

@@ -1,9 +1,10 @@
 //! Lines under way: the line that is being read, and what those before it left.
 ghost use Rattle.std.specs.Prelude.{◌≤◌, length};
-ghost use Rattle.text_lines.specs.Lines.{read_line};
-ghost use Rattle.text_lines.specs.Reading.{Finishes, IsReading, IsDone};
+ghost use Rattle.text_lines.specs.Reading.{IsReading};
+ghost use Rattle.text_lines.specs.Talking.{FinishesBy, IsCarriedOut};
+ghost use Rattle.text_lines.specs.Talks.{MayRead};
 
-use super::line_text::LineText;
+use super::talk_text::TalkText;
 use super::lines::{end_of_line, is_passed_over};
 use printing::{Printer, Stop};
 use std::alloc::Global;
@@ -34,9 +35,10 @@ impl<L> Model for LineReader<L> {
     ghost invariant = { λ p. IsReading p.text.items };
 }
 
-impl<L: LineText> LineReader<L> {
+impl<L: TalkText> LineReader<L> {
     ghost use Rattle.std.specs.Prelude.{◌≡◌, ℕ, List, [], ◌∷◌, ◌++◌};
-    ghost use Rattle.text_lines.specs.Reading.{IsOpen, AdvancesOrHalts, Finishes};
+    ghost use Rattle.text_lines.specs.Reading.{IsOpen};
+    ghost use Rattle.text_lines.specs.Talking.{AdvancesOrHaltsBy, FinishesBy};
 
     /// Before the first octet.
     pub(crate) fn new(alloc: Global, state: L) -> LineReader<L>
@@ -52,7 +54,7 @@ impl<L: LineText> LineReader<L> {
 
     /// Reads these octets.
     fn read_all(&mut self, octets: &[u8], out: &mut Vec<u8>) -> Result<(), Stop<L::Fault>>
-        ensures { AdvancesOrHalts L.rules result self.old octets.now
+        ensures { AdvancesOrHaltsBy L.rules result self.old octets.now
             out.old.items out.new.items self.new }
     {
         let mut left = octets;
@@ -66,7 +68,7 @@ impl<L: LineText> LineReader<L> {
     /// Reads what is left of a line, and the LF behind it.
     fn read_line(&mut self, octets: &[u8], out: &mut Vec<u8>) -> Result<(), Stop<L::Fault>>
         requires { IsOpen octets.now }
-        ensures { AdvancesOrHalts L.rules result self.old (octets.now ++ 10 ∷ [])
+        ensures { AdvancesOrHaltsBy L.rules result self.old (octets.now ++ 10 ∷ [])
             out.old.items out.new.items self.new }
     {
         if self.text.is_empty() {
@@ -80,7 +82,7 @@ impl<L: LineText> LineReader<L> {
     fn read_at_once(&mut self, octets: &[u8], out: &mut Vec<u8>) -> Result<(), Stop<L::Fault>>
         requires begins { self.old.text ≡ [] }
         requires open { IsOpen octets.now }
-        ensures { AdvancesOrHalts L.rules result self.old (octets.now ++ 10 ∷ [])
+        ensures { AdvancesOrHaltsBy L.rules result self.old (octets.now ++ 10 ∷ [])
             out.old.items out.new.items self.new }
     {
         if octets.len() > LONGEST_LINE {
@@ -93,7 +95,7 @@ impl<L: LineText> LineReader<L> {
 
     /// Reads the LF that ends a line of which octets were kept.
     fn end_line(&mut self, out: &mut Vec<u8>) -> Result<(), Stop<L::Fault>>
-        ensures { AdvancesOrHalts L.rules result self.old (10 ∷ [])
+        ensures { AdvancesOrHaltsBy L.rules result self.old (10 ∷ [])
             out.old.items out.new.items self.new }
     {
         end_line(self.alloc, &mut self.state, self.line, &self.text, out)?;
@@ -105,7 +107,7 @@ impl<L: LineText> LineReader<L> {
     /// Reads octets that end no line: they print nothing.
     fn keep(&mut self, octets: &[u8]) -> Result<(), Stop<L::Fault>>
         requires { IsOpen octets.now }
-        ensures { (out : List ℕ) → AdvancesOrHalts L.rules result self.old octets.now
+        ensures { (out : List ℕ) → AdvancesOrHaltsBy L.rules result self.old octets.now
             out out self.new }
     {
         if octets.len() > LONGEST_LINE - self.text.len() {
@@ -117,14 +119,14 @@ impl<L: LineText> LineReader<L> {
 
     /// The input has ended: the last line may lack its LF.
     fn finish(&mut self, out: &mut Vec<u8>) -> Result<(), Stop<L::Fault>>
-        ensures { Finishes L.rules result self.old out.old.items out.new.items }
+        ensures { FinishesBy L.rules result self.old out.old.items out.new.items }
     {
         finished(self.alloc, &mut self.state, self.line, &self.text, out)
     }
 }
 
 /// Carries out the line of this number, and appends what it prints.
-fn end_line<L: LineText>(
+fn end_line<L: TalkText>(
     alloc: Global,
     state: &mut L,
     line: u64,
@@ -132,7 +134,7 @@ fn end_line<L: LineText>(
     out: &mut Vec<u8>,
 ) -> Result<(), Stop<L::Fault>>
     requires { length text.now ≤ 4096 }
-    ensures { IsDone result (read_line L.rules line state.old text.now)
+    ensures { IsCarriedOut result (MayRead L.rules line state.old text.now)
         out.old.items out.new.items state.new }
 {
     if is_passed_over(text) {
@@ -142,7 +144,7 @@ fn end_line<L: LineText>(
 }
 
 /// What is left is carried out, and what stands behind the last line is appended.
-fn finished<L: LineText>(
+fn finished<L: TalkText>(
     alloc: Global,
     state: &mut L,
     line: u64,
@@ -150,7 +152,7 @@ fn finished<L: LineText>(
     out: &mut Vec<u8>,
 ) -> Result<(), Stop<L::Fault>>
     requires { IsReading text.now }
-    ensures { Finishes L.rules result (record { line = line; text = text.now; state = state.old })
+    ensures { FinishesBy L.rules result (record { line = line; text = text.now; state = state.old })
         out.old.items out.new.items }
 {
     if text.is_empty() {
@@ -160,15 +162,15 @@ fn finished<L: LineText>(
     state.end(alloc, out)
 }
 
-impl<L: LineText + Drop> Printer for LineReader<L> {
+impl<L: TalkText + Drop> Printer for LineReader<L> {
     type Fault = L::Fault;
 
-    ghost use Rattle.text_lines.specs.Lines.{IsLinesText};
-    ghost use Rattle.text_lines.specs.Reading.{HasPrinted};
+    ghost use Rattle.text_lines.specs.Talking.{HasPrintedBy};
+    ghost use Rattle.text_lines.specs.Talks.{IsTalkText};
 
-    ghost is_text = { IsLinesText L.rules };
+    ghost is_text = { IsTalkText L.rules };
 
-    ghost has_read = { λ reader past lines. HasPrinted L.rules past lines reader };
+    ghost has_read = { λ reader past lines. HasPrintedBy L.rules past lines reader };
 
     fn read(&mut self, octets: &[u8], out: &mut Vec<u8>) -> Result<(), Stop<L::Fault>> {
         self.read_all(octets, out)

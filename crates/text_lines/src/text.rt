@@ -2,9 +2,12 @@
 ghost use Rattle.std.specs.Prelude.{◌≡◌, ◌≤◌, ◌^◌, length, IfSome, OnOk};
 ghost use Rattle.printing.specs.Printing.{Prints, FailsByDevices};
 ghost use Rattle.text_lines.specs.Lines.{IsLinesText};
+ghost use Rattle.text_lines.specs.Talks.{IsTalkText};
 
+use super::by_function::ByFunction;
 use super::line_reader::LineReader;
 use super::line_text::LineText;
+use super::talk_text::TalkText;
 use printing::{Fault, Sink, Source, print_all};
 use std::alloc::Global;
 
@@ -23,6 +26,29 @@ pub fn print_lines<L: LineText + Drop, S: Source, W: Sink>(
     requires longest { longest ≤ 2 ^ 60 }
     ensures text { IfSome (S.left source.old)
         (λ input. Prints result (IsLinesText L.rules input)
+        (W.written sink.old) (W.written sink.new)) }
+    ensures bounded { IfSome (S.left source.old) (λ input. OnOk result (length input ≤ longest)) }
+    ensures devices { IfSome (S.left source.old)
+        (FailsByDevices longest result (S.failures source.old) (S.failures source.new)
+        (W.failures sink.old) (W.failures sink.new)) }
+{
+    print_talk(alloc, ByFunction::new(lines), longest, source, sink)
+}
+
+/// Reads the lines that the source gives, at most `longest` octets, and writes what they may print.
+///
+/// Ends with the first fault, as [`print_lines`].
+pub fn print_talk<L: TalkText + Drop, S: Source, W: Sink>(
+    alloc: Global,
+    lines: L,
+    longest: usize,
+    source: &mut S,
+    sink: &mut W,
+) -> Result<(), Fault<L::Fault>>
+    requires start { lines ≡ L.rules.start }
+    requires longest { longest ≤ 2 ^ 60 }
+    ensures text { IfSome (S.left source.old)
+        (λ input. Prints result (IsTalkText L.rules input)
         (W.written sink.old) (W.written sink.new)) }
     ensures bounded { IfSome (S.left source.old) (λ input. OnOk result (length input ≤ longest)) }
     ensures devices { IfSome (S.left source.old)

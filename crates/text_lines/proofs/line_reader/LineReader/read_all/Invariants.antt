@@ -3,7 +3,7 @@ use Rattle.text_lines.proofs.LineLemmas.{ReadUpTo}
 use Rattle.text_lines.proofs.line_reader.LineReader.read_all.Given as goal
 
 abbrev pub invariant-loop-place : goal.invariant-loop-place
-invariant-loop-place g l = ReadUpTo g.L.LineText.rules l.initial.self l.octets l.initial.out.items l.out.items l.self l.left
+invariant-loop-place g l = ReadUpTo g.L.TalkText.rules l.initial.self l.octets l.initial.out.items l.out.items l.self l.left
 
 abbrev pub decreases-loop-place : goal.decreases-loop-place
 decreases-loop-place g l = length l.left

@@ -3,7 +3,7 @@ use Rattle.text_lines.proofs.LineLemmas.{halts_before, goes_further}
 use Rattle.text_lines.proofs.line_reader.LineReader.read_line.Goals as goal
 
 pub returns : goal.returns
-returns g c = goes_further g.L.LineText.rules c.end_line.result _ _ _ _ _ _ _ _ (c.in_ok-keep.ensures _) c.end_line.ensures
+returns g c = goes_further g.L.TalkText.rules c.end_line.result _ _ _ _ _ _ _ _ (c.in_ok-keep.ensures _) c.end_line.ensures
 
 pub returns-in_err-keep : goal.returns-in_err-keep
-returns-in_err-keep g c = rw (passed_on c.from_residual.result c.in_err-keep.field-0.0 c.from_residual.ensures.1) (halts_before g.L.LineText.rules _ _ c.args.octets.now _ _ _ (c.in_err-keep.ensures _))
+returns-in_err-keep g c = rw (passed_on c.from_residual.result c.in_err-keep.field-0.0 c.from_residual.ensures.1) (halts_before g.L.TalkText.rules _ _ c.args.octets.now _ _ _ (c.in_err-keep.ensures _))
