@@ -1,5 +1,5 @@
 -- The bench, where one of its links changes.
-use Rattle.std.proofs.Common.{sym, ap, subst, ◌≡◌, ◌∙◌, ℕ, ◌<◌, Bool, true, List, ◌++◌, length, Option, Some, slice_get, slice_set}
+use Rattle.std.proofs.Common.{sym, ap, subst, ◌≡◌, ◌∙◌, ℕ, ◌<◌, ◌≤◌, Bool, true, List, ◌++◌, length, Option, Some, slice_get, slice_set}
 use Rattle.std.proofs.Common.{get_or}
 use Rattle.std.proofs.lemmas.Option.{slice_get-get_or}
 use Rattle.l2_units.specs.declared.unit.Unit.{Unit as SignalUnit}
@@ -71,12 +71,13 @@ one_link links index link was at is is_was is_at =
 
 -- what a link's octet is whole by is the bench's
 pub completes : (link index : ℕ) (bits : List Bool) (old new : BenchState) (was now : AtLink) (octet : ℕ) → index ≡ link
-    → slice_get old.links index ≡ Some was → octet ≡ number_of (take 8 (was.waiting ++ bits))
+    → slice_get old.links index ≡ Some was → 8 ≤ length (was.waiting ++ bits) → octet ≡ number_of (take 8 (was.waiting ++ bits))
     → now ≡ waits_with (drop 8 (was.waiting ++ bits)) was → new.links ≡ slice_set old.links index now → new.set ≡ old.set
     → Completes link bits old octet new
-completes link index bits old new was now octet is is_at octet_is waits links set = record {
+completes link index bits old new was now octet is is_at enough octet_is waits links set = record {
   was = was;
   is_at = subst (λ n. slice_get old.links n ≡ Some was) is is_at;
+  enough = enough;
   octet_is = octet_is;
   links_are = links ∙ ap (λ n. slice_set old.links n now) is ∙ ap (λ (at : AtLink). slice_set old.links link at) waits;
   set_is = set;

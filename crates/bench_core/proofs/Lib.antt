@@ -4,3 +4,4 @@ pub mod LinkLemmas
 pub mod BenchLemmas
 pub mod WaitingLemmas
 pub mod HearingLemmas
+pub mod OneLemmas

@@ -87,8 +87,9 @@ pub takes_turn : (link octet : ℕ) (set set' : LinkSet) (heard : ℕ) (works wo
     → works.failed ≡ false → works'.failed ≡ false → CountsOne counts turned counts'
     → turn.messages ≡ heard → turn.sent ≡ one_if_chosen turned.filling
     → turn.before ≡ word_of works.inside → turn.after ≡ word_of works'.inside
+    → turn.number ≡ counts'.turns → turn.cause ≡ works'.inside.cause
     → TakesTurn link octet set (at_link works bits waiting counts) turn unit set' (at_link works' bits waiting counts')
-takes_turn link octet set set' heard works works' bits waiting counts counts' turned unit turn takes went goes_on one messages sent before after = record {
+takes_turn link octet set set' heard works works' bits waiting counts counts' turned unit turn takes went goes_on one messages sent before after number cause = record {
   entries = takes.entries;
   by_octet = record {
     marks = takes.marks;
@@ -108,6 +109,8 @@ takes_turn link octet set set' heard works works' bits waiting counts counts' tu
   sent_is = sent ∙ units_are turned.filling unit takes.filling_is;
   before_is = before;
   after_is = after;
+  number_is = number;
+  cause_is = cause;
 }
 
 -- a link that changes keeps its number

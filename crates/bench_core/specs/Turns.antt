@@ -80,8 +80,8 @@ pub record IsOfTerminal (octet : ℕ) (s : State) (at : AtLink) (put : ℕ) (ent
   pub legal : IsLegal s entries
   pub leads : after s entries ≡ s'
 
--- what the turn did is told: the octet that it put, the messages that were heard, the unit that was appended, and how
--- the link stood and stands; and the set goes on from the same base
+-- what the turn did is told: its number, the octet that it put, the messages that were heard, the unit that was appended,
+-- how the link stood and stands, and why it failed last; and the set goes on from the same base
 pub record TakesTurn (link octet : ℕ) (set : LinkSet) (was : AtLink) (turn : Turn) (unit : Option SignalUnit)
     (set' : LinkSet) (now : AtLink) : Type 0 where
   pub entries : List Entry
@@ -92,6 +92,8 @@ pub record TakesTurn (link octet : ℕ) (set : LinkSet) (was : AtLink) (turn : T
   pub sent_is : turn.sent ≡ length (option_to_list unit)
   pub before_is : turn.before ≡ word_of was.terminal
   pub after_is : turn.after ≡ word_of now.terminal
+  pub number_is : turn.number ≡ now.counts.turns
+  pub cause_is : turn.cause ≡ now.terminal.cause
 
 -- THE BENCH TOOK A TURN of this link: no other link changed
 pub record Turns (link octet : ℕ) (old : BenchState) (turn : Turn) (unit : Option SignalUnit) (new : BenchState)

@@ -1,5 +1,6 @@
 -- BITS THAT COME ON A LINE, in pieces of any size: a turn is taken for each eight of them, and fewer than eight wait.
-use Rattle.std.specs.Prelude.{◌≡◌, ◌<◌, ◌^◌, ℕ, Bool, List, [], ◌∷◌, ◌++◌, length, take, drop, map, Option, None, Some, slice_get, slice_set}
+use Rattle.std.specs.Prelude.{◌≡◌, ◌<◌, ◌≤◌, ◌^◌, ℕ, Bool, List, [], ◌∷◌, ◌++◌, length, take, drop, map, Option, None, Some, slice_get, slice_set}
+use Rattle.std.specs.Option.{option_to_list}
 use Rattle.l2_bits.specs.LineBits.{bits_of, number_of}
 use Rattle.link_term.specs.Filling.{Taps}
 use Rattle.l2_units.specs.declared.unit.Unit.{Unit as SignalUnit}
@@ -14,6 +15,7 @@ waits_with bits at = record at { waiting = bits }
 pub record Completes (link : ℕ) (bits : List Bool) (old : BenchState) (octet : ℕ) (new : BenchState) : Type 0 where
   pub was : AtLink
   pub is_at : slice_get old.links link ≡ Some was
+  pub enough : 8 ≤ length (was.waiting ++ bits)
   pub octet_is : octet ≡ number_of (take 8 (was.waiting ++ bits))
   pub links_are : new.links ≡ slice_set old.links link (waits_with (drop 8 (was.waiting ++ bits)) was)
   pub set_is : new.set ≡ old.set
@@ -62,6 +64,29 @@ HearsAll link (octet ∷ octets) old [] new = ⊥
 HearsAll link (octet ∷ octets) old (turn ∷ turns) new =
     (between : BenchState) × (unit : Option SignalUnit) × Hears link (bits_of 8 octet) old turn unit between
     × HearsAll link octets between turns new
+
+-- BITS COME PIECE BY PIECE, of eight bits or fewer, the first piece first: a turn where an octet is whole with a piece, and
+-- the unit that it appended, if any; else the piece waits
+pub record TurnAndUnit : Type 0 where
+  pub turn : Turn
+  pub unit : Option SignalUnit
+
+abbrev pub HearsPiece : ℕ → List Bool → BenchState → Option TurnAndUnit → BenchState → Type 0
+HearsPiece link bits old None new = Waits link bits old new
+HearsPiece link bits old (Some heard) new = Hears link bits old heard.turn heard.unit new
+
+abbrev pub HearsPieces : ℕ → List (List Bool) → BenchState → List TurnAndUnit → BenchState → Type 0
+HearsPieces link [] old turns new = (turns ≡ []) × (new ≡ old)
+HearsPieces link (bits ∷ pieces) old turns new =
+    (between : BenchState) × (turn : Option TurnAndUnit) × (later : List TurnAndUnit)
+    × HearsPiece link bits old turn between × HearsPieces link pieces between later new
+    × (turns ≡ option_to_list turn ++ later)
+
+-- LAW: what came decides what was done, and what the bench is then
+abbrev pub OneHearing : Type 0
+OneHearing =
+    (link : ℕ) (pieces : List (List Bool)) (old : BenchState) (a b : List TurnAndUnit) (x y : BenchState)
+    → HearsPieces link pieces old a x → HearsPieces link pieces old b y → (a ≡ b) × (x ≡ y)
 
 -- LAW: as many octets are put as came
 abbrev pub AsManyArePut : Type 0

@@ -65,7 +65,8 @@ impl Bench {
 
     /// How many links there are, numbered from 0 on.
     pub fn links(&self) -> u8
-        ensures { result ≡ length self.now.links }
+        ensures links { result ≡ length self.now.links }
+        ensures few { result ≤ 16 }
     {
         self.links.len() as u8
     }

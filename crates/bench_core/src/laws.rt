@@ -1,7 +1,7 @@
 //! Laws that speak of definitions alone.
 ghost use Rattle.bench_core.specs.Laws.{TurnsAreOfTerminals};
 ghost use Rattle.bench_core.specs.Talks.{TalksAreLegal};
-ghost use Rattle.bench_core.specs.Waiting.{AsManyArePut, OctetsAreWhole};
+ghost use Rattle.bench_core.specs.Waiting.{AsManyArePut, OctetsAreWhole, OneHearing};
 ghost use Rattle.term_model.specs.Choosing.{Filled};
 
 /// A law: a turn by an octet is a terminal's turn at a door that answers by the set's step, and its entries are legal.
@@ -18,4 +18,10 @@ pub fn octets_are_whole()
 /// A law: as many octets are put as come.
 pub fn as_many_octets_are_put()
     ensures { AsManyArePut }
+{}
+
+/// A law: bits that come, in whatever pieces, decide what the turns do, the units that they append, and what the bench is
+/// then.
+pub fn bits_have_one_hearing()
+    ensures { OneHearing }
 {}

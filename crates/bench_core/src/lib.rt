@@ -28,6 +28,8 @@ mod word;
 
 pub use bench::Bench;
 pub use counts::TurnCounts;
-pub use laws::{as_many_octets_are_put, octets_are_whole, turns_are_steps_of_the_set};
+pub use laws::{
+    as_many_octets_are_put, bits_have_one_hearing, octets_are_whole, turns_are_steps_of_the_set,
+};
 pub use turn::Turn;
 pub use word::{LinkWord, Phase};

@@ -109,11 +109,13 @@ impl LinkEnd {
             Ok((put, turned)) => {
                 self.counts = counted(self.counts, turned);
                 Ok(Turn {
+                    number: self.counts.turns,
                     put,
                     messages: door.heard(),
                     sent: units_in(turned.filling),
                     before,
                     after: word_of(&self.works),
+                    cause: self.works.cause(),
                 })
             }
             Err(fault) => Err(fault),

@@ -1,10 +1,13 @@
 //! What a turn did.
 
 use super::word::LinkWord;
+use l2_signals::Cause;
 
 /// What a turn of a link's terminal did.
 #[derive(Clone, Copy, Debug, PartialEq, Eq)]
 pub struct Turn {
+    /// Its number among the link's turns, from 1.
+    pub number: u64,
     /// The octet that it put.
     pub put: u8,
     /// How many messages for users were heard.
@@ -15,4 +18,6 @@ pub struct Turn {
     pub before: LinkWord,
     /// How the link stands then.
     pub after: LinkWord,
+    /// Why the link failed last, if it did.
+    pub cause: Option<Cause>,
 }

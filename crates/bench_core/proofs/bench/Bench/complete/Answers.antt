@@ -1,5 +1,6 @@
-use Rattle.std.proofs.Common.{subst, sym, ap, ◌≤◌, ◌<◌, ◌≡◌, length, slice_get, slice_set, Some}
+use Rattle.std.proofs.Common.{arith, length-append, ◌++◌, subst, sym, ap, ◌≤◌, ◌<◌, ◌≡◌, length, slice_get, slice_set, Some}
 use Rattle.std.proofs.lemmas.List.{length-set}
+use Rattle.l2_bits.proofs.BitLemmas.{length-bits_of}
 use Rattle.l2_bits.specs.LineBits.{bits_of}
 use Rattle.bench_core.specs.Ends.{AtLink, BenchState}
 use Rattle.bench_core.proofs.BenchLemmas.{completes, link_at}
@@ -23,5 +24,6 @@ returns-clause-octet c =
     let is_at = link_at c.self.inside.links.items c.from.result c.args.link c.index_mut.result.now c.from.ensures below c.index_mut.ensures.value in
     completes c.args.link c.from.result (bits_of 8 c.args.octet) c.args.self.now _ c.index_mut.result.now c.complete.new.self _ c.from.ensures
     (subst (λ (b : BenchState). slice_get b.links c.from.result ≡ Some c.index_mut.result.now) view is_at)
+    (omega (arith, length-append c.index_mut.result.now.waiting (bits_of 8 c.args.octet), length-bits_of 8 c.args.octet))
     c.complete.ensures.octet c.complete.ensures.waits
     (ap (λ (b : BenchState). slice_set b.links c.from.result c.complete.new.self) view) (ap (λ (b : BenchState). b.set) view)

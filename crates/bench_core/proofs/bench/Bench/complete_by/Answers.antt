@@ -1,4 +1,4 @@
-use Rattle.std.proofs.Common.{subst, sym, ap, ◌∙◌, ◌≤◌, ◌<◌, ◌≡◌, [], ◌∷◌, ◌++◌, List, Bool, length, slice_get, slice_set, Some}
+use Rattle.std.proofs.Common.{arith, subst, sym, ap, ◌∙◌, ◌≤◌, ◌<◌, ◌≡◌, [], ◌∷◌, ◌++◌, List, Bool, length, slice_get, slice_set, Some}
 use Rattle.std.proofs.lemmas.List.{length-set}
 use Rattle.l2_bits.specs.LineBits.{number_of}
 use Rattle.bench_core.specs.Ends.{BenchState}
@@ -27,6 +27,7 @@ returns-clause-whole c =
     some_weaker c.complete_by.result _ _
     (λ octet whole. completes c.args.link c.from.result (c.args.bit ∷ []) c.args.self.now _ was c.complete_by.new.self octet c.from.ensures
     (subst (λ (b : BenchState). slice_get b.links c.from.result ≡ Some was) view is_at)
+    (subst (λ n. 8 ≤ n) (sym whole.1) (omega arith))
     (whole.0 ∙ ap (λ (all : List Bool). number_of all) (sym (take_eight bits whole.1)))
     (whole.2 ∙ ap (λ (all : List Bool). waits_with all was) (sym (drop_eight bits whole.1)))
     (ap (λ (b : BenchState). slice_set b.links c.from.result c.complete_by.new.self) view) (ap (λ (b : BenchState). b.set) view))
