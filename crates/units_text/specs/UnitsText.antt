@@ -60,13 +60,14 @@ line_head kind h =
     kind ++ (codes " bsn=" ++ (decimal h.bsn ++ (codes " bib=" ++ (decimal (bit h.bib)
     ++ (codes " fsn=" ++ (decimal h.fsn ++ (codes " fib=" ++ decimal (bit h.fib))))))))
 
+-- a unit's words
+abbrev pub unit_words : SignalUnit → List ℕ
+unit_words (Fisu head) = line_head (codes "fisu") head
+unit_words (Lssu head status) = line_head (codes "lssu") head ++ (codes " status=" ++ decimal (status_number status))
+unit_words (Msu head body) = line_head (codes "msu") head ++ (codes " body=" ++ hex_text body.items)
+
 abbrev pub unit_text : SignalUnit → List ℕ
-unit_text (Fisu head) = line_head (codes "good fisu") head ++ codes "\n"
-unit_text (Lssu head status) =
-    line_head (codes "good lssu") head
-    ++ (codes " status=" ++ (decimal (status_number status) ++ codes "\n"))
-unit_text (Msu head body) =
-    line_head (codes "good msu") head ++ (codes " body=" ++ (hex_text body.items ++ codes "\n"))
+unit_text unit = codes "good " ++ (unit_words unit ++ codes "\n")
 
 -- the number of what is wrong with octets that are no unit: 1 too short, 2 too long, 3 another length indicator
 abbrev pub unit_fault : List ℕ → ℕ

@@ -24,4 +24,4 @@ mod units_reading;
 
 pub use fault::UnreadableOctet;
 pub use text::units;
-pub use unit_lines::one_units_text;
+pub use unit_lines::{one_units_text, push_unit_words};

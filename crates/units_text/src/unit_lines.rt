@@ -3,7 +3,7 @@ ghost use Rattle.std.specs.Prelude.{◌≡◌, ◌++◌, IfOk, OnOk, codes, deci
 ghost use Rattle.l2_bits.specs.Deframing.{marked};
 ghost use Rattle.l2_units.specs.Grammar.{unit_of};
 ghost use Rattle.l2_units.specs.declared.profile.Profile.TheVariants.{Narrow};
-ghost use Rattle.units_text.specs.UnitsText.{InputHasOneText, good_text, line_head, mark_text, unit_text, counts_text};
+ghost use Rattle.units_text.specs.UnitsText.{InputHasOneText, good_text, line_head, mark_text, unit_text, unit_words, counts_text};
 
 use figures::{bit_of, push_hex, push_number};
 use l2_bits::MarkKind;
@@ -54,22 +54,26 @@ fn push_fault(number: u8, text: &mut Vec<u8>) -> Result<(), AllocError>
 fn push_unit(unit: &Unit, text: &mut Vec<u8>) -> Result<(), AllocError>
     ensures { OnOk result (text.new.items ≡ text.old.items ++ unit_text unit.now) }
 {
+    text.extend_from_slice(b"good ")?;
+    push_unit_words(unit, text)?;
+    text.extend_from_slice(b"\n")
+}
+
+/// Adds the words of a unit, as they stand on its line behind `good`. It fails only where memory is wanted.
+pub fn push_unit_words(unit: &Unit, text: &mut Vec<u8>) -> Result<(), AllocError>
+    ensures { OnOk result (text.new.items ≡ text.old.items ++ unit_words unit.now) }
+{
     match unit {
-        Unit::Fisu { head } => {
-            push_head(b"good fisu", *head, text)?;
-            text.extend_from_slice(b"\n")
-        }
+        Unit::Fisu { head } => push_head(b"fisu", *head, text),
         Unit::Lssu { head, status } => {
-            push_head(b"good lssu", *head, text)?;
+            push_head(b"lssu", *head, text)?;
             text.extend_from_slice(b" status=")?;
-            push_number(text, u64::from(status.number()))?;
-            text.extend_from_slice(b"\n")
+            push_number(text, u64::from(status.number()))
         }
         Unit::Msu { head, body } => {
-            push_head(b"good msu", *head, text)?;
+            push_head(b"msu", *head, text)?;
             text.extend_from_slice(b" body=")?;
-            push_hex(text, body.as_slice())?;
-            text.extend_from_slice(b"\n")
+            push_hex(text, body.as_slice())
         }
     }
 }
