@@ -1,0 +1,236 @@
+-- Rows of units that read the same, while they may go on.
+use Rattle.std.proofs.Common.{refl, sym, ap, subst, arith, ◌≡◌, ◌∙◌, ℕ, zero, suc, ◌+◌, ◌==◌, ◌&&◌, Bool, true, false, List, [], ◌∷◌, ◌++◌, append_assoc, append-nil, Option, None, Some, if◌then◌else◌}
+use Rattle.std.proofs.lemmas.Bool.Decides.{nat_tests}
+use Rattle.std.specs.Str.{bytes_eq}
+use Rattle.bench_core.specs.Waiting.{TurnAndUnit}
+use Rattle.bench_core.specs.declared.turn.Turn.{Turn}
+use Rattle.l2_units.specs.declared.unit.Unit.{Unit as SignalUnit}
+use Rattle.units_text.specs.UnitsText.{unit_words}
+use Rattle.terminal_text.specs.Rows.{AddsUnit, EndsRow, Shows, ShowsLines, ShowsTurn, left_behind, left_of, row_text}
+use Rattle.terminal_text.specs.Showing.{is_silent, leading, leading_at, over, row_line, shown_behind, stays, turn_lines, unit_line, words_or}
+use Rattle.terminal_text.specs.declared.rows.Row.{Row}
+use Rattle.terminal_text.specs.declared.rows.Rows.{Rows}
+
+-- A turn that shows nothing, and one that shows something.
+
+no_lines : (messages : ℕ) (stay : Bool) (xs ys : List ℕ) → ((messages == 0) && stay) ≡ true → over messages xs ++ (if stay then [] else ys) ≡ []
+no_lines zero true xs ys h = refl
+no_lines zero false xs ys h = absurd (grind (arith, nat_tests, h))
+no_lines (suc n) stay xs ys h = absurd (grind (arith, nat_tests, h))
+
+silent_lines : (link : ℕ) (turn : Turn) → is_silent turn ≡ true → turn_lines link turn ≡ []
+silent_lines link turn h = no_lines turn.messages (stays turn) _ _ h
+
+behind_turn : ℕ → Bool → Option (List ℕ) → List ℕ → Option SignalUnit → List TurnAndUnit → List ℕ
+behind_turn link silent before lines unit more =
+    lines ++ (unit_line link (if silent then before else None) unit more ++ shown_behind link (words_or unit (if silent then before else None)) more)
+
+left_by : ℕ → Bool → Option Row → List ℕ → Option SignalUnit → List TurnAndUnit → List ℕ
+left_by link silent None lines unit more = behind_turn link silent None lines unit more
+left_by link silent (Some row) lines unit more =
+    row_line link row.words.items (row.times + (if silent then leading_at row.words.items unit (leading row.words.items more) else 0))
+    ++ behind_turn link silent (Some row.words.items) lines unit more
+
+by_turn : (link : ℕ) (row : Option Row) (heard : TurnAndUnit) (more : List TurnAndUnit)
+    → left_of link row (heard ∷ more) ≡ left_by link (is_silent heard.turn) row (turn_lines link heard.turn) heard.unit more
+unfolding left_by behind_turn
+by_turn link None heard more = refl
+by_turn link (Some row) heard more = refl
+
+by_silent : (link : ℕ) (silent : Bool) (row : Option Row) (lines : List ℕ) (unit : Option SignalUnit) (more : List TurnAndUnit)
+    → silent ≡ true → lines ≡ [] → left_by link silent row lines unit more ≡ left_behind link row unit more
+unfolding left_by behind_turn
+by_silent link true None lines unit more h e = ap (λ (xs : List ℕ). xs ++ (unit_line link None unit more ++ shown_behind link (words_or unit None) more)) e
+by_silent link true (Some row) lines unit more h e =
+    ap (λ (xs : List ℕ). row_line link row.words.items (row.times + leading_at row.words.items unit (leading row.words.items more))
+    ++ (xs ++ (unit_line link (Some row.words.items) unit more ++ shown_behind link (words_or unit (Some row.words.items)) more))) e
+by_silent link false row lines unit more h e = absurd cc
+
+by_loud : (link : ℕ) (silent : Bool) (row : Option Row) (lines : List ℕ) (unit : Option SignalUnit) (more : List TurnAndUnit)
+    → silent ≡ false → left_by link silent row lines unit more ≡ row_text link row ++ (lines ++ left_behind link None unit more)
+unfolding left_by behind_turn
+by_loud link true row lines unit more h = absurd cc
+by_loud link false None lines unit more h = refl
+by_loud link false (Some row) lines unit more h =
+    ap (λ n. row_line link row.words.items n ++ (lines ++ left_behind link None unit more)) (omega arith)
+
+-- a silent turn with its unit, and without one
+shows_unit : (old new : Rows) (turn : Turn) (unit : SignalUnit) → is_silent turn ≡ true → AddsUnit old unit new
+    → Shows old (record { turn = turn; unit = Some unit } ∷ []) new
+shows_unit old new turn unit h a = record {
+  added = a.added;
+  text_is = a.text_is;
+  link_is = a.link_is;
+  goes_on = λ more.
+      by_turn old.link old.row (record { turn = turn; unit = Some unit }) more
+      ∙ by_silent old.link (is_silent turn) old.row (turn_lines old.link turn) (Some unit) more h (silent_lines old.link turn h)
+      ∙ a.goes_on more;
+}
+
+left_alone : (link : ℕ) (row : Option Row) (more : List TurnAndUnit) → left_behind link row None more ≡ left_of link row more
+left_alone link None more = refl
+left_alone link (Some row) more = refl
+
+shows_none : (old : Rows) (turn : Turn) → is_silent turn ≡ true → Shows old (record { turn = turn; unit = None } ∷ []) old
+shows_none old turn h = record {
+  added = [];
+  text_is = sym (append-nil old.text.items);
+  link_is = refl;
+  goes_on = λ more.
+      by_turn old.link old.row (record { turn = turn; unit = None }) more
+      ∙ by_silent old.link (is_silent turn) old.row (turn_lines old.link turn) None more h (silent_lines old.link turn h)
+      ∙ left_alone old.link old.row more;
+}
+
+shows_loud_unit : (old mid new : Rows) (turn : Turn) (unit : SignalUnit) → is_silent turn ≡ false → ShowsLines old turn mid
+    → AddsUnit mid unit new → Shows old (record { turn = turn; unit = Some unit } ∷ []) new
+shows_loud_unit old mid new turn unit h lines a = record {
+  added = (row_text old.link old.row ++ turn_lines old.link turn) ++ a.added;
+  text_is = a.text_is ∙ ap (λ (xs : List ℕ). xs ++ a.added) lines.text_is
+      ∙ append_assoc old.text.items (row_text old.link old.row ++ turn_lines old.link turn) a.added;
+  link_is = a.link_is ∙ lines.link_is;
+  goes_on = λ more.
+      by_turn old.link old.row (record { turn = turn; unit = Some unit }) more
+      ∙ by_loud old.link (is_silent turn) old.row (turn_lines old.link turn) (Some unit) more h
+      ∙ sym (append_assoc (row_text old.link old.row) (turn_lines old.link turn) (left_behind old.link None (Some unit) more))
+      ∙ ap (λ (xs : List ℕ). (row_text old.link old.row ++ turn_lines old.link turn) ++ xs)
+      (ap (λ (row : Option Row). left_behind old.link row (Some unit) more) (sym lines.row_is)
+      ∙ ap (λ n. left_behind n mid.row (Some unit) more) (sym lines.link_is) ∙ a.goes_on more
+      ∙ ap (λ n. a.added ++ left_of n new.row more) lines.link_is)
+      ∙ sym (append_assoc (row_text old.link old.row ++ turn_lines old.link turn) a.added (left_of old.link new.row more));
+}
+
+shows_loud : (old new : Rows) (turn : Turn) → is_silent turn ≡ false → ShowsLines old turn new
+    → Shows old (record { turn = turn; unit = None } ∷ []) new
+shows_loud old new turn h lines = record {
+  added = row_text old.link old.row ++ turn_lines old.link turn;
+  text_is = lines.text_is;
+  link_is = lines.link_is;
+  goes_on = λ more.
+      by_turn old.link old.row (record { turn = turn; unit = None }) more
+      ∙ by_loud old.link (is_silent turn) old.row (turn_lines old.link turn) None more h
+      ∙ sym (append_assoc (row_text old.link old.row) (turn_lines old.link turn) (left_behind old.link None None more))
+      ∙ ap (λ (row : Option Row). (row_text old.link old.row ++ turn_lines old.link turn) ++ left_of old.link row more) (sym lines.row_is);
+}
+
+-- a turn, silent or not
+with_unit : (silent : Bool) (old mid new : Rows) (turn : Turn) (unit : SignalUnit) → is_silent turn ≡ silent → ShowsTurn old turn mid
+    → AddsUnit mid unit new → Shows old (record { turn = turn; unit = Some unit } ∷ []) new
+with_unit true old mid new turn unit h shows adds =
+    shows_unit old new turn unit h (subst (λ (r : Rows). AddsUnit r unit new) (shows.silent h) adds)
+with_unit false old mid new turn unit h shows adds = shows_loud_unit old mid new turn unit h (shows.loud h) adds
+
+pub shows_with_unit : (old mid new : Rows) (turn : Turn) (unit : SignalUnit) → ShowsTurn old turn mid → AddsUnit mid unit new
+    → Shows old (record { turn = turn; unit = Some unit } ∷ []) new
+shows_with_unit old mid new turn unit shows adds = with_unit (is_silent turn) old mid new turn unit refl shows adds
+
+alone : (silent : Bool) (old new : Rows) (turn : Turn) → is_silent turn ≡ silent → ShowsTurn old turn new
+    → Shows old (record { turn = turn; unit = None } ∷ []) new
+alone true old new turn h shows =
+    subst (λ (r : Rows). Shows old (record { turn = turn; unit = None } ∷ []) r) (sym (shows.silent h)) (shows_none old turn h)
+alone false old new turn h shows = shows_loud old new turn h (shows.loud h)
+
+pub shows_alone : (old new : Rows) (turn : Turn) → ShowsTurn old turn new → Shows old (record { turn = turn; unit = None } ∷ []) new
+shows_alone old new turn shows = alone (is_silent turn) old new turn refl shows
+
+pub silent_turn : (rows : Rows) (turn : Turn) → is_silent turn ≡ true → ShowsTurn rows turn rows
+silent_turn rows turn h = record { silent = λ s. refl; loud = λ l. let no : true ≡ false = sym h ∙ l in absurd cc }
+
+pub loud_turn : (old new : Rows) (turn : Turn) → is_silent turn ≡ false → ShowsLines old turn new → ShowsTurn old turn new
+loud_turn old new turn h lines = record { silent = λ s. let no : true ≡ false = sym s ∙ h in absurd cc; loud = λ l. lines }
+
+-- A unit.
+
+module _ (link : ℕ) (unit : SignalUnit) (more : List TurnAndUnit) where
+  -- in the row
+  same_row : (same : Bool) (words : List ℕ) (times : ℕ) → same ≡ true → words ≡ unit_words unit
+      → row_line link words (times + (if same then 1 + leading words more else 0))
+      ++ ((if same then [] else row_line link (unit_words unit) (1 + leading (unit_words unit) more)) ++ shown_behind link (Some (unit_words unit)) more)
+      ≡ row_line link words ((times + 1) + leading words more) ++ shown_behind link (Some words) more
+  same_row true words times h e =
+      ap (λ n. row_line link words n ++ shown_behind link (Some (unit_words unit)) more) (omega arith)
+      ∙ ap (λ (w : List ℕ). row_line link words ((times + 1) + leading words more) ++ shown_behind link (Some w) more) (sym e)
+  same_row false words times h e = absurd cc
+
+  -- in the next one
+  next_row : (same : Bool) (words : List ℕ) (times : ℕ) → same ≡ false
+      → row_line link words (times + (if same then 1 + leading words more else 0))
+      ++ ((if same then [] else row_line link (unit_words unit) (1 + leading (unit_words unit) more)) ++ shown_behind link (Some (unit_words unit)) more)
+      ≡ row_line link words times ++ (row_line link (unit_words unit) (1 + leading (unit_words unit) more) ++ shown_behind link (Some (unit_words unit)) more)
+  next_row true words times h = absurd cc
+  next_row false words times h =
+      ap (λ n. row_line link words n ++ (row_line link (unit_words unit) (1 + leading (unit_words unit) more) ++ shown_behind link (Some (unit_words unit)) more)) (omega arith)
+
+pub unit_in_row : (old new : Rows) (unit : SignalUnit) (row next : Row) → old.row ≡ Some row → new.row ≡ Some next
+    → bytes_eq row.words.items (unit_words unit) ≡ true → row.words.items ≡ unit_words unit
+    → next.words.items ≡ row.words.items → next.times ≡ row.times + 1 → new.text.items ≡ old.text.items → new.link ≡ old.link
+    → AddsUnit old unit new
+unit_in_row old new unit row next was now same is words times text link = record {
+  added = [];
+  text_is = text ∙ sym (append-nil old.text.items);
+  link_is = link;
+  goes_on = λ more.
+      ap (λ (r : Option Row). left_behind old.link r (Some unit) more) was
+      ∙ same_row old.link unit more (bytes_eq row.words.items (unit_words unit)) row.words.items row.times same is
+      ∙ sym (ap (λ (r : Option Row). left_of old.link r more) now
+      ∙ ap (λ (w : List ℕ). row_line old.link w (next.times + leading w more) ++ shown_behind old.link (Some w) more) words
+      ∙ ap (λ n. row_line old.link row.words.items (n + leading row.words.items more) ++ shown_behind old.link (Some row.words.items) more) times);
+}
+
+-- a row that has begun
+begun : (link : ℕ) (unit : SignalUnit) (new : Option Row) (next : Row) (more : List TurnAndUnit) → new ≡ Some next
+    → next.words.items ≡ unit_words unit → next.times ≡ 1
+    → left_of link new more ≡ row_line link (unit_words unit) (1 + leading (unit_words unit) more) ++ shown_behind link (Some (unit_words unit)) more
+begun link unit new next more now words times =
+    ap (λ (r : Option Row). left_of link r more) now
+    ∙ ap (λ (w : List ℕ). row_line link w (next.times + leading w more) ++ shown_behind link (Some w) more) words
+    ∙ ap (λ n. row_line link (unit_words unit) (n + leading (unit_words unit) more) ++ shown_behind link (Some (unit_words unit)) more) times
+
+pub unit_in_next : (old mid new : Rows) (unit : SignalUnit) (row next : Row) → old.row ≡ Some row → EndsRow old mid → new.row ≡ Some next
+    → bytes_eq row.words.items (unit_words unit) ≡ false → next.words.items ≡ unit_words unit → next.times ≡ 1
+    → new.text.items ≡ mid.text.items → new.link ≡ mid.link → AddsUnit old unit new
+unit_in_next old mid new unit row next was ends now other words times text link = record {
+  added = row_text old.link old.row;
+  text_is = text ∙ ends.text_is;
+  link_is = link ∙ ends.link_is;
+  goes_on = λ more.
+      ap (λ (r : Option Row). left_behind old.link r (Some unit) more) was
+      ∙ next_row old.link unit more (bytes_eq row.words.items (unit_words unit)) row.words.items row.times other
+      ∙ ap (λ (r : Option Row). row_text old.link r ++ (row_line old.link (unit_words unit) (1 + leading (unit_words unit) more) ++ shown_behind old.link (Some (unit_words unit)) more)) (sym was)
+      ∙ ap (λ (xs : List ℕ). row_text old.link old.row ++ xs) (sym (begun old.link unit new.row next more now words times));
+}
+
+pub unit_in_first : (old mid new : Rows) (unit : SignalUnit) (next : Row) → old.row ≡ None → EndsRow old mid → new.row ≡ Some next
+    → next.words.items ≡ unit_words unit → next.times ≡ 1 → new.text.items ≡ mid.text.items → new.link ≡ mid.link → AddsUnit old unit new
+unit_in_first old mid new unit next was ends now words times text link = record {
+  added = [];
+  text_is = text ∙ ends.text_is ∙ ap (λ (r : Option Row). old.text.items ++ row_text old.link r) was;
+  link_is = link ∙ ends.link_is;
+  goes_on = λ more.
+      ap (λ (r : Option Row). left_behind old.link r (Some unit) more) was
+      ∙ sym (begun old.link unit new.row next more now words times);
+}
+
+-- nothing more is shown
+pub left_at_end : (link : ℕ) (row : Option Row) → left_of link row [] ≡ row_text link row
+left_at_end link None = refl
+left_at_end link (Some row) =
+    append-nil (row_line link row.words.items (row.times + 0)) ∙ ap (λ n. row_line link row.words.items n) (omega arith)
+
+-- Turns, one after another.
+
+pub shows_nothing : (rows : Rows) → Shows rows [] rows
+shows_nothing rows = record { added = []; text_is = sym (append-nil rows.text.items); link_is = refl; goes_on = λ more. refl }
+
+pub shows_more : (a b c : Rows) (xs ys : List TurnAndUnit) → Shows a xs b → Shows b ys c → Shows a (xs ++ ys) c
+shows_more a b c xs ys f g = record {
+  added = f.added ++ g.added;
+  text_is = g.text_is ∙ ap (λ (t : List ℕ). t ++ g.added) f.text_is ∙ append_assoc a.text.items f.added g.added;
+  link_is = g.link_is ∙ f.link_is;
+  goes_on = λ more.
+      ap (λ (all : List TurnAndUnit). left_of a.link a.row all) (append_assoc xs ys more)
+      ∙ f.goes_on (ys ++ more)
+      ∙ ap (λ (t : List ℕ). f.added ++ t)
+      (ap (λ n. left_of n b.row (ys ++ more)) (sym f.link_is) ∙ g.goes_on more ∙ ap (λ n. g.added ++ left_of n c.row more) f.link_is)
+      ∙ sym (append_assoc f.added g.added (left_of a.link c.row more));
+}

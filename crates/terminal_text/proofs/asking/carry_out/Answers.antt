@@ -1,0 +1,10 @@
+use Rattle.std.proofs.Common.{subst, ◌≡◌, true, length}
+use Rattle.terminal_script.specs.declared.asked.Asked.{Asked}
+use Rattle.terminal_text.proofs.OpenLemmas.{is_actor}
+use Rattle.terminal_text.specs.Answers.{is_below, link_in}
+use Rattle.terminal_text.proofs.asking.carry_out.Goals as goal
+
+pub ask-requires : goal.ask-requires
+ask-requires c =
+    is_actor c.in-Event.event (length c.args.bench.now.links) c.requires.few
+    (subst (λ (asked : Asked). is_below (length c.args.bench.now.links) (link_in asked) ≡ true) c.in-Event.is c.requires.there)

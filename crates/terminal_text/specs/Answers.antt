@@ -1,0 +1,154 @@
+-- WHAT A LINE OF `terminal` PRINTS, and what it leaves of a bench.
+use Rattle.std.specs.Prelude.{◌≡◌, ◌<◌, ℕ, Bool, true, false, ◌==◌, ◌&&◌, nat_lt, List, [], ◌∷◌, ◌++◌, length, map, Option, Some, None, slice_get, codes, decimal, if◌then◌else◌}
+use Rattle.answer_texts.specs.Texts.{answer_text}
+use Rattle.bench_core.specs.Ends.{AtLink, BenchState, Commands, IsAt, is_start, new_links, phase_of, word_of}
+use Rattle.bench_core.specs.Waiting.{HearsPieces, TurnAndUnit}
+use Rattle.bench_core.specs.declared.counts.TurnCounts.{TurnCounts}
+use Rattle.bench_core.specs.declared.word.LinkWord.{LinkWord}
+use Rattle.bench_core.specs.declared.word.Phase.{Phase}
+use Rattle.figures.specs.Figures.{hex_text}
+use Rattle.history_items.specs.Items.{piece}
+use Rattle.history_text.specs.Entries.{entries_text}
+use Rattle.history_text.specs.Pieces.{items_text}
+use Rattle.l2_bits.specs.Flags.{flag}
+use Rattle.l2_bits.specs.LineBits.{bits_of, line_bits}
+use Rattle.l2_bits.specs.SealedText.{sealed_text}
+use Rattle.l2_bits.specs.Stuffing.{text_after}
+use Rattle.l2_signals.specs.Numbers.{cause_number}
+use Rattle.l2_signals.specs.declared.cause.Cause.{Cause}
+use Rattle.l2_units.specs.declared.profile.Profile.TheVariants.{Narrow}
+use Rattle.set_events.specs.declared.answer.Answer.{Answer}
+use Rattle.set_events.specs.declared.event.Actor.{Actor}
+use Rattle.set_events.specs.declared.event.Actor.TheVariants.{User, Terminal as TerminalOf}
+use Rattle.set_events.specs.declared.event.Event.{Event}
+use Rattle.set_model.specs.History.{IsStep, based}
+use Rattle.term_model.specs.declared.command.Command.{Command}
+use Rattle.terminal_script.specs.declared.asked.Asked.{Asked}
+use Rattle.terminal_text.specs.Showing.{over, shown, without_unit, word_name}
+
+abbrev pub done_text : List ℕ
+done_text = codes "done\n"
+
+-- START AND EMERGENCY of a link that the set has left and not settled are refused, with the number of Unsettled
+abbrev pub is_left : Phase → Bool
+is_left Phase.Left = true
+is_left _ = false
+
+abbrev pub is_refused : Command → ℕ → BenchState → Bool
+is_refused command link old = is_start command && is_left (phase_of link old.set.state)
+
+abbrev pub CommandsBy : Bool → ℕ → Command → BenchState → List ℕ → BenchState → Type 0
+CommandsBy true link command old printed new = (printed ≡ codes "refused 7\n") × (new ≡ old)
+CommandsBy false link command old printed new = (printed ≡ done_text) × Commands link command old new
+
+-- OCTETS: what their turns show, and the octets that these put, as many
+pub record Exchanges (link : ℕ) (octets : List ℕ) (old : BenchState) (printed : List ℕ) (new : BenchState) : Type 0 where
+  pub heard : List TurnAndUnit
+  pub hears : HearsPieces link (map (bits_of 8) octets) old heard new
+  pub printed_is : printed ≡ shown link (map without_unit heard)
+      ++ (codes "octets " ++ (decimal link ++ (codes " " ++ (hex_text (map (λ h. h.turn.put) heard) ++ codes "\n"))))
+
+-- BITS: what the turns show that are taken by them, and how many these are
+abbrev pub one_by_one : List Bool → List (List Bool)
+one_by_one bits = map (λ bit. bit ∷ []) bits
+
+pub record HearsLine (link : ℕ) (bits : List Bool) (old : BenchState) (printed : List ℕ) (new : BenchState) : Type 0 where
+  pub heard : List TurnAndUnit
+  pub hears : HearsPieces link (one_by_one bits) old heard new
+  pub printed_is : printed ≡ shown link heard ++ (codes "turns " ++ (decimal (length heard) ++ codes "\n"))
+
+-- a unit on the line: its octets and their check octets (Q.703 2.2, 4.2), with zeros inserted (3.2), and a flag behind (3.1)
+abbrev pub unit_bits : List ℕ → List Bool
+unit_bits octets = text_after 0 (line_bits (sealed_text octets)) ++ flag
+
+abbrev pub bits_in : List ℕ → List Bool
+bits_in digits = map (λ digit. digit == 1) digits
+
+-- AN EVENT is of the terminal of the link that it names, or else of user 0
+abbrev pub asker : Event → Actor
+asker (Event.Next link) = TerminalOf link
+asker (Event.Heard link unit) = TerminalOf link
+asker (Event.Up link) = TerminalOf link
+asker (Event.Down link) = TerminalOf link
+asker (Event.DownBlind link) = TerminalOf link
+asker (Event.NoAnswer link) = TerminalOf link
+asker (Event.Restore link) = TerminalOf link
+asker (Event.BackTimeout link) = TerminalOf link
+asker _ = User 0
+
+pub record Asks (event : Event) (old : BenchState) (printed : List ℕ) (new : BenchState) : Type 0 where
+  pub answer : Answer
+  pub step : IsStep old.set (asker event) event answer new.set
+  pub links_are : new.links ≡ old.links
+  pub printed_is : printed ≡ answer_text Narrow answer
+
+-- HOW A LINK STANDS
+abbrev pub phase_name : Phase → List ℕ
+phase_name Phase.Settled = codes "settled"
+phase_name Phase.Up = codes "up"
+phase_name Phase.Left = codes "left"
+
+abbrev pub cause_or_0 : Option Cause → ℕ
+cause_or_0 None = 0
+cause_or_0 (Some cause) = cause_number cause
+
+abbrev pub standing_words : ℕ → LinkWord → Phase → List ℕ
+standing_words link word phase =
+    codes "look " ++ (decimal link ++ (codes " " ++ (word_name word ++ (codes " phase=" ++ phase_name phase))))
+
+abbrev pub counts_words : TurnCounts → List ℕ
+counts_words counts =
+    codes " turns=" ++ (decimal counts.turns ++ (codes " sent=" ++ (decimal counts.sent
+    ++ (codes " good=" ++ (decimal counts.good ++ (codes " bad=" ++ (decimal counts.bad
+    ++ (codes " sixteen=" ++ decimal counts.sixteen))))))))
+
+abbrev pub look_text : ℕ → Phase → AtLink → List ℕ
+look_text link phase at =
+    standing_words link (word_of at.terminal) phase
+    ++ (counts_words at.counts ++ (codes " cause=" ++ (decimal (cause_or_0 at.terminal.cause) ++ codes "\n")))
+
+pub record Looks (link : ℕ) (old : BenchState) (printed : List ℕ) (new : BenchState) : Type 0 where
+  pub at : AtLink
+  pub is_at : slice_get old.links link ≡ Some at
+  pub printed_is : printed ≡ look_text link (phase_of link old.set.state) at
+  pub new_is : new ≡ old
+
+-- WHAT IS ASKED FOR is done: this is printed, and this is left
+abbrev pub Does : Asked → BenchState → List ℕ → BenchState → Type 0
+Does (Asked.Command link command) old printed new = CommandsBy (is_refused command link old) link command old printed new
+Does (Asked.Octets link octets) old printed new = Exchanges link octets old printed new
+Does (Asked.Hear link unit) old printed new = HearsLine link (over unit.times (unit_bits unit.octets)) old printed new
+Does (Asked.Flags link times) old printed new = HearsLine link (over times flag) old printed new
+Does (Asked.Bits link bits) old printed new = HearsLine link (over bits.times (bits_in bits.octets)) old printed new
+Does (Asked.Event event) old printed new = Asks event old printed new
+Does (Asked.Look link) old printed new = Looks link old printed new
+Does Asked.Checkpoint old printed new =
+    (printed ≡ items_text Narrow (piece old.set.history) ++ done_text)
+    × (new ≡ record { set = based old.set; links = old.links })
+Does Asked.History old printed new = (printed ≡ entries_text Narrow old.set.history ++ done_text) × (new ≡ old)
+
+-- the link that is asked for, if one is
+abbrev pub link_of_event : Event → Option ℕ
+link_of_event (Event.Next link) = Some link
+link_of_event (Event.Heard link unit) = Some link
+link_of_event (Event.Up link) = Some link
+link_of_event (Event.Down link) = Some link
+link_of_event (Event.DownBlind link) = Some link
+link_of_event (Event.NoAnswer link) = Some link
+link_of_event (Event.Restore link) = Some link
+link_of_event (Event.BackTimeout link) = Some link
+link_of_event _ = None
+
+abbrev pub link_in : Asked → Option ℕ
+link_in (Asked.Command link command) = Some link
+link_in (Asked.Octets link octets) = Some link
+link_in (Asked.Hear link unit) = Some link
+link_in (Asked.Flags link times) = Some link
+link_in (Asked.Bits link bits) = Some link
+link_in (Asked.Event event) = link_of_event event
+link_in (Asked.Look link) = Some link
+link_in _ = None
+
+abbrev pub is_below : ℕ → Option ℕ → Bool
+is_below links None = true
+is_below links (Some link) = nat_lt link links

@@ -1,0 +1,7 @@
+pub mod Showing
+pub mod Answers
+pub mod Text
+pub mod One
+pub mod Rows
+pub mod Hearing
+pub mod Looking

@@ -1,0 +1,182 @@
+-- LAW: a line of `terminal` has one outcome, since what comes on a line decides what the turns do (bench_core).
+use Rattle.std.specs.Prelude.{◌≡◌, ◌<◌, ℕ, Bool, true, false, List, [], ◌∷◌, ◌++◌, length, map, Option, Some, None, codes, decimal, slice_set}
+use Rattle.std.proofs.Common.{ap, refl, sym, subst, ◌∙◌}
+use Rattle.std.proofs.Props.{props}
+use Rattle.answer_texts.specs.Texts.{answer_text}
+use Rattle.bench_core.proofs.OneLemmas.{one_hearing, one_there, same_bench, same_set}
+use Rattle.bench_core.specs.Ends.{AtLink, BenchState, phase_of, told_at}
+use Rattle.bench_core.specs.Waiting.{HearsPieces, TurnAndUnit}
+use Rattle.figures.specs.Figures.{hex_text}
+use Rattle.l2_bits.specs.Flags.{flag}
+use Rattle.l2_bits.specs.LineBits.{bits_of}
+use Rattle.l2_units.specs.declared.profile.Profile.{Profile}
+use Rattle.l2_units.specs.declared.profile.Profile.TheVariants.{Narrow, Wide}
+use Rattle.play_script.specs.Script.{first_line}
+use Rattle.play_script.specs.declared.script.Values.{Values}
+use Rattle.set_events.specs.declared.answer.Answer.{Answer}
+use Rattle.set_events.specs.declared.event.Event.{Event}
+use Rattle.set_events.specs.declared.history.Entry.{Entry}
+use Rattle.set_model.specs.State.{Settings}
+use Rattle.term_model.specs.declared.command.Command.{Command}
+use Rattle.term_model.specs.declared.timers.Timers.{Timers}
+use Rattle.terminal_script.specs.Lines.{asked_of}
+use Rattle.terminal_script.specs.Timers.{Lengths, timers_of}
+use Rattle.terminal_script.specs.declared.asked.Asked.{Asked}
+use Rattle.terminal_text.specs.Answers.{Asks, CommandsBy, Does, Exchanges, HearsLine, Looks, asker, bits_in, is_below, is_refused, link_in, look_text, one_by_one, unit_bits}
+use Rattle.terminal_text.specs.Showing.{over, shown, without_unit}
+use Rattle.terminal_text.specs.Text.{IsDone, MayDo, MayDoAt, MayFollow, MayOpen, MayOpenAs, MayRead, Opens, TerminalOutcome, opened_bench, settings_of, told_lengths, terminal_rules, usual}
+use Rattle.terminal_text.specs.declared.open_end.End.{End as EndState}
+use Rattle.text_lines.specs.Lines.{prints}
+use Rattle.text_lines.specs.Talks.{HaveOneOutcome}
+
+-- The timers of some lengths are one.
+
+of_lengths : (l : Lengths) → 0 < l.t1 → 0 < l.t2 → 0 < l.t3 → 0 < l.t5 → 0 < l.t6 → 0 < l.t7 → Timers
+of_lengths l p1 p2 p3 p5 p6 p7 = record {
+  t1 = l.t1;
+  t2 = l.t2;
+  t3 = l.t3;
+  t5 = l.t5;
+  t6 = l.t6;
+  t7 = l.t7;
+  t1_set = p1;
+  t2_set = p2;
+  t3_set = p3;
+  t5_set = p5;
+  t6_set = p6;
+  t7_set = p7;
+}
+
+set_once : (n : ℕ) (p q : 0 < n) → p ≡ q
+set_once n p q = Prim.hlevel props
+
+same_lengths : (l : Lengths) (p1 q1 : 0 < l.t1) (p2 q2 : 0 < l.t2) (p3 q3 : 0 < l.t3) (p5 q5 : 0 < l.t5) (p6 q6 : 0 < l.t6)
+    (p7 q7 : 0 < l.t7) → of_lengths l p1 p2 p3 p5 p6 p7 ≡ of_lengths l q1 q2 q3 q5 q6 q7
+same_lengths l p1 q1 p2 q2 p3 q3 p5 q5 p6 q6 p7 q7 =
+    ap (λ x. of_lengths l x p2 p3 p5 p6 p7) (set_once l.t1 p1 q1) ∙ ap (λ x. of_lengths l q1 x p3 p5 p6 p7) (set_once l.t2 p2 q2)
+    ∙ ap (λ x. of_lengths l q1 q2 x p5 p6 p7) (set_once l.t3 p3 q3) ∙ ap (λ x. of_lengths l q1 q2 q3 x p6 p7) (set_once l.t5 p5 q5)
+    ∙ ap (λ x. of_lengths l q1 q2 q3 q5 x p7) (set_once l.t6 p6 q6) ∙ ap (λ x. of_lengths l q1 q2 q3 q5 q6 x) (set_once l.t7 p7 q7)
+
+abbrev AreAlike : Lengths → Lengths → Type 0
+AreAlike l m =
+    (p1 : 0 < l.t1) (q1 : 0 < m.t1) (p2 : 0 < l.t2) (q2 : 0 < m.t2) (p3 : 0 < l.t3) (q3 : 0 < m.t3) (p5 : 0 < l.t5) (q5 : 0 < m.t5)
+    (p6 : 0 < l.t6) (q6 : 0 < m.t6) (p7 : 0 < l.t7) (q7 : 0 < m.t7) → of_lengths l p1 p2 p3 p5 p6 p7 ≡ of_lengths m q1 q2 q3 q5 q6 q7
+
+are_alike : (l m : Lengths) → l ≡ m → AreAlike l m
+are_alike l m e = subst (λ (n : Lengths). AreAlike l n) e (same_lengths l)
+
+pub one_timers : (a b : Timers) → timers_of a ≡ timers_of b → a ≡ b
+unfolding of_lengths
+one_timers a b e =
+    are_alike (timers_of a) (timers_of b) e a.t1_set b.t1_set a.t2_set b.t2_set a.t3_set b.t3_set a.t5_set b.t5_set a.t6_set b.t6_set
+    a.t7_set b.t7_set
+
+-- What is asked for.
+
+commands_one : (refused : Bool) (link : ℕ) (command : Command) (old : BenchState) (p q : List ℕ) (x y : BenchState)
+    → CommandsBy refused link command old p x → CommandsBy refused link command old q y → (p ≡ q) × (x ≡ y)
+commands_one true link command old p q x y a b = (a.0 ∙ sym b.0, a.1 ∙ sym b.1)
+commands_one false link command old p q x y a b =
+    let was = one_there old.links link a.1.was b.1.was a.1.is_at b.1.is_at in (
+      a.0 ∙ sym b.0,
+      same_bench x y (a.1.set_is ∙ sym b.1.set_is)
+          (a.1.links_are ∙ ap (λ (at : AtLink). slice_set old.links link (told_at command at)) was ∙ sym b.1.links_are),
+    )
+
+exchanges_one : (link : ℕ) (octets : List ℕ) (old : BenchState) (p q : List ℕ) (x y : BenchState)
+    → Exchanges link octets old p x → Exchanges link octets old q y → (p ≡ q) × (x ≡ y)
+exchanges_one link octets old p q x y a b =
+    let one = one_hearing link (map (bits_of 8) octets) old a.heard b.heard x y a.hears b.hears in
+    (a.printed_is ∙ ap (λ (heard : List TurnAndUnit). printed heard) one.0 ∙ sym b.printed_is, one.1)
+  where
+    printed : List TurnAndUnit → List ℕ
+    printed heard = shown link (map without_unit heard)
+        ++ (codes "octets " ++ (decimal link ++ (codes " " ++ (hex_text (map (λ h. h.turn.put) heard) ++ codes "\n"))))
+
+hears_one : (link : ℕ) (bits : List Bool) (old : BenchState) (p q : List ℕ) (x y : BenchState)
+    → HearsLine link bits old p x → HearsLine link bits old q y → (p ≡ q) × (x ≡ y)
+hears_one link bits old p q x y a b =
+    let one = one_hearing link (one_by_one bits) old a.heard b.heard x y a.hears b.hears in
+    (a.printed_is ∙ ap (λ (heard : List TurnAndUnit). printed heard) one.0 ∙ sym b.printed_is, one.1)
+  where
+    printed : List TurnAndUnit → List ℕ
+    printed heard = shown link heard ++ (codes "turns " ++ (decimal (length heard) ++ codes "\n"))
+
+asks_one : (event : Event) (old : BenchState) (p q : List ℕ) (x y : BenchState) → Asks event old p x → Asks event old q y
+    → (p ≡ q) × (x ≡ y)
+asks_one event old p q x y a b =
+    let answers : a.answer ≡ b.answer = a.step.answer_is ∙ sym b.step.answer_is in (
+      a.printed_is ∙ ap (λ (answer : Answer). answer_text Narrow answer) answers ∙ sym b.printed_is,
+      same_bench x y
+          (same_set x.set y.set (a.step.base_is ∙ sym b.step.base_is) (a.step.state_is ∙ sym b.step.state_is)
+          (a.step.history_is ∙ ap (λ (answer : Answer). old.set.history ++ entry answer ∷ []) answers ∙ sym b.step.history_is))
+          (a.links_are ∙ sym b.links_are),
+    )
+  where
+    entry : Answer → Entry
+    entry answer = record { who = asker event; event = event; answer = answer }
+
+looks_one : (link : ℕ) (old : BenchState) (p q : List ℕ) (x y : BenchState) → Looks link old p x → Looks link old q y
+    → (p ≡ q) × (x ≡ y)
+looks_one link old p q x y a b = (
+  a.printed_is ∙ ap (λ (at : AtLink). look_text link (phase_of link old.set.state) at) (one_there old.links link a.at b.at a.is_at b.is_at)
+      ∙ sym b.printed_is,
+  a.new_is ∙ sym b.new_is,
+)
+
+does_one : (asked : Asked) (old : BenchState) (p q : List ℕ) (x y : BenchState) → Does asked old p x → Does asked old q y
+    → (p ≡ q) × (x ≡ y)
+does_one (Asked.Command link command) old p q x y a b = commands_one (is_refused command link old) link command old p q x y a b
+does_one (Asked.Octets link octets) old p q x y a b = exchanges_one link octets old p q x y a b
+does_one (Asked.Hear link unit) old p q x y a b = hears_one link (over unit.times (unit_bits unit.octets)) old p q x y a b
+does_one (Asked.Flags link times) old p q x y a b = hears_one link (over times flag) old p q x y a b
+does_one (Asked.Bits link bits) old p q x y a b = hears_one link (over bits.times (bits_in bits.octets)) old p q x y a b
+does_one (Asked.Event event) old p q x y a b = asks_one event old p q x y a b
+does_one (Asked.Look link) old p q x y a b = looks_one link old p q x y a b
+does_one Asked.Checkpoint old p q x y a b = (a.0 ∙ sym b.0, a.1 ∙ sym b.1)
+does_one Asked.History old p q x y a b = (a.0 ∙ sym b.0, a.1 ∙ sym b.1)
+
+-- Lines.
+
+opens_one : (settings : Settings) (told : Lengths) (is_new : Bool) (a b : TerminalOutcome) → Opens settings told is_new a
+    → Opens settings told is_new b → a ≡ b
+opens_one settings told is_new a b x y =
+    x.outcome_is
+    ∙ ap (λ (lengths : Timers). prints [] (Some (record { bench = opened_bench settings lengths; is_new = is_new })))
+    (one_timers x.lengths y.lengths (x.lengths_are ∙ sym y.lengths_are))
+    ∙ sym y.outcome_is
+
+open_as_one : (profile : Profile) (n : ℕ) (line : List ℕ) (v : Values) (a b : TerminalOutcome) → MayOpenAs profile n line v a
+    → MayOpenAs profile n line v b → a ≡ b
+open_as_one Narrow n line v a b x y = opens_one (settings_of v) usual true a b x y
+open_as_one Wide n line v a b x y = x ∙ sym y
+
+open_one : (n : ℕ) (line : List ℕ) (found : Option Values) (a b : TerminalOutcome) → MayOpen n line found a → MayOpen n line found b
+    → a ≡ b
+open_one n line None a b x y = x ∙ sym y
+open_one n line (Some v) a b x y = open_as_one v.profile n line v a b x y
+
+is_done_one : (asked : Asked) (old : BenchState) (a b : TerminalOutcome) → IsDone asked old a → IsDone asked old b → a ≡ b
+is_done_one asked old a b x y =
+    let one = does_one asked old x.printed y.printed x.new y.new x.does y.does in
+    x.outcome_is ∙ ap (λ (printed : List ℕ). prints printed (Some (record { bench = x.new; is_new = false }))) one.0
+    ∙ ap (λ (new : BenchState). prints y.printed (Some (record { bench = new; is_new = false }))) one.1 ∙ sym y.outcome_is
+
+do_at_one : (there : Bool) (n : ℕ) (asked : Asked) (old : BenchState) (a b : TerminalOutcome) → MayDoAt there n asked old a
+    → MayDoAt there n asked old b → a ≡ b
+do_at_one false n asked old a b x y = x ∙ sym y
+do_at_one true n asked old a b x y = is_done_one asked old a b x y
+
+do_one : (n : ℕ) (line : List ℕ) (found : Option Asked) (old : BenchState) (a b : TerminalOutcome) → MayDo n line found old a
+    → MayDo n line found old b → a ≡ b
+do_one n line None old a b x y = x ∙ sym y
+do_one n line (Some asked) old a b x y = do_at_one (is_below (length old.links) (link_in asked)) n asked old a b x y
+
+follow_one : (n : ℕ) (line : List ℕ) (told : Option Lengths) (old : BenchState) (a b : TerminalOutcome) → MayFollow n line told old a
+    → MayFollow n line told old b → a ≡ b
+follow_one n line None old a b x y = do_one n line (asked_of line) old a b x y
+follow_one n line (Some told) old a b x y = opens_one old.set.base.state.settings told false a b x y
+
+pub one_outcome : HaveOneOutcome terminal_rules
+one_outcome n None line a b x y = open_one n line (first_line line) a b x y
+one_outcome n (Some end) line a b x y = follow_one n line (told_lengths end.is_new line) end.bench a b x y

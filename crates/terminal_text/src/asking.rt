@@ -1,0 +1,142 @@
+//! What a line asks for, done.
+ghost use Rattle.std.specs.Prelude.{◌≡◌, ◌<◌, ◌≤◌, IfOk, length, true};
+ghost use Rattle.set_model.specs.History.{IsActor};
+ghost use Rattle.terminal_script.specs.declared.asked.Asked.TheVariants.{Checkpoint, History};
+ghost use Rattle.terminal_text.specs.Looking.{IsLookAt};
+ghost use Rattle.terminal_text.specs.Answers.{Asks, CommandsBy, Does, Looks, asker, is_below, is_refused, link_in, link_of_event};
+
+use super::fault::Want;
+use super::hearing::{hear_digits, hear_flags, hear_octets, hear_unit};
+use super::words::{Look, write_look};
+use bench_core::Bench;
+use history_text::{write_answer, write_entries, write_piece};
+use l2_units::Profile;
+use link_term::Command;
+use set_events::{Actor, Event};
+use std::alloc::Global;
+use terminal_script::Asked;
+
+/// The link that is asked for, if one is.
+pub(crate) fn link_of(asked: &Asked) -> Option<u8>
+    ensures { result ≡ link_in asked.now }
+{
+    match asked {
+        Asked::Command { link, .. }
+        | Asked::Octets { link, .. }
+        | Asked::Hear { link, .. }
+        | Asked::Flags { link, .. }
+        | Asked::Bits { link, .. }
+        | Asked::Look { link } => Some(*link),
+        Asked::Event { event } => link_of_event(event),
+        Asked::Checkpoint | Asked::History => None,
+    }
+}
+
+/// The link of whose terminal an event is; `None`: it's a user's.
+fn link_of_event(event: &Event) -> Option<u8>
+    ensures { result ≡ link_of_event event.now }
+{
+    match event {
+        Event::Next { link }
+        | Event::Heard { link, .. }
+        | Event::Up { link }
+        | Event::Down { link }
+        | Event::DownBlind { link }
+        | Event::NoAnswer { link }
+        | Event::Restore { link }
+        | Event::BackTimeout { link } => Some(*link),
+        Event::Offer { .. } | Event::Take | Event::Find { .. } => None,
+    }
+}
+
+/// What a line asks for is done, of a link that is there: what it prints.
+pub(crate) fn carry_out(alloc: Global, bench: &mut Bench, asked: &Asked) -> Result<Vec<u8>, Want>
+    requires there { is_below (length bench.old.links) (link_in asked.now) ≡ true }
+    requires few { length bench.old.links ≤ 16 }
+    ensures { IfOk result (λ text. Does asked.now bench.old text.items bench.new) }
+{
+    match asked {
+        Asked::Command { link, command } => obey(alloc, bench, *link, *command),
+        Asked::Octets { link, octets } => hear_octets(alloc, bench, *link, octets.octets()),
+        Asked::Hear { link, unit } => hear_unit(alloc, bench, *link, unit),
+        Asked::Flags { link, times } => hear_flags(alloc, bench, *link, *times),
+        Asked::Bits { link, bits } => hear_digits(alloc, bench, *link, bits),
+        Asked::Event { event } => ask(alloc, bench, event),
+        Asked::Look { link } => look(alloc, bench, *link),
+        Asked::Checkpoint => checkpoint(alloc, bench),
+        Asked::History => history(alloc, bench),
+    }
+}
+
+/// A command to the terminal of a link.
+fn obey(alloc: Global, bench: &mut Bench, link: u8, command: Command) -> Result<Vec<u8>, Want>
+    requires { link < length bench.old.links }
+    ensures { IfOk result (λ text. CommandsBy (is_refused command link bench.old) link command bench.old text.items
+        bench.new) }
+{
+    let text: &[u8] = match bench.command(link, command) {
+        Ok(()) => b"done\n",
+        Err(_) => b"refused 7\n",
+    };
+    Ok(Vec::from_slice(alloc, text)?)
+}
+
+/// An event of a terminal or of user 0.
+fn ask(alloc: Global, bench: &mut Bench, event: &Event) -> Result<Vec<u8>, Want>
+    requires { IsActor (asker event.now) }
+    ensures { IfOk result (λ text. Asks event.now bench.old text.items bench.new) }
+{
+    let answer = bench.ask(asker(event), event)?;
+    Ok(write_answer(alloc, Profile::Narrow, &answer)?)
+}
+
+/// Who asks an event.
+fn asker(event: &Event) -> Actor
+    ensures { result ≡ asker event.now }
+{
+    match link_of_event(event) {
+        Some(link) => Actor::Terminal(link),
+        None => Actor::User(0),
+    }
+}
+
+/// How a link stands.
+fn look(alloc: Global, bench: &mut Bench, link: u8) -> Result<Vec<u8>, Want>
+    requires { link < length bench.old.links }
+    ensures { IfOk result (λ text. Looks link bench.old text.items bench.new) }
+{
+    Ok(write_look(alloc, look_at(bench, link))?)
+}
+
+/// How a link stands, of this bench.
+fn look_at(bench: &Bench, link: u8) -> Look
+    requires { link < length bench.now.links }
+    ensures { IsLookAt link bench.now result }
+{
+    Look {
+        link,
+        word: bench.word(link),
+        phase: bench.phase(link),
+        counts: bench.counts(link),
+        cause: bench.cause(link),
+    }
+}
+
+/// A checkpoint: the entries that go.
+fn checkpoint(alloc: Global, bench: &mut Bench) -> Result<Vec<u8>, Want>
+    ensures { IfOk result (λ text. Does Checkpoint bench.old text.items bench.new) }
+{
+    let mut text = write_piece(alloc, Profile::Narrow, bench.set().history())?;
+    text.extend_from_slice(b"done\n")?;
+    bench.checkpoint()?;
+    Ok(text)
+}
+
+/// The entries since the base.
+fn history(alloc: Global, bench: &mut Bench) -> Result<Vec<u8>, Want>
+    ensures { IfOk result (λ text. Does History bench.old text.items bench.new) }
+{
+    let mut text = write_entries(alloc, Profile::Narrow, bench.set().history())?;
+    text.extend_from_slice(b"done\n")?;
+    Ok(text)
+}

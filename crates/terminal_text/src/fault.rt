@@ -1,0 +1,46 @@
+//! How an input of `terminal` can be at fault, and what ends it otherwise.
+
+use link_term::TermFault;
+use set_events::SetFault;
+use std::alloc::{AllocError, AllocFailed};
+use text_lines::LineFlaw;
+use thiserror::Error;
+
+/// How an input of `terminal` can be at fault. Lines are counted from 1.
+#[derive(Clone, Copy, Debug, Drop, PartialEq, Eq, Error)]
+pub enum TerminalFault {
+    /// The line of this number is unreadable, for this flaw if it isn't for its words.
+    #[error("line {line} text{flaw}")]
+    Text { line: u64, flaw: LineFlaw },
+    /// What the line of this number asks for is of a link that isn't there.
+    #[error("line {line} step")]
+    Step { line: u64 },
+}
+
+/// Memory is wanted; or a count is full: 2^48 turns of a link, or 2^48 entries of the set.
+#[derive(Clone, Copy, Drop)]
+pub(crate) struct Want;
+
+impl From<AllocError> for Want {
+    fn from(_error: AllocError) -> Want {
+        Want
+    }
+}
+
+impl<T: Drop> From<AllocFailed<T>> for Want {
+    fn from(_error: AllocFailed<T>) -> Want {
+        Want
+    }
+}
+
+impl From<SetFault> for Want {
+    fn from(_fault: SetFault) -> Want {
+        Want
+    }
+}
+
+impl From<TermFault> for Want {
+    fn from(_fault: TermFault) -> Want {
+        Want
+    }
+}

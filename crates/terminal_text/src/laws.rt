@@ -1,0 +1,9 @@
+//! Laws that speak of definitions alone.
+ghost use Rattle.terminal_text.specs.Text.{terminal_rules};
+ghost use Rattle.text_lines.specs.Talks.{HaveOneOutcome, HasOneText};
+
+/// A law: a line has one outcome, and so an input has one text: what is printed is a function of what is read.
+pub fn one_terminal_text()
+    ensures outcome { HaveOneOutcome terminal_rules }
+    ensures text { HasOneText terminal_rules }
+{}

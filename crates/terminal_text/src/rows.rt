@@ -1,0 +1,108 @@
+//! What the turns of one line of the input show, as it's printed.
+ghost use Rattle.std.specs.Prelude.{◌≡◌, ◌++◌, [], ◌∷◌, None, IfOk, OnOk};
+ghost use Rattle.std.specs.Option.{option_map};
+ghost use Rattle.terminal_text.specs.Rows.{AddsUnit, EndsRow, Shows, ShowsTurn, left_of};
+
+use super::fault::Want;
+use super::words::{is_silent, push_row, push_turn};
+use bench_core::Turn;
+use figures::is_word;
+use l2_units::Unit;
+use std::alloc::Global;
+use units_text::push_unit_words;
+
+/// A row of units that read so, which may go on.
+#[derive(Drop)]
+pub(crate) struct Row {
+    pub(crate) words: Vec<u8>,
+    pub(crate) times: u64,
+}
+
+/// What turns of a link show: what is printed of it, and the row of units that may go on.
+#[derive(Drop)]
+pub(crate) struct Rows {
+    alloc: Global,
+    link: u8,
+    row: Option<Row>,
+    text: Vec<u8>,
+}
+
+impl Rows {
+    /// No turn was shown.
+    pub(crate) fn new(alloc: Global, link: u8) -> Rows
+        ensures link { result.link ≡ link }
+        ensures row { result.row ≡ None }
+        ensures text { result.text.items ≡ [] }
+    {
+        Rows {
+            alloc,
+            link,
+            row: None,
+            text: Vec::new(alloc),
+        }
+    }
+
+    /// Shows what a turn did, and the unit that it appended, if it did and units are shown.
+    pub(crate) fn show(&mut self, turn: &Turn, unit: Option<&Unit>) -> Result<(), Want>
+        ensures { OnOk result (Shows self.old (record { turn = turn.now; unit = option_map (λ u. u.now) unit.entry } ∷ [])
+            self.new) }
+    {
+        self.show_lines(turn)?;
+        match unit {
+            Some(unit) => self.add(unit),
+            None => Ok(()),
+        }
+    }
+
+    /// Shows what a turn did, but for its unit: where that is something, the row ends before it.
+    fn show_lines(&mut self, turn: &Turn) -> Result<(), Want>
+        ensures { OnOk result (ShowsTurn self.old turn.now self.new) }
+    {
+        if is_silent(turn) {
+            return Ok(());
+        }
+        self.end_row()?;
+        push_turn(&mut self.text, self.link, turn)?;
+        Ok(())
+    }
+
+    /// A unit was appended: it stands in the row, or begins the next.
+    fn add(&mut self, unit: &Unit) -> Result<(), Want>
+        ensures { OnOk result (AddsUnit self.old unit.now self.new) }
+    {
+        let mut words = Vec::new(self.alloc);
+        push_unit_words(unit, &mut words)?;
+        if let Some(row) = &mut self.row {
+            if is_word(&row.words, &words) {
+                let Some(times) = row.times.checked_add(1) else {
+                    return Err(Want);
+                };
+                row.times = times;
+                return Ok(());
+            }
+        }
+        self.end_row()?;
+        self.row = Some(Row { words, times: 1 });
+        Ok(())
+    }
+
+    /// The row ends, if there is one.
+    fn end_row(&mut self) -> Result<(), Want>
+        ensures { OnOk result (EndsRow self.old self.new) }
+    {
+        if let Some(row) = &self.row {
+            push_row(&mut self.text, self.link, &row.words, row.times)?;
+        }
+        self.row = None;
+        Ok(())
+    }
+
+    /// Nothing more is shown: what is printed.
+    pub(crate) fn end(self) -> Result<Vec<u8>, Want>
+        ensures { IfOk result (λ text. text.items ≡ self.text.items ++ left_of self.link self.row []) }
+    {
+        let mut rows = self;
+        rows.end_row()?;
+        Ok(rows.text)
+    }
+}

@@ -1,0 +1,35 @@
+//! `mtpbank terminal`: the text of an input.
+ghost use Rattle.std.specs.Prelude.{◌≤◌, ◌^◌, length, IfSome, OnOk};
+ghost use Rattle.printing.specs.Printing.{Prints, FailsByDevices};
+ghost use Rattle.terminal_text.specs.Text.{IsTerminalText};
+
+use super::fault::TerminalFault;
+use super::open_end::Terminal;
+use printing::{Fault, Sink, Source};
+use std::alloc::Global;
+use text_lines::print_talk;
+
+/// The most octets of an input, 2^60.
+const LONGEST: usize = 1 << 60;
+
+/// Opens an end of a set by the first line that the source gives, does what each further line asks for, and writes what
+/// they print.
+///
+/// All that the whole lines of a piece of the input print is written before more is read. Ends with the first fault;
+/// what was printed before it stays printed. An input of more than 2^60 octets ends with [`Fault::Long`], unless another
+/// fault comes before. [`Fault::Memory`] tells, too, that a count is full: 2^48 turns of a link, or 2^48 entries of the
+/// set.
+pub fn terminal<S: Source, W: Sink>(
+    alloc: Global,
+    source: &mut S,
+    sink: &mut W,
+) -> Result<(), Fault<TerminalFault>>
+    ensures text { IfSome (S.left source.old)
+        (λ input. Prints result (IsTerminalText input) (W.written sink.old) (W.written sink.new)) }
+    ensures bounded { IfSome (S.left source.old) (λ input. OnOk result (length input ≤ 2 ^ 60)) }
+    ensures devices { IfSome (S.left source.old)
+        (FailsByDevices (2 ^ 60) result (S.failures source.old) (S.failures source.new)
+        (W.failures sink.old) (W.failures sink.new)) }
+{
+    print_talk(alloc, Terminal::new(), LONGEST, source, sink)
+}
