@@ -4,7 +4,7 @@ use Rattle.std.specs.Option.{option_or}
 use Rattle.std.specs.Str.{bytes_eq}
 use Rattle.figures.specs.Figures.{number_of}
 use Rattle.command_line.specs.declared.advice.Input.{Input}
-use Rattle.command_line.specs.declared.advice.Input.TheVariants.{Units, Play, Decode, Capture, Ladder, Audit, History}
+use Rattle.command_line.specs.declared.advice.Input.TheVariants.{Units, Play, Decode, Capture, Ladder, Audit, Terminal, History}
 use Rattle.command_line.specs.declared.advice.RunOption.{RunOption}
 use Rattle.command_line.specs.declared.advice.RunOption.TheVariants.{Sets, Links, Users, Messages, Fail, Method, Turns, Checkpoint}
 
@@ -22,7 +22,8 @@ input_of name =
     else (if bytes_eq name (codes "capture") then Some Capture
     else (if bytes_eq name (codes "ladder") then Some Ladder
     else (if bytes_eq name (codes "audit") then Some Audit
-    else (if bytes_eq name (codes "history") then Some History else None))))))
+    else (if bytes_eq name (codes "terminal") then Some Terminal
+    else (if bytes_eq name (codes "history") then Some History else None)))))))
 
 abbrev pub usage_of : Input → List ℕ
 usage_of Units = codes "units"
@@ -31,6 +32,7 @@ usage_of Decode = codes "decode"
 usage_of Capture = codes "capture"
 usage_of Ladder = codes "ladder"
 usage_of Audit = codes "audit"
+usage_of Terminal = codes "terminal"
 usage_of History = codes "history END"
 
 abbrev pub name_of : Input → List ℕ
@@ -182,6 +184,7 @@ told_of_input (Some Decode) words = input_advice Decode (without_flag (codes "--
 told_of_input (Some Capture) words = input_advice Capture words
 told_of_input (Some Ladder) words = input_advice Ladder words
 told_of_input (Some Audit) words = input_advice Audit words
+told_of_input (Some Terminal) words = input_advice Terminal words
 
 abbrev pub advice : List (List ℕ) → Option (List ℕ)
 advice [] = None

@@ -20,6 +20,7 @@ pub enum Input {
     Capture,
     Ladder,
     Audit,
+    Terminal,
     History,
 }
 
@@ -74,6 +75,8 @@ fn find_input(name: &[u8]) -> Option<Input>
         Some(Input::Ladder)
     } else if is_word(name, b"audit") {
         Some(Input::Audit)
+    } else if is_word(name, b"terminal") {
+        Some(Input::Terminal)
     } else if is_word(name, b"history") {
         Some(Input::History)
     } else {
@@ -102,6 +105,7 @@ fn usage(input: Input) -> &'static [u8]
         Input::Capture => b"capture",
         Input::Ladder => b"ladder",
         Input::Audit => b"audit",
+        Input::Terminal => b"terminal",
         Input::History => b"history END",
     }
 }

@@ -58,6 +58,72 @@ behind a pipe says `fault line 1 text`. The faults are those of `mtpbank play`:
   fault line N text, fault line N step, fault exhausted
   fault read, fault long, fault write, fault memory";
 
+pub(crate) const TERMINAL_PAGE: &str = "\
+Standard input drives one end of a link set, whose lines are yours. Its first
+line opens the end, and each other asks for one thing, mostly of link L:
+  set links=1 method=basic a=2 b=1 sio=80
+  start, stop, emergency, busy, ease, blind   a command to the link's terminal
+  octets                  octets come on the line; as many go out
+  hear, flags, bits       units, flags or bits come on the line
+  offer, take, find       a user's message is handed over, taken, looked for
+  noanswer, restore, backtimeout              what Q.704's timers tell the set
+  look                    how the link stands
+  checkpoint, history     what the set was asked goes out, or is shown
+An octet in and an octet out is a turn, and a turn is all the time there is.
+`mtpbank terminal --help` says how each line is written, what it prints, and how
+a line is driven. Try `mtpbank terminal < examples/terminal/start.terminal`.";
+
+pub(crate) const TERMINAL_HELP: &str = "\
+Standard input drives one end of a link set, line by line, and each line is answered before more is read. What the links
+lead to is yours: a timeslot, another terminal, a tester. Words have one space between two, numbers are decimal, octets
+two hexadecimal digits each. Lines that are empty or begin with # are passed over. The first line opens the end; the
+second may tell the lengths of its timers (Q.703 12.3) in octet times, each 1 to 2^32-1; neither prints anything:
+  set links=L method=W a=X b=Y sio=HH                as in a script (`mtpbank play --help`): a is this end's point code
+  timers t1=N t2=N t3=N t5=N t6=N t7=N               without it 360000, 400000, 12000, 800, 32000 and 8000, which are
+                      45 s, 50 s, 1.5 s, 0.1 s, 4 s and 1 s at 64 kbit/s
+Each further line prints events and then its answer, so whoever drives the end reads until a line that is no event:
+  start L, stop L, emergency L, busy L, ease L, blind L
+                      a command that is obeyed in the link's next turn: done. start and emergency of a link that the set
+                      has left and not settled: refused 7, and nothing is done
+  octets L HEX        a turn for each octet: octets L HEX, the octets that went out, as many
+  hear L UNIT [xN]    a unit stands on the line, N times (1 to 2^20), with check octets, inserted zeros and a flag
+                      behind: turns K, how many turns were taken. UNIT is 1 to 276 octets without check octets, or
+                      fisu HEAD, lssu HEAD status=S or msu HEAD body=HEX, where HEAD is bsn=B bib=B fsn=F fib=F, or
+                      nothing for 127, 1, 127 and 1
+  flags L N           N flags stand on the line: turns K
+  bits L BITS [xN]    these bits stand on the line, digits 0 and 1, the first one first: turns K
+  offer HEX, take, find N                            user 0, answered as `mtpbank play` answers them
+  noanswer L, restore L, backtimeout L               the terminal of link L, answered so too
+  look L              look L WORD phase=P turns=T sent=S good=G bad=B sixteen=X cause=C: how the link stands; its phase
+                      at the set (settled, up or left); turns and units from the beginning on; the last cause, or 0
+  checkpoint          what is finished leaves the set: the entries of its history that go, checkpoint, and done
+  history             the entries of its history since the last checkpoint, and done
+What stands on a line is bits, of each octet the lowest first. A turn is taken for each eight, and fewer than eight wait
+for the next line of this link. The events; T counts the link's turns from 1:
+  message L turn=T    a message for users was heard: `take` gives it
+  link L WORD turn=T  the link stands otherwise: out (of service, with cause=C), unaligned, aligned, proving, ready
+                      (aligned, and no FISU heard yet), waiting (in service; the set refuses it, since its last life
+                      isn't settled), up, or paused (the far end has a processor outage)
+  sent L UNIT [xN]    this unit was appended to what goes out, N times in a row; with hear, flags and bits alone
+In a turn messages come first, then the WORD, then the unit. The causes: 1 error rate, 2 BSN, 3 FIB, 4 T1, 5 T6, 6 T7,
+7 a status that was heard, 8 alignment not possible, 9 stop. Last comes `end a ..`, as `mtpbank play` prints it.
+The set line and the lines of history and checkpoint one behind another are the history that `mtpbank audit` reads.
+To drive a real line read a block of octets from the timeslot, write it as octets, and write the answer to the timeslot:
+the line's clock keeps the pace. Begin with two blocks of flags; 64 to 160 octets are usual. Signal units go lowest bit
+first and PCM timeslots highest bit first, so a card that gives octets as G.711 has them needs the bits of each octet
+reversed, both ways. Since the end has no clock but its turns, whoever drives it does this:
+  link L out, and phase=left after T2 of Q.704 (0.7 to 2 s)      noanswer L
+  link L out          start L again after a pause (T17 of Q.704, 0.8 to 1.5 s); emergency L before it, where no other
+                      is up
+  link L up, and it was out before                               restore L; backtimeout L where nobody answers
+  memory is short     busy L, and ease L later
+A fault ends it: one line on standard error, with status 1; what was printed before stays:
+  fault line N text   line N, from 1 and with those passed over, can't be read
+  fault line N step   it asks for a link that isn't there
+  fault memory        memory is wanted; or a link took 2^48 turns, or the set was asked 2^48 times
+  fault read, fault write
+  fault long          standard input has more than 2^60 octets";
+
 pub(crate) const CAPTURE_PAGE: &str = "\
 Standard input is a script, as that of `mtpbank play`. What is written is a file
 of the units that its ends send, for Wireshark and other network analysers:
@@ -245,8 +311,8 @@ pub(crate) const HELP: &str = "\
 All but run read standard input to its end, as in `mtpbank play < examples/changeover.play`. `mtpbank play --help` says
 how a script is written and what it prints, `mtpbank units --help` and `mtpbank decode --help` which digits are
 read and what is printed, `mtpbank capture --help` what the file holds, `mtpbank ladder --help` what the chart shows,
-`mtpbank history --help` and `mtpbank audit --help` how a history is, `mtpbank run --help` what runs in threads; with
-`-h` each is a page. A fault is one line on standard error, and what was printed before it stays:
+`mtpbank history --help` and `mtpbank audit --help` how a history is, `mtpbank terminal --help` how one end is driven
+whose lines are yours, `mtpbank run --help` what runs in threads; with `-h` each is a page. A fault is one line on standard error, and what was printed before it stays:
   fault line N text, fault line N step               a line can't be read, or one of a script can't be done
   fault line N illegal                               an entry of a history is one that no set makes
   fault octet P                                      a character is no hexadecimal digit, or one is left over

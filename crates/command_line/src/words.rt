@@ -13,7 +13,7 @@ use super::advice::advise;
 use super::help::{
     AUDIT_HELP, AUDIT_PAGE, CAPTURE_HELP, CAPTURE_PAGE, DECODE_HELP, DECODE_PAGE, HELP,
     HISTORY_HELP, HISTORY_PAGE, LADDER_HELP, LADDER_PAGE, PLAY_HELP, PLAY_PAGE, PROGRAM_PAGE,
-    UNITS_HELP, UNITS_PAGE,
+    TERMINAL_HELP, TERMINAL_PAGE, UNITS_HELP, UNITS_PAGE,
 };
 use super::run_options::{run_command, run_of};
 use super::run_words::{RunWords, Unasked};
@@ -41,6 +41,8 @@ pub enum Words {
     Ladder,
     /// Tell whether the history on standard input is legal.
     Audit,
+    /// Drive one end of a link set, whose lines are elsewhere, by the lines on standard input.
+    Terminal,
     /// Print the history of end a of a script.
     HistoryOfA,
     /// Print the history of end b of a script.
@@ -179,6 +181,7 @@ fn word_of(name: &str, end: Option<&str>) -> Option<Words>
         "capture" => Some(Words::Capture),
         "ladder" => Some(Words::Ladder),
         "audit" => Some(Words::Audit),
+        "terminal" => Some(Words::Terminal),
         "history" => history_of(end),
         _ => None,
     }
@@ -270,6 +273,7 @@ fn command<'a>(alloc: Global) -> Result<Command<'a>, AllocError>
         .subcommand(ladder_command(alloc))?
         .subcommand(audit_command(alloc))?
         .subcommand(history_command(alloc)?)?
+        .subcommand(terminal_command(alloc))?
         .subcommand(run_command(alloc)?)
 }
 
@@ -347,6 +351,17 @@ fn audit_command<'a>(alloc: Global) -> Command<'a>
         .about("Tells whether a history of a link set is legal")
         .after_help(AUDIT_PAGE)
         .after_long_help(AUDIT_HELP)
+}
+
+/// The word `terminal`.
+fn terminal_command<'a>(alloc: Global) -> Command<'a>
+    ensures shape { shape_of result ≡ new_shape (codes "terminal") }
+    ensures local { (out-Command result).has_globals ≡ false }
+{
+    Command::new(alloc, "terminal")
+        .about("Drives one end of a link set, whose lines are yours, line by line")
+        .after_help(TERMINAL_PAGE)
+        .after_long_help(TERMINAL_HELP)
 }
 
 /// The word `history`, and an end behind it.

@@ -2,7 +2,7 @@
 use Rattle.std.specs.Prelude.{◌≡◌, ◌≢◌, ◌⊎◌, ◌^◌, ℕ, List, Result, Ok, Err}
 use Rattle.std.specs.Option.{option_map}
 use Rattle.command_line.specs.declared.words.Words.{Words}
-use Rattle.command_line.specs.declared.words.Words.TheVariants.{Units, Play, PlayExplained, Decode, DecodeWide, Capture, Ladder, Audit, HistoryOfA, HistoryOfB, Run}
+use Rattle.command_line.specs.declared.words.Words.TheVariants.{Units, Play, PlayExplained, Decode, DecodeWide, Capture, Ladder, Audit, Terminal, HistoryOfA, HistoryOfB, Run}
 use Rattle.clap.specs.Values.{kind_of}
 use Rattle.clap.specs.declared.error.kind.ErrorKind.TheVariants.{DisplayHelp, DisplayVersion}
 use Rattle.command_line.specs.declared.run_words.RunWords.{RunWords}
@@ -21,8 +21,9 @@ use Rattle.script_ladder.specs.Ladder.{IsLadder}
 use Rattle.script_history.specs.Histories.{IsHistoryText}
 use Rattle.world_steps.specs.declared.step.End.TheVariants.{A, B}
 use Rattle.audit_text.specs.Auditing.{IsAuditText}
+use Rattle.terminal_text.specs.Text.{IsTerminalText}
 use Rattle.mtpbank.specs.declared.running.TextFault.{TextFault}
-use Rattle.mtpbank.specs.declared.running.TextFault.TheVariants.{Units as UnitsFault, Play as PlayFault, Explained as ExplainedPlayFault, Decode as DecodeFault, Audit as AuditedFault}
+use Rattle.mtpbank.specs.declared.running.TextFault.TheVariants.{Units as UnitsFault, Play as PlayFault, Explained as ExplainedPlayFault, Decode as DecodeFault, Audit as AuditedFault, Terminal as TerminalLineFault}
 
 -- a text of which only the fault, if any, has another type
 pub record IsText {F : Type 0} (IsIt : Printed F → Type 0) (of : F → TextFault)
@@ -40,6 +41,7 @@ IsTextOf DecodeWide input text = IsText (IsDecodeText Wide input) DecodeFault te
 IsTextOf Capture input text = IsText (IsCapture input) PlayFault text
 IsTextOf Ladder input text = IsText (IsLadder input) PlayFault text
 IsTextOf Audit input text = IsText (IsAuditText input) AuditedFault text
+IsTextOf Terminal input text = IsText (IsTerminalText input) TerminalLineFault text
 IsTextOf HistoryOfA input text = IsText (IsHistoryText A input) PlayFault text
 IsTextOf HistoryOfB input text = IsText (IsHistoryText B input) PlayFault text
 IsTextOf (Run run) input text = ⊥
@@ -49,12 +51,13 @@ abbrev pub ReadsInput : Words → Type 0
 ReadsInput (Run run) = ⊥
 ReadsInput words = Unit {0}
 
--- the most octets that are read: units and decode keep nothing of them, and audit what its set keeps
+-- the most octets that are read: units and decode keep nothing of them, and audit and terminal what their sets keep
 abbrev pub longest_of : Words → ℕ
 longest_of Units = 2 ^ 60
 longest_of Decode = 2 ^ 60
 longest_of DecodeWide = 2 ^ 60
 longest_of Audit = 2 ^ 60
+longest_of Terminal = 2 ^ 60
 longest_of words = 2 ^ 24
 
 -- the same answer with a fault of that type

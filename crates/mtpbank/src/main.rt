@@ -4,8 +4,8 @@
 //! values, and prints what they give. `units` tells what a signalling terminal sees of a line's octets;
 //! `play` walks two ends of a link set through a script; `capture` writes what they send there as a file for network
 //! analysers, `ladder` draws it as a chart, and `history` prints what one of those ends was asked and answered;
-//! `audit` tells whether such a history is legal, and `decode` what the octets of units say. `run` reads nothing: it runs two
-//! banks in threads, and prints what they came to.
+//! `audit` tells whether such a history is legal, and `decode` what the octets of units say. `terminal` drives one end of a
+//! link set, whose lines are elsewhere. `run` reads nothing: it runs two banks in threads, and prints what they came to.
 #![tactic(auto)]
 
 ghost use Rattle.std.specs.Prelude.{◌≡◌, ◌≢◌, ◌⊎◌, Ok, Err, IsOk, IsErr};

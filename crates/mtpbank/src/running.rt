@@ -13,6 +13,7 @@ use script_capture::capture;
 use script_history::{End, history};
 use script_ladder::ladder;
 use std::alloc::Global;
+use terminal_text::{TerminalFault, terminal};
 use thiserror::Error;
 use units_text::{UnreadableOctet, units};
 
@@ -34,6 +35,9 @@ pub enum TextFault {
     /// In a way of `audit`.
     #[error("{0}")]
     Audit(AuditFault),
+    /// In a way of `terminal`.
+    #[error("{0}")]
+    Terminal(TerminalFault),
 }
 
 /// Reads what the source gives, and writes what the subcommand makes of it, up to the first fault.
@@ -60,6 +64,7 @@ pub fn run<S: Source, W: Sink>(
         Words::Capture => of_any(capture(alloc, source, sink)),
         Words::Ladder => of_any(ladder(alloc, source, sink)),
         Words::Audit => of_any(audit(alloc, source, sink)),
+        Words::Terminal => of_any(terminal(alloc, source, sink)),
         Words::HistoryOfA => of_any(history(alloc, End::A, source, sink)),
         Words::HistoryOfB => of_any(history(alloc, End::B, source, sink)),
         Words::Run(_) => unreachable!(),
@@ -125,6 +130,16 @@ impl FaultOfText for AuditFault {
 
     fn into_any(self) -> TextFault {
         TextFault::Audit(self)
+    }
+}
+
+impl FaultOfText for TerminalFault {
+    ghost use Rattle.mtpbank.specs.declared.running.TextFault.TheVariants.{Terminal};
+
+    ghost among_all = { Terminal };
+
+    fn into_any(self) -> TextFault {
+        TextFault::Terminal(self)
     }
 }
 

@@ -1,8 +1,8 @@
 //! Stored runs: each script and each line of units beside which its output stands is run anew, and held against it.
 //!
 //! It reads the file `list` of the folder that it runs in: a name a line, of a script (`.play`), a line of units
-//! (`.units`), units to decode (`.decode`, or `.decode_wide` of the wide profile), a history to audit (`.history`), or a
-//! table of scripts that all give the same:
+//! (`.units`), units to decode (`.decode`, or `.decode_wide` of the wide profile), a history to audit (`.history`), the
+//! lines that drive an end (`.terminal`), or a table of scripts that all give the same:
 //! of each line of `NAME.first` a script is made, and of each line of `NAME.second` one with the opening before it. Beside
 //! `NAME.play` stands `NAME.stdout`, what the run prints, and where it ends with a fault `NAME.fault`, the line that tells
 //! it. `NAME.pcap` is what the capture of `NAME.play` writes, `NAME.history_a` and `NAME.history_b` what the histories of
@@ -30,6 +30,7 @@ use std::sync::Wait;
 use std::thread::Threads;
 use std::time::Clock;
 use std::{fs, io};
+use terminal_text::terminal;
 use units_text::units;
 
 /// The first line of the scripts of a table.
@@ -150,6 +151,7 @@ enum Kind {
     HistoryOfA,
     HistoryOfB,
     Audited,
+    Driven,
     Ladder,
     Captured,
     Explained,
@@ -164,6 +166,7 @@ fn kind_of(name: &str) -> Kind {
         "history_a" => Kind::HistoryOfA,
         "history_b" => Kind::HistoryOfB,
         "history" => Kind::Audited,
+        "terminal" => Kind::Driven,
         "ladder" => Kind::Ladder,
         "pcap" => Kind::Captured,
         "explained" => Kind::Explained,
@@ -183,9 +186,12 @@ impl Kind {
     /// Whether the run is told of the script beside its name: its capture, its chart, or the history of one of its ends.
     fn is_of_a_script(self) -> bool {
         match self {
-            Kind::Units | Kind::Decoded | Kind::WideDecoded | Kind::Audited | Kind::Played => {
-                false
-            }
+            Kind::Units
+            | Kind::Decoded
+            | Kind::WideDecoded
+            | Kind::Audited
+            | Kind::Driven
+            | Kind::Played => false,
             _ => true,
         }
     }
@@ -273,6 +279,7 @@ fn run_on(
         Kind::HistoryOfA => told_of(alloc, history(alloc, End::A, source, sink)),
         Kind::HistoryOfB => told_of(alloc, history(alloc, End::B, source, sink)),
         Kind::Audited => told_of(alloc, audit(alloc, source, sink)),
+        Kind::Driven => told_of(alloc, terminal(alloc, source, sink)),
         Kind::Ladder => told_of(alloc, ladder(alloc, source, sink)),
         Kind::Captured => told_of(alloc, capture(alloc, source, sink)),
         Kind::Explained => told_of(alloc, play_explained(alloc, source, sink)),

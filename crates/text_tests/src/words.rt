@@ -16,6 +16,7 @@ fn told_of(alloc: Global, words: &[&str]) -> Result<String, AllocError> {
         Ok(Words::Capture) => "capture".to_string(alloc),
         Ok(Words::Ladder) => "ladder".to_string(alloc),
         Ok(Words::Audit) => "audit".to_string(alloc),
+        Ok(Words::Terminal) => "terminal".to_string(alloc),
         Ok(Words::HistoryOfA) => "history a".to_string(alloc),
         Ok(Words::HistoryOfB) => "history b".to_string(alloc),
         Ok(Words::Run(run)) => run_told(alloc, &run),

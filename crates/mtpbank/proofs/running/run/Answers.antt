@@ -7,7 +7,8 @@ use Rattle.script_ladder.specs.Ladder.{IsLadder}
 use Rattle.audit_text.specs.Auditing.{IsAuditText}
 use Rattle.script_history.specs.Histories.{IsHistoryText}
 use Rattle.world_steps.specs.declared.step.End.TheVariants.{A, B}
-use Rattle.mtpbank.specs.declared.running.TextFault.TheVariants.{Units as UnitsFault, Play as PlayFault, Explained as ExplainedPlayFault, Decode as DecodeFault, Audit as AuditedFault}
+use Rattle.terminal_text.specs.Text.{IsTerminalText}
+use Rattle.mtpbank.specs.declared.running.TextFault.TheVariants.{Units as UnitsFault, Play as PlayFault, Explained as ExplainedPlayFault, Decode as DecodeFault, Audit as AuditedFault, Terminal as TerminalLineFault}
 use Rattle.mtpbank.proofs.RunLemmas.{prints_all}
 use Rattle.mtpbank.proofs.running.run.Goals as goal
 
@@ -34,6 +35,9 @@ returns-in-Ladder-clause-text g c = rw (c.of_any-in-Ladder.ensures, c.in-Ladder.
 
 pub returns-in-Audit-clause-text : goal.returns-in-Audit-clause-text
 returns-in-Audit-clause-text g c = rw (c.of_any-in-Audit.ensures, c.in-Audit.is) (prints_all IsAuditText AuditedFault c.audit.result _ _ _ c.audit.ensures.text)
+
+pub returns-in-Terminal-clause-text : goal.returns-in-Terminal-clause-text
+returns-in-Terminal-clause-text g c = rw (c.of_any-in-Terminal.ensures, c.in-Terminal.is) (prints_all IsTerminalText TerminalLineFault c.terminal.result _ _ _ c.terminal.ensures.text)
 
 pub returns-in-HistoryOfA-clause-text : goal.returns-in-HistoryOfA-clause-text
 returns-in-HistoryOfA-clause-text g c = rw (c.of_any-in-HistoryOfA.ensures, c.in-HistoryOfA.is) (prints_all (IsHistoryText A) PlayFault c.history.result _ _ _ c.history.ensures.text)
