@@ -1,0 +1,3 @@
+pub mod CarryingLemmas
+pub mod DamageLemmas
+pub mod Heard
