@@ -1,6 +1,8 @@
 -- What came on a line, piece by piece.
 use Rattle.std.proofs.Common.{refl, sym, ap, subst, arith, ◌≡◌, ◌∙◌, ◌<◌, ℕ, ◌+◌, Bool, List, [], ◌∷◌, ◌++◌, length, length-append, map, append_assoc, append-nil, Option, None, Some}
-use Rattle.std.proofs.Common.{add-one, get_or, take, Result, Ok, Err, OnOk}
+use Rattle.std.proofs.lemmas.List.{length-map}
+use Rattle.l2_bits.proofs.BitLemmas.{length-bits_of}
+use Rattle.std.proofs.Common.{ap₂, add-one, get_or, take, Result, Ok, Err, OnOk}
 use Rattle.std.proofs.lemmas.List.{map-append}
 use Rattle.std.proofs.lemmas.List.{take_more}
 use Rattle.l2_bits.proofs.StuffingLemmas.{has_text, one_text as one_stuffing}
@@ -11,13 +13,13 @@ use Rattle.link_term.specs.Filling.{Taps}
 use Rattle.link_term.specs.declared.tap.LastUnit.{LastUnit}
 use Rattle.std.specs.Option.{option_to_list}
 use Rattle.bench_core.specs.Ends.{BenchState}
-use Rattle.bench_core.specs.Waiting.{Hears as HearsTurn, HearsBit, HearsPieces, TurnAndUnit, Waits}
+use Rattle.bench_core.specs.Waiting.{Hears as HearsTurn, HearsBit, HearsPiece, HearsPieces, TurnAndUnit, Waits}
 use Rattle.bench_core.specs.declared.turn.Turn.{Turn}
 use Rattle.figures.specs.Figures.{hex_text}
 use Rattle.l2_bits.specs.LineBits.{bits_of, line_bits}
 use Rattle.l2_units.specs.declared.unit.Unit.{Unit as SignalUnit}
 use Rattle.terminal_text.proofs.RowLemmas.{left_at_end, shows_more, shows_nothing}
-use Rattle.terminal_text.specs.Answers.{Exchanges, HearsLine, one_by_one, unit_bits}
+use Rattle.terminal_text.specs.Answers.{AsManyGoOut, Exchanges, HearsLine, one_by_one, unit_bits}
 use Rattle.terminal_text.specs.Hearing.{Exchanging, Hears}
 use Rattle.terminal_text.specs.Rows.{Shows, left_of}
 use Rattle.terminal_text.specs.Showing.{over, shown, without_unit}
@@ -238,3 +240,23 @@ bit_sent link bit old new was now turn tap' unit brings some is shows turns link
     (subst (λ (u : Option SignalUnit). Shows was.rows (record { turn = turn; unit = u } ∷ []) now.rows)
     (same_as_told brings.unit unit turn.sent brings.hears.turns.takes.sent_is some (λ u h. is ∙ brings.told u h)) shows)
     turns links
+
+-- As many octets go out as came.
+
+one_turn : (link octet : ℕ) (old new : BenchState) (turn : Option TurnAndUnit) → HearsPiece link (bits_of 8 octet) old turn new
+    → length (option_to_list turn) ≡ 1
+one_turn link octet old new None waits =
+    absurd (omega (arith, waits.few, length-append waits.was.waiting (bits_of 8 octet), length-bits_of 8 octet))
+one_turn link octet old new (Some heard) hears = refl
+
+turn_each : (link : ℕ) (octets : List ℕ) (old new : BenchState) (heard : List TurnAndUnit) → HearsPieces link (map (bits_of 8) octets) old heard new
+    → length heard ≡ length octets
+turn_each link [] old new heard hears = ap length hears.0
+turn_each link (octet ∷ octets) old new heard hears =
+    ap length hears.5 ∙ length-append (option_to_list hears.1) hears.2
+    ∙ ap₂ (λ m n. m + n) (one_turn link octet old hears.0 hears.1 hears.3) (turn_each link octets hears.0 new hears.2 hears.4)
+    ∙ omega arith
+
+pub as_many : AsManyGoOut
+as_many link octets old printed new exchanges =
+    length-map exchanges.heard (λ (h : TurnAndUnit). h.turn.put) ∙ turn_each link octets old new exchanges.heard exchanges.hears

@@ -48,6 +48,12 @@ pub record Exchanges (link : ℕ) (octets : List ℕ) (old : BenchState) (printe
   pub printed_is : printed ≡ shown link (map without_unit heard)
       ++ (codes "octets " ++ (decimal link ++ (codes " " ++ (hex_text (map (λ h. h.turn.put) heard) ++ codes "\n"))))
 
+-- LAW: as many octets go out as came
+abbrev pub AsManyGoOut : Type 0
+AsManyGoOut =
+    (link : ℕ) (octets : List ℕ) (old : BenchState) (printed : List ℕ) (new : BenchState) → (e : Exchanges link octets old printed new)
+    → length (map (λ h. h.turn.put) e.heard) ≡ length octets
+
 -- BITS: what the turns show that are taken by them, and how many these are
 abbrev pub one_by_one : List Bool → List (List Bool)
 one_by_one bits = map (λ bit. bit ∷ []) bits

@@ -1,4 +1,5 @@
 //! Laws that speak of definitions alone.
+ghost use Rattle.terminal_text.specs.Answers.{AsManyGoOut};
 ghost use Rattle.terminal_text.specs.Text.{terminal_rules};
 ghost use Rattle.text_lines.specs.Talks.{HaveOneOutcome, HasOneText};
 
@@ -6,4 +7,9 @@ ghost use Rattle.text_lines.specs.Talks.{HaveOneOutcome, HasOneText};
 pub fn one_terminal_text()
     ensures outcome { HaveOneOutcome terminal_rules }
     ensures text { HasOneText terminal_rules }
+{}
+
+/// A law: as many octets go out as came.
+pub fn as_many_octets_go_out()
+    ensures { AsManyGoOut }
 {}

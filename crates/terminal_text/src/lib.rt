@@ -22,5 +22,5 @@ mod text;
 mod words;
 
 pub use fault::TerminalFault;
-pub use laws::one_terminal_text;
+pub use laws::{as_many_octets_go_out, one_terminal_text};
 pub use text::terminal;
