@@ -88,7 +88,7 @@ fn ask_for(alloc: Global, words: &[&str], subcommand: &str) -> bool {
 
 #[test]
 fn words_of_the_command_line(rt: HostRuntime) -> Result<(), Fail> {
-    let asked: [(&[&str], &str); 11] = [
+    let asked: [(&[&str], &str); 12] = [
         (&["play"], "play"),
         (&["play", "--explain"], "play --explain"),
         (&["units"], "units"),
@@ -97,6 +97,7 @@ fn words_of_the_command_line(rt: HostRuntime) -> Result<(), Fail> {
         (&["capture"], "capture"),
         (&["ladder"], "ladder"),
         (&["audit"], "audit"),
+        (&["terminal"], "terminal"),
         (&["history", "a"], "history a"),
         (&["history", "b"], "history b"),
         (&["play", "--"], "play"),
@@ -247,6 +248,7 @@ fn a_file_is_read_from_standard_input(rt: HostRuntime) -> Result<(), Fail> {
     let play = "mtpbank play: reads standard input: mtpbank play < FILE";
     let units = "mtpbank units: reads standard input: mtpbank units < FILE";
     let decode = "mtpbank decode: reads standard input: mtpbank decode < FILE";
+    let terminal = "mtpbank terminal: reads standard input: mtpbank terminal < FILE";
     let history = "mtpbank history: reads standard input: mtpbank history END < FILE";
     let end = "mtpbank history: c isn't an end, a or b\nusage: mtpbank history END < FILE";
     holds(
@@ -254,6 +256,7 @@ fn a_file_is_read_from_standard_input(rt: HostRuntime) -> Result<(), Fail> {
             && ask_for(alloc, &["play", "--explain", "a.play"], play)
             && ask_for(alloc, &["units", "a.units"], units)
             && ask_for(alloc, &["decode", "--wide", "a.decode"], decode)
+            && ask_for(alloc, &["terminal", "a.terminal"], terminal)
             && ask_for(alloc, &["history", "a", "a.play"], history)
             && ask_for(alloc, &["history", "c"], end),
     )
@@ -293,6 +296,7 @@ fn short_help_is_a_page(rt: HostRuntime) -> Result<(), Fail> {
         ("capture", "\nUsage: mtpbank capture\n"),
         ("ladder", "\nUsage: mtpbank ladder\n"),
         ("audit", "\nUsage: mtpbank audit\n"),
+        ("terminal", "\nUsage: mtpbank terminal\n"),
         ("history", "\nUsage: mtpbank history <END>\n"),
         ("run", "\nUsage: mtpbank run [OPTIONS]\n"),
     ];
