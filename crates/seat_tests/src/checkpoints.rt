@@ -14,7 +14,7 @@ use std::sync::ledger::Ledger;
 use std::test::Fail;
 
 /// A user's message is accepted under this number.
-fn accepts<C: Opening, M: Ledger, O: Ledger, A: Ledger, R: Wait>(
+pub(crate) fn accepts<C: Opening, M: Ledger, O: Ledger, A: Ledger, R: Wait>(
     rt: &R,
     set: &LinkSet<C, M, O, A>,
     seat: &mut UserSeat<C, M, O, A>,

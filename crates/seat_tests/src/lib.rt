@@ -8,6 +8,8 @@ mod checkpoints;
 #[cfg(test)]
 mod ends;
 #[cfg(test)]
+mod forgetting;
+#[cfg(test)]
 mod openings;
 #[cfg(test)]
 mod steps;

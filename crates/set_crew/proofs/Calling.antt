@@ -1,22 +1,12 @@
 -- What a user's call leaves at its seat.
-use Rattle.std.proofs.Common.{refl, arith, ◌≡◌, ◌∙◌, ap, sym, subst, ◌+◌, ◌-◌, ◌<◌, ◌≤◌, ℕ, suc, List, ◌∷◌, length, map, drop, drop-cons, add-one, get_or, Option, None, Some, MatchOption, Result, Ok, Err, IfOk, OnErr}
+use Rattle.std.proofs.Common.{refl, arith, ◌≡◌, ◌∙◌, ap, sym, subst, ◌+◌, ◌-◌, ◌<◌, ◌≤◌, ℕ, suc, List, ◌∷◌, length, map, drop, drop-cons, add-one, get_or, Option, None, Some, MatchOption, Result, Ok, Err}
 use Rattle.std.proofs.lemmas.List.{drop_all}
 use Rattle.set_events.specs.declared.answer.Answer.{Answer}
 use Rattle.set_events.specs.declared.event.Actor.{Actor}
-use Rattle.set_events.specs.declared.event.Event.{Event}
 use Rattle.set_events.specs.declared.fault.SetFault.{SetFault}
 use Rattle.set_events.specs.declared.history.Entry.{Entry}
-use Rattle.set_ledger.specs.Seats.{Receives, SeatState}
 use Rattle.set_crew.specs.declared.fault.UserFault.{UserFault}
-use Rattle.set_crew.specs.Jobs.{AfterOffer, Calls, Finds, Offers, OffersOne, Takes, TakesOne, end_of_call, number_of}
-
-pub called : (event : Event) (result : Result Answer SetFault) (old new : SeatState) → IfOk result (λ answer. Receives old event answer new) → OnErr result (new ≡ old) → Calls old.who event result old.receipts new.receipts
-called event (Ok answer) old new receives err = receives.receipt
-called event (Err fault) old new receives err = ap (λ (seat : SeatState). seat.receipts) err
-
-pub same_who : (event : Event) (result : Result Answer SetFault) (old new : SeatState) → IfOk result (λ answer. Receives old event answer new) → OnErr result (new ≡ old) → new.who ≡ old.who
-same_who event (Ok answer) old new receives err = receives.who_same
-same_who event (Err fault) old new receives err = ap (λ (seat : SeatState). seat.who) err
+use Rattle.set_crew.specs.Jobs.{AfterOffer, Finds, Offers, OffersOne, Takes, TakesOne, end_of_call, number_of}
 
 -- AN OFFER was answered: its number is found, or there is none.
 pub after_some : (who who' : Actor) (offered : Result Answer SetFault) (told : Option ℕ) (number : ℕ) (ended : Result (Unit {0}) UserFault) (before after : List Entry) → told ≡ number_of offered → told ≡ Some number → who' ≡ who

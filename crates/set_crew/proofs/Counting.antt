@@ -1,5 +1,5 @@
 -- One answer more is counted.
-use Rattle.std.proofs.Common.{refl, arith, ◌≡◌, ◌∙◌, ap, ap₂, sym, subst, Result, Ok, IfOk, ◌+◌, ◌<◌, ◌≤◌, ◌^◌, ℕ, Bool, true, false, List, [], ◌∷◌, ◌++◌, length}
+use Rattle.std.proofs.Common.{refl, arith, ◌≡◌, ◌∙◌, ap, ap₂, sym, subst, Result, Ok, ◌+◌, ◌<◌, ◌≤◌, ◌^◌, ℕ, Bool, true, false, List, [], ◌∷◌, ◌++◌, length}
 use Rattle.std.specs.Prelude.{if◌then◌else◌}
 use Rattle.std.proofs.lemmas.List.{length-append}
 use Rattle.set_events.specs.declared.answer.Answer.{Answer}
@@ -7,7 +7,7 @@ use Rattle.set_events.specs.declared.event.Actor.{Actor}
 use Rattle.set_events.specs.declared.event.Actor.TheVariants.{Terminal}
 use Rattle.set_events.specs.declared.event.Event.{Event}
 use Rattle.set_events.specs.declared.fault.SetFault.{SetFault}
-use Rattle.set_ledger.specs.Seats.{Receives, SeatState}
+use Rattle.set_crew.specs.Jobs.{Calls}
 use Rattle.set_crew.specs.Seats.{link_in}
 use Rattle.set_events.specs.declared.history.Entry.{Entry}
 use Rattle.set_crew.specs.declared.report.Answered.{Answered}
@@ -62,15 +62,15 @@ fits link entries more entry old calls is e many few =
     omega (arith, messages, few_taken link entries, ap length e, length-append entries (entry ∷ []), many, few)
 
 -- A STEP of a terminal is counted.
-module _ (event : Event) (result : Result Answer SetFault) (answer : Answer) (old new : SeatState) (counts : Answered) (receives : IfOk result (λ answer. Receives old event answer new)) (is : result ≡ Ok answer) (before : counts ≡ answered_in (link_in old.who) old.receipts) where
-  received : Receives old event answer new
-  received = subst (λ (r : Result Answer SetFault). IfOk r (λ answer. Receives old event answer new)) is receives
+module _ (who : Actor) (event : Event) (result : Result Answer SetFault) (answer : Answer) (old new : List Entry) (counts : Answered) (calls : Calls who event result old new) (is : result ≡ Ok answer) (before : counts ≡ answered_in (link_in who) old) where
+  made : new ≡ old ++ record { who = who; event = event; answer = answer } ∷ []
+  made = subst (λ (r : Result Answer SetFault). Calls who event r old new) is calls
 
-  pub step_fits : (calls : ℕ) → calls ≡ length new.receipts → calls < 2 ^ 64 → counts.messages + 1 < 2 ^ 64
-  step_fits calls many few = fits (link_in old.who) old.receipts new.receipts (record { who = old.who; event = event; answer = answer }) counts calls before received.receipt many few
+  pub step_fits : (many : ℕ) → many ≡ length new → many < 2 ^ 64 → counts.messages + 1 < 2 ^ 64
+  step_fits many all few = fits (link_in who) old new (record { who = who; event = event; answer = answer }) counts many before made all few
 
-  pub step_counted : (link : ℕ) (after : Answered) → old.who ≡ Terminal link → after ≡ counted link event answer counts → after ≡ answered_in (link_in new.who) new.receipts
-  step_counted link after who count =
-      let here : link_in old.who ≡ link = ap link_in who in
-      answered_more (link_in old.who) old.receipts new.receipts old.who event answer counts after before (count ∙ ap (λ n. counted n event answer counts) (sym here)) received.receipt
-      ∙ ap (λ (w : Actor). answered_in (link_in w) new.receipts) (sym received.who_same)
+  pub step_counted : (who' : Actor) (link : ℕ) (after : Answered) → who' ≡ who → who ≡ Terminal link → after ≡ counted link event answer counts → after ≡ answered_in (link_in who') new
+  step_counted who' link after same is_link count =
+      let here : link_in who ≡ link = ap link_in is_link in
+      answered_more (link_in who) old new who event answer counts after before (count ∙ ap (λ n. counted n event answer counts) (sym here)) made
+      ∙ ap (λ (w : Actor). answered_in (link_in w) new) (sym same)

@@ -2,7 +2,7 @@
 use Rattle.std.proofs.Common.{refl, arith, ◌≡◌, ◌∙◌, ap, sym, subst, ◌+◌, ◌<◌, ◌≤◌, inl, inr, ℕ, zero, suc, List, [], ◌∷◌, ◌++◌, map, length, drop, All, Option, None, Result}
 use Rattle.std.specs.Option.{option_to_list, unwrap_or}
 use Rattle.std.specs.List.{AllZip}
-use Rattle.std.proofs.lemmas.List.{length-append, length-map, map-append}
+use Rattle.std.proofs.lemmas.List.{append_assoc, length-append, length-map, map-append}
 use Rattle.std.proofs.lemmas.Bool.{cases_lt}
 use Rattle.std.proofs.lemmas.List.Elements.{All-head, All-tail}
 use Rattle.set_events.specs.declared.books.Books.{Books}
@@ -21,7 +21,7 @@ use Rattle.set_crew.specs.declared.report.ShiftReport.{ShiftReport}
 use Rattle.set_crew.specs.declared.user.JobOf.{JobOf}
 use Rattle.set_crew.specs.Jobs.{DidJobs, Does, Duty, duty_of, first_or, no_duty}
 use Rattle.set_crew.specs.Keeping.{AreJobs, AreKept, AreNew, AreShifts, KeepsJob, KeepsShift}
-use Rattle.set_crew.specs.Seats.{AreCalls}
+use Rattle.set_crew.specs.Seats.{AreAll, AreCalls}
 use Rattle.set_crew.specs.Shifts.{DidShifts, DoesShift}
 use Rattle.set_crew.proofs.Taking.{drop_one, one_dropped, taken}
 
@@ -85,16 +85,25 @@ started_user all ps ps' p n n' seats seats' seat jobs jobs' next job none are is
       next_is,
     )
 
--- WHAT CAME OF THEM, in the history: a seat's calls are those before the base, and then those of the history.
-all_calls : (who : Actor) (seat : SeatState) (books : Books) (history : List Entry) → seat.who ≡ who → IsFaithful books history seat → AreCalls who books history seat.receipts
-all_calls who seat books history same is = subst (λ (w : Actor). AreCalls w books history seat.receipts) same is
+-- WHAT CAME OF THEM, in the history: all that was asked at a seat are its calls before the base, and then those of the
+-- history.
+all_calls : (who : Actor) (seat : SeatState) (all : List Entry) (books : Books) (history : List Entry) → seat.who ≡ who → AreAll seat all → IsFaithful books history seat → AreCalls who books history all
+all_calls who seat all books history same are is =
+    let gone = are.many in
+    let stood = is.all_before in
+    subst (λ (w : Actor). AreCalls w books history all) same
+    (record {
+      before = are.forgotten ++ is.before;
+      receipts_are = are.all_are ∙ ap (λ (rest : List Entry). are.forgotten ++ rest) is.receipts_are ∙ sym (append_assoc are.forgotten is.before _);
+      all_before = omega (arith, gone, stood, length-append are.forgotten is.before);
+    })
 
 did_one : (user number : ℕ) (seat : SeatState) (duty duty' : Duty) (told : Result (Unit {0}) UserFault) (books : Books) (history : List Entry) → number ≡ user → seat.who ≡ User number → duty ≡ duty' → IsFaithful books history seat
-    → Does (User number) duty told [] seat.receipts → (calls : List Entry) × AreCalls (User user) books history calls × Does (User user) duty' told [] calls
+    → (all : List Entry) × AreAll seat all × Does (User number) duty told [] all → (calls : List Entry) × AreCalls (User user) books history calls × Does (User user) duty' told [] calls
 did_one user number seat duty duty' told books history same is duties faithful does = (
-  seat.receipts,
-  all_calls (User user) seat books history (is ∙ ap User same) faithful,
-  subst (λ (n : ℕ). Does (User n) duty' told [] seat.receipts) same (subst (λ (d : Duty). Does (User number) d told [] seat.receipts) duties does),
+  does.0,
+  all_calls (User user) seat does.0 books history (is ∙ ap User same) does.1 faithful,
+  subst (λ (n : ℕ). Does (User n) duty' told [] does.0) same (subst (λ (d : Duty). Does (User number) d told [] does.0) duties does.2),
 )
 
 pub did_jobs : (user : ℕ) (jobs : List Duty) (ps : List JobOf) (ends : List (Ended SeatState (Result (Unit {0}) UserFault))) (books : Books) (history : List Entry) → AreJobs user jobs ps → AllZip KeepsJob ps ends
@@ -138,11 +147,11 @@ started_terminal plan ps ps' p n n' seats seats' seat are is are_shifts many mor
 
 -- WHAT CAME OF THE TERMINALS, in the history.
 did_turns : (link number : ℕ) (seat : SeatState) (plan plan' : Plan) (told : Result ShiftReport TermFault) (books : Books) (history : List Entry) → number ≡ link → seat.who ≡ Terminal number → plan ≡ plan' → IsFaithful books history seat
-    → DoesShift plan number told seat.receipts → (calls : List Entry) × AreCalls (Terminal link) books history calls × DoesShift plan' link told calls
+    → (all : List Entry) × AreAll seat all × DoesShift plan number told all → (calls : List Entry) × AreCalls (Terminal link) books history calls × DoesShift plan' link told calls
 did_turns link number seat plan plan' told books history same is plans faithful does = (
-  seat.receipts,
-  all_calls (Terminal link) seat books history (is ∙ ap Terminal same) faithful,
-  subst (λ (n : ℕ). DoesShift plan' n told seat.receipts) same (subst (λ (p : Plan). DoesShift p number told seat.receipts) plans does),
+  does.0,
+  all_calls (Terminal link) seat does.0 books history (is ∙ ap Terminal same) does.1 faithful,
+  subst (λ (n : ℕ). DoesShift plan' n told does.0) same (subst (λ (p : Plan). DoesShift p number told does.0) plans does.2),
 )
 
 pub did_shifts : (link : ℕ) (plan : Plan) (ps : List ShiftOf) (ends : List (Ended SeatState (Result ShiftReport TermFault))) (idle : List SeatState) (books : Books) (history : List Entry) → AreShifts link plan ps → AllZip KeepsShift ps ends
@@ -169,6 +178,6 @@ asked_nothing n link (seat ∷ seats) books history new faithful from to = elim 
       asked_nothing (suc n) link seats books history new.1 (All-tail (IsFaithful books history) seat seats faithful) (omega (arith, later)) (omega (arith, to))
   | inr here ↦
       let same : n ≡ link = omega (arith, from, here) in
-      subst (AreCalls (Terminal link) books history) (ap (λ (s : SeatState). s.receipts) new.0)
-      (all_calls (Terminal link) seat books history (ap (λ (s : SeatState). s.who) new.0 ∙ ap Terminal same) (All-head (IsFaithful books history) seat seats faithful))
+      let none : AreAll seat [] = record { forgotten = []; all_are = sym (ap (λ (s : SeatState). s.receipts) new.0); many = sym (ap (λ (s : SeatState). s.forgotten.calls) new.0) } in
+      all_calls (Terminal link) seat [] books history (ap (λ (s : SeatState). s.who) new.0 ∙ ap Terminal same) none (All-head (IsFaithful books history) seat seats faithful)
 ]

@@ -1,3 +1,4 @@
+pub mod Asking
 pub mod Calling
 pub mod Configs
 pub mod Counting

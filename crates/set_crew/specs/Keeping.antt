@@ -12,6 +12,8 @@ use Rattle.set_crew.specs.declared.user.JobOf.{JobOf}
 use Rattle.set_crew.specs.declared.terminal.ShiftOf.{ShiftOf}
 use Rattle.set_crew.specs.declared.fault.UserFault.{UserFault}
 use Rattle.set_crew.specs.Jobs.{Does, Duty, duty_of, first_or, no_duty}
+use Rattle.set_events.specs.declared.history.Entry.{Entry}
+use Rattle.set_crew.specs.Seats.{AreAll}
 use Rattle.set_crew.specs.Shifts.{DoesShift}
 
 -- thread by thread, what came of it keeps its promise: the seats, and what each thread tells
@@ -33,15 +35,15 @@ AreJobs user jobs [] = Unit {0}
 AreJobs user jobs (promise ∷ promises) =
     ((promise.user ≡ user) × (duty_of promise.job.value ≡ first_or no_duty jobs)) × AreJobs (suc user) (drop 1 jobs) promises
 
--- A USER'S THREAD keeps its promise: its seat's entries are the calls of its job.
+-- A USER'S THREAD keeps its promise: all that was asked at its seat are the calls of its job.
 abbrev pub KeepsJob : JobOf → Ended SeatState (Result (Unit {0}) UserFault) → Type 0
 KeepsJob promise end = (end.seat.who ≡ User promise.user)
-    × Does (User promise.user) (duty_of promise.job.value) end.told [] end.seat.receipts
+    × ((all : List Entry) × AreAll end.seat all × Does (User promise.user) (duty_of promise.job.value) end.told [] all)
 
--- A TERMINAL'S: they are those of its turns.
+-- A TERMINAL'S: it's what its turns asked.
 abbrev pub KeepsShift : ShiftOf → Ended SeatState (Result ShiftReport TermFault) → Type 0
 KeepsShift promise end = (end.seat.who ≡ Terminal promise.link)
-    × DoesShift promise.plan promise.link end.told end.seat.receipts
+    × ((all : List Entry) × AreAll end.seat all × DoesShift promise.plan promise.link end.told all)
 
 -- the terminals' promises, from this link on: all the same plan
 abbrev pub AreShifts : ℕ → Plan → List ShiftOf → Type 0

@@ -15,6 +15,7 @@
 //! no seat is missing then is shown by tests (`bank_tests`). Nothing is promised of who gets on, or when.
 #![tactic(auto)]
 
+mod caller;
 mod crew;
 mod end;
 mod fault;

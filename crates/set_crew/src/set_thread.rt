@@ -292,6 +292,7 @@ fn start_terminals<
         };
         let shift = TermShift {
             rt,
+            alloc,
             set,
             seat,
             line,
@@ -336,6 +337,7 @@ fn start_users<
         };
         let shift = UserShift {
             rt,
+            alloc,
             set,
             seat,
             job,

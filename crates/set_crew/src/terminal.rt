@@ -1,7 +1,8 @@
 //! What a terminal's thread does.
-ghost use Rattle.std.specs.Prelude.{◌≡◌, ◌≤◌, ◌^◌, false, [], Ok, OnOk};
+ghost use Rattle.std.specs.Prelude.{◌≡◌, ◌≤◌, ◌^◌, false, List, [], Ok, OnOk};
 ghost use Rattle.link_term.specs.Looking.{seen};
-ghost use Rattle.set_crew.specs.Seats.{link_in};
+ghost use Rattle.set_events.specs.declared.history.Entry.{Entry};
+ghost use Rattle.set_crew.specs.Seats.{AreAll, link_in};
 ghost use Rattle.set_crew.specs.Shifts.{AfterHalf, DoesShift, Halves, Turns, TurnsBy, both, is_to_fail, standing, with_first};
 
 use super::crew::{Ended, TermEnd};
@@ -12,6 +13,7 @@ use super::seat_door::SeatDoor;
 use line_ring::Line;
 use link_term::{Command, Door, Gate, TermFault, TermReport, Terminal};
 use set_shared::{LinkSet, Opening, TermSeat};
+use std::alloc::Global;
 use std::sync::Wait;
 use std::sync::ledger::Ledger;
 use std::thread::Promise;
@@ -42,6 +44,7 @@ pub(crate) struct TermShift<
     R: Wait,
 > {
     pub(crate) rt: &'a R,
+    pub(crate) alloc: Global,
     pub(crate) set: &'a LinkSet<C, M, O, A>,
     pub(crate) seat: TermSeat<C, M, O, A>,
     pub(crate) line: L,
@@ -61,19 +64,22 @@ impl<'a, C: Opening, M: Ledger, O: Ledger, A: Ledger, L: Line + Drop, G: Gate, R
     /// The terminal of the seat's link is told to come up in an emergency, and takes all its turns over the line. After
     /// a fault its seat comes back too.
     pub(crate) fn work(self) -> TermEnd<C, M, O, A>
-        requires { self.seat.receipts ≡ [] }
+        requires receipts { self.seat.receipts ≡ [] }
+        requires forgotten { self.seat.forgotten.calls ≡ 0 }
         ensures who { result.seat.who ≡ self.entry.seat.who }
-        ensures shift { DoesShift self.entry.orders.now.plan (link_in self.entry.seat.who) result.told result.seat.receipts }
+        ensures shift { (all : List Entry) × AreAll result.seat all
+            × DoesShift self.entry.orders.now.plan (link_in self.entry.seat.who) result.told all }
     {
         let TermShift {
             rt,
+            alloc,
             set,
             seat,
             line,
             orders,
         } = self;
         let link = seat.link();
-        let door = SeatDoor::new(rt, set, orders.set, seat, &orders.gate);
+        let door = SeatDoor::new(rt, alloc, set, orders.set, seat, &orders.gate);
         let gate = Lent { gate: &orders.gate };
         let mut terminal = Terminal::new(door, line, gate, orders.set, link, orders.plan.timers);
         terminal.command(Command::Emergency);

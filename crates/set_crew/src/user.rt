@@ -1,14 +1,18 @@
 //! What a user's thread does.
-ghost use Rattle.std.specs.Prelude.{◌≡◌, [], map};
+ghost use Rattle.std.specs.Prelude.{◌≡◌, List, [], map};
+ghost use Rattle.set_events.specs.declared.history.Entry.{Entry};
+ghost use Rattle.set_crew.specs.Seats.{AreAll};
 ghost use Rattle.set_crew.specs.Jobs.{Does, duty_of, Finds, Offers, OffersOne, Takes, TakesOne, end_of_call, end_of_find, number_of};
 
+use super::caller::Caller;
 use super::crew::{Ended, UserEnd};
 use super::fault::UserFault;
 use super::orders::Orders;
 use super::plan::Job;
 use link_term::Gate;
 use set_events::{Answer, Refusal, SetFault};
-use set_shared::{LinkSet, Opening, Seat, UserSeat};
+use set_shared::{LinkSet, Opening, UserSeat};
+use std::alloc::Global;
 use std::snapshot::Snapshot;
 use std::sync::Wait;
 use std::sync::ledger::Ledger;
@@ -27,10 +31,14 @@ impl<C: Opening, M: Ledger, O: Ledger, A: Ledger> Promise<UserEnd<C, M, O, A>> f
     ghost kept_by = { KeepsJob };
 }
 
+/// A user's seat, with all that was asked at it.
+type UserCaller<C, M, O, A> = Caller<C, M, O, A, UserSeat<C, M, O, A>>;
+
 /// A user's seat at its set, and the job that is to be done there.
 #[derive(Drop)]
 pub(crate) struct UserShift<'a, C: Opening, M: Ledger, O: Ledger, A: Ledger, G: Gate, R: Wait> {
     pub(crate) rt: &'a R,
+    pub(crate) alloc: Global,
     pub(crate) set: &'a LinkSet<C, M, O, A>,
     pub(crate) seat: UserSeat<C, M, O, A>,
     pub(crate) job: Job,
@@ -48,18 +56,23 @@ impl<'a, C: Opening, M: Ledger, O: Ledger, A: Ledger, G: Gate, R: Wait> UserShif
 > {
     /// The user does its job. It ends at the first fault of the set, or at a number that was accepted and isn't found.
     pub(crate) fn work(self) -> UserEnd<C, M, O, A>
-        requires { self.seat.receipts ≡ [] }
+        requires receipts { self.seat.receipts ≡ [] }
+        requires forgotten { self.seat.forgotten.calls ≡ 0 }
         ensures who { result.seat.who ≡ self.entry.seat.who }
-        ensures job { Does self.entry.seat.who (duty_of self.entry.job) result.told [] result.seat.receipts }
+        ensures job { (all : List Entry) × AreAll result.seat all
+            × Does self.entry.seat.who (duty_of self.entry.job) result.told [] all }
     {
         let UserShift {
             rt,
+            alloc,
             set,
-            mut seat,
+            seat,
             job,
             orders,
         } = self;
-        let told = do_job(rt, set, &mut seat, &job, orders);
+        let mut caller = Caller::new(alloc, seat);
+        let told = do_job(rt, set, &mut caller, &job, orders);
+        let seat = caller.into_seat();
         Ended { seat, told }
     }
 }
@@ -68,16 +81,16 @@ impl<'a, C: Opening, M: Ledger, O: Ledger, A: Ledger, G: Gate, R: Wait> UserShif
 fn do_job<C: Opening, M: Ledger, O: Ledger, A: Ledger, G: Gate, R: Wait>(
     rt: &R,
     set: &LinkSet<C, M, O, A>,
-    seat: &mut UserSeat<C, M, O, A>,
+    caller: &mut UserCaller<C, M, O, A>,
     job: &Job,
     orders: &Orders<G>,
 ) -> Result<(), UserFault>
-    ensures who { seat.new.who ≡ seat.old.who }
-    ensures job { Does seat.old.who (duty_of job.now) result seat.old.receipts seat.new.receipts }
+    ensures who { caller.new.seat.who ≡ caller.old.seat.who }
+    ensures job { Does caller.old.seat.who (duty_of job.now) result caller.old.all caller.new.all }
 {
     match job {
-        Job::Offer { bodies } => offer_all(rt, set, seat, bodies, orders),
-        Job::Take { times } => take_often(rt, set, seat, *times, orders),
+        Job::Offer { bodies } => offer_all(rt, set, caller, bodies, orders),
+        Job::Take { times } => take_often(rt, set, caller, *times, orders),
     }
 }
 
@@ -85,20 +98,20 @@ fn do_job<C: Opening, M: Ledger, O: Ledger, A: Ledger, G: Gate, R: Wait>(
 fn offer_all<C: Opening, M: Ledger, O: Ledger, A: Ledger, G: Gate, R: Wait>(
     rt: &R,
     set: &LinkSet<C, M, O, A>,
-    seat: &mut UserSeat<C, M, O, A>,
+    caller: &mut UserCaller<C, M, O, A>,
     bodies: &[Vec<u8>],
     orders: &Orders<G>,
 ) -> Result<(), UserFault>
-    ensures who { seat.new.who ≡ seat.old.who }
-    ensures offers { Offers seat.old.who (map (λ body. body.items) bodies.now) result
-        seat.old.receipts seat.new.receipts }
+    ensures who { caller.new.seat.who ≡ caller.old.seat.who }
+    ensures offers { Offers caller.old.seat.who (map (λ body. body.items) bodies.now) result
+        caller.old.all caller.new.all }
 {
     let mut pauses = Pauses::of(orders.plan.checkpoint);
     for body in bodies {
-        if let Err(fault) = offer_one(rt, set, seat, body, orders) {
+        if let Err(fault) = offer_one(rt, set, caller, body, orders) {
             return Err(fault);
         }
-        let accepted = seat.share().messages;
+        let accepted = caller.share().messages;
         pause(rt, set, &mut pauses, accepted);
     }
     Ok(())
@@ -108,17 +121,17 @@ fn offer_all<C: Opening, M: Ledger, O: Ledger, A: Ledger, G: Gate, R: Wait>(
 fn offer_one<C: Opening, M: Ledger, O: Ledger, A: Ledger, G: Gate, R: Wait>(
     rt: &R,
     set: &LinkSet<C, M, O, A>,
-    seat: &mut UserSeat<C, M, O, A>,
+    caller: &mut UserCaller<C, M, O, A>,
     octets: &[u8],
     orders: &Orders<G>,
 ) -> Result<(), UserFault>
-    ensures who { seat.new.who ≡ seat.old.who }
-    ensures offers { OffersOne seat.old.who octets.now result seat.old.receipts seat.new.receipts }
+    ensures who { caller.new.seat.who ≡ caller.old.seat.who }
+    ensures offers { OffersOne caller.old.seat.who octets.now result caller.old.all caller.new.all }
 {
-    orders.gate.user(orders.set, seat.number());
-    let offered = set.offer(rt, seat, octets);
+    orders.gate.user(orders.set, caller.number());
+    let offered = caller.offer(rt, set, octets);
     match number_of(&offered) {
-        Some(number) => find_one(rt, set, seat, number, orders),
+        Some(number) => find_one(rt, set, caller, number, orders),
         None => end_of_call(&offered),
     }
 }
@@ -127,34 +140,34 @@ fn offer_one<C: Opening, M: Ledger, O: Ledger, A: Ledger, G: Gate, R: Wait>(
 fn find_one<C: Opening, M: Ledger, O: Ledger, A: Ledger, G: Gate, R: Wait>(
     rt: &R,
     set: &LinkSet<C, M, O, A>,
-    seat: &mut UserSeat<C, M, O, A>,
+    caller: &mut UserCaller<C, M, O, A>,
     number: u64,
     orders: &Orders<G>,
 ) -> Result<(), UserFault>
-    ensures who { seat.new.who ≡ seat.old.who }
-    ensures finds { Finds seat.old.who number result seat.old.receipts seat.new.receipts }
+    ensures who { caller.new.seat.who ≡ caller.old.seat.who }
+    ensures finds { Finds caller.old.seat.who number result caller.old.all caller.new.all }
 {
-    orders.gate.user(orders.set, seat.number());
-    end_of_find(&set.find(rt, seat, number))
+    orders.gate.user(orders.set, caller.number());
+    end_of_find(&caller.find(rt, set, number))
 }
 
 /// Asks so often for the oldest message that was heard.
 fn take_often<C: Opening, M: Ledger, O: Ledger, A: Ledger, G: Gate, R: Wait>(
     rt: &R,
     set: &LinkSet<C, M, O, A>,
-    seat: &mut UserSeat<C, M, O, A>,
+    caller: &mut UserCaller<C, M, O, A>,
     times: u32,
     orders: &Orders<G>,
 ) -> Result<(), UserFault>
-    ensures who { seat.new.who ≡ seat.old.who }
-    ensures takes { Takes seat.old.who times result seat.old.receipts seat.new.receipts }
+    ensures who { caller.new.seat.who ≡ caller.old.seat.who }
+    ensures takes { Takes caller.old.seat.who times result caller.old.all caller.new.all }
 {
     let mut pauses = Pauses::of(orders.plan.checkpoint);
     for _time in 0..times {
-        if let Err(fault) = take_one(rt, set, seat, orders) {
+        if let Err(fault) = take_one(rt, set, caller, orders) {
             return Err(fault);
         }
-        let asked = seat.share().calls;
+        let asked = caller.share().calls;
         pause(rt, set, &mut pauses, asked);
     }
     Ok(())
@@ -164,14 +177,14 @@ fn take_often<C: Opening, M: Ledger, O: Ledger, A: Ledger, G: Gate, R: Wait>(
 fn take_one<C: Opening, M: Ledger, O: Ledger, A: Ledger, G: Gate, R: Wait>(
     rt: &R,
     set: &LinkSet<C, M, O, A>,
-    seat: &mut UserSeat<C, M, O, A>,
+    caller: &mut UserCaller<C, M, O, A>,
     orders: &Orders<G>,
 ) -> Result<(), UserFault>
-    ensures who { seat.new.who ≡ seat.old.who }
-    ensures takes { TakesOne seat.old.who result seat.old.receipts seat.new.receipts }
+    ensures who { caller.new.seat.who ≡ caller.old.seat.who }
+    ensures takes { TakesOne caller.old.seat.who result caller.old.all caller.new.all }
 {
-    orders.gate.user(orders.set, seat.number());
-    end_of_call(&set.take(rt, seat))
+    orders.gate.user(orders.set, caller.number());
+    end_of_call(&caller.take(rt, set))
 }
 
 /// When a user takes checkpoints: each time that so much more was done.

@@ -11,14 +11,15 @@ use Rattle.set_core.specs.Gaining.{BooksGain, AreBounded, GainsNoOther as GainsN
 use Rattle.set_events.specs.Owners.{IsOwn}
 use Rattle.set_model.specs.History.{Base, LinkSet, IsStep, books_in, entries_in, entries_of}
 use Rattle.set_model.specs.Step.{messages_in, octets_of}
+use Rattle.set_ledger.specs.declared.share.Forgotten.{Forgotten}
 use Rattle.set_ledger.specs.declared.share.SeatShare.{SeatShare}
 use Rattle.set_ledger.specs.Seats.{ShareGrows, AddsUp, acked_in, user_share, term_share, user_state, term_state}
 use Rattle.set_ledger.specs.Totals.{AreTotals, Gains, GainsNoOther, totals_of}
 
 -- a share that grew by an entry is what the receipts with that entry add up to
-pub adds_up_more : (who : Actor) (old new : SeatShare) (receipts more : List Entry) (event : Event) (answer : Answer) → AddsUp (record { who = who; share = old; receipts = receipts }) → ShareGrows old event answer new → more ≡ receipts ++ record { who = who; event = event; answer = answer } ∷ []
-    → AddsUp (record { who = who; share = new; receipts = more })
-adds_up_more who old new receipts more event answer sums grows e =
+pub adds_up_more : (who : Actor) (old new : SeatShare) (forgotten : Forgotten) (receipts more : List Entry) (event : Event) (answer : Answer) → AddsUp (record { who = who; share = old; forgotten = forgotten; receipts = receipts }) → ShareGrows old event answer new → more ≡ receipts ++ record { who = who; event = event; answer = answer } ∷ []
+    → AddsUp (record { who = who; share = new; forgotten = forgotten; receipts = more })
+adds_up_more who old new forgotten receipts more event answer sums grows e =
     let entry : Entry = record { who = who; event = event; answer = answer } in
     let calls_were = sums.calls in
     let calls_more = grows.calls in
@@ -49,15 +50,15 @@ term_grows link calls acknowledged calls' acknowledged' event answer gained old 
 }
 
 -- A SEAT at a step that brought this much: its parts gained so much, and the receipt was put last.
-pub user_adds_up : (number calls messages octets calls' messages' octets' : ℕ) (receipts more : List Entry) (event : Event) (answer : Answer) (gained : SeatShare) (old new : LinkSet) → AddsUp (user_state number calls messages octets receipts) → Gains old (User number) event answer gained new
-    → calls' ≡ calls + gained.calls → messages' ≡ messages + gained.messages → octets' ≡ octets + gained.octets → more ≡ receipts ++ record { who = User number; event = event; answer = answer } ∷ [] → AddsUp (user_state number calls' messages' octets' more)
-user_adds_up number calls messages octets calls' messages' octets' receipts more event answer gained old new sums gains c m o e =
-    adds_up_more (User number) _ _ receipts more event answer sums (user_grows number calls messages octets calls' messages' octets' event answer gained old new gains c m o) e
+pub user_adds_up : (number calls messages octets calls' messages' octets' : ℕ) (forgotten : Forgotten) (receipts more : List Entry) (event : Event) (answer : Answer) (gained : SeatShare) (old new : LinkSet) → AddsUp (user_state number calls messages octets forgotten receipts) → Gains old (User number) event answer gained new
+    → calls' ≡ calls + gained.calls → messages' ≡ messages + gained.messages → octets' ≡ octets + gained.octets → more ≡ receipts ++ record { who = User number; event = event; answer = answer } ∷ [] → AddsUp (user_state number calls' messages' octets' forgotten more)
+user_adds_up number calls messages octets calls' messages' octets' forgotten receipts more event answer gained old new sums gains c m o e =
+    adds_up_more (User number) _ _ forgotten receipts more event answer sums (user_grows number calls messages octets calls' messages' octets' event answer gained old new gains c m o) e
 
-pub term_adds_up : (link calls acknowledged calls' acknowledged' : ℕ) (receipts more : List Entry) (event : Event) (answer : Answer) (gained : SeatShare) (old new : LinkSet) → AddsUp (term_state link calls acknowledged receipts) → Gains old (Terminal link) event answer gained new
-    → calls' ≡ calls + gained.calls → more ≡ receipts ++ record { who = Terminal link; event = event; answer = answer } ∷ [] → AddsUp (term_state link calls' acknowledged' more)
-term_adds_up link calls acknowledged calls' acknowledged' receipts more event answer gained old new sums gains c e =
-    adds_up_more (Terminal link) _ _ receipts more event answer sums (term_grows link calls acknowledged calls' acknowledged' event answer gained old new gains c) e
+pub term_adds_up : (link calls acknowledged calls' acknowledged' : ℕ) (forgotten : Forgotten) (receipts more : List Entry) (event : Event) (answer : Answer) (gained : SeatShare) (old new : LinkSet) → AddsUp (term_state link calls acknowledged forgotten receipts) → Gains old (Terminal link) event answer gained new
+    → calls' ≡ calls + gained.calls → more ≡ receipts ++ record { who = Terminal link; event = event; answer = answer } ∷ [] → AddsUp (term_state link calls' acknowledged' forgotten more)
+term_adds_up link calls acknowledged calls' acknowledged' forgotten receipts more event answer gained old new sums gains c e =
+    adds_up_more (Terminal link) _ _ forgotten receipts more event answer sums (term_grows link calls acknowledged calls' acknowledged' event answer gained old new gains c) e
 
 -- THE TOTALS then: the books of the seat's ledgers gained as much, and the others nothing.
 pub user_totals : (number calls messages octets acknowledged calls' messages' octets' : ℕ) (event : Event) (answer : Answer) (gained : SeatShare) (old new : LinkSet) → AreTotals (totals_of calls messages octets acknowledged) old → Gains old (User number) event answer gained new

@@ -1,3 +1,4 @@
+pub mod Counting
 pub mod Closing
 pub mod Receipts
 pub mod Growing

@@ -28,18 +28,23 @@ all_past n many xs rest is none less =
     is ∙ drop_all n xs past_n ∙ sym (drop_all many xs past)
 
 -- where as many are there, those behind them decide
-pub decided : (receipts own rest : List Entry) (calls : ℕ) → calls ≤ length receipts → rest ≡ drop calls receipts → (rest ≡ own) ↔ EndsWith receipts calls own
-decided receipts own rest calls there is = (
+pub decided : (forgotten : ℕ) (receipts own rest : List Entry) (calls many : ℕ) → forgotten + many ≡ calls → many ≤ length receipts → rest ≡ drop many receipts → (rest ≡ own) ↔ EndsWith forgotten receipts calls own
+decided forgotten receipts own rest calls many all there is = (
   (λ same. record {
-    before = take calls receipts;
-    receipts_are = sym (take-append-drop calls receipts) ∙ ap (λ more. take calls receipts ++ more) (sym is ∙ same);
-    all_before = length-take-le calls receipts there;
+    before = take many receipts;
+    receipts_are = sym (take-append-drop many receipts) ∙ ap (λ more. take many receipts ++ more) (sym is ∙ same);
+    all_before = omega (arith, length-take-le many receipts there, all);
   }),
-  (λ ends. is ∙ ap (drop calls) ends.receipts_are ∙ drop_at ends.before own calls ends.all_before),
+  (λ ends.
+      let stood = ends.all_before in
+      is ∙ ap (drop many) ends.receipts_are ∙ drop_at ends.before own many (omega (arith, stood, all))),
 )
 
--- and where there are fewer, they don't end so
-pub too_few : (receipts own : List Entry) (calls : ℕ) → length receipts < calls → EndsWith receipts calls own → ⊥
-too_few receipts own calls fewer ends =
+-- where more were forgotten than stand before, or fewer are there, they don't end so
+pub forgot_more : (forgotten : ℕ) (receipts own : List Entry) (calls : ℕ) → calls < forgotten → EndsWith forgotten receipts calls own → ⊥
+forgot_more forgotten receipts own calls more ends = let all = ends.all_before in omega (arith, more, all)
+
+pub too_few : (forgotten : ℕ) (receipts own : List Entry) (calls : ℕ) → forgotten + length receipts < calls → EndsWith forgotten receipts calls own → ⊥
+too_few forgotten receipts own calls fewer ends =
     let all = ends.all_before in
     omega (arith, fewer, all, ap length ends.receipts_are, length-append ends.before own)

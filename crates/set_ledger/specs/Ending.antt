@@ -40,14 +40,15 @@ abbrev pub is_by : Actor → Entry → Bool
 is_by who entry = is_actor who entry.who
 
 -- FAITHFUL, where these are the base's books and this is the history since: a seat's receipts end with its entries of
--- the history, in order, and as many stand before them as the base's books count.
-pub record EndsWith (receipts : List Entry) (calls : ℕ) (own : List Entry) : Type 0 where
+-- the history, in order, and those before them are, with what it forgot, as many as the base's books count.
+pub record EndsWith (forgotten : ℕ) (receipts : List Entry) (calls : ℕ) (own : List Entry) : Type 0 where
   pub before : List Entry
   pub receipts_are : receipts ≡ before ++ own
-  pub all_before : length before ≡ calls
+  pub all_before : forgotten + length before ≡ calls
 
 abbrev pub IsFaithful : Books → List Entry → SeatState → Type 0
-IsFaithful books history seat = EndsWith seat.receipts (calls_at seat.who books) (filter (is_by seat.who) history)
+IsFaithful books history seat =
+    EndsWith seat.forgotten.calls seat.receipts (calls_at seat.who books) (filter (is_by seat.who) history)
 
 abbrev pub AreFaithful : Books → List Entry → List SeatState → List SeatState → Type 0
 AreFaithful books history users terminals = All (IsFaithful books history) users × All (IsFaithful books history) terminals

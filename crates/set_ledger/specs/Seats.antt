@@ -1,10 +1,11 @@
 -- SEATS: who asks a set, what share of the totals each has, and a receipt for each step that it made.
-use Rattle.std.specs.Prelude.{◌≡◌, ℕ, zero, suc, List, [], ◌∷◌, ◌++◌, ◌+◌, length}
+use Rattle.std.specs.Prelude.{◌≡◌, ℕ, zero, suc, List, [], ◌∷◌, ◌++◌, ◌+◌, ◌<◌, ◌^◌, drop, length}
 use Rattle.set_events.specs.declared.answer.Answer.{Answer}
 use Rattle.set_events.specs.declared.event.Actor.{Actor}
 use Rattle.set_events.specs.declared.event.Actor.TheVariants.{User, Terminal}
 use Rattle.set_events.specs.declared.event.Event.{Event}
 use Rattle.set_events.specs.declared.history.Entry.{Entry}
+use Rattle.set_ledger.specs.declared.share.Forgotten.{Forgotten}
 use Rattle.set_ledger.specs.declared.share.SeatShare.{SeatShare}
 use Rattle.set_model.specs.History.{LinkSet, books_in, messages_of, octets_in_all}
 use Rattle.set_model.specs.Step.{messages_in, octets_of}
@@ -12,6 +13,8 @@ use Rattle.set_model.specs.Step.{messages_in, octets_of}
 pub record SeatState : Type 0 where
   pub who : Actor
   pub share : SeatShare
+  -- what the receipts that it forgot added up to
+  pub forgotten : Forgotten
   pub receipts : List Entry
 
 -- what a user's numbers and receipts show, and a terminal's
@@ -21,31 +24,64 @@ user_share calls messages octets = record { calls = calls; messages = messages; 
 abbrev pub term_share : ℕ → ℕ → SeatShare
 term_share calls acknowledged = record { calls = calls; messages = 0; octets = 0; acknowledged = acknowledged }
 
-abbrev pub user_state : ℕ → ℕ → ℕ → ℕ → List Entry → SeatState
-user_state number calls messages octets receipts =
-    record { who = User number; share = user_share calls messages octets; receipts = receipts }
+abbrev pub user_state : ℕ → ℕ → ℕ → ℕ → Forgotten → List Entry → SeatState
+user_state number calls messages octets forgotten receipts = record {
+  who = User number;
+  share = user_share calls messages octets;
+  forgotten = forgotten;
+  receipts = receipts;
+}
 
-abbrev pub term_state : ℕ → ℕ → ℕ → List Entry → SeatState
-term_state link calls acknowledged receipts =
-    record { who = Terminal link; share = term_share calls acknowledged; receipts = receipts }
+abbrev pub term_state : ℕ → ℕ → ℕ → Forgotten → List Entry → SeatState
+term_state link calls acknowledged forgotten receipts = record {
+  who = Terminal link;
+  share = term_share calls acknowledged;
+  forgotten = forgotten;
+  receipts = receipts;
+}
 
 -- a seat from which nothing was asked
 abbrev pub no_share : SeatShare
 no_share = record { calls = 0; messages = 0; octets = 0; acknowledged = 0 }
 
+abbrev pub nothing_forgotten : Forgotten
+nothing_forgotten = record { calls = 0; messages = 0; octets = 0 }
+
 abbrev pub new_seat : Actor → SeatState
-new_seat who = record { who = who; share = no_share; receipts = [] }
+new_seat who = record { who = who; share = no_share; forgotten = nothing_forgotten; receipts = [] }
 
 -- the seats of the actors 0, 1, .. below a number
 abbrev pub new_seats : (ℕ → Actor) → ℕ → List SeatState
 new_seats actor zero = []
 new_seats actor (suc n) = new_seats actor n ++ new_seat (actor n) ∷ []
 
--- A SHARE is what the receipts add up to, but for what was acknowledged, which no answer tells.
+-- one entry more, or these entries
+abbrev pub with_entry : Forgotten → Entry → Forgotten
+with_entry f entry = record {
+  calls = f.calls + 1;
+  messages = f.messages + messages_in entry.answer;
+  octets = f.octets + octets_of entry.event entry.answer;
+}
+
+abbrev pub with_entries : Forgotten → List Entry → Forgotten
+with_entries f entries = record {
+  calls = f.calls + length entries;
+  messages = f.messages + messages_of entries;
+  octets = f.octets + octets_in_all entries;
+}
+
+-- numbers that a share has
+pub record IsCountable (f : Forgotten) : Type 0 where
+  pub calls : f.calls < 2 ^ 64
+  pub messages : f.messages < 2 ^ 64
+  pub octets : f.octets < 2 ^ 64
+
+-- A SHARE is what the receipts add up to with those that were forgotten, but for what was acknowledged, which no answer
+-- tells.
 pub record AddsUp (seat : SeatState) : Type 0 where
-  pub calls : seat.share.calls ≡ length seat.receipts
-  pub messages : seat.share.messages ≡ messages_of seat.receipts
-  pub octets : seat.share.octets ≡ octets_in_all seat.receipts
+  pub calls : seat.share.calls ≡ (with_entries seat.forgotten seat.receipts).calls
+  pub messages : seat.share.messages ≡ (with_entries seat.forgotten seat.receipts).messages
+  pub octets : seat.share.octets ≡ (with_entries seat.forgotten seat.receipts).octets
 
 -- what an entry brings to the share of the seat that made it, but for acknowledgements
 pub record ShareGrows (old : SeatShare) (event : Event) (answer : Answer) (new : SeatShare) : Type 0 where
@@ -60,12 +96,21 @@ acked_in set = (books_in set).acknowledged
 -- A RECEIPT: the entry that was made stands last among the seat's, and its share grows by what that entry brought.
 pub record Receives (old : SeatState) (event : Event) (answer : Answer) (new : SeatState) : Type 0 where
   pub who_same : new.who ≡ old.who
+  pub forgotten_same : new.forgotten ≡ old.forgotten
   pub receipt : new.receipts ≡ old.receipts ++ record { who = old.who; event = event; answer = answer } ∷ []
   pub grows : ShareGrows old.share event answer new.share
 
 -- what a step acknowledged is the share's of the seat that made it
 abbrev pub AcknowledgesAs : LinkSet → LinkSet → SeatShare → SeatShare → Type 0
 AcknowledgesAs set set' old new = new.acknowledged + acked_in set ≡ old.acknowledged + acked_in set'
+
+-- FORGETTING: the first so many receipts are gone, or all, where there are fewer; what was forgotten and the receipts add up
+-- to the same.
+pub record Forgets (many : ℕ) (old new : SeatState) : Type 0 where
+  pub who_same : new.who ≡ old.who
+  pub share_same : new.share ≡ old.share
+  pub receipts_are : new.receipts ≡ drop many old.receipts
+  pub sum_same : with_entries new.forgotten new.receipts ≡ with_entries old.forgotten old.receipts
 
 -- one part, with this amount, went back to a share
 pub record Returns (parts amount told parts' amount' : ℕ) : Type 0 where

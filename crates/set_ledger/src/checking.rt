@@ -58,8 +58,8 @@ fn has_seat_of<C: Opening, M: Ledger, O: Ledger, A: Ledger, S: Seat<C, M, O, A>>
     false
 }
 
-/// Whether the receipts of each of these seats end with its entries of the history since a base, in order, and what
-/// stands before them is as many as the base's books say.
+/// Whether the receipts of each of these seats end with its entries of the history since a base, in order, and those
+/// before them are, with what it forgot, as many as the base's books say.
 pub(crate) fn are_faithful<C: Opening, M: Ledger, O: Ledger, A: Ledger, S: Seat<C, M, O, A>>(
     books: &Books,
     history: &Reader<'_>,
@@ -70,27 +70,39 @@ pub(crate) fn are_faithful<C: Opening, M: Ledger, O: Ledger, A: Ledger, S: Seat<
     for seat in seats {
         let who = seat.actor();
         let calls = count_calls(books, who);
-        if !is_faithful(history.again(), who, seat.receipts(), calls) {
+        let forgotten = seat.forgotten().calls;
+        if !is_faithful(history.again(), who, forgotten, seat.receipts(), calls) {
             return false;
         }
     }
     true
 }
 
-/// [`are_faithful`] of the receipts of one seat, whose actor has so many calls before the base.
-fn is_faithful(history: Reader<'_>, who: Actor, receipts: Reader<'_>, calls: u64) -> bool
-    ensures { IsTrue result ↔ EndsWith receipts.entry calls (filter (is_by who) history.entry) }
+/// [`are_faithful`] of the receipts of one seat, which forgot so many and whose actor has so many calls before the
+/// base.
+fn is_faithful(
+    history: Reader<'_>,
+    who: Actor,
+    forgotten: u64,
+    receipts: Reader<'_>,
+    calls: u64,
+) -> bool
+    ensures { IsTrue result ↔ EndsWith forgotten receipts.entry calls (filter (is_by who) history.entry) }
 {
-    if calls > receipts.len() as u64 {
+    if calls < forgotten {
+        return false;
+    }
+    let before = calls - forgotten;
+    if before > receipts.len() as u64 {
         return false;
     }
     let mut own = receipts;
-    skip(&mut own, calls);
+    skip(&mut own, before);
     are_all(history, who, own)
 }
 
 /// How many calls of this actor the books count.
-fn count_calls(books: &Books, who: Actor) -> u64
+pub(crate) fn count_calls(books: &Books, who: Actor) -> u64
     ensures { result ≡ calls_at who books.now }
 {
     let calls = match who {

@@ -41,7 +41,8 @@ pub struct Back<C: Opening, M: Ledger, O: Ledger, A: Ledger> {
 pub enum EndFault<C: Opening, M: Ledger, O: Ledger, A: Ledger> {
     /// 1: a seat of the set isn't there. It's tested first.
     Missing(Back<C, M, O, A>),
-    /// 2: the receipts of a seat don't end with its entries of the history, or aren't as many as its calls.
+    /// 2: the receipts of a seat don't end with its entries of the history, or aren't, with those that it forgot, as many
+    /// as its calls.
     Strange(Back<C, M, O, A>),
 }
 
@@ -65,8 +66,8 @@ impl<C: Opening, M: Ledger, O: Ledger, A: Ledger> Held<C, M, O, A> {
     ///
     /// Faults, which hand back the set and the seats: 1 [`EndFault::Missing`] exactly where there isn't one seat for
     /// each user and each link of the set and no other; else 2 [`EndFault::Strange`] exactly where the receipts of a
-    /// seat don't end with its entries since the base, or what stands before those isn't as many as its calls before
-    /// the base.
+    /// seat don't end with its entries since the base, or what stands before those, with what it forgot, isn't as many
+    /// as its calls before the base.
     pub fn end(
         self,
         users: Vec<UserSeat<C, M, O, A>>,

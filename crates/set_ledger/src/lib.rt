@@ -6,8 +6,8 @@
 //! moves only together with its book, and [`step_in`] alone makes receipts, so that whoever gets all seats back
 //! can hold them against the history: [`Held::end`] does.
 //!
-//! [`Held::checkpoint`] makes what the set holds its base, from which the history begins anew; the seats keep all their
-//! receipts, of which the last are the history's.
+//! [`Held::checkpoint`] makes what the set holds its base, from which the history begins anew; the seats keep their
+//! receipts, of which the last are the history's, until they [`forget`] those that lie in the base.
 //!
 //! ```text
 //! users      UserSeat 0, 1, ..     calls, messages, octets        \
@@ -27,6 +27,7 @@
 
 mod checking;
 mod ending;
+mod forgetting;
 mod held;
 mod making;
 mod opening;
@@ -35,8 +36,9 @@ mod share;
 mod stepping;
 
 pub use ending::{Back, Closed, EndFault};
+pub use forgetting::forget;
 pub use held::{CreateFault, Held, MOST_USERS, Opened};
 pub use opening::Opening;
 pub use seat::{Seat, TermSeat, UserSeat, step_in};
 pub use set_core::{Base, SetCore, SetFault};
-pub use share::{Blanks, SeatShare};
+pub use share::{Blanks, Forgotten, SeatShare};

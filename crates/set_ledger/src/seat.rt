@@ -6,19 +6,22 @@ ghost use Rattle.set_model.specs.History.{IsStep, entries_in, longest_history};
 ghost use Rattle.set_ledger.specs.Seats.{Receives, AcknowledgesAs, AddsUp, Returns, new_seats};
 ghost use Rattle.set_ledger.specs.Totals.{IsRoom};
 
+use super::forgetting::forget_first;
 use super::held::Held;
 use super::making::make;
 use super::opening::Opening;
-use super::share::{Part, SeatShare};
+use super::share::{Forgotten, NOTHING_FORGOTTEN, Part, SeatShare};
 use super::stepping::Step;
 use set_core::SetFault;
 use set_events::{Actor, Answer, Event};
 use set_history::{History, Reader};
+use std::alloc::{AllocError, Global};
 use std::marker::{Model, PhantomData};
 use std::sync::ledger::{Ledger, Share};
 
-/// A seat at a set: its actor, its share of the totals, and a receipt for each step that it made. It's sealed: users'
-/// and terminals' seats are the only ones, whose fields are private, and [`step_in`] alone changes one.
+/// A seat at a set: its actor, its share of the totals, and a receipt for each step that it made, but for those that it
+/// forgot. It's sealed: users' and terminals' seats are the only ones, whose fields are private, and [`step_in`] and
+/// [`super::forget`] alone change one.
 pub trait Seat<C: Opening, M: Ledger, O: Ledger, A: Ledger>: Step<C, M, O, A> {
     /// Who asks.
     fn actor(&self) -> Actor
@@ -29,12 +32,16 @@ pub trait Seat<C: Opening, M: Ledger, O: Ledger, A: Ledger>: Step<C, M, O, A> {
         ensures value { result ≡ (Self.state self.now).share }
         ensures adds_up { AddsUp (Self.state self.now) };
 
-    /// The entries that its steps made, in order.
+    /// The entries that its steps made, in order, but for the first ones, which it forgot.
     fn receipts(&self) -> Reader<'_>
         ensures { result ≡ (Self.state self.now).receipts };
+
+    /// What the receipts that it forgot added up to.
+    fn forgotten(&self) -> Forgotten
+        ensures { result ≡ (Self.state self.now).forgotten };
 }
 
-/// A user's seat. Only [`step_in`] changes it.
+/// A user's seat. Only [`step_in`] and [`forget`] change it.
 #[derive(Drop)]
 pub struct UserSeat<C: Opening, M: Ledger, O: Ledger, A: Ledger> {
     number: u16,
@@ -42,6 +49,7 @@ pub struct UserSeat<C: Opening, M: Ledger, O: Ledger, A: Ledger> {
     pub(crate) messages: Part<M>,
     pub(crate) octets: Part<O>,
     receipts: History,
+    forgotten: Forgotten,
     set: PhantomData<A>,
 }
 
@@ -53,19 +61,20 @@ impl<C: Opening, M: Ledger, O: Ledger, A: Ledger> Model for UserSeat<C, M, O, A>
     ghost use Rattle.std.specs.Prelude.{◌<◌};
     ghost use Rattle.set_ledger.specs.Seats.{AddsUp, user_state};
 
-    ghost view = { λ s. user_state s.number s.calls.told s.messages.told s.octets.told s.receipts.items };
+    ghost view = { λ s. user_state s.number s.calls.told s.messages.told s.octets.told s.forgotten s.receipts.items };
 
     ghost invariant = { λ s. (s.number < 64)
-        × AddsUp (user_state s.number s.calls.told s.messages.told s.octets.told s.receipts.items) };
+        × AddsUp (user_state s.number s.calls.told s.messages.told s.octets.told s.forgotten s.receipts.items) };
 }
 
-/// The seat of a link's terminal. Only [`step_in`] changes it.
+/// The seat of a link's terminal. Only [`step_in`] and [`forget`] change it.
 #[derive(Drop)]
 pub struct TermSeat<C: Opening, M: Ledger, O: Ledger, A: Ledger> {
     link: u8,
     pub(crate) calls: Part<C>,
     pub(crate) acknowledged: Part<A>,
     receipts: History,
+    forgotten: Forgotten,
     set: PhantomData<(M, O)>,
 }
 
@@ -77,10 +86,10 @@ impl<C: Opening, M: Ledger, O: Ledger, A: Ledger> Model for TermSeat<C, M, O, A>
     ghost use Rattle.std.specs.Prelude.{◌<◌};
     ghost use Rattle.set_ledger.specs.Seats.{AddsUp, term_state};
 
-    ghost view = { λ s. term_state s.link s.calls.told s.acknowledged.told s.receipts.items };
+    ghost view = { λ s. term_state s.link s.calls.told s.acknowledged.told s.forgotten s.receipts.items };
 
     ghost invariant = { λ s. (s.link < 16)
-        × AddsUp (term_state s.link s.calls.told s.acknowledged.told s.receipts.items) };
+        × AddsUp (term_state s.link s.calls.told s.acknowledged.told s.forgotten s.receipts.items) };
 }
 
 impl<C: Opening, M: Ledger, O: Ledger, A: Ledger> Step<C, M, O, A> for UserSeat<C, M, O, A> {
@@ -97,6 +106,10 @@ impl<C: Opening, M: Ledger, O: Ledger, A: Ledger> Step<C, M, O, A> for UserSeat<
             }
             Err(fault) => Err(fault),
         }
+    }
+
+    fn forget(&mut self, alloc: Global, many: u64) -> Result<(), AllocError> {
+        forget_first(alloc, &mut self.receipts, &mut self.forgotten, many)
     }
 }
 
@@ -117,6 +130,10 @@ impl<C: Opening, M: Ledger, O: Ledger, A: Ledger> Seat<C, M, O, A> for UserSeat<
     fn receipts(&self) -> Reader<'_> {
         self.receipts.reader()
     }
+
+    fn forgotten(&self) -> Forgotten {
+        self.forgotten
+    }
 }
 
 impl<C: Opening, M: Ledger, O: Ledger, A: Ledger> Step<C, M, O, A> for TermSeat<C, M, O, A> {
@@ -133,6 +150,10 @@ impl<C: Opening, M: Ledger, O: Ledger, A: Ledger> Step<C, M, O, A> for TermSeat<
             }
             Err(fault) => Err(fault),
         }
+    }
+
+    fn forget(&mut self, alloc: Global, many: u64) -> Result<(), AllocError> {
+        forget_first(alloc, &mut self.receipts, &mut self.forgotten, many)
     }
 }
 
@@ -152,6 +173,10 @@ impl<C: Opening, M: Ledger, O: Ledger, A: Ledger> Seat<C, M, O, A> for TermSeat<
 
     fn receipts(&self) -> Reader<'_> {
         self.receipts.reader()
+    }
+
+    fn forgotten(&self) -> Forgotten {
+        self.forgotten
     }
 }
 
@@ -258,6 +283,7 @@ pub(crate) fn put_users<C: Opening, M: Ledger, O: Ledger, A: Ledger>(
             messages: Part::cut(messages),
             octets: Part::cut(octets),
             receipts: History::new(*seats.allocator()),
+            forgotten: NOTHING_FORGOTTEN,
             set: PhantomData,
         };
         seats.push_reserved(seat);
@@ -287,6 +313,7 @@ pub(crate) fn put_terminals<C: Opening, M: Ledger, O: Ledger, A: Ledger>(
             calls: Part::cut(calls),
             acknowledged: Part::cut(acknowledged),
             receipts: History::new(*seats.allocator()),
+            forgotten: NOTHING_FORGOTTEN,
             set: PhantomData,
         };
         seats.push_reserved(seat);

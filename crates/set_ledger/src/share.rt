@@ -19,6 +19,24 @@ pub struct SeatShare {
     pub acknowledged: u64,
 }
 
+/// What the receipts that a seat forgot added up to.
+#[derive(Clone, Copy, Debug, PartialEq, Eq)]
+pub struct Forgotten {
+    /// How many there were.
+    pub calls: u64,
+    /// How many of them accepted a message.
+    pub messages: u64,
+    /// The octets of those messages' bodies.
+    pub octets: u64,
+}
+
+/// Nothing was forgotten yet.
+pub(crate) const NOTHING_FORGOTTEN: Forgotten = Forgotten {
+    calls: 0,
+    messages: 0,
+    octets: 0,
+};
+
 /// A blank for each ledger of a set that is to be opened, cut into as many parts as seats move it: calls as many as
 /// there are users and links, messages and octets as many as users, acknowledgements as many as links.
 #[derive(Drop)]

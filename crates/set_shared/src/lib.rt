@@ -12,7 +12,8 @@
 //! What stands under the lock has no name outside, so a call says of the set only what its seat shows: the receipt that
 //! was made there and nowhere else. What they come to together is known when all seats are back: [`LinkSet::close`].
 //!
-//! [`LinkSet::checkpoint`] keeps the history short. Seats keep all their receipts, 24 octets a call and the bodies.
+//! [`LinkSet::checkpoint`] keeps the history short, and [`LinkSet::forget`] a seat's receipts, 24 octets a call and the
+//! bodies.
 //!
 //! The calls that take the lock may wait for it, and nothing is promised of who gets it, or when.
 #![tactic(auto)]
@@ -21,6 +22,6 @@ mod link_set;
 
 pub use link_set::{LinkSet, Opened};
 pub use set_ledger::{
-    Back, Base, Blanks, Closed, CreateFault, EndFault, Held, Opening, Seat, SeatShare, SetFault,
-    TermSeat, UserSeat,
+    Back, Base, Blanks, Closed, CreateFault, EndFault, Forgotten, Held, Opening, Seat, SeatShare,
+    SetFault, TermSeat, UserSeat,
 };

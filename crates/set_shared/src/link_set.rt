@@ -1,10 +1,10 @@
 //! The set under its lock.
-ghost use Rattle.std.specs.Prelude.{◌≡◌, ◌<◌, ◌≤◌, ◌↔◌, ◌⊎◌, true, IfOk, IfErr, OnOk, OnErr, if◌then◌else◌};
+ghost use Rattle.std.specs.Prelude.{◌≡◌, ◌<◌, ◌≤◌, ◌↔◌, ◌⊎◌, ℕ, true, IfOk, IfErr, OnOk, OnErr, if◌then◌else◌};
 ghost use Rattle.set_events.specs.declared.event.Actor.TheVariants.{User, Terminal};
 ghost use Rattle.set_events.specs.declared.event.Event.TheVariants.{Offer, Take, Find};
 ghost use Rattle.set_events.specs.Owners.{IsOwn};
 ghost use Rattle.set_ledger.specs.Openings.{IsBaseOf};
-ghost use Rattle.set_ledger.specs.Seats.{Receives, new_seats};
+ghost use Rattle.set_ledger.specs.Seats.{Forgets, Receives, new_seats};
 ghost use Rattle.set_ledger.specs.Totals.{AreParts, HeldState, Names};
 ghost use Rattle.set_ledger.specs.Ending.{is_complete, AreFaithful, IsClosed};
 ghost use Rattle.set_model.specs.State.{settings_of};
@@ -13,7 +13,7 @@ ghost use Rattle.set_shared.specs.Asking.{IsAnswered, IsFull};
 use set_events::{Answer, Body, Event, SetConfig};
 use set_ledger::{
     Blanks, Closed, CreateFault, EndFault, Held, Opening, Seat, SetFault, TermSeat, UserSeat,
-    step_in,
+    forget, step_in,
 };
 use std::alloc::Global;
 use std::marker::Model;
@@ -207,6 +207,18 @@ impl<C: Opening, M: Ledger, O: Ledger, A: Ledger> LinkSet<C, M, O, A> {
         self.held.lock(rt).checkpoint()
     }
 
+    /// A seat forgets the receipts of its calls before the last checkpoint, and keeps what they added up to, as of
+    /// [`set_ledger::forget`]: those that are gone are its first. Which checkpoint was the last isn't said here.
+    ///
+    /// Fault: 1 [`SetFault::NoMemory`], only where memory was refused; the seat is then as it was.
+    pub fn forget<R: Wait, S: Seat<C, M, O, A>>(&self, rt: &R, seat: &mut S) -> Result<(), SetFault>
+        ensures forgets { OnOk result ((many : ℕ) × Forgets many (S.state seat.old) (S.state seat.new)) }
+        ensures fault { IfErr result (λ fault. fault ≡ SetFault.NoMemory) }
+        ensures err { OnErr result (S.state seat.new ≡ S.state seat.old) }
+    {
+        forget(self.alloc, &*self.held.lock(rt), seat)
+    }
+
     /// Ends a set with all its seats, under no lock: the history is legal from its base, each seat's receipts end with its
     /// entries in order, and the totals are the sums of the shares. The configuration is that of [`LinkSet::create`], by
     /// the settings that the type tells, and legal histories lead from there to the base. It takes no memory, and waits
@@ -215,7 +227,7 @@ impl<C: Opening, M: Ledger, O: Ledger, A: Ledger> LinkSet<C, M, O, A> {
     /// Faults, which hand back the set, unlocked ([`LinkSet::of`] makes it shared again), and all seats:
     /// 1 [`EndFault::Missing`] exactly where there isn't one seat for each user and each link of the set and no
     /// other; else 2 [`EndFault::Strange`] exactly where the receipts of a seat don't end with its entries since the base, or
-    /// what stands before those isn't as many as its calls before the base.
+    /// what stands before those, with what it forgot, isn't as many as its calls before the base.
     pub fn close(
         self,
         users: Vec<UserSeat<C, M, O, A>>,

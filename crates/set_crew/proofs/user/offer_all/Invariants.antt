@@ -6,7 +6,7 @@ use Rattle.set_crew.proofs.user.offer_all.Given as goal
 
 -- what is left completes it
 abbrev pub invariant-loop-body : goal.invariant-loop-body
-invariant-loop-body g l = (l.seat.who ≡ l.initial.seat.who)
+invariant-loop-body g l = (l.caller.seat.who ≡ l.initial.caller.seat.who)
     × ((ended : Result (Unit {0}) UserFault) (after : List Entry)
-    → Offers l.initial.seat.who (map (λ body. body.items) (drop l.body-index l.bodies)) ended l.seat.receipts after
-    → Offers l.initial.seat.who (map (λ body. body.items) l.bodies) ended l.initial.seat.receipts after)
+    → Offers l.initial.caller.seat.who (map (λ body. body.items) (drop l.body-index l.bodies)) ended l.caller.all after
+    → Offers l.initial.caller.seat.who (map (λ body. body.items) l.bodies) ended l.initial.caller.all after)

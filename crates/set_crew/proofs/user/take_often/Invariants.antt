@@ -6,7 +6,7 @@ use Rattle.set_crew.proofs.user.take_often.Given as goal
 
 -- what is left completes it
 abbrev pub invariant-loop-time : goal.invariant-loop-time
-invariant-loop-time g l = (l.seat.who ≡ l.initial.seat.who)
+invariant-loop-time g l = (l.caller.seat.who ≡ l.initial.caller.seat.who)
     × ((ended : Result (Unit {0}) UserFault) (after : List Entry)
-    → Takes l.initial.seat.who (l.times - l._time) ended l.seat.receipts after
-    → Takes l.initial.seat.who l.times ended l.initial.seat.receipts after)
+    → Takes l.initial.caller.seat.who (l.times - l._time) ended l.caller.all after
+    → Takes l.initial.caller.seat.who l.times ended l.initial.caller.all after)

@@ -1,5 +1,5 @@
 use Rattle.std.proofs.Common.{◌∙◌}
-use Rattle.set_ledger.proofs.Receipts.{all_past, next_past}
+use Rattle.set_ledger.proofs.Receipts.{next_past}
 use Rattle.set_ledger.proofs.checking.skip.Goals as goal
 
 pub loop-entry-preserved : goal.loop-entry-preserved

@@ -1,4 +1,4 @@
-use Rattle.std.proofs.Common.{◌∙◌, ap, ap₂, sym}
+use Rattle.std.proofs.Common.{◌∙◌, ap, sym}
 use Rattle.term_model.specs.Terminal.{told}
 use Rattle.term_model.specs.declared.command.Command.TheVariants.{Emergency, Start}
 use Rattle.set_crew.specs.Counts.{answered_in}
@@ -12,13 +12,17 @@ returns-clause-shift g c =
     let first = c.command.ensures in
     let second = c.command-2.ensures in
     let door = second.door ∙ first.door ∙ new.door in
-    shift_of _ (link_in c.args.self.seat.who) c.link-link.result c.all_turns-report.result _ _ _ _ _ c.all_turns-report.ensures.turns
-    (second.taken ∙ first.taken ∙ new.taken)
-    (second.inside ∙ ap (told Start) (first.inside ∙ ap (told Emergency) new.inside))
-    (ap (λ it. it.seat.receipts) door ∙ ap (λ seat. seat.receipts) c.new-door.ensures.seat ∙ c.requires)
-    (ap (λ it. it.faults) door ∙ c.new-door.ensures.faults)
-    (sym (ap link_in c.link-link.ensures.who))
-    (ap (λ seat. seat.receipts) c.into_seat-seat.ensures ∙ ap (λ it. it.seat.receipts) c.into_parts-door.ensures.door)
-    c.reported-told.ensures
-    (c.answered.ensures ∙ ap₂ answered_in (ap (λ it. link_in it.seat.who) c.into_parts-door.ensures.door ∙ c.all_turns-report.ensures.number ∙ ap (λ it. link_in it.seat.who) door
-    ∙ ap (λ seat. link_in seat.who) c.new-door.ensures.seat ∙ ap link_in c.link-link.ensures.who) (ap (λ seat. seat.receipts) (sym c.into_seat-seat.ensures)))
+    let all = c.into_parts-door.result.0.caller.all in (
+      all,
+      c.into_seat-seat.ensures.all,
+      shift_of _ (link_in c.args.self.seat.who) c.link-link.result c.all_turns-report.result _ _ _ _ _ c.all_turns-report.ensures.turns
+      (second.taken ∙ first.taken ∙ new.taken)
+      (second.inside ∙ ap (told Start) (first.inside ∙ ap (told Emergency) new.inside))
+      (ap (λ it. it.caller.all) door ∙ c.new-door.ensures.made)
+      (ap (λ it. it.faults) door ∙ c.new-door.ensures.faults)
+      (sym (ap link_in c.link-link.ensures.who))
+      (ap (λ it. it.caller.all) c.into_parts-door.ensures.door)
+      c.reported-told.ensures
+      (c.answered.ensures ∙ ap (λ n. answered_in n all) (ap (λ it. link_in it.caller.seat.who) c.into_parts-door.ensures.door ∙ c.all_turns-report.ensures.number ∙ ap (λ it. link_in it.caller.seat.who) door
+      ∙ ap (λ seat. link_in seat.who) c.new-door.ensures.seat ∙ ap link_in c.link-link.ensures.who)),
+    )

@@ -17,7 +17,7 @@ gain-requires-in-Ok g c = let gains = c.in-Ok.ensures.gains in room_for _ _ _ _ 
 pub invariant_of-self : goal.invariant_of-self
 invariant_of-self g c = (
   c.self.invariant.0,
-  term_adds_up c.self.inside.link c.self.inside.calls.told c.self.inside.acknowledged.told c.gain.new.self.told c.gain-in-Ok.new.self.told c.self.inside.receipts.items c.make.new.receipts.items c.args.event.now
+  term_adds_up c.self.inside.link c.self.inside.calls.told c.self.inside.acknowledged.told c.gain.new.self.told c.gain-in-Ok.new.self.told c.self.inside.forgotten c.self.inside.receipts.items c.make.new.receipts.items c.args.event.now
       c.in-Ok.made.answer c.in-Ok.made.gained c.held.inside.core c.make.new.core c.self.invariant.1 c.in-Ok.ensures.gains c.gain.ensures.told c.in-Ok.ensures.receipt,
 )
 
@@ -34,6 +34,7 @@ returns-in-Ok-clause-step g c = rw (← c.held.view_is, ← c.self.view_is) c.in
 pub returns-in-Ok-clause-receipt : goal.returns-in-Ok-clause-receipt
 returns-in-Ok-clause-receipt g c = rw (← c.self.view_is) (record {
   who_same = refl;
+  forgotten_same = refl;
   receipt = c.in-Ok.ensures.receipt;
   grows = term_grows c.self.inside.link _ _ _ _ c.args.event.now c.in-Ok.made.answer c.in-Ok.made.gained c.held.inside.core c.make.new.core c.in-Ok.ensures.gains c.gain.ensures.told;
 })
@@ -56,5 +57,5 @@ returns-in-Err-clause-seats g c = (ap (λ (h : HeldState). h.users) c.held.view_
 pub returns-in-Err-clause-err : goal.returns-in-Err-clause-err
 returns-in-Err-clause-err g c = (
   ap (λ (set : LinkSet). record { users = c.held.inside.users; links = c.held.inside.links; totals = totals_of c.held.inside.calls.total c.held.inside.messages.total c.held.inside.octets.total c.held.inside.acknowledged.total; set = set }) c.in-Err.ensures.err.0 ∙ c.held.view_is,
-  ap (λ (made : List Entry). term_state c.self.inside.link c.self.inside.calls.told c.self.inside.acknowledged.told made) c.in-Err.ensures.err.1 ∙ c.self.view_is,
+  ap (λ (made : List Entry). term_state c.self.inside.link c.self.inside.calls.told c.self.inside.acknowledged.told c.self.inside.forgotten made) c.in-Err.ensures.err.1 ∙ c.self.view_is,
 )

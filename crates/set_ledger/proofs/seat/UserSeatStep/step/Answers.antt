@@ -20,7 +20,7 @@ gain-requires-in-Ok-2 g c = let gains = c.in-Ok.ensures.gains in room_for _ _ _ 
 pub invariant_of-self : goal.invariant_of-self
 invariant_of-self g c = (
   c.self.invariant.0,
-  user_adds_up c.self.inside.number c.self.inside.calls.told c.self.inside.messages.told c.self.inside.octets.told c.gain.new.self.told c.gain-in-Ok.new.self.told c.gain-in-Ok-2.new.self.told c.self.inside.receipts.items c.make.new.receipts.items c.args.event.now
+  user_adds_up c.self.inside.number c.self.inside.calls.told c.self.inside.messages.told c.self.inside.octets.told c.gain.new.self.told c.gain-in-Ok.new.self.told c.gain-in-Ok-2.new.self.told c.self.inside.forgotten c.self.inside.receipts.items c.make.new.receipts.items c.args.event.now
       c.in-Ok.made.answer c.in-Ok.made.gained c.held.inside.core c.make.new.core c.self.invariant.1 c.in-Ok.ensures.gains c.gain.ensures.told c.gain-in-Ok.ensures.told c.gain-in-Ok-2.ensures.told c.in-Ok.ensures.receipt,
 )
 
@@ -37,6 +37,7 @@ returns-in-Ok-clause-step g c = rw (← c.held.view_is, ← c.self.view_is) c.in
 pub returns-in-Ok-clause-receipt : goal.returns-in-Ok-clause-receipt
 returns-in-Ok-clause-receipt g c = rw (← c.self.view_is) (record {
   who_same = refl;
+  forgotten_same = refl;
   receipt = c.in-Ok.ensures.receipt;
   grows = user_grows c.self.inside.number _ _ _ _ _ _ c.args.event.now c.in-Ok.made.answer c.in-Ok.made.gained c.held.inside.core c.make.new.core c.in-Ok.ensures.gains c.gain.ensures.told c.gain-in-Ok.ensures.told c.gain-in-Ok-2.ensures.told;
 })
@@ -59,5 +60,5 @@ returns-in-Err-clause-seats g c = (ap (λ (h : HeldState). h.users) c.held.view_
 pub returns-in-Err-clause-err : goal.returns-in-Err-clause-err
 returns-in-Err-clause-err g c = (
   ap (λ (set : LinkSet). record { users = c.held.inside.users; links = c.held.inside.links; totals = totals_of c.held.inside.calls.total c.held.inside.messages.total c.held.inside.octets.total c.held.inside.acknowledged.total; set = set }) c.in-Err.ensures.err.0 ∙ c.held.view_is,
-  ap (λ (made : List Entry). user_state c.self.inside.number c.self.inside.calls.told c.self.inside.messages.told c.self.inside.octets.told made) c.in-Err.ensures.err.1 ∙ c.self.view_is,
+  ap (λ (made : List Entry). user_state c.self.inside.number c.self.inside.calls.told c.self.inside.messages.told c.self.inside.octets.told c.self.inside.forgotten made) c.in-Err.ensures.err.1 ∙ c.self.view_is,
 )

@@ -1,0 +1,8 @@
+use Rattle.std.proofs.Common.{◌≡◌, ◌++◌, length}
+use Rattle.set_ledger.proofs.forgetting.copy_of.Given as goal
+
+abbrev pub invariant-loop-told : goal.invariant-loop-told
+invariant-loop-told l = l.copy.items ++ l.left ≡ l.fn.entries
+
+abbrev pub decreases-loop-told : goal.decreases-loop-told
+decreases-loop-told l = length l.left
