@@ -205,6 +205,6 @@ one_hearing link (bits ∷ pieces) old a b x y first second =
     let rest = one_hearing link pieces second.0 first.2 second.2 x y
     (subst (λ (s : BenchState). HearsPieces link pieces s first.2 x) one.1 first.4) second.4 in (
       first.5 ∙ ap (λ (t : Option TurnAndUnit). option_to_list t ++ first.2) one.0
-      ∙ ap (λ (ts : List TurnAndUnit). option_to_list second.1 ++ ts) rest.0 ∙ sym second.5,
+          ∙ ap (λ (ts : List TurnAndUnit). option_to_list second.1 ++ ts) rest.0 ∙ sym second.5,
       rest.1,
     )

@@ -108,11 +108,7 @@ impl<C: Opening, M: Ledger, O: Ledger, A: Ledger, S: Seat<C, M, O, A> + Drop> Ca
     }
 
     /// Forgets what lies before the last checkpoint.
-    fn forget_now<R: Wait>(
-        &mut self,
-        rt: &R,
-        set: &LinkSet<C, M, O, A>,
-    ) -> Result<(), SetFault>
+    fn forget_now<R: Wait>(&mut self, rt: &R, set: &LinkSet<C, M, O, A>) -> Result<(), SetFault>
         ensures who { self.new.seat.who ≡ self.old.seat.who }
         ensures all { self.new.all ≡ self.old.all }
     {

@@ -34,10 +34,14 @@ pub pieces_more : (link : ℕ) (xs ys : List (List Bool)) (old mid new : BenchSt
 pieces_more link [] ys old mid new a b f g =
     subst (λ (ts : List TurnAndUnit). HearsPieces link ys old (ts ++ b) new) (sym f.0)
     (subst (λ (s : BenchState). HearsPieces link ys s b new) f.1 g)
-pieces_more link (bits ∷ xs) ys old mid new a b f g =
-    (f.0, f.1, f.2 ++ b, f.3, pieces_more link xs ys f.0 mid new f.2 b f.4 g,
-    ap (λ (ts : List TurnAndUnit). ts ++ b) f.5 ∙ append_assoc (option_to_list f.1) f.2 b)
-
+pieces_more link (bits ∷ xs) ys old mid new a b f g = (
+  f.0,
+  f.1,
+  f.2 ++ b,
+  f.3,
+  pieces_more link xs ys f.0 mid new f.2 b f.4 g,
+  ap (λ (ts : List TurnAndUnit). ts ++ b) f.5 ∙ append_assoc (option_to_list f.1) f.2 b,
+)
 
 -- Octets.
 

@@ -169,12 +169,7 @@ fn hear_bits(
 }
 
 /// Bits stood on this link's line.
-fn hear_once(
-    bench: &mut Bench,
-    link: u8,
-    bits: &[bool],
-    hearing: &mut Hearing,
-) -> Result<(), Want>
+fn hear_once(bench: &mut Bench, link: u8, bits: &[bool], hearing: &mut Hearing) -> Result<(), Want>
     requires { link < length bench.old.links }
     ensures { OnOk result (Hears link (one_by_one bits.now) bench.old bench.new hearing.old hearing.new) }
 {

@@ -33,7 +33,6 @@ impl<L: LineText> TalkText for ByFunction<L> {
     type Fault = L::Fault;
 
     ghost use Rattle.text_lines.specs.Talks.{by_function, have_one};
-    
 
     ghost rules = { by_function L.rules };
 

@@ -4,8 +4,8 @@ ghost use Rattle.text_lines.specs.Reading.{IsReading};
 ghost use Rattle.text_lines.specs.Talking.{FinishesBy, IsCarriedOut};
 ghost use Rattle.text_lines.specs.Talks.{MayRead};
 
-use super::talk_text::TalkText;
 use super::lines::{end_of_line, is_passed_over};
+use super::talk_text::TalkText;
 use printing::{Printer, Stop};
 use std::alloc::Global;
 use std::marker::Model;

@@ -157,7 +157,11 @@ fn numbers_of_a_run(rt: HostRuntime) -> Result<(), Fail> {
     holds(
         ask_for(alloc, &["run"], "run 1 2 4 1000 none basic 20000 never")
             && ask_for(alloc, &least, "run 1 1 1 1 0 basic 1 1")
-            && ask_for(alloc, &most, "run 16 16 16 1024 15 cyclic 1000000 1024 per-link")
+            && ask_for(
+                alloc,
+                &most,
+                "run 16 16 16 1024 15 cyclic 1000000 1024 per-link",
+            )
             && ask_for(alloc, &split, "run 1 2 4 1000 1 basic 20000 never"),
     )
 }

@@ -12,5 +12,5 @@ returns-clause-job g c =
       all,
       c.into_seat-seat.ensures.all,
       subst (λ (w : Actor). Does w duty c.do_job-told.result [] all) (ap (λ seat. seat.who) c.new-caller.ensures.seat)
-      (subst (λ (before : List Entry). Does c.new-caller.result.seat.who duty c.do_job-told.result before all) c.new-caller.ensures.all c.do_job-told.ensures.job),
+          (subst (λ (before : List Entry). Does c.new-caller.result.seat.who duty c.do_job-told.result before all) c.new-caller.ensures.all c.do_job-told.ensures.job),
     )
