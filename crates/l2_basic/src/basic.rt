@@ -1,6 +1,7 @@
 //! The control: what is sent next, and what a heard unit does.
 use l2_units::Header;
 use l2_window::{Choice, ControlFault, HeardPart, Sending, Window};
+use std::alloc::Allocator;
 use std::marker::Model;
 
 /// Basic error control of one end, in one life of its link.
@@ -89,7 +90,7 @@ impl Basic {
 
     /// What is to be sent next: a message that waits for retransmission, else the first unsent one
     /// where fewer than 127 are unacknowledged, else a FISU.
-    pub fn choice(&self, window: &Window) -> Choice
+    pub fn choice<A: Allocator + Copy>(&self, window: &Window<A>) -> Choice
         ensures { result ≡ choice_of self.now window.now }
     {
         if self.cursor < window.unacked_len() {
@@ -103,7 +104,7 @@ impl Basic {
 
     /// Sends what is chosen of the window, which is the one before a message moves in it: the header
     /// of the unit.
-    pub fn send(&mut self, choice: Choice, window: &Window) -> Header
+    pub fn send<A: Allocator + Copy>(&mut self, choice: Choice, window: &Window<A>) -> Header
         requires { choice ≡ choice_of self.old window.now }
         ensures header { result ≡ head_of self.old window.now (fsn_of choice window.now) }
         ensures bsn { result.bsn ≡ bsn_of self.old.expected window.now }
@@ -125,7 +126,7 @@ impl Basic {
 
     /// What is sent next: a message that waits for retransmission, else the first unsent one where
     /// fewer than 127 are unacknowledged, else a FISU.
-    pub fn next(&mut self, window: &mut Window) -> Sending
+    pub fn next<A: Allocator + Copy>(&mut self, window: &mut Window<A>) -> Sending
         ensures { IsNext self.old self.new window.old window.new result }
     {
         let choice = self.choice(window);
@@ -149,7 +150,12 @@ impl Basic {
     ///
     /// A unit with an abnormal BSN or FIB does nothing, but the second within three units is told
     /// as a fault.
-    pub fn hear(&mut self, window: &Window, head: Header, is_msu: bool) -> HeardPart
+    pub fn hear<A: Allocator + Copy>(
+        &mut self,
+        window: &Window<A>,
+        head: Header,
+        is_msu: bool,
+    ) -> HeardPart
         requires { IsHeadOf window.now.profile head }
         ensures part { result ≡ part_of self.old window.now head is_msu }
         ensures state { self.new ≡ control_heard self.old window.now head is_msu }
@@ -182,7 +188,12 @@ impl Basic {
     ///
     /// A unit with an abnormal BSN or FIB does nothing, but the second within three units is told
     /// as a fault.
-    pub fn heard(&mut self, window: &mut Window, head: Header, is_msu: bool) -> HeardPart
+    pub fn heard<A: Allocator + Copy>(
+        &mut self,
+        window: &mut Window<A>,
+        head: Header,
+        is_msu: bool,
+    ) -> HeardPart
         requires { IsHeadOf window.old.profile head }
         ensures { Hears head is_msu self.old self.new window.old window.new result }
     {
@@ -243,7 +254,12 @@ impl Basic {
 
     /// Signal unit sequence control (Q.703 5.2.2): whether the unit is accepted, and whether a
     /// retransmission is asked for.
-    fn take(&mut self, window: &Window, head: Header, is_msu: bool) -> (bool, bool)
+    fn take<A: Allocator + Copy>(
+        &mut self,
+        window: &Window<A>,
+        head: Header,
+        is_msu: bool,
+    ) -> (bool, bool)
         requires { IsHeadOf window.now.profile head }
         ensures accept { result.0 ≡ (same head.fib self.old.bib && (is_msu && is_successor self.old head)) }
         ensures asked { result.1 ≡ (same head.fib self.old.bib

@@ -1,6 +1,7 @@
 //! The control: what is sent next, and what a heard unit does.
 use l2_units::Header;
 use l2_window::{Choice, ControlFault, HeardPart, Sending, Window};
+use std::alloc::Allocator;
 use std::marker::Model;
 
 /// Preventive cyclic retransmission of one end, in one life of its link.
@@ -87,7 +88,7 @@ impl Pcr {
     /// What is to be sent next, where the bodies of the unacknowledged messages have so many octets:
     /// in a forced cycle the unacknowledged message that is due; else the first unsent one where
     /// fewer than 127 are unacknowledged; else the unacknowledged one that is due; else a FISU.
-    pub fn choice(&self, window: &Window, octets: u32) -> Choice
+    pub fn choice<A: Allocator + Copy>(&self, window: &Window<A>, octets: u32) -> Choice
         ensures { result ≡ choice_of octets self.now window.now }
     {
         if self.is_forced(window, octets) {
@@ -106,7 +107,12 @@ impl Pcr {
 
     /// Sends what is chosen of the window, which is the one before a message moves in it: the header
     /// of the unit.
-    pub fn send(&mut self, choice: Choice, window: &Window, octets: u32) -> Header
+    pub fn send<A: Allocator + Copy>(
+        &mut self,
+        choice: Choice,
+        window: &Window<A>,
+        octets: u32,
+    ) -> Header
         requires { choice ≡ choice_of octets self.old window.now }
         ensures header { result ≡ head_of self.old window.now (fsn_of choice window.now) }
         ensures bsn { result.bsn ≡ bsn_of self.old.expected window.now }
@@ -129,7 +135,7 @@ impl Pcr {
     /// What is sent next, where the bodies of the unacknowledged messages have so many octets: in a
     /// forced cycle the unacknowledged message that is due; else the first unsent one where fewer
     /// than 127 are unacknowledged; else the unacknowledged one that is due; else a FISU.
-    pub fn next(&mut self, window: &mut Window, octets: u32) -> Sending
+    pub fn next<A: Allocator + Copy>(&mut self, window: &mut Window<A>, octets: u32) -> Sending
         ensures { IsNext octets self.old self.new window.old window.new result }
     {
         let choice = self.choice(window, octets);
@@ -148,7 +154,7 @@ impl Pcr {
     }
 
     /// Whether a forced cycle goes on, or starts with the next unit (Q.703 6.4.1).
-    fn is_forced(&self, window: &Window, octets: u32) -> bool
+    fn is_forced<A: Allocator + Copy>(&self, window: &Window<A>, octets: u32) -> bool
         ensures value { result ≡ is_forced self.now window.now octets }
         ensures something { result ≡ true → 0 < length window.now.unacked }
     {
@@ -157,7 +163,7 @@ impl Pcr {
     }
 
     /// The place of the message that is due in the cycle, which starts or goes on.
-    fn cycle_place(&self, starts: bool, window: &Window) -> usize
+    fn cycle_place<A: Allocator + Copy>(&self, starts: bool, window: &Window<A>) -> usize
         requires { 0 < length window.now.unacked }
         ensures value { result ≡ cycle_place starts self.now window.now }
         ensures within { result < length window.now.unacked }
@@ -174,7 +180,12 @@ impl Pcr {
     ///
     /// A unit with an abnormal BSN does nothing, but the second within three units is told as a
     /// fault.
-    pub fn hear(&mut self, window: &Window, head: Header, is_msu: bool) -> HeardPart
+    pub fn hear<A: Allocator + Copy>(
+        &mut self,
+        window: &Window<A>,
+        head: Header,
+        is_msu: bool,
+    ) -> HeardPart
         requires { IsHeadOf window.now.profile head }
         ensures part { result ≡ part_of self.old window.now head is_msu }
         ensures state { self.new ≡ control_heard self.old window.now head is_msu }
@@ -206,7 +217,12 @@ impl Pcr {
     ///
     /// A unit with an abnormal BSN does nothing, but the second within three units is told as a
     /// fault.
-    pub fn heard(&mut self, window: &mut Window, head: Header, is_msu: bool) -> HeardPart
+    pub fn heard<A: Allocator + Copy>(
+        &mut self,
+        window: &mut Window<A>,
+        head: Header,
+        is_msu: bool,
+    ) -> HeardPart
         requires { IsHeadOf window.old.profile head }
         ensures { Hears head is_msu self.old self.new window.old window.new result }
     {
@@ -246,7 +262,7 @@ impl Pcr {
     }
 
     /// Signal unit sequence control (Q.703 6.2.2): whether the unit is accepted.
-    fn take(&mut self, window: &Window, head: Header, is_msu: bool) -> bool
+    fn take<A: Allocator + Copy>(&mut self, window: &Window<A>, head: Header, is_msu: bool) -> bool
         requires { IsHeadOf window.now.profile head }
         ensures accept { result ≡ (is_msu && (head.fsn == self.old.expected)) }
         ensures state { self.new

@@ -6,6 +6,7 @@ ghost use Rattle.l2_window.specs.Window.{fsn_count};
 use super::window::Window;
 use l2_signals::ControlFault;
 use l2_units::Header;
+use std::alloc::Allocator;
 
 /// What an error control chooses to send next.
 #[derive(Clone, Copy, Debug, PartialEq, Eq)]
@@ -21,7 +22,7 @@ pub enum Choice {
 impl Choice {
     /// The FSN of what is sent: the message's own, or in a FISU that of the last message sent
     /// (Q.703 5.2.1).
-    pub fn fsn(self, window: &Window) -> u16
+    pub fn fsn<A: Allocator + Copy>(self, window: &Window<A>) -> u16
         ensures value { result ≡ fsn_of self window.now }
         ensures in_range { result < fsn_count window.now.profile }
     {

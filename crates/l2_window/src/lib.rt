@@ -22,7 +22,8 @@
 //! (`proofs/Way.antt`), and wants of the rules what `proofs/Rules.antt` says.
 //!
 //! Both lists lie in rings: one of 127 places for the unacknowledged, and a [`Queue`], which grows, for
-//! the unsent; [`Window::into_rings`] hands them out.
+//! the unsent; [`Window::into_rings`] hands them out. Both types are over any allocator; where none is named
+//! it's the program's own.
 //!
 //! This crate reads no clock, does no IO, takes no lock, and knows of a unit its header alone. Only
 //! [`Window::new`], [`Window::reserve`] and [`Window::push`], and those of [`Queue`], take memory.

@@ -2,7 +2,7 @@
 ghost use Rattle.std.specs.Prelude.{◌≡◌, ◌≤◌, IfOk, length};
 
 use circular_buffer::HeapCircularBuffer;
-use std::alloc::{AllocError, Global};
+use std::alloc::{AllocError, Allocator, Global};
 use std::marker::Model;
 
 /// Messages one after another, each a number of the caller's, in a ring that grows.
@@ -11,11 +11,11 @@ use std::marker::Model;
 /// taking of the oldest, cost the same however many messages there are; a growth moves them all, and
 /// at least doubles the ring.
 #[derive(Debug, Drop)]
-pub struct Queue {
-    ring: HeapCircularBuffer<u64>,
+pub struct Queue<A: Allocator = Global> {
+    ring: HeapCircularBuffer<u64, A>,
 }
 
-impl Model for Queue {
+impl<A: Allocator> Model for Queue<A> {
     ghost use Rattle.std.specs.Prelude.{◌-◌, length};
     ghost use Rattle.l2_window.specs.Queue.{QueueState};
 
@@ -24,12 +24,12 @@ impl Model for Queue {
     ghost view = { λ q. record { messages = q.ring.items; room = q.ring.capacity - length q.ring.items } };
 }
 
-impl Queue {
+impl<A: Allocator + Copy> Queue<A> {
     ghost use Rattle.std.specs.Prelude.{◌≡◌, ◌+◌, ◌-◌, ◌<◌, ◌≤◌, ◌^◌, ◌==◌, ◌++◌, [], ◌∷◌, IfOk, OnOk, OnErr, IsNone, length, drop, slice_get};
     ghost use Rattle.l2_window.specs.Queue.{QueueState, SameQueue};
 
     /// No messages, and no room.
-    pub fn new(alloc: Global) -> Result<Queue, AllocError>
+    pub fn new(alloc: A) -> Result<Queue<A>, AllocError>
         ensures { IfOk result (λ queue. queue.messages ≡ []) }
     {
         Ok(Queue {
@@ -38,7 +38,7 @@ impl Queue {
     }
 
     /// A queue of the same messages, with no room.
-    pub fn copied(&self) -> Result<Queue, AllocError>
+    pub fn copied(&self) -> Result<Queue<A>, AllocError>
         ensures { IfOk result (λ queue. queue.messages ≡ self.now.messages) }
     {
         Ok(Queue {
@@ -127,7 +127,7 @@ impl Queue {
     }
 
     /// The ring itself.
-    pub fn into_ring(self) -> HeapCircularBuffer<u64>
+    pub fn into_ring(self) -> HeapCircularBuffer<u64, A>
         ensures messages { result.items ≡ self.messages }
         ensures room { result.capacity - length result.items ≡ self.room }
     {
@@ -137,10 +137,10 @@ impl Queue {
 }
 
 /// A ring of this capacity, with the same messages.
-pub(crate) fn copy_of(
-    ring: &HeapCircularBuffer<u64>,
+pub(crate) fn copy_of<A: Allocator + Copy>(
+    ring: &HeapCircularBuffer<u64, A>,
     capacity: usize,
-) -> Result<HeapCircularBuffer<u64>, AllocError>
+) -> Result<HeapCircularBuffer<u64, A>, AllocError>
     requires { length ring.now.items ≤ capacity }
     ensures { IfOk result (λ copy. (copy.items ≡ ring.now.items) × (copy.capacity ≡ capacity)) }
 {

@@ -6,7 +6,7 @@ use super::fault::WindowFault;
 use super::queue::{Queue, copy_of};
 use circular_buffer::HeapCircularBuffer;
 use l2_units::Profile;
-use std::alloc::{AllocError, Global};
+use std::alloc::{AllocError, Allocator, Global};
 use std::marker::Model;
 
 /// Memory was refused.
@@ -17,17 +17,17 @@ pub type NoMemory = AllocError;
 /// Contracts see the FSN last acknowledged, the list of unacknowledged messages, the list of unsent
 /// ones, and a room: so many pushes can't fail. After a refusal the window is unchanged.
 #[derive(Debug, Drop)]
-pub struct Window {
+pub struct Window<A: Allocator = Global> {
     profile: Profile,
     /// The most that can be unacknowledged, and the greatest number: 127, or 4,095. All its bits are ones, so a
     /// number's place in the cycle is what it has in common with it.
     most: u16,
     last: u16,
-    unacked: HeapCircularBuffer<u64>,
-    unsent: Queue,
+    unacked: HeapCircularBuffer<u64, A>,
+    unsent: Queue<A>,
 }
 
-impl Model for Window {
+impl<A: Allocator> Model for Window<A> {
     ghost use Rattle.l2_window.specs.Window.{WindowState};
 
     ghost Value = { WindowState };
@@ -45,7 +45,7 @@ impl Model for Window {
     ghost invariant = { IsStored };
 }
 
-impl Window {
+impl<A: Allocator + Copy> Window<A> {
     ghost use Rattle.std.specs.Prelude.{◌≡◌, ◌≢◌, ◌↔◌, ◌-◌, ◌<◌, ◌≤◌, ◌++◌, true, [], length, drop, slice_get, IsOk, IfOk, OnOk, OnErr, IfSome, IsNone, MatchOption};
     ghost use Rattle.std.specs.Option.{SomeIff};
     ghost use Rattle.std.specs.Result.{OkIff};
@@ -55,21 +55,21 @@ impl Window {
 
     /// A window with no messages. It takes the storage of all unacknowledged messages, so that
     /// [`Window::send`] takes none.
-    pub fn new(alloc: Global) -> Result<Window, NoMemory>
+    pub fn new(alloc: A) -> Result<Window<A>, NoMemory>
         ensures { IfOk result (IsEmpty Narrow) }
     {
         Window::of(alloc, Profile::Narrow)
     }
 
     /// A window with no messages whose numbers count from 0 to 4,095 (own).
-    pub fn new_wide(alloc: Global) -> Result<Window, NoMemory>
+    pub fn new_wide(alloc: A) -> Result<Window<A>, NoMemory>
         ensures { IfOk result (IsEmpty Wide) }
     {
         Window::of(alloc, Profile::Wide)
     }
 
     /// A window with no messages, of this profile.
-    pub fn of(alloc: Global, profile: Profile) -> Result<Window, NoMemory>
+    pub fn of(alloc: A, profile: Profile) -> Result<Window<A>, NoMemory>
         ensures { IfOk result (IsEmpty profile) }
     {
         let most = profile.most_unacked();
@@ -83,7 +83,7 @@ impl Window {
     }
 
     /// A window of the same messages, with no room.
-    pub fn copied(&self) -> Result<Window, NoMemory>
+    pub fn copied(&self) -> Result<Window<A>, NoMemory>
         ensures { IfOk result (λ window. window ≡ record self.now { room = window.room }) }
     {
         let most = usize::from(self.most);
@@ -325,7 +325,7 @@ impl Window {
     }
 
     /// The two rings themselves, that of the unacknowledged messages first.
-    pub fn into_rings(self) -> (HeapCircularBuffer<u64>, HeapCircularBuffer<u64>)
+    pub fn into_rings(self) -> (HeapCircularBuffer<u64, A>, HeapCircularBuffer<u64, A>)
         ensures unacked { result.0.items ≡ self.unacked }
         ensures capacity { result.0.capacity ≡ most_unacked self.profile }
         ensures unsent { result.1.items ≡ self.unsent }

@@ -10,8 +10,8 @@
 //!  take <-  back: Consumer <===  ring of octets  ===  out: Producer   <-  put
 //! ```
 //!
-//! - [`RingLine`]: one end of a pair ([`ring_pair`]), over two rings of `rtrb`. Each end may move to a thread of its
-//!   own. An end knows what it did itself; what the other end does meanwhile it sees when it looks, and nothing is
+//! - [`RingLine`]: one end of a pair ([`ring_pair`]), over two rings of `rtrb`, and over any allocator. Each end may move
+//!   to a thread of its own. An end knows what it did itself; what the other end does meanwhile it sees when it looks, and nothing is
 //!   promised of when that is. With both ends in one thread again, [`beside`] tells what the whole line holds.
 //! - [`LossyLine`]: an end that is joined to itself, with 4,096 places, and loses each octet whose number is a multiple
 //!   of a given one.

@@ -5,18 +5,18 @@ ghost use Rattle.line_ring.specs.Rings.{put_of, taken_of, free_of, waiting_of, c
 
 use super::line::{Full, Line};
 use rtrb::{Consumer, Producer, PushError, RingBuffer};
-use std::alloc::{AllocError, Global};
+use std::alloc::{AllocError, Allocator, Global};
 
 /// One end of a line over two rings, which may move to a thread of its own. Contracts see what this end put and took,
 /// the octets that it has seen in the ring that comes in, and the places that it knows to be free in the ring that goes
 /// out.
 #[derive(Drop)]
-pub struct RingLine {
-    out: Producer<u8>,
-    back: Consumer<u8>,
+pub struct RingLine<A: Allocator = Global> {
+    out: Producer<u8, A>,
+    back: Consumer<u8, A>,
 }
 
-impl Line for RingLine {
+impl<A: Allocator> Line for RingLine<A> {
     ghost use Rattle.line_ring.specs.Rings.{put_of, taken_of, free_of, waiting_of, IsSameEnd};
     ghost use Rattle.line_ring.specs.SameEnds.{same_itself, same_onwards};
 
@@ -66,7 +66,10 @@ impl Line for RingLine {
 
 /// The two ends of a new line, which has so many places each way. Memory is taken here alone; `AllocError` where it's
 /// refused.
-pub fn ring_pair(alloc: Global, capacity: usize) -> Result<(RingLine, RingLine), AllocError>
+pub fn ring_pair<A: Allocator + Copy>(
+    alloc: A,
+    capacity: usize,
+) -> Result<(RingLine<A>, RingLine<A>), AllocError>
     ensures joined { IfOk result (λ ends. AreJoined ends.0 ends.1) }
     ensures put { IfOk result (λ ends. (put_of ends.0 ≡ []) × (put_of ends.1 ≡ [])) }
     ensures taken { IfOk result (λ ends. (taken_of ends.0 ≡ []) × (taken_of ends.1 ≡ [])) }
@@ -89,7 +92,7 @@ pub fn ring_pair(alloc: Global, capacity: usize) -> Result<(RingLine, RingLine),
 
 /// Both ends of one line look at it, in one thread: what one took, followed by what waits for it, is what the other
 /// put, each way. Each end then knows of every free place: those that the far end's waiting octets leave.
-pub fn beside(near: &mut RingLine, far: &mut RingLine)
+pub fn beside<A: Allocator>(near: &mut RingLine<A>, far: &mut RingLine<A>)
     requires { AreJoined near.old far.old }
     ensures there { taken_of far.new ++ waiting_of far.new ≡ put_of near.new }
     ensures back { taken_of near.new ++ waiting_of near.new ≡ put_of far.new }

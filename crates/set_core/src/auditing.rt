@@ -10,7 +10,7 @@ use super::tally::LONGEST_HISTORY;
 use set_events::{Actor, Answer, Entry, SetConfig};
 use set_history::Reader;
 use set_step::{Core, SetFault};
-use std::alloc::Global;
+use std::alloc::{Allocator, Global};
 
 /// Whether these entries, in order, are a legal history of a set that is opened with this
 /// configuration: each is of an actor in range, and has the answer that such a set gives then. They
@@ -19,7 +19,11 @@ use std::alloc::Global;
 /// Faults: 2 [`SetFault::Exhausted`] exactly where there are more than 2^48, tested first;
 /// 1 [`SetFault::NoMemory`] only where memory was refused.
 #[tactic(auto, using(crate::proofs::Keeping::opened_entries))]
-pub fn audit(alloc: Global, config: &SetConfig, entries: &[Entry]) -> Result<bool, SetFault>
+pub fn audit<A: Allocator + Copy>(
+    alloc: A,
+    config: &SetConfig,
+    entries: &[Entry],
+) -> Result<bool, SetFault>
     ensures legal { IfOk result
         (λ is_legal. IsTrue is_legal ↔ IsLegal (new_state config.now) entries.now) }
     ensures exhausted { (result ≡ Err SetFault.Exhausted) ↔ (longest_history < length entries.now) }
@@ -35,7 +39,7 @@ pub fn audit(alloc: Global, config: &SetConfig, entries: &[Entry]) -> Result<boo
 ///
 /// Faults: 2 [`SetFault::Exhausted`] exactly where those before the base and these are more than 2^48, tested first;
 /// 1 [`SetFault::NoMemory`] only where memory was refused.
-pub fn audit_from(base: &Base, entries: &[Entry]) -> Result<bool, SetFault>
+pub fn audit_from<A: Allocator + Copy>(base: &Base<A>, entries: &[Entry]) -> Result<bool, SetFault>
     ensures legal { IfOk result
         (λ is_legal. IsTrue is_legal ↔ IsLegal base.now.state entries.now) }
     ensures exhausted { (result ≡ Err SetFault.Exhausted)
@@ -50,7 +54,11 @@ pub fn audit_from(base: &Base, entries: &[Entry]) -> Result<bool, SetFault>
 
 /// Whether these entries are a legal history from this base, which `core` agrees with at first. It goes by
 /// reference, as each way out of a function lets go of what it owns.
-fn replay(core: &mut Core, base: &Base, entries: &[Entry]) -> Result<bool, SetFault>
+fn replay<A: Allocator + Copy>(
+    core: &mut Core<A>,
+    base: &Base<A>,
+    entries: &[Entry],
+) -> Result<bool, SetFault>
     requires begun { Agrees core.old base.now.state }
     requires before { AreFew (entries_of base.now []) base.now.state }
     requires few { entries_of base.now entries.now ≤ longest_history }
@@ -97,7 +105,11 @@ pub fn audit_history(
 ///
 /// Faults: 2 [`SetFault::Exhausted`] exactly where those before the base and these are more than 2^48, tested first;
 /// 1 [`SetFault::NoMemory`] only where memory was refused.
-pub fn audit_history_from(alloc: Global, base: &Base, entries: Reader<'_>) -> Result<bool, SetFault>
+pub fn audit_history_from<A: Allocator + Copy>(
+    alloc: Global,
+    base: &Base<A>,
+    entries: Reader<'_>,
+) -> Result<bool, SetFault>
     ensures legal { IfOk result
         (λ is_legal. IsTrue is_legal ↔ IsLegal base.now.state entries.entry) }
     ensures exhausted { (result ≡ Err SetFault.Exhausted)
@@ -111,10 +123,10 @@ pub fn audit_history_from(alloc: Global, base: &Base, entries: Reader<'_>) -> Re
 }
 
 /// [`replay`] of the entries that are left to read.
-fn replay_history(
+fn replay_history<A: Allocator + Copy>(
     alloc: Global,
-    core: &mut Core,
-    base: &Base,
+    core: &mut Core<A>,
+    base: &Base<A>,
     entries: Reader<'_>,
 ) -> Result<bool, SetFault>
     requires begun { Agrees core.old base.now.state }

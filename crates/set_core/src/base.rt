@@ -5,7 +5,7 @@ use super::tally::{LONGEST_HISTORY, Tally};
 use boxcar::tag::Tag;
 use set_events::{Books, Counts, Fate, Finished, SetConfig};
 use set_step::{Core, SetFault};
-use std::alloc::{AllocError, Global};
+use std::alloc::{AllocError, Allocator, Global};
 use std::marker::Model;
 
 /// What a set held at its last checkpoint, or when it was opened, and what its history had added up to by then: from
@@ -17,15 +17,15 @@ use std::marker::Model;
 /// Readers: [`Base::place_of`], [`Base::numbers_given`], [`Base::finished`], [`Base::counts`], [`Base::books`],
 /// [`Base::entries`].
 #[derive(Drop)]
-pub struct Base {
-    core: Core,
+pub struct Base<A: Allocator = Global> {
+    core: Core<A>,
     tally: Tally,
     /// The numbers of the messages in the order of queueing, which the core doesn't keep across its links: contracts
     /// alone see them.
     order: Tag,
 }
 
-impl Model for Base {
+impl<A: Allocator> Model for Base<A> {
     ghost use Rattle.set_model.specs.History.{Base as BaseState};
 
     ghost Value = { BaseState };
@@ -38,7 +38,7 @@ impl Model for Base {
     ghost invariant = { λ b. IsKept (base_of b.order.numbers b.core b.tally) b.core b.tally [] };
 }
 
-impl Base {
+impl<A: Allocator + Copy> Base<A> {
     ghost use Rattle.std.specs.Prelude.{◌≤◌, ◌+◌, [], IfOk, IfErr};
     ghost use Rattle.set_model.specs.Checkpoint.{counts_in};
     ghost use Rattle.set_model.specs.History.{entries_of, longest_history, opening_of};
@@ -53,7 +53,7 @@ impl Base {
     /// nothing.
     ///
     /// Fault: 1 [`SetFault::NoMemory`], only where memory was refused.
-    pub fn opening(alloc: Global, config: &SetConfig) -> Result<Base, SetFault>
+    pub fn opening(alloc: A, config: &SetConfig) -> Result<Base<A>, SetFault>
         ensures ok { IfOk result (λ base. base ≡ opening_of config.now) }
         ensures fault { IfErr result (λ fault. fault ≡ SetFault.NoMemory) }
     {
@@ -65,7 +65,7 @@ impl Base {
     }
 
     /// What is kept so, and what was added up by then.
-    pub(crate) fn of(core: Core, tally: Tally, order: Tag) -> Base
+    pub(crate) fn of(core: Core<A>, tally: Tally, order: Tag) -> Base<A>
         requires { IsKept (base_of order.numbers core tally) core tally [] }
         ensures { result ≡ base_of order.numbers core tally }
     {
@@ -73,7 +73,7 @@ impl Base {
     }
 
     /// A core that goes on from here. It fails only where memory was refused.
-    pub(crate) fn core(&self) -> Result<Core, AllocError>
+    pub(crate) fn core(&self) -> Result<Core<A>, AllocError>
         ensures { IfOk result (λ core. Agrees core self.now.state) }
     {
         self.core.copied()

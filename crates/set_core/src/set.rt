@@ -9,7 +9,7 @@ use boxcar::tag::{Names, Tag};
 use set_events::{Actor, Answer, Books, Counts, Event, Fate, SetConfig};
 use set_history::{History, Reader};
 use set_step::{Core, Numbered, SetFault};
-use std::alloc::Global;
+use std::alloc::{Allocator, Global};
 use std::marker::Model;
 
 /// One set of links. Contracts see its base, which is the opening or its last checkpoint, what it holds, and its
@@ -25,15 +25,15 @@ use std::marker::Model;
 /// is legal, that what is kept ([`SetCore::kept`]) agrees with what it leads to, and that the tally is that of
 /// all entries since the opening; [`SetCore::replays`] and the readers say so.
 #[derive(Drop)]
-pub struct SetCore {
+pub struct SetCore<A: Allocator = Global> {
     config: SetConfig,
-    base: Base,
-    core: Core,
+    base: Base<A>,
+    core: Core<A>,
     tally: Tally,
-    history: History,
+    history: History<A>,
 }
 
-impl Model for SetCore {
+impl<A: Allocator> Model for SetCore<A> {
     ghost use Rattle.set_model.specs.History.{LinkSet};
 
     ghost Value = { LinkSet };
@@ -51,11 +51,11 @@ impl Model for SetCore {
 /// The messages that a checkpoint keeps, in the order of queueing.
 struct KeptRows;
 
-impl Names<SetCore> for KeptRows {
+impl<A: Allocator + Copy> Names<SetCore<A>> for KeptRows {
     ghost numbers = { λ set. numbers (checkpointed set.state).rows };
 }
 
-impl SetCore {
+impl<A: Allocator + Copy> SetCore<A> {
     ghost use Rattle.std.specs.Prelude.{◌≡◌, ◌<◌, ◌≤◌, ◌^◌, ◌↔◌, ◌+◌, IfOk, IfErr, OnOk, OnErr, length, sum};
     ghost use Rattle.set_model.specs.State.{given, settings_of, link_count, is_up as is_up_in, is_settled as is_settled_in, unacked_in};
     ghost use Rattle.set_model.specs.Sound.{IsSound};
@@ -68,7 +68,7 @@ impl SetCore {
     /// A set as this configuration has it: no messages, no link up, no history.
     ///
     /// Fault: 1 [`SetFault::NoMemory`], only where memory was refused.
-    pub fn new(alloc: Global, config: &SetConfig) -> Result<SetCore, SetFault>
+    pub fn new(alloc: A, config: &SetConfig) -> Result<SetCore<A>, SetFault>
         ensures ok { IfOk result (λ set. set ≡ new_set config.now) }
         ensures fault { IfErr result (λ fault. fault ≡ SetFault.NoMemory) }
     {
@@ -148,7 +148,7 @@ impl SetCore {
     {
         let kept = self.core.kept()?;
         let again = kept.copied()?;
-        let order = Tag::of::<SetCore, KeptRows>(self);
+        let order = Tag::of::<SetCore<A>, KeptRows>(self);
         // all memory is taken by now
         self.base = Base::of(again, self.tally, order);
         self.core = kept;
@@ -157,7 +157,7 @@ impl SetCore {
     }
 
     /// What the set goes on from, and its history starts at: the opening, or its last checkpoint.
-    pub fn base(&self) -> &Base
+    pub fn base(&self) -> &Base<A>
         ensures { result.now ≡ self.now.base }
     {
         &self.base
@@ -265,7 +265,7 @@ impl SetCore {
     }
 
     /// The base, and all that was asked and answered since, in order, of a set that is given up. It takes no memory.
-    pub fn into_base_and_history(self) -> (Base, History)
+    pub fn into_base_and_history(self) -> (Base<A>, History<A>)
         ensures base { result.0 ≡ self.base }
         ensures history { result.1.items ≡ self.history }
     {
@@ -284,7 +284,7 @@ impl SetCore {
 
     /// What the set keeps: queues of numbers and a fate for each, the bodies, the links, and where its
     /// streams run. It agrees with what the set holds.
-    pub fn kept(&self) -> &Core
+    pub fn kept(&self) -> &Core<A>
         ensures { Agrees result.now self.now.state }
     {
         &self.core

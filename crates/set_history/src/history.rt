@@ -5,7 +5,7 @@ use super::reader::Reader;
 use super::record::{KeptAnswer, KeptEvent, Record, body_in_answer, body_in_event};
 use l2_units::LONGEST_BODY;
 use set_events::{Actor, Answer, Event};
-use std::alloc::{AllocError, Global};
+use std::alloc::{AllocError, Allocator, Global};
 use std::marker::Model;
 
 /// All that was asked of a set and answered, in order.
@@ -13,12 +13,12 @@ use std::marker::Model;
 /// Contracts see the entries, and the room that is left. An entry takes 24 octets of memory and those of its bodies,
 /// and each call costs the same however many entries there are.
 #[derive(Drop)]
-pub struct History {
-    records: Vec<Record>,
-    octets: Vec<u8>,
+pub struct History<A: Allocator = Global> {
+    records: Vec<Record, A>,
+    octets: Vec<u8, A>,
 }
 
-impl Model for History {
+impl<A: Allocator> Model for History<A> {
     ghost use Rattle.std.specs.Prelude.{◌-◌, vec_len, vec_capacity};
     ghost use Rattle.set_history.specs.Told.{HistoryState, told, AreAll};
 
@@ -33,12 +33,12 @@ impl Model for History {
     ghost invariant = { λ h. AreAll h.records.items h.octets.items };
 }
 
-impl History {
+impl<A: Allocator + Copy> History<A> {
     ghost use Rattle.std.specs.Prelude.{◌≡◌, ◌<◌, ◌^◌, ◌++◌, [], ◌∷◌, length, OnOk};
     ghost use Rattle.set_history.specs.Told.{HasRoom};
 
     /// No entries, and no room.
-    pub fn new(alloc: Global) -> History
+    pub fn new(alloc: A) -> History<A>
         ensures { result.items ≡ [] }
     {
         History {
@@ -103,7 +103,7 @@ impl History {
 }
 
 /// Appends octets for which there is room.
-fn append(octets: &mut Vec<u8>, more: &[u8])
+fn append<A: Allocator>(octets: &mut Vec<u8, A>, more: &[u8])
     requires { vec_len octets.old + length more.now ≤ vec_capacity octets.old }
     ensures items { octets.new.items ≡ octets.old.items ++ more.now }
     ensures len { vec_len octets.new ≡ vec_len octets.old + length more.now }

@@ -11,10 +11,10 @@ module _ (run : ℕ → ℕ → State → State) (step : ℕ → State → State
   last_step zero from s = grind (arith, none, next)
   last_step (suc n) from s = grind (arith, next, last_step n (suc from) (step from s))
 
-  pub becomes_next : (n from at : ℕ) (old now new : Parts) → at ≡ from + n → Becomes old now (run from n) → Becomes now new (step at) → Becomes old new (run from (n + 1))
+  pub becomes_next : {A : Type 0} (n from at : ℕ) (old now new : Parts A) → at ≡ from + n → Becomes old now (run from n) → Becomes now new (step at) → Becomes old new (run from (n + 1))
   becomes_next n from at old now new is before last s f = rw (last_step n from s, ← is) (last (run from n s) (before s f))
 
-pub count_is : (parts : Parts) (s : State) → StandsFor (kept_of parts) s → link_count s ≡ length parts.links.items
+pub count_is : {A : Type 0} (parts : Parts A) (s : State) → StandsFor (kept_of parts) s → link_count s ≡ length parts.links.items
 count_is parts s f = sym (ap length f.links)
 
 -- one of so many that are left declares, or one after it

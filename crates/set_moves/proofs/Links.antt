@@ -59,15 +59,15 @@ place_for {links} {read} n o to q same is below there many known out =
 
 -- What an event of a link does where the link is there, and as the event needs it.
 -- the same of the state that the links stand for
-pub is_in : (parts : Parts) (s : State) (n : ℕ) (phase : Phase) → Agrees (kept_of parts) s → IsHere parts.links.items n phase → IsHere s.links n phase
+pub is_in : {A : Type 0} (parts : Parts A) (s : State) (n : ℕ) (phase : Phase) → Agrees (kept_of parts) s → IsHere parts.links.items n phase → IsHere s.links n phase
 is_in parts s n phase a h = rw (← a.stands.links) h
 
 -- What is answered there.
-pub served : (s : State) (n : ℕ) (outcome : LinkState → Outcome) (answer : Answer) (parts : Parts) (i : IsHere s.links n Up) → Gives (outcome i.link) answer parts → Gives (in_service n s outcome) answer parts
+pub served : {A : Type 0} (s : State) (n : ℕ) (outcome : LinkState → Outcome) (answer : Answer) (parts : Parts A) (i : IsHere s.links n Up) → Gives (outcome i.link) answer parts → Gives (in_service n s outcome) answer parts
 served s n outcome answer parts i g = rw i.there (rw (ap has_phase_up i.phase_is) g)
 
 -- what is answered, where the link is there
-pub known_here : (old parts : Parts) (s : State) (n : ℕ) (answer : Answer) (outcome : Outcome) → Agrees (kept_of old) s → n < length old.links.items → Gives outcome answer parts → Gives (on_link n s (λ link. outcome)) answer parts
+pub known_here : {A : Type 0} (old parts : Parts A) (s : State) (n : ℕ) (answer : Answer) (outcome : Outcome) → Agrees (kept_of old) s → n < length old.links.items → Gives outcome answer parts → Gives (on_link n s (λ link. outcome)) answer parts
 known_here old parts s n answer outcome a known g = rw (← a.stands.links, (present old.links.items n known).1) g
 
 pub phase_here : (links : List Link) (n : ℕ) (o : Option Link) → slice_get links n ≡ o → IfSome (option_map (λ (l : Link). l.phase) o) (IsHere links n)
@@ -79,7 +79,7 @@ pub out_at : (links : List Link) (n : ℕ) (phase : Phase) → IsHere links n ph
 out_at links n phase h e link there = ap (λ (l : Link). has_phase_up l.phase) (same_at links n h.link link h.there there) ∙ ap has_phase_up h.phase_is ∙ e
 
 -- After room was taken.
-pub agrees_same : (old new : Parts) (s : State) → SameButRoom old new → Agrees (kept_of old) s → Agrees (kept_of new) s
+pub agrees_same : {A : Type 0} (old new : Parts A) (s : State) → SameButRoom old new → Agrees (kept_of old) s → Agrees (kept_of new) s
 agrees_same old new s same a = subst (λ k. Agrees k s) (sym same.kept) a
 
 -- THE TARGET beside a link that is out, and once it's left
@@ -98,14 +98,14 @@ pub counted_set : (bound : ℕ) (links new : List Link) (n : ℕ) (link : Link) 
 counted_set bound links new n link all e one m other there = grind (arith, nat_tests, at_set)
 
 -- A SET IS WHOLE that stands for a state.
-pub whole_of : (parts : Parts) → Holds (kept_of parts) → IsWhole parts
+pub whole_of : {A : Type 0} (parts : Parts A) → Holds (kept_of parts) → IsWhole parts
 whole_of parts h = grind (arith, length-map)
 
-pub here_room : (parts : Parts) (n orders : ℕ) (phase : Phase) → IsHere parts.links.items n phase → has_phase_up phase ≡ false → IsReady n orders parts → length (on n parts.queues.lists) ≤ room_at (fate_on (target parts.links.items)) parts.queues.rooms
+pub here_room : {A : Type 0} (parts : Parts A) (n orders : ℕ) (phase : Phase) → IsHere parts.links.items n phase → has_phase_up phase ≡ false → IsReady n orders parts → length (on n parts.queues.lists) ≤ room_at (fate_on (target parts.links.items)) parts.queues.rooms
 here_room parts n orders phase h down r = grind (arith, beside_out, out_at)
 
 -- room for an order once the link is left, and what stood back for it turned
-pub has_room_left : (n : ℕ) (old new : Parts) → IsReady n 1 old → TakesTurns (back_count n old.queues.lists) old.queues new.queues → new.bodies ≡ old.bodies → target new.links.items ≡ target_beside n old.links.items → HasRoom (fate_on (target new.links.items)) new
+pub has_room_left : {A : Type 0} (n : ℕ) (old new : Parts A) → IsReady n 1 old → TakesTurns (back_count n old.queues.lists) old.queues new.queues → new.bodies ≡ old.bodies → target new.links.items ≡ target_beside n old.links.items → HasRoom (fate_on (target new.links.items)) new
 has_room_left n old new r turns bodies same = grind arith
 
 pub wider : (bound more : ℕ) (links : List Link) → bound ≤ more → AreCounted bound links → AreCounted more links
@@ -131,23 +131,23 @@ pub on_less : (n : ℕ) (q q' : Lists) → NoLonger q q' → length (on n q') �
 on_less n q q' less = let u = less (Unacked n) in let w = less (Waiting n) in let h = less (Held n) in omega (arith, u, w, h, on_length n q, on_length n q')
 
 -- THE NUMBERS OF EACH LINK are those of the set
-pub profile_of : (parts : Parts) (s : State) (n : ℕ) (link : LinkState) → Agrees (kept_of parts) s → slice_get s.links n ≡ Some link → link.profile ≡ parts.config.profile
+pub profile_of : {A : Type 0} (parts : Parts A) (s : State) (n : ℕ) (link : LinkState) → Agrees (kept_of parts) s → slice_get s.links n ≡ Some link → link.profile ≡ parts.config.profile
 profile_of parts s n link a there = (a.sound.links n link there).profile ∙ sym (ap (λ (m : Settings). m.profile) a.stands.settings)
 
-pub reach_here : (parts : Parts) (n : ℕ) (reached : Reached) → Holds (kept_of parts) → n < length parts.links.items → IsReach parts.config.profile reached → IsReach (profile_at n parts.queues.lists) reached
+pub reach_here : {A : Type 0} (parts : Parts A) (n : ℕ) (reached : Reached) → Holds (kept_of parts) → n < length parts.links.items → IsReach parts.config.profile reached → IsReach (profile_at n parts.queues.lists) reached
 reach_here parts n reached h known reach =
     let x = present h.0.links n (rw h.1.stands.links at known) in
     subst (λ (p : Profile). IsReach p reached) (sym (h.1.stands.profiles n x.0 x.1 ∙ profile_of parts h.0 n x.0 h.1 x.1)) reach
 
 -- AN ORDER IS IGNORED that is for no link of the set, and an acknowledgement for one that wasn't left
-pub none_there : (parts : Parts) (s : State) (n : ℕ) (by : LinkState → Phase → State → Obeyed) → Agrees (kept_of parts) s → None ≡ option_map (λ (l : LinkState). l.phase) (slice_get parts.links.items n) → Obeys (obeyed_at n by s) Ignored parts
+pub none_there : {A : Type 0} (parts : Parts A) (s : State) (n : ℕ) (by : LinkState → Phase → State → Obeyed) → Agrees (kept_of parts) s → None ≡ option_map (λ (l : LinkState). l.phase) (slice_get parts.links.items n) → Obeys (obeyed_at n by s) Ignored parts
 none_there parts s n by a none = go (slice_get s.links n) (none ∙ ap (λ (ls : List LinkState). option_map (λ (l : LinkState). l.phase) (slice_get ls n)) a.stands.links)
   where
     go : (o : Option LinkState) → None ≡ option_map (λ (l : LinkState). l.phase) o → Obeys (at_link n s (λ link. by link link.phase s) o) Ignored parts
     go None e = record { took_is = refl; stands = a.stands }
     go (Some link) e = absurd cc
 
-pub not_left : (parts : Parts) (s : State) (n : ℕ) (reached : Reached) → Agrees (kept_of parts) s → (Some Down ≡ option_map (λ (l : LinkState). l.phase) (slice_get parts.links.items n) → ⊥) → Obeys (obeyed_at n (answered reached n) s) Ignored parts
+pub not_left : {A : Type 0} (parts : Parts A) (s : State) (n : ℕ) (reached : Reached) → Agrees (kept_of parts) s → (Some Down ≡ option_map (λ (l : LinkState). l.phase) (slice_get parts.links.items n) → ⊥) → Obeys (obeyed_at n (answered reached n) s) Ignored parts
 not_left parts s n reached a other = go (slice_get s.links n) (λ e. other (e ∙ sym (ap (λ (ls : List LinkState). option_map (λ (l : LinkState). l.phase) (slice_get ls n)) a.stands.links)))
   where
     of_phase : (link : LinkState) (phase : Phase) → (Some Down ≡ Some phase → ⊥) → Obeys (answered reached n link phase s) Ignored parts

@@ -200,7 +200,7 @@ turns_one home code to old new o on e rooms room = record {
 }
 
 -- the loop: so many turned back
-pub record Turning (home : ℕ) (old now : Parts) : Type 0 where
+pub record Turning {A : Type 0} (home : ℕ) (old now : Parts A) : Type 0 where
   pub whole : IsWhole now
   pub links : now.links ≡ old.links
   pub bodies : now.bodies ≡ old.bodies
@@ -209,7 +209,7 @@ pub record Turning (home : ℕ) (old now : Parts) : Type 0 where
   pub turns : TakesTurns turned old.queues now.queues
   pub fewer : back_from (16 * home) 16 now.queues.lists + turned ≡ back_from (16 * home) 16 old.queues.lists
 
-module _ (home : ℕ) (old now : Parts) (g : Turning home old now) (code : ℕ) (o : IsOldest home code now.queues.lists) where
+module _ {A : Type 0} (home : ℕ) (old now : Parts A) (g : Turning home old now) (code : ℕ) (o : IsOldest home code now.queues.lists) where
   pub room_for_one : HaveRoom (length old.links.items) (back_from (16 * home) 16 old.queues.lists) old.queues.rooms → HaveRoom (length now.links.items) 1 now.queues.rooms
   room_for_one room link low =
       let enough = room link (omega (arith, low, ap (λ links. length links.items) g.links)) in

@@ -14,7 +14,7 @@ use Rattle.l2_window.specs.Window.{fsn_count}
 use Rattle.set_route.specs.Routing.{most_links}
 pub use Rattle.set_model.specs.declared.phase.Phase.TheVariants.{Up, Down, Settled}
 
-abbrev pub kept_of : Parts → Kept
+abbrev pub kept_of : {A : Type 0} → Parts A → Kept
 kept_of parts = record {
   settings = settings_of parts.config;
   lists = parts.queues.lists;
@@ -27,7 +27,7 @@ kept_of parts = record {
 }
 
 -- one link for each queue and each place of the routing, and 16 at most
-pub record IsWhole (parts : Parts) : Type 0 where
+pub record IsWhole {A : Type 0} (parts : Parts A) : Type 0 where
   pub as_many : length parts.queues.lists.links ≡ length parts.links.items
   pub routed : parts.routes.links ≡ length parts.links.items
   pub few : length parts.links.items ≤ most_links
@@ -61,36 +61,36 @@ IsReach profile Unknown = Unit {0}
 IsReach profile Unanswered = Unit {0}
 
 -- WHATEVER STATE the old parts stand for, the new ones stand for what becomes of it,
-abbrev pub Becomes : Parts → Parts → (State → State) → Type 0
+abbrev pub Becomes : {A : Type 0} → Parts A → Parts A → (State → State) → Type 0
 Becomes old new change = (s : State) → StandsFor (kept_of old) s → StandsFor (kept_of new) (change s)
 
 -- of a state that has this link
-abbrev pub OfStates : ℕ → Parts → (LinkState → State → Type 0) → Type 0
+abbrev pub OfStates : {A : Type 0} → ℕ → Parts A → (LinkState → State → Type 0) → Type 0
 OfStates number parts fact =
     (s : State) (link : LinkState) → slice_get s.links number ≡ Some link → StandsFor (kept_of parts) s → fact link s
 
-abbrev pub BecomesAt : ℕ → Parts → Parts → (LinkState → State → State) → Type 0
+abbrev pub BecomesAt : {A : Type 0} → ℕ → Parts A → Parts A → (LinkState → State → State) → Type 0
 BecomesAt number old new change = OfStates number old (λ link s. StandsFor (kept_of new) (change link s))
 
 -- or of one that the old parts agree with, and that has this link
-abbrev pub AgreedBecomes : ℕ → Parts → Parts → (LinkState → State → State) → Type 0
+abbrev pub AgreedBecomes : {A : Type 0} → ℕ → Parts A → Parts A → (LinkState → State → State) → Type 0
 AgreedBecomes number old new change = (s : State) (link : LinkState) → slice_get s.links number ≡ Some link
     → Agrees (kept_of old) s → StandsFor (kept_of new) (change link s)
 
 -- what is answered to a state, and kept then, are this outcome
-pub record Gives (outcome : Outcome) (answer : Answer) (parts : Parts) : Type 0 where
+pub record Gives {A : Type 0} (outcome : Outcome) (answer : Answer) (parts : Parts A) : Type 0 where
   pub answer_is : answer ≡ outcome.answer
   pub stands : StandsFor (kept_of parts) outcome.state
 
 -- whatever state the old parts agree with
-abbrev pub Answers : Parts → Parts → Answer → (State → Outcome) → Type 0
+abbrev pub Answers : {A : Type 0} → Parts A → Parts A → Answer → (State → Outcome) → Type 0
 Answers old new answer outcome = (s : State) → Agrees (kept_of old) s → Gives (outcome s) answer new
 
 -- what became of an order, and is kept then, are this
-pub record Obeys (obeyed : Obeyed) (took : Took) (parts : Parts) : Type 0 where
+pub record Obeys {A : Type 0} (obeyed : Obeyed) (took : Took) (parts : Parts A) : Type 0 where
   pub took_is : took ≡ obeyed.took
   pub stands : StandsFor (kept_of parts) obeyed.state
 
 -- whatever state the old parts agree with
-abbrev pub AllObey : Parts → Parts → Took → (State → Obeyed) → Type 0
+abbrev pub AllObey : {A : Type 0} → Parts A → Parts A → Took → (State → Obeyed) → Type 0
 AllObey old new took obeyed = (s : State) → Agrees (kept_of old) s → Obeys (obeyed s) took new

@@ -15,7 +15,7 @@ use l3_orders::Order;
 use set_events::{Answer, Fate, Refusal};
 use set_model::Phase;
 use set_route::{Code, changeback_code, home_of_code};
-use std::alloc::AllocError;
+use std::alloc::{AllocError, Allocator};
 
 /// A set has at most so many links, and a home so many codes.
 const MOST_LINKS: usize = 16;
@@ -23,7 +23,11 @@ const MOST_LINKS: usize = 16;
 /// Streams whose home this link is are to come back to it: a declaration on every other link that is up,
 /// the lowest-numbered first, where streams of this home run and its code is free.
 #[tactic(auto, using(crate::proofs::Links::whole_of))]
-pub fn restore(parts: &mut Parts, number: u8, answer: &mut Answer) -> Result<(), AllocError>
+pub fn restore<A: Allocator + Copy>(
+    parts: &mut Parts<A>,
+    number: u8,
+    answer: &mut Answer,
+) -> Result<(), AllocError>
     requires holds { Holds (kept_of parts.old) }
     ensures ok { OnOk result (Answers parts.old parts.new answer.new
         (λ s. in_service number s (λ link. comes_back number s))) }
@@ -59,7 +63,11 @@ pub fn restore(parts: &mut Parts, number: u8, answer: &mut Answer) -> Result<(),
 /// No acknowledgement came: what stands back for this link waits for it, code by code, and all its codes
 /// are free (own).
 #[tactic(auto, using(crate::proofs::Links::whole_of))]
-pub fn time_out(parts: &mut Parts, number: u8, answer: &mut Answer) -> Result<(), AllocError>
+pub fn time_out<A: Allocator + Copy>(
+    parts: &mut Parts<A>,
+    number: u8,
+    answer: &mut Answer,
+) -> Result<(), AllocError>
     requires holds { Holds (kept_of parts.old) }
     ensures ok { OnOk result (Answers parts.old parts.new answer.new
         (λ s. on_link number s (λ link. runs_out number s))) }
@@ -87,7 +95,7 @@ pub fn time_out(parts: &mut Parts, number: u8, answer: &mut Answer) -> Result<()
 
 /// Whether streams can come back from some link.
 #[tactic(auto, using(crate::proofs::Declaring::count_is, crate::proofs::Declaring::declares_next))]
-fn has_alternative(parts: &Parts, number: u8) -> bool
+fn has_alternative<A: Allocator + Copy>(parts: &Parts<A>, number: u8) -> bool
     requires whole { IsWhole parts.now }
     requires known { number < length parts.now.links.items }
     ensures { (s : State) → StandsFor (kept_of parts.now) s
@@ -102,7 +110,7 @@ fn has_alternative(parts: &Parts, number: u8) -> bool
 }
 
 /// Whether streams of this home can come back from that link.
-fn may_declare(parts: &Parts, home: u8, alternative: u8) -> bool
+fn may_declare<A: Allocator + Copy>(parts: &Parts<A>, home: u8, alternative: u8) -> bool
     requires home { home < 16 }
     requires alternative { alternative < 16 }
     ensures { (s : State) → StandsFor (kept_of parts.now) s
@@ -114,7 +122,7 @@ fn may_declare(parts: &Parts, home: u8, alternative: u8) -> bool
 }
 
 /// Whether a code of this home is open or spent.
-fn has_code_in_use(parts: &Parts, home: u8) -> bool
+fn has_code_in_use<A: Allocator + Copy>(parts: &Parts<A>, home: u8) -> bool
     requires { home < 16 }
     ensures { (s : State) → StandsFor (kept_of parts.now) s
         → result ≡ some_in_use (code_for home 0) 16 s }
@@ -130,7 +138,7 @@ fn has_code_in_use(parts: &Parts, home: u8) -> bool
 /// What waits for the code's acknowledgement waits for its home from now on, and its streams run there;
 /// the code is free.
 #[tactic(auto, using(set_queues::proofs::Standing::links))]
-pub(crate) fn release(parts: &mut Parts, code: u8)
+pub(crate) fn release<A: Allocator + Copy>(parts: &mut Parts<A>, code: u8)
     requires whole { IsWhole parts.old }
     requires known { home_of code < length parts.old.links.items }
     requires room { length (back_at code parts.old) ≤ home_room code parts.old }

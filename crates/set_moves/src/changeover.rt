@@ -23,6 +23,7 @@ use set_events::{SetConfig, Took};
 use set_model::{Phase, Reached};
 use set_queues::fate_on;
 use set_route::Code;
+use std::alloc::Allocator;
 
 /// The body of an order, as this set writes it.
 pub(crate) fn body_of(config: &SetConfig, order: &Order) -> ArrayVec<u8, 273>
@@ -37,7 +38,7 @@ pub(crate) fn body_of(config: &SetConfig, order: &Order) -> ArrayVec<u8, 273>
 
 /// An order stands last, for the target.
 #[tactic(auto, using(set_queues::proofs::Standing::links_stay))]
-pub fn queue(parts: &mut Parts, order: Order)
+pub fn queue<A: Allocator + Copy>(parts: &mut Parts<A>, order: Order)
     requires whole { IsWhole parts.old }
     requires order { IsOrder parts.old.config.profile order }
     requires room { HasRoom (order_fate parts.old) parts.old }
@@ -58,7 +59,7 @@ pub fn queue(parts: &mut Parts, order: Order)
 /// The link is left: out of service, its messages stay on it until it settles (Q.704 5.3). Streams on their way back
 /// to it run where they came from, and what stood back for it goes there.
 #[tactic(auto, using(crate::proofs::Links::found, set_model::proofs::Lists::same_at))]
-pub fn leave(parts: &mut Parts, number: u8, blind: bool)
+pub fn leave<A: Allocator + Copy>(parts: &mut Parts<A>, number: u8, blind: bool)
     requires holds { Holds (kept_of parts.old) }
     requires known { number < length parts.old.links.items }
     requires up { AtLink number parts.old.links.items (λ link. link.phase ≡ Up) }
@@ -80,7 +81,7 @@ pub fn leave(parts: &mut Parts, number: u8, blind: bool)
 
 /// An order is carried out (Q.704 5.4, 5.6, 6.3).
 #[tactic(auto, using(crate::proofs::Links::whole_of))]
-pub fn obey(parts: &mut Parts, order: Order) -> Took
+pub fn obey<A: Allocator + Copy>(parts: &mut Parts<A>, order: Order) -> Took
     requires holds { Holds (kept_of parts.old) }
     requires counted { AreCounted (2 ^ 61) parts.old.links.items }
     requires order { IsOrder parts.old.config.profile order }
@@ -111,7 +112,7 @@ pub fn obey(parts: &mut Parts, order: Order) -> Took
 /// A changeover order: a link that is up is left and answered for; a link that was left settles, with
 /// no answer (own); for one that settled already the answer of its last life goes out, once (own).
 #[tactic(auto, using(crate::proofs::Links::whole_of, crate::proofs::Links::found))]
-fn change_over(parts: &mut Parts, number: u8, reached: Reached) -> Took
+fn change_over<A: Allocator + Copy>(parts: &mut Parts<A>, number: u8, reached: Reached) -> Took
     requires holds { Holds (kept_of parts.old) }
     requires counted { AreCounted (2 ^ 61) parts.old.links.items }
     requires reached { IsReach parts.old.config.profile reached }
@@ -143,7 +144,7 @@ fn change_over(parts: &mut Parts, number: u8, reached: Reached) -> Took
 
 /// An acknowledgement settles a link that waits for one (Q.704 5.4.3, 5.6.3).
 #[tactic(auto, using(crate::proofs::Links::whole_of))]
-fn answer(parts: &mut Parts, number: u8, reached: Reached) -> Took
+fn answer<A: Allocator + Copy>(parts: &mut Parts<A>, number: u8, reached: Reached) -> Took
     requires holds { Holds (kept_of parts.old) }
     requires counted { AreCounted (2 ^ 61) parts.old.links.items }
     requires reached { IsReach parts.old.config.profile reached }

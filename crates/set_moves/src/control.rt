@@ -10,6 +10,7 @@ use l2_pcr::Pcr;
 use l2_units::Header;
 use l2_window::{Choice, HeardPart, Window};
 use set_events::Method;
+use std::alloc::Allocator;
 use std::marker::Model;
 
 /// The error control of a link, in the link's present life.
@@ -57,7 +58,7 @@ impl Control {
     }
 
     /// What is to be sent next, where the bodies of the unacknowledged messages have so many octets.
-    pub fn choice(&self, window: &Window, octets: u32) -> Choice
+    pub fn choice<A: Allocator + Copy>(&self, window: &Window<A>, octets: u32) -> Choice
         ensures value { result ≡ choice_of octets self.now window.now }
         ensures possible { IsPossible result window.now }
     {
@@ -68,7 +69,12 @@ impl Control {
     }
 
     /// Sends what was chosen: the header of the unit.
-    pub fn send(&mut self, choice: Choice, window: &Window, octets: u32) -> Header
+    pub fn send<A: Allocator + Copy>(
+        &mut self,
+        choice: Choice,
+        window: &Window<A>,
+        octets: u32,
+    ) -> Header
         requires { choice ≡ choice_of octets self.old window.now }
         ensures head { result ≡ head_of self.old window.now (fsn_of choice window.now) }
         ensures state { self.new ≡ control_after choice octets self.old window.now }
@@ -81,7 +87,12 @@ impl Control {
 
     /// What a heard unit with this header means; `is_msu` tells an MSU from a FISU. The messages that
     /// it acknowledges still stand in the window.
-    pub fn hear(&mut self, window: &Window, head: Header, is_msu: bool) -> HeardPart
+    pub fn hear<A: Allocator + Copy>(
+        &mut self,
+        window: &Window<A>,
+        head: Header,
+        is_msu: bool,
+    ) -> HeardPart
         requires { IsHeadOf window.now.profile head }
         ensures part { result ≡ part_of self.old window.now head is_msu }
         ensures state { self.new ≡ control_heard self.old window.now head is_msu }

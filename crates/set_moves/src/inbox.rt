@@ -3,20 +3,20 @@ ghost use Rattle.std.specs.Prelude.{◌≡◌, ◌≤◌, ℕ, List, length, IfO
 
 use arrayvec::ArrayVec;
 use l2_units::{LONGEST_BODY, body_of};
-use std::alloc::{AllocError, Global};
+use std::alloc::{AllocError, Allocator, Global};
 use std::collections::VecDeque;
 use std::marker::Model;
 
 /// The messages heard for users, oldest first.
-pub type Inbox = VecDeque<HeardBody>;
+pub type Inbox<A = Global> = VecDeque<HeardBody<A>, A>;
 
 /// The body of a heard message, in as much memory as it has octets: a unit has room for the longest.
 #[derive(Drop)]
-pub struct HeardBody {
-    octets: Vec<u8>,
+pub struct HeardBody<A: Allocator = Global> {
+    octets: Vec<u8, A>,
 }
 
-impl Model for HeardBody {
+impl<A: Allocator> Model for HeardBody<A> {
     ghost Value = { List ℕ };
 
     ghost view = { λ b. b.octets.items };
@@ -24,9 +24,9 @@ impl Model for HeardBody {
     ghost invariant = { λ b. length b.octets.items ≤ 273 };
 }
 
-impl HeardBody {
+impl<A: Allocator + Copy> HeardBody<A> {
     /// The body of a unit.
-    pub fn new(alloc: Global, body: &ArrayVec<u8, LONGEST_BODY>) -> Result<HeardBody, AllocError>
+    pub fn new(alloc: A, body: &ArrayVec<u8, LONGEST_BODY>) -> Result<HeardBody<A>, AllocError>
         ensures { IfOk result (λ heard. heard ≡ body.now.items) }
     {
         Ok(HeardBody {
@@ -35,7 +35,7 @@ impl HeardBody {
     }
 
     /// The same body again.
-    pub fn copied(&self) -> Result<HeardBody, AllocError>
+    pub fn copied(&self) -> Result<HeardBody<A>, AllocError>
         ensures { IfOk result (λ heard. heard ≡ self.now) }
     {
         Ok(HeardBody {

@@ -17,25 +17,25 @@ use set_events::{Answer, Fate, Finished, Refusal, SetConfig};
 use set_model::{Phase, service_indicator, stream_of_body};
 use set_queues::{Bodies, Kind, Message, Queues, fate_on};
 use set_route::{Place, Routes};
-use std::alloc::AllocError;
+use std::alloc::{AllocError, Allocator, Global};
 
 /// What a set keeps.
 #[derive(Drop)]
-pub struct Parts {
+pub struct Parts<A: Allocator = Global> {
     /// What it was opened with.
     pub config: SetConfig,
     /// Its links, by their numbers.
-    pub links: Vec<Link>,
+    pub links: Vec<Link, A>,
     /// Where its messages stand.
-    pub queues: Queues,
+    pub queues: Queues<A>,
     /// The bodies of its messages, by their numbers.
-    pub bodies: Bodies,
+    pub bodies: Bodies<A>,
     /// How many of its messages left it, since nothing more could become of them.
     pub finished: Finished,
     /// Where its streams run.
     pub routes: Routes,
     /// The messages heard for users.
-    pub inbox: Inbox,
+    pub inbox: Inbox<A>,
 }
 
 /// The lowest-numbered link that is up, if any (own).
@@ -73,7 +73,7 @@ fn up_links(links: &[Link]) -> ArrayVec<bool, 16>
 
 /// Where the link of this number stands in its life, if there is one.
 #[tactic(auto, using(crate::proofs::Links::phase_here))]
-pub fn phase_of(parts: &Parts, number: u8) -> Option<Phase>
+pub fn phase_of<A: Allocator + Copy>(parts: &Parts<A>, number: u8) -> Option<Phase>
     ensures value { result ≡ option_map (λ link. link.phase)
         (slice_get parts.now.links.items number) }
     ensures here { IfSome result (IsHere parts.now.links.items number) }
@@ -82,7 +82,7 @@ pub fn phase_of(parts: &Parts, number: u8) -> Option<Phase>
 }
 
 /// Why an event that needs the link in service is refused, if it is.
-pub fn unserved(parts: &Parts, number: u8) -> Option<Refusal>
+pub fn unserved<A: Allocator + Copy>(parts: &Parts<A>, number: u8) -> Option<Refusal>
     ensures refused { IfSome result (λ why. (s : State) (next : LinkState → Outcome)
         → Agrees (kept_of parts.now) s
         → Gives (in_service number s next) (Answer.Refused why) parts.now) }
@@ -96,7 +96,7 @@ pub fn unserved(parts: &Parts, number: u8) -> Option<Refusal>
 }
 
 /// Takes room for one more message there. Nothing else changes, also where memory is refused.
-pub fn make_room(parts: &mut Parts, fate: Fate) -> Result<(), AllocError>
+pub fn make_room<A: Allocator + Copy>(parts: &mut Parts<A>, fate: Fate) -> Result<(), AllocError>
     requires known { IsKnown fate parts.old.queues.lists }
     requires queued { IsQueued fate }
     ensures room { OnOk result (HasRoom fate parts.new) }
@@ -110,7 +110,11 @@ pub fn make_room(parts: &mut Parts, fate: Fate) -> Result<(), AllocError>
 /// Takes room for all that stand on the link where they go once it's out of service, and for so many
 /// orders; and wherever what stands back for the link may turn. Nothing else changes, also where memory is
 /// refused.
-pub fn make_room_beside(parts: &mut Parts, number: u8, orders: usize) -> Result<(), AllocError>
+pub fn make_room_beside<A: Allocator + Copy>(
+    parts: &mut Parts<A>,
+    number: u8,
+    orders: usize,
+) -> Result<(), AllocError>
     requires whole { IsWhole parts.old }
     requires known { number < length parts.old.links.items }
     ensures room { OnOk result (IsReady number orders parts.new) }
@@ -130,7 +134,10 @@ pub fn make_room_beside(parts: &mut Parts, number: u8, orders: usize) -> Result<
 
 /// Takes room in the link's queue for all that is parked. Nothing else changes, also where memory is
 /// refused.
-pub fn make_room_parked(parts: &mut Parts, number: u8) -> Result<(), AllocError>
+pub fn make_room_parked<A: Allocator + Copy>(
+    parts: &mut Parts<A>,
+    number: u8,
+) -> Result<(), AllocError>
     requires known { IsKnown (Fate.Waiting number) parts.old.queues.lists }
     ensures room { OnOk result (length parts.new.queues.lists.parked
         ≤ room_at (Fate.Waiting number) parts.new.queues.rooms) }
@@ -143,7 +150,7 @@ pub fn make_room_parked(parts: &mut Parts, number: u8) -> Result<(), AllocError>
 }
 
 /// A new message stands last where its fate tells: its number.
-pub fn stand_last(parts: &mut Parts, body: &[u8], fate: Fate) -> u64
+pub fn stand_last<A: Allocator + Copy>(parts: &mut Parts<A>, body: &[u8], fate: Fate) -> u64
     requires fits { length body.now ≤ 273 }
     requires known { IsKnown fate parts.old.queues.lists }
     requires queued { IsQueued fate }
@@ -176,7 +183,7 @@ pub fn stand_last(parts: &mut Parts, body: &[u8], fate: Fate) -> u64
 }
 
 /// Where a new message of this stream stands.
-pub fn fate_of_new(parts: &Parts, stream: u8) -> Fate
+pub fn fate_of_new<A: Allocator + Copy>(parts: &Parts<A>, stream: u8) -> Fate
     requires whole { IsWhole parts.now }
     requires stream { stream < 16 }
     ensures value { (s : State) → StandsFor (kept_of parts.now) s

@@ -10,12 +10,13 @@ ghost use Rattle.set_moves.specs.Parts.{Down, IsWhole, AreCounted, AtLink, IsOut
 use super::parts::{Parts, target_of};
 use set_events::{DiscardCause, Fate};
 use set_model::{Phase, Reached};
+use std::alloc::Allocator;
 
 /// The link settles: what reached the far end is acknowledged, and what stands on it is moved.
 ///
 /// Conditions: a link of the set that isn't up, and room for all that stand on it where they go.
 #[tactic(auto, using(crate::proofs::Links::same_target))]
-pub fn settle(parts: &mut Parts, number: u8, reached: Reached)
+pub fn settle<A: Allocator + Copy>(parts: &mut Parts<A>, number: u8, reached: Reached)
     requires whole { IsWhole parts.old }
     requires counted { AreCounted (2 ^ 61) parts.old.links.items }
     requires reached { IsReach (profile_at number parts.old.queues.lists) reached }
@@ -48,7 +49,7 @@ fn is_told(reached: Reached) -> bool
 
 /// What reached the far end is acknowledged, or what might be doubled is discarded (own).
 #[tactic(auto, using(crate::proofs::Links::acked_less, crate::proofs::Links::on_less, crate::proofs::Links::set_view, set_model::proofs::Lists::length_set, set_queues::proofs::Standing::links))]
-fn judge(parts: &mut Parts, number: u8, reached: Reached)
+fn judge<A: Allocator + Copy>(parts: &mut Parts<A>, number: u8, reached: Reached)
     requires whole { IsWhole parts.old }
     requires counted { AreCounted (2 ^ 61) parts.old.links.items }
     requires reached { IsReach (profile_at number parts.old.queues.lists) reached }
@@ -75,7 +76,7 @@ fn judge(parts: &mut Parts, number: u8, reached: Reached)
 
 /// What was sent on the link, or waits for it, is discarded.
 #[tactic(auto, using(set_queues::proofs::Standing::links))]
-fn discard(parts: &mut Parts, number: u8, cause: DiscardCause)
+fn discard<A: Allocator + Copy>(parts: &mut Parts<A>, number: u8, cause: DiscardCause)
     requires whole { IsWhole parts.old }
     requires known { number < length parts.old.links.items }
     ensures stands { Becomes parts.old parts.new (discarded cause number) }

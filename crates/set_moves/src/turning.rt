@@ -11,9 +11,10 @@ ghost use Rattle.set_moves.specs.Room.{CanTurnBack};
 use super::parts::{Parts, fate_of_new};
 use set_events::Fate;
 use set_queues::Kind;
+use std::alloc::Allocator;
 
 /// What stood back for this link, which was left, goes where its streams run, the oldest first.
-pub(crate) fn turn_back(parts: &mut Parts, number: u8)
+pub(crate) fn turn_back<A: Allocator + Copy>(parts: &mut Parts<A>, number: u8)
     requires whole { IsWhole parts.old }
     requires known { number < length parts.old.links.items }
     requires turning { CanTurn number (kept_of parts.old) }
@@ -33,7 +34,7 @@ pub(crate) fn turn_back(parts: &mut Parts, number: u8)
 }
 
 /// Where the first goes that waits for this code's acknowledgement: the link on which its stream runs.
-fn way_of(parts: &Parts, code: u8) -> Fate
+fn way_of<A: Allocator + Copy>(parts: &Parts<A>, code: u8) -> Fate
     requires whole { IsWhole parts.now }
     requires way { HasWay code (kept_of parts.now) }
     ensures { (way : HasWay code (kept_of parts.now)) (s : State) → StandsFor (kept_of parts.now) s

@@ -4,7 +4,7 @@ use Rattle.set_queues.specs.declared.buffers.Link.{Link}
 use Rattle.set_queues.specs.declared.buffers.Buffers.TheInside.{Inside}
 use Rattle.set_queues.specs.Buffers.{LinkLists, LinkRooms, BuffersState}
 
-abbrev pub lists_of : Link → LinkLists
+abbrev pub lists_of : {A : Type 0} → Link A → LinkLists
 lists_of link = record {
   profile = link.window.profile;
   last = link.window.last;
@@ -13,10 +13,10 @@ lists_of link = record {
   held = link.held.messages;
 }
 
-abbrev pub rooms_of : Link → LinkRooms
+abbrev pub rooms_of : {A : Type 0} → Link A → LinkRooms
 rooms_of link = record { unsent = link.window.room; held = link.held.room }
 
-abbrev pub state_of : Inside → BuffersState
+abbrev pub state_of : {A : Type 0} → Inside A → BuffersState
 state_of fields = record {
   lists = record {
     links = map lists_of fields.links.items;

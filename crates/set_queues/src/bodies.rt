@@ -7,7 +7,7 @@ ghost use Rattle.set_queues.specs.Slots.{slot_at, given_to, AreKept, AreSlots};
 use super::queues::Queues;
 use super::slots::Numbers;
 use l2_units::LONGEST_BODY;
-use std::alloc::{AllocError, Global};
+use std::alloc::{AllocError, Allocator, Global};
 use std::marker::Model;
 
 /// The bodies of a set's messages by their numbers 0, 1, .., one behind another.
@@ -15,15 +15,15 @@ use std::marker::Model;
 /// Contracts see a slot for each number, and the room that is left. A body takes 8 octets of memory and its own, and 8
 /// more once it outlived what was forgotten; each call but a copy costs the same however many bodies there are.
 #[derive(Drop)]
-pub struct Bodies {
-    numbers: Numbers,
+pub struct Bodies<A: Allocator = Global> {
+    numbers: Numbers<A>,
     /// Where each ends.
-    ends: Vec<usize>,
+    ends: Vec<usize, A>,
     /// The octets of all.
-    octets: Vec<u8>,
+    octets: Vec<u8, A>,
 }
 
-impl Model for Bodies {
+impl<A: Allocator> Model for Bodies<A> {
     ghost use Rattle.std.specs.Prelude.{◌-◌, length, min, vec_len, vec_capacity};
     ghost use Rattle.set_queues.specs.Bodies.{BodiesState, bodies_in, AreAll};
     ghost use Rattle.set_queues.specs.Slots.{AreSlots, slots_of, room_for};
@@ -41,9 +41,9 @@ impl Model for Bodies {
         × (AreAll 0 b.ends.items b.octets.items) };
 }
 
-impl Bodies {
+impl<A: Allocator + Copy> Bodies<A> {
     /// No bodies, and no room.
-    pub fn new(alloc: Global) -> Bodies
+    pub fn new(alloc: A) -> Bodies<A>
         ensures { result.items ≡ [] }
     {
         Bodies {
@@ -87,7 +87,7 @@ impl Bodies {
     }
 
     /// The same bodies, with no room.
-    pub fn copied(&self) -> Result<Bodies, AllocError>
+    pub fn copied(&self) -> Result<Bodies<A>, AllocError>
         ensures { IfOk result (λ copy. copy.items ≡ self.now.items) }
     {
         Ok(Bodies {
@@ -98,7 +98,7 @@ impl Bodies {
     }
 
     /// The bodies of those messages that aren't finished, under their numbers, with no room.
-    pub fn kept(&self, queues: &Queues) -> Result<Bodies, AllocError>
+    pub fn kept(&self, queues: &Queues<A>) -> Result<Bodies<A>, AllocError>
         ensures { IfOk result (λ kept. kept.items ≡ kept_bodies queues.now.messages self.now.items) }
     {
         let first = self.numbers.given(self.ends.len());
@@ -113,13 +113,13 @@ impl Bodies {
 }
 
 /// Those of the bodies whose messages aren't finished: their numbers, where each ends, and the octets.
-fn keep(
-    alloc: Global,
-    numbers: &Numbers,
+fn keep<A: Allocator + Copy>(
+    alloc: A,
+    numbers: &Numbers<A>,
     ends: &[usize],
     octets: &[u8],
-    queues: &Queues,
-) -> Result<(Vec<u64>, Vec<usize>, Vec<u8>), AllocError>
+    queues: &Queues<A>,
+) -> Result<(Vec<u64, A>, Vec<usize, A>, Vec<u8, A>), AllocError>
     requires slots { AreSlots numbers.now.older.items numbers.now.first (length ends.now) }
     requires all { AreAll 0 ends.now octets.now }
     ensures kept { IfOk result (λ kept. AreKept (λ number. is_unfinished (slot_at number queues.now.messages))

@@ -7,34 +7,34 @@ ghost use Rattle.set_queues.specs.Kept.{lists_of, state_of};
 use l2_units::Profile;
 use l2_window::{Queue, Window};
 use set_events::Fate;
-use std::alloc::{AllocError, Global};
+use std::alloc::{AllocError, Allocator};
 use std::marker::Model;
 
 /// The queues of a link.
 #[derive(Drop)]
-pub(crate) struct Link {
-    pub(crate) window: Window,
-    pub(crate) held: Queue,
+pub(crate) struct Link<A: Allocator> {
+    pub(crate) window: Window<A>,
+    pub(crate) held: Queue<A>,
 }
 
 /// The queues of a set. A fate that isn't final names one of them.
 #[derive(Drop)]
-pub(crate) struct Buffers {
-    pub(crate) links: Vec<Link>,
-    pub(crate) parked: Queue,
+pub(crate) struct Buffers<A: Allocator> {
+    pub(crate) links: Vec<Link<A>, A>,
+    pub(crate) parked: Queue<A>,
     /// By the changeback's code, 0 to 255.
-    pub(crate) back: Vec<Queue>,
+    pub(crate) back: Vec<Queue<A>, A>,
 }
 
-impl Model for Buffers {
+impl<A: Allocator> Model for Buffers<A> {
     ghost Value = { BuffersState };
 
     ghost view = { state_of };
 }
 
-impl Buffers {
+impl<A: Allocator + Copy> Buffers<A> {
     /// The queues of so many links, all empty.
-    pub(crate) fn new(alloc: Global, profile: Profile, links: u8) -> Result<Buffers, AllocError>
+    pub(crate) fn new(alloc: A, profile: Profile, links: u8) -> Result<Buffers<A>, AllocError>
         ensures { IfOk result (λ buffers. buffers.lists ≡ empty_lists profile links 256) }
     {
         let mut made = Vec::new(alloc);
@@ -57,7 +57,7 @@ impl Buffers {
     }
 
     /// The same queues, with no room.
-    pub(crate) fn copied(&self) -> Result<Buffers, AllocError>
+    pub(crate) fn copied(&self) -> Result<Buffers<A>, AllocError>
         ensures { IfOk result (λ copy. copy.lists ≡ self.now.lists) }
     {
         Ok(Buffers {
@@ -121,7 +121,10 @@ impl Buffers {
 }
 
 /// The queues of these links.
-fn links_copied(alloc: Global, links: &[Link]) -> Result<Vec<Link>, AllocError>
+fn links_copied<A: Allocator + Copy>(
+    alloc: A,
+    links: &[Link<A>],
+) -> Result<Vec<Link<A>, A>, AllocError>
     ensures { IfOk result (λ copy. map lists_of copy.items ≡ map lists_of links.now) }
 {
     let mut copy = Vec::new(alloc);
@@ -134,7 +137,10 @@ fn links_copied(alloc: Global, links: &[Link]) -> Result<Vec<Link>, AllocError>
 }
 
 /// These queues.
-fn back_copied(alloc: Global, back: &[Queue]) -> Result<Vec<Queue>, AllocError>
+fn back_copied<A: Allocator + Copy>(
+    alloc: A,
+    back: &[Queue<A>],
+) -> Result<Vec<Queue<A>, A>, AllocError>
     ensures { IfOk result (λ copy. map (λ queue. queue.messages) copy.items
         ≡ map (λ queue. queue.messages) back.now) }
 {

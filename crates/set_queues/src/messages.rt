@@ -9,7 +9,7 @@ use super::message::Message;
 use super::slots::Numbers;
 use super::tally::{Tally, enter, forget_finished, is_standing, leave};
 use set_events::{Counts, Fate, Finished};
-use std::alloc::{AllocError, Global};
+use std::alloc::{AllocError, Allocator};
 use std::marker::Model;
 
 /// The messages of a set by their numbers, and how many of the users' stand in each place.
@@ -17,13 +17,13 @@ use std::marker::Model;
 /// Contracts see a slot for each number that was given out, and the room. A number takes 8 octets, and 8 more once it
 /// outlived what was forgotten.
 #[derive(Drop)]
-pub(crate) struct Messages {
-    numbers: Numbers,
-    all: Vec<Message>,
+pub(crate) struct Messages<A: Allocator> {
+    numbers: Numbers<A>,
+    all: Vec<Message, A>,
     tally: Tally,
 }
 
-impl Model for Messages {
+impl<A: Allocator> Model for Messages<A> {
     ghost use Rattle.std.specs.Prelude.{◌≡◌, ◌≤◌, ◌-◌, length, min, vec_len, vec_capacity};
     ghost use Rattle.set_queues.specs.Messages.{MessagesState, IsTally};
     ghost use Rattle.set_queues.specs.Slots.{AreSlots, slots_of, room_for};
@@ -40,9 +40,9 @@ impl Model for Messages {
         × (IsTally m.tally (slots_of m.numbers.older.items m.numbers.first m.all.items)) };
 }
 
-impl Messages {
+impl<A: Allocator + Copy> Messages<A> {
     /// No message, and no room.
-    pub(crate) fn new(alloc: Global) -> Messages
+    pub(crate) fn new(alloc: A) -> Messages<A>
         ensures { result.items ≡ [] }
     {
         Messages {
@@ -168,7 +168,7 @@ impl Messages {
     }
 
     /// The same messages, with no room.
-    pub(crate) fn copied(&self) -> Result<Messages, AllocError>
+    pub(crate) fn copied(&self) -> Result<Messages<A>, AllocError>
         ensures { IfOk result (λ copy. copy.items ≡ self.now.items) }
     {
         Ok(Messages {
@@ -179,7 +179,7 @@ impl Messages {
     }
 
     /// Those of the messages that aren't finished, under their numbers, with no room.
-    pub(crate) fn kept(&self) -> Result<Messages, AllocError>
+    pub(crate) fn kept(&self) -> Result<Messages<A>, AllocError>
         ensures { IfOk result (λ kept. kept.items ≡ unfinished self.now.items) }
     {
         let first = self.given();
@@ -193,11 +193,11 @@ impl Messages {
 }
 
 /// Those of the messages that aren't finished, and their numbers.
-fn keep(
-    alloc: Global,
-    numbers: &Numbers,
+fn keep<A: Allocator + Copy>(
+    alloc: A,
+    numbers: &Numbers<A>,
     all: &[Message],
-) -> Result<(Vec<u64>, Vec<Message>), AllocError>
+) -> Result<(Vec<u64, A>, Vec<Message, A>), AllocError>
     requires { AreSlots numbers.now.older.items numbers.now.first (length all.now) }
     ensures { IfOk result (λ kept. AreKept
         (λ number. is_unfinished (item_at number numbers.now.older.items numbers.now.first all.now))
@@ -220,9 +220,9 @@ fn keep(
 /// The first `count` that stand in one queue have another fate from now on, and stand last there too, in
 /// their order, if it isn't final.
 #[tactic(auto, using(crate::proofs::Standing::passing))]
-pub(crate) fn pass(
-    buffers: &mut Buffers,
-    messages: &mut Messages,
+pub(crate) fn pass<A: Allocator + Copy>(
+    buffers: &mut Buffers<A>,
+    messages: &mut Messages<A>,
     from: Fate,
     count: usize,
     to: Fate,

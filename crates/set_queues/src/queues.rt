@@ -16,7 +16,7 @@ use super::tally::is_standing;
 use l2_units::Profile;
 use l2_window::{Queue, Window, WindowFault};
 use set_events::{Counts, DiscardCause, Fate, Finished};
-use std::alloc::{AllocError, Global};
+use std::alloc::{AllocError, Allocator, Global};
 use std::marker::Model;
 
 /// Where every message of a set stands: the queues of 1 to 16 links, the parked messages, and by its
@@ -24,12 +24,12 @@ use std::marker::Model;
 ///
 /// Contracts see the lists of numbers, the messages, and how much room there is; the counts are those of the lists.
 #[derive(Drop)]
-pub struct Queues {
-    buffers: Buffers,
-    messages: Messages,
+pub struct Queues<A: Allocator = Global> {
+    buffers: Buffers<A>,
+    messages: Messages<A>,
 }
 
-impl Model for Queues {
+impl<A: Allocator> Model for Queues<A> {
     ghost Value = { QueuesState };
 
     ghost view = { λ q. record {
@@ -42,10 +42,10 @@ impl Model for Queues {
     ghost invariant = { λ q. AreSound q.buffers.lists q.messages.items };
 }
 
-impl Queues {
+impl<A: Allocator + Copy> Queues<A> {
     /// The queues of so many links, with no message. A link has had no life yet: FSN 127 counts as
     /// acknowledged on it (Q.703 5.2.1).
-    pub fn new(alloc: Global, profile: Profile, links: u8) -> Result<Queues, AllocError>
+    pub fn new(alloc: A, profile: Profile, links: u8) -> Result<Queues<A>, AllocError>
         requires { (1 ≤ links) × (links ≤ 16) }
         ensures lists { IfOk result (λ queues. queues.lists ≡ empty_lists profile links 256) }
         ensures messages { IfOk result (λ queues. queues.messages ≡ []) }
@@ -57,7 +57,7 @@ impl Queues {
     }
 
     /// The same queues and messages, with no room.
-    pub fn copied(&self) -> Result<Queues, AllocError>
+    pub fn copied(&self) -> Result<Queues<A>, AllocError>
         ensures lists { IfOk result (λ copy. copy.lists ≡ self.now.lists) }
         ensures messages { IfOk result (λ copy. copy.messages ≡ self.now.messages) }
     {
@@ -69,7 +69,7 @@ impl Queues {
 
     /// The same queues, and of the messages those that aren't finished, under their numbers, with no room: what was
     /// acknowledged or discarded leaves, and no number is given out anew.
-    pub fn kept(&self) -> Result<Queues, AllocError>
+    pub fn kept(&self) -> Result<Queues<A>, AllocError>
         ensures lists { IfOk result (λ kept. kept.lists ≡ self.now.lists) }
         ensures messages { IfOk result (λ kept. kept.messages ≡ unfinished self.now.messages) }
     {
@@ -158,7 +158,7 @@ impl Queues {
 
     /// The window of the link.
     #[tactic(auto, using(crate::proofs::Linked::of_link))]
-    pub fn window(&self, link: u8) -> &Window
+    pub fn window(&self, link: u8) -> &Window<A>
         requires { link < length self.now.lists.links }
         ensures last { result.now.last ≡ last_at link self.now.lists }
         ensures profile { result.now.profile ≡ profile_at link self.now.lists }

@@ -2,7 +2,7 @@
 ghost use Rattle.std.specs.Prelude.{◌≡◌, ◌<◌, ◌≤◌, ◌↔◌, ◌^◌, [], IfOk, IsOk, length};
 ghost use Rattle.set_queues.specs.Slots.{AreSlots, place_within, number_at, given_to, room_for};
 
-use std::alloc::{AllocError, Global};
+use std::alloc::{AllocError, Allocator};
 
 /// At most so many numbers are given out.
 const MOST: u64 = (1 << 63) - 1;
@@ -12,16 +12,16 @@ const MOST: u64 = (1 << 63) - 1;
 /// A number that was given out since the numbers were last looked through is found by a comparison, an older one by
 /// a search among those that are left.
 #[derive(Drop)]
-pub(crate) struct Numbers {
+pub(crate) struct Numbers<A: Allocator> {
     /// Those of the first items, ascending.
-    pub(crate) older: Vec<u64>,
+    pub(crate) older: Vec<u64, A>,
     /// That of the item behind those. Each further item has the next number.
     pub(crate) first: u64,
 }
 
-impl Numbers {
+impl<A: Allocator + Copy> Numbers<A> {
     /// From 0 on.
-    pub(crate) fn new(alloc: Global) -> Numbers
+    pub(crate) fn new(alloc: A) -> Numbers<A>
         ensures { (result.first ≡ 0) × (result.older.items ≡ []) }
     {
         Numbers {
@@ -31,7 +31,7 @@ impl Numbers {
     }
 
     /// The same numbers.
-    pub(crate) fn copied(&self) -> Result<Numbers, AllocError>
+    pub(crate) fn copied(&self) -> Result<Numbers<A>, AllocError>
         ensures { IfOk result (λ copy. (copy.older.items ≡ self.now.older.items) × (copy.first ≡ self.now.first)) }
     {
         Ok(Numbers {

@@ -93,7 +93,7 @@ module _ (k : Kept) (s : State) (a : Agrees k s) where
   }
 
 -- they are no more than the numbers that were given out
-pub fits : (parts : Parts) → Holds (kept_of parts) → all_finished parts.finished + all_finished (finished_in parts.queues.messages) ≤ length parts.queues.messages
+pub fits : {A : Type 0} (parts : Parts A) → Holds (kept_of parts) → all_finished parts.finished + all_finished (finished_in parts.queues.messages) ≤ length parts.queues.messages
 fits parts h =
     let f = h.1.stands in
     let all = ap all_finished (finished_are (kept_of parts) h.0 f) in

@@ -43,7 +43,7 @@ pub unacked_past : (k : Kept) (s : State) (n place : ℕ) → StandsFor k s → 
 unacked_past k s n place f past = ap (λ (o : Option LinkState). unacked_of o n place s.rows) (slice_get_past s.links n (omega (arith, past, ap length f.links)))
 
 -- HOW MANY MESSAGES are counted, where they stand or since they left: no more than were given out
-pub counted_few : (parts : Parts) → Holds (kept_of parts) → all_finished parts.finished + total_of (counts_of parts.queues.messages) ≤ length parts.queues.messages
+pub counted_few : {A : Type 0} (parts : Parts A) → Holds (kept_of parts) → all_finished parts.finished + total_of (counts_of parts.queues.messages) ≤ length parts.queues.messages
 counted_few parts h =
     let f = h.1.stands in
     let out = f.given_out in
@@ -71,19 +71,19 @@ none_stands : (q : Lists) → AreSound q [] → (fate : Fate) → is_standing fa
 none_stands q sound fate stood = none_given (queue_at fate q) (given_queue q [] fate sound.tied stood)
 
 -- links that stand for new ones, sound queues with nothing, and nothing else
-pub opened : (config : SetConfig) (parts : Parts) → parts.config ≡ config → parts.links.items ≡ replicate config.links (new_link config.profile config.method) → parts.queues.lists.links ≡ replicate config.links (no_lists config.profile) → AreSound parts.queues.lists parts.queues.messages → parts.queues.messages ≡ [] → parts.bodies.items ≡ [] → parts.finished ≡ none_finished → parts.routes ≡ new_routing config.links → parts.inbox.items ≡ []
+pub opened : {A : Type 0} (config : SetConfig) (parts : Parts A) → parts.config ≡ config → parts.links.items ≡ replicate config.links (new_link config.profile config.method) → parts.queues.lists.links ≡ replicate config.links (no_lists config.profile) → AreSound parts.queues.lists parts.queues.messages → parts.queues.messages ≡ [] → parts.bodies.items ≡ [] → parts.finished ≡ none_finished → parts.routes ≡ new_routing config.links → parts.inbox.items ≡ []
     → Agrees (kept_of parts) (new_state config)
 opened config parts c links lists sound messages bodies finished routes inbox = grind (arith, nat_tests, none_stands parts.queues.lists (rw messages at sound), length-replicate, replicated, from_zero config.profile, opened_sound (settings_of config))
 
 -- A LINK THAT COMES UP
 -- a settled link is there, and nothing stands on it, once room was taken
-pub record IsEmpty (parts : Parts) (n : ℕ) : Type 0 where
+pub record IsEmpty {A : Type 0} (parts : Parts A) (n : ℕ) : Type 0 where
   pub known : n < length parts.queues.lists.links
   pub routed : n < parts.routes.links
   pub unacked : queue_at (Unacked n) parts.queues.lists ≡ []
   pub unsent : queue_at (Waiting n) parts.queues.lists ≡ []
 
-pub is_empty : (old parts : Parts) (n : ℕ) → Holds (kept_of old) → IsHere old.links.items n Settled → SameButRoom old parts → IsEmpty parts n
+pub is_empty : {A : Type 0} (old parts : Parts A) (n : ℕ) → Holds (kept_of old) → IsHere old.links.items n Settled → SameButRoom old parts → IsEmpty parts n
 is_empty old parts n holds h same =
     let a = agrees_same old parts holds.0 same holds.1 in
     let here : IsHere parts.links.items n Settled = rw same.links h in
@@ -99,14 +99,14 @@ is_empty old parts n holds h same =
 pub may_want : {E : Type 0} (result : Result (Unit {0}) E) (event known : Event) → event ≡ known → wants_none known ≡ false → wants_none event ≡ true → IsOk result
 may_want result event known is wants none = cc
 
-pub answers_for : (old new : Parts) (event : Event) (answer : Answer) → IsAsked event → Answers old new answer (λ s. stepped s event) → (s : State) → Agrees (kept_of old) s → AnswersFor (step s event) answer (kept_of new)
+pub answers_for : {A : Type 0} (old new : Parts A) (event : Event) (answer : Answer) → IsAsked event → Answers old new answer (λ s. stepped s event) → (s : State) → Agrees (kept_of old) s → AnswersFor (step s event) answer (kept_of new)
 answers_for old new event answer asked ok s a = grind (arith, nat_tests, step_is, step_sound, a.sound)
 
-pub holds_after : (old new : Parts) (event : Event) (answer : Answer) → IsAsked event → Answers old new answer (λ s. stepped s event) → Holds (kept_of old) → Holds (kept_of new)
+pub holds_after : {A : Type 0} (old new : Parts A) (event : Event) (answer : Answer) → IsAsked event → Answers old new answer (λ s. stepped s event) → Holds (kept_of old) → Holds (kept_of new)
 holds_after old new event answer asked answers h = ((step h.0 event).state, (answers_for old new event answer asked answers h.0 h.1).agrees)
 
 -- whole numbers of a set are far from the end of their range
-pub counted_of : (parts : Parts) → HoldsFew (2 ^ 48) (kept_of parts) → AreCounted (2 ^ 60) parts.links.items
+pub counted_of : {A : Type 0} (parts : Parts A) → HoldsFew (2 ^ 48) (kept_of parts) → AreCounted (2 ^ 60) parts.links.items
 counted_of parts h number link there =
     let few = h.2 number link (subst (λ (ls : List LinkState). slice_get ls number ≡ Some link) h.1.stands.links there) in
     let sent = few.sent in

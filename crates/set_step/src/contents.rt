@@ -20,7 +20,7 @@ use set_moves::{Link, Parts, phase_of};
 use set_queues::{Bodies, Queues};
 use set_route::Routes;
 use set_traffic::is_asked;
-use std::alloc::{AllocError, Global};
+use std::alloc::{AllocError, Allocator, Global};
 use std::collections::VecDeque;
 use std::marker::Model;
 
@@ -32,11 +32,11 @@ use std::marker::Model;
 /// [`Core::numbers_given`], [`Core::finished`], [`Core::counts`], [`Core::unacked_at`]. The one input: [`Core::apply`].
 /// [`Core::kept`] is what a checkpoint keeps of it, and [`Core::copied`] the same again.
 #[derive(Drop)]
-pub struct Core {
-    parts: Parts,
+pub struct Core<A: Allocator = Global> {
+    parts: Parts<A>,
 }
 
-impl Model for Core {
+impl<A: Allocator> Model for Core<A> {
     ghost Value = { Kept };
 
     ghost view = { λ c. kept_of c.parts };
@@ -44,11 +44,11 @@ impl Model for Core {
     ghost invariant = { λ c. Holds (kept_of c.parts) };
 }
 
-impl Core {
+impl<A: Allocator + Copy> Core<A> {
     /// A set as this configuration has it: no messages, no link up.
     ///
     /// Fault: 1 [`SetFault::NoMemory`], only where memory was refused.
-    pub fn new(alloc: Global, config: &SetConfig) -> Result<Core, SetFault>
+    pub fn new(alloc: A, config: &SetConfig) -> Result<Core<A>, SetFault>
         ensures ok { IfOk result (λ core. Agrees core (new_state config.now)) }
         ensures fault { IfErr result (λ fault. fault ≡ SetFault.NoMemory) }
     {
@@ -169,7 +169,7 @@ impl Core {
 
     /// What a checkpoint keeps: the same without the messages of which nothing more can become, which are counted.
     /// It fails only where memory was refused.
-    pub fn kept(&self) -> Result<Core, AllocError>
+    pub fn kept(&self) -> Result<Core<A>, AllocError>
         ensures { IfOk result (λ core. (s : State) → Agrees self.now s → Agrees core (checkpointed s)) }
     {
         Ok(Core {
@@ -178,7 +178,7 @@ impl Core {
     }
 
     /// The same again. It fails only where memory was refused.
-    pub fn copied(&self) -> Result<Core, AllocError>
+    pub fn copied(&self) -> Result<Core<A>, AllocError>
         ensures { IfOk result (λ core. core ≡ self.now) }
     {
         Ok(Core {
@@ -203,7 +203,7 @@ impl Core {
 }
 
 /// The FSN of the message at this place behind the one last acknowledged.
-fn fsn_behind(window: &Window, place: u16) -> u16
+fn fsn_behind<A: Allocator + Copy>(window: &Window<A>, place: u16) -> u16
     ensures { result ≡ (window.now.last + 1 + place) % fsn_count window.now.profile }
 {
     let after = u32::from(window.last()) + 1 + u32::from(place);

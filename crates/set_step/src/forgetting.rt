@@ -8,12 +8,12 @@ ghost use Rattle.set_step.specs.Forgotten.{together};
 
 use set_events::Finished;
 use set_moves::{HeardBody, Inbox, Link, Parts};
-use std::alloc::{AllocError, Global};
+use std::alloc::{AllocError, Allocator};
 use std::collections::VecDeque;
 
 /// What a checkpoint keeps: the messages that aren't finished. Those that are leave, and are counted.
 #[tactic(auto, using(crate::proofs::Forgotten::fits))]
-pub(crate) fn kept(parts: &Parts) -> Result<Parts, AllocError>
+pub(crate) fn kept<A: Allocator + Copy>(parts: &Parts<A>) -> Result<Parts<A>, AllocError>
     requires { Holds (kept_of parts.now) }
     ensures { IfOk result (λ kept. (s : State) → Agrees (kept_of parts.now) s
         → Agrees (kept_of kept) (checkpointed s)) }
@@ -33,7 +33,7 @@ pub(crate) fn kept(parts: &Parts) -> Result<Parts, AllocError>
 }
 
 /// The same again.
-pub(crate) fn copied(parts: &Parts) -> Result<Parts, AllocError>
+pub(crate) fn copied<A: Allocator + Copy>(parts: &Parts<A>) -> Result<Parts<A>, AllocError>
     ensures { IfOk result (λ copy. kept_of copy ≡ kept_of parts.now) }
 {
     let alloc = *parts.links.allocator();
@@ -49,7 +49,7 @@ pub(crate) fn copied(parts: &Parts) -> Result<Parts, AllocError>
 }
 
 /// The links.
-fn links_copied(alloc: Global, links: &[Link]) -> Result<Vec<Link>, AllocError>
+fn links_copied<A: Allocator + Copy>(alloc: A, links: &[Link]) -> Result<Vec<Link, A>, AllocError>
     ensures { IfOk result (λ copy. copy.items ≡ links.now) }
 {
     let mut copy = Vec::new(alloc);
@@ -60,7 +60,7 @@ fn links_copied(alloc: Global, links: &[Link]) -> Result<Vec<Link>, AllocError>
 }
 
 /// The messages heard for users.
-fn inbox_copied(alloc: Global, inbox: &Inbox) -> Result<Inbox, AllocError>
+fn inbox_copied<A: Allocator + Copy>(alloc: A, inbox: &Inbox<A>) -> Result<Inbox<A>, AllocError>
     ensures { IfOk result (λ copy. copy.items ≡ inbox.now.items) }
 {
     let mut copy = VecDeque::new(alloc);

@@ -13,13 +13,13 @@ use set_moves::{
     unserved,
 };
 use set_traffic::{hear, offer, send_next};
-use std::alloc::AllocError;
+use std::alloc::{AllocError, Allocator};
 
 /// What is answered to an event is put into `answer`: an answer has room for a unit, and one that is handed on by
 /// value is copied each time. On a fault nothing of the parts has changed.
 #[tactic(auto, using(crate::proofs::Kept::may_want))]
-pub(crate) fn carry_out(
-    parts: &mut Parts,
+pub(crate) fn carry_out<A: Allocator + Copy>(
+    parts: &mut Parts<A>,
     event: &Event,
     answer: &mut Answer,
 ) -> Result<(), AllocError>
@@ -62,7 +62,11 @@ pub(crate) fn carry_out(
 
 /// No answer came from the far end: a link that was left settles, and what was sent on it or waited
 /// is discarded (own).
-fn give_up(parts: &mut Parts, number: u8, answer: &mut Answer) -> Result<(), AllocError>
+fn give_up<A: Allocator + Copy>(
+    parts: &mut Parts<A>,
+    number: u8,
+    answer: &mut Answer,
+) -> Result<(), AllocError>
     requires holds { Holds (kept_of parts.old) }
     requires counted { AreCounted (2 ^ 60) parts.old.links.items }
     ensures ok { OnOk result (Answers parts.old parts.new answer.new
@@ -83,8 +87,8 @@ fn give_up(parts: &mut Parts, number: u8, answer: &mut Answer) -> Result<(), All
 
 /// The link is left, and an order tells the far end: a changeover order with the FSN last accepted,
 /// or blind an emergency changeover order without it.
-fn take_down(
-    parts: &mut Parts,
+fn take_down<A: Allocator + Copy>(
+    parts: &mut Parts<A>,
     number: u8,
     blind: bool,
     answer: &mut Answer,
@@ -119,7 +123,11 @@ fn take_down(
 ///
 /// Room in its queue is taken first, so a fault leaves everything as it was.
 #[tactic(auto, using(crate::proofs::Kept::is_empty, set_queues::proofs::Soundness::last_links))]
-fn bring_up(parts: &mut Parts, number: u8, answer: &mut Answer) -> Result<(), AllocError>
+fn bring_up<A: Allocator + Copy>(
+    parts: &mut Parts<A>,
+    number: u8,
+    answer: &mut Answer,
+) -> Result<(), AllocError>
     requires holds { Holds (kept_of parts.old) }
     ensures ok { OnOk result (Answers parts.old parts.new answer.new
         (λ s. on_link number s (λ link. rises number s link.phase))) }

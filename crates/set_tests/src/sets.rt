@@ -255,10 +255,20 @@ fn refuses_in_order(set: &mut SetCore) -> bool {
 /// Run with each allocation failing in turn (tools/refuse-memory); with memory it passes as it is.
 #[test]
 fn a_refused_growth_changes_nothing(rt: HostRuntime) -> Result<(), Fail> {
-    let mut set = set_of(rt.alloc(), 1)?;
-    match Body::from_slice(rt.alloc(), &message()) {
-        Ok(body) => holds(are_parked_or_refused(&mut set, &Event::Offer { body })),
-        Err(_) => Ok(()),
+    let Some(config) = config() else {
+        return Err(Fail::from("refused"));
+    };
+    match SetCore::new(rt.alloc(), &config) {
+        Ok(mut set) => holds(is_asked_or_refused(rt.alloc(), &mut set)),
+        Err(fault) => holds(fault == SetFault::NoMemory),
+    }
+}
+
+/// Memory may be refused to the message itself, and then nothing is asked.
+fn is_asked_or_refused(alloc: Global, set: &mut SetCore) -> bool {
+    match Body::from_slice(alloc, &message()) {
+        Ok(body) => are_parked_or_refused(set, &Event::Offer { body }),
+        Err(_) => true,
     }
 }
 

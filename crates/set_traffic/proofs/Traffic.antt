@@ -33,11 +33,11 @@ use Rattle.set_model.specs.Changeover.{Order, Coo, Coa, Cbd, Cba, Eco, Eca, fate
 use Rattle.set_moves.specs.Room.{IsSpaciousFor, IsReady, target_beside}
 
 -- The queue of a link that is there.
-pub queue_there : (parts : Parts) (n : ℕ) → Holds (kept_of parts) → n < length parts.links.items → n < length parts.queues.lists.links
+pub queue_there : {A : Type 0} (parts : Parts A) (n : ℕ) → Holds (kept_of parts) → n < length parts.links.items → n < length parts.queues.lists.links
 queue_there parts n holds known = let many = (whole_of parts holds).as_many in omega (arith, many, known)
 
 -- WHAT A CONTROL TELLS A TERMINAL by the kept window, it tells by the rows' window: the room alone is another.
-pub told : (parts : Parts) (s : State) (n i : ℕ) (x : Link) (control : Control) (w : WindowState) (link : LinkState) → i ≡ n → n < length parts.links.items → x ≡ slice_index_or parts.links.items i x → control ≡ x.control → w.last ≡ last_at n parts.queues.lists → w.profile ≡ profile_at n parts.queues.lists → w.unacked ≡ queue_at (Unacked n) parts.queues.lists → w.unsent ≡ queue_at (Waiting n) parts.queues.lists
+pub told : {A : Type 0} (parts : Parts A) (s : State) (n i : ℕ) (x : Link) (control : Control) (w : WindowState) (link : LinkState) → i ≡ n → n < length parts.links.items → x ≡ slice_index_or parts.links.items i x → control ≡ x.control → w.last ≡ last_at n parts.queues.lists → w.profile ≡ profile_at n parts.queues.lists → w.unacked ≡ queue_at (Unacked n) parts.queues.lists → w.unsent ≡ queue_at (Waiting n) parts.queues.lists
     → slice_get s.links n ≡ Some link → StandsFor (kept_of parts) s → (control ≡ link.control) × (w ≡ record (window_of n link s.rows) { room = w.room })
 told parts s n i x control w link is known read same last profile unacked unsent there f =
     (same ∙ ap (λ (l : LinkState). l.control) (stands_for parts.links.items n i x is known read s.links link f.links there), grind (arith, f.fsns n link there, f.profiles n link there, f.stands.queues (Unacked n) refl, f.stands.queues (Waiting n) refl))
@@ -50,13 +50,13 @@ part_reaches c w head msu q n last profile unacked h = record { count_is = grind
 numbers_in : (p : Profile) (unit : SignalUnit) → is_heard p unit ≡ true → IsHeadOf p (header_in unit)
 numbers_in p unit e = grind (arith, nat_tests)
 
-pub numbers_fit : (parts : Parts) (n : ℕ) (unit : SignalUnit) → Holds (kept_of parts) → n < length parts.links.items → is_heard parts.config.profile unit ≡ true → IsHeadOf (profile_at n parts.queues.lists) (header_in unit)
+pub numbers_fit : {A : Type 0} (parts : Parts A) (n : ℕ) (unit : SignalUnit) → Holds (kept_of parts) → n < length parts.links.items → is_heard parts.config.profile unit ≡ true → IsHeadOf (profile_at n parts.queues.lists) (header_in unit)
 numbers_fit parts n unit h known e =
     let x = present h.0.links n (rw h.1.stands.links at known) in
     subst (λ (p : Profile). IsHeadOf p (header_in unit)) (sym (h.1.stands.profiles n x.0 x.1 ∙ profile_of parts h.0 n x.0 h.1 x.1)) (numbers_in parts.config.profile unit e)
 
 -- WHAT IS SENT, as the step has it
-pub given : (n : ℕ) (s t : State) (parts : Parts) (i : IsHere s.links n Up) (choice : Choice) (head : Header) (unit : SignalUnit) → choice ≡ choice_in n i.link t → head ≡ head_of i.link.control (window_of n i.link t.rows) (fsn_of choice (window_of n i.link t.rows)) → unit ≡ unit_of (chosen choice n t.rows) head → StandsFor (kept_of parts) (sends choice n t i.link).state
+pub given : {A : Type 0} (n : ℕ) (s t : State) (parts : Parts A) (i : IsHere s.links n Up) (choice : Choice) (head : Header) (unit : SignalUnit) → choice ≡ choice_in n i.link t → head ≡ head_of i.link.control (window_of n i.link t.rows) (fsn_of choice (window_of n i.link t.rows)) → unit ≡ unit_of (chosen choice n t.rows) head → StandsFor (kept_of parts) (sends choice n t i.link).state
     → Gives (in_service n s (next_of n t)) (Sent unit) parts
 given n s t parts i choice head unit is heads sent stands = served s n (next_of n t) (Sent unit) parts i (rw (← is) (record { answer_is = rw (sent, heads) refl; stands = stands }))
 
@@ -95,31 +95,31 @@ pub delivered : (k : Kept) (s : State) (inbox : List (List ℕ)) (message : List
 delivered k s inbox message f is = record { settings = f.settings; stands = f.stands; bodies = f.bodies; held_bodies = f.held_bodies; given_out = f.given_out; finished = f.finished; links = f.links; as_many = f.as_many; fsns = f.fsns; profiles = f.profiles; routing = f.routing; inbox = is ∙ ap (λ (i : List (List ℕ)). i ++ message ∷ []) f.inbox }
 
 -- WHAT A UNIT BRINGS, if it's accepted
-module _ (parts : Parts) (s : State) (unit : SignalUnit) where
+module _ {A : Type 0} (parts : Parts A) (s : State) (unit : SignalUnit) where
   pub unaccepted : StandsFor (kept_of parts) s → Obeys (takes (accepted_body false unit) s) NothingTaken parts
   unaccepted stands = grind arith
 
-  pub nothing_brought : (accept : Bool) → Nothing ≡ brought_by s.settings.profile unit → StandsFor (kept_of parts) s → Obeys (takes (accepted_body accept unit) s) NothingTaken parts
+  pub nothing_brought : (accept : Bool) → ◌≡◌ {A = Brought A} Nothing (brought_by s.settings.profile unit) → StandsFor (kept_of parts) s → Obeys (takes (accepted_body accept unit) s) NothingTaken parts
   nothing_brought accept e stands = grind arith
 
-  pub message_taken : (message : List ℕ) → Message message ≡ brought_by s.settings.profile unit → StandsFor (kept_of parts) (record s { inbox = s.inbox ++ message ∷ [] }) → Obeys (takes (accepted_body true unit) s) MessageTaken parts
+  pub message_taken : (message : List ℕ) → ◌≡◌ {A = Brought A} (Message message) (brought_by s.settings.profile unit) → StandsFor (kept_of parts) (record s { inbox = s.inbox ++ message ∷ [] }) → Obeys (takes (accepted_body true unit) s) MessageTaken parts
   message_taken message e stands = grind arith
 
   obeyed_in : (body : List ℕ) (managed : Bool) → managed ≡ true → (took : Took) → Obeys (obeyed (order_of s.settings.profile body) s) took parts → Obeys (cond managed (obeyed (order_of s.settings.profile body) s) (record { took = MessageTaken; state = record s { inbox = s.inbox ++ body ∷ [] } })) took parts
   obeyed_in body true e took o = o
   obeyed_in body false e took o = absurd cc
 
-  pub order_obeyed : (order : Order) (took : Took) → OrderBrought order ≡ brought_by s.settings.profile unit → Obeys (obeyed_by order s) took parts → Obeys (takes (accepted_body true unit) s) took parts
+  pub order_obeyed : (order : Order) (took : Took) → ◌≡◌ {A = Brought A} (OrderBrought order) (brought_by s.settings.profile unit) → Obeys (obeyed_by order s) took parts → Obeys (takes (accepted_body true unit) s) took parts
   order_obeyed order took e o =
       let is : (body : List ℕ) × (accepted_body true unit ≡ Some body) × ((service_indicator body == 0) ≡ true) × (order_of s.settings.profile body ≡ Some order) = grind (arith, nat_tests) in
       subst (λ (b : Option (List ℕ)). Obeys (takes b s) took parts) (sym is.1)
       (obeyed_in is.0 (service_indicator is.0 == 0) is.2 took (subst (λ (d : Option Order). Obeys (obeyed d s) took parts) (sym is.3) o))
 
-  pub unread : Unread ≡ brought_by s.settings.profile unit → StandsFor (kept_of parts) s → Obeys (takes (accepted_body true unit) s) Ignored parts
+  pub unread : ◌≡◌ {A = Brought A} Unread (brought_by s.settings.profile unit) → StandsFor (kept_of parts) s → Obeys (takes (accepted_body true unit) s) Ignored parts
   unread e stands = grind (arith, nat_tests)
 
 -- ROOM is kept.
-module _ (old new : Parts) (k : KeepsSpace old new) where
+module _ {A : Type 0} (old new : Parts A) (k : KeepsSpace old new) where
   as_many : length new.links.items ≡ length old.links.items
   as_many = sym (length-map new.links.items (λ (l : Link). l.phase)) ∙ ap length k.phases ∙ length-map old.links.items (λ (l : Link). l.phase)
 
@@ -149,5 +149,5 @@ module _ (old new : Parts) (k : KeepsSpace old new) where
   spacious_still (Cba link code) r = λ low. grind (arith, r, as_many, k.queues.rooms (Waiting (home_of code)), k.queues.backs code)
 
   -- and the orders are of the same grammar
-  pub space_still : (brought : Brought) → HasSpaceFor brought old → HasSpaceFor brought new
+  pub space_still : (brought : Brought A) → HasSpaceFor brought old → HasSpaceFor brought new
   space_still brought r = grind (arith, spacious_still, k.inbox, k.config)

@@ -40,18 +40,18 @@ IsThere First number q =
 IsThere Fill number q = Unit {0}
 
 -- what a body of the management is
-abbrev pub management_brought : Option Order → Brought
+abbrev pub management_brought : {A : Type 0} → Option Order → Brought A
 management_brought (Some order) = OrderBrought order
 management_brought None = Unread
 
 -- what a unit brings
-abbrev pub brought_by : Profile → SignalUnit → Brought
+abbrev pub brought_by : {A : Type 0} → Profile → SignalUnit → Brought A
 brought_by profile (Msu head body) =
     if service_indicator body.items == 0 then management_brought (order_of profile body.items) else Message body.items
 brought_by profile _ = Nothing
 
 -- there is space for it: a place in the inbox, or room for what it moves
-abbrev pub HasSpaceFor : Brought → Parts → Type 0
+abbrev pub HasSpaceFor : {A : Type 0} → Brought A → Parts A → Type 0
 HasSpaceFor (Message body) parts = deque_len parts.inbox < deque_capacity parts.inbox
 HasSpaceFor (OrderBrought order) parts = (IsOrder parts.config.profile order) × (IsSpaciousFor order parts)
 HasSpaceFor _ parts = Unit {0}
@@ -78,7 +78,7 @@ pub record KeepsQueues (old new : QueuesState) : Type 0 where
   pub backs : (code : ℕ) → queue_at (Back code) new.lists ≡ queue_at (Back code) old.lists
 
 -- nor is room taken beside them, and no link changes its phase
-pub record KeepsSpace (old new : Parts) : Type 0 where
+pub record KeepsSpace {A : Type 0} (old new : Parts A) : Type 0 where
   pub queues : KeepsQueues old.queues new.queues
   pub bodies : new.bodies ≡ old.bodies
   pub phases : map (λ link. link.phase) new.links.items ≡ map (λ link. link.phase) old.links.items

@@ -12,10 +12,11 @@ use l3_orders::Order;
 use set_events::{DiscardCause, Fate};
 use set_model::Phase;
 use set_moves::{Parts, phase_of};
+use std::alloc::Allocator;
 
 /// The orders that wait foremost for the link and were overtaken are discarded in their places (own): the link that such
 /// an order leaves is in service again.
-pub(crate) fn clear(parts: &mut Parts, number: u8)
+pub(crate) fn clear<A: Allocator + Copy>(parts: &mut Parts<A>, number: u8)
     requires holds { Holds (kept_of parts.old) }
     requires here { IsHere parts.old.links.items number Up }
     requires queue { number < length parts.old.queues.lists.links }
@@ -30,7 +31,7 @@ pub(crate) fn clear(parts: &mut Parts, number: u8)
 }
 
 /// Whether an order that was overtaken waits foremost for the link.
-fn is_first_overtaken(parts: &Parts, number: u8) -> bool
+fn is_first_overtaken<A: Allocator + Copy>(parts: &Parts<A>, number: u8) -> bool
     requires stands { (s : State) × StandsFor (kept_of parts.now) s }
     requires queue { number < length parts.now.queues.lists.links }
     ensures { (s : State) → StandsFor (kept_of parts.now) s
@@ -45,7 +46,7 @@ fn is_first_overtaken(parts: &Parts, number: u8) -> bool
 
 /// Whether it's an order that leaves a link which is up.
 #[tactic(auto, using(crate::proofs::Overtaken::phase_up))]
-fn is_overtaken(parts: &Parts, order: Option<Order>) -> bool
+fn is_overtaken<A: Allocator + Copy>(parts: &Parts<A>, order: Option<Order>) -> bool
     ensures { (s : State) → StandsFor (kept_of parts.now) s → result ≡ overtakes s order }
 {
     match order {

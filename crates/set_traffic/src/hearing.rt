@@ -21,7 +21,7 @@ use set_model::service_indicator;
 use set_moves::{HeardBody, Parts, make_room, make_room_beside, obey, target_of, unserved};
 use set_queues::{Queues, fate_on};
 use set_route::home_of_code;
-use std::alloc::AllocError;
+use std::alloc::{AllocError, Allocator};
 
 /// A unit was heard: a FISU or MSU acknowledges, may bring a body, and may ask for retransmission.
 /// An LSSU is refused, since the error control has nothing to do with it, and so is a unit whose numbers or whose
@@ -29,8 +29,8 @@ use std::alloc::AllocError;
 ///
 /// All memory that the body may want is taken first, so a fault leaves everything as it was.
 #[tactic(auto, using(set_moves::proofs::Links::whole_of, crate::proofs::Traffic::space_still))]
-pub fn hear(
-    parts: &mut Parts,
+pub fn hear<A: Allocator + Copy>(
+    parts: &mut Parts<A>,
     number: u8,
     unit: &Unit,
     answer: &mut Answer,
@@ -66,11 +66,11 @@ pub fn hear(
 
 /// What a unit brings.
 #[derive(Drop)]
-pub(crate) enum Brought {
+pub(crate) enum Brought<A: Allocator> {
     /// No body.
     Nothing,
     /// A message for users, as the inbox keeps it.
-    Message(HeardBody),
+    Message(HeardBody<A>),
     /// An order of the management.
     Order(Order),
     /// A body of the management that is no order.
@@ -79,7 +79,10 @@ pub(crate) enum Brought {
 
 /// What the unit brings, once there is space for it: a message has its memory and a place in the inbox, an order room
 /// for what it moves. Nothing else changes, also where memory is refused.
-fn make_space(parts: &mut Parts, unit: &Unit) -> Result<Brought, AllocError>
+fn make_space<A: Allocator + Copy>(
+    parts: &mut Parts<A>,
+    unit: &Unit,
+) -> Result<Brought<A>, AllocError>
     requires whole { IsWhole parts.old }
     ensures brought { IfOk result (λ brought. brought ≡ brought_by parts.old.config.profile unit.now) }
     ensures space { IfOk result (λ brought. HasSpaceFor brought parts.new) }
@@ -135,7 +138,7 @@ pub(crate) fn order_in(profile: Profile, body: &[u8]) -> Option<Order>
 
 /// Takes room for what an order moves, and for the one that answers it. Nothing else changes, also where memory is
 /// refused.
-fn make_room_for(parts: &mut Parts, order: Order) -> Result<(), AllocError>
+fn make_room_for<A: Allocator + Copy>(parts: &mut Parts<A>, order: Order) -> Result<(), AllocError>
     requires whole { IsWhole parts.old }
     ensures room { OnOk result (IsSpaciousFor order parts.new) }
     ensures same { SameButRoom parts.old parts.new }
@@ -170,7 +173,7 @@ fn make_room_for(parts: &mut Parts, order: Order) -> Result<(), AllocError>
 
 /// The control hears the unit, and the link counts: acknowledged messages are the first ones, and so many.
 #[tactic(auto, using(crate::proofs::Traffic::part_reaches))]
-fn control_hears(parts: &mut Parts, number: u8, unit: &Unit) -> HeardPart
+fn control_hears<A: Allocator + Copy>(parts: &mut Parts<A>, number: u8, unit: &Unit) -> HeardPart
     requires counted { AreCounted (2 ^ 60) parts.old.links.items }
     requires known { number < length parts.old.links.items }
     requires queue { number < length parts.old.queues.lists.links }
@@ -195,7 +198,7 @@ fn control_hears(parts: &mut Parts, number: u8, unit: &Unit) -> HeardPart
 
 /// So many messages of the link are acknowledged, if any are: those up to this BSN.
 #[tactic(auto, using(set_moves::proofs::Links::on_less, set_moves::proofs::Links::acked_less))]
-fn acknowledge(queues: &mut Queues, number: u8, bsn: u16, acked: u16)
+fn acknowledge<A: Allocator + Copy>(queues: &mut Queues<A>, number: u8, bsn: u16, acked: u16)
     requires known { number < length queues.old.lists.links }
     requires bsn { bsn < fsn_count (profile_at number queues.old.lists) }
     requires reach { 0 < acked → ReachesTo bsn acked number queues.old.lists }
@@ -217,7 +220,7 @@ fn has_message(unit: &Unit) -> bool
 
 /// Where what a unit brought goes, if it's accepted: to the users' inbox, or to the rules of changeover.
 #[tactic(auto, using(crate::proofs::Traffic::unaccepted, crate::proofs::Traffic::nothing_brought, crate::proofs::Traffic::unread))]
-fn take_in(parts: &mut Parts, accept: bool, brought: Brought) -> Took
+fn take_in<A: Allocator + Copy>(parts: &mut Parts<A>, accept: bool, brought: Brought<A>) -> Took
     requires holds { Holds (kept_of parts.old) }
     requires counted { AreCounted (2 ^ 61) parts.old.links.items }
     requires space { HasSpaceFor brought parts.old }

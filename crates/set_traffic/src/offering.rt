@@ -13,7 +13,7 @@ use set_events::{Answer, Body, Event, Refusal};
 use set_model::{service_indicator, stream_of_body};
 use set_moves::{Parts, fate_of_new, make_room, stand_last};
 use set_queues::Queues;
-use std::alloc::AllocError;
+use std::alloc::{AllocError, Allocator};
 
 /// The fewest octets of an offered body: the SIO and a label (own).
 const SHORTEST_OFFER: usize = 5;
@@ -23,7 +23,11 @@ const STREAM_LIMIT: u64 = 1024;
 
 /// A message is offered: refused, or the last of its queue from now on.
 #[tactic(auto, using(set_moves::proofs::Links::whole_of))]
-pub fn offer(parts: &mut Parts, body: &Body, answer: &mut Answer) -> Result<(), AllocError>
+pub fn offer<A: Allocator + Copy>(
+    parts: &mut Parts<A>,
+    body: &Body,
+    answer: &mut Answer,
+) -> Result<(), AllocError>
     requires holds { Holds (kept_of parts.old) }
     ensures ok { OnOk result (Answers parts.old parts.new answer.new (λ s. offered
         (offer_refusal s.settings.profile s.rows body.now) s body.now)) }
@@ -54,7 +58,11 @@ pub(crate) fn longest_of(profile: Profile) -> usize
 }
 
 /// Why an offer is refused, if it is: the first reason in the order of the refusals.
-fn refusal_of(profile: Profile, queues: &Queues, body: &Body) -> Option<Refusal>
+fn refusal_of<A: Allocator + Copy>(
+    profile: Profile,
+    queues: &Queues<A>,
+    body: &Body,
+) -> Option<Refusal>
     ensures { result ≡ refusal_by profile (unsent_of (stream_of body.now) queues.now.messages) body.now }
 {
     let octets = body.octets();

@@ -17,10 +17,11 @@ use l2_units::{Header, LONGEST_BODY, Unit, body_of};
 use l2_window::Choice;
 use set_events::{Answer, Fate};
 use set_moves::{Parts, unserved};
+use std::alloc::Allocator;
 
 /// The next unit to send, once the orders that were overtaken are discarded.
 #[tactic(auto, using(crate::proofs::Traffic::queue_there))]
-pub fn send_next(parts: &mut Parts, number: u8, answer: &mut Answer)
+pub fn send_next<A: Allocator + Copy>(parts: &mut Parts<A>, number: u8, answer: &mut Answer)
     requires { Holds (kept_of parts.old) }
     ensures { Answers parts.old parts.new answer.new (λ s. in_service number s
         (next number (cleared number s))) }
@@ -50,7 +51,7 @@ pub fn send_next(parts: &mut Parts, number: u8, answer: &mut Answer)
 }
 
 /// The link's control chooses, and goes on as that is sent, before the message moves: the choice and the unit's header.
-fn go_on(parts: &mut Parts, number: u8) -> (Choice, Header)
+fn go_on<A: Allocator + Copy>(parts: &mut Parts<A>, number: u8) -> (Choice, Header)
     requires known { number < length parts.old.links.items }
     requires queue { number < length parts.old.queues.lists.links }
     ensures chosen { OfStates number parts.old (λ link s. result.0 ≡ choice_in number link s) }
@@ -72,7 +73,11 @@ fn go_on(parts: &mut Parts, number: u8) -> (Choice, Header)
 
 /// The body of the message at this place of a queue, whatever the links have come to.
 #[tactic(auto, using(crate::proofs::Traffic::fit_at))]
-fn body_at(parts: &Parts, fate: Fate, place: usize) -> ArrayVec<u8, LONGEST_BODY>
+fn body_at<A: Allocator + Copy>(
+    parts: &Parts<A>,
+    fate: Fate,
+    place: usize,
+) -> ArrayVec<u8, LONGEST_BODY>
     requires holds { (links : List LinkState) × Holds (record (kept_of parts.now) { links = links }) }
     requires known { IsKnown fate parts.now.queues.lists }
     requires standing { is_standing fate ≡ true }

@@ -6,10 +6,10 @@ use Rattle.set_core.proofs.Keeping.{replay_none, replay_next, replay_taken, repl
 use Rattle.set_core.proofs.auditing.replay.Goals as goal
 
 pub loop-entry-init : goal.loop-entry-init
-loop-entry-init c = replay_count c.args.base.now.state c.args.entries.now c.args.core.now (entries_of c.args.base.now []) (entries_of c.args.base.now [] + 0) [] c.args.entries.now (omega arith) (replay_none c.args.base.now.state c.args.entries.now c.args.core.now (entries_of c.args.base.now []) c.requires.begun c.requires.before)
+loop-entry-init o c = replay_count c.args.base.now.state c.args.entries.now c.args.core.now (entries_of c.args.base.now []) (entries_of c.args.base.now [] + 0) [] c.args.entries.now (omega arith) (replay_none c.args.base.now.state c.args.entries.now c.args.core.now (entries_of c.args.base.now []) c.requires.begun c.requires.before)
 
 pub loop-entry-preserved : goal.loop-entry-preserved
-loop-entry-preserved c =
+loop-entry-preserved o c =
     let i = c.loop-entry.entry-index in
     let entries = c.args.entries.now in
     let opening = c.args.base.now.state in
@@ -24,14 +24,14 @@ loop-entry-preserved c =
     (replay_count opening entries c.apply.new.self (first + i + 1) (first + (i + 1)) (take i entries ++ x ∷ []) (drop (i + 1) entries) (omega arith) more)
 
 pub apply-requires : goal.apply-requires
-apply-requires c =
+apply-requires o c =
     let l = c.loop-entry.invariant in
     let i = c.loop-entry.entry-index in
     let s = after c.args.base.now.state (take i c.args.entries.now) in
     (s, l.agrees, few_more (entries_of c.args.base.now [] + i) (2 ^ 48) s (omega (arith, c.loop-entry-test.true, c.requires.few)) l.few)
 
 pub returns-then-not-is_actor-clause-legal : goal.returns-then-not-is_actor-clause-legal
-returns-then-not-is_actor-clause-legal c =
+returns-then-not-is_actor-clause-legal o c =
     let i = c.loop-entry.entry-index in
     let entries = c.args.entries.now in
     let opening = c.args.base.now.state in
@@ -41,7 +41,7 @@ returns-then-not-is_actor-clause-legal c =
     (λ no. cc, λ legal. let is = c.is_actor.ensures.1 (replay_actor opening entries c.loop-entry.core count (take i entries) (drop (i + 1) entries) x next legal) in let isnt = c.if-not-is_actor.true in cc)
 
 pub returns-then-not-same-clause-legal : goal.returns-then-not-same-clause-legal
-returns-then-not-same-clause-legal c =
+returns-then-not-same-clause-legal o c =
     let i = c.loop-entry.entry-index in
     let entries = c.args.entries.now in
     let opening = c.args.base.now.state in
@@ -52,7 +52,7 @@ returns-then-not-same-clause-legal c =
     (λ no. cc, λ legal. let same = c.same.ensures.1 (replay_answer opening entries c.loop-entry.core count (take i entries) (drop (i + 1) entries) x next c.apply.new.self c.apply.new.answer told legal) in let differs = c.if-not-same.true in cc)
 
 pub returns-clause-legal : goal.returns-clause-legal
-returns-clause-legal c =
+returns-clause-legal o c =
     let l = c.loop-entry.invariant in
     let none : drop c.loop-entry.entry-index c.args.entries.now ≡ [] = drop_all c.loop-entry.entry-index c.args.entries.now c.loop-entry-test.false in
     (λ yes. l.left.0 (subst (λ (entries : List Entry). IsLegal (after c.args.base.now.state (take c.loop-entry.entry-index c.args.entries.now)) entries) (sym none) tt), λ legal. refl)

@@ -8,12 +8,12 @@ use Rattle.set_core.proofs.Keeping.{replay_count, replay_none, replay_answer, re
 use Rattle.set_core.proofs.auditing.replay_history.Goals as goal
 
 pub loop-told-init : goal.loop-told-init
-loop-told-init c =
+loop-told-init o c =
     let first : ℕ = entries_of c.args.base.now [] in
     ([], replay_count c.args.base.now.state c.args.entries c.args.core.now first (first + length {A = Entry} []) [] c.args.entries (omega arith) (replay_none c.args.base.now.state c.args.entries c.args.core.now first c.requires.begun c.requires.before), omega arith)
 
 pub loop-told-preserved : goal.loop-told-preserved
-loop-told-preserved c =
+loop-told-preserved o c =
     let opening = c.args.base.now.state in
     let first : ℕ = entries_of c.args.base.now [] in
     let l = c.loop-told.invariant in
@@ -24,13 +24,13 @@ loop-told-preserved c =
     reading_on opening c.args.entries c.loop-told.core first c.loop-told.left c.next.new.self c.in-Some.told l c.in-Some.ensures c.apply.new.self c.apply.new.answer answers actor same
 
 pub apply-requires : goal.apply-requires
-apply-requires c =
+apply-requires o c =
     let l = c.loop-told.invariant in
     let s = after c.args.base.now.state l.0 in
     (s, l.1.agrees, few_more (entries_of c.args.base.now [] + length l.0) (2 ^ 48) s (omega (arith, l.2, c.requires.few)) l.1.few)
 
 pub returns-then-not-same-clause-legal : goal.returns-then-not-same-clause-legal
-returns-then-not-same-clause-legal c =
+returns-then-not-same-clause-legal o c =
     let opening = c.args.base.now.state in
     let first : ℕ = entries_of c.args.base.now [] in
     let entries = c.args.entries in

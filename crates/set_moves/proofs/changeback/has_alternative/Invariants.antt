@@ -6,4 +6,4 @@ use Rattle.set_moves.specs.Parts.{kept_of}
 use Rattle.set_moves.proofs.changeback.has_alternative.Given as goal
 
 abbrev pub invariant-loop-alternative : goal.invariant-loop-alternative
-invariant-loop-alternative l = (s : State) → StandsFor (kept_of l.parts) s → some_declare l.number 0 (link_count s) s ≡ some_declare l.number l.alternative (link_count s - l.alternative) s
+invariant-loop-alternative o l = (s : State) → StandsFor (kept_of l.parts) s → some_declare l.number 0 (link_count s) s ≡ some_declare l.number l.alternative (link_count s - l.alternative) s

@@ -7,4 +7,4 @@ use Rattle.set_moves.specs.Parts.{kept_of}
 use Rattle.set_moves.proofs.changeback.has_code_in_use.Given as goal
 
 abbrev pub invariant-loop-alternative : goal.invariant-loop-alternative
-invariant-loop-alternative l = (s : State) → StandsFor (kept_of l.parts) s → some_in_use (code_for l.home 0) 16 s ≡ some_in_use (code_for l.home l.alternative) (16 - l.alternative) s
+invariant-loop-alternative o l = (s : State) → StandsFor (kept_of l.parts) s → some_in_use (code_for l.home 0) 16 s ≡ some_in_use (code_for l.home l.alternative) (16 - l.alternative) s

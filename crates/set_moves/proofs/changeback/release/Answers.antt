@@ -10,10 +10,10 @@ use Rattle.set_moves.proofs.States.{becomes, released_for}
 use Rattle.set_moves.proofs.changeback.release.Goals as goal
 
 pub returns-clause-stands : goal.returns-clause-stands
-returns-clause-stands c = λ s f. rw (← c.home_of_code-home.ensures.value) (becomes (released_for (kept_of c.args.parts.now) s c.args.code c.home_of_code-home.result (given_back c.args.code s.routing) f (omega arith) (omega arith)) (search rules))
+returns-clause-stands o c = λ s f. rw (← c.home_of_code-home.ensures.value) (becomes (released_for (kept_of c.args.parts.now) s c.args.code c.home_of_code-home.result (given_back c.args.code s.routing) f (omega arith) (omega arith)) (search rules))
 
 pub returns-clause-fits : goal.returns-clause-fits
-returns-clause-fits c = rw (← c.home_of_code-home.ensures.value) (λ fit.
+returns-clause-fits o c = rw (← c.home_of_code-home.ensures.value) (λ fit.
     let q = c.args.parts.now.queues.lists in
     let home = c.home_of_code-home.result in
     let then = λ (f : Fate) (stands : is_standing f ≡ true). ap (queue_at f) c.divert.ensures.lists ∙ passed_replaces q (Back c.args.code) (Waiting home) refl (omega arith) (omega arith) f stands in

@@ -10,18 +10,18 @@ use Rattle.set_moves.proofs.Declaring.{count_is, becomes_next}
 use Rattle.set_moves.proofs.changeback.restore.Goals as goal
 
 pub returns-then-not-has_alternative-clause-ok : goal.returns-then-not-has_alternative-clause-ok
-returns-then-not-has_alternative-clause-ok c = λ s a.
+returns-then-not-has_alternative-clause-ok o c = λ s a.
     served s c.args.number (λ link. comes_back c.args.number s) _ c.args.parts.now (is_in c.args.parts.now s c.args.number Up a c.in_default.ensures.here) (rw (sym (c.has_alternative.ensures s a.stands) ∙ c.if-not-has_alternative.true) (record { answer_is = c.into-then-not-has_alternative.ensures; stands = a.stands }))
 
 pub returns-clause-ok : goal.returns-clause-ok
-returns-clause-ok c = λ s a. let end : c.loop-alternative.alternative ≡ length c.args.parts.now.links.items = omega (arith, (whole_of c.args.parts.now c.requires.holds).few) in
+returns-clause-ok o c = λ s a. let end : c.loop-alternative.alternative ≡ length c.args.parts.now.links.items = omega (arith, (whole_of c.args.parts.now c.requires.holds).few) in
     served s c.args.number (λ link. comes_back c.args.number s) Done c.loop-alternative.parts (is_in c.args.parts.now s c.args.number Up a c.in_default.ensures.here) (rw (sym (c.has_alternative.ensures s a.stands) ∙ c.if-not-has_alternative.false) (record {
       answer_is = refl;
       stands = rw (count_is c.args.parts.now s a.stands, ← end) (c.loop-alternative.invariant.stands s a.stands);
     }))
 
 pub loop-alternative-preserved : goal.loop-alternative-preserved
-loop-alternative-preserved c =
+loop-alternative-preserved o c =
     let n = c.loop-alternative.alternative in
     let inv = c.loop-alternative.invariant in
     let change = c.ask.ensures.change in
@@ -37,7 +37,7 @@ loop-alternative-preserved c =
     }
 
 pub loop-alternative-preserved-then-not-may_declare : goal.loop-alternative-preserved-then-not-may_declare
-loop-alternative-preserved-then-not-may_declare c =
+loop-alternative-preserved-then-not-may_declare o c =
     let n = c.loop-alternative.alternative in
     let inv = c.loop-alternative.invariant in
     record {

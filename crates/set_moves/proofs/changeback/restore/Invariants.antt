@@ -5,7 +5,7 @@ use Rattle.set_moves.specs.Parts.{Becomes, IsWhole}
 use Rattle.set_moves.proofs.changeback.restore.Given as goal
 
 abbrev pub invariant-loop-alternative : goal.invariant-loop-alternative
-invariant-loop-alternative l = record {
+invariant-loop-alternative o l = record {
   stands : Becomes l.fn.parts l.parts (declared_from l.number 0 l.alternative);
   whole : IsWhole l.parts;
   links : l.parts.links ≡ l.fn.parts.links;

@@ -6,7 +6,7 @@ use Rattle.set_moves.specs.Parts.{IsWhole, Becomes}
 use Rattle.set_moves.proofs.changeback.time_out.Given as goal
 
 abbrev pub invariant-loop-alternative : goal.invariant-loop-alternative
-invariant-loop-alternative l = record {
+invariant-loop-alternative o l = record {
   whole : IsWhole l.parts;
   links : l.parts.links ≡ l.fn.parts.links;
   room : CanComeBack l.number l.parts;

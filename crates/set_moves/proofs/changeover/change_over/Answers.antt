@@ -11,22 +11,23 @@ use Rattle.set_moves.specs.Parts.{Up, Down, Settled, AtLink, IsOut, IsReach, kep
 use Rattle.set_moves.proofs.States.{link_for}
 use Rattle.set_moves.proofs.Links.{IsHere, is_in, link_set, none_there, profile_of, reach_here, here_room, stands_for, whole_of, has_room_left, beside_out, beside_left, counted_set, out_at}
 use Rattle.set_queues.proofs.Soundness.{room_left}
+use Rattle.set_moves.proofs.changeover.change_over.Given.{Over}
 use Rattle.set_moves.proofs.changeover.change_over.Goals as goal
 use Rattle.set_moves.proofs.changeover.change_over.Goals.{After-leave}
 
 -- A LINK THAT IS UP is left and answered for
-is_here : (c : After-leave) → IsHere c.args.parts.now.links.items c.args.number Up
-is_here c = rw c.in-Some-Up.field-0-is at c.in-Some-Up.ensures.here
+is_here : (o : Over) (c : After-leave o) → IsHere c.args.parts.now.links.items c.args.number Up
+is_here o c = rw c.in-Some-Up.field-0-is at c.in-Some-Up.ensures.here
 
 pub queue-requires-clause-room : goal.queue-requires-clause-room
-queue-requires-clause-room c =
-    let h = is_here (goal.at.queue-requires-clause-room c).After-leave in
+queue-requires-clause-room o c =
+    let h = is_here o (goal.at.queue-requires-clause-room o c).After-leave in
     has_room_left c.args.number c.args.parts.now c.leave.new.parts (c.requires.room h.known) c.leave.ensures.turns c.leave.ensures.bodies (beside_left _ _ c.args.number _ (c.leave.ensures.links h.link h.there) refl)
 
 pub settle-requires : goal.settle-requires
-settle-requires c =
+settle-requires o c =
     let n = c.args.number in
-    let h = is_here (goal.at.settle-requires c).After-leave in
+    let h = is_here o (goal.at.settle-requires o c).After-leave in
     let links = c.args.parts.now.links.items in
     let is = c.leave.ensures.links h.link h.there in
     let many : length c.leave.new.parts.links.items ≡ length links = rw is (length_set _ _ _) in
@@ -48,9 +49,9 @@ settle-requires c =
     }
 
 pub returns-in-Some-Up : goal.returns-in-Some-Up
-returns-in-Some-Up c =
+returns-in-Some-Up o c =
     let n = c.args.number in
-    let h = is_here (goal.at.returns-in-Some-Up c).After-leave in
+    let h = is_here o (goal.at.returns-in-Some-Up o c).After-leave in
     record {
       stands = λ s a.
           let at = is_in c.args.parts.now s n Up a h in
@@ -65,24 +66,24 @@ returns-in-Some-Up c =
 
 -- one that was left settles
 pub settle-requires-in-Some-Down-clause-room : goal.settle-requires-in-Some-Down-clause-room
-settle-requires-in-Some-Down-clause-room c =
+settle-requires-in-Some-Down-clause-room o c =
     let h = rw c.in-Some-Down.field-0-is at c.in-Some-Down.ensures.here in
     here_room c.args.parts.now c.args.number 1 Down h refl (c.requires.room h.known)
 
 pub returns-in-Some-Down : goal.returns-in-Some-Down
-returns-in-Some-Down c =
+returns-in-Some-Down o c =
     let h = rw c.in-Some-Down.field-0-is at c.in-Some-Down.ensures.here in
     record { stands = λ s a. let at = is_in c.args.parts.now s c.args.number Down a h in rw (at.there, at.phase_is) (record { took_is = refl; stands = c.settle-in-Some-Down.ensures.stands s at.link at.there at.phase_is a }) }
 
 -- one that settled is answered for again
 pub queue-requires-in-Some-Settled-clause-room : goal.queue-requires-in-Some-Settled-clause-room
-queue-requires-in-Some-Settled-clause-room c =
+queue-requires-in-Some-Settled-clause-room o c =
     let h = rw c.in-Some-Settled.field-0-is at c.in-Some-Settled.ensures.here in
     let room = c.requires.room h.known in
     grind (arith, beside_out, out_at c.args.parts.now.links.items c.args.number Settled h refl, h.known, room)
 
 pub returns-in-Some-Settled : goal.returns-in-Some-Settled
-returns-in-Some-Settled c =
+returns-in-Some-Settled o c =
     let n = c.args.number in
     let h = rw c.in-Some-Settled.field-0-is at c.in-Some-Settled.ensures.here in
     let same = stands_for c.args.parts.now.links.items n c.from-in-Some-Settled.result c.index-in-Some-Settled.result.now c.from-in-Some-Settled.ensures h.known c.index-in-Some-Settled.ensures in
@@ -99,9 +100,9 @@ returns-in-Some-Settled c =
 
 -- the orders are of the set's grammar, and so is the number that settles a link
 pub queue-requires-clause-order : goal.queue-requires-clause-order
-queue-requires-clause-order c =
+queue-requires-clause-order o c =
     let n = c.args.number in
-    let h = is_here (goal.at.queue-requires-clause-order c).After-leave in
+    let h = is_here o (goal.at.queue-requires-clause-order o c).After-leave in
     let s = c.requires.holds.0 in
     let a = c.requires.holds.1 in
     let at = is_in c.args.parts.now s n Up a h in
@@ -112,7 +113,7 @@ queue-requires-clause-order c =
     (c.requires.number, subst (λ (p : Profile). c.last_accepted.result < fsn_count p) (one ∙ sym other) c.last_accepted.ensures.few)
 
 pub queue-requires-in-Some-Settled-clause-order : goal.queue-requires-in-Some-Settled-clause-order
-queue-requires-in-Some-Settled-clause-order c =
+queue-requires-in-Some-Settled-clause-order o c =
     let n = c.args.number in
     let h = rw c.in-Some-Settled.field-0-is at c.in-Some-Settled.ensures.here in
     let s = c.requires.holds.0 in
@@ -122,10 +123,10 @@ queue-requires-in-Some-Settled-clause-order c =
     subst (λ (p : Profile). IsOrder p c.reply-order.result) (ap (λ (l : LinkState). l.profile) same ∙ profile_of c.args.parts.now s n at.link a at.there) c.reply-order.ensures.fits
 
 pub settle-requires-in-Some-Down-clause-reached : goal.settle-requires-in-Some-Down-clause-reached
-settle-requires-in-Some-Down-clause-reached c =
+settle-requires-in-Some-Down-clause-reached o c =
     let h = rw c.in-Some-Down.field-0-is at c.in-Some-Down.ensures.here in
     reach_here c.args.parts.now c.args.number c.args.reached c.requires.holds h.known c.requires.reached
 
 -- of no link of the set it's ignored
 pub returns-in-None : goal.returns-in-None
-returns-in-None c = record { stands = λ s a. none_there c.args.parts.now s c.args.number (changed_over c.args.reached c.args.number) a (sym c.in-None.is ∙ c.phase_of.ensures.value) }
+returns-in-None o c = record { stands = λ s a. none_there c.args.parts.now s c.args.number (changed_over c.args.reached c.args.number) a (sym c.in-None.is ∙ c.phase_of.ensures.value) }

@@ -5,7 +5,7 @@ use Rattle.set_moves.proofs.Links.{place_for}
 use Rattle.set_moves.proofs.changeover.queue.Goals as goal
 
 pub returns-clause-elsewhere : goal.returns-clause-elsewhere
-returns-clause-elsewhere c = λ number known out.
+returns-clause-elsewhere o c = λ number known out.
     let q = c.args.parts.now.queues.lists in
     let place = place_for number c.target_of.result c.fate_on-fate.result q c.deref.ensures.value c.target_of.ensures.value c.target_of.ensures.below c.fate_on-fate.ensures.value c.requires.whole.as_many known out in
     let aside = place.0 in

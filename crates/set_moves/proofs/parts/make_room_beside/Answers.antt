@@ -7,7 +7,7 @@ use Rattle.set_moves.specs.Room.{target_beside}
 use Rattle.set_moves.proofs.parts.make_room_beside.Goals as goal
 
 pub returns-clause-room : goal.returns-clause-room
-returns-clause-room c =
+returns-clause-room o c =
     let n = c.args.number in
     let before = c.in_ok-reserve_each.ensures.same.lists ∙ c.in_ok-reserve-2.ensures.same.0 in
     let back = c.back_count-back.ensures.value ∙ sym (ap (back_count n) (c.in_ok-reserve_all.ensures.same.lists ∙ before)) in

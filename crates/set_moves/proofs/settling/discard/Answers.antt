@@ -8,11 +8,11 @@ use Rattle.set_moves.proofs.Links.{cleared_less, on_less}
 use Rattle.set_moves.proofs.settling.discard.Goals as goal
 
 pub returns-clause-stands : goal.returns-clause-stands
-returns-clause-stands c = λ s f.
+returns-clause-stands o c = λ s f.
     let mid = kept_of (record c.args.parts.now { queues = c.discard.new.self }) in
     let first = becomes {new = mid} (given_up_for (kept_of c.args.parts.now) s (Unacked c.args.number) c.args.cause f refl (omega arith)) (search rules) in
     becomes (given_up_for mid _ (Waiting c.args.number) c.args.cause first refl (grind arith)) (search rules)
 
 pub returns-clause-fewer : goal.returns-clause-fewer
-returns-clause-fewer c = let known : IsKnown (Waiting c.args.number) c.discard.new.self.lists = grind (arith, links_stay (Unacked c.args.number) []) in
+returns-clause-fewer o c = let known : IsKnown (Waiting c.args.number) c.discard.new.self.lists = grind (arith, links_stay (Unacked c.args.number) []) in
     omega (arith, on_less c.args.number _ _ (cleared_less (Unacked c.args.number) _ _ c.discard.ensures.lists refl (omega arith)), on_less c.args.number _ _ (cleared_less (Waiting c.args.number) _ _ c.discard-2.ensures.lists refl known))

@@ -11,7 +11,7 @@ use Rattle.set_moves.proofs.Links.{link_set, cleared_less, on_less}
 use Rattle.set_moves.proofs.settling.judge.Goals as goal
 
 pub returns-in-Ok-clause-stands : goal.returns-in-Ok-clause-stands
-returns-in-Ok-clause-stands c = λ s link there f.
+returns-in-Ok-clause-stands o c = λ s link there f.
     let r = reaches (kept_of c.args.parts.now) s c.args.number c.in-Upto.fsn link f there in
     rw (c.in-Upto.is, ← r.1, le-leb _ _ c.in-Ok.ensures.acked.0, ← r.0)
     (let count : c.from.result ≡ reach c.args.number c.in-Upto.fsn c.args.parts.now.queues.lists = c.from.ensures ∙ c.in-Ok.ensures.acked.1 in
@@ -19,12 +19,12 @@ returns-in-Ok-clause-stands c = λ s link there f.
     becomes (acked_for (kept_of c.args.parts.now) s c.args.number c.in-Upto.fsn link _ f there (rw c.in-Upto.is at c.requires.reached) refl refl) (search (rules, c.in-Ok.ensures.moves.lists, c.in-Ok.ensures.moves.messages, set)))
 
 pub returns-in-Err-clause-stands : goal.returns-in-Err-clause-stands
-returns-in-Err-clause-stands c = λ s link there f.
+returns-in-Err-clause-stands o c = λ s link there f.
     rw (c.in-Upto.is, ← (reaches (kept_of c.args.parts.now) s c.args.number c.in-Upto.fsn link f there).1, lt-leb (reach c.args.number c.in-Upto.fsn c.args.parts.now.queues.lists) (length (queue_at (Unacked c.args.number) c.args.parts.now.queues.lists)) (omega (arith, c.in-Err.ensures.acked)))
     (c.discard.ensures.stands s (subst (λ q. StandsFor (record (kept_of c.args.parts.now) { lists = q.lists; messages = q.messages }) s) (sym c.in-Err.ensures.err) f))
 
 pub returns-in-Unknown-clause-stands : goal.returns-in-Unknown-clause-stands
-returns-in-Unknown-clause-stands c = λ s link there f. rw c.in-Unknown.is (becomes (given_up_for (kept_of c.args.parts.now) s (Unacked c.args.number) Emergency f refl (omega arith)) (search rules))
+returns-in-Unknown-clause-stands o c = λ s link there f. rw c.in-Unknown.is (becomes (given_up_for (kept_of c.args.parts.now) s (Unacked c.args.number) Emergency f refl (omega arith)) (search rules))
 
 pub returns-in-Unknown-clause-fewer : goal.returns-in-Unknown-clause-fewer
-returns-in-Unknown-clause-fewer c = search (rules, cleared_less, on_less)
+returns-in-Unknown-clause-fewer o c = search (rules, cleared_less, on_less)

@@ -8,10 +8,10 @@ use Rattle.set_queues.proofs.Storing.{all_more, bodies_more, length_bodies}
 use Rattle.set_queues.proofs.bodies.keep.Goals as goal
 
 pub loop-place-init : goal.loop-place-init
-loop-place-init c = rw (c.new-older.ensures.items, c.new-kept_ends.ensures.items, c.new-kept_octets.ensures.items) (record { kept = kept_none (λ k. is_unfinished (slot_at k c.args.queues.now.messages)) c.args.numbers.now.older.items c.args.numbers.now.first (bodies_in 0 c.args.ends.now c.args.octets.now) c.requires.slots.order; all = refl })
+loop-place-init o c = rw (c.new-older.ensures.items, c.new-kept_ends.ensures.items, c.new-kept_octets.ensures.items) (record { kept = kept_none (λ k. is_unfinished (slot_at k c.args.queues.now.messages)) c.args.numbers.now.older.items c.args.numbers.now.first (bodies_in 0 c.args.ends.now c.args.octets.now) c.requires.slots.order; all = refl })
 
 pub loop-place-preserved-then-not-is_unfinished : goal.loop-place-preserved-then-not-is_unfinished
-loop-place-preserved-then-not-is_unfinished c =
+loop-place-preserved-then-not-is_unfinished o c =
     let long = length_bodies 0 c.args.ends.now c.args.octets.now in
     let there = slice_get-get_or (bodies_in 0 c.args.ends.now c.args.octets.now) c.loop-place.place [] (omega (arith, long, c.loop-place-test.true)) in
     record {
@@ -20,7 +20,7 @@ loop-place-preserved-then-not-is_unfinished c =
     }
 
 pub loop-place-preserved : goal.loop-place-preserved
-loop-place-preserved c =
+loop-place-preserved o c =
     let end : c.len.result ≡ length c.loop-place.kept_octets.items + length c.body_in.result.now = grind arith in
     let more = bodies_more 0 c.loop-place.kept_ends.items c.loop-place.kept_octets.items c.body_in.result.now c.len.result end c.loop-place.invariant.all in
     let kept = one_kept (λ k. is_unfinished (slot_at k c.args.queues.now.messages)) c.args.numbers.now.older.items c.args.numbers.now.first (bodies_in 0 c.args.ends.now c.args.octets.now) c.loop-place.older.items _ c.loop-place.place c.body_in.result.now c.requires.slots.order c.body_in.ensures c.loop-place.invariant.kept (rw c.number_at-number.ensures at (sym c.is_unfinished.ensures) ∙ c.if-not-is_unfinished.false) in
@@ -30,6 +30,6 @@ loop-place-preserved c =
     })
 
 pub returns-clause-kept : goal.returns-clause-kept
-returns-clause-kept c =
+returns-clause-kept o c =
     let long = length_bodies 0 c.args.ends.now c.args.octets.now in
     rw long at (kept_end (λ k. is_unfinished (slot_at k c.args.queues.now.messages)) c.args.numbers.now.older.items c.args.numbers.now.first (bodies_in 0 c.args.ends.now c.args.octets.now) c.loop-place.older.items _ c.loop-place.place (grind (arith, c.requires.slots.many)) (omega (arith, long)) c.loop-place.invariant.kept)

@@ -6,20 +6,20 @@ use Rattle.set_queues.proofs.Keeping.{item_there, kept_end, kept_none, one_dropp
 use Rattle.set_queues.proofs.messages.keep.Goals as goal
 
 pub loop-place-init : goal.loop-place-init
-loop-place-init c = rw (c.new-older.ensures.items, c.new-kept.ensures.items) (kept_none (λ k. is_unfinished (item_at k c.args.numbers.now.older.items c.args.numbers.now.first c.args.all.now)) c.args.numbers.now.older.items c.args.numbers.now.first c.args.all.now c.requires.order)
+loop-place-init o c = rw (c.new-older.ensures.items, c.new-kept.ensures.items) (kept_none (λ k. is_unfinished (item_at k c.args.numbers.now.older.items c.args.numbers.now.first c.args.all.now)) c.args.numbers.now.older.items c.args.numbers.now.first c.args.all.now c.requires.order)
 
 pub loop-place-preserved-then-not-is_standing : goal.loop-place-preserved-then-not-is_standing
-loop-place-preserved-then-not-is_standing c =
+loop-place-preserved-then-not-is_standing o c =
     let there = slice_get-get_or c.args.all.now c.loop-place.place _ c.loop-place-test.true in
     let here = item_there c.args.numbers.now.older.items c.args.numbers.now.first c.args.all.now c.loop-place.place _ c.requires.order there in
     one_dropped (λ k. is_unfinished (item_at k c.args.numbers.now.older.items c.args.numbers.now.first c.args.all.now)) c.args.numbers.now.older.items c.args.numbers.now.first c.args.all.now c.loop-place.older.items c.loop-place.kept.items c.loop-place.place _ c.requires.order there c.loop-place.invariant (ap is_unfinished here ∙ sym c.is_standing.ensures ∙ c.if-not-is_standing.true)
 
 pub loop-place-preserved : goal.loop-place-preserved
-loop-place-preserved c =
+loop-place-preserved o c =
     let there = slice_get-get_or c.args.all.now c.loop-place.place _ c.loop-place-test.true in
     let here = item_there c.args.numbers.now.older.items c.args.numbers.now.first c.args.all.now c.loop-place.place _ c.requires.order there in
     let kept = one_kept (λ k. is_unfinished (item_at k c.args.numbers.now.older.items c.args.numbers.now.first c.args.all.now)) c.args.numbers.now.older.items c.args.numbers.now.first c.args.all.now c.loop-place.older.items c.loop-place.kept.items c.loop-place.place _ c.requires.order there c.loop-place.invariant (ap is_unfinished here ∙ sym c.is_standing.ensures ∙ c.if-not-is_standing.false) in
     rw (c.in_ok-push.ensures.items, c.in_ok-push-2.ensures.items, c.number_at.ensures) kept
 
 pub returns : goal.returns
-returns c = kept_end (λ k. is_unfinished (item_at k c.args.numbers.now.older.items c.args.numbers.now.first c.args.all.now)) c.args.numbers.now.older.items c.args.numbers.now.first c.args.all.now c.loop-place.older.items c.loop-place.kept.items c.loop-place.place (grind (arith, c.requires.many)) (grind arith) c.loop-place.invariant
+returns o c = kept_end (λ k. is_unfinished (item_at k c.args.numbers.now.older.items c.args.numbers.now.first c.args.all.now)) c.args.numbers.now.older.items c.args.numbers.now.first c.args.all.now c.loop-place.older.items c.loop-place.kept.items c.loop-place.place (grind (arith, c.requires.many)) (grind arith) c.loop-place.invariant

@@ -4,7 +4,7 @@ use Rattle.set_queues.proofs.Standing.{queue_away, queue_next, take_get, restood
 use Rattle.set_queues.proofs.messages.pass.Goals as goal
 
 pub loop-place-preserved : goal.loop-place-preserved
-loop-place-preserved c =
+loop-place-preserved o c =
     let same : queue_at c.args.from c.loop-place.buffers.lists ≡ queue_at c.args.from c.args.buffers.now.lists = queue_away c.args.to c.args.from _ _ _ c.loop-place.invariant.lists c.requires.other c.requires.apart in
     let got : slice_get (queue_at c.args.from c.args.buffers.now.lists) c.loop-place.place ≡ Some c.unwrap-number.result = ap (λ (ns : List ℕ). slice_get ns c.loop-place.place) (sym same) ∙ sym c.at.ensures ∙ c.unwrap-number.ensures in
     record {

@@ -2,4 +2,4 @@ use Rattle.std.proofs.Common.{◌≡◌, take}
 use Rattle.set_step.proofs.forgetting.inbox_copied.Given as goal
 
 abbrev pub invariant-loop-place : goal.invariant-loop-place
-invariant-loop-place l = l.copy.items ≡ take l.place l.inbox.items
+invariant-loop-place o l = l.copy.items ≡ take l.place l.inbox.items

@@ -10,17 +10,17 @@ use Rattle.set_step.proofs.Kept.{is_empty}
 use Rattle.set_step.proofs.step.bring_up.Goals as goal
 
 pub reset-requires-clause-unsent : goal.reset-requires-clause-unsent
-reset-requires-clause-unsent c = (is_empty c.args.parts.now _ c.args.number c.requires.holds (rw c.in-Some-Settled.field-0-is at c.in-Some-Settled.ensures.here) c.in_ok-make_room_parked-in-Some-Settled.ensures.same).unsent
+reset-requires-clause-unsent o c = (is_empty c.args.parts.now _ c.args.number c.requires.holds (rw c.in-Some-Settled.field-0-is at c.in-Some-Settled.ensures.here) c.in_ok-make_room_parked-in-Some-Settled.ensures.same).unsent
 
 pub divert-requires-clause-room : goal.divert-requires-clause-room
-divert-requires-clause-room c =
+divert-requires-clause-room o c =
     let same = ap (λ (q : Lists). length q.parked) c.reset.ensures.lists in
     let room = c.reset.ensures.rooms (Waiting c.args.number) in
     let enough = c.in_ok-make_room_parked-in-Some-Settled.ensures.room in
     omega (arith, same, room, enough)
 
 pub returns-in_ok-make_room_parked-in-Some-Settled-clause-ok : goal.returns-in_ok-make_room_parked-in-Some-Settled-clause-ok
-returns-in_ok-make_room_parked-in-Some-Settled-clause-ok c = λ s a.
+returns-in_ok-make_room_parked-in-Some-Settled-clause-ok o c = λ s a.
     let n = c.args.number in
     let roomy = c.make_room_parked.new.parts in
     let f = (agrees_same c.args.parts.now roomy s c.in_ok-make_room_parked-in-Some-Settled.ensures.same a).stands in

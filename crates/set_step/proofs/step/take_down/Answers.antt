@@ -10,17 +10,17 @@ use Rattle.set_step.proofs.step.take_down.Goals as goal
 use Rattle.set_step.proofs.step.take_down.Goals.{then-blind, else-blind}
 
 pub last_accepted-requires : goal.last_accepted-requires
-last_accepted-requires c = let few = (c.requires.counted c.args.number _ (found c.args.parts.now.links.items c.args.number c.from.result c.index.result.now c.from.ensures c.in_default.ensures.here.known c.index.ensures)).accepted in omega (arith, few)
+last_accepted-requires o c = let few = (c.requires.counted c.args.number _ (found c.args.parts.now.links.items c.args.number c.from.result c.index.result.now c.from.ensures c.in_default.ensures.here.known c.index.ensures)).accepted in omega (arith, few)
 
 pub queue-requires-clause-room : goal.queue-requires-clause-room
-queue-requires-clause-room c =
+queue-requires-clause-room o c =
     let roomy = c.make_room_beside.new.parts in
     let here = c.in_default.ensures.here in
     let left = c.leave.ensures.links here.link (rw c.in_ok-make_room_beside.ensures.same.links here.there) in
     has_room_left c.args.number roomy c.leave.new.parts c.in_ok-make_room_beside.ensures.room c.leave.ensures.turns c.leave.ensures.bodies (beside_left roomy.links.items c.leave.new.parts.links.items c.args.number _ left refl)
 
 pub queue-requires-clause-order : goal.queue-requires-clause-order
-queue-requires-clause-order c =
+queue-requires-clause-order o c =
     let n = c.args.number in
     let here = c.in_default.ensures.here in
     let s = c.requires.holds.0 in
@@ -37,7 +37,7 @@ queue-requires-clause-order c =
     ]
 
 pub returns-clause-ok : goal.returns-clause-ok
-returns-clause-ok c = λ s a.
+returns-clause-ok o c = λ s a.
     let n = c.args.number in
     let here = c.in_default.ensures.here in
     let i = is_in c.args.parts.now s n Up a here in

@@ -10,18 +10,18 @@ use Rattle.set_traffic.proofs.Overtaken.{clears_first, cleared_all, some_waits, 
 use Rattle.set_traffic.proofs.clearing.clear.Goals as goal
 
 pub withdraw-requires-clause-some : goal.withdraw-requires-clause-some
-withdraw-requires-clause-some c =
+withdraw-requires-clause-some o c =
     let now = c.loop-parts.invariant.clears c.requires.holds.0 c.requires.holds.1.stands in
     some_waits c.args.number now.now (kept_of c.loop-parts.parts) now.stands (sym (c.is_first_overtaken.ensures now.now now.stands) ∙ c.loop-parts-test.true)
 
 pub loop-parts-smaller : goal.loop-parts-smaller
-loop-parts-smaller c =
+loop-parts-smaller o c =
     let now = c.loop-parts.invariant.clears c.requires.holds.0 c.requires.holds.1.stands in
     let some = some_waits c.args.number now.now (kept_of c.loop-parts.parts) now.stands (sym (c.is_first_overtaken.ensures now.now now.stands) ∙ c.loop-parts-test.true) in
     one_less c.args.number c.loop-parts.parts.queues.lists c.withdraw.new.self.lists c.loop-parts.invariant.queue c.withdraw.ensures.lists some
 
 pub loop-parts-preserved : goal.loop-parts-preserved
-loop-parts-preserved c =
+loop-parts-preserved o c =
     let n = c.args.number in
     let inv = c.loop-parts.invariant in
     record {
@@ -34,7 +34,7 @@ loop-parts-preserved c =
     }
 
 pub returns : goal.returns
-returns c =
+returns o c =
     let n = c.args.number in
     let stands = λ (s : State) (f : StandsFor (kept_of c.args.parts.now) s).
     let now = c.loop-parts.invariant.clears s f in

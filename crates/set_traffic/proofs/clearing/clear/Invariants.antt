@@ -7,11 +7,11 @@ use Rattle.set_traffic.proofs.Overtaken.{ClearsOn}
 use Rattle.set_traffic.proofs.clearing.clear.Given as goal
 
 abbrev pub invariant-loop-parts : goal.invariant-loop-parts
-invariant-loop-parts l = record {
+invariant-loop-parts o l = record {
   links : l.parts.links ≡ l.initial.parts.links;
   queue : l.number < length l.parts.queues.lists.links;
   clears : (s : State) → StandsFor (kept_of l.initial.parts) s → ClearsOn l.number s (kept_of l.parts);
 }
 
 abbrev pub decreases-loop-parts : goal.decreases-loop-parts
-decreases-loop-parts l = length (queue_at (Waiting l.number) l.parts.queues.lists)
+decreases-loop-parts o l = length (queue_at (Waiting l.number) l.parts.queues.lists)

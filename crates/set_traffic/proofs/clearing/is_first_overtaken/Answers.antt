@@ -10,16 +10,16 @@ use Rattle.set_traffic.proofs.Overtaken.{none_first, first_is}
 use Rattle.set_traffic.proofs.clearing.is_first_overtaken.Goals as goal
 
 pub returns-in_default : goal.returns-in_default
-returns-in_default c = λ s f. none_first c.args.number s (kept_of c.args.parts.now) f (sym c.number_at.ensures ∙ c.in_default.is)
+returns-in_default o c = λ s f. none_first c.args.number s (kept_of c.args.parts.now) f (sym c.number_at.ensures ∙ c.in_default.is)
 
 pub body-requires : goal.body-requires
-body-requires c =
+body-requires o c =
     let f = c.requires.stands.1 in
     let at = found_at _ _ f (Waiting c.args.number) 0 c.in-Some.message refl (sym c.number_at.ensures ∙ c.in-Some.is) in
     rw (f.bodies c.in-Some.message, at.body_is) refl
 
 pub returns : goal.returns
-returns c = λ s f.
+returns o c = λ s f.
     let body = c.body.result.now in
     let profile = c.profile.ensures ∙ ap (λ (m : Settings). m.profile) f.settings in
     let order = c.order_in-order.ensures.exact ∙ ap (λ (p : Profile). order_of p body) profile in

@@ -4,10 +4,10 @@ use Rattle.set_moves.proofs.States.{acked_for, link_for}
 use Rattle.set_traffic.proofs.hearing.acknowledge.Goals as goal
 
 pub returns-then-acked-eq0-clause-stands : goal.returns-then-acked-eq0-clause-stands
-returns-then-acked-eq0-clause-stands c = λ k s link counted there e p f. rw c.if-acked-eq0.true (rw f.routing (link_for _ s c.args.number link counted s.routing f there (omega (arith, e, c.if-acked-eq0.true)) p))
+returns-then-acked-eq0-clause-stands o c = λ k s link counted there e p f. rw c.if-acked-eq0.true (rw f.routing (link_for _ s c.args.number link counted s.routing f there (omega (arith, e, c.if-acked-eq0.true)) p))
 
 pub returns-clause-stands : goal.returns-clause-stands
-returns-clause-stands c = λ k s link counted there e p f.
+returns-clause-stands o c = λ k s link counted there e p f.
     let q = c.args.queues.now.lists in
     let reaches = c.requires.reach (grind (arith, nat_tests, c.if-acked-eq0.false)) in
     let moves = rw c.unwrap.ensures at c.acknowledge.ensures.moves in

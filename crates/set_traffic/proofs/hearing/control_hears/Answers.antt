@@ -8,39 +8,40 @@ use Rattle.set_moves.specs.Agreement.{StandsFor}
 use Rattle.set_moves.specs.Parts.{kept_of, IsCounted}
 use Rattle.set_traffic.proofs.Traffic.{told}
 use Rattle.set_moves.proofs.Links.{found, link_set, set_view, counted_set, wider}
+use Rattle.set_traffic.proofs.hearing.control_hears.Given.{Over}
 use Rattle.set_traffic.proofs.hearing.control_hears.Goals as goal
 use Rattle.set_traffic.proofs.hearing.control_hears.Goals.{After-hear-part}
 
-tells : (c : After-hear-part) (s : State) (link : LinkState) → slice_get s.links c.args.number ≡ Some link → StandsFor (kept_of c.args.parts.now) s → (c.link.inside.control ≡ link.control) × (c.window-window.result.now ≡ record (window_of c.args.number link s.rows) { room = c.window-window.result.now.room })
-tells c s link there f = told c.args.parts.now s c.args.number c.from.result c.index_mut-link.result.now _ c.window-window.result.now link c.from.ensures c.requires.known c.index_mut-link.ensures.value (ap (λ (l : Link). l.control) c.link.view_is) c.window-window.ensures.last c.window-window.ensures.profile c.window-window.ensures.unacked c.window-window.ensures.unsent there f
+tells : (o : Over) (c : After-hear-part o) (s : State) (link : LinkState) → slice_get s.links c.args.number ≡ Some link → StandsFor (kept_of c.args.parts.now) s → (c.link.inside.control ≡ link.control) × (c.window-window.result.now ≡ record (window_of c.args.number link s.rows) { room = c.window-window.result.now.room })
+tells o c s link there f = told c.args.parts.now s c.args.number c.from.result c.index_mut-link.result.now _ c.window-window.result.now link c.from.ensures c.requires.known c.index_mut-link.ensures.value (ap (λ (l : Link). l.control) c.link.view_is) c.window-window.ensures.last c.window-window.ensures.profile c.window-window.ensures.unacked c.window-window.ensures.unsent there f
 
 -- the link as it was, and as it counts
-abbrev was : After-hear-part → Link
-was c = record { phase = c.link.inside.phase; profile = c.link.inside.profile; blind = c.link.inside.blind; answered = c.link.inside.answered; acked = c.link.inside.acked; accepted = c.link.inside.accepted; control = c.link.inside.control }
+abbrev was : (o : Over) (c : After-hear-part o) → Link
+was o c = record { phase = c.link.inside.phase; profile = c.link.inside.profile; blind = c.link.inside.blind; answered = c.link.inside.answered; acked = c.link.inside.acked; accepted = c.link.inside.accepted; control = c.link.inside.control }
 
 abbrev counted : ℕ → ℕ → Control → Link → Link
 counted acked accepted control link = record link { acked = link.acked + acked; accepted = link.accepted + accepted; control = control }
 
-few : (c : After-hear-part) → IsCounted (2 ^ 60) (was c)
-few c = rw c.link.view_is (c.requires.counted c.args.number _ (found c.args.parts.now.links.items c.args.number c.from.result c.index_mut-link.result.now c.from.ensures c.requires.known c.index_mut-link.ensures.value))
+few : (o : Over) (c : After-hear-part o) → IsCounted (2 ^ 60) (was o c)
+few o c = rw c.link.view_is (c.requires.counted c.args.number _ (found c.args.parts.now.links.items c.args.number c.from.result c.index_mut-link.result.now c.from.ensures c.requires.known c.index_mut-link.ensures.value))
 
 pub overflow_add-link : goal.overflow_add-link
-overflow_add-link c = let k = (few (goal.at.overflow_add-link c).After-hear-part).acked in omega (arith, k, c.from-2.ensures)
+overflow_add-link o c = let k = (few o (goal.at.overflow_add-link o c).After-hear-part).acked in omega (arith, k, c.from-2.ensures)
 
 pub overflow_add-link-2 : goal.overflow_add-link-2
-overflow_add-link-2 c = let k = (few (goal.at.overflow_add-link-2 c).After-hear-part).accepted in grind (arith, k, c.from-3.ensures)
+overflow_add-link-2 o c = let k = (few o (goal.at.overflow_add-link-2 o c).After-hear-part).accepted in grind (arith, k, c.from-3.ensures)
 
 pub returns-clause-part : goal.returns-clause-part
-returns-clause-part c = λ s link there f.
-    let same = tells (goal.at.returns-clause-part c).After-hear-part s link there f in
+returns-clause-part o c = λ s link there f.
+    let same = tells o (goal.at.returns-clause-part o c).After-hear-part s link there f in
     rw (← c.header_in-head.ensures, ← c.has_message.ensures) (c.hear-part.ensures.part ∙ rw (same.1, same.0) (grind arith))
 
 pub returns-clause-stands : goal.returns-clause-stands
-returns-clause-stands c = λ s link there f.
+returns-clause-stands o c = λ s link there f.
     let n = c.args.number in
     let part = c.hear-part.result in
-    let so = (goal.at.returns-clause-stands c).After-hear-part in
-    let told = tells so s link there f in
+    let so = (goal.at.returns-clause-stands o c).After-hear-part in
+    let told = tells o so s link there f in
     let heard = record link { acked = link.acked + part.acked; accepted = link.accepted + one_if part.accept; control = control_heard link.control (window_of n link s.rows) (head_of c.args.unit.now) (is_msu c.args.unit.now) } in
     let links = link_set c.args.parts.now.links.items n c.from.result c.index_mut-link.result.now c.from.ensures c.requires.known c.index_mut-link.ensures.value (counted c.from-2.result c.from-3.result c.hear-part.new.self) _ s.links link c.link.view_is f.links there
     ∙ ap (slice_set s.links n) (rw (c.hear-part.ensures.state, told.1, told.0, c.header_in-head.ensures, c.has_message.ensures, c.from-2.ensures, c.from-3.ensures) (grind arith)) in
@@ -48,14 +49,14 @@ returns-clause-stands c = λ s link there f.
     (c.acknowledge.ensures.stands (kept_of c.args.parts.now) s link heard there refl refl f)
 
 pub returns-clause-counted : goal.returns-clause-counted
-returns-clause-counted c =
-    let so = (goal.at.returns-clause-counted c).After-hear-part in
-    let k = few so in
-    let new = counted c.from-2.result c.from-3.result c.hear-part.new.self (was so) in
+returns-clause-counted o c =
+    let so = (goal.at.returns-clause-counted o c).After-hear-part in
+    let k = few o so in
+    let new = counted c.from-2.result c.from-3.result c.hear-part.new.self (was o so) in
     counted_set 2305843009213693952 c.args.parts.now.links.items _ c.args.number new (wider 1152921504606846976 2305843009213693952 c.args.parts.now.links.items (omega arith) c.requires.counted) (ap (λ k. slice_set c.args.parts.now.links.items k new) c.from.ensures) (grind (arith, k.acked, k.accepted, c.from-2.ensures, c.from-3.ensures))
 
 pub returns-clause-keeps : goal.returns-clause-keeps
-returns-clause-keeps c = record {
+returns-clause-keeps o c = record {
   queues = c.acknowledge.ensures.keeps;
   bodies = refl;
   phases = set_view c.args.parts.now.links.items c.args.number c.from.result c.index_mut-link.result.now c.from.ensures c.requires.known c.index_mut-link.ensures.value (λ l. l.phase) _ (ap (λ (l : Link). l.phase) c.link.view_is);

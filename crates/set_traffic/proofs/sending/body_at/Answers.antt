@@ -4,10 +4,10 @@ use Rattle.set_traffic.proofs.Traffic.{found_at, body_is}
 use Rattle.set_traffic.proofs.sending.body_at.Goals as goal
 
 pub returns : goal.returns
-returns c = λ s f. body_is (kept_of c.args.parts.now) s f c.args.fate c.args.place c.unwrap-message.result c.requires.standing (sym c.number_at.ensures ∙ c.unwrap-message.ensures) ∙ c.body.ensures ∙ ap Some (sym c.body_of.ensures)
+returns o c = λ s f. body_is (kept_of c.args.parts.now) s f c.args.fate c.args.place c.unwrap-message.result c.requires.standing (sym c.number_at.ensures ∙ c.unwrap-message.ensures) ∙ c.body.ensures ∙ ap Some (sym c.body_of.ensures)
 
 pub body-requires : goal.body-requires
-body-requires c =
+body-requires o c =
     let f = c.requires.holds.1.1.stands in
     let at = found_at _ _ f c.args.fate c.args.place c.unwrap-message.result c.requires.standing (sym c.number_at.ensures ∙ c.unwrap-message.ensures) in
     rw (f.bodies c.unwrap-message.result, at.body_is) refl

@@ -1,7 +1,8 @@
-use Rattle.std.proofs.Common.{arith, refl}
+use Rattle.std.proofs.Common.{arith, refl, subst, sym}
 use Rattle.set_moves.proofs.States.{becomes, sent_for}
 use Rattle.l2_window.specs.declared.control.Choice.TheVariants.{First}
 use Rattle.set_model.specs.Changeover.{cleared}
+use Rattle.set_moves.specs.Agreement.{Holds}
 use Rattle.set_moves.specs.Parts.{Up, kept_of}
 use Rattle.set_moves.proofs.Links.{is_in}
 use Rattle.set_traffic.specs.Traffic.{goes_on}
@@ -9,8 +10,16 @@ use Rattle.set_traffic.proofs.Overtaken.{cleared_order}
 use Rattle.set_traffic.proofs.Traffic.{given, with_body}
 use Rattle.set_traffic.proofs.sending.send_next.Goals as goal
 
+pub body_at-body-requires-clause-holds : goal.body_at-body-requires-clause-holds
+body_at-body-requires-clause-holds o c =
+    (c.clear.new.parts.links.items, subst (λ parts. Holds (record (kept_of parts) { links = c.clear.new.parts.links.items })) (sym c.go_on-choice.ensures.same) c.clear.ensures.holds)
+
+pub body_at-body-requires-in-First-clause-holds : goal.body_at-body-requires-in-First-clause-holds
+body_at-body-requires-in-First-clause-holds o c =
+    (c.clear.new.parts.links.items, subst (λ parts. Holds (record (kept_of parts) { links = c.clear.new.parts.links.items })) (sym c.go_on-choice.ensures.same) c.clear.ensures.holds)
+
 pub returns-in-Again : goal.returns-in-Again
-returns-in-Again c = λ s a.
+returns-in-Again o c = λ s a.
     let i = is_in c.args.parts.now s c.args.number Up a c.in_default.ensures.here in
     let clear = cleared c.args.number s in
     let cleared_for = c.clear.ensures.stands s a.stands in
@@ -19,7 +28,7 @@ returns-in-Again c = λ s a.
     (rw c.in-Again.is (with_body _ _ c.body_at-body.result (c.body_at-body.ensures _ stands))) (rw c.in-Again.is (rw c.in-Again.is at stands))
 
 pub returns-in-First : goal.returns-in-First
-returns-in-First c = λ s a.
+returns-in-First o c = λ s a.
     let i = is_in c.args.parts.now s c.args.number Up a c.in_default.ensures.here in
     let clear = cleared c.args.number s in
     let cleared_for = c.clear.ensures.stands s a.stands in
@@ -31,7 +40,7 @@ returns-in-First c = λ s a.
     (rw c.in-First.is (becomes (sent_for (kept_of c.go_on-choice.new.parts) (goes_on c.args.number First i.link clear) c.args.number stands order c.go_on-choice.ensures.queue) (grind (arith, sent.lists, sent.messages))))
 
 pub returns-in-Fill : goal.returns-in-Fill
-returns-in-Fill c = λ s a.
+returns-in-Fill o c = λ s a.
     let i = is_in c.args.parts.now s c.args.number Up a c.in_default.ensures.here in
     let clear = cleared c.args.number s in
     let cleared_for = c.clear.ensures.stands s a.stands in

@@ -4,12 +4,12 @@ use Rattle.l2_basic.proofs.basic.Basic.next.Goals as goal
 
 -- src/basic.rt:103:5
 pub returns-in-Some : goal.returns-in-Some
-returns-in-Some c = next_again _ _ _ _ c.choice-choice.result _ c.send-head.ensures.bsn c.choice-choice.ensures c.send-head.ensures.header c.send-head.ensures.state _ _ c.in-Again.is (sym c.unacked_at.ensures ∙ c.in-Some.is) refl
+returns-in-Some o c = next_again _ _ _ _ c.choice-choice.result _ c.send-head.ensures.bsn c.choice-choice.ensures c.send-head.ensures.header c.send-head.ensures.state _ _ c.in-Again.is (sym c.unacked_at.ensures ∙ c.in-Some.is) refl
 
 -- src/basic.rt:103:5
 pub returns-in-First : goal.returns-in-First
-returns-in-First c = next_first _ _ _ _ c.choice-choice.result _ c.send-head.ensures.bsn c.choice-choice.ensures c.send-head.ensures.header c.send-head.ensures.state _ c.in-First.is c.send_new.ensures
+returns-in-First o c = next_first _ _ _ _ c.choice-choice.result _ c.send-head.ensures.bsn c.choice-choice.ensures c.send-head.ensures.header c.send-head.ensures.state _ c.in-First.is c.send_new.ensures
 
 -- src/basic.rt:103:5
 pub returns-in-Fill : goal.returns-in-Fill
-returns-in-Fill c = next_fill _ _ _ _ c.choice-choice.result _ c.send-head.ensures.bsn c.choice-choice.ensures c.send-head.ensures.header c.send-head.ensures.state c.in-Fill.is refl
+returns-in-Fill o c = next_fill _ _ _ _ c.choice-choice.result _ c.send-head.ensures.bsn c.choice-choice.ensures c.send-head.ensures.header c.send-head.ensures.state c.in-Fill.is refl

@@ -9,13 +9,13 @@ use Rattle.set_core.proofs.Keeping.{books_begin, bounded}
 use Rattle.set_core.proofs.base.Base.books.Goals as goal
 
 pub returns-clause-value : goal.returns-clause-value
-returns-clause-value c =
+returns-clause-value o c =
     let b = c.self.inside in
     let acked : c.counts.result.acked ≡ (counts_in (shown b.order.numbers b.core)).acked = ap (λ (n : Counts). n.acked) (c.counts.ensures.value (shown b.order.numbers b.core) c.self.invariant.agrees.stands) in
     ap (books_by b.tally) acked ∙ ap (λ (base : Base). base.books) c.self.view_is
 
 pub returns-clause-bounded : goal.returns-clause-bounded
-returns-clause-bounded c =
+returns-clause-bounded o c =
     let b = c.self.inside in
     let k = c.self.invariant in
     let base : Base = base_of b.order.numbers b.core b.tally in

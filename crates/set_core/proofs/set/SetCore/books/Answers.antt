@@ -6,7 +6,7 @@ use Rattle.set_core.proofs.Keeping.{books_told, bounded}
 use Rattle.set_core.proofs.set.SetCore.books.Goals as goal
 
 pub returns-clause-bounded : goal.returns-clause-bounded
-returns-clause-bounded c =
+returns-clause-bounded o c =
     let k = c.self.invariant.0 in
     let base = c.self.inside.base in
     let history = c.self.inside.history.items in
@@ -24,7 +24,7 @@ returns-clause-bounded c =
     }
 
 pub returns-clause-value : goal.returns-clause-value
-returns-clause-value c =
+returns-clause-value o c =
     let k = c.self.invariant.0 in
     let base = c.self.inside.base in
     let history = c.self.inside.history.items in

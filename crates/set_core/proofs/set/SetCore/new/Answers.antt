@@ -6,7 +6,7 @@ use Rattle.set_core.proofs.Keeping.{kept_new}
 use Rattle.set_core.proofs.set.SetCore.new.Goals as goal
 
 pub invariant_of-result : goal.invariant_of-result
-invariant_of-result c =
+invariant_of-result o c =
     let core = c.in_ok-new.field-0 in
     let tally = c.new-2.result in
     let base = c.in_ok-opening.field-0 in (

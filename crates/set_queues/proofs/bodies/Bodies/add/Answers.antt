@@ -5,7 +5,7 @@ use Rattle.set_queues.proofs.Storing.{length_bodies, bodies_more}
 use Rattle.set_queues.proofs.bodies.Bodies.add.Goals as goal
 
 pub returns-clause-items : goal.returns-clause-items
-returns-clause-items c =
+returns-clause-items o c =
     let long = length_bodies 0 c.self.inside.ends.items c.self.inside.octets.items in
     let end : c.len.result ≡ length c.self.inside.octets.items + length c.args.body.now = grind arith in
     let more = bodies_more 0 c.self.inside.ends.items c.self.inside.octets.items c.args.body.now c.len.result end c.self.invariant.1 in

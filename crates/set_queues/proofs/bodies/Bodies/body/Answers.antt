@@ -15,19 +15,19 @@ has_place number older first ends octets None s e h =
     rw none at h
 
 pub unwrap-place-requires : goal.unwrap-place-requires
-unwrap-place-requires c =
+unwrap-place-requires o c =
     let n : c.len.result ≡ length c.self.inside.ends.items = grind arith in
     has_place c.args.number c.self.inside.numbers.older.items c.self.inside.numbers.first c.self.inside.ends.items c.self.inside.octets.items c.place.result c.self.invariant.0 (rw n at c.place.ensures) (rw (← c.self.view_is) at c.requires)
 
 pub body_in-requires-clause-within : goal.body_in-requires-clause-within
-body_in-requires-clause-within c =
+body_in-requires-clause-within o c =
     let n : c.len.result ≡ length c.self.inside.ends.items = grind arith in
     let long = length_bodies 0 c.self.inside.ends.items c.self.inside.octets.items in
     let says = within_says c.args.number c.self.inside.numbers.older.items c.self.inside.numbers.first (bodies_in 0 c.self.inside.ends.items c.self.inside.octets.items) c.unwrap-place.result (rw long c.self.invariant.0) (rw (long, ← n) (sym c.place.ensures ∙ c.unwrap-place.ensures)) in
     omega (arith, says.1, long, ap length c.deref.ensures.value)
 
 pub returns : goal.returns
-returns c =
+returns o c =
     let n : c.len.result ≡ length c.self.inside.ends.items = grind arith in
     let long = length_bodies 0 c.self.inside.ends.items c.self.inside.octets.items in
     rw (← c.self.view_is) (slot_found c.args.number c.self.inside.numbers.older.items c.self.inside.numbers.first (bodies_in 0 c.self.inside.ends.items c.self.inside.octets.items) c.unwrap-place.result c.body_in.result.now (rw long c.self.invariant.0) (rw (long, ← n) (sym c.place.ensures ∙ c.unwrap-place.ensures)) (rw (c.deref.ensures.value, c.deref-2.ensures.value) at c.body_in.ensures))

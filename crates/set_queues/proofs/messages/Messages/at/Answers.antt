@@ -5,19 +5,19 @@ use Rattle.set_queues.proofs.Placing.{within_says, slot_found, slot_none}
 use Rattle.set_queues.proofs.messages.Messages.at.Goals as goal
 
 pub returns-in_err-place : goal.returns-in_err-place
-returns-in_err-place c =
+returns-in_err-place o c =
     let n : c.len.result ≡ length c.self.inside.all.items = grind arith in
     let none = slot_none c.args.number c.self.inside.numbers.older.items c.self.inside.numbers.first c.self.inside.all.items c.self.invariant.0 (rw n at (sym c.place.ensures) ∙ c.in_err-place.was) in
     rw (c.from_residual.ensures, ← c.self.view_is) (sym none)
 
 pub index-requires : goal.index-requires
-index-requires c =
+index-requires o c =
     let n : c.len.result ≡ length c.self.inside.all.items = grind arith in
     let says = within_says c.args.number c.self.inside.numbers.older.items c.self.inside.numbers.first c.self.inside.all.items c.in_ok-place.place c.self.invariant.0 (rw n at (sym c.place.ensures) ∙ c.in_ok-place.was) in
     grind (arith, says)
 
 pub returns : goal.returns
-returns c =
+returns o c =
     let n : c.len.result ≡ length c.self.inside.all.items = grind arith in
     let e : place_within c.args.number c.self.inside.numbers.older.items c.self.inside.numbers.first (length c.self.inside.all.items) ≡ Some c.in_ok-place.place = rw n at (sym c.place.ensures) ∙ c.in_ok-place.was in
     let says = within_says c.args.number c.self.inside.numbers.older.items c.self.inside.numbers.first c.self.inside.all.items c.in_ok-place.place c.self.invariant.0 e in

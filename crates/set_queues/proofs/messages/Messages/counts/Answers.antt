@@ -8,18 +8,18 @@ use Rattle.set_queues.proofs.Tallies.{by_cause, count_few}
 use Rattle.set_queues.proofs.messages.Messages.counts.Goals as goal
 
 -- they are no more than all
-few : (m : Messages) → AreSlots m.numbers.older.items m.numbers.first (length m.all.items) → IsTally m.tally (slots_of m.numbers.older.items m.numbers.first m.all.items) → slice_index m.tally.counts 6 + slice_index m.tally.counts 7 + slice_index m.tally.counts 8 < 2 ^ 63
+few : {A : Type 0} (m : Messages A) → AreSlots m.numbers.older.items m.numbers.first (length m.all.items) → IsTally m.tally (slots_of m.numbers.older.items m.numbers.first m.all.items) → slice_index m.tally.counts 6 + slice_index m.tally.counts 7 + slice_index m.tally.counts 8 < 2 ^ 63
 few m slots tally =
     let all = slots_of m.numbers.older.items m.numbers.first m.all.items in
     omega (arith, tally.counts (Discarded Emergency), tally.counts (Discarded Unreasonable), tally.counts (Discarded NoAnswer), by_cause all, count_few (is_there was_discarded) all, few_slots m.numbers.older.items m.numbers.first m.all.items slots)
 
 pub overflow_add-result : goal.overflow_add-result
-overflow_add-result c = let least = few c.self.inside c.self.invariant.0 c.self.invariant.1 in omega (arith, least)
+overflow_add-result o c = let least = few c.self.inside c.self.invariant.0 c.self.invariant.1 in omega (arith, least)
 
 pub overflow_add-result-2 : goal.overflow_add-result-2
-overflow_add-result-2 c = let least = few c.self.inside c.self.invariant.0 c.self.invariant.1 in omega (arith, least)
+overflow_add-result-2 o c = let least = few c.self.inside c.self.invariant.0 c.self.invariant.1 in omega (arith, least)
 
 pub returns : goal.returns
-returns c =
+returns o c =
     let counts = c.self.invariant.1.counts in
     rw (← c.self.view_is, by_cause, ← counts (Discarded Emergency), ← counts (Discarded Unreasonable), ← counts (Discarded NoAnswer)) (search (rules, counts (Waiting 0), counts (Unacked 0), counts (Acked 0), counts (Held 0), counts Parked, counts (Back 0)))

@@ -3,6 +3,6 @@ use Rattle.set_queues.proofs.Placing.{slots_length}
 use Rattle.set_queues.proofs.messages.Messages.given.Goals as goal
 
 pub returns-clause-value : goal.returns-clause-value
-returns-clause-value c =
+returns-clause-value o c =
     let long = slots_length c.self.inside.numbers.older.items c.self.inside.numbers.first c.self.inside.all.items in
     rw (← c.self.view_is) (grind (arith, long))

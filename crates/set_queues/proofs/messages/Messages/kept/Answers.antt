@@ -4,27 +4,28 @@ use Rattle.set_queues.specs.Slots.{given_to, item_at, slots_of}
 use Rattle.set_queues.proofs.Keeping.{kept_all, map_slots}
 use Rattle.set_queues.proofs.Placing.{slots_length}
 use Rattle.set_queues.proofs.Tallies.{tally_kept}
+use Rattle.set_queues.proofs.messages.Messages.kept.Given.{Over}
 use Rattle.set_queues.proofs.messages.Messages.kept.Goals as goal
 
-abbrev Is : (c : goal.After-forget_finished) → Type 0
-Is c = slots_of c.in_ok-older.older.items c.given-first.result c.in_ok-older.all.items ≡ unfinished (slots_of c.self.inside.numbers.older.items c.self.inside.numbers.first c.self.inside.all.items)
+abbrev Is : (o : Over) (c : goal.After-forget_finished o) → Type 0
+Is o c = slots_of c.in_ok-older.older.items c.given-first.result c.in_ok-older.all.items ≡ unfinished (slots_of c.self.inside.numbers.older.items c.self.inside.numbers.first c.self.inside.all.items)
 
-number_is : (c : goal.After-forget_finished) → c.given-first.result ≡ given_to c.self.inside.numbers.older.items c.self.inside.numbers.first (length c.self.inside.all.items)
-number_is c = rw (← c.self.view_is) at c.given-first.ensures.value ∙ slots_length c.self.inside.numbers.older.items c.self.inside.numbers.first c.self.inside.all.items
+number_is : (o : Over) (c : goal.After-forget_finished o) → c.given-first.result ≡ given_to c.self.inside.numbers.older.items c.self.inside.numbers.first (length c.self.inside.all.items)
+number_is o c = rw (← c.self.view_is) at c.given-first.ensures.value ∙ slots_length c.self.inside.numbers.older.items c.self.inside.numbers.first c.self.inside.all.items
 
-kept_is : (c : goal.After-forget_finished) → Is c
-kept_is c =
+kept_is : (o : Over) (c : goal.After-forget_finished o) → Is o c
+kept_is o c =
     let older = c.self.inside.numbers.older.items in
     let kept = rw c.deref.ensures.value at c.in_ok-older.ensures in
     let all = kept_all _ older c.self.inside.numbers.first c.self.inside.all.items c.in_ok-older.older.items c.in_ok-older.all.items kept in
-    rw (number_is c) (all ∙ sym (map_slots kept_slot (λ k. item_at k c.self.inside.numbers.older.items c.self.inside.numbers.first c.self.inside.all.items) (given_to older c.self.inside.numbers.first (length c.self.inside.all.items))))
+    rw (number_is o c) (all ∙ sym (map_slots kept_slot (λ k. item_at k c.self.inside.numbers.older.items c.self.inside.numbers.first c.self.inside.all.items) (given_to older c.self.inside.numbers.first (length c.self.inside.all.items))))
 
 pub invariant_of-result : goal.invariant_of-result
-invariant_of-result c =
+invariant_of-result o c =
     let kept = rw c.deref.ensures.value at c.in_ok-older.ensures in
     let few = c.self.invariant.0.few in
-    let n = number_is c in
-    (record { order = rw n kept.order; many = omega (arith, kept.many); few = omega (arith, n, few, kept.many) }, rw (kept_is c) (tally_kept _ _ _ c.self.invariant.1 c.forget_finished.ensures))
+    let n = number_is o c in
+    (record { order = rw n kept.order; many = omega (arith, kept.many); few = omega (arith, n, few, kept.many) }, rw (kept_is o c) (tally_kept _ _ _ c.self.invariant.1 c.forget_finished.ensures))
 
 pub returns : goal.returns
-returns c = rw (← c.self.view_is) (kept_is c)
+returns o c = rw (← c.self.view_is) (kept_is o c)

@@ -5,16 +5,16 @@ use Rattle.set_queues.proofs.Tallies.{few, tally_push}
 use Rattle.set_queues.proofs.messages.Messages.push.Goals as goal
 
 pub enter-requires-clause-few : goal.enter-requires-clause-few
-enter-requires-clause-few c = few _ _ c.self.invariant.1 (few_slots c.self.inside.numbers.older.items c.self.inside.numbers.first c.self.inside.all.items c.self.invariant.0)
+enter-requires-clause-few o c = few _ _ c.self.invariant.1 (few_slots c.self.inside.numbers.older.items c.self.inside.numbers.first c.self.inside.all.items c.self.invariant.0)
 
 pub invariant_of-self : goal.invariant_of-self
-invariant_of-self c =
+invariant_of-self o c =
     let left = rw (← c.self.view_is) at c.requires.room in
     let more = one_more c.self.inside.numbers.older.items c.self.inside.numbers.first (length c.self.inside.all.items) _ c.self.invariant.0 left in
     let push = push_slots c.self.inside.numbers.older.items c.self.inside.numbers.first c.self.inside.all.items c.args.message c.self.invariant.0 in
     rw c.push_reserved.ensures.items (rw (length-append c.self.inside.all.items (c.args.message ∷ [])) more, rw push (tally_push _ _ _ c.args.message c.self.invariant.1 c.requires.fit c.enter.ensures))
 
 pub returns-clause-items : goal.returns-clause-items
-returns-clause-items c =
+returns-clause-items o c =
     let push = push_slots c.self.inside.numbers.older.items c.self.inside.numbers.first c.self.inside.all.items c.args.message c.self.invariant.0 in
     rw (c.push_reserved.ensures.items, ← c.self.view_is) push

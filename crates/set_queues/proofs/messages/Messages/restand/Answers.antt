@@ -9,20 +9,20 @@ use Rattle.set_queues.proofs.Tallies.{tally_in, few_left, tally_stood}
 use Rattle.set_queues.proofs.messages.Messages.restand.Goals as goal
 
 pub returns-in_default-clause-items : goal.returns-in_default-clause-items
-returns-in_default-clause-items c =
+returns-in_default-clause-items o c =
     let n : c.len.result ≡ length c.self.inside.all.items = grind arith in
     let none = none_slots c.args.number c.self.inside.numbers.older.items c.self.inside.numbers.first c.self.inside.all.items (with_fate c.args.fate) c.self.invariant.0 (rw n at (sym c.place.ensures) ∙ c.in_default.is) in
     rw (← c.self.view_is) (sym (stood_is c.args.number c.args.fate _ ∙ none))
 
 pub index-was-requires : goal.index-was-requires
-index-was-requires c =
+index-was-requires o c =
     let n : c.len.result ≡ length c.self.inside.all.items = grind arith in
     let e : place_within c.args.number c.self.inside.numbers.older.items c.self.inside.numbers.first (length c.self.inside.all.items) ≡ Some c.in-Some.place = rw n at (sym c.place.ensures) ∙ c.in-Some.is in
     let says = within_says c.args.number c.self.inside.numbers.older.items c.self.inside.numbers.first c.self.inside.all.items c.in-Some.place c.self.invariant.0 e in
     grind (arith, says)
 
 pub leave-requires-clause-among : goal.leave-requires-clause-among
-leave-requires-clause-among c =
+leave-requires-clause-among o c =
     let n : c.len.result ≡ length c.self.inside.all.items = grind arith in
     let e : place_within c.args.number c.self.inside.numbers.older.items c.self.inside.numbers.first (length c.self.inside.all.items) ≡ Some c.in-Some.place = rw n at (sym c.place.ensures) ∙ c.in-Some.is in
     let says = within_says c.args.number c.self.inside.numbers.older.items c.self.inside.numbers.first c.self.inside.all.items c.in-Some.place c.self.invariant.0 e in
@@ -31,7 +31,7 @@ leave-requires-clause-among c =
     tally_in _ _ c.args.number c.index-was.result.now c.self.invariant.1 at
 
 pub leave-requires-clause-known : goal.leave-requires-clause-known
-leave-requires-clause-known c =
+leave-requires-clause-known o c =
     let n : c.len.result ≡ length c.self.inside.all.items = grind arith in
     let e : place_within c.args.number c.self.inside.numbers.older.items c.self.inside.numbers.first (length c.self.inside.all.items) ≡ Some c.in-Some.place = rw n at (sym c.place.ensures) ∙ c.in-Some.is in
     let says = within_says c.args.number c.self.inside.numbers.older.items c.self.inside.numbers.first c.self.inside.all.items c.in-Some.place c.self.invariant.0 e in
@@ -40,11 +40,11 @@ leave-requires-clause-known c =
     (c.self.invariant.1.fit c.args.number c.index-was.result.now at).known
 
 pub enter-requires-clause-few : goal.enter-requires-clause-few
-enter-requires-clause-few c =
+enter-requires-clause-few o c =
     few_left _ _ _ c.index-was.result.now c.self.invariant.1 (few_slots c.self.inside.numbers.older.items c.self.inside.numbers.first c.self.inside.all.items c.self.invariant.0) c.leave.ensures
 
 pub enter-requires-clause-known : goal.enter-requires-clause-known
-enter-requires-clause-known c =
+enter-requires-clause-known o c =
     let n : c.len.result ≡ length c.self.inside.all.items = grind arith in
     let e : place_within c.args.number c.self.inside.numbers.older.items c.self.inside.numbers.first (length c.self.inside.all.items) ≡ Some c.in-Some.place = rw n at (sym c.place.ensures) ∙ c.in-Some.is in
     let says = within_says c.args.number c.self.inside.numbers.older.items c.self.inside.numbers.first c.self.inside.all.items c.in-Some.place c.self.invariant.0 e in
@@ -53,14 +53,14 @@ enter-requires-clause-known c =
     (c.self.invariant.1.fit c.args.number c.index-was.result.now at).known
 
 pub index_mut-requires : goal.index_mut-requires
-index_mut-requires c =
+index_mut-requires o c =
     let n : c.len.result ≡ length c.self.inside.all.items = grind arith in
     let e : place_within c.args.number c.self.inside.numbers.older.items c.self.inside.numbers.first (length c.self.inside.all.items) ≡ Some c.in-Some.place = rw n at (sym c.place.ensures) ∙ c.in-Some.is in
     let says = within_says c.args.number c.self.inside.numbers.older.items c.self.inside.numbers.first c.self.inside.all.items c.in-Some.place c.self.invariant.0 e in
     grind (arith, says)
 
 pub invariant_of-self : goal.invariant_of-self
-invariant_of-self c =
+invariant_of-self o c =
     let n : c.len.result ≡ length c.self.inside.all.items = grind arith in
     let e : place_within c.args.number c.self.inside.numbers.older.items c.self.inside.numbers.first (length c.self.inside.all.items) ≡ Some c.in-Some.place = rw n at (sym c.place.ensures) ∙ c.in-Some.is in
     let says = within_says c.args.number c.self.inside.numbers.older.items c.self.inside.numbers.first c.self.inside.all.items c.in-Some.place c.self.invariant.0 e in
@@ -70,7 +70,7 @@ invariant_of-self c =
     (rw (length-set c.self.inside.all.items c.in-Some.place (with_fate c.args.fate c.index-was.result.now)) c.self.invariant.0, rw put (tally_stood _ _ _ _ c.args.number c.index-was.result.now c.args.fate c.self.invariant.1 at c.leave.ensures c.enter.ensures))
 
 pub returns-clause-items : goal.returns-clause-items
-returns-clause-items c =
+returns-clause-items o c =
     let n : c.len.result ≡ length c.self.inside.all.items = grind arith in
     let e : place_within c.args.number c.self.inside.numbers.older.items c.self.inside.numbers.first (length c.self.inside.all.items) ≡ Some c.in-Some.place = rw n at (sym c.place.ensures) ∙ c.in-Some.is in
     let says = within_says c.args.number c.self.inside.numbers.older.items c.self.inside.numbers.first c.self.inside.all.items c.in-Some.place c.self.invariant.0 e in

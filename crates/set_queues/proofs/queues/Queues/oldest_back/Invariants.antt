@@ -13,4 +13,4 @@ IsLeast from n (Some head) q = record {
 }
 
 abbrev pub invariant-loop-place : goal.invariant-loop-place
-invariant-loop-place l = IsLeast (16 * l.home) l.place l.oldest l.self.lists
+invariant-loop-place o l = IsLeast (16 * l.home) l.place l.oldest l.self.lists

@@ -4,7 +4,7 @@ use Rattle.set_queues.proofs.Soundness.{sound_sent}
 use Rattle.set_queues.proofs.queues.Queues.send.Goals as goal
 
 pub invariant_of-self-2 : goal.invariant_of-self-2
-invariant_of-self-2 c =
+invariant_of-self-2 o c =
     let sent = c.in_ok-number.ensures.sent in
     let full = c.in_ok-number.ensures.full in
     let known : c.args.link < length c.self.inside.buffers.lists.links = rw (← c.self.view_is) at c.requires in

@@ -6,10 +6,10 @@ use Rattle.set_queues.proofs.Soundness.{sound_passed, moved_one}
 use Rattle.set_queues.proofs.queues.Queues.turn_back.Goals as goal
 
 pub index_mut-requires : goal.index_mut-requires
-index_mut-requires c = let known = known_with (Back c.args.code) c.args.to _ _ _ c.pass.ensures.lists (omega (arith, c.ranges.code.fits, c.self.invariant.codes)) in grind (arith, of_code)
+index_mut-requires o c = let known = known_with (Back c.args.code) c.args.to _ _ _ c.pass.ensures.lists (omega (arith, c.ranges.code.fits, c.self.invariant.codes)) in grind (arith, of_code)
 
 pub invariant_of-self : goal.invariant_of-self
-invariant_of-self c =
+invariant_of-self o c =
     let known : IsKnown (Back c.args.code) c.self.inside.buffers.lists = omega (arith, c.ranges.code.fits, c.self.invariant.codes) in
     let other : IsKnown c.args.to c.self.inside.buffers.lists = rw (← c.self.view_is) at c.requires.other in
     let there = known_with (Back c.args.code) c.args.to _ _ _ c.pass.ensures.lists known in
@@ -17,7 +17,7 @@ invariant_of-self c =
     (moved_one (Back c.args.code) c.args.to _ c.pass.new.buffers.lists _ other c.requires.apart c.pass.ensures.lists (grind (arith, of_code))) c.pass.ensures.messages
 
 pub returns : goal.returns
-returns c =
+returns o c =
     let known : IsKnown (Back c.args.code) c.self.inside.buffers.lists = omega (arith, c.ranges.code.fits, c.self.invariant.codes) in
     let there = known_with (Back c.args.code) c.args.to _ _ _ c.pass.ensures.lists known in
     record {

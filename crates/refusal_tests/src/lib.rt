@@ -1,0 +1,39 @@
+//! Tests of refused memory: each growth of a call is refused in turn, over an allocator that refuses it (`refusing`).
+//!
+//! A test makes the same calls at two values, one over such an allocator and its twin over the program's memory. Where a
+//! call is refused, all readers tell what they told before, and the same call then answers what the twin answers. It runs
+//! for the growth of number 1, 2, .., up to the number that no run came to: so each growth was refused once.
+//!
+//! `tools/refuse-memory refusal_tests` refuses the program's own memory too: then a call is made again, and nothing else
+//! changes. `a_script_is_carried_out` alone makes no call again: where it passes, all was handed out.
+#![tactic(auto)]
+
+#[cfg(test)]
+mod lines;
+#[cfg(test)]
+mod script;
+#[cfg(test)]
+mod sets;
+#[cfg(test)]
+mod windows;
+
+#[cfg(test)]
+use std::test::Fail;
+
+/// At most so many growths are refused in one test: a set opens 256 queues, and its base as many.
+#[cfg(test)]
+const MOST_GROWTHS: u64 = 1_000;
+
+/// A call is made so often at most: one growth is refused by the test, and one by the tool.
+#[cfg(test)]
+const TRIES: u8 = 3;
+
+/// So it is. It stands in the place of `assert!`, whose text of what isn't so costs the prover a multiple.
+#[cfg(test)]
+fn holds(fact: bool) -> Result<(), Fail> {
+    if fact {
+        Ok(())
+    } else {
+        Err(Fail::from("it isn't so"))
+    }
+}

@@ -1,0 +1,45 @@
+//! A line: the two rings of its ends.
+use super::{MOST_GROWTHS, TRIES, holds};
+use line_ring::{Full, Line, RingLine, ring_pair};
+use refusing::Refusing;
+use std::alloc::{Allocator, Global};
+use std::test::Fail;
+
+/// A line of two places each way is laid.
+#[test]
+fn a_refused_growth_lays_no_line(rt: HostRuntime) -> Result<(), Fail> {
+    holds(each_growth_is_refused(rt.alloc()))
+}
+
+fn each_growth_is_refused(alloc: Global) -> bool {
+    for number in 1..=MOST_GROWTHS {
+        let refusing = Refusing::new(alloc, number);
+        if !is_laid(&refusing) {
+            return false;
+        }
+        if !refusing.refuses_no_more() {
+            // one ring each way
+            return number > 2;
+        }
+    }
+    false
+}
+
+fn is_laid<A: Allocator + Copy>(alloc: A) -> bool {
+    for _ in 0..TRIES {
+        if let Ok((mut near, mut far)) = ring_pair(alloc, 2) {
+            return holds_two(&mut near, &mut far) && holds_two(&mut far, &mut near);
+        }
+    }
+    false
+}
+
+/// What is put at one end is taken at the other, and a third octet has no place.
+fn holds_two<A: Allocator + Copy>(from: &mut RingLine<A>, to: &mut RingLine<A>) -> bool {
+    from.put(1).is_ok()
+        && from.put(2).is_ok()
+        && from.put(3) == Err(Full { octet: 3 })
+        && to.take() == Some(1)
+        && to.take() == Some(2)
+        && to.take().is_none()
+}

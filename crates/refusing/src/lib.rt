@@ -1,0 +1,65 @@
+//! An allocator for tests, which refuses one allocation and passes all others on.
+//!
+//! [`Refusing`] counts the allocations that are asked of it, and refuses the one that it was made for: a growth is one
+//! too, since it asks for a new block. What is over any allocator takes a `&Refusing`, which is copied freely: so a test
+//! keeps the count, and asks [`Refusing::refuses_no_more`] whether the number was reached.
+#![tactic(auto)]
+
+use std::alloc::{AllocError, Allocator};
+use std::cell::Cell;
+
+/// An allocator that refuses one allocation alone.
+pub struct Refusing<B: Allocator> {
+    inner: B,
+    /// The number of the one to refuse among those to come, counted from 1; 0 where none of them is refused.
+    left: Cell<u64>,
+}
+
+impl<B: Allocator> Refusing<B> {
+    /// Refuses its allocation of this number, counted from 1, and passes all others on to `inner`. With the number 0 none
+    /// is refused.
+    pub fn new(inner: B, number: u64) -> Refusing<B> {
+        Refusing {
+            inner,
+            left: Cell::new(number),
+        }
+    }
+
+    /// Refuses, of the allocations from here on, that of this number, counted from 1; with the number 0 none.
+    pub fn refuse(&self, number: u64) {
+        self.left.set(number);
+    }
+
+    /// Whether all that is still to come is passed on: the one to refuse has been, or there was none.
+    pub fn refuses_no_more(&self) -> bool {
+        self.left.get() == 0
+    }
+}
+
+impl<B: Allocator> Drop for Refusing<B> {
+    fn drop(self) {
+        let Self { inner: _, left: _ } = self;
+    }
+}
+
+/// Whether the next allocation is the one to refuse; counts it.
+fn refuses(left: &Cell<u64>) -> bool {
+    let number = left.get();
+    left.set(number.saturating_sub(1));
+    number == 1
+}
+
+unsafe impl<B: Allocator> Allocator for Refusing<B> {
+    ghost dealloc_token = { λ heap ty ptr. B.dealloc_token heap.inner ty ptr };
+
+    fn allocate(&self, size: usize, align: usize) -> Result<*mut u8, AllocError> {
+        if refuses(&self.left) {
+            return Err(AllocError);
+        }
+        self.inner.allocate(size, align)
+    }
+
+    unsafe fn deallocate(&self, ptr: *mut u8, size: usize, align: usize) {
+        self.inner.deallocate(ptr, size, align);
+    }
+}
