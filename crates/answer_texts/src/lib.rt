@@ -3,6 +3,7 @@
 //! | what | its text |
 //! |---|---|
 //! | [`world_steps::Shown`], what a step showed: an answer of a set, an up, a loss | [`write_shown`], [`push_shown`] |
+//! | [`set_events::Answer`] of a set alone | [`push_answer`] |
 //! | [`set_events::Counts`] of an end | [`write_end`] |
 //!
 //! Each text is a line, ended by LF, and fails only where memory is wanted. Numbers are decimal, octets are
@@ -13,4 +14,4 @@
 
 mod texts;
 
-pub use texts::{code_of, push_shown, unit_octets, write_end, write_shown};
+pub use texts::{code_of, push_answer, push_shown, unit_octets, write_end, write_shown};

@@ -56,8 +56,10 @@ fn push_line(out: &mut Vec<u8>, profile: Profile, shown: &Shown) -> Result<(), A
     }
 }
 
-/// Appends the text of an answer.
-fn push_answer(out: &mut Vec<u8>, profile: Profile, answer: &Answer) -> Result<(), AllocError>
+/// Appends the text of what a set of this profile answered.
+///
+/// Where memory is wanted `out` begins with what it held before.
+pub fn push_answer(out: &mut Vec<u8>, profile: Profile, answer: &Answer) -> Result<(), AllocError>
     ensures { Appends result out.old.items (answer_text profile answer.now) out.new.items }
 {
     match answer {

@@ -7,7 +7,7 @@ ghost use Rattle.audit_text.specs.Reading.{IsNoted, IsRead, IsTold, StandsFor, i
 use super::fault::AuditFault;
 use history_audit::{Auditor, Finding};
 use history_items::Item;
-use history_lines::{read_config, read_line};
+use history_lines::{LinePlace, read_config};
 use l2_units::Profile;
 use printing::Stop;
 use set_core::SetFault;
@@ -43,10 +43,11 @@ pub(crate) struct Course {
     pub(crate) stand: Stand,
 }
 
-/// Reads the line of this number; before the configuration there is no course.
+/// Reads the line of this number, in this place; before the configuration there is no course.
 pub(crate) fn tell_line(
     alloc: Global,
     course: &mut Option<Course>,
+    place: &mut LinePlace,
     number: u64,
     line: &[u8],
 ) -> Result<(), Stop<AuditFault>>
@@ -61,7 +62,7 @@ pub(crate) fn tell_line(
             *course = Some(open(alloc, number, line)?);
             Ok(())
         }
-        Some(course) => tell_next(alloc, course, number, line),
+        Some(course) => tell_next(alloc, course, place, number, line),
     }
 }
 
@@ -82,19 +83,21 @@ fn open(alloc: Global, number: u64, line: &[u8]) -> Result<Course, Stop<AuditFau
     }
 }
 
-/// Reads an item.
+/// Reads an item, in this place.
 fn tell_next(
     alloc: Global,
     course: &mut Course,
+    place: &mut LinePlace,
     number: u64,
     line: &[u8],
 ) -> Result<(), Stop<AuditFault>>
     ensures { (told : Told) → StandsFor told (Some course.old)
         → IsRead result number line.now (told_next number course.old.profile told line.now) (Some course.new) }
 {
-    match read_line(alloc, course.profile, line)? {
-        Some(item) => tell_item(course, number, &item),
-        None => Err(Stop::Input(unread(number, line))),
+    if place.read(alloc, course.profile, line)? {
+        tell_item(course, number, place.item())
+    } else {
+        Err(Stop::Input(unread(number, line)))
     }
 }
 

@@ -5,12 +5,13 @@ ghost use Rattle.audit_text.specs.Reading.{Concludes};
 use super::course::{Course, tell_line};
 use super::fault::AuditFault;
 use super::verdict::judge;
+use history_lines::LinePlace;
 use printing::{Printer, Stop};
 use std::alloc::Global;
 use std::marker::Model;
 use text_lines::end_of_line;
 
-/// Reads a history line by line. It keeps the octets of one line, and what an auditor keeps.
+/// Reads a history line by line. It keeps the octets of one line, its item, and what an auditor keeps.
 #[derive(Drop)]
 pub(crate) struct HistoryReader {
     alloc: Global,
@@ -20,6 +21,8 @@ pub(crate) struct HistoryReader {
     text: Vec<u8>,
     /// What the lines before it came to; `None` before the configuration.
     course: Option<Course>,
+    /// Where a line's item is read into.
+    place: LinePlace,
 }
 
 impl Model for HistoryReader {
@@ -46,6 +49,7 @@ impl HistoryReader {
             line: 1,
             text: Vec::new(alloc),
             course: None,
+            place: LinePlace::new(alloc),
         }
     }
 
@@ -79,7 +83,13 @@ impl HistoryReader {
         requires open { IsOpen octets.now }
         ensures { AdvancesOrHalts result self.old (octets.now ++ 10 ∷ []) self.new }
     {
-        tell_line(self.alloc, &mut self.course, self.line, octets)?;
+        tell_line(
+            self.alloc,
+            &mut self.course,
+            &mut self.place,
+            self.line,
+            octets,
+        )?;
         self.line = self.line.saturating_add(1);
         Ok(())
     }
@@ -89,7 +99,13 @@ impl HistoryReader {
         ensures read { AdvancesOrHalts result self.old (10 ∷ []) self.new }
         ensures emptied { OnOk result (self.new.text ≡ []) }
     {
-        tell_line(self.alloc, &mut self.course, self.line, &self.text)?;
+        tell_line(
+            self.alloc,
+            &mut self.course,
+            &mut self.place,
+            self.line,
+            &self.text,
+        )?;
         self.text.clear();
         self.line = self.line.saturating_add(1);
         Ok(())

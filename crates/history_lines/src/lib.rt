@@ -10,7 +10,7 @@
 //!
 //! [`write_history`] writes the lines of a history without a checkpoint. Each line is read by itself: [`read_config`]
 //! the first, which is that of a script (`play_script`) with the set as its end a, so one reader serves both;
-//! [`read_line`] each other, which is an item's (`history_text`). Empty lines and remarks (`#`) are passed over. What all
+//! a [`LinePlace`] each other, which is an item's (`history_text`). Empty lines and remarks (`#`) are passed over. What all
 //! lines of a text tell says `specs/Telling.antt`. [`reads_back`] and [`one_line`] are the laws of the first line. That
 //! of a wide set ends in `profile=wide`; that of a narrow set has no such word.
 //!
@@ -21,4 +21,4 @@ mod first_line;
 mod lines;
 
 pub use first_line::{one_line, reads_back, write_history};
-pub use lines::{read_config, read_line};
+pub use lines::{LinePlace, read_config};

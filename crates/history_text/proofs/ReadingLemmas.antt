@@ -2,6 +2,7 @@
 use Rattle.std.proofs.Common.{refl, arith, ◌≡◌, ◌==◌, ◌∙◌, ap, sym, ◌<◌, ◌≤◌, [], ◌∷◌, length, ℕ, ◌+◌, ◌-◌, ◌^◌, ◌/◌, Bool, true, false, nat_le, nat_lt, nat_eq, List, ◌++◌, Option, Some, None, decimal, codes, append_assoc, append-nil, take, zero, suc, if◌then◌else◌}
 use Rattle.std.proofs.lemmas.Bool.Decides.{nat_tests}
 use Rattle.std.proofs.lemmas.Grind.{common_steps}
+use Rattle.std.proofs.lemmas.Slice.Eq.{bytes_eq-Decides}
 use Rattle.std.proofs.lemmas.List.{append_cancel_left}
 use Rattle.std.proofs.lemmas.List.Elements.{All-append}
 use Rattle.std.proofs.lemmas.Fmt.{decimal_digit}
@@ -36,7 +37,7 @@ use Rattle.figures.specs.Figures.{number_of, number_below, octets_of, hex_text, 
 use Rattle.answer_texts.specs.Texts.{answer_text, unit_octets, sent_line, fate_text, took_text, fault_code, report_text}
 use Rattle.history_text.specs.Entries.{numbered, actor_text, event_text, entry_text, AreOctets, IsOnLine, ActorFits, EventFits, FateFits, AnswerFits, EntryFits, EntriesFit, entries_text}
 use Rattle.play_script.specs.Script.{unit_of as unit_in}
-use Rattle.history_text.specs.Reading.{behind, is_gap, is_arrow, word, others, value, link_in, acked_in, actor_in, body_in, link_event_in, linked_fate_in, refusal_in, took_in, yes_in, fault_in, heard_in, told, asked_in, told_in, entry_in}
+use Rattle.history_text.specs.Reading.{behind, is_gap, is_arrow, word, others, value, link_in, acked_in, actor_in, body_in, link_event_in, linked_fate_in, refusal_in, took_in, yes_in, fault_in, heard_in, told, asked_in, told_in, entry_in, entry_of}
 use Rattle.history_text.proofs.WordLemmas.{passes, until_passed, behind_passed, behind_ended}
 use Rattle.history_text.proofs.FigureLemmas.{number_again, below_again, number_is_word, number_no_arrow, octets_again, octets_are_word, octets_no_arrow, first_octet}
 
@@ -401,6 +402,24 @@ read_back p law entry fits = ap (entry_in p) (sym (append-nil (entry_text p entr
 -- the words of a line that is an entry's text tell that entry
 pub words_tell : (p : Profile) → UnitsHaveOneText p → (line : List ℕ) (entry : Entry) → EntryFits p entry → entry_text p entry ≡ line → entry_in p line ≡ Some entry
 words_tell p law line entry fits is = ap (entry_in p) (sym is) ∙ read_back p law entry fits
+
+-- a line that is an entry's text is read as that entry
+pub only_entry : (p : Profile) → UnitsHaveOneText p → (line : List ℕ) (entry : Entry) → EntryFits p entry → entry_text p entry ≡ line → entry_of p line ≡ Some entry
+only_entry p law line entry fits is =
+    ap (option_and_then (λ e. if bytes_eq (entry_text p e) line then Some e else None)) (words_tell p law line entry fits is)
+    ∙ ap (λ b. if b then Some entry else None) ((bytes_eq-Decides (entry_text p entry) line).1 is)
+
+text_if : (p : Profile) (line : List ℕ) (entry e : Entry) (b : Bool) → bytes_eq (entry_text p e) line ≡ b → Some entry ≡ (if b then Some e else None) → entry_text p entry ≡ line
+text_if p line entry e true h is = ap (entry_text p) (cc is) ∙ (bytes_eq-Decides (entry_text p e) line).0 h
+text_if p line entry e false h is = cc is
+
+text_from : (p : Profile) (line : List ℕ) (entry : Entry) (o : Option Entry) → Some entry ≡ option_and_then (λ e. if bytes_eq (entry_text p e) line then Some e else None) o → entry_text p entry ≡ line
+text_from p line entry None is = cc is
+text_from p line entry (Some e) is = text_if p line entry e (bytes_eq (entry_text p e) line) refl is
+
+-- the entry that is read of a line has this text
+pub read_has_text : (p : Profile) (line : List ℕ) (entry : Entry) → Some entry ≡ entry_of p line → entry_text p entry ≡ line
+read_has_text p line entry is = text_from p line entry (entry_in p line) is
 
 pub one_entry_each : (p : Profile) → UnitsHaveOneText p → (a b : Entry) → EntryFits p a → EntryFits p b → entry_text p a ≡ entry_text p b → a ≡ b
 one_entry_each p law a b f g e = let same : Some a ≡ Some b = sym (read_back p law a f) ∙ words_tell p law (entry_text p a) b g (sym e) in cc same

@@ -1,9 +1,9 @@
 //! What was answered, from words.
 ghost use Rattle.std.specs.Prelude.{◌≡◌, IfOk, Some};
 ghost use Rattle.std.specs.Option.{option_map, option_and_then};
-ghost use Rattle.set_events.specs.declared.answer.Answer.TheVariants.{Accepted, Found, Refused};
+ghost use Rattle.set_events.specs.declared.answer.Answer.TheVariants.{Accepted, Found, Heard, Refused};
 ghost use Rattle.figures.specs.Figures.{number_of};
-ghost use Rattle.history_text.specs.Reading.{answer_in, told_in, taken_in, sent_in, heard_in, fate_in, linked_fate_in, cause_in, refusal_in, took_in, fault_in, word, others};
+ghost use Rattle.history_text.specs.Reading.{answer_in, told_in, taken_in, sent_in, heard_in, if_found, fate_in, linked_fate_in, cause_in, refusal_in, took_in, fault_in, word, others};
 
 use super::words::{cut, value_of};
 use figures::{is_word, read_below_256, read_below_65536, read_number, read_octets};
@@ -12,16 +12,18 @@ use play_script::unit_in;
 use set_events::{Answer, ControlFault, DiscardCause, Fate, Refusal, Report, Took};
 use std::alloc::{AllocError, Global};
 
-/// What was answered, from the words behind the arrow.
+/// Whether the words behind the arrow tell what was answered, which then stands in `answer`; else what stands there isn't
+/// told. An answer has room for a unit, so that it's better filled in its place than handed on.
 pub(crate) fn read_told(
     alloc: Global,
     profile: Profile,
     words: &[u8],
-) -> Result<Option<Answer>, AllocError>
-    ensures { IfOk result (λ answer. answer ≡ told_in profile words.now) }
+    answer: &mut Answer,
+) -> Result<bool, AllocError>
+    ensures { IfOk result (λ found. if_found found answer.new ≡ told_in profile words.now) }
 {
     let (name, words) = cut(words);
-    read_answer(alloc, profile, name, words)
+    read_answer(alloc, profile, name, words, answer)
 }
 
 /// The answer of this name, from the words behind it.
@@ -30,59 +32,72 @@ fn read_answer(
     profile: Profile,
     name: &[u8],
     words: &[u8],
-) -> Result<Option<Answer>, AllocError>
-    ensures { IfOk result (λ answer. answer ≡ answer_in profile name.now words.now) }
+    answer: &mut Answer,
+) -> Result<bool, AllocError>
+    ensures { IfOk result (λ found. if_found found answer.new ≡ answer_in profile name.now words.now) }
 {
     let (word, others) = cut(words);
     if is_word(name, b"accepted") {
-        Ok(read_accepted(word))
+        Ok(read_accepted(word, answer))
     } else if is_word(name, b"taken") {
-        read_taken(alloc, word)
+        read_taken(alloc, word, answer)
     } else if is_word(name, b"found") {
-        Ok(read_found(word, others))
+        Ok(read_found(word, others, answer))
     } else if is_word(name, b"sent") {
-        read_sent(alloc, profile, word)
+        read_sent(alloc, profile, word, answer)
     } else if is_word(name, b"heard") {
-        Ok(read_heard(words))
+        Ok(read_heard(words, answer))
     } else if is_word(name, b"done") {
-        Ok(Some(Answer::Done))
+        *answer = Answer::Done;
+        Ok(true)
     } else if is_word(name, b"refused") {
-        Ok(read_refused(word))
+        Ok(read_refused(word, answer))
     } else {
-        Ok(None)
+        Ok(false)
     }
 }
 
 /// `accepted N`
-fn read_accepted(word: &[u8]) -> Option<Answer>
-    ensures { result ≡ option_map Accepted (number_of word.now) }
+fn read_accepted(word: &[u8], answer: &mut Answer) -> bool
+    ensures { if_found result answer.new ≡ option_map Accepted (number_of word.now) }
 {
-    let number = read_number(word)?;
-    Some(Answer::Accepted { number })
+    match read_number(word) {
+        Some(number) => {
+            *answer = Answer::Accepted { number };
+            true
+        }
+        None => false,
+    }
 }
 
 /// `taken HEX`
-fn read_taken(alloc: Global, word: &[u8]) -> Result<Option<Answer>, AllocError>
-    ensures { IfOk result (λ answer. answer ≡ taken_in word.now) }
+fn read_taken(alloc: Global, word: &[u8], answer: &mut Answer) -> Result<bool, AllocError>
+    ensures { IfOk result (λ found. if_found found answer.new ≡ taken_in word.now) }
 {
     let Some(octets) = read_octets(alloc, word)? else {
-        return Ok(None);
+        return Ok(false);
     };
     if octets.len() > LONGEST_BODY {
-        return Ok(None);
+        return Ok(false);
     }
-    Ok(Some(Answer::Taken {
+    *answer = Answer::Taken {
         body: body_of(&octets),
-    }))
+    };
+    Ok(true)
 }
 
 /// `found FATE`, from the words behind the name
-fn read_found(name: &[u8], others: &[u8]) -> Option<Answer>
-    ensures { result ≡ option_map Found (fate_in name.now (word others.now)) }
+fn read_found(name: &[u8], others: &[u8], answer: &mut Answer) -> bool
+    ensures { if_found result answer.new ≡ option_map Found (fate_in name.now (word others.now)) }
 {
     let (number, _) = cut(others);
-    let fate = read_fate(name, number)?;
-    Some(Answer::Found { fate })
+    match read_fate(name, number) {
+        Some(fate) => {
+            *answer = Answer::Found { fate };
+            true
+        }
+        None => false,
+    }
 }
 
 /// Where a message stands.
@@ -131,22 +146,43 @@ fn cause_of(number: u8) -> Option<DiscardCause>
 }
 
 /// `sent HEX`, with check octets
-fn read_sent(alloc: Global, profile: Profile, word: &[u8]) -> Result<Option<Answer>, AllocError>
-    ensures { IfOk result (λ answer. answer ≡ sent_in profile word.now) }
+fn read_sent(
+    alloc: Global,
+    profile: Profile,
+    word: &[u8],
+    answer: &mut Answer,
+) -> Result<bool, AllocError>
+    ensures { IfOk result (λ found. if_found found answer.new ≡ sent_in profile word.now) }
 {
     let Some(octets) = read_octets(alloc, word)? else {
-        return Ok(None);
+        return Ok(false);
     };
     let octets = octets.as_slice();
     match unit_in(profile, &octets[..octets.len().saturating_sub(2)]) {
-        Some(unit) => Ok(Some(Answer::Sent { unit })),
-        None => Ok(None),
+        Some(unit) => {
+            *answer = Answer::Sent { unit };
+            Ok(true)
+        }
+        None => Ok(false),
     }
 }
 
 /// `heard acked=K took=T asked=B resend=B fault=F`, from the words behind the name
-fn read_heard(words: &[u8]) -> Option<Answer>
-    ensures { result ≡ heard_in words.now }
+fn read_heard(words: &[u8], answer: &mut Answer) -> bool
+    ensures { if_found result answer.new ≡ heard_in words.now }
+{
+    match read_report(words) {
+        Some(report) => {
+            *answer = Answer::Heard { report };
+            true
+        }
+        None => false,
+    }
+}
+
+/// What a heard unit did.
+fn read_report(words: &[u8]) -> Option<Report>
+    ensures { option_map Heard result ≡ heard_in words.now }
 {
     let (acked, words) = cut(words);
     let (took, words) = cut(words);
@@ -155,14 +191,13 @@ fn read_heard(words: &[u8]) -> Option<Answer>
     let (fault, _) = cut(words);
     let acked = read_below_65536(value_of(acked))?;
     let took = read_took(value_of(took))?;
-    let report = Report {
+    Some(Report {
         acked,
         took,
         asked: is_word(value_of(asked), b"1"),
         resend: is_word(value_of(resend), b"1"),
         fault: read_fault(value_of(fault)),
-    };
-    Some(Answer::Heard { report })
+    })
 }
 
 /// What became of a body.
@@ -196,12 +231,25 @@ fn read_fault(word: &[u8]) -> Option<ControlFault>
 }
 
 /// `refused N`
-fn read_refused(word: &[u8]) -> Option<Answer>
-    ensures { result ≡ option_map Refused (option_and_then refusal_in (number_of word.now)) }
+fn read_refused(word: &[u8], answer: &mut Answer) -> bool
+    ensures { if_found result answer.new
+        ≡ option_map Refused (option_and_then refusal_in (number_of word.now)) }
+{
+    match read_refusal(word) {
+        Some(why) => {
+            *answer = Answer::Refused { why };
+            true
+        }
+        None => false,
+    }
+}
+
+/// The refusal whose number this word tells.
+fn read_refusal(word: &[u8]) -> Option<Refusal>
+    ensures { result ≡ option_and_then refusal_in (number_of word.now) }
 {
     let number = read_number(word)?;
-    let why = refusal_of(number)?;
-    Some(Answer::Refused { why })
+    refusal_of(number)
 }
 
 /// The refusal of this number.

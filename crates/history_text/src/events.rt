@@ -3,7 +3,8 @@ ghost use Rattle.std.specs.Prelude.{◌≡◌, IfOk};
 ghost use Rattle.std.specs.Option.{option_map, option_and_then};
 ghost use Rattle.set_events.specs.declared.event.Event.TheVariants.{Offer, Find};
 ghost use Rattle.figures.specs.Figures.{number_of};
-ghost use Rattle.history_text.specs.Reading.{actor_in, event_in, hear_in, link_event_in, asked_in, body_in, link_in};
+ghost use Rattle.history_text.specs.Reading.{actor_in, event_in, hear_in, if_found, link_event_in, asked_in, body_in, link_in};
+ghost use Rattle.play_script.specs.Script.{link_event};
 
 use super::words::{cut, read_body};
 use figures::{is_word, read_below_256, read_number};
@@ -31,16 +32,18 @@ pub(crate) fn read_actor(kind: &[u8], number: &[u8]) -> Option<Actor>
     }
 }
 
-/// What was asked, from the words behind the actor.
+/// Whether the words behind the actor tell what was asked, which then stands in `event`; else what stands there isn't told.
+/// An event has room for a unit, so that it's better filled in its place than handed on.
 pub(crate) fn read_asked(
     alloc: Global,
     profile: Profile,
     words: &[u8],
-) -> Result<Option<Event>, AllocError>
-    ensures { IfOk result (λ event. event ≡ asked_in profile words.now) }
+    event: &mut Event,
+) -> Result<bool, AllocError>
+    ensures { IfOk result (λ found. if_found found event.new ≡ asked_in profile words.now) }
 {
     let (name, words) = cut(words);
-    read_event(alloc, profile, name, words)
+    read_event(alloc, profile, name, words, event)
 }
 
 /// The event of this name, from the words behind it.
@@ -49,40 +52,50 @@ fn read_event(
     profile: Profile,
     name: &[u8],
     words: &[u8],
-) -> Result<Option<Event>, AllocError>
-    ensures { IfOk result (λ event. event ≡ event_in profile name.now words.now) }
+    event: &mut Event,
+) -> Result<bool, AllocError>
+    ensures { IfOk result (λ found. if_found found event.new ≡ event_in profile name.now words.now) }
 {
     let (word, others) = cut(words);
     if is_word(name, b"offer") {
-        read_offer(alloc, word)
+        read_offer(alloc, word, event)
     } else if is_word(name, b"take") {
-        Ok(Some(Event::Take))
+        *event = Event::Take;
+        Ok(true)
     } else if is_word(name, b"find") {
-        Ok(read_find(word))
+        Ok(read_find(word, event))
     } else if is_word(name, b"hear") {
         let (unit, _) = cut(others);
-        read_hear(alloc, profile, word, unit)
+        read_hear(alloc, profile, word, unit, event)
     } else {
-        Ok(read_on_link(name, word))
+        Ok(read_on_link(name, word, event))
     }
 }
 
 /// `offer HEX`
-fn read_offer(alloc: Global, word: &[u8]) -> Result<Option<Event>, AllocError>
-    ensures { IfOk result (λ event. event ≡ option_map Offer (body_in word.now)) }
+fn read_offer(alloc: Global, word: &[u8], event: &mut Event) -> Result<bool, AllocError>
+    ensures { IfOk result (λ found. if_found found event.new ≡ option_map Offer (body_in word.now)) }
 {
     match read_body(alloc, word)? {
-        Some(body) => Ok(Some(Event::Offer { body })),
-        None => Ok(None),
+        Some(body) => {
+            *event = Event::Offer { body };
+            Ok(true)
+        }
+        None => Ok(false),
     }
 }
 
 /// `find N`
-fn read_find(word: &[u8]) -> Option<Event>
-    ensures { result ≡ option_map Find (number_of word.now) }
+fn read_find(word: &[u8], event: &mut Event) -> bool
+    ensures { if_found result event.new ≡ option_map Find (number_of word.now) }
 {
-    let number = read_number(word)?;
-    Some(Event::Find { number })
+    match read_number(word) {
+        Some(number) => {
+            *event = Event::Find { number };
+            true
+        }
+        None => false,
+    }
 }
 
 /// `hear L HEX`
@@ -91,35 +104,56 @@ fn read_hear(
     profile: Profile,
     link: &[u8],
     unit: &[u8],
-) -> Result<Option<Event>, AllocError>
-    ensures { IfOk result (λ event. event ≡ hear_in profile link.now unit.now) }
+    event: &mut Event,
+) -> Result<bool, AllocError>
+    ensures { IfOk result (λ found. if_found found event.new ≡ hear_in profile link.now unit.now) }
 {
     let Some(link) = read_below_256(link) else {
-        return Ok(None);
+        return Ok(false);
     };
     match read_unit(alloc, profile, unit)? {
-        Some(unit) => Ok(Some(Event::Heard { link, unit })),
-        None => Ok(None),
+        Some(unit) => {
+            *event = Event::Heard { link, unit };
+            Ok(true)
+        }
+        None => Ok(false),
     }
 }
 
 /// What a terminal asks or tells of a link.
-fn read_on_link(name: &[u8], word: &[u8]) -> Option<Event>
-    ensures { result ≡ option_and_then (link_event_in name.now) (link_in word.now) }
+fn read_on_link(name: &[u8], word: &[u8], event: &mut Event) -> bool
+    ensures { if_found result event.new ≡ option_and_then (link_event_in name.now) (link_in word.now) }
 {
-    let link = read_below_256(word)?;
-    read_event_on_link(name, link)
+    match read_below_256(word) {
+        Some(link) => read_event_on_link(name, link, event),
+        None => false,
+    }
 }
 
 /// The event of this name on a link.
-fn read_event_on_link(name: &[u8], link: u8) -> Option<Event>
-    ensures { result ≡ link_event_in name.now link }
+fn read_event_on_link(name: &[u8], link: u8, event: &mut Event) -> bool
+    ensures { if_found result event.new ≡ link_event_in name.now link }
 {
     if is_word(name, b"next") {
-        Some(Event::Next { link })
+        *event = Event::Next { link };
+        true
     } else if is_word(name, b"up") {
-        Some(Event::Up { link })
+        *event = Event::Up { link };
+        true
     } else {
-        read_link_event(name, link)
+        read_rare_event(name, link, event)
+    }
+}
+
+/// What a terminal tells of a link now and then.
+fn read_rare_event(name: &[u8], link: u8, event: &mut Event) -> bool
+    ensures { if_found result event.new ≡ link_event name.now link }
+{
+    match read_link_event(name, link) {
+        Some(told) => {
+            *event = told;
+            true
+        }
+        None => false,
     }
 }

@@ -1,27 +1,90 @@
 //! The items of a history in pieces, and their text.
 ghost use Rattle.std.specs.Prelude.{◌≡◌, IfOk};
 ghost use Rattle.history_items.specs.Items.{piece};
+ghost use Rattle.history_items.specs.declared.item.Item.TheVariants.{Checkpoint};
+ghost use Rattle.history_text.specs.Reading.{if_found};
 ghost use Rattle.history_text.specs.Pieces.{ItemsReadBack, PiecesAreTheWhole, item_of, items_text};
 
-use super::reading::read_entry;
+use super::reading::{BLANK, read_entry_into};
 use super::writing::write_entries;
 use figures::is_word;
 use history_items::Item;
 use l2_units::{Profile, one_text};
 use set_history::Reader;
 use std::alloc::{AllocError, Global};
+use std::marker::Model;
 
 /// The item of a history of this profile whose text this line is, with its LF; `None`: none has it. It fails only where
 /// memory is wanted.
 pub fn read_item(alloc: Global, profile: Profile, line: &[u8]) -> Result<Option<Item>, AllocError>
     ensures { IfOk result (λ found. found ≡ item_of profile line.now) }
 {
-    if is_word(line, b"checkpoint\n") {
-        return Ok(Some(Item::Checkpoint));
+    let mut place = ItemPlace::new(alloc);
+    if place.read(alloc, profile, line)? {
+        Ok(Some(place.into_item()))
+    } else {
+        Ok(None)
     }
-    match read_entry(alloc, profile, line)? {
-        Some(entry) => Ok(Some(Item::Entered(entry))),
-        None => Ok(None),
+}
+
+/// Where items are read into, line by line: an item has room for two units, so that it's better filled in its place than
+/// handed on. Contracts see the item that stands there.
+#[derive(Drop)]
+pub struct ItemPlace {
+    item: Item,
+    /// Room for the text of an item.
+    text: Vec<u8>,
+}
+
+impl Model for ItemPlace {
+    ghost use Rattle.history_items.specs.declared.item.Item.{Item};
+
+    ghost Value = { Item };
+
+    ghost view = { λ p. p.item };
+}
+
+impl ItemPlace {
+    /// A place in which a checkpoint stands.
+    pub fn new(alloc: Global) -> ItemPlace
+        ensures { result ≡ Checkpoint }
+    {
+        ItemPlace {
+            item: Item::Checkpoint,
+            text: Vec::new(alloc),
+        }
+    }
+
+    /// Whether this line, with its LF, is the text of an item of a history of this profile, which then stands here; else
+    /// what stands here isn't told. It fails only where memory is wanted.
+    pub fn read(&mut self, alloc: Global, profile: Profile, line: &[u8]) -> Result<bool, AllocError>
+        ensures { IfOk result (λ found. if_found found self.new ≡ item_of profile line.now) }
+    {
+        if is_word(line, b"checkpoint\n") {
+            self.item = Item::Checkpoint;
+            return Ok(true);
+        }
+        if let Item::Checkpoint = self.item {
+            self.item = Item::Entered(BLANK);
+        }
+        match &mut self.item {
+            Item::Entered(entry) => { read_entry_into(alloc, profile, line, &mut self.text, entry) }
+            Item::Checkpoint => unreachable!(),
+        }
+    }
+
+    /// What stands here.
+    pub fn item(&self) -> &Item
+        ensures { result.now ≡ self.now }
+    {
+        &self.item
+    }
+
+    /// What stood here.
+    fn into_item(self) -> Item
+        ensures { result ≡ self }
+    {
+        self.item
     }
 }
 

@@ -16,7 +16,7 @@
 //!
 //! [`write_entry`] writes it, [`write_answer`] its answer alone, [`write_entries`] those of a list, [`read_entry`] reads
 //! it back, and [`one_entry`] and [`one_history`] are the laws that no two entries, and no two lists of them, share a text.
-//! [`read_item`] reads a line that may be a checkpoint, [`write_piece`] writes entries with a checkpoint behind them, and
+//! [`read_item`] and [`ItemPlace`] read a line that may be a checkpoint, [`write_piece`] writes entries with a checkpoint behind them, and
 //! [`items_read_back`] and [`pieces_are_the_whole`] are the laws of these. `specs/Entries.antt` and `specs/Pieces.antt`
 //! have the words. This crate knows no set: whether a history is legal isn't its matter.
 #![tactic(auto)]
@@ -28,6 +28,6 @@ mod reading;
 mod words;
 mod writing;
 
-pub use items::{items_read_back, pieces_are_the_whole, read_item, write_piece};
+pub use items::{ItemPlace, items_read_back, pieces_are_the_whole, read_item, write_piece};
 pub use reading::{one_entry, one_history, read_entry};
 pub use writing::{write_answer, write_entries, write_entry};

@@ -2,14 +2,14 @@
 ghost use Rattle.std.specs.Prelude.{◌≡◌, IfOk, IfSome, Some};
 ghost use Rattle.set_events.specs.declared.history.Entry.{Entry};
 ghost use Rattle.history_text.specs.Entries.{entry_text, EntryFits, OneEntry, OneHistory};
-ghost use Rattle.history_text.specs.Reading.{entry_in, entry_of};
+ghost use Rattle.history_text.specs.Reading.{entry_in, entry_of, if_found};
 
 use super::answers::read_told;
 use super::events::{read_actor, read_asked};
 use super::words::{cut, told_of};
-use super::writing::write_entry;
+use super::writing::push_entry;
 use l2_units::{Profile, one_text};
-use set_events::Entry;
+use set_events::{Actor, Answer, Entry, Event};
 use std::alloc::{AllocError, Global};
 
 /// The entry of a set of this profile whose text this line is, with its LF; `None`: no entry has it. It fails only
@@ -25,33 +25,60 @@ pub fn read_entry(alloc: Global, profile: Profile, line: &[u8]) -> Result<Option
         → found ≡ Some entry) }
 {
     one_text();
-    let Some(entry) = read_words(alloc, profile, line)? else {
-        return Ok(None);
-    };
-    let text = write_entry(alloc, profile, &entry)?;
-    if text.as_slice() == line {
+    let mut entry = BLANK;
+    let mut text = Vec::new(alloc);
+    if read_entry_into(alloc, profile, line, &mut text, &mut entry)? {
         Ok(Some(entry))
     } else {
         Ok(None)
     }
 }
 
-/// The entry that the words of a line tell, each taken for what stands at its place.
-fn read_words(alloc: Global, profile: Profile, line: &[u8]) -> Result<Option<Entry>, AllocError>
-    ensures { IfOk result (λ entry. entry ≡ entry_in profile line.now) }
+/// An entry, to be written over.
+pub(crate) const BLANK: Entry = Entry {
+    who: Actor::User(0),
+    event: Event::Take,
+    answer: Answer::Done,
+};
+
+/// Whether this line, with its LF, is the text of an entry of a set of this profile, which then stands in `entry`; else
+/// what stands there isn't told. `text` is room to write in. It fails only where memory is wanted.
+pub(crate) fn read_entry_into(
+    alloc: Global,
+    profile: Profile,
+    line: &[u8],
+    text: &mut Vec<u8>,
+    entry: &mut Entry,
+) -> Result<bool, AllocError>
+    ensures { IfOk result (λ found. if_found found entry.new ≡ entry_of profile line.now) }
+{
+    if !read_words(alloc, profile, line, entry)? {
+        return Ok(false);
+    }
+    text.clear();
+    push_entry(text, profile, entry)?;
+    Ok(text.as_slice() == line)
+}
+
+/// Whether the words of a line tell an entry, each taken for what stands at its place.
+fn read_words(
+    alloc: Global,
+    profile: Profile,
+    line: &[u8],
+    entry: &mut Entry,
+) -> Result<bool, AllocError>
+    ensures { IfOk result (λ found. if_found found entry.new ≡ entry_in profile line.now) }
 {
     let (kind, words) = cut(line);
     let (number, words) = cut(words);
     let Some(who) = read_actor(kind, number) else {
-        return Ok(None);
+        return Ok(false);
     };
-    let Some(event) = read_asked(alloc, profile, words)? else {
-        return Ok(None);
-    };
-    match read_told(alloc, profile, told_of(line))? {
-        Some(answer) => Ok(Some(Entry { who, event, answer })),
-        None => Ok(None),
+    if !read_asked(alloc, profile, words, &mut entry.event)? {
+        return Ok(false);
     }
+    entry.who = who;
+    read_told(alloc, profile, told_of(line), &mut entry.answer)
 }
 
 /// A law over the definitions alone: in either profile, one text for an entry, and no other entry has it.

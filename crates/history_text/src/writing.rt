@@ -1,25 +1,22 @@
 //! An entry to its text.
-ghost use Rattle.std.specs.Prelude.{◌≡◌, ◌++◌, IfOk, codes};
+ghost use Rattle.std.specs.Prelude.{◌≡◌, ◌++◌, IfOk, OnOk, codes};
 ghost use Rattle.figures.specs.Figures.{hex_text};
 ghost use Rattle.answer_texts.specs.Texts.{answer_text, unit_octets};
 ghost use Rattle.history_text.specs.Entries.{numbered, actor_text, body_text, event_text, entry_text, entries_text};
 
-use answer_texts::{unit_octets, write_shown};
-use figures::push_hex;
+use answer_texts::{push_answer, unit_octets};
+use figures::{push_hex, push_number};
 use l2_units::{Profile, Unit};
 use set_events::{Actor, Answer, Entry, Event};
 use set_history::Reader;
 use std::alloc::{AllocError, Global};
-use world_steps::Shown;
 
 /// The text of an entry of a set of this profile, ended by LF; it fails only where memory is wanted.
 pub fn write_entry(alloc: Global, profile: Profile, entry: &Entry) -> Result<Vec<u8>, AllocError>
     ensures { IfOk result (λ line. line.items ≡ entry_text profile entry.now) }
 {
-    let mut line = write_actor(alloc, entry.who)?;
-    line.extend_from_slice(&write_event(alloc, profile, &entry.event)?)?;
-    line.extend_from_slice(b"-> ")?;
-    line.extend_from_slice(&write_answer(alloc, profile, &entry.answer)?)?;
+    let mut line = Vec::new(alloc);
+    push_entry(&mut line, profile, entry)?;
     Ok(line)
 }
 
@@ -34,81 +31,95 @@ pub fn write_entries(
     let mut lines = Vec::new(alloc);
     let mut left = entries;
     while let Some(told) = left.next() {
-        let entry = told.entry(alloc)?;
-        lines.extend_from_slice(&write_entry(alloc, profile, &entry)?)?;
+        push_entry(&mut lines, profile, &told.entry(alloc)?)?;
     }
     Ok(lines)
 }
 
-/// Words, and a number behind them.
-fn write_numbered(alloc: Global, words: &str, number: u64) -> Result<Vec<u8>, AllocError>
-    ensures { IfOk result (λ text. text.items ≡ numbered words.now number) }
+/// Appends the text of an entry of a set of this profile, ended by LF; it fails only where memory is wanted.
+pub(crate) fn push_entry(
+    text: &mut Vec<u8>,
+    profile: Profile,
+    entry: &Entry,
+) -> Result<(), AllocError>
+    ensures { OnOk result (text.new.items ≡ text.old.items ++ entry_text profile entry.now) }
 {
-    Ok(format!(in alloc; "{words}{number} ")?.into_bytes())
+    push_actor(text, entry.who)?;
+    push_event(text, profile, &entry.event)?;
+    text.extend_from_slice(b"-> ")?;
+    push_answer(text, profile, &entry.answer)
 }
 
-/// Who asked.
-fn write_actor(alloc: Global, who: Actor) -> Result<Vec<u8>, AllocError>
-    ensures { IfOk result (λ text. text.items ≡ actor_text who) }
+/// Appends words, and a number behind them.
+fn push_numbered(text: &mut Vec<u8>, words: &[u8], number: u64) -> Result<(), AllocError>
+    ensures { OnOk result (text.new.items ≡ text.old.items ++ numbered words.now number) }
+{
+    text.extend_from_slice(words)?;
+    push_number(text, number)?;
+    text.push(b' ')?;
+    Ok(())
+}
+
+/// Appends who asked.
+fn push_actor(text: &mut Vec<u8>, who: Actor) -> Result<(), AllocError>
+    ensures { OnOk result (text.new.items ≡ text.old.items ++ actor_text who) }
 {
     match who {
-        Actor::User(number) => write_numbered(alloc, "user ", number as u64),
-        Actor::Terminal(link) => write_numbered(alloc, "terminal ", link as u64),
+        Actor::User(number) => push_numbered(text, b"user ", number as u64),
+        Actor::Terminal(link) => push_numbered(text, b"terminal ", link as u64),
     }
 }
 
-/// What was asked.
-fn write_event(alloc: Global, profile: Profile, event: &Event) -> Result<Vec<u8>, AllocError>
-    ensures { IfOk result (λ text. text.items ≡ event_text profile event.now) }
+/// Appends what was asked.
+fn push_event(text: &mut Vec<u8>, profile: Profile, event: &Event) -> Result<(), AllocError>
+    ensures { OnOk result (text.new.items ≡ text.old.items ++ event_text profile event.now) }
 {
     match event {
-        Event::Offer { body } => write_offer(alloc, body.octets()),
-        Event::Take => Vec::from_slice(alloc, b"take "),
-        Event::Find { number } => write_numbered(alloc, "find ", *number),
-        Event::Next { link } => write_numbered(alloc, "next ", *link as u64),
-        Event::Heard { link, unit } => write_heard(alloc, profile, *link, unit),
-        Event::Up { link } => write_numbered(alloc, "up ", *link as u64),
-        Event::Down { link } => write_numbered(alloc, "down ", *link as u64),
-        Event::DownBlind { link } => write_numbered(alloc, "blind ", *link as u64),
-        Event::NoAnswer { link } => write_numbered(alloc, "noanswer ", *link as u64),
-        Event::Restore { link } => write_numbered(alloc, "restore ", *link as u64),
-        Event::BackTimeout { link } => write_numbered(alloc, "backtimeout ", *link as u64),
+        Event::Offer { body } => push_offer(text, body.octets()),
+        Event::Take => text.extend_from_slice(b"take "),
+        Event::Find { number } => push_numbered(text, b"find ", *number),
+        Event::Next { link } => push_numbered(text, b"next ", *link as u64),
+        Event::Heard { link, unit } => push_heard(text, profile, *link, unit),
+        Event::Up { link } => push_numbered(text, b"up ", *link as u64),
+        Event::Down { link } => push_numbered(text, b"down ", *link as u64),
+        Event::DownBlind { link } => push_numbered(text, b"blind ", *link as u64),
+        Event::NoAnswer { link } => push_numbered(text, b"noanswer ", *link as u64),
+        Event::Restore { link } => push_numbered(text, b"restore ", *link as u64),
+        Event::BackTimeout { link } => push_numbered(text, b"backtimeout ", *link as u64),
     }
 }
 
-/// A message that was offered.
-fn write_offer(alloc: Global, body: &[u8]) -> Result<Vec<u8>, AllocError>
-    ensures { IfOk result (λ text. text.items ≡ codes "offer " ++ body_text body.now) }
+/// Appends a message that was offered.
+fn push_offer(text: &mut Vec<u8>, body: &[u8]) -> Result<(), AllocError>
+    ensures { OnOk result (text.new.items ≡ text.old.items ++ (codes "offer " ++ body_text body.now)) }
 {
-    let mut text = Vec::from_slice(alloc, b"offer ")?;
+    text.extend_from_slice(b"offer ")?;
     if body.is_empty() {
-        return Ok(text);
+        return Ok(());
     }
-    push_hex(&mut text, body)?;
+    push_hex(text, body)?;
     text.push(b' ')?;
-    Ok(text)
+    Ok(())
 }
 
-/// A unit that was heard, without its check octets.
-fn write_heard(
-    alloc: Global,
-    profile: Profile,
-    link: u8,
-    unit: &Unit,
-) -> Result<Vec<u8>, AllocError>
-    ensures { IfOk result (λ line. line.items
-        ≡ numbered (codes "hear ") link ++ (hex_text (unit_octets profile unit.now) ++ codes " ")) }
+/// Appends a unit that was heard, without its check octets.
+// on its own: whoever has the unit's octets in its frame fills them each time, whatever it's called for
+#[inline(never)]
+fn push_heard(text: &mut Vec<u8>, profile: Profile, link: u8, unit: &Unit) -> Result<(), AllocError>
+    ensures { OnOk result (text.new.items ≡ text.old.items
+        ++ (numbered (codes "hear ") link ++ (hex_text (unit_octets profile unit.now) ++ codes " "))) }
 {
-    let mut line = write_numbered(alloc, "hear ", link as u64)?;
-    push_hex(&mut line, unit_octets(profile, unit).as_slice())?;
-    line.push(b' ')?;
-    Ok(line)
+    push_numbered(text, b"hear ", link as u64)?;
+    push_hex(text, unit_octets(profile, unit).as_slice())?;
+    text.push(b' ')?;
+    Ok(())
 }
 
 /// What a set of this profile answered, as `play` prints it, ended by LF; it fails only where memory is wanted.
 pub fn write_answer(alloc: Global, profile: Profile, answer: &Answer) -> Result<Vec<u8>, AllocError>
     ensures { IfOk result (λ text. text.items ≡ answer_text profile answer.now) }
 {
-    let shown = Shown::Answered(answer.copy());
-    write_shown(alloc, profile, &shown)
+    let mut text = Vec::new(alloc);
+    push_answer(&mut text, profile, answer)?;
+    Ok(text)
 }

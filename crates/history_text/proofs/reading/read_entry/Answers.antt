@@ -1,19 +1,19 @@
-use Rattle.std.proofs.Common.{◌≡◌, ◌∙◌, sym, ap, true, false, Some}
-use Rattle.std.proofs.lemmas.Slice.Eq.{bytes_eq-Decides}
-use Rattle.history_text.specs.Entries.{entry_text}
-use Rattle.history_text.proofs.ReadingLemmas.{words_tell}
+use Rattle.std.proofs.Common.{◌∙◌, sym, ap}
+use Rattle.history_text.specs.Reading.{if_found}
+use Rattle.history_text.proofs.ReadingLemmas.{only_entry, read_has_text}
 use Rattle.history_text.proofs.reading.read_entry.Goals as goal
 
-pub returns-in_default-clause-only : goal.returns-in_default-clause-only
-returns-in_default-clause-only c = λ entry fits is. sym c.in_default.is ∙ c.in_ok-entry.ensures ∙ words_tell c.args.profile (c.one_text.ensures c.args.profile) c.args.line.now entry fits is
+pub returns-then-branch-clause-found : goal.returns-then-branch-clause-found
+returns-then-branch-clause-found c =
+    read_has_text c.args.profile c.args.line.now c.read_entry_into.new.entry
+    (sym (ap (λ b. if_found b c.read_entry_into.new.entry) c.if-branch.true) ∙ c.in_ok-read_entry_into.ensures)
 
-pub returns-then-eq-clause-only : goal.returns-then-eq-clause-only
-returns-then-eq-clause-only c = λ entry fits is. sym c.in-Some.is ∙ c.in_ok-entry.ensures ∙ words_tell c.args.profile (c.one_text.ensures c.args.profile) c.args.line.now entry fits is
+pub returns-then-branch-clause-only : goal.returns-then-branch-clause-only
+returns-then-branch-clause-only c = λ entry fits is.
+    sym (ap (λ b. if_found b c.read_entry_into.new.entry) c.if-branch.true) ∙ c.in_ok-read_entry_into.ensures
+    ∙ only_entry c.args.profile (c.one_text.ensures c.args.profile) c.args.line.now entry fits is
 
-pub returns-else-eq-clause-only : goal.returns-else-eq-clause-only
-returns-else-eq-clause-only c = λ entry fits is.
-    let told : Some c.in-Some.entry ≡ Some entry = sym c.in-Some.is ∙ c.in_ok-entry.ensures ∙ words_tell c.args.profile (c.one_text.ensures c.args.profile) c.args.line.now entry fits is in
-    let same : c.in-Some.entry ≡ entry = cc told in
-    let equal : c.as_slice.result.now ≡ c.args.line.now = c.as_slice.ensures.value ∙ c.in_ok-text.ensures ∙ ap (entry_text c.args.profile) same ∙ is in
-    let no : false ≡ true = sym c.if-eq.false ∙ c.eq.ensures ∙ (bytes_eq-Decides c.as_slice.result.now c.args.line.now).1 equal in
-    cc no
+pub returns-else-branch-clause-only : goal.returns-else-branch-clause-only
+returns-else-branch-clause-only c = λ entry fits is.
+    sym (ap (λ b. if_found b c.read_entry_into.new.entry) c.if-branch.false) ∙ c.in_ok-read_entry_into.ensures
+    ∙ only_entry c.args.profile (c.one_text.ensures c.args.profile) c.args.line.now entry fits is
