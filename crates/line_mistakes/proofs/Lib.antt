@@ -1,3 +1,5 @@
 mod Blamed
-mod Openings
+mod NamedWords
+pub mod Openings
 mod Spaces
+pub mod TerminalBlamed

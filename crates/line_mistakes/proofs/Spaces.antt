@@ -1,16 +1,15 @@
 -- No word that can be read has a space in it.
-use Rattle.std.proofs.Common.{◌≡◌, refl, sym, subst, ap, ◌∙◌, ℕ, Bool, true, false, inl, inr, ◌⊎◌, ◌||◌, ◌==◌, ◌+◌, ◌-◌, ◌*◌, nat_lt, cond, if◌then◌else◌, List, [], ◌∷◌, ◌++◌, length, take, drop, codes, Option, Some, None, is_some, arith}
-use Rattle.std.proofs.lemmas.List.{take_all, take-append-drop}
+use Rattle.std.proofs.Common.{◌≡◌, refl, sym, subst, ap, ◌∙◌, ℕ, Bool, true, false, inl, inr, ◌⊎◌, ◌||◌, ◌==◌, ◌+◌, ◌-◌, ◌*◌, nat_lt, cond, if◌then◌else◌, List, [], ◌∷◌, length, codes, Option, Some, None, is_some, arith}
+use Rattle.std.proofs.lemmas.List.{take_all}
 use Rattle.std.proofs.lemmas.Slice.Eq.{bytes_eq-Decides}
 use Rattle.std.specs.List.{list_any, position_or_len, after_first}
 use Rattle.l2_units.specs.Grammar.{unit_of as unit_in}
 use Rattle.l2_units.specs.declared.profile.Profile.{Profile}
 use Rattle.l2_units.specs.declared.profile.Profile.TheVariants.{Narrow, Wide}
 use Rattle.std.specs.Option.{option_map, option_and_then}
-use Rattle.figures.specs.Figures.{number_of, octet_of, digits_behind, below_2_64, hex_value, octets_of, octet_before, is_digit}
-use Rattle.play_script.specs.Script.{is_space, first_word, other_words, link_of, some_octets, unit_of, sio_of, profile_of}
+use Rattle.figures.specs.Figures.{number_of, digits_behind, below_2_64, hex_value, octets_of, octet_before, is_digit}
+use Rattle.play_script.specs.Script.{is_space, first_word, other_words, link_of, some_octets, unit_of, profile_of}
 use Rattle.std.specs.Str.{bytes_eq}
-use Rattle.line_mistakes.specs.Mistakes.{is_orders_sio}
 
 pub either : (b : Bool) → (b ≡ true) ⊎ (b ≡ false)
 either true = inl refl

@@ -7,7 +7,8 @@ use Rattle.play_script.specs.Script.{first_word, other_words, profile_of}
 use Rattle.line_mistakes.specs.declared.mistake.Mistake.{Mistake}
 use Rattle.line_mistakes.specs.declared.mistake.Mistake.TheVariants.{NotSet, OpeningShort, Surplus, UnknownWord, SecondSet, TogetherWants, OfferWants, TakeWants, FindWants, OnLinkWants, LoseWants, HearWants}
 use Rattle.line_mistakes.specs.declared.words.Kind.{Kind}
-use Rattle.line_mistakes.specs.declared.words.Kind.TheVariants.{Links, Method, CodeA, CodeB, Sio, Profile as AProfile, End, Link, Number, Octets, Unit as AUnit}
+use Rattle.line_mistakes.specs.declared.words.Kind.TheVariants.{Links, Method, CodeA, CodeB, Sio, Profile as AProfile, End, Link, Number, Octets, Unit as AUnit, SomeOctets, Bits, UnitName, AnyUnit, Body, FirstBody, Named}
+use Rattle.line_mistakes.specs.declared.named.Named.TheVariants.{Times, FirstTimes}
 use Rattle.line_mistakes.specs.declared.forms.Form.{Form}
 use Rattle.line_mistakes.specs.declared.forms.Form.TheVariants.{Together, Offer, Take, Find, Lose, Hear, OnLink}
 use Rattle.line_mistakes.specs.declared.lines.Blame.{Blame}
@@ -47,7 +48,8 @@ kinds_of profile Lose = End ∷ Link ∷ Number ∷ []
 kinds_of profile Hear = End ∷ Link ∷ AUnit profile ∷ []
 kinds_of profile OnLink = End ∷ Link ∷ []
 
--- the body of an offer may be empty, and then has no word; nor need the profile have one
+-- the body of an offer may be empty, and then has no word; nor need the profile have one, nor what stands once on a
+-- terminal's line
 abbrev pub may_miss : Kind → Bool
 may_miss Octets = true
 may_miss Links = false
@@ -60,6 +62,15 @@ may_miss End = false
 may_miss Link = false
 may_miss Number = false
 may_miss (AUnit profile) = false
+may_miss SomeOctets = false
+may_miss Bits = false
+may_miss UnitName = false
+may_miss AnyUnit = false
+may_miss Body = false
+may_miss FirstBody = false
+may_miss (Named Times) = true
+may_miss (Named FirstTimes) = true
+may_miss (Named _) = false
 
 -- the mistake of a line in which a word is missing
 abbrev pub wants : Form → Mistake

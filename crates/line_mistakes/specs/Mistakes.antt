@@ -1,6 +1,8 @@
 -- WHAT IS WRONG WITH A WORD of a line.
-use Rattle.std.specs.Prelude.{ℕ, Bool, false, ◌==◌, ◌%◌, ◌&&◌, nat_lt, nat_le, List, length, Option, Some, None, if◌then◌else◌, codes, is_some, unwrap_or}
+use Rattle.std.specs.Prelude.{ℕ, Bool, true, false, ◌==◌, ◌%◌, ◌&&◌, nat_lt, nat_le, List, length, Option, Some, None, if◌then◌else◌, codes, is_some, unwrap_or}
 use Rattle.std.specs.List.{list_any, list_all}
+use Rattle.std.specs.Option.{option_and_then}
+use Rattle.std.specs.Str.{bytes_eq}
 use Rattle.set_events.specs.Config.{most_links, point_codes}
 use Rattle.l2_units.specs.declared.profile.Profile.{Profile}
 use Rattle.l2_units.specs.declared.profile.Profile.TheVariants.{Narrow, Wide}
@@ -9,9 +11,13 @@ use Rattle.set_events.specs.declared.config.Method.{Method as SafeMethod}
 use Rattle.figures.specs.Figures.{number_of, hex_value}
 use Rattle.play_script.specs.Script.{end_of, link_of, some_octets, unit_of, value_in, links_of, method_of, code_of, sio_of, profile_of}
 use Rattle.line_mistakes.specs.declared.mistake.Mistake.{Mistake}
-use Rattle.line_mistakes.specs.declared.mistake.Mistake.TheVariants.{LinksName, LinksRange, MethodName, MethodLimits, WideMethodLimits, CodeAName, CodeBName, CodeRange, SioName, SioDigits, SioIndicator, ProfileValue, Surplus, Space, CarriageReturn, NotPrintable, End as NoEnd, Link as NoLink, Number as NoNumber, OddDigits, NotHexadecimal, UnitShort, WideUnitShort, UnitLong, UnitLength, WideUnitLength}
+use Rattle.line_mistakes.specs.declared.mistake.Mistake.TheVariants.{LinksName, LinksRange, MethodName, MethodLimits, WideMethodLimits, CodeAName, CodeBName, CodeRange, SioName, SioDigits, SioIndicator, ProfileValue, Surplus, Space, CarriageReturn, NotPrintable, End as NoEnd, Link as NoLink, Number as NoNumber, OddDigits, NotHexadecimal, UnitShort, WideUnitShort, UnitLong, UnitLength, WideUnitLength, Terminal}
+use Rattle.line_mistakes.specs.declared.terminal_mistake.TerminalMistake.TheVariants.{Bits as WrongBits, UnitName as NoUnitName, Body as NoBody, FirstBody as NoFirstBody, Number}
 use Rattle.line_mistakes.specs.declared.words.Kind.{Kind}
-use Rattle.line_mistakes.specs.declared.words.Kind.TheVariants.{Links, Method, CodeA, CodeB, Sio, Profile as AProfile, End, Link, Number, Octets, Unit as AUnit}
+use Rattle.line_mistakes.specs.declared.words.Kind.TheVariants.{Links, Method, CodeA, CodeB, Sio, Profile as AProfile, End, Link, Number, Octets, Unit as AUnit, SomeOctets, Bits, UnitName, AnyUnit, Body, FirstBody, Named}
+use Rattle.line_mistakes.specs.Named.{is_named}
+use Rattle.terminal_script.specs.Lines.{bits_of_word}
+use Rattle.terminal_script.specs.Units.{long_enough, short_enough}
 
 -- What a word has to be.
 
@@ -34,6 +40,15 @@ abbrev pub is_met : Profile → Option SafeMethod → Bool
 is_met profile None = false
 is_met profile (Some method) = is_method profile method
 
+-- of the lines of a terminal: fisu, lssu or msu; and body=HEX, 3 to 273 octets
+abbrev pub names_unit : List ℕ → Bool
+names_unit word =
+    if bytes_eq word (codes "fisu") then true
+    else (if bytes_eq word (codes "lssu") then true else bytes_eq word (codes "msu"))
+
+abbrev pub body_in : List ℕ → Option (List ℕ)
+body_in word = option_and_then long_enough (option_and_then some_octets (value_in (codes "body=") word))
+
 abbrev pub is_kind : Kind → List ℕ → Bool
 is_kind Links word = has_links (links_of word)
 is_kind (Method profile) word = is_met profile (method_of word)
@@ -46,6 +61,13 @@ is_kind Link word = is_some (link_of word)
 is_kind Number word = is_some (number_of word)
 is_kind Octets word = is_some (some_octets word)
 is_kind (AUnit profile) word = is_some (unit_of profile word)
+is_kind SomeOctets word = is_some (some_octets word)
+is_kind Bits word = is_some (bits_of_word word)
+is_kind UnitName word = names_unit word
+is_kind AnyUnit word = is_some (option_and_then short_enough (some_octets word))
+is_kind Body word = is_some (body_in word)
+is_kind FirstBody word = is_some (body_in word)
+is_kind (Named named) word = is_named named word
 
 -- What no word has in it.
 
@@ -97,6 +119,11 @@ wrong_length Wide word =
     if nat_lt (length word) 8 then WideUnitShort
     else (if nat_lt 552 (length word) then UnitLong else WideUnitLength)
 
+-- a unit on a terminal's line that is neither of a kind nor 1 to 276 octets
+abbrev pub wrong_any_unit : List ℕ → Mistake
+wrong_any_unit word =
+    if list_all is_hex word then wrong_digits word UnitLong else Terminal NoUnitName
+
 abbrev pub wrong_word : Kind → List ℕ → Mistake
 wrong_word Links word = wrong_value (codes "links=") LinksName LinksRange word
 wrong_word (Method profile) word =
@@ -110,6 +137,13 @@ wrong_word Link word = NoLink
 wrong_word Number word = NoNumber
 wrong_word Octets word = wrong_digits word OddDigits
 wrong_word (AUnit profile) word = wrong_digits word (wrong_length profile word)
+wrong_word SomeOctets word = wrong_digits word OddDigits
+wrong_word Bits word = Terminal WrongBits
+wrong_word UnitName word = Terminal NoUnitName
+wrong_word AnyUnit word = wrong_any_unit word
+wrong_word Body word = Terminal NoBody
+wrong_word FirstBody word = Terminal NoFirstBody
+wrong_word (Named named) word = Terminal (Number named)
 
 abbrev pub wrong : Kind → List ℕ → Mistake
 wrong kind word = unwrap_or (odd_in word) (wrong_word kind word)

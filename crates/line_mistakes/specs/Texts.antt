@@ -1,7 +1,8 @@
 -- THE TEXT of each mistake: what is wanted in its place.
 use Rattle.std.specs.Prelude.{ℕ, List, codes}
 use Rattle.line_mistakes.specs.declared.mistake.Mistake.{Mistake}
-use Rattle.line_mistakes.specs.declared.mistake.Mistake.TheVariants.{NotSet, OpeningShort, LinksName, LinksRange, MethodName, MethodLimits, WideMethodLimits, CodeAName, CodeBName, CodeRange, SioName, SioDigits, SioIndicator, ProfileValue, Space, CarriageReturn, NotPrintable, Surplus, UnknownWord, SecondSet, TogetherWants, OfferWants, TakeWants, FindWants, OnLinkWants, LoseWants, HearWants, End, Link, Number, OddDigits, NotHexadecimal, UnitShort, WideUnitShort, UnitLong, UnitLength, WideUnitLength, NoSuchLink, NotSettled, NothingUnderWay, NoUnitThere}
+use Rattle.line_mistakes.specs.declared.mistake.Mistake.TheVariants.{NotSet, OpeningShort, LinksName, LinksRange, MethodName, MethodLimits, WideMethodLimits, CodeAName, CodeBName, CodeRange, SioName, SioDigits, SioIndicator, ProfileValue, Space, CarriageReturn, NotPrintable, Surplus, UnknownWord, SecondSet, TogetherWants, OfferWants, TakeWants, FindWants, OnLinkWants, LoseWants, HearWants, End, Link, Number, OddDigits, NotHexadecimal, UnitShort, WideUnitShort, UnitLong, UnitLength, WideUnitLength, NoSuchLink, NotSettled, NothingUnderWay, NoUnitThere, Terminal}
+use Rattle.line_mistakes.specs.TerminalTexts.{terminal_text}
 
 abbrev pub mistake_text : Mistake → List ℕ
 mistake_text NotSet = codes "the first line is set links=L method=W a=X b=Y sio=HH"
@@ -26,7 +27,7 @@ mistake_text NotPrintable =
     codes "words are printable characters of ASCII, and this one has another octet"
 mistake_text Surplus = codes "the line has no further word here"
 mistake_text UnknownWord = codes "no line of a script begins with this word"
-mistake_text SecondSet = codes "set is the first line of a script, and no other"
+mistake_text SecondSet = codes "set is the first line, and no other"
 mistake_text TogetherWants = codes "together wants a link"
 mistake_text OfferWants = codes "offer wants an end, a or b, and octets of two hexadecimal digits"
 mistake_text TakeWants = codes "take wants an end, a or b"
@@ -52,3 +53,4 @@ mistake_text NotSettled =
     codes "a link comes up where it's settled at both ends, and this one isn't"
 mistake_text NothingUnderWay = codes "no unit is under way to this end on this link"
 mistake_text NoUnitThere = codes "no unit under way to this end on this link has this place, from 0"
+mistake_text (Terminal mistake) = terminal_text mistake

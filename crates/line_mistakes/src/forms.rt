@@ -4,6 +4,7 @@ ghost use Rattle.line_mistakes.specs.declared.forms.Form.TheVariants.{Hear};
 ghost use Rattle.line_mistakes.specs.Blaming.{form_of, kinds_of, is_on_link, wants, may_miss, opening_kinds};
 
 use super::mistake::Mistake;
+use super::named::Named;
 use super::words::Kind;
 use figures::is_word;
 use l2_units::Profile;
@@ -103,13 +104,13 @@ pub(crate) fn mistake_if_short(form: Form) -> Mistake
     }
 }
 
-/// Whether a line may end before a word of this kind: `offer` does before its octets, where the body is empty, and
-/// `set` before the profile.
+/// Whether a line may end before a word of this kind: `offer` does before its octets, where the body is empty, `set`
+/// before the profile, and what stands once on a terminal's line before `xN`.
 pub(crate) fn may_end_before(kind: Kind) -> bool
     ensures { result ≡ may_miss kind }
 {
     match kind {
-        Kind::Octets | Kind::Profile => true,
+        Kind::Octets | Kind::Profile | Kind::Named(Named::Times | Named::FirstTimes) => true,
         _ => false,
     }
 }

@@ -1,5 +1,5 @@
 //! Laws over the definitions alone.
-ghost use Rattle.line_mistakes.specs.Laws.{StepsBlamed, OpeningsBlamed};
+ghost use Rattle.line_mistakes.specs.Laws.{StepsBlamed, OpeningsBlamed, TerminalLinesBlamed};
 
 /// A line after the first has a word at fault exactly where it can't be read.
 pub fn refused_steps_are_blamed()
@@ -9,4 +9,9 @@ pub fn refused_steps_are_blamed()
 /// A first line has a word at fault exactly where it can't be read.
 pub fn refused_openings_are_blamed()
     ensures { OpeningsBlamed }
+{}
+
+/// A terminal's line after the first has a word at fault exactly where it can't be read.
+pub fn refused_terminal_lines_are_blamed()
+    ensures { TerminalLinesBlamed }
 {}

@@ -96,7 +96,7 @@ fn judge_first_word(name: &[u8]) -> Mistake
 }
 
 /// What is wrong with the words behind the first of a line of this size, which have to be of these kinds.
-fn blame_words(
+pub(crate) fn blame_words(
     alloc: Global,
     size: usize,
     short: Mistake,

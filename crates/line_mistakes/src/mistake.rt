@@ -2,6 +2,8 @@
 ghost use Rattle.std.specs.Prelude.{◌≡◌};
 ghost use Rattle.line_mistakes.specs.Texts.{mistake_text};
 
+use super::terminal_mistake::TerminalMistake;
+
 /// A mistake of a line; its text says what is wanted in its place.
 #[derive(Clone, Copy, Debug, PartialEq, Eq)]
 pub enum Mistake {
@@ -87,6 +89,8 @@ pub enum Mistake {
     NothingUnderWay,
     /// A unit is to be lost, and none is at that place.
     NoUnitThere,
+    /// One that only the lines of a terminal have.
+    Terminal(TerminalMistake),
 }
 
 impl Mistake {
@@ -118,7 +122,7 @@ impl Mistake {
                 "words are printable characters of ASCII, and this one has another octet",
             Mistake::Surplus => "the line has no further word here",
             Mistake::UnknownWord => "no line of a script begins with this word",
-            Mistake::SecondSet => "set is the first line of a script, and no other",
+            Mistake::SecondSet => "set is the first line, and no other",
             Mistake::TogetherWants => "together wants a link",
             Mistake::OfferWants =>
                 "offer wants an end, a or b, and octets of two hexadecimal digits",
@@ -148,6 +152,7 @@ impl Mistake {
             Mistake::NothingUnderWay => "no unit is under way to this end on this link",
             Mistake::NoUnitThere =>
                 "no unit under way to this end on this link has this place, from 0",
+            Mistake::Terminal(mistake) => mistake.text(),
         }
     }
 }

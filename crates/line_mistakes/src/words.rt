@@ -1,11 +1,13 @@
 //! What a word of a line has to be, and what is wrong with one that isn't.
 ghost use Rattle.std.specs.Prelude.{◌≡◌, IfOk, codes, length, nat_lt};
-ghost use Rattle.line_mistakes.specs.Mistakes.{mistake_in, is_kind, wrong, odd_in, wrong_word, wrong_value, wrong_digits, wrong_sio, wrong_limits, wrong_length, has_links, is_point_code, is_orders_sio, is_met, is_plain, is_hex, is_cr};
+ghost use Rattle.line_mistakes.specs.Mistakes.{mistake_in, is_kind, wrong, odd_in, wrong_word, wrong_value, wrong_digits, wrong_sio, wrong_limits, wrong_length, has_links, is_point_code, is_orders_sio, names_unit, wrong_any_unit, is_met, is_plain, is_hex, is_cr};
 ghost use Rattle.std.specs.List.{list_any, list_all};
 ghost use Rattle.l2_units.specs.declared.profile.Profile.TheVariants.{Narrow, Wide};
 
 use super::mistake::Mistake;
-use figures::read_number;
+use super::named::Named;
+use super::terminal_mistake::TerminalMistake;
+use figures::{is_word, read_number};
 use l2_units::Profile;
 use play_script::{
     read_code, read_end, read_link, read_links, read_method, read_profile, read_sio,
@@ -13,6 +15,7 @@ use play_script::{
 };
 use set_events::{Method, SetConfig};
 use std::alloc::{AllocError, Global};
+use terminal_script::{read_bits_word, read_body, read_unit_octets};
 
 /// What a word of a line has to be.
 #[derive(Clone, Copy, Debug, PartialEq, Eq)]
@@ -39,6 +42,20 @@ pub enum Kind {
     Octets,
     /// The octets of a unit of this profile.
     Unit(Profile),
+    /// Octets in hexadecimal, which may not be left out.
+    SomeOctets,
+    /// Digits 0 and 1.
+    Bits,
+    /// `fisu`, `lssu` or `msu`.
+    UnitName,
+    /// 1 to 276 octets in hexadecimal, whatever they say.
+    AnyUnit,
+    /// `body=HEX`, 3 to 273 octets.
+    Body,
+    /// The same where the words of a header may stand in its place.
+    FirstBody,
+    /// A number behind its name.
+    Named(Named),
 }
 
 /// What is wrong with a word that has to be of this kind, if anything; it fails only where memory is wanted.
@@ -72,7 +89,20 @@ fn is_of_kind(alloc: Global, kind: Kind, word: &[u8]) -> Result<bool, AllocError
         Kind::Number => Ok(read_number(word).is_some()),
         Kind::Octets => Ok(read_some_octets(alloc, word)?.is_some()),
         Kind::Unit(profile) => Ok(read_unit(alloc, profile, word)?.is_some()),
+        Kind::SomeOctets => Ok(read_some_octets(alloc, word)?.is_some()),
+        Kind::Bits => Ok(read_bits_word(alloc, word)?.is_some()),
+        Kind::UnitName => Ok(is_unit_name(word)),
+        Kind::AnyUnit => Ok(read_unit_octets(alloc, word)?.is_some()),
+        Kind::Body | Kind::FirstBody => Ok(read_body(alloc, word)?.is_some()),
+        Kind::Named(named) => Ok(named.is_in(word)),
     }
+}
+
+/// Whether a unit's kind is told by its name.
+pub(crate) fn is_unit_name(word: &[u8]) -> bool
+    ensures { result ≡ names_unit word.now }
+{
+    is_word(word, b"fisu") || is_word(word, b"lssu") || is_word(word, b"msu")
 }
 
 /// Whether a set can have so many links (Q.704 15.2).
@@ -146,6 +176,24 @@ fn judge_plain_word(kind: Kind, word: &[u8]) -> Mistake
         Kind::Number => Mistake::Number,
         Kind::Octets => judge_octets(word, Mistake::OddDigits),
         Kind::Unit(profile) => judge_unit(profile, word),
+        Kind::SomeOctets => judge_octets(word, Mistake::OddDigits),
+        Kind::Bits => Mistake::Terminal(TerminalMistake::Bits),
+        Kind::UnitName => Mistake::Terminal(TerminalMistake::UnitName),
+        Kind::AnyUnit => judge_any_unit(word),
+        Kind::Body => Mistake::Terminal(TerminalMistake::Body),
+        Kind::FirstBody => Mistake::Terminal(TerminalMistake::FirstBody),
+        Kind::Named(named) => Mistake::Terminal(TerminalMistake::Number(named)),
+    }
+}
+
+/// What is wrong with a unit that is neither of a kind nor octets.
+fn judge_any_unit(word: &[u8]) -> Mistake
+    ensures { result ≡ wrong_any_unit word.now }
+{
+    if are_digits(word) {
+        judge_octets(word, Mistake::UnitLong)
+    } else {
+        Mistake::Terminal(TerminalMistake::UnitName)
     }
 }
 

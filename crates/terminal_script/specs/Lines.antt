@@ -1,5 +1,5 @@
 -- WHAT A LINE OF `terminal` ASKS FOR, after the first line and that of timers. A line is words with one space between two.
-use Rattle.std.specs.Prelude.{ℕ, Bool, ◌==◌, ◌%◌, ◌||◌, ◌&&◌, List, [], length, map, Option, Some, None, if◌then◌else◌, codes}
+use Rattle.std.specs.Prelude.{ℕ, Bool, ◌==◌, ◌%◌, ◌||◌, List, [], length, map, Option, Some, None, if◌then◌else◌, codes}
 use Rattle.std.specs.List.{list_all}
 use Rattle.std.specs.Option.{option_map, option_and_then}
 use Rattle.std.specs.Str.{bytes_eq}

@@ -1,6 +1,6 @@
 -- THE LINE OF TIMERS: timers t1=N t2=N t3=N t5=N t6=N t7=N, each 1 to 2^32 - 1, in octet times.
-use Rattle.std.specs.Prelude.{ℕ, Bool, ◌==◌, ◌^◌, ◌||◌, List, Option, Some, None, if◌then◌else◌, codes}
-use Rattle.std.specs.Option.{option_map, option_and_then}
+use Rattle.std.specs.Prelude.{ℕ, ◌==◌, ◌^◌, ◌||◌, List, Option, Some, None, if◌then◌else◌, codes}
+use Rattle.std.specs.Option.{option_and_then}
 use Rattle.std.specs.Str.{bytes_eq}
 use Rattle.figures.specs.Figures.{number_below}
 use Rattle.play_script.specs.Script.{first_word, other_words, value_in}

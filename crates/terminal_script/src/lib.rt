@@ -21,6 +21,9 @@
 //! `fisu HEAD`, `lssu HEAD status=S` or `msu HEAD body=HEX`, where HEAD is `bsn=B bib=B fsn=F fib=F`, or nothing for 127, 1,
 //! 127, 1.
 //!
+//! The readers of single words ([`read_bits_word`], [`read_body`], [`read_unit_octets`]) are for who tells what is wrong with
+//! a line that is none of these.
+//!
 //! This crate reads one line and carries none out. `specs/Lines.antt` is the grammar.
 #![tactic(auto)]
 
@@ -30,5 +33,6 @@ mod timers;
 mod units;
 
 pub use asked::{Asked, Repeated};
-pub use reading::read_asked;
+pub use reading::{read_asked, read_bits_word};
 pub use timers::{USUAL_TIMERS, read_timers};
+pub use units::{read_body, read_unit_octets};

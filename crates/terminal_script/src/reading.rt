@@ -121,7 +121,7 @@ fn read_bits(alloc: Global, words: &[u8]) -> Result<Option<Asked>, AllocError>
     let Some(times) = read_times(times) else {
         return Ok(None);
     };
-    match read_digits(alloc, digits)? {
+    match read_bits_word(alloc, digits)? {
         Some(octets) => Ok(Some(Asked::Bits {
             link,
             bits: Repeated { octets, times },
@@ -130,8 +130,8 @@ fn read_bits(alloc: Global, words: &[u8]) -> Result<Option<Asked>, AllocError>
     }
 }
 
-/// Digits 0 and 1, at least one.
-fn read_digits(alloc: Global, digits: &[u8]) -> Result<Option<Body>, AllocError>
+/// The values of digits 0 and 1, at least one; `None`: it's another word.
+pub fn read_bits_word(alloc: Global, digits: &[u8]) -> Result<Option<Body>, AllocError>
     ensures { IfOk result (λ bits. bits ≡ bits_of_word digits.now) }
 {
     if digits.is_empty() || !are_digits(digits) {

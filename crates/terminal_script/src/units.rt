@@ -4,7 +4,7 @@ ghost use Rattle.std.specs.Option.{option_and_then, option_map, option_copied};
 ghost use Rattle.figures.specs.Figures.{number_below};
 ghost use Rattle.play_script.specs.Script.{some_octets, value_in};
 ghost use Rattle.terminal_script.specs.Heads.{head_words_of};
-ghost use Rattle.terminal_script.specs.Units.{fisu_in, head_in, head_of_words, long_enough, lssu_in, msu_in, octets_in, sequence_in, unit_in, with_rest};
+ghost use Rattle.terminal_script.specs.Units.{fisu_in, head_in, head_of_words, long_enough, lssu_in, msu_in, octets_in, sequence_in, short_enough, unit_in, with_rest};
 
 use super::asked::Repeated;
 use super::reading::read_times;
@@ -53,12 +53,9 @@ fn read_hex(alloc: Global, words: &[u8]) -> Result<Option<Repeated>, AllocError>
     ensures { IfOk result (λ unit. unit ≡ octets_in words.now) }
 {
     let (word, words) = cut(words);
-    let Some(octets) = read_some_octets(alloc, word)? else {
+    let Some(octets) = read_unit_octets(alloc, word)? else {
         return Ok(None);
     };
-    if octets.len() > LONGEST_UNIT {
-        return Ok(None);
-    }
     match read_times(words) {
         Some(times) => Ok(Some(Repeated {
             octets: Body::from_vec(octets),
@@ -66,6 +63,20 @@ fn read_hex(alloc: Global, words: &[u8]) -> Result<Option<Repeated>, AllocError>
         })),
         None => Ok(None),
     }
+}
+
+/// 1 to 276 octets, whatever they say; `None`: it's another word.
+pub fn read_unit_octets(alloc: Global, word: &[u8]) -> Result<Option<Vec<u8>>, AllocError>
+    ensures { IfOk result (λ unit. option_map (λ octets. octets.items) unit
+        ≡ option_and_then short_enough (some_octets word.now)) }
+{
+    let Some(octets) = read_some_octets(alloc, word)? else {
+        return Ok(None);
+    };
+    if octets.len() > LONGEST_UNIT {
+        return Ok(None);
+    }
+    Ok(Some(octets))
 }
 
 /// `HEAD`, or nothing for that of a link on which nothing was sent or accepted yet.
@@ -174,8 +185,8 @@ fn read_msu(alloc: Global, head: FoundHead<'_>) -> Result<Option<Repeated>, Allo
     Ok(Some(Repeated { octets, times }))
 }
 
-/// `body=HEX`, 3 to 273 octets.
-fn read_body(alloc: Global, word: &[u8]) -> Result<Option<Vec<u8>>, AllocError>
+/// `body=HEX`, 3 to 273 octets; `None`: it's another word.
+pub fn read_body(alloc: Global, word: &[u8]) -> Result<Option<Vec<u8>>, AllocError>
     ensures { IfOk result (λ body. option_map (λ octets. octets.items) body
         ≡ option_and_then long_enough (option_and_then some_octets (value_in (codes "body=") word.now))) }
 {

@@ -1,6 +1,7 @@
 -- THE TEXT OF `terminal`: one end of a set, whose links' lines are elsewhere. Each line prints what it does, and how the end
 -- stands comes behind the last.
 use Rattle.std.specs.Prelude.{◌≡◌, ℕ, Bool, true, false, List, [], length, Option, Some, None}
+use Rattle.std.specs.Option.{option_map}
 use Rattle.answer_texts.specs.Texts.{end_text}
 use Rattle.bench_core.specs.Ends.{BenchState, new_links}
 use Rattle.l2_units.specs.declared.profile.Profile.{Profile}
@@ -97,6 +98,10 @@ told_lengths false line = None
 abbrev pub MayRead : ℕ → Option EndState → List ℕ → TerminalOutcome → Type 0
 MayRead n None line outcome = MayOpen n line (first_line line) outcome
 MayRead n (Some end) line outcome = MayFollow n line (told_lengths end.is_new line) end.bench outcome
+
+-- whether the next line is the one behind the first; None before the first
+abbrev pub second_in : Option EndState → Option Bool
+second_in end = option_map (λ e. e.is_new) end
 
 -- how the end stands
 abbrev pub at_the_end : Option EndState → List ℕ

@@ -9,7 +9,7 @@
 //! are bits, and the time, since a turn takes an octet and gives one. The first line opens the set; a line of timers may
 //! follow. `specs/Text.antt` is the text: a relation, since the marks of bits are related and not computed; by the law
 //! [`one_terminal_text`] an input has one text. `specs/Answers.antt` has what a line prints, `specs/Showing.antt` what its
-//! turns show.
+//! turns show. [`Terminal`] is what reads the lines, for who tells more of a line that is refused.
 #![tactic(auto)]
 
 mod asking;
@@ -23,4 +23,5 @@ mod words;
 
 pub use fault::TerminalFault;
 pub use laws::{as_many_octets_go_out, one_terminal_text};
+pub use open_end::Terminal;
 pub use text::terminal;

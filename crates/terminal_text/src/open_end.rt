@@ -33,9 +33,9 @@ pub(crate) struct End {
     is_new: bool,
 }
 
-/// An end under way.
+/// An end under way: the lines of [`terminal`](crate::terminal)'s text, as `text_lines` reads them.
 #[derive(Drop)]
-pub(crate) struct Terminal {
+pub struct Terminal {
     /// The end, once the first line has opened its set.
     end: Option<End>,
 }
@@ -51,12 +51,23 @@ impl Model for Terminal {
 
 impl Terminal {
     ghost use Rattle.std.specs.Prelude.{◌≡◌, None};
+    ghost use Rattle.terminal_text.specs.Text.{second_in};
 
     /// Before the first line.
-    pub(crate) fn new() -> Terminal
+    pub fn new() -> Terminal
         ensures { result ≡ None }
     {
         Terminal { end: None }
+    }
+
+    /// Whether the next line is the one behind the first, which may tell the timers' lengths; `None` before the first.
+    pub fn is_second(&self) -> Option<bool>
+        ensures { result ≡ second_in self.now }
+    {
+        match &self.end {
+            Some(end) => Some(end.is_new),
+            None => None,
+        }
     }
 }
 
