@@ -1,7 +1,7 @@
 //! A history that an auditor hears item by item. What a set answers is worked out by hand from Q.703 5.
 use history_audit::{Auditor, Finding};
 use history_items::Item;
-use history_lines::read_line;
+use history_lines::LinePlace;
 use history_text::read_item;
 use l2_units::Profile;
 use set_events::{Answer, Fate, Method, Refusal, SetConfig};
@@ -29,10 +29,11 @@ fn auditor_of(alloc: Global) -> Result<Auditor, Fail> {
 
 /// What is found of the item that this line tells.
 fn found(alloc: Global, auditor: &mut Auditor, line: &[u8]) -> Result<Finding, Fail> {
-    let Some(item) = read_line(alloc, Profile::Narrow, line)? else {
+    let mut place = LinePlace::new(alloc);
+    if !place.read(alloc, Profile::Narrow, line)? {
         return Err(Fail::from("no item"));
-    };
-    match auditor.hear(&item) {
+    }
+    match auditor.hear(place.item()) {
         Ok(finding) => Ok(finding),
         Err(_) => Err(Fail::from("a fault")),
     }

@@ -1,56 +1,11 @@
 //! Histories that are audited in pieces of several sizes.
-ghost use Rattle.std.specs.Prelude.{◌≡◌, ◌<◌, Some};
+ghost use Rattle.std.specs.Prelude.{◌<◌};
 
 use audit_text::{AuditFault, audit};
-use printing::{DeviceFault, Fault, Sink, Source};
+use printing::Fault;
 use std::alloc::Global;
 use std::test::Fail;
-
-/// A text that is read in pieces.
-#[derive(Drop)]
-struct Text<'a> {
-    rest: &'a [u8],
-    piece: usize,
-    ghost moves: { 0 < piece },
-}
-
-impl Source for Text<'_> {
-    ghost left = { λ s. Some s.rest.now };
-
-    ghost failures = { λ s. 0 };
-
-    fn read(&mut self, buffer: &mut [u8]) -> Result<usize, DeviceFault> {
-        let count = self.rest.len().min(buffer.len()).min(self.piece);
-        let (piece, rest) = self.rest.split_at(count);
-        buffer[..count].copy_from_slice(piece);
-        self.rest = rest;
-        Ok(count)
-    }
-}
-
-/// What is written, in memory.
-#[derive(Drop)]
-struct Page {
-    octets: Vec<u8>,
-    /// How often it has failed.
-    failures: u32,
-}
-
-impl Sink for Page {
-    ghost written = { λ s. Some s.octets.items };
-
-    ghost failures = { λ s. s.failures };
-
-    fn write(&mut self, octets: &[u8]) -> Result<usize, DeviceFault> {
-        match self.octets.extend_from_slice(octets) {
-            Ok(()) => Ok(octets.len()),
-            Err(_) => {
-                self.failures = self.failures.wrapping_add(1);
-                Err(DeviceFault)
-            }
-        }
-    }
-}
+use test_devices::{Page, Text};
 
 /// Two pieces and what came since: `audit` has to say this, and end so, whatever the pieces that are read.
 const HISTORY: &[u8] = b"# Two pieces.
@@ -88,9 +43,13 @@ fn says(
     let mut text = Text {
         rest: history,
         piece,
+        reads: 10_000,
+        failures: 0,
     };
     let mut page = Page {
         octets: Vec::new(alloc),
+        piece: 4_096,
+        writes: 10_000,
         failures: 0,
     };
     let ended = audit(alloc, &mut text, &mut page);

@@ -1,0 +1,10 @@
+//! Devices for tests: a text that is read in pieces, and a page that is written in pieces, which fail when they're told to.
+//!
+//! Both tell contracts their octets, as [`printing::Source`] and [`printing::Sink`] ask.
+#![tactic(auto)]
+
+mod page;
+mod text;
+
+pub use page::Page;
+pub use text::Text;
