@@ -10,14 +10,14 @@ use super::fault::BankFault;
 use super::running::Running;
 use l2_units::Profile;
 use line_ring::Line;
-use link_term::Gate;
-use set_crew::{Job, Orders, Plan, Work};
+use set_crew::{Job, LinkManager, Orders, Plan, Work};
 use set_events::SetConfig;
 use set_ledger::MOST_USERS;
 use std::alloc::Global;
 use std::marker::Model;
 use std::sync::Wait;
 use std::thread::Threads;
+use std::time::Clock;
 
 /// The most sets of a bank.
 const MOST_SETS: usize = 16;
@@ -86,8 +86,8 @@ impl Bank {
     /// thread is wanted, though there is memory.
     pub fn start<
         L: Line + Drop + Send + 'static,
-        G: Gate + Clone + Drop + Send + Sync + 'static,
-        R: Threads + Wait + Copy + Send + Sync + 'static,
+        G: LinkManager + Clone + Drop + Send + Sync + 'static,
+        R: Threads + Wait + Clock + Copy + Send + Sync + 'static,
     >(
         self,
         rt: &R,
@@ -107,7 +107,7 @@ impl Bank {
     }
 
     /// What the thread of each set is to do.
-    fn works<L: Line + Drop, G: Gate + Clone + Drop>(
+    fn works<L: Line + Drop, G: LinkManager + Clone + Drop>(
         self,
         lines: Vec<Vec<L>>,
         jobs: Vec<Vec<Job>>,
@@ -126,7 +126,7 @@ impl Bank {
     }
 
     /// [`Bank::works`], put into this room.
-    fn put_works<L: Line + Drop, G: Gate + Clone + Drop>(
+    fn put_works<L: Line + Drop, G: LinkManager + Clone + Drop>(
         self,
         room: Vec<Work<L, G>>,
         lines: Vec<Vec<L>>,

@@ -27,5 +27,8 @@ mod summing;
 pub use bank::Bank;
 pub use fault::BankFault;
 pub use running::{Running, sort_out};
-pub use set_crew::{Answered, CrewFault, Job, Plan, SetEnd, ShiftReport, UserFault};
+pub use set_crew::{
+    Answered, Carried, CrewFault, Job, LinkManager, LinkOrder, Managed, Plan, SetEnd, ShiftReport,
+    UserFault, UserReport,
+};
 pub use summing::{SetTotals, totals};

@@ -10,8 +10,9 @@ ghost use Rattle.bank_core.specs.Room.{IsRoomFor};
 
 use super::fault::BankFault;
 use line_ring::Line;
-use link_term::Gate;
-use set_crew::{CrewFault, Job, Plan, SetEnd, Work, ask_for_stack, one_set, why_unstarted};
+use set_crew::{
+    CrewFault, Job, LinkManager, Plan, SetEnd, Work, ask_for_stack, one_set, why_unstarted,
+};
 use set_events::SetConfig;
 use std::alloc::{AllocError, Global};
 use std::marker::Model;
@@ -19,6 +20,7 @@ use std::snapshot::Snapshot;
 use std::sync::Wait;
 use std::thread;
 use std::thread::{Promise, PromisedHandle, Threads};
+use std::time::Clock;
 
 /// What a set's thread promises: the end of the set of this configuration, with so many users and lines, these jobs and
 /// this plan; or why there is none.
@@ -76,8 +78,8 @@ impl Running {
     /// A thread for each of these sets.
     pub(crate) fn start<
         L: Line + Drop + Send + 'static,
-        G: Gate + Drop + Send + Sync + 'static,
-        R: Threads + Wait + Copy + Send + Sync + 'static,
+        G: LinkManager + Drop + Send + Sync + 'static,
+        R: Threads + Wait + Clock + Copy + Send + Sync + 'static,
     >(rt: &R, alloc: Global, works: Vec<Work<L, G>>) -> Result<Running, BankFault>
         ensures running { IfOk result (λ running. running ≡ map (λ work. task_of work.config work.users (vec_len work.lines) (map duty_of work.jobs.items) work.orders.plan) works.items) }
         ensures fault { IfErr result CannotStart }
@@ -161,8 +163,8 @@ fn room_for(alloc: Global, sets: usize) -> Result<(Vec<SetThread>, Room), AllocE
 /// Starts a thread for each of these sets, up to the first that can't be started.
 fn start_each<
     L: Line + Drop + Send + 'static,
-    G: Gate + Drop + Send + Sync + 'static,
-    R: Threads + Wait + Copy + Send + Sync + 'static,
+    G: LinkManager + Drop + Send + Sync + 'static,
+    R: Threads + Wait + Clock + Copy + Send + Sync + 'static,
 >(
     rt: &R,
     alloc: Global,
@@ -184,8 +186,8 @@ fn start_each<
 /// Starts the thread of one set.
 fn start_one<
     L: Line + Drop + Send + 'static,
-    G: Gate + Drop + Send + Sync + 'static,
-    R: Threads + Wait + Copy + Send + Sync + 'static,
+    G: LinkManager + Drop + Send + Sync + 'static,
+    R: Threads + Wait + Clock + Copy + Send + Sync + 'static,
 >(rt: &R, alloc: Global, work: Work<L, G>) -> Result<SetThread, BankFault>
     ensures started { IfOk result (λ thread. promised thread.promise ≡ task_of work.config work.users (vec_len work.lines)
         (map duty_of work.jobs.items) work.orders.plan) }

@@ -12,13 +12,14 @@ use std::alloc::Global;
 use std::sync::Wait;
 use std::test::Fail;
 use std::thread::Threads;
+use std::time::Clock;
 
 /// How many turns each terminal takes: what was offered by turn 5,500 on two links has been sent on one of them by then.
 const TURNS: u32 = 14_000;
 
 /// The ends a of two sets of two links: four users offer a hundred messages each, and find each of them, and link 0 is told to
 /// stop half way.
-fn started_near<R: Threads + Wait + Copy + Send + Sync + 'static>(
+fn started_near<R: Threads + Wait + Clock + Copy + Send + Sync + 'static>(
     rt: &R,
     alloc: Global,
     lines: Vec<Vec<RingLine>>,
@@ -34,7 +35,7 @@ fn started_near<R: Threads + Wait + Copy + Send + Sync + 'static>(
 }
 
 /// The ends b of these sets, each with a user who takes messages.
-fn started_far<R: Threads + Wait + Copy + Send + Sync + 'static>(
+fn started_far<R: Threads + Wait + Clock + Copy + Send + Sync + 'static>(
     rt: &R,
     alloc: Global,
     lines: Vec<Vec<RingLine>>,
@@ -50,7 +51,7 @@ fn started_far<R: Threads + Wait + Copy + Send + Sync + 'static>(
 }
 
 /// What both banks come to.
-fn ends_of_both<R: Threads + Wait + Copy + Send + Sync + 'static>(
+fn ends_of_both<R: Threads + Wait + Clock + Copy + Send + Sync + 'static>(
     rt: &R,
     alloc: Global,
 ) -> Result<TrafficEnds, Fail> {

@@ -5,13 +5,15 @@ use super::openings::{
     are_legal, bank_of, configs_of, ends_of, holds, loops_of, offers_of, plan_of,
 };
 use link_term::Gate;
-use set_events::Method;
+use set_crew::{LinkManager, LinkOrder};
+use set_events::{Answer, Counts, Event, Method};
 use std::alloc::{AllocError, Global};
 use std::sync::atomic::{AtomicU64, Ordering};
 use std::sync::{Arc, Wait};
 use std::test::Fail;
 use std::thread;
 use std::thread::Threads;
+use std::time::Clock;
 
 /// How often a thread yields to the others before it gives up: some ten seconds at least, for whom it waits for may come late.
 const PATIENCE: u32 = 100_000_000;
@@ -174,6 +176,20 @@ impl Clone for MeetingGate {
     }
 }
 
+impl LinkManager for MeetingGate {
+    fn holds_up(&self, _set: u16, _user: u16) -> bool {
+        false
+    }
+
+    fn answered(&self, _set: u16, _link: u8, _event: &Event, _answer: &Answer) {}
+
+    fn order(&self, _set: u16, _link: u8, _counts: &Counts) -> LinkOrder {
+        LinkOrder::Run
+    }
+
+    fn ended(&self, _set: u16, _link: u8) {}
+}
+
 impl Gate for MeetingGate {
     fn outside(&self, set: u16, link: u8) {
         let of_set = self.seen.set(set);
@@ -250,7 +266,7 @@ impl Gate for MeetingGate {
 }
 
 /// Two sets of two links, with a user each that offers two messages: everybody meets, at least so often.
-fn all_meet<R: Threads + Wait + Copy + Send + Sync + 'static>(
+fn all_meet<R: Threads + Wait + Clock + Copy + Send + Sync + 'static>(
     rt: &R,
     alloc: Global,
     meeting: Meeting,

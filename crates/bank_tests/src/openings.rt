@@ -1,15 +1,16 @@
 //! What the tests open banks with.
 ghost use Rattle.std.specs.Prelude.{◌≡◌};
 
-use bank_core::{Bank, Job, Plan, SetEnd};
+use bank_core::{Bank, Job, LinkManager, Plan, SetEnd};
 use line_ring::{Line, LossyLine, RingLine, ring_pair};
-use link_term::{Gate, Timers};
+use link_term::Timers;
 use set_core::audit_history_from;
 use set_events::{Method, SetConfig};
 use std::alloc::Global;
 use std::sync::Wait;
 use std::test::Fail;
 use std::thread::Threads;
+use std::time::Clock;
 
 /// So it is.
 pub(crate) fn holds(fact: bool) -> Result<(), Fail> {
@@ -42,6 +43,7 @@ pub(crate) fn plan_with(turns: u32, fail: Option<u8>, checkpoint: Option<u16>) -
         turns: u64::from(turns),
         fail,
         checkpoint,
+        managed: None,
     }
 }
 
@@ -189,8 +191,8 @@ pub(crate) fn takes_of(alloc: Global, sets: u16, times: u32) -> Result<Vec<Vec<J
 /// What the sets of a bank come to.
 pub(crate) fn ends_of<
     L: Line + Drop + Send + 'static,
-    G: Gate + Clone + Drop + Send + Sync + 'static,
-    R: Threads + Wait + Copy + Send + Sync + 'static,
+    G: LinkManager + Clone + Drop + Send + Sync + 'static,
+    R: Threads + Wait + Clock + Copy + Send + Sync + 'static,
 >(
     rt: &R,
     bank: Bank,

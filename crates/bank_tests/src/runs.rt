@@ -11,6 +11,7 @@ use std::alloc::Global;
 use std::sync::Wait;
 use std::test::Fail;
 use std::thread::Threads;
+use std::time::Clock;
 
 /// The cause of a link that was told Stop (Q.703 12): the ninth.
 const STOPPED: u8 = 9;
@@ -37,7 +38,7 @@ fn accepted(end: &SetEnd, users: usize, messages: u64) -> Result<(), Fail> {
 }
 
 /// Four sets of four links that are joined to themselves, of which one fails half way, and two users each.
-fn four_sets<R: Threads + Wait + Copy + Send + Sync + 'static>(
+fn four_sets<R: Threads + Wait + Clock + Copy + Send + Sync + 'static>(
     rt: &R,
     alloc: Global,
     method: Method,
@@ -83,8 +84,9 @@ fn is_since_a_checkpoint(end: &SetEnd) -> Result<(), Fail> {
     holds(base.books().messages > 0 && base.entries().saturating_add(since) == calls)
 }
 
-/// Two sets of two links, each with two users, which take a checkpoint after each ten of their messages.
-fn sets_with_checkpoints<R: Threads + Wait + Copy + Send + Sync + 'static>(
+/// Two sets of two links, each with two users, which take a checkpoint after each ten of their messages. In so few turns no
+/// terminal makes the 640 steps after which it would take one.
+fn sets_with_checkpoints<R: Threads + Wait + Clock + Copy + Send + Sync + 'static>(
     rt: &R,
     alloc: Global,
 ) -> Result<(), Fail> {
@@ -95,11 +97,11 @@ fn sets_with_checkpoints<R: Threads + Wait + Copy + Send + Sync + 'static>(
         loops_of(alloc, 2, 2)?,
         offers_of(alloc, 2, 2, 50)?,
         OpenGate,
-        plan_with(12_000, None, Some(10)),
+        plan_with(5_000, None, Some(10)),
     )?;
     are_legal(alloc, &configs, &ends)?;
     for end in ends.iter() {
-        turned(end, 2, 12_000, None)?;
+        turned(end, 2, 5_000, None)?;
         accepted(end, 2, 100)?;
         is_since_a_checkpoint(end)?;
     }
@@ -111,8 +113,34 @@ fn users_take_checkpoints(rt: HostRuntime) -> Result<(), Fail> {
     sets_with_checkpoints(&rt, rt.alloc())
 }
 
+/// A set of two links, at which no user calls: each of its terminals takes a checkpoint after each 64 of its steps.
+fn set_without_calls_of_users<R: Threads + Wait + Clock + Copy + Send + Sync + 'static>(
+    rt: &R,
+    alloc: Global,
+) -> Result<(), Fail> {
+    let configs = configs_of(alloc, 1, 2, Method::Basic, 2, 1)?;
+    let ends = ends_of(
+        rt,
+        bank_of(alloc, &configs, 1)?,
+        loops_of(alloc, 1, 2)?,
+        Vec::new(alloc),
+        OpenGate,
+        plan_with(12_000, None, Some(1)),
+    )?;
+    are_legal(alloc, &configs, &ends)?;
+    for end in ends.iter() {
+        holds(end.closed.base.entries() > 0)?;
+    }
+    Ok(())
+}
+
+#[test]
+fn terminals_take_checkpoints(rt: HostRuntime) -> Result<(), Fail> {
+    set_without_calls_of_users(&rt, rt.alloc())
+}
+
 /// Two sets of one link, whose users have different jobs: two users offer 3 messages each, one of two offers 5.
-fn each_has_its_own_jobs<R: Threads + Wait + Copy + Send + Sync + 'static>(
+fn each_has_its_own_jobs<R: Threads + Wait + Clock + Copy + Send + Sync + 'static>(
     rt: &R,
     alloc: Global,
 ) -> Result<(), Fail> {
@@ -142,7 +170,7 @@ fn each_set_does_its_own_jobs(rt: HostRuntime) -> Result<(), Fail> {
 }
 
 /// The two ends of one set of two links, each in a bank of its own: four users at the one, one at the other.
-fn two_ends<R: Threads + Wait + Copy + Send + Sync + 'static>(
+fn two_ends<R: Threads + Wait + Clock + Copy + Send + Sync + 'static>(
     rt: &R,
     alloc: Global,
 ) -> Result<(), Fail> {
@@ -181,7 +209,7 @@ fn two_ends_in_two_banks(rt: HostRuntime) -> Result<(), Fail> {
 }
 
 /// A set of two links and three users, with one line and one job.
-fn some_are_idle<R: Threads + Wait + Copy + Send + Sync + 'static>(
+fn some_are_idle<R: Threads + Wait + Clock + Copy + Send + Sync + 'static>(
     rt: &R,
     alloc: Global,
 ) -> Result<(), Fail> {

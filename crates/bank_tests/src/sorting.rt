@@ -9,6 +9,7 @@ use std::alloc::{AllocError, Global};
 use std::sync::Wait;
 use std::test::Fail;
 use std::thread::Threads;
+use std::time::Clock;
 
 /// The answers of sets' threads.
 type Answers = Vec<Result<SetEnd, CrewFault>>;
@@ -24,7 +25,7 @@ fn told(alloc: Global, answers: Answers, ends: usize) -> Result<Option<BankFault
 }
 
 /// The ends of two sets that did little.
-fn two_ends<R: Threads + Wait + Copy + Send + Sync + 'static>(
+fn two_ends<R: Threads + Wait + Clock + Copy + Send + Sync + 'static>(
     rt: &R,
     alloc: Global,
 ) -> Result<Vec<SetEnd>, Fail> {

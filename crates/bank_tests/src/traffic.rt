@@ -13,6 +13,7 @@ use std::alloc::Global;
 use std::sync::Wait;
 use std::test::Fail;
 use std::thread::Threads;
+use std::time::Clock;
 
 /// The next message of each of four users.
 #[derive(Clone, Copy, Debug, PartialEq, Eq)]
@@ -114,7 +115,7 @@ pub(crate) fn came_through(alloc: Global, ends: &TrafficEnds) -> Result<bool, Fa
 }
 
 /// So many such sets, of which no link fails.
-fn goes_through<R: Threads + Wait + Copy + Send + Sync + 'static>(
+fn goes_through<R: Threads + Wait + Clock + Copy + Send + Sync + 'static>(
     rt: &R,
     alloc: Global,
     sets: u16,
@@ -131,6 +132,9 @@ fn goes_through<R: Threads + Wait + Copy + Send + Sync + 'static>(
         cyclic,
         turns: 100_000,
         checkpoint: None,
+        managed: false,
+        noise: None,
+        seed: 0,
     };
     let Ok(ends) = run_traffic(rt, alloc, &traffic) else {
         return Err(Fail::from("not run"));
@@ -142,7 +146,7 @@ fn goes_through<R: Threads + Wait + Copy + Send + Sync + 'static>(
 
 /// One of ten runs goes through: a user whose thread comes very late has too few turns left, and the ends of a link don't wait
 /// for each other for ever.
-fn one_goes_through<R: Threads + Wait + Copy + Send + Sync + 'static>(
+fn one_goes_through<R: Threads + Wait + Clock + Copy + Send + Sync + 'static>(
     rt: &R,
     alloc: Global,
     sets: u16,

@@ -1,5 +1,5 @@
 -- The options of a command, one after the other, and a run whose link is looked at.
-use Rattle.std.proofs.Common.{refl, ◌≡◌, ◌≢◌, ◌∙◌, ap, ap₂, ◌<◌, ◌≤◌, ℕ, List, [], ◌∷◌, ◌++◌, Option, None, Some, Result, Ok, Err, IfSome}
+use Rattle.std.proofs.Common.{refl, ◌≡◌, ◌≢◌, ◌∙◌, ap, ap₂, ◌<◌, ◌≤◌, ◌↔◌, IsTrue, Bool, true, false, ℕ, List, [], ◌∷◌, ◌++◌, Option, None, Some, Result, Ok, Err, IfSome}
 use Rattle.std.specs.Prelude.{MatchResult}
 use Rattle.std.proofs.lemmas.List.{append_assoc}
 use Rattle.clap.specs.Words.{Shape, Row, Rule}
@@ -27,3 +27,10 @@ pub looked_at : (run : RunWords) (rows : List Row) (result : Result RunWords Una
     → MatchResult result (λ (it : RunWords). IsRun it rows) (λ (why : Unasked). IsUnasked why rows)
 looked_at run rows (Ok same) values is = rw is.0 (record { values = values; link = is.1 })
 looked_at run rows (Err why) values is = rw is.0 (lacks run rows run.fail refl values is.1 is.2)
+
+-- two truths of one fact
+pub same_truth : (a b : Bool) (P : Type 0) → IsTrue a ↔ P → IsTrue b ↔ P → a ≡ b
+same_truth true true P x y = refl
+same_truth true false P x y = absurd (cc (y.1 (x.0 refl)))
+same_truth false true P x y = absurd (cc (x.1 (y.0 refl)))
+same_truth false false P x y = refl

@@ -6,7 +6,7 @@ use Rattle.clap.specs.Words.{Row, Text, first_of, subcommand_rows}
 use Rattle.clap.specs.declared.parser.matches.ArgMatches.TheViews.{out-SubCommand}
 use Rattle.clap.specs.declared.parser.matches.SubCommand.{SubCommand}
 use Rattle.command_line.specs.declared.words.Words.{Words}
-use Rattle.command_line.specs.declared.words.Words.TheVariants.{Units, Play, PlayExplained, Decode, DecodeWide, Capture, Ladder, Audit, Terminal, HistoryOfA, HistoryOfB, Run}
+use Rattle.command_line.specs.declared.words.Words.TheVariants.{Units, Play, PlayExplained, Decode, DecodeWide, Capture, Ladder, Audit, Terminal, TerminalExplained, HistoryOfA, HistoryOfB, Run}
 use Rattle.command_line.specs.declared.run_words.RunWords.{RunWords}
 use Rattle.command_line.specs.declared.run_words.Unasked.{Unasked}
 use Rattle.command_line.specs.declared.run_words.Unasked.TheVariants.{Value, Link}
@@ -34,6 +34,7 @@ options Capture name end rows other is = tt
 options Ladder name end rows other is = tt
 options Audit name end rows other is = tt
 options Terminal name end rows other is = tt
+options TerminalExplained name end rows other is = tt
 options HistoryOfA name end rows other is = tt
 options HistoryOfB name end rows other is = tt
 options (Run run) name end rows other is = absurd (other is.name_is)
@@ -54,6 +55,7 @@ module _ (name : Text) (rows : List Row) (is_run : name ≡ codes "run") where
   no_word Ladder none is = let bad : 108 ≡ 114 = letter Ladder name _ is_run is.0 in omega (arith, bad)
   no_word Audit none is = let bad : 97 ≡ 114 = letter Audit name _ is_run is.0 in omega (arith, bad)
   no_word Terminal none is = let bad : 116 ≡ 114 = letter Terminal name _ is_run is.0 in omega (arith, bad)
+  no_word TerminalExplained none is = let bad : 116 ≡ 114 = letter TerminalExplained name _ is_run is.0 in omega (arith, bad)
   no_word HistoryOfA none is = let bad : 104 ≡ 114 = letter HistoryOfA name _ is_run is.0 in omega (arith, bad)
   no_word HistoryOfB none is = let bad : 104 ≡ 114 = letter HistoryOfB name _ is_run is.0 in omega (arith, bad)
   no_word (Run run) none is = none run is.1

@@ -54,7 +54,7 @@ abbrev pub input_advice : Input → List (List ℕ) → Option (List ℕ)
 input_advice input [] = None
 input_advice input (word ∷ words) = if is_operand word then Some (input_text input) else None
 
--- play and decode have a flag
+-- play, decode and terminal have a flag
 abbrev pub without_flag : List ℕ → List (List ℕ) → List (List ℕ)
 without_flag flag [] = []
 without_flag flag (word ∷ words) = if bytes_eq word flag then words else word ∷ words
@@ -184,7 +184,7 @@ told_of_input (Some Decode) words = input_advice Decode (without_flag (codes "--
 told_of_input (Some Capture) words = input_advice Capture words
 told_of_input (Some Ladder) words = input_advice Ladder words
 told_of_input (Some Audit) words = input_advice Audit words
-told_of_input (Some Terminal) words = input_advice Terminal words
+told_of_input (Some Terminal) words = input_advice Terminal (without_flag (codes "--explain") words)
 
 abbrev pub advice : List (List ℕ) → Option (List ℕ)
 advice [] = None

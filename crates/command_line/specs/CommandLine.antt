@@ -6,7 +6,7 @@ use Rattle.clap.specs.Values.{kind_of}
 use Rattle.clap.specs.declared.error.kind.ErrorKind.{ErrorKind}
 use Rattle.clap.specs.declared.builder.action.ArgAction.TheVariants.{SetTrue}
 use Rattle.command_line.specs.declared.words.Words.{Words}
-use Rattle.command_line.specs.declared.words.Words.TheVariants.{Units, Play, PlayExplained, Decode, DecodeWide, Capture, Ladder, Audit, Terminal, HistoryOfA, HistoryOfB, Run}
+use Rattle.command_line.specs.declared.words.Words.TheVariants.{Units, Play, PlayExplained, Decode, DecodeWide, Capture, Ladder, Audit, Terminal, TerminalExplained, HistoryOfA, HistoryOfB, Run}
 use Rattle.command_line.specs.declared.words.WordsFault.{WordsFault}
 use Rattle.command_line.specs.declared.words.WordsFault.TheVariants.{NoMemory, Words as WrongWords, Link, Said}
 use Rattle.command_line.specs.declared.run_words.Unasked.{Unasked}
@@ -26,7 +26,7 @@ program_itself = record (new_shape (codes "mtpbank")) {
 abbrev pub without_subcommands : App
 without_subcommands = record { top = program_itself; subs = [] }
 
--- five subcommands, which take no words, two that take a flag, and one that takes an end, each of which is its END,
+-- four subcommands, which take no words, three that take a flag, and one that takes an end, each of which is its END,
 -- and one that takes options
 abbrev pub explain_rule : Rule
 explain_rule =
@@ -65,8 +65,11 @@ history_shape = record (new_shape (codes "history")) { rules = end_rule ∷ [] }
 abbrev pub without_run : App
 without_run = with_subcommand without_history history_shape
 
+abbrev pub terminal_shape : Shape
+terminal_shape = record (new_shape (codes "terminal")) { rules = explain_rule ∷ [] }
+
 abbrev pub with_terminal : App
-with_terminal = with_subcommand without_run (new_shape (codes "terminal"))
+with_terminal = with_subcommand without_run terminal_shape
 
 abbrev pub program : App
 program = with_subcommand with_terminal run_shape
@@ -82,6 +85,7 @@ name_of Capture = codes "capture"
 name_of Ladder = codes "ladder"
 name_of Audit = codes "audit"
 name_of Terminal = codes "terminal"
+name_of TerminalExplained = codes "terminal"
 name_of HistoryOfA = codes "history"
 name_of HistoryOfB = codes "history"
 name_of (Run run) = codes "run"
@@ -100,7 +104,8 @@ IsEnd DecodeWide end = end ≡ Some (codes "true")
 IsEnd Capture end = Unit {0}
 IsEnd Ladder end = Unit {0}
 IsEnd Audit end = Unit {0}
-IsEnd Terminal end = Unit {0}
+IsEnd Terminal end = end ≢ Some (codes "true")
+IsEnd TerminalExplained end = end ≡ Some (codes "true")
 IsEnd HistoryOfA end = end ≡ Some (codes "a")
 IsEnd HistoryOfB end = end ≡ Some (codes "b")
 IsEnd (Run run) end = Unit {0}

@@ -25,13 +25,19 @@ size_rules =
 abbrev pub way_rules : List Rule
 way_rules =
     option_rule (codes "fail") ∷ option_rule (codes "method") ∷ option_rule (codes "turns")
-    ∷ option_rule (codes "checkpoint") ∷ flag_rule (codes "per-link") ∷ []
+    ∷ option_rule (codes "checkpoint") ∷ []
+
+-- what its lines do, and what is printed
+abbrev pub line_rules : List Rule
+line_rules =
+    flag_rule (codes "per-link") ∷ flag_rule (codes "report") ∷ option_rule (codes "noise")
+    ∷ option_rule (codes "seed") ∷ []
 
 abbrev pub with_rules : Shape → List Rule → Shape
 with_rules shape rules = record shape { rules = shape.rules ++ rules }
 
 abbrev pub run_shape : Shape
-run_shape = with_rules (with_rules (new_shape (codes "run")) size_rules) way_rules
+run_shape = with_rules (with_rules (with_rules (new_shape (codes "run")) size_rules) way_rules) line_rules
 
 -- a decimal number in this range, without leading zeros
 abbrev pub IsWithin : ℕ → ℕ → ℕ → List ℕ → Type 0
@@ -56,6 +62,11 @@ IsMethod true None = ⊥
 IsMethod false (Some word) = word ≡ codes "basic"
 IsMethod true (Some word) = word ≡ codes "cyclic"
 
+-- so many turns, or, with a report, as many as there can be
+abbrev pub usual_turns : Bool → ℕ
+usual_turns true = 1000000
+usual_turns false = 20000
+
 -- each number in its range, as the options tell it
 pub record AreValues (run : RunWords) (rows : List Row) : Type 0 where
   pub sets : IsNumber 1 16 1 run.sets (first_of (codes "sets") rows)
@@ -64,9 +75,12 @@ pub record AreValues (run : RunWords) (rows : List Row) : Type 0 where
   pub messages : IsNumber 1 1024 1000 run.messages (first_of (codes "messages") rows)
   pub fail : IsOptional 0 15 run.fail (first_of (codes "fail") rows)
   pub method : IsMethod run.cyclic (first_of (codes "method") rows)
-  pub turns : IsNumber 1 1000000 20000 run.turns (first_of (codes "turns") rows)
+  pub turns : IsNumber 1 1000000 (usual_turns run.report) run.turns (first_of (codes "turns") rows)
   pub checkpoint : IsOptional 1 1024 run.checkpoint (first_of (codes "checkpoint") rows)
   pub per_link : IsTrue run.per_link ↔ (first_of (codes "per-link") rows ≡ Some (codes "true"))
+  pub report : IsTrue run.report ↔ (first_of (codes "report") rows ≡ Some (codes "true"))
+  pub noise : IsOptional 1 10000000 run.noise (first_of (codes "noise") rows)
+  pub seed : IsNumber 0 4294967295 1 run.seed (first_of (codes "seed") rows)
 
 -- THE RUN that is asked for: each number in its range, the failing link below the links
 pub record IsRun (run : RunWords) (rows : List Row) : Type 0 where

@@ -53,6 +53,9 @@ pub(crate) fn advise<S: AsStr>(alloc: Global, words: &[S]) -> Result<Option<Vec<
     match find_input(name) {
         Some(Input::History) => advise_history(alloc, others),
         Some(Input::Play) => { advise_input(alloc, Input::Play, skip_flag(b"--explain", others)) }
+        Some(Input::Terminal) => {
+            advise_input(alloc, Input::Terminal, skip_flag(b"--explain", others))
+        }
         Some(Input::Decode) => { advise_input(alloc, Input::Decode, skip_flag(b"--wide", others)) }
         Some(input) => advise_input(alloc, input, others),
         None => Ok(None),

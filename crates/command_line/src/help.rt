@@ -84,7 +84,9 @@ second may tell the lengths of its timers (Q.703 12.3) in octet times, each 1 to
 Each further line prints events and then its answer, so whoever drives the end reads until a line that is no event:
   start L, stop L, emergency L, busy L, ease L, blind L
                       a command that is obeyed in the link's next turn: done. start and emergency of a link that the set
-                      has left and not settled: refused 7, and nothing is done
+                      has left and not settled: refused 7, and nothing is done. Those given before one turn are obeyed
+                      in the order emergency, start, busy, ease, blind, stop, in whatever order they were given: a link
+                      that was out and is told to stop and to start before one turn stays out, and no event tells it
   octets L HEX        a turn for each octet: octets L HEX, the octets that went out, as many
   hear L UNIT [xN]    a unit stands on the line, N times (1 to 2^20), with check octets, inserted zeros and a flag
                       behind: turns K, how many turns were taken. UNIT is 1 to 276 octets without check octets, or
@@ -112,17 +114,25 @@ To drive a real line read a block of octets from the timeslot, write it as octet
 the line's clock keeps the pace. Begin with two blocks of flags; 64 to 160 octets are usual. Signal units go lowest bit
 first and PCM timeslots highest bit first, so a card that gives octets as G.711 has them needs the bits of each octet
 reversed, both ways. Since the end has no clock but its turns, whoever drives it does this:
-  link L out, and phase=left after T2 of Q.704 (0.7 to 2 s)      noanswer L
+  link L out, and phase=left after T2 of Q.704 (0.7 to 2 s)      noanswer L. T2 runs only while the order to the far end
+                      can go out: another link is up, or all are out or waiting, so that none comes up without it
   link L out          start L again after a pause (T17 of Q.704, 0.8 to 1.5 s); emergency L before it, where no other
                       is up
-  link L up, and it was out before                               restore L; backtimeout L where nobody answers
+  link L up           restore L, at its first up too, since streams of which messages went over another link stay
+                      there: refused 9 where there are none; backtimeout L where nobody answers
   memory is short     busy L, and ease L later
 A fault ends it: one line on standard error, with status 1; what was printed before stays:
   fault line N text   line N, from 1 and with those passed over, can't be read
   fault line N step   it asks for a link that isn't there
   fault memory        memory is wanted; or a link took 2^48 turns, or the set was asked 2^48 times
   fault read, fault write
-  fault long          standard input has more than 2^60 octets";
+  fault long          standard input has more than 2^60 octets
+With --explain more lines come behind that of a line's fault, on standard error: what is wanted there, the line, and a caret
+under the word at fault, or right behind the line where a word is missing, as `mtpbank play --explain` has them:
+  fault line 3 text
+  line 3: octets wants a link, and octets of two hexadecimal digits
+    octets 0
+            ^";
 
 pub(crate) const CAPTURE_PAGE: &str = "\
 Standard input is a script, as that of `mtpbank play`. What is written is a file
@@ -252,8 +262,8 @@ pub(crate) const RUN_PAGE: &str = "\
 Two banks run: one has the ends a of all sets, the other the ends b. The users
 of ends a offer, those of ends b take, and each link is a pair of rings between
 two terminals. Printed is what was accepted, where it stands, and that each
-history is legal:
-  mtpbank run --fail 0
+history is legal. --report shows it at work, and whether all came in order:
+  mtpbank run --report --links 4 --fail 1 --noise 100000
 `mtpbank run --help` says what each line tells, and each fault.";
 
 pub(crate) const RUN_HELP: &str = "\
@@ -267,10 +277,10 @@ the other waits for it a while. Links come up by emergency proving. With --fail
 the terminal of that link at end a, in each set, is told to stop after half of
 its turns. With --checkpoint each user of end a takes a checkpoint of its set
 after each C of its messages that were accepted, and the user of end b after
-each C of its questions: finished messages leave the set then, which is as good
-as found, and its history begins anew, to be audited from there. When all
-threads have ended each set is closed and audited, and these lines are printed,
-the sets from 0:
+each C of its questions, each terminal after each 64 times C of its steps:
+finished messages leave the set then, which is as good as found, and its history
+begins anew, to be audited from there. When all threads have ended each set is
+closed and audited, and these lines are printed, the sets from 0:
   set=I end=a accepted=X placed=Y legal=yes
                     so many messages were accepted from users at end a of set
                     I, so many stand in some place, and the history is one
@@ -289,6 +299,44 @@ other end wasn't ready in time (T1), 5 it was busy too long (T6), 6 an
 acknowledgement stayed out too long (T7), 7 it told a status that ends the
 service, 8 alignment wasn't possible, 9 told to stop (--fail). By the cyclic
 method 127 unacknowledged messages force a cycle, or 8,000 octets of them.
+With --report links are managed. A user begins when each link of its set came up
+at both ends, or 80,000 turns went by, and has 64 messages on their way at most;
+its stream has the user's number, whose home is the link of that number modulo
+L. A link that is out of service is started again 6,400 turns later
+(T17, Q.704 16.8), and each time that it came up its streams are asked back to
+it; after 4,096 units without the answer to a changeover or a changeback it's
+waited for no more. With --fail the link is told to stop 4 turns for each
+message of a user after they began. T, 1,000,000 where it isn't told, is the
+most turns: terminals take no more once all is offered, nothing waits or is
+unacknowledged, and the link of --fail came back. The user of end b keeps what
+it takes. Behind the lines above, for each set, each end and each link:
+  set=I end=a offered=.. delivered=.. acknowledged=.. taken=.. waiting=..
+      unacked=.. diverted=.. discarded=.. retransmitted=..
+                    the messages of users there: those that were accepted, that
+                    the other end accepted, that are acknowledged, that users
+                    took and kept, that wait, that were sent and aren't
+                    acknowledged, that were sent on a link which isn't their
+                    home, that were given up, that were sent again on a link
+  set=I link=K end=a sent=.. sent_messages=.. sent_octets=.. again=..
+      heard=.. heard_messages=.. heard_octets=.. errors=.. ups=.. cause=..
+                    the units that its terminal sent, the messages among them
+                    with their octets (SIO and SIF), those that were sent again;
+                    the good units that it heard, the messages that were
+                    accepted of them with their octets; bad units, and sixteen
+                    octets each without a good one; how often the link came up,
+                    and its last failure: suerm, bsn, fib, t1, t6, t7, status,
+                    alignment, stop as the causes above, or none
+  run messages=M octets=O seconds=S messages_a_second=.. octets_a_second=..
+                    what was delivered in all, in the time that the threads took
+  all delivered in order
+                    the users of ends b took what those of ends a offered, each
+                    stream in order, and nothing else on it; or
+  missing set=I stream=U message=N
+                    message N of user U wasn't the next of its stream that was
+                    taken; the status is 1 then
+With --noise one of N octets that are put into each line is struck: each of its
+bits is inverted, or it's lost. Which one comes first, and what befalls each,
+goes by --seed, and is different on each line.
 Who gets on and when is the threads' affair, so what is sent on a link differs
 from run to run. With few turns messages are left unsent. A run of more than
 two seconds tells how far it is on standard error, where that is a terminal. A
@@ -304,6 +352,8 @@ fault is one line on standard error, with status 1, and nothing is printed:
   fault thread      a thread couldn't be started
   fault close       a set couldn't be closed
   fault write       standard output failed; what was printed stays
+  fault missing set=I stream=U message=N
+                    behind the report, that tells so
 Where the link of --fail isn't one of the links it's `fault link`, with status
 2, as other wrong words have it.";
 

@@ -4,7 +4,7 @@ ghost use Rattle.std.specs.Option.{option_map};
 ghost use Rattle.clap.specs.Words.{app_of, first_of, found_of, rows_of, rule_of};
 ghost use Rattle.clap.specs.Simple.{new_shape, shape_of};
 ghost use Rattle.clap.specs.declared.builder.command.Command.{out-Command};
-ghost use Rattle.command_line.specs.RunOptions.{AreValues, IsMethod, IsNumber, IsOptional, IsRun, IsUnasked, IsWithin, flag_rule, option_rule, run_shape, size_rules, with_rules};
+ghost use Rattle.command_line.specs.RunOptions.{AreValues, IsMethod, IsNumber, IsOptional, IsRun, IsUnasked, IsWithin, flag_rule, line_rules, option_rule, run_shape, size_rules, usual_turns, way_rules, with_rules};
 
 use super::help::{RUN_HELP, RUN_PAGE};
 use super::run_words::{RunWords, Unasked};
@@ -59,11 +59,18 @@ fn values_of(found: &ArgMatches<'_>) -> Result<RunWords, &'static str>
     let Some(cyclic) = method_in(value_of(found, "method")) else {
         return Err("--method is basic or cyclic");
     };
-    let Some(turns) = number_in(found, "turns", 1, 1_000_000, 20_000) else {
+    let report = is_set(value_of(found, "report"));
+    let Some(turns) = number_in(found, "turns", 1, 1_000_000, usual_turns(report)) else {
         return Err("--turns is a number from 1 to 1000000");
     };
     let Some(checkpoint) = checkpoint_in(value_of(found, "checkpoint")) else {
         return Err("--checkpoint is a number from 1 to 1024");
+    };
+    let Some(noise) = noise_in(value_of(found, "noise")) else {
+        return Err("--noise is a number from 1 to 10000000");
+    };
+    let Some(seed) = number_in(found, "seed", 0, 4_294_967_295, 1) else {
+        return Err("--seed is a number from 0 to 4294967295");
     };
     Ok(RunWords {
         sets: sets as u16,
@@ -75,7 +82,18 @@ fn values_of(found: &ArgMatches<'_>) -> Result<RunWords, &'static str>
         turns: turns as u32,
         checkpoint,
         per_link: is_set(value_of(found, "per-link")),
+        report,
+        noise,
+        seed: seed as u32,
     })
+}
+
+/// How many turns there are where no number is told: with a report, as many as there can be.
+fn usual_turns(report: bool) -> u64
+    ensures usual { result ≡ usual_turns report }
+    ensures range { (1 ≤ result) × (result ≤ 1000000) }
+{
+    if report { 1_000_000 } else { 20_000 }
 }
 
 /// The word behind this option, if it's there.
@@ -143,6 +161,21 @@ fn checkpoint_in(word: Option<&str>) -> Option<Option<u16>>
     }
 }
 
+/// The number of octets behind `--noise`.
+fn noise_in(word: Option<&str>) -> Option<Option<u32>>
+    ensures { MatchOption result ((noise : Option ℕ)
+        → IsOptional 1 10000000 noise (option_map (λ s. s.now) word.entry) → ⊥)
+        (λ noise. IsOptional 1 10000000 noise (option_map (λ s. s.now) word.entry)) }
+{
+    match word {
+        Some(word) => match within(word, 1, 10_000_000) {
+            Some(octets) => Some(Some(octets as u32)),
+            None => None,
+        },
+        None => Some(None),
+    }
+}
+
 /// Whether the method behind `--method` is the cyclic one.
 fn method_in(word: Option<&str>) -> Option<bool>
     ensures { MatchOption result ((cyclic : Bool)
@@ -170,20 +203,31 @@ pub(crate) fn run_command<'a>(alloc: Global) -> Result<Command<'a>, AllocError>
     ensures local { IfOk result (λ command. (out-Command command).has_globals ≡ false) }
 {
     let sized = with_sizes(alloc, bare_command(alloc))?;
+    let timed = with_ways(alloc, sized)?;
+    with_lines(alloc, timed)
+}
+
+/// The command with the options that tell how it runs.
+fn with_ways<'a>(alloc: Global, command: Command<'a>) -> Result<Command<'a>, AllocError>
+    requires local { (out-Command command).has_globals ≡ false }
+    ensures shape { IfOk result (λ more. shape_of more
+        ≡ with_rules (shape_of command.entry) way_rules) }
+    ensures local { IfOk result (λ more. (out-Command more).has_globals ≡ false) }
+{
     let link = option(
         alloc,
         "fail",
         "K",
         "Link that fails half way, from 0 [none]",
     );
-    let failing = with_option(sized, link)?;
+    let failing = with_option(command, link)?;
     let method = option(alloc, "method", "WORD", "basic or cyclic [basic]");
     let by_method = with_option(failing, method)?;
     let turns = option(
         alloc,
         "turns",
         "T",
-        "Turns of each terminal, 1 to 1000000 [20000]",
+        "Most turns of a terminal, 1 to 1000000 [20000]",
     );
     let timed = with_option(by_method, turns)?;
     let checkpoint = option(
@@ -192,11 +236,34 @@ pub(crate) fn run_command<'a>(alloc: Global) -> Result<Command<'a>, AllocError>
         "C",
         "Messages between checkpoints, 1 to 1024 [none]",
     );
-    let checkpointed = with_option(timed, checkpoint)?;
-    with_option(
-        checkpointed,
-        flag(alloc, "per-link", "A line for each link and end, too"),
-    )
+    with_option(timed, checkpoint)
+}
+
+/// The command with the options that tell what its lines do, and what is printed.
+fn with_lines<'a>(alloc: Global, command: Command<'a>) -> Result<Command<'a>, AllocError>
+    requires local { (out-Command command).has_globals ≡ false }
+    ensures shape { IfOk result (λ more. shape_of more
+        ≡ with_rules (shape_of command.entry) line_rules) }
+    ensures local { IfOk result (λ more. (out-Command more).has_globals ≡ false) }
+{
+    let lines = flag(alloc, "per-link", "A line for each link and end, too");
+    let by_link = with_option(command, lines)?;
+    let report = flag(alloc, "report", "Links managed, and what came of all, too");
+    let reported = with_option(by_link, report)?;
+    let noise = option(
+        alloc,
+        "noise",
+        "N",
+        "One of N octets is struck, 1 to 10000000 [none]",
+    );
+    let noisy = with_option(reported, noise)?;
+    let seed = option(
+        alloc,
+        "seed",
+        "S",
+        "Which octets noise strikes, 0 to 2^32-1 [1]",
+    );
+    with_option(noisy, seed)
 }
 
 /// The word `run` without options.

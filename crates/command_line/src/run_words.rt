@@ -22,6 +22,12 @@ pub struct RunWords {
     pub checkpoint: Option<u16>,
     /// A line is printed for each link too.
     pub per_link: bool,
+    /// Links are managed, and what came of the traffic is reported.
+    pub report: bool,
+    /// One of so many octets that are put into a line is damaged or lost, if any is: 1 to 10,000,000.
+    pub noise: Option<u32>,
+    /// What befalls the octets of each line goes by this number.
+    pub seed: u32,
     pub ghost sets_in_range: { (1 ≤ sets) × (sets ≤ 16) },
     pub ghost links_in_range: { (1 ≤ links) × (links ≤ 16) },
     pub ghost users_in_range: { (1 ≤ users) × (users ≤ 16) },

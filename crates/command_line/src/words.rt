@@ -6,7 +6,7 @@ ghost use Rattle.clap.specs.declared.error.ErrorKind.TheVariants.{InvalidSubcomm
 ghost use Rattle.clap.specs.Simple.{new_shape, shape_of};
 ghost use Rattle.clap.specs.declared.builder.command.Command.{out-Command};
 ghost use Rattle.clap.specs.Values.{kind_of};
-ghost use Rattle.command_line.specs.CommandLine.{program, without_subcommands, decode_shape, history_shape, play_shape, words_in};
+ghost use Rattle.command_line.specs.CommandLine.{program, without_subcommands, decode_shape, history_shape, play_shape, terminal_shape, words_in};
 ghost use Rattle.command_line.specs.CommandLine.{AreWrong, IsAboutWord, IsAsked, IsFound, IsKind, IsNotFound, IsRefused, IsWord, Refuses};
 
 use super::advice::advise;
@@ -43,6 +43,8 @@ pub enum Words {
     Audit,
     /// Drive one end of a link set, whose lines are elsewhere, by the lines on standard input.
     Terminal,
+    /// Drive it so, and explain the line that ends it with a fault.
+    TerminalExplained,
     /// Print the history of end a of a script.
     HistoryOfA,
     /// Print the history of end b of a script.
@@ -181,7 +183,7 @@ fn word_of(name: &str, end: Option<&str>) -> Option<Words>
         "capture" => Some(Words::Capture),
         "ladder" => Some(Words::Ladder),
         "audit" => Some(Words::Audit),
-        "terminal" => Some(Words::Terminal),
+        "terminal" => Some(terminal_of(end)),
         "history" => history_of(end),
         _ => None,
     }
@@ -204,6 +206,16 @@ fn decode_of(is_wide: Option<&str>) -> Words
     match is_wide {
         Some("true") => Words::DecodeWide,
         _ => Words::Decode,
+    }
+}
+
+/// What is asked for by `terminal`, with what its flag says.
+fn terminal_of(explains: Option<&str>) -> Words
+    ensures { IsWord result (codes "terminal") (option_map (λ s. s.now) explains.entry) }
+{
+    match explains {
+        Some("true") => Words::TerminalExplained,
+        _ => Words::Terminal,
     }
 }
 
@@ -273,7 +285,7 @@ fn command<'a>(alloc: Global) -> Result<Command<'a>, AllocError>
         .subcommand(ladder_command(alloc))?
         .subcommand(audit_command(alloc))?
         .subcommand(history_command(alloc)?)?
-        .subcommand(terminal_command(alloc))?
+        .subcommand(terminal_command(alloc)?)?
         .subcommand(run_command(alloc)?)
 }
 
@@ -353,15 +365,20 @@ fn audit_command<'a>(alloc: Global) -> Command<'a>
         .after_long_help(AUDIT_HELP)
 }
 
-/// The word `terminal`.
-fn terminal_command<'a>(alloc: Global) -> Command<'a>
-    ensures shape { shape_of result ≡ new_shape (codes "terminal") }
-    ensures local { (out-Command result).has_globals ≡ false }
+/// The word `terminal`, and a flag.
+fn terminal_command<'a>(alloc: Global) -> Result<Command<'a>, AllocError>
+    ensures shape { IfOk result (λ command. shape_of command ≡ terminal_shape) }
+    ensures local { IfOk result (λ command. (out-Command command).has_globals ≡ false) }
 {
+    let explain = Arg::new(alloc, "END")
+        .long("explain")
+        .action(ArgAction::SetTrue)
+        .help("Explains the line that ends the input with a fault");
     Command::new(alloc, "terminal")
         .about("Drives one end of a link set, whose lines are yours, line by line")
         .after_help(TERMINAL_PAGE)
         .after_long_help(TERMINAL_HELP)
+        .arg(explain)
 }
 
 /// The word `history`, and an end behind it.

@@ -1,8 +1,8 @@
 -- WHAT EACH SUBCOMMAND MAKES OF AN INPUT.
-use Rattle.std.specs.Prelude.{◌≡◌, ◌≢◌, ◌⊎◌, ◌^◌, ℕ, List, Result, Ok, Err}
+use Rattle.std.specs.Prelude.{◌≡◌, ◌≢◌, ◌⊎◌, ◌^◌, ℕ, List, None, Result, Ok, Err}
 use Rattle.std.specs.Option.{option_map}
 use Rattle.command_line.specs.declared.words.Words.{Words}
-use Rattle.command_line.specs.declared.words.Words.TheVariants.{Units, Play, PlayExplained, Decode, DecodeWide, Capture, Ladder, Audit, Terminal, HistoryOfA, HistoryOfB, Run}
+use Rattle.command_line.specs.declared.words.Words.TheVariants.{Units, Play, PlayExplained, Decode, DecodeWide, Capture, Ladder, Audit, Terminal, TerminalExplained, HistoryOfA, HistoryOfB, Run}
 use Rattle.clap.specs.Values.{kind_of}
 use Rattle.clap.specs.declared.error.kind.ErrorKind.TheVariants.{DisplayHelp, DisplayVersion}
 use Rattle.command_line.specs.declared.run_words.RunWords.{RunWords}
@@ -21,9 +21,10 @@ use Rattle.script_ladder.specs.Ladder.{IsLadder}
 use Rattle.script_history.specs.Histories.{IsHistoryText}
 use Rattle.world_steps.specs.declared.step.End.TheVariants.{A, B}
 use Rattle.audit_text.specs.Auditing.{IsAuditText}
+use Rattle.terminal_explain.specs.Explaining.{IsExplainedTerminalText}
 use Rattle.terminal_text.specs.Text.{IsTerminalText}
 use Rattle.mtpbank.specs.declared.running.TextFault.{TextFault}
-use Rattle.mtpbank.specs.declared.running.TextFault.TheVariants.{Units as UnitsFault, Play as PlayFault, Explained as ExplainedPlayFault, Decode as DecodeFault, Audit as AuditedFault, Terminal as TerminalLineFault}
+use Rattle.mtpbank.specs.declared.running.TextFault.TheVariants.{Units as UnitsFault, Play as PlayFault, Explained as ExplainedPlayFault, Decode as DecodeFault, Audit as AuditedFault, Terminal as TerminalLineFault, ExplainedTerminal as ExplainedTerminalLineFault}
 
 -- a text of which only the fault, if any, has another type
 pub record IsText {F : Type 0} (IsIt : Printed F → Type 0) (of : F → TextFault)
@@ -42,6 +43,7 @@ IsTextOf Capture input text = IsText (IsCapture input) PlayFault text
 IsTextOf Ladder input text = IsText (IsLadder input) PlayFault text
 IsTextOf Audit input text = IsText (IsAuditText input) AuditedFault text
 IsTextOf Terminal input text = IsText (IsTerminalText input) TerminalLineFault text
+IsTextOf TerminalExplained input text = IsText (IsExplainedTerminalText input) ExplainedTerminalLineFault text
 IsTextOf HistoryOfA input text = IsText (IsHistoryText A input) PlayFault text
 IsTextOf HistoryOfB input text = IsText (IsHistoryText B input) PlayFault text
 IsTextOf (Run run) input text = ⊥
@@ -58,6 +60,7 @@ longest_of Decode = 2 ^ 60
 longest_of DecodeWide = 2 ^ 60
 longest_of Audit = 2 ^ 60
 longest_of Terminal = 2 ^ 60
+longest_of TerminalExplained = 2 ^ 60
 longest_of words = 2 ^ 24
 
 -- the same answer with a fault of that type
@@ -76,10 +79,10 @@ with_fault of (Err Write) = Err Write
 abbrev pub IsDone : ℕ → Type 0
 IsDone status = (status ≡ 0) ⊎ (status ≡ 1)
 
--- of a run: 0 only where it came to its end, as the words ask, with all that it printed
+-- of a run: 0 only where it came to its end, as the words ask, with all that it printed, and no message is missing
 pub record EndsRun (words : RunWords) (status : ℕ) : Type 0 where
   pub done : IsDone status
-  pub well : status ≡ 0 → (text : List ℕ) × IsTextAsked words text
+  pub well : status ≡ 0 → (text : List ℕ) × IsTextAsked words None text
 
 -- of wrong words: 2; what was asked to be shown may have been, or a fault
 abbrev pub EndsRefused : WordsFault → ℕ → Type 0

@@ -20,6 +20,7 @@ mod running;
 
 use command_line::{RunWords, Words, WordsFault, asked_by, not_unicode};
 use printing::{Fault, Reader, Writer};
+use run_text::RunFault;
 use running::run;
 use std::fmt::Display;
 use std::io;
@@ -140,8 +141,11 @@ fn ran<R: Threads + Wait + Clock + Eprint + Copy + Send + Sync + 'static>(
 {
     let shows = rt.stderr().is_terminal();
     let mut sink = Writer::new(io::writer(rt));
-    let ran = run_text::run(threads, rt.alloc(), words, shows, &mut sink);
-    ended(rt, ran, sink.is_closed())
+    match run_text::run(threads, rt.alloc(), words, shows, &mut sink) {
+        Ok(Some(missing)) => told(rt, missing),
+        Ok(None) => ended::<RunFault>(rt, Ok(()), sink.is_closed()),
+        Err(fault) => ended(rt, Err(fault), sink.is_closed()),
+    }
 }
 
 /// Ends with status 0, or with 1 and the fault in a line on standard error; no line where standard output is a pipe that

@@ -13,6 +13,7 @@ use script_capture::capture;
 use script_history::{End, history};
 use script_ladder::ladder;
 use std::alloc::Global;
+use terminal_explain::{ExplainedTerminalFault, terminal_explained};
 use terminal_text::{TerminalFault, terminal};
 use thiserror::Error;
 use units_text::{UnreadableOctet, units};
@@ -38,6 +39,9 @@ pub enum TextFault {
     /// In a way of `terminal`.
     #[error("{0}")]
     Terminal(TerminalFault),
+    /// In a way of `terminal`, with an explanation.
+    #[error("{0}")]
+    ExplainedTerminal(ExplainedTerminalFault),
 }
 
 /// Reads what the source gives, and writes what the subcommand makes of it, up to the first fault.
@@ -65,6 +69,7 @@ pub fn run<S: Source, W: Sink>(
         Words::Ladder => of_any(ladder(alloc, source, sink)),
         Words::Audit => of_any(audit(alloc, source, sink)),
         Words::Terminal => of_any(terminal(alloc, source, sink)),
+        Words::TerminalExplained => of_any(terminal_explained(alloc, source, sink)),
         Words::HistoryOfA => of_any(history(alloc, End::A, source, sink)),
         Words::HistoryOfB => of_any(history(alloc, End::B, source, sink)),
         Words::Run(_) => unreachable!(),
@@ -140,6 +145,16 @@ impl FaultOfText for TerminalFault {
 
     fn into_any(self) -> TextFault {
         TextFault::Terminal(self)
+    }
+}
+
+impl FaultOfText for ExplainedTerminalFault {
+    ghost use Rattle.mtpbank.specs.declared.running.TextFault.TheVariants.{ExplainedTerminal};
+
+    ghost among_all = { ExplainedTerminal };
+
+    fn into_any(self) -> TextFault {
+        TextFault::ExplainedTerminal(self)
     }
 }
 

@@ -1,2 +1,3 @@
+pub mod Noise
 pub mod Opening
 pub mod Sides

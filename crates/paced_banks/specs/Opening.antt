@@ -1,14 +1,15 @@
 -- WHAT TWO BANKS ARE OPENED WITH, and what their sets came to.
-use Rattle.std.specs.Prelude.{◌≡◌, ◌*◌, ◌/◌, ◌%◌, ℕ, Bool, true, false, zero, suc, List, [], ◌∷◌, ◌++◌, map, All, Option, None}
+use Rattle.std.specs.Prelude.{◌≡◌, ◌*◌, ◌/◌, ◌%◌, ℕ, Bool, true, false, zero, suc, List, [], ◌∷◌, ◌++◌, map, All, Option, None, Some, if◌then◌else◌}
 use Rattle.l2_units.specs.declared.profile.Profile.TheVariants.{Narrow}
 use Rattle.set_events.specs.declared.config.SetConfig.{SetConfig}
 use Rattle.set_events.specs.declared.config.Method.{Method}
 use Rattle.set_events.specs.declared.config.Method.TheVariants.{Basic, Cyclic}
 use Rattle.set_events.specs.Config.{IsConfigOf}
 use Rattle.set_crew.specs.declared.end.SetEnd.{SetEnd}
+use Rattle.set_crew.specs.declared.plan.Managed.{Managed}
 use Rattle.set_crew.specs.declared.plan.Plan.{Plan}
 use Rattle.set_crew.specs.Ends.{Task}
-use Rattle.set_crew.specs.Jobs.{Duty, offers, takes}
+use Rattle.set_crew.specs.Jobs.{Duty, collects, offers, takes}
 use Rattle.term_model.specs.declared.timers.Timers.{Timers}
 use Rattle.term_model.specs.Lengths.{above_0}
 use Rattle.bank_core.specs.Ends.{AreEnds}
@@ -29,15 +30,17 @@ method_of false = Basic
 abbrev pub body_of : ℕ → ℕ → List ℕ
 body_of user number = 133 ∷ 1 ∷ 128 ∷ 0 ∷ (user % 16 * 16) ∷ (number / 256) ∷ (number % 256) ∷ []
 
--- a user at an end a offers so many of them, in order; the one user at an end b takes a thousand times
+-- a user at an end a offers so many of them, in order; the one user at an end b takes a thousand times, or, where links are
+-- managed, takes as often as messages are offered, and keeps them
 abbrev pub offers_of : ℕ → ℕ → Duty
 offers_of messages user = offers (map (body_of user) (numbers_below messages))
 
 abbrev pub near_jobs : ℕ → ℕ → List Duty
 near_jobs users messages = map (offers_of messages) (numbers_below users)
 
-abbrev pub far_jobs : List Duty
-far_jobs = takes 1000 ∷ []
+abbrev pub far_jobs : Traffic → List Duty
+far_jobs traffic =
+    (if traffic.managed then collects (traffic.users * traffic.messages) else takes 1000) ∷ []
 
 -- THE PLAN: all timers are 100,000 octet times, but T5, which is 800; turns and checkpoints are the traffic's
 abbrev pub timers : Timers
@@ -56,11 +59,17 @@ timers = record {
   t7_set = above_0 99999;
 }
 
+-- of how many links each set's are managed, if they are
+abbrev pub links_managed : Option Managed → Option ℕ
+links_managed None = None
+links_managed (Some managed) = Some managed.links
+
 pub record IsPlan (traffic : Traffic) (fail : Option ℕ) (plan : Plan) : Type 0 where
   pub timers_are : plan.timers ≡ timers
   pub turns_are : plan.turns ≡ traffic.turns
   pub fail_is : plan.fail ≡ fail
   pub checkpoint_is : plan.checkpoint ≡ traffic.checkpoint
+  pub managed_is : links_managed plan.managed ≡ (if traffic.managed then Some traffic.links else None)
 
 -- the same for each of so many sets
 abbrev pub each_set : {X : Type 0} → ℕ → X → List X
@@ -84,8 +93,8 @@ near_end traffic = record {
   fail = traffic.fail;
 }
 
-abbrev pub far_end : OneEnd
-far_end = record { opc = 1; dpc = 2; users = 1; jobs = far_jobs; fail = None }
+abbrev pub far_end : Traffic → OneEnd
+far_end traffic = record { opc = 1; dpc = 2; users = 1; jobs = far_jobs traffic; fail = None }
 
 -- the sets 0, 1, .., each of so many links, at the end of point code `opc`; the SIO of orders is 0x80
 pub record AreConfigs (sets links opc dpc : ℕ) (method : Method) (configs : List SetConfig) : Type 0 where

@@ -22,6 +22,13 @@ pub struct Traffic {
     /// After how many of its accepted offers a user at an end a takes a checkpoint of its set, and after how many of its
     /// calls the one at an end b does, as of [`bank_core::Plan`].
     pub checkpoint: Option<u16>,
+    /// The gates manage the links and hold users up ([`gates_of`](super::gates_of)), and the users at the ends b keep what
+    /// they take; `turns` are the most then.
+    pub managed: bool,
+    /// One of so many octets that are put into a line is damaged or lost, if any is.
+    pub noise: Option<u32>,
+    /// What befalls the octets of each line goes by this number.
+    pub seed: u32,
     pub ghost few_sets: { (1 ≤ sets) × (sets ≤ 16) },
     pub ghost few_links: { (1 ≤ links) × (links ≤ 16) },
     pub ghost few_users: { (1 ≤ users) × (users ≤ 16) },

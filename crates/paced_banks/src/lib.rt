@@ -13,10 +13,16 @@
 #![tactic(auto)]
 
 mod asked;
+mod management;
+mod noise;
 mod opening;
 mod pace;
 mod traffic;
+mod watch;
 
 pub use asked::Traffic;
+pub use management::gates_of;
+pub use noise::{Noise, NoisyLine};
+pub use opening::body_of;
 pub use pace::{PaceGate, pace_gates};
 pub use traffic::{TrafficEnds, run_through, run_traffic};

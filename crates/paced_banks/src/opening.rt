@@ -1,11 +1,14 @@
 //! What two banks are opened with.
-ghost use Rattle.std.specs.Prelude.{◌≡◌, ◌<◌, ◌≤◌, ◌^◌, true, [], ◌∷◌, map, vec_len, IfOk};
-ghost use Rattle.set_crew.specs.Jobs.{duty_of, takes};
+ghost use Rattle.std.specs.Prelude.{◌≡◌, ◌<◌, ◌≤◌, ◌^◌, ℕ, true, [], ◌∷◌, map, vec_len, IfOk};
+ghost use Rattle.set_crew.specs.Jobs.{collects, duty_of, takes};
 ghost use Rattle.paced_banks.specs.Opening.{AreConfigs, body_of, each_set, method_of, near_jobs, numbers_below};
+ghost use Rattle.paced_banks.specs.Noise.{every_of, first_noise};
 ghost use Rattle.paced_banks.specs.Sides.{duties, line_counts};
 ghost use Rattle.l2_units.specs.declared.profile.Profile.TheVariants.{Narrow};
 ghost use Rattle.set_events.specs.Method.{is_method};
 
+use super::asked::Traffic;
+use super::noise::{Noise, NoisyLine};
 use bank_core::Job;
 use line_ring::{RingLine, ring_pair};
 use set_events::{Method, SetConfig};
@@ -53,44 +56,56 @@ pub(crate) fn configs_of(
 /// The two ends of each link of each set.
 #[derive(Drop)]
 pub(crate) struct Lines {
-    pub(crate) near: Vec<Vec<RingLine>>,
-    pub(crate) far: Vec<Vec<RingLine>>,
+    pub(crate) near: Vec<Vec<NoisyLine<RingLine>>>,
+    pub(crate) far: Vec<Vec<NoisyLine<RingLine>>>,
 }
 
-/// A pair of rings for each link of each set.
-pub(crate) fn lines_of(alloc: Global, sets: u16, links: u8) -> Result<Lines, AllocError>
-    ensures near { IfOk result (λ lines. line_counts lines.near ≡ each_set sets links) }
-    ensures far { IfOk result (λ lines. line_counts lines.far ≡ each_set sets links) }
+/// A pair of rings for each link of each set, with the noise that is asked for, another in each of them.
+pub(crate) fn lines_of(alloc: Global, traffic: &Traffic) -> Result<Lines, AllocError>
+    ensures near { IfOk result (λ lines. line_counts lines.near ≡ each_set traffic.now.sets traffic.now.links) }
+    ensures far { IfOk result (λ lines. line_counts lines.far ≡ each_set traffic.now.sets traffic.now.links) }
 {
     let mut lines = Lines {
         near: Vec::new(alloc),
         far: Vec::new(alloc),
     };
-    for _set in 0..sets {
+    for set in 0..traffic.sets {
         lines.near.reserve(1)?;
         lines.far.reserve(1)?;
-        let (near, far) = set_lines(alloc, links)?;
+        let (near, far) = set_lines(alloc, traffic, set)?;
         lines.near.push_reserved(near);
         lines.far.push_reserved(far);
     }
     Ok(lines)
 }
 
+/// The lines of a set at one end.
+type SetLines = Vec<NoisyLine<RingLine>>;
+
 /// A pair of rings for each link of one set.
-fn set_lines(alloc: Global, links: u8) -> Result<(Vec<RingLine>, Vec<RingLine>), AllocError>
-    ensures near { IfOk result (λ lines. vec_len lines.0 ≡ links) }
-    ensures far { IfOk result (λ lines. vec_len lines.1 ≡ links) }
+fn set_lines(alloc: Global, traffic: &Traffic, set: u16) -> Result<(SetLines, SetLines), AllocError>
+    ensures near { IfOk result (λ lines. vec_len lines.0 ≡ traffic.now.links) }
+    ensures far { IfOk result (λ lines. vec_len lines.1 ≡ traffic.now.links) }
 {
     let mut near = Vec::new(alloc);
     let mut far = Vec::new(alloc);
-    for _link in 0..links {
+    for link in 0..traffic.links {
         near.reserve(1)?;
         far.reserve(1)?;
         let (near_line, far_line) = ring_pair(alloc, PLACES)?;
-        near.push_reserved(near_line);
-        far.push_reserved(far_line);
+        near.push_reserved(NoisyLine::new(near_line, noise_of(traffic, set, link, 0)));
+        far.push_reserved(NoisyLine::new(far_line, noise_of(traffic, set, link, 1)));
     }
     Ok((near, far))
+}
+
+/// The noise on what this end of a link puts, 0 for a and 1 for b: each has draws of its own.
+fn noise_of(traffic: &Traffic, set: u16, link: u8, end: u8) -> Noise
+    ensures { (line : ℕ) × (result ≡ first_noise (every_of traffic.now.noise) line) }
+{
+    let line = u32::from(set) * 32 + u32::from(link) * 2 + u32::from(end);
+    let seed = traffic.seed.wrapping_add(line.wrapping_mul(40_503));
+    Noise::new(traffic.noise.unwrap_or(0), seed)
 }
 
 /// The jobs of each set's users at the ends a: each offers so many messages.
@@ -140,7 +155,7 @@ fn bodies_of(alloc: Global, user: u16, messages: u16) -> Result<Vec<Vec<u8>>, Al
 
 /// A message: SIO, a label to point code 1 from point code 2 whose SLS is the user's number modulo 16 (Q.704 2.2), and
 /// its own number, the high octet first.
-fn body_of(user: u16, number: u16) -> [u8; 7]
+pub fn body_of(user: u16, number: u16) -> [u8; 7]
     ensures { result ≡ body_of user number }
 {
     [
@@ -163,6 +178,21 @@ pub(crate) fn takes_of(alloc: Global, sets: u16, times: u32) -> Result<Vec<Vec<J
         let mut jobs = Vec::new(alloc);
         jobs.reserve(1)?;
         jobs.push_reserved(Job::Take { times });
+        all.reserve(1)?;
+        all.push_reserved(jobs);
+    }
+    Ok(all)
+}
+
+/// The job of each set's one user at the ends b, where it keeps what it takes: to ask so often for a message.
+pub(crate) fn collects_of(alloc: Global, sets: u16, times: u32) -> Result<Vec<Vec<Job>>, AllocError>
+    ensures { IfOk result (λ all. duties all ≡ each_set sets (collects times ∷ [])) }
+{
+    let mut all = Vec::new(alloc);
+    for _set in 0..sets {
+        let mut jobs = Vec::new(alloc);
+        jobs.reserve(1)?;
+        jobs.push_reserved(Job::Collect { times });
         all.reserve(1)?;
         all.push_reserved(jobs);
     }

@@ -1,5 +1,6 @@
 //! The gate that keeps the two ends of each link beside one another.
 
+use super::management::Management;
 use link_term::Gate;
 use std::alloc::{AllocError, Global};
 use std::sync::Arc;
@@ -32,6 +33,8 @@ pub struct PaceGate {
     turns: Arc<Vec<LinkTurns>, Global>,
     links: u8,
     is_near: bool,
+    /// Where the links are managed, what both gates know.
+    management: Option<Arc<Management, Global>>,
 }
 
 /// The gates of the bank of the ends a and of that of the ends b, for sets 0, 1, .., each of so many links.
@@ -51,6 +54,7 @@ pub fn pace_gates(alloc: Global, sets: u16, links: u8) -> Result<(PaceGate, Pace
         turns: Arc::new(alloc, turns)?,
         links,
         is_near: true,
+        management: None,
     };
     let far = PaceGate {
         is_near: false,
@@ -68,6 +72,49 @@ impl PaceGate {
         }
         sum
     }
+
+    /// How many messages the ends b accepted, where the links are managed.
+    pub fn heard(&self) -> Option<u64> {
+        match &self.management {
+            Some(both) => Some(both.heard()),
+            None => None,
+        }
+    }
+
+    /// This gate, where the links are managed.
+    pub(crate) fn managed_by(self, both: Arc<Management, Global>) -> PaceGate {
+        PaceGate {
+            management: Some(both),
+            ..self
+        }
+    }
+
+    /// What both gates know, where the links are managed.
+    pub(crate) fn management(&self) -> Option<&Management> {
+        match &self.management {
+            Some(both) => Some(both),
+            None => None,
+        }
+    }
+
+    /// Whether it's the gate of the ends a.
+    pub(crate) fn is_near(&self) -> bool {
+        self.is_near
+    }
+
+    /// How many turns the terminal of this link has begun at this gate's end.
+    pub(crate) fn turn(&self, set: u16, link: u8) -> u64 {
+        match self.turns_of(set, link) {
+            Some(turns) if self.is_near => turns.near.load(Ordering::SeqCst),
+            Some(turns) => turns.far.load(Ordering::SeqCst),
+            None => 0,
+        }
+    }
+
+    fn turns_of(&self, set: u16, link: u8) -> Option<&LinkTurns> {
+        let place = usize::from(set) * usize::from(self.links) + usize::from(link);
+        self.turns.get(place)
+    }
 }
 
 impl Clone for PaceGate {
@@ -76,14 +123,17 @@ impl Clone for PaceGate {
             turns: Arc::try_clone(&self.turns)?,
             links: self.links,
             is_near: self.is_near,
+            management: match &self.management {
+                Some(both) => Some(Arc::try_clone(both)?),
+                None => None,
+            },
         })
     }
 }
 
 impl Gate for PaceGate {
     fn outside(&self, set: u16, link: u8) {
-        let place = usize::from(set) * usize::from(self.links) + usize::from(link);
-        let Some(turns) = self.turns.get(place) else {
+        let Some(turns) = self.turns_of(set, link) else {
             return;
         };
         if self.is_near {
@@ -95,7 +145,13 @@ impl Gate for PaceGate {
 
     fn inside(&self, _set: u16, _link: u8) {}
 
-    fn user(&self, _set: u16, _user: u16) {}
+    fn user(&self, set: u16, user: u16) {
+        if let Some(both) = self.management() {
+            if let Some(watch) = both.set(set) {
+                watch.call(user, self.is_near);
+            }
+        }
+    }
 }
 
 /// One turn more begins, once the other end isn't too far behind.

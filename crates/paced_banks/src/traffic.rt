@@ -1,19 +1,22 @@
 //! Traffic between the ends of sets, for so many turns of their terminals.
-ghost use Rattle.std.specs.Prelude.{◌≡◌, ◌<◌, ◌≤◌, ◌^◌, IfOk, IfErr};
+ghost use Rattle.std.specs.Prelude.{◌≡◌, ◌<◌, ◌≤◌, ◌^◌, None, Some, IfOk, IfErr, if◌then◌else◌};
 ghost use Rattle.bank_core.specs.Ends.{AreEnds};
 ghost use Rattle.bank_core.specs.Faults.{EndsEarly};
-ghost use Rattle.paced_banks.specs.Opening.{AreConfigs, AreEndsOf, AreTasks, IsPlan, each_set, far_end, method_of, near_end};
-ghost use Rattle.paced_banks.specs.Sides.{line_counts, tasks_in};
+ghost use Rattle.paced_banks.specs.Opening.{AreConfigs, AreEndsOf, AreTasks, IsPlan, each_set, far_end, far_jobs, links_managed, method_of, near_end};
+ghost use Rattle.paced_banks.specs.Sides.{duties, line_counts, tasks_in};
 
 use super::asked::Traffic;
-use super::opening::{configs_of, lines_of, method_of, offers_of, takes_of};
-use super::pace::{PaceGate, pace_gates};
-use bank_core::{Bank, BankFault, Job, Plan, Running, SetEnd};
+use super::management::gates_of;
+use super::noise::NoisyLine;
+use super::opening::{collects_of, configs_of, lines_of, method_of, offers_of, takes_of};
+use super::pace::PaceGate;
+use bank_core::{Bank, BankFault, Job, Managed, Plan, Running, SetEnd};
 use line_ring::RingLine;
 use link_term::Timers;
-use std::alloc::Global;
+use std::alloc::{AllocError, Global};
 use std::sync::Wait;
 use std::thread::Threads;
+use std::time::Clock;
 
 /// The lengths of the terminals' timers: long beside the time that a link takes to come up, in octet times.
 const TIMERS: Timers = Timers {
@@ -37,26 +40,26 @@ pub struct TrafficEnds {
     pub far: Vec<SetEnd>,
 }
 
-/// [`run_through`] with gates of its own.
-pub fn run_traffic<R: Threads + Wait + Copy + Send + Sync + 'static>(
+/// [`run_through`] with [`gates_of`] the traffic.
+pub fn run_traffic<R: Threads + Wait + Clock + Copy + Send + Sync + 'static>(
     rt: &R,
     alloc: Global,
     traffic: &Traffic,
 ) -> Result<TrafficEnds, BankFault>
     ensures near { IfOk result (λ ends. AreEndsOf traffic.now (near_end traffic.now) ends.near.items) }
-    ensures far { IfOk result (λ ends. AreEndsOf traffic.now far_end ends.far.items) }
+    ensures far { IfOk result (λ ends. AreEndsOf traffic.now (far_end traffic.now) ends.far.items) }
     ensures early { IfErr result EndsEarly }
 {
-    let (near_gate, far_gate) = pace_gates(alloc, traffic.sets, traffic.links)?;
+    let (near_gate, far_gate) = gates_of(alloc, traffic)?;
     run_through(rt, alloc, traffic, near_gate, far_gate)
 }
 
 /// Runs this traffic: the ends a of all sets in one bank, the ends b in another, each link over a pair of rings, with
-/// these gates, which keep its two terminals beside one another: [`pace_gates`] for as many sets and links.
+/// these gates, which keep its two terminals beside one another: [`gates_of`] this traffic.
 ///
 /// Faults, once all threads that were started have ended: those of [`Bank::start`] and [`Running::join`], of the ends a
 /// first.
-pub fn run_through<R: Threads + Wait + Copy + Send + Sync + 'static>(
+pub fn run_through<R: Threads + Wait + Clock + Copy + Send + Sync + 'static>(
     rt: &R,
     alloc: Global,
     traffic: &Traffic,
@@ -64,10 +67,10 @@ pub fn run_through<R: Threads + Wait + Copy + Send + Sync + 'static>(
     far_gate: PaceGate,
 ) -> Result<TrafficEnds, BankFault>
     ensures near { IfOk result (λ ends. AreEndsOf traffic.now (near_end traffic.now) ends.near.items) }
-    ensures far { IfOk result (λ ends. AreEndsOf traffic.now far_end ends.far.items) }
+    ensures far { IfOk result (λ ends. AreEndsOf traffic.now (far_end traffic.now) ends.far.items) }
     ensures early { IfErr result EndsEarly }
 {
-    let lines = lines_of(alloc, traffic.sets, traffic.links)?;
+    let lines = lines_of(alloc, traffic)?;
     let near = near_side(alloc, traffic, lines.near, near_gate)?;
     let far = far_side(alloc, traffic, lines.far, far_gate)?;
     run_sides(rt, near, far)
@@ -77,7 +80,7 @@ pub fn run_through<R: Threads + Wait + Copy + Send + Sync + 'static>(
 #[derive(Drop)]
 struct Side {
     bank: Bank,
-    lines: Vec<Vec<RingLine>>,
+    lines: Vec<Vec<NoisyLine<RingLine>>>,
     jobs: Vec<Vec<Job>>,
     gate: PaceGate,
     plan: Plan,
@@ -85,7 +88,7 @@ struct Side {
 
 impl Side {
     /// Starts the bank.
-    fn start<R: Threads + Wait + Copy + Send + Sync + 'static>(
+    fn start<R: Threads + Wait + Clock + Copy + Send + Sync + 'static>(
         self,
         rt: &R,
     ) -> Result<Running, BankFault>
@@ -101,7 +104,7 @@ impl Side {
 fn near_side(
     alloc: Global,
     traffic: &Traffic,
-    lines: Vec<Vec<RingLine>>,
+    lines: Vec<Vec<NoisyLine<RingLine>>>,
     gate: PaceGate,
 ) -> Result<Side, BankFault>
     requires { line_counts lines ≡ each_set traffic.now.sets traffic.now.links }
@@ -124,14 +127,14 @@ fn near_side(
 fn far_side(
     alloc: Global,
     traffic: &Traffic,
-    lines: Vec<Vec<RingLine>>,
+    lines: Vec<Vec<NoisyLine<RingLine>>>,
     gate: PaceGate,
 ) -> Result<Side, BankFault>
     requires { line_counts lines ≡ each_set traffic.now.sets traffic.now.links }
-    ensures tasks { IfOk result (λ side. AreTasks traffic.now far_end (tasks_in side)) }
+    ensures tasks { IfOk result (λ side. AreTasks traffic.now (far_end traffic.now) (tasks_in side)) }
     ensures early { IfErr result EndsEarly }
 {
-    let jobs = takes_of(alloc, traffic.sets, TAKES)?;
+    let jobs = far_jobs_of(alloc, traffic)?;
     let bank = bank_of(alloc, traffic, 1, 2, 1)?;
     let plan = plan_of(traffic, None);
     Ok(Side {
@@ -143,8 +146,19 @@ fn far_side(
     })
 }
 
+/// The jobs of the users at the ends b.
+fn far_jobs_of(alloc: Global, traffic: &Traffic) -> Result<Vec<Vec<Job>>, AllocError>
+    ensures { IfOk result (λ all. duties all ≡ each_set traffic.now.sets (far_jobs traffic.now)) }
+{
+    if traffic.managed {
+        let messages = u32::from(traffic.users) * u32::from(traffic.messages);
+        return collects_of(alloc, traffic.sets, messages);
+    }
+    takes_of(alloc, traffic.sets, TAKES)
+}
+
 /// Runs both banks, and waits for them.
-fn run_sides<R: Threads + Wait + Copy + Send + Sync + 'static>(
+fn run_sides<R: Threads + Wait + Clock + Copy + Send + Sync + 'static>(
     rt: &R,
     near: Side,
     far: Side,
@@ -160,7 +174,7 @@ fn run_sides<R: Threads + Wait + Copy + Send + Sync + 'static>(
 }
 
 /// Runs the bank of the ends b beside that of the ends a, and waits for both.
-fn run_beside<R: Threads + Wait + Copy + Send + Sync + 'static>(
+fn run_beside<R: Threads + Wait + Clock + Copy + Send + Sync + 'static>(
     rt: &R,
     near: Running,
     far: Side,
@@ -187,7 +201,20 @@ fn plan_of(traffic: &Traffic, fail: Option<u8>) -> Plan
         turns: traffic.turns,
         fail,
         checkpoint: traffic.checkpoint,
+        managed: managed_of(traffic),
     }
+}
+
+/// How links are managed, if they are.
+fn managed_of(traffic: &Traffic) -> Option<Managed>
+    ensures { links_managed result ≡ (if traffic.now.managed then Some traffic.now.links else None) }
+{
+    if !traffic.managed {
+        return None;
+    }
+    Some(Managed {
+        links: traffic.links,
+    })
 }
 
 /// The bank of one end of all sets, with so many users each.

@@ -1,5 +1,5 @@
 -- The ends of a traffic, one by one, and what is written of them.
-use Rattle.std.proofs.Common.{refl, arith, ◌≡◌, ap, ℕ, zero, suc, false, List, [], ◌∷◌, ◌++◌, length, map, Option, Result, Ok, Err, All, IsOk, IfErr}
+use Rattle.std.proofs.Common.{refl, arith, ◌≡◌, ap, sym, subst, ℕ, zero, suc, Bool, false, List, [], ◌∷◌, ◌++◌, length, map, Option, Result, Ok, Err, All, IsOk, IfErr}
 use Rattle.std.specs.Result.{is_err}
 use Rattle.std.proofs.lemmas.List.{length-append, length-map}
 use Rattle.std.proofs.lemmas.List.Elements.{All-nil, All-cons}
@@ -8,13 +8,14 @@ use Rattle.set_crew.specs.declared.end.SetEnd.{SetEnd}
 use Rattle.set_crew.specs.Ends.{Task}
 use Rattle.bank_core.specs.Ends.{AreEnds}
 use Rattle.paced_banks.specs.declared.asked.Traffic.{Traffic}
-use Rattle.paced_banks.specs.Opening.{AreEndsOf, OneEnd, numbers_below}
+use Rattle.paced_banks.specs.Opening.{AreEndsOf, OneEnd, far_end, near_end, numbers_below}
 use Rattle.printing.specs.declared.fault.Fault.{Fault}
 use Rattle.printing.specs.declared.fault.Fault.TheVariants.{Input, Memory, Read, Long, Write}
+use Rattle.report_text.specs.declared.verdict.Missing.{Missing}
 use Rattle.run_text.specs.declared.fault.RunFault.{RunFault}
 use Rattle.command_line.specs.declared.run_words.RunWords.{RunWords}
 use Rattle.run_text.specs.Asked.{IsFaultOfAsked, IsTrafficOf}
-use Rattle.run_text.specs.Running.{IsAnEnd, IsFaultOfRun, WritesText}
+use Rattle.run_text.specs.Running.{IsAnEnd, IsFaultOfRun, IsRunText, IsTextOfEnds, Runs, Showing, WritesAll, WritesEnds, WritesText}
 
 -- no fault
 pub ok_of : {A B : Type 0} (r : Result A B) → false ≡ is_err r → IsOk r
@@ -49,17 +50,52 @@ ends_of traffic side ends are =
     (each.0, omega (arith, each.1, numbers, all, tasks, many))
 
 -- a text that is one thing is another
-pub wider : (P Q : List ℕ → Type 0) → ((text : List ℕ) → P text → Q text) → (result : Result (Unit {0}) (Fault RunFault))
+pub wider : {T : Type 0} (P Q : T → List ℕ → Type 0) → ((answer : T) (text : List ℕ) → P answer text → Q answer text) → (result : Result T (Fault RunFault))
     (old new : Option (List ℕ)) → WritesText P result old new → WritesText Q result old new
-wider P Q f (Ok done) old new w = record { printed = w.printed; added = w.added; ends = f w.printed w.ends }
+wider P Q f (Ok answer) old new w = record { printed = w.printed; added = w.added; ends = f answer w.printed w.ends }
 wider P Q f (Err (Input fault)) old new w = record { printed = w.printed; added = w.added; ends = w.ends }
 wider P Q f (Err Memory) old new w = record { printed = w.printed; added = w.added; ends = w.ends }
 wider P Q f (Err Read) old new w = absurd w.ends
 wider P Q f (Err Long) old new w = absurd w.ends
 wider P Q f (Err Write) old new w =
-    record { printed = w.printed; added = w.added; ends = (w.ends.0, f (w.printed ++ w.ends.0) w.ends.1) }
+    record { printed = w.printed; added = w.added; ends = (w.ends.0, w.ends.1, f w.ends.0 (w.printed ++ w.ends.1) w.ends.2) }
+
+-- all octets of a text were written, or some of them
+pub wrote_all : {T : Type 0} (Q : T → List ℕ → Type 0) (octets : List ℕ) (answer : T) (result : Result (Unit {0}) (Fault RunFault)) (old new : Option (List ℕ))
+    → result ≡ Ok tt → WritesAll octets result old new → Q answer octets → WritesText Q (Ok answer) old new
+wrote_all Q octets answer (Ok done) old new is w q = record { printed = w.printed; added = w.added; ends = subst (Q answer) (sym w.ends) q }
+wrote_all Q octets answer (Err fault) old new is w q = absurd (cc is)
+
+wrote_part : {T : Type 0} (Q : T → List ℕ → Type 0) (octets : List ℕ) (answer : T) (fault : Fault RunFault) (old new : Option (List ℕ))
+    → WritesAll octets (Err fault) old new → Q answer octets → WritesText Q (Err fault) old new
+wrote_part Q octets answer (Input fault) old new w q = record { printed = w.printed; added = w.added; ends = w.ends }
+wrote_part Q octets answer Memory old new w q = record { printed = w.printed; added = w.added; ends = w.ends }
+wrote_part Q octets answer Read old new w q = absurd w.ends
+wrote_part Q octets answer Long old new w q = absurd w.ends
+wrote_part Q octets answer Write old new w q = record { printed = w.printed; added = w.added; ends = (answer, w.ends.1, subst (Q answer) (sym w.ends.2) q) }
+
+pub wrote_some : {T : Type 0} (Q : T → List ℕ → Type 0) (octets : List ℕ) (answer : T) (result : Result (Unit {0}) (Fault RunFault)) (fault : Fault RunFault) (old new : Option (List ℕ))
+    → result ≡ Err fault → WritesAll octets result old new → Q answer octets → WritesText Q (Err fault) old new
+wrote_some Q octets answer result fault old new is w q =
+    wrote_part Q octets answer fault old new (subst (λ (r : Result (Unit {0}) (Fault RunFault)). WritesAll octets r old new) is w) q
 
 -- a fault of the traffic that was asked for
-pub fault_asked : (words : RunWords) (traffic : Traffic) → IsTrafficOf words traffic → (result : Result (Unit {0}) (Fault RunFault)) → IfErr result (IsFaultOfRun traffic) → IfErr result (IsFaultOfAsked words)
+pub fault_asked : {T : Type 0} (words : RunWords) (traffic : Traffic) → IsTrafficOf words traffic → (result : Result T (Fault RunFault)) → IfErr result (IsFaultOfRun traffic) → IfErr result (IsFaultOfAsked words)
 fault_asked words traffic are (Ok done) is = tt
 fault_asked words traffic are (Err fault) is = (traffic, are, is)
+
+-- the text of these ends is that of the traffic that came to them
+pub runs_of : (traffic : Traffic) (per_link report : Bool) (shown : Showing) (near near' far far' : List SetEnd) (result : Result (Option Missing) (Fault RunFault)) (old new : Option (List ℕ))
+    → shown.per_link ≡ per_link → shown.report ≡ report → near' ≡ near → far' ≡ far → AreEndsOf traffic (near_end traffic) near → AreEndsOf traffic (far_end traffic) far
+    → WritesEnds traffic shown near' far' result old new → Runs traffic per_link report result old new
+runs_of traffic per_link report shown near near' far far' result old new lines told same_near same_far near_are far_are w =
+    wider (IsTextOfEnds traffic shown near' far') (IsRunText traffic per_link report) (λ missing text is. record {
+      near = near;
+      far = far;
+      time = shown.time;
+      near_are = near_are;
+      far_are = far_are;
+      of_ends = subst (λ (p : Bool). IsTextOfEnds traffic (record { per_link = p; report = report; time = shown.time }) near far missing text) lines
+          (subst (λ (r : Bool). IsTextOfEnds traffic (record { per_link = shown.per_link; report = r; time = shown.time }) near far missing text) told
+          (subst (λ (n : List SetEnd). IsTextOfEnds traffic shown n far missing text) same_near (subst (λ (f : List SetEnd). IsTextOfEnds traffic shown near' f missing text) same_far is)));
+    }) result old new w

@@ -3,6 +3,7 @@ use Rattle.std.proofs.Common.{refl, ◌≡◌, ℕ, suc, List, [], ◌∷◌, Op
 use Rattle.std.specs.Option.{option_or}
 use Rattle.std.proofs.lemmas.List.Elements.{All-nil, All-cons}
 use Rattle.set_crew.specs.declared.report.ShiftReport.{ShiftReport}
+use Rattle.set_crew.specs.declared.report.UserReport.{UserReport}
 use Rattle.link_term.specs.declared.fault.TermFault.{TermFault}
 use Rattle.set_crew.specs.declared.end.SetEnd.{SetEnd}
 use Rattle.world_steps.specs.declared.step.End.{End}
@@ -23,7 +24,7 @@ pub neither : {T : Type 0} (a b : Option T) → option_or a b ≡ None → (a �
 neither None b h = (refl, h)
 neither (Some x) b h = cc h
 
-none_stuck : (user : ℕ) (users : List (Result (Unit {0}) UserFault)) → stuck_from user users ≡ None → All IsOk users
+none_stuck : (user : ℕ) (users : List (Result UserReport UserFault)) → stuck_from user users ≡ None → All IsOk users
 none_stuck user [] h = All-nil IsOk
 none_stuck user (Ok done ∷ users) h = All-cons IsOk (Ok done) users refl (none_stuck (suc user) users h)
 none_stuck user (Err fault ∷ users) h = cc h
@@ -59,22 +60,22 @@ ended_well near far (Err fault) none is = rw is none
 
 -- what is told of ends is told of the traffic that came to them
 told : (traffic : Traffic) (near far : List SetEnd) → AreEndsOf traffic (near_end traffic) near
-    → AreEndsOf traffic far_end far → (fault : RunFault) → failure_of near far ≡ Some fault → IsFailure traffic fault
+    → AreEndsOf traffic (far_end traffic) far → (fault : RunFault) → failure_of near far ≡ Some fault → IsFailure traffic fault
 told traffic near far a b Thread is = tt
 told traffic near far a b Close is = tt
 told traffic near far a b (User set end user fault) is = record { near = near; far = far; near_are = a; far_are = b; failure_is = is }
 told traffic near far a b (Terminal set end link fault) is = record { near = near; far = far; near_are = a; far_are = b; failure_is = is }
 
 told_of_run : (traffic : Traffic) (near far : List SetEnd) → AreEndsOf traffic (near_end traffic) near
-    → AreEndsOf traffic far_end far → (fault : Fault RunFault) → IsFaultOfEnds near far fault → IsFaultOfRun traffic fault
+    → AreEndsOf traffic (far_end traffic) far → (fault : Fault RunFault) → IsFaultOfEnds near far fault → IsFaultOfRun traffic fault
 told_of_run traffic near far a b (Input fault) is = told traffic near far a b fault is
 told_of_run traffic near far a b Memory is = tt
 told_of_run traffic near far a b Read is = is
 told_of_run traffic near far a b Long is = is
 told_of_run traffic near far a b Write is = tt
 
-pub fault_of_run : (traffic : Traffic) (near far : List SetEnd) → AreEndsOf traffic (near_end traffic) near
-    → AreEndsOf traffic far_end far → (result : Result (Unit {0}) (Fault RunFault)) → IfErr result (IsFaultOfEnds near far)
+pub fault_of_run : {T : Type 0} (traffic : Traffic) (near far : List SetEnd) → AreEndsOf traffic (near_end traffic) near
+    → AreEndsOf traffic (far_end traffic) far → (result : Result T (Fault RunFault)) → IfErr result (IsFaultOfEnds near far)
     → IfErr result (IsFaultOfRun traffic)
 fault_of_run traffic near far a b (Ok done) is = tt
 fault_of_run traffic near far a b (Err fault) is = told_of_run traffic near far a b fault is

@@ -3,6 +3,7 @@ use Rattle.std.specs.Prelude.{◌≡◌, ℕ, List, Option, Result}
 use Rattle.command_line.specs.declared.run_words.RunWords.{RunWords}
 use Rattle.paced_banks.specs.declared.asked.Traffic.{Traffic}
 use Rattle.printing.specs.declared.fault.Fault.{Fault}
+use Rattle.report_text.specs.declared.verdict.Missing.{Missing}
 use Rattle.run_text.specs.declared.fault.RunFault.{RunFault}
 use Rattle.run_text.specs.Running.{IsFaultOfRun, IsRunText, WritesText}
 
@@ -16,13 +17,17 @@ pub record IsTrafficOf (words : RunWords) (traffic : Traffic) : Type 0 where
   pub cyclic_is : traffic.cyclic ≡ words.cyclic
   pub turns_are : traffic.turns ≡ words.turns
   pub checkpoint_is : traffic.checkpoint ≡ words.checkpoint
+  pub managed_is : traffic.managed ≡ words.report
+  pub noise_is : traffic.noise ≡ words.noise
+  pub seed_is : traffic.seed ≡ words.seed
 
--- what came of it, as it's printed
-abbrev pub IsTextAsked : RunWords → List ℕ → Type 0
-IsTextAsked words text = (traffic : Traffic) × IsTrafficOf words traffic × IsRunText traffic words.per_link text
+-- what came of it, as it's printed, and the first message that is missing
+abbrev pub IsTextAsked : RunWords → Option Missing → List ℕ → Type 0
+IsTextAsked words missing text =
+    (traffic : Traffic) × IsTrafficOf words traffic × IsRunText traffic words.per_link words.report missing text
 
 -- THE RUN: what was written is the text of what the threads came to
-abbrev pub RunsAsked : RunWords → Result (Unit {0}) (Fault RunFault) → Option (List ℕ) → Option (List ℕ) → Type 0
+abbrev pub RunsAsked : RunWords → Result (Option Missing) (Fault RunFault) → Option (List ℕ) → Option (List ℕ) → Type 0
 RunsAsked words result old new = WritesText (IsTextAsked words) result old new
 
 abbrev pub IsFaultOfAsked : RunWords → Fault RunFault → Type 0

@@ -2,6 +2,7 @@
 use Rattle.std.specs.Prelude.{ℕ, suc, List, [], ◌∷◌, Option, None, Some, Result, Ok, Err, codes}
 use Rattle.std.specs.Option.{option_or}
 use Rattle.set_crew.specs.declared.report.ShiftReport.{ShiftReport}
+use Rattle.set_crew.specs.declared.report.UserReport.{UserReport}
 use Rattle.link_term.specs.declared.fault.TermFault.{TermFault}
 use Rattle.set_crew.specs.declared.end.SetEnd.{SetEnd}
 use Rattle.world_steps.specs.declared.step.End.{End}
@@ -17,7 +18,7 @@ end_word A = codes "a"
 end_word B = codes "b"
 
 -- the first user that ended early, from this number on
-abbrev pub stuck_from : ℕ → List (Result (Unit {0}) UserFault) → Option Stuck
+abbrev pub stuck_from : ℕ → List (Result UserReport UserFault) → Option Stuck
 stuck_from user [] = None
 stuck_from user (Ok done ∷ users) = stuck_from (suc user) users
 stuck_from user (Err fault ∷ users) = Some (record { user = user; fault = fault })

@@ -1,5 +1,5 @@
 -- A RUN, from its traffic to what is written.
-use Rattle.std.specs.Prelude.{◌≡◌, ℕ, Bool, List, [], ◌++◌, Option, None, Some, Result, MatchResult, All, IsOk}
+use Rattle.std.specs.Prelude.{◌≡◌, ℕ, Bool, true, false, List, [], ◌++◌, Option, None, Some, Result, MatchResult, All, IsOk, if◌then◌else◌}
 use Rattle.std.specs.Io.KnownBytes.{Appends}
 use Rattle.set_events.specs.declared.config.SetConfig.{SetConfig}
 use Rattle.set_crew.specs.declared.end.SetEnd.{SetEnd}
@@ -8,7 +8,11 @@ use Rattle.paced_banks.specs.declared.asked.Traffic.{Traffic}
 use Rattle.paced_banks.specs.Opening.{AreEndsOf, far_end, near_end}
 use Rattle.printing.specs.declared.fault.Fault.{Fault}
 use Rattle.printing.specs.declared.fault.Fault.TheVariants.{Input, Memory, Read, Long, Write}
+use Rattle.report_text.specs.declared.verdict.Missing.{Missing}
+use Rattle.report_text.specs.ReportText.{report_text}
+use Rattle.report_text.specs.Verdict.{IsVerdict}
 use Rattle.run_text.specs.declared.fault.RunFault.{RunFault}
+use Rattle.run_text.specs.declared.running.Shown.{Shown}
 use Rattle.run_text.specs.declared.fault.RunFault.TheVariants.{Thread, Close, User, Terminal}
 use Rattle.run_text.specs.Failures.{failure_of}
 use Rattle.run_text.specs.RunText.{run_text}
@@ -22,49 +26,72 @@ pub record GotThrough (end : SetEnd) : Type 0 where
   pub users : All IsOk end.users.items
   pub terminals : All IsOk end.reports.items
 
+-- what is shown of ends: lines of each link, a report, and how many milliseconds the run took, if a clock told them
+pub record Showing : Type 0 where
+  pub per_link : Bool
+  pub report : Bool
+  pub time : Option ℕ
+
+abbrev pub showing : Shown → Showing
+showing shown = record { per_link = shown.per_link; report = shown.report; time = shown.time }
+
+-- the text, with a report where one is asked for
+abbrev pub shown_text : Showing → List SetEnd → List SetEnd → Option Missing → List ℕ
+shown_text shown near far missing =
+    run_text shown.per_link near far ++ (if shown.report then report_text shown.time near far missing else [])
+
+-- the first message that is missing is looked for where a report is asked for
+abbrev pub IsMissing : Bool → Traffic → List SetEnd → Option Missing → Type 0
+IsMissing false traffic far missing = missing ≡ None
+IsMissing true traffic far missing = IsVerdict traffic.users traffic.messages 0 far missing
+
 -- what is printed of these ends: something only where each user got through, and no terminal failed
-pub record IsTextOfEnds (per_link : Bool) (near far : List SetEnd) (text : List ℕ) : Type 0 where
+pub record IsTextOfEnds (traffic : Traffic) (shown : Showing) (near far : List SetEnd) (missing : Option Missing)
+    (text : List ℕ) : Type 0 where
   pub no_failure : failure_of near far ≡ None
   pub near_got_through : All GotThrough near
   pub far_got_through : All GotThrough far
-  pub text_is : text ≡ run_text per_link near far
+  pub missing_is : IsMissing shown.report traffic far missing
+  pub text_is : text ≡ shown_text shown near far missing
 
 -- what this traffic came to at its ends, and what is printed of it
-pub record IsRunText (traffic : Traffic) (per_link : Bool) (text : List ℕ) : Type 0 where
+pub record IsRunText (traffic : Traffic) (per_link report : Bool) (missing : Option Missing) (text : List ℕ)
+    : Type 0 where
   pub near : List SetEnd
   pub far : List SetEnd
+  pub time : Option ℕ
   pub near_are : AreEndsOf traffic (near_end traffic) near
-  pub far_are : AreEndsOf traffic far_end far
-  pub of_ends : IsTextOfEnds per_link near far text
+  pub far_are : AreEndsOf traffic (far_end traffic) far
+  pub of_ends : IsTextOfEnds traffic (record { per_link = per_link; report = report; time = time }) near far missing text
 
 -- where the sink failed, the text was begun; for any other fault nothing was written
-abbrev pub CutsOff : (List ℕ → Type 0) → List ℕ → Fault RunFault → Type 0
+abbrev pub CutsOff : {T : Type 0} → (T → List ℕ → Type 0) → List ℕ → Fault RunFault → Type 0
 CutsOff IsText printed (Input fault) = printed ≡ []
 CutsOff IsText printed Memory = printed ≡ []
 CutsOff IsText printed Read = ⊥
 CutsOff IsText printed Long = ⊥
-CutsOff IsText printed Write = (more : List ℕ) × IsText (printed ++ more)
+CutsOff {T} IsText printed Write = (answer : T) × (more : List ℕ) × IsText answer (printed ++ more)
 
-pub record WritesText (IsText : List ℕ → Type 0) (result : Result (Unit {0}) (Fault RunFault))
+pub record WritesText {T : Type 0} (IsText : T → List ℕ → Type 0) (result : Result T (Fault RunFault))
     (old new : Option (List ℕ)) : Type 0 where
   pub printed : List ℕ
   pub added : Appends old new printed
-  pub ends : MatchResult result (λ done. IsText printed) (CutsOff IsText printed)
+  pub ends : MatchResult result (λ (answer : T). IsText answer printed) (CutsOff IsText printed)
 
 -- these octets were written
 abbrev pub WritesAll : List ℕ → Result (Unit {0}) (Fault RunFault) → Option (List ℕ)
     → Option (List ℕ) → Type 0
-WritesAll octets result old new = WritesText (λ printed. printed ≡ octets) result old new
+WritesAll octets result old new = WritesText (λ (done : Unit {0}) (printed : List ℕ). printed ≡ octets) result old new
 
 -- what was written is the text of these ends
-abbrev pub WritesEnds : Bool → List SetEnd → List SetEnd → Result (Unit {0}) (Fault RunFault) → Option (List ℕ)
-    → Option (List ℕ) → Type 0
-WritesEnds per_link near far result old new = WritesText (IsTextOfEnds per_link near far) result old new
+abbrev pub WritesEnds : Traffic → Showing → List SetEnd → List SetEnd → Result (Option Missing) (Fault RunFault)
+    → Option (List ℕ) → Option (List ℕ) → Type 0
+WritesEnds traffic shown near far result old new = WritesText (IsTextOfEnds traffic shown near far) result old new
 
 -- THE RUN: what was written is the text of what the threads came to
-abbrev pub Runs : Traffic → Bool → Result (Unit {0}) (Fault RunFault) → Option (List ℕ)
+abbrev pub Runs : Traffic → Bool → Bool → Result (Option Missing) (Fault RunFault) → Option (List ℕ)
     → Option (List ℕ) → Type 0
-Runs traffic per_link result old new = WritesText (IsRunText traffic per_link) result old new
+Runs traffic per_link report result old new = WritesText (IsRunText traffic per_link report) result old new
 
 -- WHY IT ENDS SO. Of ends that are at hand: a failure is told, the first one; memory was wanted here, or the sink failed,
 -- only where there is none.
@@ -80,7 +107,7 @@ pub record FailsAt (traffic : Traffic) (fault : RunFault) : Type 0 where
   pub near : List SetEnd
   pub far : List SetEnd
   pub near_are : AreEndsOf traffic (near_end traffic) near
-  pub far_are : AreEndsOf traffic far_end far
+  pub far_are : AreEndsOf traffic (far_end traffic) far
   pub failure_is : failure_of near far ≡ Some fault
 
 abbrev pub IsFailure : Traffic → RunFault → Type 0

@@ -6,16 +6,17 @@ use super::fault::RunFault;
 use super::progress::Progress;
 use super::running::write_run;
 use command_line::RunWords;
-use paced_banks::{PaceGate, Traffic, pace_gates};
+use paced_banks::{PaceGate, Traffic, gates_of};
 use printing::{Fault, Sink};
+use report_text::Missing;
 use std::alloc::Global;
 use std::io::Eprint;
 use std::sync::Wait;
 use std::thread::Threads;
-use std::time::Clock;
+use std::time::{Clock, Instant};
 
 /// Runs what these words ask for, and writes what its sets came to; with `shows`, standard error tells meanwhile how far
-/// it is.
+/// it is. Where the words ask for a report the answer is the first message that is missing, if one is.
 ///
 /// Faults, in which nothing was written but before [`Fault::Write`]: [`RunFault::Thread`], [`RunFault::Close`],
 /// [`RunFault::User`], [`RunFault::Terminal`], [`Fault::Memory`], [`Fault::Write`], as [`write_run`] has them.
@@ -25,14 +26,14 @@ pub fn run<R: Threads + Wait + Clock + Eprint + Copy + Send + Sync + 'static, W:
     words: &RunWords,
     shows: bool,
     sink: &mut W,
-) -> Result<(), Fault<RunFault>>
+) -> Result<Option<Missing>, Fault<RunFault>>
     ensures text { RunsAsked words.now result (W.written sink.old) (W.written sink.new) }
     ensures fault { IfErr result (IsFaultOfAsked words.now) }
     ensures failed { IfErr result (λ fault. fault ≡ Fault.Write → W.failures sink.new ≢ W.failures sink.old) }
     ensures sound { OnOk result (W.failures sink.new ≡ W.failures sink.old) }
 {
     let traffic = traffic_of(words);
-    let Ok((near, far)) = pace_gates(alloc, traffic.sets, traffic.links) else {
+    let Ok((near, far)) = gates_of(alloc, &traffic) else {
         return Err(Fault::Memory);
     };
     let progress = if shows {
@@ -40,11 +41,20 @@ pub fn run<R: Threads + Wait + Clock + Eprint + Copy + Send + Sync + 'static, W:
     } else {
         None
     };
-    write_run(rt, alloc, &traffic, (near, far), words.per_link, sink, || {
+    let asked = (words.per_link, words.report);
+    let since = Instant::now(rt).ok();
+    write_run(rt, alloc, &traffic, (near, far), asked, sink, || {
         if let Some(progress) = progress {
             progress.end(rt);
         }
+        milliseconds_since(rt, since)
     })
+}
+
+/// How many milliseconds went by since then, if a clock tells them.
+fn milliseconds_since<R: Clock>(rt: &R, since: Option<Instant>) -> Option<u64> {
+    let elapsed = since?.elapsed(rt).ok()?;
+    Some(elapsed.as_millis().min(u128::from(u64::MAX)) as u64)
 }
 
 /// Begins to tell how far a run of these words is.
@@ -55,7 +65,8 @@ fn shown<R: Threads + Wait + Clock + Eprint + Copy + Send + Sync + 'static>(
     near: &PaceGate,
 ) -> Option<Progress> {
     let turns = u64::from(words.sets) * u64::from(words.links) * u64::from(words.turns);
-    Progress::start(rt, alloc, near, turns)
+    let messages = u64::from(words.sets) * u64::from(words.users) * u64::from(words.messages);
+    Progress::start(rt, alloc, near, turns, messages)
 }
 
 /// The traffic that these words ask for.
@@ -71,5 +82,8 @@ fn traffic_of(words: &RunWords) -> Traffic
         cyclic: words.cyclic,
         turns: u64::from(words.turns),
         checkpoint: words.checkpoint,
+        managed: words.report,
+        noise: words.noise,
+        seed: words.seed,
     }
 }

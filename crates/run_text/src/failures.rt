@@ -3,7 +3,7 @@ ghost use Rattle.std.specs.Prelude.{◌≡◌};
 ghost use Rattle.run_text.specs.Failures.{failed_from, failure_from, failure_in, failure_of, stuck_from};
 
 use super::fault::RunFault;
-use bank_core::{SetEnd, ShiftReport, UserFault};
+use bank_core::{SetEnd, ShiftReport, UserFault, UserReport};
 use link_term::TermFault;
 use world_steps::End;
 
@@ -73,7 +73,7 @@ fn find_in(end: End, number: u64, set: &SetEnd) -> Option<RunFault>
 }
 
 /// The first of these users that ended before its job was done.
-fn first_stuck(users: &[Result<(), UserFault>]) -> Option<Stuck>
+fn first_stuck(users: &[Result<UserReport, UserFault>]) -> Option<Stuck>
     ensures { result ≡ stuck_from 0 users.now }
 {
     let mut user: u64 = 0;

@@ -27,5 +27,6 @@ pub use asked::run;
 pub use bank_core::UserFault;
 pub use fault::RunFault;
 pub use link_term::TermFault;
-pub use running::{write_ends, write_run};
+pub use report_text::Missing;
+pub use running::{Shown, write_ends, write_run};
 pub use world_steps::End;

@@ -26,25 +26,29 @@ pub(crate) struct Progress {
 #[derive(Drop)]
 struct Told {
     gate: PaceGate,
-    /// How many turns the terminals at the ends a take in all.
+    /// How many turns the terminals at the ends a take in all, at most.
     turns: u64,
+    /// How many messages are offered in all.
+    messages: u64,
     ended: Arc<AtomicBool, Global>,
     since: Instant,
 }
 
 impl Progress {
-    /// Begins to tell how many of these turns are begun. Nothing is told, and nothing is amiss, where memory, a clock or a
+    /// Begins to tell how many of these turns are begun, or of these messages delivered where links are managed. Nothing is told, and nothing is amiss, where memory, a clock or a
     /// thread is wanted.
     pub(crate) fn start<R: Threads + Wait + Clock + Eprint + Copy + Send + 'static>(
         rt: &R,
         alloc: Global,
         gate: &PaceGate,
         turns: u64,
+        messages: u64,
     ) -> Option<Progress> {
         let ended = Arc::new(alloc, AtomicBool::new(false)).ok()?;
         let told = Told {
             gate: gate.clone().ok()?,
             turns,
+            messages,
             ended: Arc::try_clone(&ended).ok()?,
             since: Instant::now(rt).ok()?,
         };
@@ -70,12 +74,26 @@ fn tell<R: Wait + Clock + Eprint>(rt: &R, told: &Told) {
         thread::sleep(rt, Duration::from_millis(PAUSE));
         if is_long(rt, told.since) {
             shown = true;
-            let share = told.gate.near_turns().saturating_mul(100) / told.turns.max(1);
-            let _ = eprint!(rt; "\r\u{1b}[Kmtpbank run: {share} % of its turns");
+            let (share, of) = share_of(told);
+            let _ = eprint!(rt; "\r\u{1b}[Kmtpbank run: {share} % of its {of}");
         }
     }
     if shown {
         let _ = eprint!(rt; "\r\u{1b}[K");
+    }
+}
+
+/// How far the run is, in hundredths, and of what.
+fn share_of(told: &Told) -> (u64, &'static str) {
+    match told.gate.heard() {
+        Some(heard) => (
+            heard.saturating_mul(100) / told.messages.max(1),
+            "messages delivered",
+        ),
+        None => (
+            told.gate.near_turns().saturating_mul(100) / told.turns.max(1),
+            "turns",
+        ),
     }
 }
 

@@ -3,7 +3,7 @@ ghost use Rattle.std.specs.Prelude.{◌≡◌, ◌≢◌, ◌≤◌, All, IfErr,
 ghost use Rattle.bank_core.specs.Faults.{EndsEarly};
 ghost use Rattle.run_text.specs.Failures.{failure_of};
 ghost use Rattle.run_text.specs.RunText.{run_text};
-ghost use Rattle.run_text.specs.Running.{IsAnEnd, IsFaultOfEnds, IsFaultOfRun, Runs, TellsLack, WritesAll, WritesEnds};
+ghost use Rattle.run_text.specs.Running.{IsAnEnd, IsFaultOfEnds, IsFaultOfRun, Runs, TellsLack, WritesAll, WritesEnds, IsMissing, showing, shown_text};
 
 use super::failures::find_failure;
 use super::fault::RunFault;
@@ -12,39 +12,63 @@ use super::texts::{write_all_sets, write_links};
 use bank_core::{BankFault, SetEnd};
 use paced_banks::{PaceGate, Traffic, run_through};
 use printing::{Fault, Sink};
+use report_text::{Missing, Report, report_of};
 use std::alloc::{AllocError, Global};
 use std::sync::Wait;
 use std::thread::Threads;
+use std::time::Clock;
+
+/// What is written of ends behind what their sets came to.
+#[derive(Clone, Copy, Debug, PartialEq, Eq)]
+pub struct Shown {
+    /// What each link came to.
+    pub per_link: bool,
+    /// A report, with the verdict on what was taken.
+    pub report: bool,
+    /// How many milliseconds the run took, for the report, if a clock told them.
+    pub time: Option<u64>,
+}
 
 /// Runs this traffic through these gates, and writes what its sets came to at both ends; with `per_link` behind that what
-/// each link came to. When all threads have ended, before anything is written, `ended` is called.
+/// each link came to; with `report` behind that a report, in which case the answer is the first message that is missing, if one
+/// is. When all threads have ended, before anything is written, `ended` is called, which tells how many milliseconds they took.
 ///
 /// Faults: [`RunFault::Thread`] and [`RunFault::Close`] as [`run_through`] has them; [`Fault::Memory`] where memory was
 /// wanted there or here; [`RunFault::User`] or [`RunFault::Terminal`] of the first user that ended early or terminal
 /// that failed. Nothing is written then. [`Fault::Write`] where the sink fails; what was written is a beginning of the text.
-pub fn write_run<R: Threads + Wait + Copy + Send + Sync + 'static, W: Sink, F: FnOnce()>(
+pub fn write_run<
+    R: Threads + Wait + Clock + Copy + Send + Sync + 'static,
+    W: Sink,
+    F: FnOnce() -> Option<u64>,
+>(
     rt: &R,
     alloc: Global,
     traffic: &Traffic,
     gates: (PaceGate, PaceGate),
-    per_link: bool,
+    asked: (bool, bool),
     sink: &mut W,
     ended: F,
-) -> Result<(), Fault<RunFault>>
+) -> Result<Option<Missing>, Fault<RunFault>>
     requires callable { F.IsAlwaysCallable ended }
-    ensures text { Runs traffic.now per_link result (W.written sink.old) (W.written sink.new) }
+    ensures text { Runs traffic.now asked.0 asked.1 result (W.written sink.old) (W.written sink.new) }
     ensures fault { IfErr result (IsFaultOfRun traffic.now) }
     ensures failed { IfErr result (λ fault. fault ≡ Fault.Write → W.failures sink.new ≢ W.failures sink.old) }
     ensures sound { OnOk result (W.failures sink.new ≡ W.failures sink.old) }
 {
     let (near_gate, far_gate) = gates;
     let came_to = run_through(rt, alloc, traffic, near_gate, far_gate);
-    ended();
+    let time = ended();
+    let (per_link, report) = asked;
+    let shown = Shown {
+        per_link,
+        report,
+        time,
+    };
     let ends = match came_to {
         Ok(ends) => ends,
         Err(fault) => return Err(fault_of(fault)),
     };
-    write_ends(alloc, &ends.near, &ends.far, per_link, sink)
+    write_ends(alloc, traffic, &ends.near, &ends.far, shown, sink)
 }
 
 /// Why there is nothing to write.
@@ -59,51 +83,86 @@ fn fault_of(fault: BankFault) -> Fault<RunFault>
     }
 }
 
-/// Writes what these ends came to, at most 16 of each bank; with `per_link` behind that what each link came to.
+/// Writes what these ends of a traffic came to, at most 16 of each bank, and behind that what is to be shown; with a report
+/// the answer is the first message that is missing, if one is.
 ///
 /// Faults: [`RunFault::User`] or [`RunFault::Terminal`] exactly where a user ended early or a terminal failed, of the
 /// first one: the ends a come before the ends b, a set's users before its terminals. [`Fault::Memory`] where memory was
 /// wanted here. Nothing is written then. [`Fault::Write`] where the sink fails; what was written is a beginning of the text.
 pub fn write_ends<W: Sink>(
     alloc: Global,
+    traffic: &Traffic,
     near: &[SetEnd],
     far: &[SetEnd],
-    per_link: bool,
+    shown: Shown,
     sink: &mut W,
-) -> Result<(), Fault<RunFault>>
+) -> Result<Option<Missing>, Fault<RunFault>>
     requires ends { All IsAnEnd near.now × All IsAnEnd far.now }
     requires few { (length near.now ≤ 16) × (length far.now ≤ 16) }
-    ensures text { WritesEnds per_link near.now far.now result (W.written sink.old) (W.written sink.new) }
+    ensures text { WritesEnds traffic.now (showing shown) near.now far.now result (W.written sink.old) (W.written sink.new) }
     ensures fault { IfErr result (IsFaultOfEnds near.now far.now) }
     ensures failed { IfErr result (λ fault. fault ≡ Fault.Write → W.failures sink.new ≢ W.failures sink.old) }
     ensures sound { OnOk result (W.failures sink.new ≡ W.failures sink.old) }
 {
     match find_failure(near, far) {
         Some(fault) => Err(Fault::Input(fault)),
-        None => write_text(alloc, near, far, per_link, sink),
+        None => write_text(alloc, traffic, near, far, shown, sink),
     }
 }
 
 /// Writes what ends came to of which none failed.
 fn write_text<W: Sink>(
     alloc: Global,
+    traffic: &Traffic,
     near: &[SetEnd],
     far: &[SetEnd],
-    per_link: bool,
+    shown: Shown,
     sink: &mut W,
-) -> Result<(), Fault<RunFault>>
+) -> Result<Option<Missing>, Fault<RunFault>>
     requires ends { All IsAnEnd near.now × All IsAnEnd far.now }
     requires few { (length near.now ≤ 16) × (length far.now ≤ 16) }
     requires none { failure_of near.now far.now ≡ None }
-    ensures text { WritesEnds per_link near.now far.now result (W.written sink.old) (W.written sink.new) }
+    ensures text { WritesEnds traffic.now (showing shown) near.now far.now result (W.written sink.old) (W.written sink.new) }
     ensures fault { IfErr result (IsFaultOfEnds near.now far.now) }
     ensures failed { IfErr result (λ fault. fault ≡ Fault.Write → W.failures sink.new ≢ W.failures sink.old) }
     ensures sound { OnOk result (W.failures sink.new ≡ W.failures sink.old) }
 {
-    match text_of(alloc, near, far, per_link) {
-        Ok(text) => write_all(sink, &text),
+    match report_on(alloc, traffic, near, far, shown) {
+        Ok(report) => match write_all(sink, &report.text) {
+            Ok(()) => Ok(report.missing),
+            Err(fault) => Err(fault),
+        },
         Err(_) => Err(Fault::Memory),
     }
+}
+
+/// The text about these ends, with what is to be shown, and the first message that is missing, if a report is asked for.
+fn report_on(
+    alloc: Global,
+    traffic: &Traffic,
+    near: &[SetEnd],
+    far: &[SetEnd],
+    shown: Shown,
+) -> Result<Report, AllocError>
+    requires ends { All IsAnEnd near.now × All IsAnEnd far.now }
+    requires few { (length near.now ≤ 16) × (length far.now ≤ 16) }
+    ensures missing { IfOk result (λ report. IsMissing shown.report traffic.now far.now report.missing) }
+    ensures text { IfOk result (λ report. report.text.items
+        ≡ shown_text (showing shown) near.now far.now report.missing) }
+{
+    let mut text = text_of(alloc, near, far, shown.per_link)?;
+    if !shown.report {
+        return Ok(Report {
+            text,
+            missing: None,
+        });
+    }
+    let report = report_of(alloc, traffic, near, far, shown.time)?;
+    text.extend_from_slice(&report.text)?;
+    Ok(Report {
+        text,
+        missing: report.missing,
+    })
 }
 
 /// The text about these ends.

@@ -10,6 +10,13 @@ use Rattle.set_events.specs.declared.fault.SetFault.{SetFault}
 use Rattle.set_crew.specs.Jobs.{Calls}
 use Rattle.set_crew.specs.Seats.{link_in}
 use Rattle.set_events.specs.declared.history.Entry.{Entry}
+use Rattle.std.specs.Prelude.{Option}
+use Rattle.set_crew.specs.declared.carried.Carried.{Carried}
+use Rattle.set_crew.specs.declared.plan.Managed.{Managed}
+use Rattle.set_crew.specs.Carrying.{carried_in, carried_more}
+use Rattle.set_crew.specs.Managing.{are_marks, is_mark}
+use Rattle.set_crew.proofs.Bearing.{carried_on}
+use Rattle.set_crew.proofs.Marking.{marks_more}
 use Rattle.set_crew.specs.declared.report.Answered.{Answered}
 use Rattle.set_crew.specs.Counts.{answered_in, came_up, counted, counts_message, counts_up, taken_on}
 
@@ -74,3 +81,16 @@ module _ (who : Actor) (event : Event) (result : Result Answer SetFault) (answer
       let here : link_in who ≡ link = ap link_in is_link in
       answered_more (link_in who) old new who event answer counts after before (count ∙ ap (λ n. counted n event answer counts) (sym here)) made
       ∙ ap (λ (w : Actor). answered_in (link_in w) new) (sym same)
+
+  pub step_carried : (managed : Option Managed) (carried carried' : Carried) (who' : Actor) (link : ℕ) → who' ≡ who → who ≡ Terminal link → carried ≡ carried_in managed (link_in who) old → carried' ≡ carried_more managed link event answer carried
+      → carried' ≡ carried_in managed (link_in who') new
+  step_carried managed carried carried' who' link same is_link was more =
+      let here : link ≡ link_in who = sym (ap link_in is_link) in
+      more ∙ ap (carried_more managed link event answer) was ∙ ap (λ n. carried_more managed n event answer (carried_in managed (link_in who) old)) here
+      ∙ carried_on (link_in who) who event answer managed old ∙ ap (carried_in managed (link_in who)) (sym made) ∙ ap (λ (w : Actor). carried_in managed (link_in w) new) (sym same)
+
+  pub step_marked : (marks marks' : List ℕ) (mark : ℕ) (who' : Actor) → who' ≡ who → are_marks (link_in who) old marks ≡ true → is_mark (link_in who) event mark ≡ true → marks' ≡ marks ++ mark ∷ []
+      → are_marks (link_in who') new marks' ≡ true
+  step_marked marks marks' mark who' same all one more =
+      ap (λ (w : Actor). are_marks (link_in w) new marks') same ∙ ap (λ (es : List Entry). are_marks (link_in who) es marks') made ∙ ap (λ (ms : List ℕ). are_marks (link_in who) (old ++ record { who = who; event = event; answer = answer } ∷ []) ms) more
+      ∙ marks_more (link_in who) old marks (record { who = who; event = event; answer = answer }) mark all one

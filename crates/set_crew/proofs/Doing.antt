@@ -18,8 +18,9 @@ use Rattle.set_crew.specs.declared.plan.Plan.{Plan}
 use Rattle.set_crew.specs.declared.terminal.ShiftOf.{ShiftOf}
 use Rattle.link_term.specs.declared.fault.TermFault.{TermFault}
 use Rattle.set_crew.specs.declared.report.ShiftReport.{ShiftReport}
+use Rattle.set_crew.specs.declared.report.UserReport.{UserReport}
 use Rattle.set_crew.specs.declared.user.JobOf.{JobOf}
-use Rattle.set_crew.specs.Jobs.{DidJobs, Does, Duty, duty_of, first_or, no_duty}
+use Rattle.set_crew.specs.Jobs.{DidJobs, DoesJob, Duty, duty_of, first_or, no_duty}
 use Rattle.set_crew.specs.Keeping.{AreJobs, AreKept, AreNew, AreShifts, KeepsJob, KeepsShift}
 use Rattle.set_crew.specs.Seats.{AreAll, AreCalls}
 use Rattle.set_crew.specs.Shifts.{DidShifts, DoesShift}
@@ -98,16 +99,16 @@ all_calls who seat all books history same are is =
       all_before = omega (arith, gone, stood, length-append are.forgotten is.before);
     })
 
-did_one : (user number : ℕ) (seat : SeatState) (duty duty' : Duty) (told : Result (Unit {0}) UserFault) (books : Books) (history : List Entry) → number ≡ user → seat.who ≡ User number → duty ≡ duty' → IsFaithful books history seat
-    → (all : List Entry) × AreAll seat all × Does (User number) duty told [] all → (calls : List Entry) × AreCalls (User user) books history calls × Does (User user) duty' told [] calls
+did_one : (user number : ℕ) (seat : SeatState) (duty duty' : Duty) (told : Result UserReport UserFault) (books : Books) (history : List Entry) → number ≡ user → seat.who ≡ User number → duty ≡ duty' → IsFaithful books history seat
+    → (all : List Entry) × AreAll seat all × DoesJob (User number) duty told all → (calls : List Entry) × AreCalls (User user) books history calls × DoesJob (User user) duty' told calls
 did_one user number seat duty duty' told books history same is duties faithful does = (
   does.0,
   all_calls (User user) seat does.0 books history (is ∙ ap User same) does.1 faithful,
-  subst (λ (n : ℕ). Does (User n) duty' told [] does.0) same (subst (λ (d : Duty). Does (User number) d told [] does.0) duties does.2),
+  subst (λ (n : ℕ). DoesJob (User n) duty' told does.0) same (subst (λ (d : Duty). DoesJob (User number) d told does.0) duties does.2),
 )
 
-pub did_jobs : (user : ℕ) (jobs : List Duty) (ps : List JobOf) (ends : List (Ended SeatState (Result (Unit {0}) UserFault))) (books : Books) (history : List Entry) → AreJobs user jobs ps → AllZip KeepsJob ps ends
-    → All (IsFaithful books history) (map (λ (end : Ended SeatState (Result (Unit {0}) UserFault)). end.seat) ends) → DidJobs user jobs (map (λ (end : Ended SeatState (Result (Unit {0}) UserFault)). end.told) ends) books history
+pub did_jobs : (user : ℕ) (jobs : List Duty) (ps : List JobOf) (ends : List (Ended SeatState (Result UserReport UserFault))) (books : Books) (history : List Entry) → AreJobs user jobs ps → AllZip KeepsJob ps ends
+    → All (IsFaithful books history) (map (λ (end : Ended SeatState (Result UserReport UserFault)). end.seat) ends) → DidJobs user jobs (map (λ (end : Ended SeatState (Result UserReport UserFault)). end.told) ends) books history
 did_jobs user jobs [] [] books history are each faithful = tt
 did_jobs user jobs [] (end ∷ ends) books history are each faithful = absurd each
 did_jobs user jobs (p ∷ ps) [] books history are each faithful = absurd each

@@ -12,10 +12,11 @@ use Rattle.set_crew.specs.Shifts.{DidShifts}
 use Rattle.set_crew.specs.declared.crew.Ended.{Ended}
 use Rattle.link_term.specs.declared.fault.TermFault.{TermFault}
 use Rattle.set_crew.specs.declared.report.ShiftReport.{ShiftReport}
+use Rattle.set_crew.specs.declared.report.UserReport.{UserReport}
 use Rattle.set_crew.proofs.Doing.{asked_nothing, did_jobs, did_shifts, many_kept}
 
 pub is_done : (task : Task) (result : Result SetEnd CrewFault) (many links : ℕ) (users terminals : List SeatState)
-    (told : List (Result (Unit {0}) UserFault)) (reports : List (Result ShiftReport TermFault))
+    (told : List (Result UserReport UserFault)) (reports : List (Result ShiftReport TermFault))
     → IfOk result (IsEndOf task.config) → IfOk result (λ end. (end.users.items ≡ told) × All (IsFaithful end.closed.base.books end.closed.history.items) users)
     → IfOk result (λ end. All (IsFaithful end.closed.base.books end.closed.history.items) terminals) → IfOk result (λ end. end.reports.items ≡ reports)
     → AreUsers many task.jobs users told → many ≡ task.users
@@ -33,7 +34,7 @@ is_done task (Ok end) many links users terminals told reports closed of_users of
     record {
       closed = closed;
       users = ap length of_users.0 ∙ many_kept KeepsJob us.promises users told us.kept ∙ us.promised.many ∙ all_users;
-      jobs = subst (λ (ends : List (Result (Unit {0}) UserFault)). DidJobs 0 task.jobs ends books history) (sym (of_users.0 ∙ us.kept.told_are)) jobs;
+      jobs = subst (λ (ends : List (Result UserReport UserFault)). DidJobs 0 task.jobs ends books history) (sym (of_users.0 ∙ us.kept.told_are)) jobs;
       terminals = ap length of_reports ∙ count ∙ them.promised.many ∙ ap (min task.lines) all_links;
       shifts = subst (λ (ends : List (Result ShiftReport TermFault)). DidShifts 0 task.plan ends books history) (sym (of_reports ∙ kept.told_are)) shifts.0;
       idle = λ link from to.

@@ -1,9 +1,12 @@
 pub mod Asking
+pub mod Bearing
 pub mod Calling
 pub mod Configs
 pub mod Counting
 pub mod Doing
 pub mod Done
 pub mod Ending
+pub mod Keeping
+pub mod Marking
 pub mod Running
 pub mod Taking

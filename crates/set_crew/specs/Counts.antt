@@ -9,6 +9,7 @@ use Rattle.set_events.specs.declared.event.Event.TheVariants.{Heard, Up}
 use Rattle.set_events.specs.declared.history.Entry.{Entry}
 use Rattle.term_model.specs.declared.report.TermReport.{TermReport}
 use Rattle.link_term.specs.declared.fault.TermFault.{TermFault}
+use Rattle.set_crew.specs.declared.carried.Carried.{Carried}
 use Rattle.set_crew.specs.declared.report.Answered.{Answered}
 use Rattle.set_crew.specs.declared.report.ShiftReport.{ShiftReport}
 
@@ -60,6 +61,6 @@ abbrev pub answered_in : ℕ → List Entry → Answered
 answered_in link entries = record { came_up = came_up link entries; messages = taken_on link entries }
 
 -- what turns came to
-abbrev pub reported : Answered → Result TermReport TermFault → Result ShiftReport TermFault
-reported answered (Ok turns) = Ok (record { turns = turns; answered = answered })
-reported answered (Err fault) = Err fault
+abbrev pub reported : Answered → Carried → Result TermReport TermFault → Result ShiftReport TermFault
+reported answered carried (Ok turns) = Ok (record { turns = turns; answered = answered; carried = carried })
+reported answered carried (Err fault) = Err fault

@@ -1,7 +1,7 @@
 -- WHAT A USER DOES, as the entries that its calls leave in the set's history.
-use Rattle.std.specs.Prelude.{◌≡◌, ℕ, zero, suc, List, [], ◌∷◌, ◌++◌, map, drop, Option, None, Some, MatchOption, Result, Ok, Err}
+use Rattle.std.specs.Prelude.{◌≡◌, ℕ, zero, suc, List, [], ◌∷◌, ◌++◌, map, drop, Option, None, Some, MatchOption, Result, Ok, Err, IfOk}
 use Rattle.set_events.specs.declared.answer.Answer.{Answer}
-use Rattle.set_events.specs.declared.answer.Answer.TheVariants.{Accepted, Found, Refused}
+use Rattle.set_events.specs.declared.answer.Answer.TheVariants.{Accepted, Found, Refused, Taken}
 use Rattle.set_events.specs.declared.event.Actor.{Actor}
 use Rattle.set_events.specs.declared.event.Actor.TheVariants.{User}
 use Rattle.set_events.specs.declared.event.Event.{Event}
@@ -11,9 +11,10 @@ use Rattle.set_events.specs.declared.history.Entry.{Entry}
 use Rattle.set_events.specs.declared.answer.Refusal.TheVariants.{Finished}
 use Rattle.set_events.specs.declared.books.Books.{Books}
 use Rattle.set_crew.specs.declared.plan.Job.{Job}
-use Rattle.set_crew.specs.declared.plan.Job.TheVariants.{Offer as OfferAll, Take}
+use Rattle.set_crew.specs.declared.plan.Job.TheVariants.{Collect, Offer as OfferAll, Take}
 use Rattle.set_crew.specs.declared.fault.UserFault.{UserFault}
 use Rattle.set_crew.specs.declared.fault.UserFault.TheVariants.{NotFound}
+use Rattle.set_crew.specs.declared.report.UserReport.{UserReport}
 use Rattle.set_crew.specs.Faults.{fault_of}
 use Rattle.set_crew.specs.Seats.{AreCalls}
 
@@ -87,18 +88,52 @@ abbrev pub Takes : Actor → ℕ → Deed
 Takes who zero = Nothing
 Takes who (suc n) = AndThen (TakesOne who) (Takes who n)
 
--- A JOB, as it's seen: to offer these bodies, or to take so often
+-- A JOB, as it's seen: to offer these bodies, or to take so often, or to take so often and keep what was taken
 pub data Duty : Type 0 where
   offers : List (List ℕ) → Duty
   takes : ℕ → Duty
+  collects : ℕ → Duty
 
 abbrev pub duty_of : Job → Duty
 duty_of (OfferAll bodies) = offers (map (λ body. body.items) bodies.items)
 duty_of (Take times) = takes times
+duty_of (Collect times) = collects times
 
 abbrev pub Does : Actor → Duty → Deed
 Does who (offers bodies) = Offers who bodies
 Does who (takes times) = Takes who times
+Does who (collects times) = Takes who times
+
+-- WHAT WAS TAKEN, oldest first
+abbrev pub body_in : Answer → List (List ℕ)
+body_in (Taken body) = body.items ∷ []
+body_in answer = []
+
+abbrev pub bodies_of : Result Answer SetFault → List (List ℕ)
+bodies_of (Ok answer) = body_in answer
+bodies_of (Err fault) = []
+
+abbrev pub taken_in : List Entry → List (List ℕ)
+taken_in [] = []
+taken_in (entry ∷ entries) = body_in entry.answer ++ taken_in entries
+
+-- WHAT IS REPORTED of a job: how it ended, and what was kept
+abbrev pub ended_by : Result UserReport UserFault → Result (Unit {0}) UserFault
+ended_by (Ok report) = Ok tt
+ended_by (Err fault) = Err fault
+
+abbrev pub kept_by : UserReport → List (List ℕ)
+kept_by report = map (λ body. body.items) report.taken.items
+
+abbrev pub kept_of : Duty → List Entry → List (List ℕ)
+kept_of (offers bodies) calls = []
+kept_of (takes times) calls = []
+kept_of (collects times) calls = taken_in calls
+
+-- A USER DID ITS JOB, by these calls
+pub record DoesJob (who : Actor) (duty : Duty) (told : Result UserReport UserFault) (calls : List Entry) : Type 0 where
+  pub does : Does who duty (ended_by told) [] calls
+  pub kept : IfOk told (λ (report : UserReport). kept_by report ≡ kept_of duty calls)
 
 -- a user that has no job makes no call
 abbrev pub no_duty : Duty
@@ -109,8 +144,8 @@ first_or none [] = none
 first_or none (x ∷ xs) = x
 
 -- THE USERS, from this number on, each did its own job, and nothing else
-abbrev pub DidJobs : ℕ → List Duty → List (Result (Unit {0}) UserFault) → Books → List Entry → Type 0
+abbrev pub DidJobs : ℕ → List Duty → List (Result UserReport UserFault) → Books → List Entry → Type 0
 DidJobs user jobs [] books history = Unit {0}
-DidJobs user jobs (ended ∷ more) books history =
-    ((calls : List Entry) × AreCalls (User user) books history calls × Does (User user) (first_or no_duty jobs) ended [] calls)
+DidJobs user jobs (told ∷ more) books history =
+    ((calls : List Entry) × AreCalls (User user) books history calls × DoesJob (User user) (first_or no_duty jobs) told calls)
     × DidJobs (suc user) (drop 1 jobs) more books history

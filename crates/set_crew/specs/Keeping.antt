@@ -5,13 +5,14 @@ use Rattle.set_ledger.specs.Seats.{SeatState, new_seat}
 use Rattle.set_events.specs.declared.event.Actor.{Actor}
 use Rattle.set_events.specs.declared.event.Actor.TheVariants.{User, Terminal}
 use Rattle.set_crew.specs.declared.report.ShiftReport.{ShiftReport}
+use Rattle.set_crew.specs.declared.report.UserReport.{UserReport}
 use Rattle.link_term.specs.declared.fault.TermFault.{TermFault}
 use Rattle.set_crew.specs.declared.crew.Ended.{Ended}
 use Rattle.set_crew.specs.declared.plan.Plan.{Plan}
 use Rattle.set_crew.specs.declared.user.JobOf.{JobOf}
 use Rattle.set_crew.specs.declared.terminal.ShiftOf.{ShiftOf}
 use Rattle.set_crew.specs.declared.fault.UserFault.{UserFault}
-use Rattle.set_crew.specs.Jobs.{Does, Duty, duty_of, first_or, no_duty}
+use Rattle.set_crew.specs.Jobs.{DoesJob, Duty, duty_of, first_or, no_duty}
 use Rattle.set_events.specs.declared.history.Entry.{Entry}
 use Rattle.set_crew.specs.Seats.{AreAll}
 use Rattle.set_crew.specs.Shifts.{DoesShift}
@@ -36,9 +37,9 @@ AreJobs user jobs (promise ∷ promises) =
     ((promise.user ≡ user) × (duty_of promise.job.value ≡ first_or no_duty jobs)) × AreJobs (suc user) (drop 1 jobs) promises
 
 -- A USER'S THREAD keeps its promise: all that was asked at its seat are the calls of its job.
-abbrev pub KeepsJob : JobOf → Ended SeatState (Result (Unit {0}) UserFault) → Type 0
+abbrev pub KeepsJob : JobOf → Ended SeatState (Result UserReport UserFault) → Type 0
 KeepsJob promise end = (end.seat.who ≡ User promise.user)
-    × ((all : List Entry) × AreAll end.seat all × Does (User promise.user) (duty_of promise.job.value) end.told [] all)
+    × ((all : List Entry) × AreAll end.seat all × DoesJob (User promise.user) (duty_of promise.job.value) end.told all)
 
 -- A TERMINAL'S: it's what its turns asked.
 abbrev pub KeepsShift : ShiftOf → Ended SeatState (Result ShiftReport TermFault) → Type 0
@@ -65,7 +66,7 @@ pub record PromiseJobs (users : ℕ) (jobs : List Duty) (promises : List JobOf) 
   pub are : AreJobs 0 jobs promises
 
 -- WHAT WAS GATHERED: each user did its job
-pub record AreUsers (users : ℕ) (jobs : List Duty) (seats : List SeatState) (told : List (Result (Unit {0}) UserFault))
+pub record AreUsers (users : ℕ) (jobs : List Duty) (seats : List SeatState) (told : List (Result UserReport UserFault))
     : Type 0 where
   pub promises : List JobOf
   pub promised : PromiseJobs users jobs promises

@@ -1,7 +1,9 @@
+pub mod Carrying
 pub mod Counts
 pub mod Ends
 pub mod Faults
 pub mod Jobs
 pub mod Keeping
+pub mod Managing
 pub mod Seats
 pub mod Shifts

@@ -11,9 +11,13 @@ use Rattle.term_model.specs.Terminal.{Terminal, opened, told}
 use Rattle.link_term.specs.declared.fault.TermFault.{TermFault}
 use Rattle.link_term.specs.Looking.{Seen}
 use Rattle.link_term.specs.Running.{Runs, RunFails}
+use Rattle.set_crew.specs.declared.manager.LinkOrder.{LinkOrder}
+use Rattle.set_crew.specs.declared.plan.Managed.{Managed}
 use Rattle.set_crew.specs.declared.plan.Plan.{Plan}
 use Rattle.set_crew.specs.declared.report.ShiftReport.{ShiftReport}
+use Rattle.set_crew.specs.Carrying.{carried_in}
 use Rattle.set_crew.specs.Counts.{answered_in, reported}
+use Rattle.set_crew.specs.Managing.{are_marks, of_turns}
 use Rattle.set_crew.specs.Seats.{AreCalls}
 
 -- how a terminal stands: the octets that it took, its inside, its entries, its set's faults, and what it saw of its line
@@ -79,18 +83,60 @@ abbrev pub TurnsBy : Bool → ℕ → Result TermReport TermFault → Standing �
 TurnsBy true = Halves
 TurnsBy false = Turns
 
+-- WHAT IS ORDERED of a terminal between two slices of its turns
+abbrev pub told_by : LinkOrder → Terminal → Terminal
+told_by LinkOrder.Run t = t
+told_by LinkOrder.Start t = told Start (told Emergency t)
+told_by LinkOrder.Stop t = told Stop t
+told_by LinkOrder.End t = t
+
+abbrev pub ordered : LinkOrder → Standing → Standing
+ordered order t = record t { inside = told_by order t.inside }
+
+-- A SLICE: so many turns, behind an order
+abbrev pub Slice : LinkOrder → ℕ → Result TermReport TermFault → Standing → Standing → Type 0
+Slice order turns ended before after = Turns turns ended (ordered order before) after
+
+-- slices one after another, each of at least one turn and all together of so many at most; what they counted is added to
+-- what was counted before, up to the first that a fault broke off
+pub data SlicesFrom : ℕ → TermReport → Result TermReport TermFault → Standing → Standing → Type 0 where
+  no_more : (most : ℕ) (counted : TermReport) (at : Standing) → SlicesFrom most counted (Ok counted) at at
+  broken_off : (most turns : ℕ) (order : LinkOrder) (counted : TermReport) (fault : TermFault) (before after : Standing)
+      → turns ≤ most → Slice order turns (Err fault) before after → SlicesFrom most counted (Err fault) before after
+  one_more : (most turns : ℕ) (order : LinkOrder) (counted report : TermReport) (ended : Result TermReport TermFault)
+      (before between after : Standing) → 0 < turns → turns ≤ most → Slice order turns (Ok report) before between
+      → SlicesFrom (most - turns) (both counted report) ended between after → SlicesFrom most counted ended before after
+
+abbrev pub no_turns : TermReport
+no_turns = record { turns = 0; sent = 0; good = 0; bad = 0; sixteen = 0; cause = 0 }
+
+-- SLICES of turns
+abbrev pub Slices : ℕ → Result TermReport TermFault → Standing → Standing → Type 0
+Slices turns = SlicesFrom turns no_turns
+
+-- THE TURNS OF A SHIFT: by slices where links are managed
+abbrev pub TurnsWhere : Option Managed → Bool → ℕ → Result TermReport TermFault → Standing → Standing → Type 0
+TurnsWhere None fails turns = TurnsBy fails turns
+TurnsWhere (Some managed) fails turns = Slices turns
+
+abbrev pub TurnsOf : Plan → ℕ → Result TermReport TermFault → Standing → Standing → Type 0
+TurnsOf plan link = TurnsWhere plan.managed (is_to_fail plan.fail link) plan.turns
+
 -- a terminal that did nothing yet, and is told to come up in an emergency
 abbrev pub fresh : ℕ → Timers → Seen → Standing
 fresh link timers line = standing [] (told Start (told Emergency (opened link timers))) [] [] line
 
--- A SHIFT: all turns of the plan over some line, which left these entries, and what is reported of both
+-- A SHIFT: the turns of the plan over some line left these entries, or, where links are managed, those of them that level
+-- 3 didn't ask for; and what is reported of both
 pub record DoesShift (plan : Plan) (link : ℕ) (ended : Result ShiftReport TermFault) (made : List Entry) : Type 0 where
   pub line : Seen
   pub after : Standing
   pub counts : Result TermReport TermFault
-  pub turns : TurnsBy (is_to_fail plan.fail link) plan.turns counts (fresh link plan.timers line) after
-  pub made_is : made ≡ after.made
-  pub ended_is : ended ≡ reported (answered_in link made) counts
+  pub turns : TurnsOf plan link counts (fresh link plan.timers line) after
+  pub marks : List ℕ
+  pub marks_are : are_marks link made marks ≡ true
+  pub made_is : of_turns plan.managed marks made ≡ after.made
+  pub ended_is : ended ≡ reported (answered_in link made) (carried_in plan.managed link made) counts
 
 -- THE TERMINALS, from this link on, each took its own turns, and asked the set nothing else
 abbrev pub DidShifts : ℕ → Plan → List (Result ShiftReport TermFault) → Books → List Entry → Type 0

@@ -6,7 +6,7 @@ ghost use Rattle.set_crew.specs.Keeping.{AreKept, GathersTerminals, KeepsJob};
 ghost use Rattle.set_crew.specs.declared.fault.CrewFault.TheVariants.{NoMemory, NoThread};
 
 use super::fault::{CrewFault, UserFault};
-use super::report::ShiftReport;
+use super::report::{ShiftReport, UserReport};
 use super::terminal::ShiftOf;
 use super::user::JobOf;
 use link_term::TermFault;
@@ -23,8 +23,8 @@ pub(crate) struct Ended<S: Drop, T: Drop> {
     pub(crate) told: T,
 }
 
-/// A user's seat, and why the user ended early, if it did.
-pub(crate) type UserEnd<C, M, O, A> = Ended<UserSeat<C, M, O, A>, Result<(), UserFault>>;
+/// A user's seat, and what the user reports, or why it ended early.
+pub(crate) type UserEnd<C, M, O, A> = Ended<UserSeat<C, M, O, A>, Result<UserReport, UserFault>>;
 
 /// A terminal's seat, and what its turns came to, or why they ended early.
 pub(crate) type TermEnd<C, M, O, A> = Ended<TermSeat<C, M, O, A>, Result<ShiftReport, TermFault>>;
@@ -47,7 +47,7 @@ pub(crate) struct Crew<C: Opening, M: Ledger, O: Ledger, A: Ledger> {
 #[derive(Drop)]
 pub(crate) struct Gathered<C: Opening, M: Ledger, O: Ledger, A: Ledger> {
     pub(crate) users: Vec<UserSeat<C, M, O, A>>,
-    pub(crate) user_ends: Vec<Result<(), UserFault>>,
+    pub(crate) user_ends: Vec<Result<UserReport, UserFault>>,
     pub(crate) terminals: Vec<TermSeat<C, M, O, A>>,
     pub(crate) reports: Vec<Result<ShiftReport, TermFault>>,
 }

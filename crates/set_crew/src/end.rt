@@ -1,7 +1,7 @@
 //! What a set came to.
 
 use super::fault::UserFault;
-use super::report::ShiftReport;
+use super::report::{ShiftReport, UserReport};
 use link_term::TermFault;
 use set_shared::Closed;
 
@@ -12,6 +12,6 @@ pub struct SetEnd {
     pub closed: Closed,
     /// What the turns of each terminal came to, by the links' numbers, or why they ended early.
     pub reports: Vec<Result<ShiftReport, TermFault>>,
-    /// That each user did its job, by the users' numbers, or why it ended early.
-    pub users: Vec<Result<(), UserFault>>,
+    /// What each user reports that did its job, by the users' numbers, or why it ended early.
+    pub users: Vec<Result<UserReport, UserFault>>,
 }

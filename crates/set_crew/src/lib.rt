@@ -16,24 +16,32 @@
 #![tactic(auto)]
 
 mod caller;
+mod carried;
+mod collecting;
 mod crew;
 mod end;
 mod fault;
+mod manager;
 mod orders;
+mod pauses;
 mod plan;
+mod questions;
 mod report;
 mod seat_door;
 mod set_thread;
+mod slices;
 mod terminal;
 mod user;
 mod work;
 
+pub use carried::Carried;
 pub use crew::{ask_for_stack, why_unstarted};
 pub use end::SetEnd;
 pub use fault::{CrewFault, UserFault};
+pub use manager::{LinkManager, LinkOrder};
 pub use orders::Orders;
-pub use plan::{Job, Plan};
-pub use report::{Answered, ShiftReport};
+pub use plan::{Job, Managed, Plan};
+pub use report::{Answered, ShiftReport, UserReport};
 pub use seat_door::SeatDoor;
 pub use set_thread::one_set;
 pub use work::Work;

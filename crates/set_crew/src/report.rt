@@ -2,6 +2,8 @@
 ghost use Rattle.std.specs.Prelude.{◌≡◌, ◌+◌, ◌<◌, ◌^◌};
 ghost use Rattle.set_crew.specs.Counts.{counted, counts_up, counts_message, is_done, is_heard, is_up, reported, took_message};
 
+use super::carried::Carried;
+use arrayvec::ArrayVec;
 use link_term::{TermFault, TermReport};
 use set_events::{Answer, Event, Took};
 
@@ -12,6 +14,15 @@ pub struct ShiftReport {
     pub turns: TermReport,
     /// What the set answered meanwhile.
     pub answered: Answered,
+    /// What the link carried meanwhile.
+    pub carried: Carried,
+}
+
+/// What the calls of a user came to.
+#[derive(Debug, Drop)]
+pub struct UserReport {
+    /// The bodies of the messages that it took and kept, oldest first.
+    pub taken: Vec<ArrayVec<u8, 273>>,
 }
 
 /// What a set answered to the terminal of a link, counted as it happens, so that no checkpoint takes it away.
@@ -50,31 +61,36 @@ impl Answered {
 pub(crate) fn reported(
     turns: Result<TermReport, TermFault>,
     answered: Answered,
+    carried: Carried,
 ) -> Result<ShiftReport, TermFault>
-    ensures { result ≡ reported answered turns }
+    ensures { result ≡ reported answered carried turns }
 {
     match turns {
-        Ok(turns) => Ok(ShiftReport { turns, answered }),
+        Ok(turns) => Ok(ShiftReport {
+            turns,
+            answered,
+            carried,
+        }),
         Err(fault) => Err(fault),
     }
 }
 
 /// Whether the link came up: Done was answered to its Up.
-fn counts_up(link: u8, event: &Event, answer: &Answer) -> bool
+pub(crate) fn counts_up(link: u8, event: &Event, answer: &Answer) -> bool
     ensures { result ≡ counts_up link event.now answer.now }
 {
     tells_up(link, event) && was_done(answer)
 }
 
 /// Whether a message was heard on the link and accepted.
-fn counts_message(link: u8, event: &Event, answer: &Answer) -> bool
+pub(crate) fn counts_message(link: u8, event: &Event, answer: &Answer) -> bool
     ensures { result ≡ counts_message link event.now answer.now }
 {
     was_heard(link, event) && accepted_message(answer)
 }
 
 /// Whether the terminal of this link tells that it's in service.
-fn tells_up(link: u8, event: &Event) -> bool
+pub(crate) fn tells_up(link: u8, event: &Event) -> bool
     ensures { result ≡ is_up link event.now }
 {
     match event {
@@ -94,7 +110,7 @@ fn was_heard(link: u8, event: &Event) -> bool
 }
 
 /// Whether it was done.
-fn was_done(answer: &Answer) -> bool
+pub(crate) fn was_done(answer: &Answer) -> bool
     ensures { result ≡ is_done answer.now }
 {
     matches!(answer, Answer::Done)

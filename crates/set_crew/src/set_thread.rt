@@ -14,13 +14,13 @@ ghost use Rattle.set_crew.specs.Keeping.{AreNew, AreTerminals, AreUsers, Promise
 use super::crew::{Crew, Gathered, TermThread, UserThread, start_thread};
 use super::end::SetEnd;
 use super::fault::CrewFault;
+use super::manager::LinkManager;
 use super::orders::Orders;
 use super::plan::Job;
 use super::terminal::{ShiftOf, TermShift};
 use super::user::{JobOf, UserShift};
 use super::work::Work;
 use line_ring::Line;
-use link_term::Gate;
 use set_events::SetConfig;
 use set_shared::{Blanks, Closed, LinkSet, Opened, Opening, TermSeat, UserSeat};
 use std::alloc::Global;
@@ -30,6 +30,7 @@ use std::sync::Wait;
 use std::sync::ledger::{Blank, Ledger};
 use std::thread;
 use std::thread::{Scope, Threads};
+use std::time::Clock;
 use std::vec::IntoIter;
 
 /// The seats of a set, with what is to be done at them.
@@ -48,11 +49,11 @@ struct Seats<C: Opening, M: Ledger, O: Ledger, A: Ledger, L: Drop> {
 ///
 /// Faults, once all threads that were started have ended: [`CrewFault::NoMemory`], [`CrewFault::NoThread`],
 /// [`CrewFault::Unclosed`].
-pub fn one_set<L: Line + Drop + Send, G: Gate + Drop + Send + Sync, R: Threads + Wait + Sync>(
-    rt: &R,
-    alloc: Global,
-    work: Work<L, G>,
-) -> Result<SetEnd, CrewFault>
+pub fn one_set<
+    L: Line + Drop + Send,
+    G: LinkManager + Drop + Send + Sync,
+    R: Threads + Wait + Clock + Sync,
+>(rt: &R, alloc: Global, work: Work<L, G>) -> Result<SetEnd, CrewFault>
     ensures { IfOk result (IsDone (task_of work.config work.users (vec_len work.lines) (map duty_of work.jobs.items) work.orders.plan)) }
 {
     let users = u64::from(work.users);
@@ -73,8 +74,8 @@ fn run_set<
     O: Ledger + Send + Sync,
     A: Ledger + Send + Sync,
     L: Line + Drop + Send,
-    G: Gate + Drop + Send + Sync,
-    R: Threads + Wait + Sync,
+    G: LinkManager + Drop + Send + Sync,
+    R: Threads + Wait + Clock + Sync,
 >(rt: &R, alloc: Global, work: Work<L, G>, blanks: Blanks) -> Result<SetEnd, CrewFault>
     requires calls { Names blanks.calls C.name C.parts }
     requires messages { Names blanks.messages M.name M.parts }
@@ -98,8 +99,8 @@ fn run_opened<
     O: Ledger + Send + Sync,
     A: Ledger + Send + Sync,
     L: Line + Drop + Send,
-    G: Gate + Drop + Send + Sync,
-    R: Threads + Wait + Sync,
+    G: LinkManager + Drop + Send + Sync,
+    R: Threads + Wait + Clock + Sync,
 >(rt: &R, alloc: Global, opened: Opened<C, M, O, A>, work: Work<L, G>) -> Result<SetEnd, CrewFault>
     requires users { opened.users.items ≡ new_seats User work.users }
     requires terminals { opened.terminals.items ≡ new_seats Terminal work.config.links }
@@ -179,8 +180,8 @@ fn run_seats<
     O: Ledger + Send + Sync,
     A: Ledger + Send + Sync,
     L: Line + Drop + Send,
-    G: Gate + Drop + Send + Sync,
-    R: Threads + Wait + Sync,
+    G: LinkManager + Drop + Send + Sync,
+    R: Threads + Wait + Clock + Sync,
 >(
     rt: &R,
     alloc: Global,
@@ -223,8 +224,8 @@ fn start_all<
     O: Ledger + Send + Sync + 's,
     A: Ledger + Send + Sync + 's,
     L: Line + Drop + Send + 's,
-    G: Gate + Drop + Send + Sync + 's,
-    R: Threads + Wait + Sync + 's,
+    G: LinkManager + Drop + Send + Sync + 's,
+    R: Threads + Wait + Clock + Sync + 's,
 >(
     scope: &'s Scope<'s, &'e ()>,
     rt: &'s R,
@@ -265,8 +266,8 @@ fn start_terminals<
     O: Ledger + Send + Sync + 's,
     A: Ledger + Send + Sync + 's,
     L: Line + Drop + Send + 's,
-    G: Gate + Drop + Send + Sync + 's,
-    R: Threads + Wait + Sync + 's,
+    G: LinkManager + Drop + Send + Sync + 's,
+    R: Threads + Wait + Clock + Sync + 's,
 >(
     scope: &'s Scope<'s, &'e ()>,
     rt: &'s R,
@@ -311,8 +312,8 @@ fn start_users<
     M: Ledger + Send + Sync + 's,
     O: Ledger + Send + Sync + 's,
     A: Ledger + Send + Sync + 's,
-    G: Gate + Drop + Send + Sync + 's,
-    R: Threads + Wait + Sync + 's,
+    G: LinkManager + Drop + Send + Sync + 's,
+    R: Threads + Wait + Clock + Sync + 's,
 >(
     scope: &'s Scope<'s, &'e ()>,
     rt: &'s R,

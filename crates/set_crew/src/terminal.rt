@@ -3,13 +3,15 @@ ghost use Rattle.std.specs.Prelude.{◌≡◌, ◌≤◌, ◌^◌, false, List, 
 ghost use Rattle.link_term.specs.Looking.{seen};
 ghost use Rattle.set_events.specs.declared.history.Entry.{Entry};
 ghost use Rattle.set_crew.specs.Seats.{AreAll, link_in};
-ghost use Rattle.set_crew.specs.Shifts.{AfterHalf, DoesShift, Halves, Turns, TurnsBy, both, is_to_fail, standing, with_first};
+ghost use Rattle.set_crew.specs.Shifts.{AfterHalf, DoesShift, Halves, Turns, TurnsBy, TurnsOf, both, is_to_fail, standing, with_first};
 
 use super::crew::{Ended, TermEnd};
+use super::manager::LinkManager;
 use super::orders::{Lent, Orders};
 use super::plan::Plan;
 use super::report::reported;
 use super::seat_door::SeatDoor;
+use super::slices::managed_turns;
 use line_ring::Line;
 use link_term::{Command, Door, Gate, TermFault, TermReport, Terminal};
 use set_shared::{LinkSet, Opening, TermSeat};
@@ -40,7 +42,7 @@ pub(crate) struct TermShift<
     O: Ledger,
     A: Ledger,
     L: Line + Drop,
-    G: Gate,
+    G: LinkManager,
     R: Wait,
 > {
     pub(crate) rt: &'a R,
@@ -51,16 +53,16 @@ pub(crate) struct TermShift<
     pub(crate) orders: &'a Orders<G>,
 }
 
-impl<'a, C: Opening, M: Ledger, O: Ledger, A: Ledger, L: Line + Drop, G: Gate, R: Wait> TermShift<
+impl<
     'a,
-    C,
-    M,
-    O,
-    A,
-    L,
-    G,
-    R,
-> {
+    C: Opening,
+    M: Ledger,
+    O: Ledger,
+    A: Ledger,
+    L: Line + Drop,
+    G: LinkManager,
+    R: Wait,
+> TermShift<'a, C, M, O, A, L, G, R> {
     /// The terminal of the seat's link is told to come up in an emergency, and takes all its turns over the line. After
     /// a fault its seat comes back too.
     pub(crate) fn work(self) -> TermEnd<C, M, O, A>
@@ -79,18 +81,65 @@ impl<'a, C: Opening, M: Ledger, O: Ledger, A: Ledger, L: Line + Drop, G: Gate, R
             orders,
         } = self;
         let link = seat.link();
-        let door = SeatDoor::new(rt, alloc, set, orders.set, seat, &orders.gate);
+        let plan = &orders.plan;
+        let (managed, every) = (plan.managed, plan.steps_between());
+        let door = SeatDoor::new(
+            rt,
+            alloc,
+            set,
+            orders.set,
+            seat,
+            &orders.gate,
+            managed,
+            every,
+        );
         let gate = Lent { gate: &orders.gate };
-        let mut terminal = Terminal::new(door, line, gate, orders.set, link, orders.plan.timers);
+        let mut terminal = Terminal::new(door, line, gate, orders.set, link, plan.timers);
         terminal.command(Command::Emergency);
         terminal.command(Command::Start);
-        let report = all_turns(&mut terminal, link, &orders.plan);
+        let report = planned_turns(rt, set, orders, link, &mut terminal);
+        orders.gate.ended(orders.set, link);
         let (door, _line, _gate) = terminal.into_parts();
-        let told = reported(report, door.answered());
+        let told = reported(report, door.answered(), door.carried());
         let seat = door.into_seat();
         // it's the seat of that link still
         seat.link();
         Ended { seat, told }
+    }
+}
+
+/// The turns of a plan: by slices where links are managed.
+fn planned_turns<
+    C: Opening,
+    M: Ledger,
+    O: Ledger,
+    A: Ledger,
+    D: Door,
+    L: Line,
+    T: Gate,
+    G: LinkManager,
+    R: Wait,
+>(
+    rt: &R,
+    set: &LinkSet<C, M, O, A>,
+    orders: &Orders<G>,
+    link: u8,
+    terminal: &mut Terminal<D, L, T>,
+) -> Result<TermReport, TermFault>
+    requires failed { terminal.old.works.failed ≡ false }
+    ensures turns { TurnsOf orders.now.plan link result
+        (standing terminal.old.works.receiver terminal.old.works.inside (D.made terminal.old.door) (D.faults terminal.old.door)
+        (seen (L.taken_so_far terminal.old.line) (L.waiting terminal.old.line) (L.put_so_far terminal.old.line)
+        (L.free terminal.old.line)))
+        (standing terminal.new.works.receiver terminal.new.works.inside (D.made terminal.new.door) (D.faults terminal.new.door)
+        (seen (L.taken_so_far terminal.new.line) (L.waiting terminal.new.line) (L.put_so_far terminal.new.line)
+        (L.free terminal.new.line))) }
+    ensures number { D.number terminal.new.door ≡ D.number terminal.old.door }
+    ensures door { D.is_same terminal.old.door terminal.new.door }
+{
+    match orders.plan.managed {
+        None => all_turns(terminal, link, &orders.plan),
+        Some(_) => managed_turns(rt, set, orders, link, terminal),
     }
 }
 
@@ -109,6 +158,7 @@ fn all_turns<D: Door, L: Line, G: Gate>(
         (seen (L.taken_so_far terminal.new.line) (L.waiting terminal.new.line) (L.put_so_far terminal.new.line)
         (L.free terminal.new.line))) }
     ensures number { D.number terminal.new.door ≡ D.number terminal.old.door }
+    ensures door { D.is_same terminal.old.door terminal.new.door }
 {
     if plan.fail == Some(link) {
         both_halves(terminal, plan.turns)
@@ -132,6 +182,7 @@ fn both_halves<D: Door, L: Line, G: Gate>(
         (seen (L.taken_so_far terminal.new.line) (L.waiting terminal.new.line) (L.put_so_far terminal.new.line)
         (L.free terminal.new.line))) }
     ensures number { D.number terminal.new.door ≡ D.number terminal.old.door }
+    ensures door { D.is_same terminal.old.door terminal.new.door }
 {
     match so_many(terminal, turns / 2) {
         Ok(first) => after_half(terminal, turns, first),
@@ -155,6 +206,7 @@ fn after_half<D: Door, L: Line, G: Gate>(
         (seen (L.taken_so_far terminal.new.line) (L.waiting terminal.new.line) (L.put_so_far terminal.new.line)
         (L.free terminal.new.line))) }
     ensures number { D.number terminal.new.door ≡ D.number terminal.old.door }
+    ensures door { D.is_same terminal.old.door terminal.new.door }
 {
     terminal.command(Command::Stop);
     let second = so_many(terminal, turns - turns / 2);
@@ -162,7 +214,7 @@ fn after_half<D: Door, L: Line, G: Gate>(
 }
 
 /// So many turns.
-fn so_many<D: Door, L: Line, G: Gate>(
+pub(crate) fn so_many<D: Door, L: Line, G: Gate>(
     terminal: &mut Terminal<D, L, G>,
     turns: u64,
 ) -> Result<TermReport, TermFault>
@@ -176,6 +228,7 @@ fn so_many<D: Door, L: Line, G: Gate>(
         (seen (L.taken_so_far terminal.new.line) (L.waiting terminal.new.line) (L.put_so_far terminal.new.line)
         (L.free terminal.new.line))) }
     ensures number { D.number terminal.new.door ≡ D.number terminal.old.door }
+    ensures door { D.is_same terminal.old.door terminal.new.door }
     ensures goes_on { OnOk result (terminal.new.works.failed ≡ false) }
 {
     terminal.run(turns)
@@ -195,7 +248,7 @@ fn with_first(
 }
 
 /// What two runs of one terminal counted together. No sum comes near the end of its range.
-fn one_report(first: TermReport, second: TermReport) -> TermReport
+pub(crate) fn one_report(first: TermReport, second: TermReport) -> TermReport
     ensures { result ≡ both first second }
 {
     TermReport {

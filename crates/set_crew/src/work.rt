@@ -1,15 +1,15 @@
 //! What the thread of one set is to do.
 ghost use Rattle.std.specs.Prelude.{◌<◌, ◌≤◌};
 
+use super::manager::LinkManager;
 use super::orders::Orders;
 use super::plan::Job;
 use line_ring::Line;
-use link_term::Gate;
 use set_events::SetConfig;
 
 /// What the thread of one set is to do.
 #[derive(Drop)]
-pub struct Work<L: Line + Drop, G: Gate> {
+pub struct Work<L: Line + Drop, G: LinkManager> {
     /// What the set is opened with.
     pub config: SetConfig,
     /// How many users it has, 1 to 64.

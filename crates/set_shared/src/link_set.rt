@@ -10,7 +10,7 @@ ghost use Rattle.set_ledger.specs.Ending.{is_complete, AreFaithful, IsClosed};
 ghost use Rattle.set_model.specs.State.{settings_of};
 ghost use Rattle.set_shared.specs.Asking.{IsAnswered, IsFull};
 
-use set_events::{Answer, Body, Event, SetConfig};
+use set_events::{Answer, Body, Counts, Event, SetConfig};
 use set_ledger::{
     Blanks, Closed, CreateFault, EndFault, Held, Opening, Seat, SetFault, TermSeat, UserSeat,
     forget, step_in,
@@ -205,6 +205,12 @@ impl<C: Opening, M: Ledger, O: Ledger, A: Ledger> LinkSet<C, M, O, A> {
         ensures fault { IfErr result (λ fault. fault ≡ SetFault.NoMemory) }
     {
         self.held.lock(rt).checkpoint()
+    }
+
+    /// How many messages of users stand in each place at some moment of the call. Of what stands under the lock nothing
+    /// can be said here.
+    pub fn counts<R: Wait>(&self, rt: &R) -> Counts {
+        self.held.lock(rt).core().counts()
     }
 
     /// A seat forgets the receipts of its calls before the last checkpoint, and keeps what they added up to, as of

@@ -8,8 +8,10 @@
 //! it. `NAME.pcap` is what the capture of `NAME.play` writes, `NAME.history_a` and `NAME.history_b` what the histories of
 //! its ends print, and `NAME.ladder` is its chart. `NAME.explained` is what is told of `NAME.play` where its fault is
 //! explained; a table `NAME.told_first` or `NAME.told_second` has four such lines each, of which the third shows the line
-//! that is played, alone or with the opening before it. `NAME.run` is the words behind `mtpbank
-//! run`, one a line: threads run as they ask. A line is printed for each name.
+//! that is played, alone or with the opening before it. `NAME.terminal_explained` beside `NAME.terminal`, and the tables
+//! `NAME.terminal_first`, `NAME.terminal_second` and `NAME.terminal_third`, are so for the lines that drive an end; before
+//! the third line stand the opening and a command. `NAME.run` is the words behind `mtpbank run`, one a line: threads run as
+//! they ask. A line is printed for each name.
 //! Whether a run is as it should be is all that this program tells; it proves nothing.
 #![tactic(auto)]
 
@@ -30,11 +32,15 @@ use std::sync::Wait;
 use std::thread::Threads;
 use std::time::Clock;
 use std::{fs, io};
+use terminal_explain::terminal_explained;
 use terminal_text::terminal;
 use units_text::units;
 
 /// The first line of the scripts of a table.
 const OPENING: &str = "set links=1 method=basic a=2 b=1 sio=80\n";
+
+/// The lines before the third that drives an end.
+const TWO_LINES: &str = "set links=1 method=basic a=2 b=1 sio=80\nstart 0\n";
 
 /// What a run prints, and the line that tells how it ends.
 #[derive(Drop, PartialEq)]
@@ -80,9 +86,15 @@ fn is_as_stored<R: Threads + Wait + Clock + Eprint + Copy + Send + Sync + 'stati
     } else if name.ends_with(".second") {
         all_give(rt, name, OPENING)
     } else if name.ends_with(".told_first") {
-        all_told(rt, name, "")
+        all_told(rt, name, Kind::Explained, "")
     } else if name.ends_with(".told_second") {
-        all_told(rt, name, OPENING)
+        all_told(rt, name, Kind::Explained, OPENING)
+    } else if name.ends_with(".terminal_first") {
+        all_told(rt, name, Kind::DrivenExplained, "")
+    } else if name.ends_with(".terminal_second") {
+        all_told(rt, name, Kind::DrivenExplained, OPENING)
+    } else if name.ends_with(".terminal_third") {
+        all_told(rt, name, Kind::DrivenExplained, TWO_LINES)
     } else if name.ends_with(".run") {
         gives_stored(rt, name, threads_of(threads, rt, name)?)
     } else {
@@ -116,22 +128,22 @@ fn ran_behind(alloc: Global, kind: Kind, opening: &str, line: &str) -> io::Resul
 }
 
 /// Whether of each line that this table shows, behind the opening, just what stands around it is told.
-fn all_told(rt: &HostRuntime, name: &str, opening: &str) -> io::Result<bool> {
+fn all_told(rt: &HostRuntime, name: &str, kind: Kind, opening: &str) -> io::Result<bool> {
     let table = fs::read_to_string(rt, name)?;
     let lines: Vec<&str> = table.split_terminator('\n').collect(rt.alloc())?;
-    all_lines_told(rt.alloc(), opening, &lines)
+    all_lines_told(rt.alloc(), kind, opening, &lines)
 }
 
-fn all_lines_told(alloc: Global, opening: &str, lines: &[&str]) -> io::Result<bool> {
+fn all_lines_told(alloc: Global, kind: Kind, opening: &str, lines: &[&str]) -> io::Result<bool> {
     let mut all = !lines.is_empty();
     for told in lines.chunks(4) {
-        all = all && is_told(alloc, opening, told)?;
+        all = all && is_told(alloc, kind, opening, told)?;
     }
     Ok(all)
 }
 
 /// Whether just these four lines are told of the script of which the third shows the line, behind two columns.
-fn is_told(alloc: Global, opening: &str, told: &[&str]) -> io::Result<bool> {
+fn is_told(alloc: Global, kind: Kind, opening: &str, told: &[&str]) -> io::Result<bool> {
     let [fault, wanted, shown, caret] = told else {
         return Ok(false);
     };
@@ -139,7 +151,7 @@ fn is_told(alloc: Global, opening: &str, told: &[&str]) -> io::Result<bool> {
         return Ok(false);
     };
     let told = format!(in alloc; "{fault}\n{wanted}\n{shown}\n{caret}\n")?;
-    Ok(ran_behind(alloc, Kind::Explained, opening, line)?.told == told)
+    Ok(ran_behind(alloc, kind, opening, line)?.told == told)
 }
 
 /// What the run of a name does with its input.
@@ -152,6 +164,7 @@ enum Kind {
     HistoryOfB,
     Audited,
     Driven,
+    DrivenExplained,
     Ladder,
     Captured,
     Explained,
@@ -167,6 +180,7 @@ fn kind_of(name: &str) -> Kind {
         "history_b" => Kind::HistoryOfB,
         "history" => Kind::Audited,
         "terminal" => Kind::Driven,
+        "terminal_explained" => Kind::DrivenExplained,
         "ladder" => Kind::Ladder,
         "pcap" => Kind::Captured,
         "explained" => Kind::Explained,
@@ -183,27 +197,33 @@ fn ending_of(name: &str) -> &str {
 }
 
 impl Kind {
-    /// Whether the run is told of the script beside its name: its capture, its chart, or the history of one of its ends.
-    fn is_of_a_script(self) -> bool {
+    /// The ending of the input beside a name that the run is told of, as a script's capture, its chart, or the history of
+    /// one of its ends; `None`: the input has the name itself.
+    fn told_of(self) -> Option<&'static str> {
         match self {
             Kind::Units
             | Kind::Decoded
             | Kind::WideDecoded
             | Kind::Audited
             | Kind::Driven
-            | Kind::Played => false,
-            _ => true,
+            | Kind::Played => None,
+            Kind::DrivenExplained => Some("terminal"),
+            _ => Some("play"),
         }
+    }
+
+    /// Whether the file of the name is what is told of a fault.
+    fn explains(self) -> bool {
+        matches!(self, Kind::Explained | Kind::DrivenExplained)
     }
 }
 
 /// What the run of this name gives.
 fn ran_by_name(rt: &HostRuntime, name: &str) -> io::Result<Ran> {
     let kind = kind_of(name);
-    let input = if kind.is_of_a_script() {
-        read_beside(rt, name, "play")?
-    } else {
-        fs::read(rt, name)?
+    let input = match kind.told_of() {
+        Some(ending) => read_beside(rt, name, ending)?,
+        None => fs::read(rt, name)?,
     };
     run_of(rt.alloc(), kind, &input)
 }
@@ -224,7 +244,7 @@ fn ran_with(printed: Vec<u8>, told: io::Result<String>) -> io::Result<Ran> {
 /// What is to be printed.
 fn printed_beside(rt: &HostRuntime, name: &str) -> io::Result<Vec<u8>> {
     let kind = kind_of(name);
-    if kind.is_of_a_script() && kind != Kind::Explained {
+    if kind.told_of().is_some() && !kind.explains() {
         fs::read(rt, name)
     } else {
         read_beside(rt, name, "stdout")
@@ -233,7 +253,7 @@ fn printed_beside(rt: &HostRuntime, name: &str) -> io::Result<Vec<u8>> {
 
 /// What is to be told; nothing where no fault is stored.
 fn told_beside(rt: &HostRuntime, name: &str) -> io::Result<String> {
-    if kind_of(name) == Kind::Explained {
+    if kind_of(name).explains() {
         return fs::read_to_string(rt, name);
     }
     let path = beside(rt.alloc(), name, "fault")?;
@@ -280,6 +300,7 @@ fn run_on(
         Kind::HistoryOfB => told_of(alloc, history(alloc, End::B, source, sink)),
         Kind::Audited => told_of(alloc, audit(alloc, source, sink)),
         Kind::Driven => told_of(alloc, terminal(alloc, source, sink)),
+        Kind::DrivenExplained => told_of(alloc, terminal_explained(alloc, source, sink)),
         Kind::Ladder => told_of(alloc, ladder(alloc, source, sink)),
         Kind::Captured => told_of(alloc, capture(alloc, source, sink)),
         Kind::Explained => told_of(alloc, play_explained(alloc, source, sink)),
@@ -329,8 +350,12 @@ fn ran_as<R: Threads + Wait + Clock + Eprint + Copy + Send + Sync + 'static>(
     words: &RunWords,
 ) -> io::Result<Ran> {
     let mut sink = Writer::new(Vec::new(alloc));
-    let ended = run_text::run(rt, alloc, words, false, &mut sink);
-    ran_with(sink.into_inner(), told_of(alloc, ended))
+    let told = match run_text::run(rt, alloc, words, false, &mut sink) {
+        Ok(Some(missing)) => Ok(format!(in alloc; "{missing}\n")?),
+        Ok(None) => Ok(String::new(alloc)),
+        Err(fault) => Ok(format!(in alloc; "{fault}\n")?),
+    };
+    ran_with(sink.into_inner(), told)
 }
 
 /// The line that tells how a run ended, if it tells anything.

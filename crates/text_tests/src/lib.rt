@@ -9,7 +9,11 @@
 use std::test::Fail;
 
 #[cfg(test)]
+mod cut_runs;
+#[cfg(test)]
 mod devices;
+#[cfg(test)]
+mod reports;
 #[cfg(test)]
 mod runs;
 #[cfg(test)]

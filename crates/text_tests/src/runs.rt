@@ -1,16 +1,17 @@
 //! Runs of two banks, as they're told.
 
 use super::holds;
-use paced_banks::{Traffic, pace_gates};
+use paced_banks::{Traffic, gates_of};
 use printing::{Fault, Writer};
 use run_text::{End, RunFault, TermFault, UserFault, run, write_run};
 use std::alloc::Global;
 use std::sync::Wait;
 use std::test::Fail;
 use std::thread::Threads;
+use std::time::Clock;
 
 /// What is printed of one set of two links, whose two users offer 50 messages each, and whose link 0 fails half way.
-fn printed<R: Threads + Wait + Copy + Send + Sync + 'static>(
+fn printed<R: Threads + Wait + Clock + Copy + Send + Sync + 'static>(
     rt: &R,
     alloc: Global,
     checkpoint: Option<u16>,
@@ -24,10 +25,22 @@ fn printed<R: Threads + Wait + Copy + Send + Sync + 'static>(
         cyclic: false,
         turns: 50_000,
         checkpoint,
+        managed: false,
+        noise: None,
+        seed: 0,
     };
-    let gates = pace_gates(alloc, 1, 2)?;
+    let gates = gates_of(alloc, &traffic)?;
     let mut sink = Writer::new(Vec::new(alloc));
-    let well = write_run(rt, alloc, &traffic, gates, true, &mut sink, || {}).is_ok();
+    let well = write_run(
+        rt,
+        alloc,
+        &traffic,
+        gates,
+        (true, false),
+        &mut sink,
+        || None,
+    )
+    .is_ok();
     match String::from_utf8(sink.into_inner()) {
         Ok(text) if well => Ok(text),
         _ => Err(Fail::from("no text, or the run failed")),
@@ -65,7 +78,7 @@ fn a_checkpoint_takes_nothing_from_what_links_did(rt: HostRuntime) -> Result<(),
     one_is_delivered(&rt, rt.alloc(), Some(10))
 }
 
-fn one_is_delivered<R: Threads + Wait + Copy + Send + Sync + 'static>(
+fn one_is_delivered<R: Threads + Wait + Clock + Copy + Send + Sync + 'static>(
     rt: &R,
     alloc: Global,
     checkpoint: Option<u16>,

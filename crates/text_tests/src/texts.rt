@@ -1,82 +1,17 @@
 //! Scripts with what they print, and devices that fail.
 //!
 //! The expected lines are worked out by hand from Q.703 2 to 5 and the script's rules.
-ghost use Rattle.std.specs.Prelude.{◌≡◌, ◌≤◌, ◌<◌, ◌^◌, Some};
+ghost use Rattle.std.specs.Prelude.{◌<◌, ◌^◌};
 
 use super::holds;
 use play_text::{LineFlaw, ScriptFault, play};
-use printing::{DeviceFault, Fault, Sink, Source};
+use printing::{DeviceFault, Fault, Source};
 use std::alloc::{AllocError, Global};
 use std::test::Fail;
+use test_devices::{Page, Text};
 use units_text::{UnreadableOctet, units};
 
 const OPENING: &[u8] = b"set links=1 method=basic a=2 b=1 sio=80\n";
-
-/// A text that is read in pieces.
-#[derive(Drop)]
-struct Text<'a> {
-    rest: &'a [u8],
-    piece: usize,
-    /// How many reads succeed.
-    reads: u32,
-    /// How often it has failed.
-    failures: u32,
-    ghost moves: { 0 < piece },
-}
-
-impl Source for Text<'_> {
-    ghost left = { λ s. Some s.rest.now };
-
-    ghost failures = { λ s. s.failures };
-
-    fn read(&mut self, buffer: &mut [u8]) -> Result<usize, DeviceFault> {
-        if self.reads == 0 {
-            self.failures = self.failures.wrapping_add(1);
-            return Err(DeviceFault);
-        }
-        self.reads -= 1;
-        let count = self.rest.len().min(buffer.len()).min(self.piece);
-        let (piece, rest) = self.rest.split_at(count);
-        buffer[..count].copy_from_slice(piece);
-        self.rest = rest;
-        Ok(count)
-    }
-}
-
-/// What is written, in memory.
-#[derive(Drop)]
-pub(crate) struct Page {
-    pub(crate) octets: Vec<u8>,
-    /// How many octets a write takes at most.
-    piece: usize,
-    /// How many writes succeed.
-    writes: u32,
-    /// How often it has failed.
-    failures: u32,
-    ghost moves: { 0 < piece },
-}
-
-impl Sink for Page {
-    ghost written = { λ s. Some s.octets.items };
-
-    ghost failures = { λ s. s.failures };
-
-    fn write(&mut self, octets: &[u8]) -> Result<usize, DeviceFault> {
-        if self.writes == 0 {
-            self.failures = self.failures.wrapping_add(1);
-            return Err(DeviceFault);
-        }
-        self.writes -= 1;
-        let count = octets.len().min(self.piece);
-        match self.octets.extend_from_slice(&octets[..count]) {
-            Ok(()) => Ok(count),
-            Err(_) => {
-                self.failures = self.failures.wrapping_add(1);
-                Err(DeviceFault)
-            }
-        }
-    }
-}
 
 /// Plays a script in pieces of this many octets; the devices take this many calls.
 fn run_of(

@@ -17,6 +17,7 @@ fn told_of(alloc: Global, words: &[&str]) -> Result<String, AllocError> {
         Ok(Words::Ladder) => "ladder".to_string(alloc),
         Ok(Words::Audit) => "audit".to_string(alloc),
         Ok(Words::Terminal) => "terminal".to_string(alloc),
+        Ok(Words::TerminalExplained) => "terminal --explain".to_string(alloc),
         Ok(Words::HistoryOfA) => "history a".to_string(alloc),
         Ok(Words::HistoryOfB) => "history b".to_string(alloc),
         Ok(Words::Run(run)) => run_told(alloc, &run),
@@ -88,7 +89,7 @@ fn ask_for(alloc: Global, words: &[&str], subcommand: &str) -> bool {
 
 #[test]
 fn words_of_the_command_line(rt: HostRuntime) -> Result<(), Fail> {
-    let asked: [(&[&str], &str); 12] = [
+    let asked: [(&[&str], &str); 13] = [
         (&["play"], "play"),
         (&["play", "--explain"], "play --explain"),
         (&["units"], "units"),
@@ -98,14 +99,16 @@ fn words_of_the_command_line(rt: HostRuntime) -> Result<(), Fail> {
         (&["ladder"], "ladder"),
         (&["audit"], "audit"),
         (&["terminal"], "terminal"),
+        (&["terminal", "--explain"], "terminal --explain"),
         (&["history", "a"], "history a"),
         (&["history", "b"], "history b"),
         (&["play", "--"], "play"),
     ];
-    let refused: [&[&str]; 10] = [
+    let refused: [&[&str]; 11] = [
         &[],
         &["units", "--explain"],
         &["play", "--explain", "it"],
+        &["terminal", "--explain", "it"],
         &["play", "--wide"],
         &["decode", "--wide", "it"],
         &["play", "it"],
@@ -261,6 +264,7 @@ fn a_file_is_read_from_standard_input(rt: HostRuntime) -> Result<(), Fail> {
             && ask_for(alloc, &["units", "a.units"], units)
             && ask_for(alloc, &["decode", "--wide", "a.decode"], decode)
             && ask_for(alloc, &["terminal", "a.terminal"], terminal)
+            && ask_for(alloc, &["terminal", "--explain", "a.terminal"], terminal)
             && ask_for(alloc, &["history", "a", "a.play"], history)
             && ask_for(alloc, &["history", "c"], end),
     )
@@ -300,7 +304,7 @@ fn short_help_is_a_page(rt: HostRuntime) -> Result<(), Fail> {
         ("capture", "\nUsage: mtpbank capture\n"),
         ("ladder", "\nUsage: mtpbank ladder\n"),
         ("audit", "\nUsage: mtpbank audit\n"),
-        ("terminal", "\nUsage: mtpbank terminal\n"),
+        ("terminal", "\nUsage: mtpbank terminal [OPTIONS]\n"),
         ("history", "\nUsage: mtpbank history <END>\n"),
         ("run", "\nUsage: mtpbank run [OPTIONS]\n"),
     ];
@@ -347,12 +351,38 @@ fn the_help_shows_each_line(rt: HostRuntime) -> Result<(), Fail> {
         "      --explain\n",
     ];
     let version = ask_for(rt.alloc(), &["--version"], "mtpbank 0.1.0\n");
-    holds(version && help_shows(rt.alloc(), &lines))
+    holds(version && help_shows(rt.alloc(), "play", &lines))
 }
 
-/// The help of `play` shows each of these.
-fn help_shows(alloc: Global, lines: &[&str]) -> bool {
-    match told_of(alloc, &["play", "--help"]) {
+/// So can the lines of a terminal.
+#[test]
+fn the_help_shows_each_line_of_a_terminal(rt: HostRuntime) -> Result<(), Fail> {
+    let lines = [
+        "  set links=L method=W a=X b=Y sio=HH ",
+        "  timers t1=N t2=N t3=N t5=N t6=N t7=N ",
+        "  start L, stop L, emergency L, busy L, ease L, blind L\n",
+        "  octets L HEX ",
+        "  hear L UNIT [xN] ",
+        "  flags L N ",
+        "  bits L BITS [xN] ",
+        "  offer HEX, take, find N ",
+        "  noanswer L, restore L, backtimeout L ",
+        "  look L ",
+        "  checkpoint ",
+        "  history ",
+        "  message L turn=T ",
+        "  link L WORD turn=T ",
+        "  sent L UNIT [xN] ",
+        "  fault line N text ",
+        "  fault line N step ",
+        "      --explain\n",
+    ];
+    holds(help_shows(rt.alloc(), "terminal", &lines))
+}
+
+/// The help of a subcommand shows each of these.
+fn help_shows(alloc: Global, subcommand: &str, lines: &[&str]) -> bool {
+    match told_of(alloc, &[subcommand, "--help"]) {
         Ok(help) => contains_all(&help, lines),
         Err(_) => false,
     }

@@ -1,3 +1,7 @@
+use Rattle.std.proofs.Common.{◌≡◌, ◌∙◌, ap, sym, subst, ◌↔◌, IsTrue, Option, Some, codes}
+use Rattle.clap.specs.Words.{Text, first_of, found_of, rows_of}
+use Rattle.command_line.specs.RunOptions.{IsNumber, usual_turns}
+use Rattle.command_line.proofs.Options.{same_truth}
 use Rattle.command_line.proofs.run_options.values_of.Goals as goal
 
 -- src/run_options.rt
@@ -14,4 +18,11 @@ pub returns-in_default-number_in-3 : goal.returns-in_default-number_in-3
 returns-in_default-number_in-3 c = λ run is. c.in_default-number_in-3.ensures.number run.messages is.messages
 
 pub returns-in_default-number_in-4 : goal.returns-in_default-number_in-4
-returns-in_default-number_in-4 c = λ run is. c.in_default-number_in-4.ensures.number run.turns is.turns
+returns-in_default-number_in-4 c = λ run is.
+    let rows = rows_of (found_of c.args.found.now) in
+    let told = subst (λ (w : Option Text). IsTrue c.is_set-report.result ↔ (w ≡ Some (codes "true"))) c.value_of-3.ensures c.is_set-report.ensures in
+    c.in_default-number_in-4.ensures.number run.turns
+    (subst (λ n. IsNumber 1 1000000 n run.turns (first_of (codes "turns") rows)) (ap usual_turns (same_truth run.report c.is_set-report.result _ is.report told) ∙ sym c.usual_turns.ensures.usual) is.turns)
+
+pub returns-in_default-number_in-5 : goal.returns-in_default-number_in-5
+returns-in_default-number_in-5 c = λ run is. c.in_default-number_in-5.ensures.number run.seed is.seed

@@ -20,8 +20,8 @@ returns c =
     ∙ ap₂ with_subcommand fifth c.audit_command.ensures.shape in
     let seventh = c.in_ok-subcommand-7.ensures.shape c.in_ok-history_command.ensures.local
     ∙ ap₂ with_subcommand sixth c.in_ok-history_command.ensures.shape in
-    let eighth = c.in_ok-subcommand-8.ensures.shape c.terminal_command.ensures.local
-    ∙ ap₂ with_subcommand seventh c.terminal_command.ensures.shape in
+    let eighth = c.in_ok-subcommand-8.ensures.shape c.in_ok-terminal_command.ensures.local
+    ∙ ap₂ with_subcommand seventh c.in_ok-terminal_command.ensures.shape in
     IfOk-weaker c.subcommand-9.result _ _
     (λ command added. added.shape c.in_ok-run_command.ensures.local ∙ ap₂ with_subcommand eighth c.in_ok-run_command.ensures.shape)
     c.subcommand-9.ensures

@@ -7,8 +7,9 @@ use Rattle.script_ladder.specs.Ladder.{IsLadder}
 use Rattle.audit_text.specs.Auditing.{IsAuditText}
 use Rattle.script_history.specs.Histories.{IsHistoryText}
 use Rattle.world_steps.specs.declared.step.End.TheVariants.{A, B}
+use Rattle.terminal_explain.specs.Explaining.{IsExplainedTerminalText}
 use Rattle.terminal_text.specs.Text.{IsTerminalText}
-use Rattle.mtpbank.specs.declared.running.TextFault.TheVariants.{Units as UnitsFault, Play as PlayFault, Explained as ExplainedPlayFault, Decode as DecodeFault, Audit as AuditedFault, Terminal as TerminalLineFault}
+use Rattle.mtpbank.specs.declared.running.TextFault.TheVariants.{Units as UnitsFault, Play as PlayFault, Explained as ExplainedPlayFault, Decode as DecodeFault, Audit as AuditedFault, Terminal as TerminalLineFault, ExplainedTerminal as ExplainedTerminalLineFault}
 use Rattle.mtpbank.proofs.RunLemmas.{prints_all}
 use Rattle.mtpbank.proofs.running.run.Goals as goal
 
@@ -44,3 +45,6 @@ returns-in-HistoryOfA-clause-text g c = rw (c.of_any-in-HistoryOfA.ensures, c.in
 
 pub returns-in-HistoryOfB-clause-text : goal.returns-in-HistoryOfB-clause-text
 returns-in-HistoryOfB-clause-text g c = rw (c.of_any-in-HistoryOfB.ensures, c.in-HistoryOfB.is) (prints_all (IsHistoryText B) PlayFault c.history-in-HistoryOfB.result _ _ _ c.history-in-HistoryOfB.ensures.text)
+
+pub returns-in-TerminalExplained-clause-text : goal.returns-in-TerminalExplained-clause-text
+returns-in-TerminalExplained-clause-text g c = rw (c.of_any-in-TerminalExplained.ensures, c.in-TerminalExplained.is) (prints_all IsExplainedTerminalText ExplainedTerminalLineFault c.terminal_explained.result _ _ _ c.terminal_explained.ensures.text)

@@ -27,5 +27,5 @@ pub returns-in-Err-clause-writes : goal.returns-in-Err-clause-writes
 returns-in-Err-clause-writes g c = record {
   printed = take c.loop-written.written c.args.octets.now;
   added = Appends-kept _ _ _ _ c.loop-written.invariant.1 c.in-Err.ensures.octets;
-  ends = (drop c.loop-written.written c.args.octets.now, take-append-drop c.loop-written.written c.args.octets.now);
+  ends = (tt, drop c.loop-written.written c.args.octets.now, take-append-drop c.loop-written.written c.args.octets.now);
 }

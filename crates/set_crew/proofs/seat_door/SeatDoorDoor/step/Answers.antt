@@ -1,12 +1,18 @@
-use Rattle.set_crew.proofs.Counting.{step_counted, step_fits}
+use Rattle.std.proofs.Common.{◌∙◌, ap, subst, sym}
+use Rattle.set_events.specs.Owners.{IsOwn}
+use Rattle.set_events.specs.declared.event.Actor.{Actor}
+use Rattle.set_events.specs.declared.event.Actor.TheVariants.{Terminal}
+use Rattle.set_crew.specs.Seats.{link_in}
+use Rattle.set_crew.proofs.Marking.{stepped}
 use Rattle.set_crew.proofs.seat_door.SeatDoorDoor.step.Goals as goal
 
 -- src/seat_door.rt
-pub with-self-requires : goal.with-self-requires
-with-self-requires g c =
-    step_fits _ c.args.event.now c.step-answered.result c.in-Ok.answer c.args.self.now.caller.all c.step-answered.new.self.all c.args.self.now.answered c.step-answered.ensures.calls c.in-Ok.is c.args.self.now.is_counted c.count.result c.count.ensures.calls c.count.ensures.few
+pub ask-answered-requires-clause-own : goal.ask-answered-requires-clause-own
+ask-answered-requires-clause-own g c =
+    subst (λ (who : Actor). IsOwn who c.args.event.now) (sym (c.link.ensures ∙ ap Terminal (sym (ap link_in c.link.ensures)))) c.requires
 
-pub invariant_of-self : goal.invariant_of-self
-invariant_of-self g c = record {
-  is_counted = step_counted c.args.self.now.caller.seat.who c.args.event.now c.step-answered.result c.in-Ok.answer c.args.self.now.caller.all c.step-answered.new.self.all c.args.self.now.answered c.step-answered.ensures.calls c.in-Ok.is c.args.self.now.is_counted c.step-answered.new.self.seat.who c.link-link.result c.with-self.result c.step-answered.ensures.who c.link-link.ensures c.with-self.ensures;
-}
+pub returns-in-Ok-clause-ok : goal.returns-in-Ok-clause-ok
+returns-in-Ok-clause-ok g c =
+    stepped c.ask-answered.result c.args.self.now.caller.seat.who c.args.event.now c.args.self.now.managed c.ask-answered.new.self.managed c.follow.new.self.managed c.args.self.now.caller.all c.ask-answered.new.self.caller.all c.follow.new.self.caller.all
+    c.args.self.now.marks c.ask-answered.new.self.marks c.follow.new.self.marks c.args.self.now.faults c.follow.new.self.faults
+    c.ask-answered.ensures.ok c.ask-answered.ensures.managed c.follow.ensures.made c.args.self.now.is_marked (c.link.ensures ∙ ap Terminal (sym (ap link_in c.link.ensures))) (c.follow.ensures.faults ∙ c.ask-answered.ensures.faults)

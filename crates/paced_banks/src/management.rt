@@ -1,0 +1,183 @@
+//! How the gates of two banks manage their links, and hold users up.
+
+use super::asked::Traffic;
+use super::pace::{PaceGate, pace_gates};
+use super::watch::SetWatch;
+use bank_core::{LinkManager, LinkOrder};
+use l2_units::Unit;
+use set_events::{Answer, Counts, Event, Took};
+use std::alloc::{AllocError, Global};
+use std::sync::Arc;
+
+/// What both gates know.
+#[derive(Drop)]
+pub(crate) struct Management {
+    sets: Vec<SetWatch>,
+    traffic: Traffic,
+}
+
+/// Gates for this traffic, as [`pace_gates`] has them, which manage its links where the traffic has them managed:
+///
+/// - a user at an end a begins when each link of its set has come up at both ends, or ten seconds of turns went by, and
+///   has at most 64 messages on their way; the user at an end b asks for a message when one has come;
+/// - a link that is out of service is started again after a rest, T17;
+/// - the link at an end a that is to fail is told Stop four turns for each message of a user after the users began;
+/// - terminals take no more turns once all was offered, nothing waits or is unacknowledged, and the link that was told Stop
+///   came up again.
+pub fn gates_of(alloc: Global, traffic: &Traffic) -> Result<(PaceGate, PaceGate), AllocError> {
+    let (near, far) = pace_gates(alloc, traffic.sets, traffic.links)?;
+    if !traffic.managed {
+        return Ok((near, far));
+    }
+    let mut sets = Vec::new(alloc);
+    for _set in 0..traffic.sets {
+        sets.reserve(1)?;
+        let set = SetWatch::new(alloc, traffic)?;
+        sets.push_reserved(set);
+    }
+    let both = Arc::new(
+        alloc,
+        Management {
+            sets,
+            traffic: *traffic,
+        },
+    )?;
+    let far = far.managed_by(Arc::try_clone(&both)?);
+    Ok((near.managed_by(both), far))
+}
+
+impl Management {
+    pub(crate) fn set(&self, set: u16) -> Option<&SetWatch> {
+        self.sets.get(usize::from(set))
+    }
+
+    /// How many messages the ends b accepted.
+    pub(crate) fn heard(&self) -> u64 {
+        let mut sum: u64 = 0;
+        for set in &self.sets {
+            sum = sum.saturating_add(set.heard_in_all());
+        }
+        sum
+    }
+}
+
+impl LinkManager for PaceGate {
+    fn holds_up(&self, set: u16, user: u16) -> bool {
+        let Some(watch) = self.watch(set) else {
+            return false;
+        };
+        if watch.is_over(self.is_near()) {
+            return false;
+        }
+        if self.is_near() {
+            watch.holds_sender(user, self.turn(set, 0))
+        } else {
+            watch.holds_taker()
+        }
+    }
+
+    fn answered(&self, set: u16, link: u8, event: &Event, answer: &Answer) {
+        let Some(watch) = self.watch(set) else {
+            return;
+        };
+        if let (Event::Heard { unit, .. }, Answer::Heard { report }) = (event, answer) {
+            if report.took == Took::Message && !self.is_near() {
+                watch.hear(stream_of(unit));
+            }
+            return;
+        }
+        let Some(at) = watch.at(link, self.is_near()) else {
+            return;
+        };
+        match (event, answer) {
+            (Event::Up { .. }, Answer::Done) => at.rise(),
+            (Event::Down { .. } | Event::DownBlind { .. }, Answer::Done) => {
+                at.fall(self.turn(set, link));
+            }
+            _ => {}
+        }
+    }
+
+    fn order(&self, set: u16, link: u8, counts: &Counts) -> LinkOrder {
+        let Some(watch) = self.watch(set) else {
+            return LinkOrder::Run;
+        };
+        if self.is_near() {
+            self.settle(watch, open_in(counts));
+        }
+        if watch.is_over(self.is_near()) {
+            return LinkOrder::End;
+        }
+        let Some(at) = watch.at(link, self.is_near()) else {
+            return LinkOrder::Run;
+        };
+        let turn = self.turn(set, link);
+        if self.fails(link) && watch.stops(at, self.messages(), turn, open_in(counts)) {
+            return LinkOrder::Stop;
+        }
+        if at.is_rested(turn) {
+            return LinkOrder::Start;
+        }
+        LinkOrder::Run
+    }
+
+    fn ended(&self, set: u16, _link: u8) {
+        if let Some(watch) = self.watch(set) {
+            watch.end(self.is_near());
+        }
+    }
+}
+
+impl PaceGate {
+    fn watch(&self, set: u16) -> Option<&SetWatch> {
+        self.management()?.set(set)
+    }
+
+    /// Whether this is the end of the link that is to fail.
+    fn fails(&self, link: u8) -> bool {
+        match self.management() {
+            Some(both) => self.is_near() && both.traffic.fail == Some(link),
+            None => false,
+        }
+    }
+
+    /// How many messages each user offers.
+    fn messages(&self) -> u16 {
+        match self.management() {
+            Some(both) => both.traffic.messages,
+            None => 0,
+        }
+    }
+
+    /// All may be done, where so many messages aren't finished.
+    fn settle(&self, watch: &SetWatch, open: u64) {
+        if let Some(both) = self.management() {
+            let failing = match both.traffic.fail {
+                Some(link) => watch.at(link, true),
+                None => None,
+            };
+            watch.settle(failing, both.traffic.messages, open);
+        }
+    }
+}
+
+/// How many messages aren't finished.
+fn open_in(counts: &Counts) -> u64 {
+    counts
+        .waiting
+        .saturating_add(counts.unacked)
+        .saturating_add(counts.held)
+        .saturating_add(counts.parked)
+        .saturating_add(counts.back)
+}
+
+/// The stream of the message that a unit brings.
+fn stream_of(unit: &Unit) -> u8 {
+    match unit {
+        Unit::Msu { body, .. } => match body.as_slice().get(4) {
+            Some(octet) => *octet / 16,
+            None => 0,
+        },
+        Unit::Fisu { .. } | Unit::Lssu { .. } => 0,
+    }
+}

@@ -1,0 +1,3 @@
+pub mod Figures
+pub mod ReportText
+pub mod Verdict

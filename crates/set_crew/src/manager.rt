@@ -1,0 +1,48 @@
+//! Who manages the links of sets, and holds their users up.
+
+use link_term::{Gate, OpenGate};
+use set_events::{Answer, Counts, Event};
+
+/// What a link's terminal is told before its next turns.
+#[derive(Clone, Copy, Debug, PartialEq, Eq)]
+pub enum LinkOrder {
+    /// Nothing.
+    Run,
+    /// To come up in an emergency, if it's out of service.
+    Start,
+    /// To go out of service.
+    Stop,
+    /// That it takes no more turns.
+    End,
+}
+
+/// Who manages the links of sets (Q.704 12), and holds their users up, where a plan has its links managed. It's told what
+/// happens, and asked what is to be done; nothing is promised of what it answers, so what comes of it is shown by tests.
+pub trait LinkManager: Gate {
+    /// Whether this user is to wait yet, before a call that was told to [`Gate::user`].
+    fn holds_up(&self, set: u16, user: u16) -> bool;
+
+    /// The set gave this answer to the terminal of this link.
+    fn answered(&self, set: u16, link: u8, event: &Event, answer: &Answer);
+
+    /// What the terminal of this link is told now, when so many of its set's messages stand in each place.
+    fn order(&self, set: u16, link: u8, counts: &Counts) -> LinkOrder;
+
+    /// The terminal of this link takes no more turns.
+    fn ended(&self, set: u16, link: u8);
+}
+
+/// Nobody is held up, and each link runs on.
+impl LinkManager for OpenGate {
+    fn holds_up(&self, _set: u16, _user: u16) -> bool {
+        false
+    }
+
+    fn answered(&self, _set: u16, _link: u8, _event: &Event, _answer: &Answer) {}
+
+    fn order(&self, _set: u16, _link: u8, _counts: &Counts) -> LinkOrder {
+        LinkOrder::Run
+    }
+
+    fn ended(&self, _set: u16, _link: u8) {}
+}

@@ -1,0 +1,44 @@
+//! When users and terminals take checkpoints of their set.
+
+use set_shared::{LinkSet, Opening};
+use std::sync::Wait;
+use std::sync::ledger::Ledger;
+
+/// When a user or a terminal takes checkpoints: each time that so much more was done.
+#[derive(Drop)]
+pub(crate) struct Pauses {
+    every: Option<u64>,
+    /// How much had been done at the last one.
+    last: u64,
+}
+
+impl Pauses {
+    /// After so much each.
+    pub(crate) fn of(every: Option<u64>) -> Pauses {
+        Pauses { every, last: 0 }
+    }
+
+    /// A checkpoint, where one is due when so much is done. Where memory is refused all stays, and the next one makes up
+    /// for it.
+    pub(crate) fn pause<C: Opening, M: Ledger, O: Ledger, A: Ledger, R: Wait>(
+        &mut self,
+        rt: &R,
+        set: &LinkSet<C, M, O, A>,
+        done: u64,
+    ) {
+        if self.are_due(done) {
+            let _ = set.checkpoint(rt);
+        }
+    }
+
+    /// Whether so much is enough for the next one, from which it's counted anew.
+    fn are_due(&mut self, done: u64) -> bool {
+        match self.every {
+            Some(every) if done.saturating_sub(self.last) >= every => {
+                self.last = done;
+                true
+            }
+            _ => false,
+        }
+    }
+}
