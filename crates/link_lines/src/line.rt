@@ -4,18 +4,18 @@ ghost use Rattle.std.specs.Option.{option_copied};
 ghost use Rattle.link_lines.specs.Lines.{IsTakenFrom};
 
 use l2_units::Unit;
-use std::alloc::{AllocFailed, Global};
+use std::alloc::{AllocFailed, Allocator, Global};
 use std::collections::VecDeque;
 use std::marker::Model;
 
 /// Units under way on one link, oldest first. Contracts see the list. The front leaves it at the same cost whatever stands
 /// behind.
 #[derive(Drop)]
-pub struct Line {
-    units: VecDeque<Unit>,
+pub struct Line<A: Allocator = Global> {
+    units: VecDeque<Unit, A>,
 }
 
-impl Model for Line {
+impl<A: Allocator> Model for Line<A> {
     ghost use Rattle.std.specs.Prelude.{List};
     ghost use Rattle.l2_units.specs.declared.unit.Unit.{Unit as SignalUnit};
 
@@ -24,9 +24,9 @@ impl Model for Line {
     ghost view = { λ l. l.units.items };
 }
 
-impl Line {
+impl<A: Allocator + Copy> Line<A> {
     /// Nothing is under way.
-    pub(crate) fn new(alloc: Global) -> Line
+    pub(crate) fn new(alloc: A) -> Line<A>
         ensures { result ≡ [] }
     {
         Line {

@@ -1,19 +1,19 @@
 //! A line for each link.
 use super::line::Line;
 use l2_units::Unit;
-use std::alloc::{AllocError, AllocFailed, Global};
+use std::alloc::{AllocError, AllocFailed, Allocator, Global};
 use std::marker::Model;
 
 /// The units under way to one end, a line for each link. Contracts see the list of the lines, each
 /// the list of its units, oldest first.
 #[derive(Drop)]
-pub struct Lines {
-    lines: Vec<Line>,
+pub struct Lines<A: Allocator = Global> {
+    lines: Vec<Line<A>, A>,
     /// That of a link which isn't there.
-    none: Line,
+    none: Line<A>,
 }
 
-impl Model for Lines {
+impl<A: Allocator> Model for Lines<A> {
     ghost use Rattle.std.specs.Prelude.{List};
     ghost use Rattle.l2_units.specs.declared.unit.Unit.{Unit as SignalUnit};
 
@@ -26,12 +26,12 @@ impl Model for Lines {
     ghost invariant = { λ l. l.none ≡ [] };
 }
 
-impl Lines {
+impl<A: Allocator + Copy> Lines<A> {
     ghost use Rattle.std.specs.Prelude.{◌≡◌, ◌<◌, ◌≤◌, [], length, IfOk, OnOk, OnErr};
     ghost use Rattle.link_lines.specs.Lines.{no_units, units_on, joined_on, with_units, IsTakenOut};
 
     /// A line for each of so many links, with nothing under way; it fails only where memory is wanted.
-    pub fn new(alloc: Global, links: u8) -> Result<Lines, AllocError>
+    pub fn new(alloc: A, links: u8) -> Result<Lines<A>, AllocError>
         ensures { IfOk result (λ lines. lines ≡ no_units links) }
     {
         let mut lines = Vec::new(alloc);
@@ -56,7 +56,7 @@ impl Lines {
     }
 
     /// The units under way on this link, oldest first; none on a link that there isn't.
-    pub fn line(&self, link: u8) -> &Line
+    pub fn line(&self, link: u8) -> &Line<A>
         ensures { result.now ≡ units_on link self.now }
     {
         match self.lines.get(link as usize) {
