@@ -4,7 +4,7 @@ ghost use Rattle.std.specs.Option.{option_map};
 ghost use Rattle.set_model.specs.State.{settings_of};
 ghost use Rattle.history_items.specs.declared.item.Item.TheVariants.{Checkpoint};
 ghost use Rattle.history_text.specs.Pieces.{item_of};
-ghost use Rattle.history_text.specs.Reading.{if_found};
+ghost use Rattle.play_script.specs.Script.{if_found};
 ghost use Rattle.history_lines.specs.FirstLine.{settings_in};
 
 use history_items::Item;

@@ -194,7 +194,3 @@ abbrev pub entry_of : Profile → List ℕ → Option Entry
 entry_of profile line =
     option_and_then (λ entry. if bytes_eq (entry_text profile entry) line then Some entry else None)
     (entry_in profile line)
-
--- what was read into a place, if anything was
-abbrev pub if_found : {A : Type 0} → Bool → A → Option A
-if_found found a = if found then Some a else None

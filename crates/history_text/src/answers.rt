@@ -3,7 +3,8 @@ ghost use Rattle.std.specs.Prelude.{◌≡◌, IfOk, Some};
 ghost use Rattle.std.specs.Option.{option_map, option_and_then};
 ghost use Rattle.set_events.specs.declared.answer.Answer.TheVariants.{Accepted, Found, Heard, Refused};
 ghost use Rattle.figures.specs.Figures.{number_of};
-ghost use Rattle.history_text.specs.Reading.{answer_in, told_in, taken_in, sent_in, heard_in, if_found, fate_in, linked_fate_in, cause_in, refusal_in, took_in, fault_in, word, others};
+ghost use Rattle.history_text.specs.Reading.{answer_in, told_in, taken_in, sent_in, heard_in, fate_in, linked_fate_in, cause_in, refusal_in, took_in, fault_in, word, others};
+ghost use Rattle.play_script.specs.Script.{if_found};
 
 use super::words::{cut, value_of};
 use figures::{is_word, read_below_256, read_below_65536, read_number, read_octets};

@@ -3,8 +3,8 @@ ghost use Rattle.std.specs.Prelude.{◌≡◌, IfOk};
 ghost use Rattle.std.specs.Option.{option_map, option_and_then};
 ghost use Rattle.set_events.specs.declared.event.Event.TheVariants.{Offer, Find};
 ghost use Rattle.figures.specs.Figures.{number_of};
-ghost use Rattle.history_text.specs.Reading.{actor_in, event_in, hear_in, if_found, link_event_in, asked_in, body_in, link_in};
-ghost use Rattle.play_script.specs.Script.{link_event};
+ghost use Rattle.history_text.specs.Reading.{actor_in, event_in, hear_in, link_event_in, asked_in, body_in, link_in};
+ghost use Rattle.play_script.specs.Script.{if_found, link_event};
 
 use super::words::{cut, read_body};
 use figures::{is_word, read_below_256, read_number};

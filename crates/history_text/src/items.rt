@@ -2,7 +2,7 @@
 ghost use Rattle.std.specs.Prelude.{◌≡◌, IfOk};
 ghost use Rattle.history_items.specs.Items.{piece};
 ghost use Rattle.history_items.specs.declared.item.Item.TheVariants.{Checkpoint};
-ghost use Rattle.history_text.specs.Reading.{if_found};
+ghost use Rattle.play_script.specs.Script.{if_found};
 ghost use Rattle.history_text.specs.Pieces.{ItemsReadBack, PiecesAreTheWhole, item_of, items_text};
 
 use super::reading::{BLANK, read_entry_into};

@@ -123,6 +123,10 @@ step_by profile name (Some words) =
     if bytes_eq name (codes "together") then together words
     else option_and_then (λ end. step_at profile name end (other_words words)) (end_of (first_word words))
 
+-- what stands in a place, where something was found
+abbrev pub if_found : {A : Type 0} → Bool → A → Option A
+if_found found a = if found then Some a else None
+
 -- the step that a line after the first asks for, where a unit has the form of this profile; None: it's unreadable
 abbrev pub step_of : Profile → List ℕ → Option Step
 step_of profile text = step_by profile (first_word text) (other_words text)

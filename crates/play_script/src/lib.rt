@@ -25,6 +25,7 @@ pub use opening::{
     read_code, read_links, read_method, read_opening, read_profile, read_sio, value_in_word,
 };
 pub use reading::{
-    cut, read_end, read_link, read_link_event, read_some_octets, read_step, read_unit, unit_in,
+    cut, read_end, read_link, read_link_event, read_some_octets, read_step, read_step_into,
+    read_unit, unit_in,
 };
 pub use script::{Opening, Values};

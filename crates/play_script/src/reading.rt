@@ -4,7 +4,7 @@ ghost use Rattle.std.specs.Option.{option_map, option_copied, ForSome};
 ghost use Rattle.std.specs.Str.{bytes_eq};
 ghost use Rattle.l2_units.specs.declared.profile.Profile.{Profile};
 ghost use Rattle.l2_units.specs.Grammar.{unit_of as unit_of_octets};
-ghost use Rattle.play_script.specs.Script.{is_space, first_word, other_words, end_of, link_of, some_octets, step_of, step_at, step_with, together, offer, body_of, take_message, find, lose, hear, unit_of, on_link, link_event};
+ghost use Rattle.play_script.specs.Script.{if_found, is_space, first_word, other_words, end_of, link_of, some_octets, step_of, step_at, step_with, together, offer, body_of, take_message, find, lose, hear, unit_of, on_link, link_event};
 
 use figures::{is_word, read_number, read_octets};
 use l2_units::{Profile, Unit, read, read_wide};
@@ -18,17 +18,35 @@ use world_steps::{End, Step};
 pub fn read_step(alloc: Global, profile: Profile, text: &[u8]) -> Result<Option<Step>, AllocError>
     ensures { IfOk result (λ step. step ≡ step_of profile text.now) }
 {
+    let mut step = Step::Together { link: 0 };
+    if read_step_into(alloc, profile, text, &mut step)? {
+        Ok(Some(step))
+    } else {
+        Ok(None)
+    }
+}
+
+/// Whether a line after the first can be read; the step that it asks for then stands in `step`, else what stands there
+/// isn't told. A step has room for a unit, so that it's better filled in its place than handed on.
+pub fn read_step_into(
+    alloc: Global,
+    profile: Profile,
+    text: &[u8],
+    step: &mut Step,
+) -> Result<bool, AllocError>
+    ensures { IfOk result (λ found. if_found found step.new ≡ step_of profile text.now) }
+{
     let (name, words) = cut(text);
     let Some(words) = words else {
-        return Ok(None);
+        return Ok(false);
     };
     if is_word(name, b"together") {
-        return Ok(read_together(words));
+        return Ok(read_together(words, step));
     }
     let (word, words) = cut(words);
     match read_end(word) {
-        Some(end) => read_step_at(alloc, profile, name, end, words),
-        None => Ok(None),
+        Some(end) => read_step_at(alloc, profile, name, end, words, step),
+        None => Ok(false),
     }
 }
 
@@ -87,11 +105,14 @@ pub fn read_some_octets(alloc: Global, word: &[u8]) -> Result<Option<Vec<u8>>, A
 }
 
 /// `together LINK`, behind the name.
-fn read_together(words: &[u8]) -> Option<Step>
-    ensures { result ≡ together words.now }
+fn read_together(words: &[u8], step: &mut Step) -> bool
+    ensures { if_found result step.new ≡ together words.now }
 {
-    let link = read_link(words)?;
-    Some(Step::Together { link })
+    let Some(link) = read_link(words) else {
+        return false;
+    };
+    *step = Step::Together { link };
+    true
 }
 
 /// The step of this name at an end, from the words behind the end.
@@ -101,47 +122,54 @@ fn read_step_at(
     name: &[u8],
     end: End,
     words: Option<&[u8]>,
-) -> Result<Option<Step>, AllocError>
-    ensures { IfOk result (λ step. step ≡ step_at profile name.now end (option_copied words.entry)) }
+    step: &mut Step,
+) -> Result<bool, AllocError>
+    ensures { IfOk result (λ found. if_found found step.new ≡ step_at profile name.now end (option_copied words.entry)) }
 {
     if is_word(name, b"offer") {
-        return read_offer(alloc, end, words);
+        return read_offer(alloc, end, words, step);
     }
     if is_word(name, b"take") {
-        return Ok(read_take(end, words));
+        return Ok(read_take(end, words, step));
     }
     match words {
-        Some(words) if is_word(name, b"hear") => read_hear(alloc, profile, end, words),
-        Some(words) => Ok(read_plain_step(name, end, words)),
-        None => Ok(None),
+        Some(words) if is_word(name, b"hear") => read_hear(alloc, profile, end, words, step),
+        Some(words) => Ok(read_plain_step(name, end, words, step)),
+        None => Ok(false),
     }
 }
 
 /// The step of a name, but for `hear`, at an end behind which these words stand. It takes no memory.
-fn read_plain_step(name: &[u8], end: End, words: &[u8]) -> Option<Step>
+fn read_plain_step(name: &[u8], end: End, words: &[u8], step: &mut Step) -> bool
     requires { bytes_eq name.now (codes "hear") ≡ false }
-    ensures { (profile : Profile) → result ≡ step_with profile name.now end (Some words.now) }
+    ensures { (profile : Profile) → if_found result step.new ≡ step_with profile name.now end (Some words.now) }
 {
     if is_word(name, b"find") {
-        read_find(end, words)
+        read_find(end, words, step)
     } else if is_word(name, b"lose") {
-        read_lose(end, words)
+        read_lose(end, words, step)
     } else {
-        read_on_link(name, end, words)
+        read_on_link(name, end, words, step)
     }
 }
 
 /// `offer END HEX`, or `offer END` for the empty body.
-fn read_offer(alloc: Global, end: End, words: Option<&[u8]>) -> Result<Option<Step>, AllocError>
-    ensures { IfOk result (λ step. step ≡ offer end (option_copied words.entry)) }
+fn read_offer(
+    alloc: Global,
+    end: End,
+    words: Option<&[u8]>,
+    step: &mut Step,
+) -> Result<bool, AllocError>
+    ensures { IfOk result (λ found. if_found found step.new ≡ offer end (option_copied words.entry)) }
 {
-    match read_body(alloc, words)? {
-        Some(body) => Ok(Some(Step::Act {
-            end,
-            event: Event::Offer { body },
-        })),
-        None => Ok(None),
-    }
+    let Some(body) = read_body(alloc, words)? else {
+        return Ok(false);
+    };
+    *step = Step::Act {
+        end,
+        event: Event::Offer { body },
+    };
+    Ok(true)
 }
 
 /// The body that the last word gives, or the empty one where there is no word.
@@ -158,37 +186,46 @@ fn read_body(alloc: Global, word: Option<&[u8]>) -> Result<Option<Body>, AllocEr
 }
 
 /// `take END`
-fn read_take(end: End, words: Option<&[u8]>) -> Option<Step>
-    ensures { result ≡ take_message end (option_copied words.entry) }
+fn read_take(end: End, words: Option<&[u8]>, step: &mut Step) -> bool
+    ensures { if_found result step.new ≡ take_message end (option_copied words.entry) }
 {
-    match words {
-        Some(_) => None,
-        None => Some(Step::Act {
-            end,
-            event: Event::Take,
-        }),
+    if words.is_some() {
+        return false;
     }
+    *step = Step::Act {
+        end,
+        event: Event::Take,
+    };
+    true
 }
 
 /// `find END NUMBER`
-fn read_find(end: End, words: &[u8]) -> Option<Step>
-    ensures { result ≡ find end words.now }
+fn read_find(end: End, words: &[u8], step: &mut Step) -> bool
+    ensures { if_found result step.new ≡ find end words.now }
 {
-    let number = read_number(words)?;
-    Some(Step::Act {
+    let Some(number) = read_number(words) else {
+        return false;
+    };
+    *step = Step::Act {
         end,
         event: Event::Find { number },
-    })
+    };
+    true
 }
 
 /// `lose END LINK PLACE`
-fn read_lose(end: End, words: &[u8]) -> Option<Step>
-    ensures { result ≡ lose end words.now }
+fn read_lose(end: End, words: &[u8], step: &mut Step) -> bool
+    ensures { if_found result step.new ≡ lose end words.now }
 {
     let (word, words) = cut(words);
-    let link = read_link(word)?;
-    let place = read_number(words?)?;
-    Some(Step::Lose { end, link, place })
+    let (Some(link), Some(word)) = (read_link(word), words) else {
+        return false;
+    };
+    let Some(place) = read_number(word) else {
+        return false;
+    };
+    *step = Step::Lose { end, link, place };
+    true
 }
 
 /// `hear END LINK HEX`
@@ -197,17 +234,19 @@ fn read_hear(
     profile: Profile,
     end: End,
     words: &[u8],
-) -> Result<Option<Step>, AllocError>
-    ensures { IfOk result (λ step. step ≡ hear profile end words.now) }
+    step: &mut Step,
+) -> Result<bool, AllocError>
+    ensures { IfOk result (λ found. if_found found step.new ≡ hear profile end words.now) }
 {
     let (word, words) = cut(words);
     let (Some(link), Some(word)) = (read_link(word), words) else {
-        return Ok(None);
+        return Ok(false);
     };
-    match read_unit(alloc, profile, word)? {
-        Some(unit) => Ok(Some(Step::Inject { end, link, unit })),
-        None => Ok(None),
-    }
+    let Some(unit) = read_unit(alloc, profile, word)? else {
+        return Ok(false);
+    };
+    *step = Step::Inject { end, link, unit };
+    Ok(true)
 }
 
 /// The unit of this profile that a word gives: its octets, without check octets.
@@ -232,25 +271,32 @@ pub fn unit_in(profile: Profile, octets: &[u8]) -> Option<Unit>
 }
 
 /// `emit END LINK`, `arrive END LINK`, and the events that a word tells of a link
-fn read_on_link(name: &[u8], end: End, words: &[u8]) -> Option<Step>
-    ensures { result ≡ on_link name.now end words.now }
+fn read_on_link(name: &[u8], end: End, words: &[u8], step: &mut Step) -> bool
+    ensures { if_found result step.new ≡ on_link name.now end words.now }
 {
-    let link = read_link(words)?;
+    let Some(link) = read_link(words) else {
+        return false;
+    };
     if is_word(name, b"emit") {
-        return Some(Step::Emit { end, link });
+        *step = Step::Emit { end, link };
+        true
+    } else if is_word(name, b"arrive") {
+        *step = Step::Arrive { end, link };
+        true
+    } else {
+        read_event_on_link(name, end, link, step)
     }
-    if is_word(name, b"arrive") {
-        return Some(Step::Arrive { end, link });
-    }
-    read_event_on_link(name, end, link)
 }
 
 /// An event that a word tells of a link.
-fn read_event_on_link(name: &[u8], end: End, link: u8) -> Option<Step>
-    ensures { result ≡ option_map (Step.Act end) (link_event name.now link) }
+fn read_event_on_link(name: &[u8], end: End, link: u8, step: &mut Step) -> bool
+    ensures { if_found result step.new ≡ option_map (Step.Act end) (link_event name.now link) }
 {
-    let event = read_link_event(name, link)?;
-    Some(Step::Act { end, event })
+    let Some(event) = read_link_event(name, link) else {
+        return false;
+    };
+    *step = Step::Act { end, event };
+    true
 }
 
 /// What `down`, `blind`, `noanswer`, `restore` and `backtimeout` tell of a link.

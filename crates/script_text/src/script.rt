@@ -15,9 +15,8 @@ use super::account::Account;
 use super::fault::ScriptFault;
 use l2_units::Profile;
 use pair_world::{End, PlayFault, World};
-use play_script::{read_opening, read_step};
+use play_script::{read_opening, read_step_into};
 use printing::Stop;
-use set_events::Answer;
 use std::alloc::Global;
 use std::marker::{Model, PhantomData};
 use text_lines::{LineFlaw, LineText, find_flaw};
@@ -28,6 +27,9 @@ use world_steps::{Shown, Step};
 pub struct Script<A> {
     /// The world, once the first line has made it.
     world: Option<World>,
+    /// The last line's step, and what it showed: both have room for a unit, and are filled where they stand.
+    step: Step,
+    shown: Shown,
     account: PhantomData<A>,
 }
 
@@ -52,6 +54,8 @@ impl<A: Account> Script<A> {
     {
         Script {
             world: None,
+            step: Step::Together { link: 0 },
+            shown: Shown::Up,
             account: PhantomData,
         }
     }
@@ -108,7 +112,13 @@ impl<A: Account> LineText for Script<A> {
         if self.world.is_none() {
             open::<A>(alloc, &mut self.world, number, text, out)
         } else {
-            carry_out::<A>(alloc, &mut self.world, number, text, out)
+            let Script {
+                world,
+                step,
+                shown,
+                ..
+            } = self;
+            carry_out::<A>(alloc, world, step, shown, number, text, out)
         }
     }
 
@@ -163,11 +173,12 @@ fn unread(number: u64, text: &[u8]) -> Stop<ScriptFault>
     })
 }
 
-/// A line after the first asks for a step, which is carried out. The step is looked at where it was read, since it's copied each
-/// time that it's handed on.
+/// A line after the first asks for a step, which is carried out.
 fn carry_out<A: Account>(
     alloc: Global,
     world: &mut Option<World>,
+    step: &mut Step,
+    shown: &mut Shown,
     number: u64,
     text: &[u8],
     out: &mut Vec<u8>,
@@ -179,10 +190,9 @@ fn carry_out<A: Account>(
     let Some(world) = world.as_mut() else {
         unreachable!();
     };
-    let asked = read_step(alloc, world_profile(world), text);
-    match &asked {
-        Ok(Some(step)) => carry_out_step::<A>(alloc, world, number, step, out),
-        Ok(None) => Err(unread(number, text)),
+    match read_step_into(alloc, world_profile(world), text, step) {
+        Ok(true) => carry_out_step::<A>(alloc, world, number, step, shown, out),
+        Ok(false) => Err(unread(number, text)),
         Err(_) => Err(Stop::Memory),
     }
 }
@@ -193,6 +203,7 @@ fn carry_out_step<A: Account>(
     world: &mut World,
     number: u64,
     step: &Step,
+    shown: &mut Shown,
     out: &mut Vec<u8>,
 ) -> Result<(), Stop<ScriptFault>>
     ensures { IsDone result
@@ -200,9 +211,8 @@ fn carry_out_step<A: Account>(
         out.old.items out.new.items (Some world.new) }
 {
     let note = A::note(world, step);
-    let mut shown = Shown::Answered(Answer::Done);
-    match world.carry_out(step, &mut shown) {
-        Ok(()) => Ok(A::tell_step(alloc, number, note, step, &shown, world, out)?),
+    match world.carry_out(step, shown) {
+        Ok(()) => Ok(A::tell_step(alloc, number, note, step, shown, world, out)?),
         Err(fault) => Err(stop_of(fault, number)),
     }
 }
