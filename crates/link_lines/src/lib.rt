@@ -14,6 +14,8 @@
 
 mod line;
 mod lines;
+mod under_way;
 
 pub use line::Line;
 pub use lines::Lines;
+pub use under_way::UnderWay;

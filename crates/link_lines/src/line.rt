@@ -1,18 +1,20 @@
 //! Units under way on one link.
 ghost use Rattle.std.specs.Prelude.{◌≡◌, ◌==◌, [], ◌∷◌, ◌++◌, OnOk, OnErr, length, slice_get};
-ghost use Rattle.std.specs.Option.{option_copied};
 ghost use Rattle.link_lines.specs.Lines.{IsTakenFrom};
 
+use super::under_way::UnderWay;
 use l2_units::Unit;
-use std::alloc::{AllocFailed, Allocator, Global};
+use std::alloc::{AllocError, Allocator, Global};
 use std::collections::VecDeque;
 use std::marker::Model;
 
-/// Units under way on one link, oldest first. Contracts see the list. The front leaves it at the same cost whatever stands
-/// behind.
+/// Units under way on one link, oldest first, each in as much memory as it has octets. Contracts see the list. The front leaves it
+/// at the same cost whatever stands behind.
 #[derive(Drop)]
 pub struct Line<A: Allocator = Global> {
-    units: VecDeque<Unit, A>,
+    units: VecDeque<UnderWay<A>, A>,
+    /// What a message's octets are kept by.
+    alloc: A,
 }
 
 impl<A: Allocator> Model for Line<A> {
@@ -31,15 +33,18 @@ impl<A: Allocator + Copy> Line<A> {
     {
         Line {
             units: VecDeque::new(alloc),
+            alloc,
         }
     }
 
     /// A unit joins the line; where memory is wanted, nothing has changed.
-    pub(crate) fn join(&mut self, unit: Unit) -> Result<(), AllocFailed<Unit>>
-        ensures ok { OnOk result (self.new ≡ self.old ++ unit ∷ []) }
+    pub(crate) fn join(&mut self, unit: &Unit) -> Result<(), AllocError>
+        ensures ok { OnOk result (self.new ≡ self.old ++ unit.now ∷ []) }
         ensures err { OnErr result (self.new ≡ self.old) }
     {
-        self.units.push_back(unit)
+        let under_way = UnderWay::of(self.alloc, unit)?;
+        self.units.push_back(under_way)?;
+        Ok(())
     }
 
     /// How many units are under way.
@@ -57,14 +62,17 @@ impl<A: Allocator + Copy> Line<A> {
     }
 
     /// The unit at this place, the oldest at 0.
-    pub fn unit(&self, place: u64) -> Option<&Unit>
-        ensures { option_copied result ≡ slice_get self.now place }
+    pub fn unit(&self, place: u64) -> Option<Unit>
+        ensures { result ≡ slice_get self.now place }
     {
-        self.units.get(place as usize)
+        match self.units.get(place as usize) {
+            Some(under_way) => Some(under_way.unit()),
+            None => None,
+        }
     }
 
     /// Takes the unit at this place out of the line, if there is one.
-    pub(crate) fn take_out(&mut self, place: u64) -> Option<Unit>
+    pub(crate) fn take_out(&mut self, place: u64) -> Option<UnderWay<A>>
         ensures { IsTakenFrom result self.old place self.new }
     {
         if place == 0 {

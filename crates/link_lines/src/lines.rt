@@ -1,7 +1,8 @@
 //! A line for each link.
 use super::line::Line;
+use super::under_way::UnderWay;
 use l2_units::Unit;
-use std::alloc::{AllocError, AllocFailed, Allocator, Global};
+use std::alloc::{AllocError, Allocator, Global};
 use std::marker::Model;
 
 /// The units under way to one end, a line for each link. Contracts see the list of the lines, each
@@ -47,9 +48,9 @@ impl<A: Allocator + Copy> Lines<A> {
     /// The unit joins the line of this link; where memory is wanted, no line has changed.
     ///
     /// Condition: there is such a link.
-    pub fn join(&mut self, link: u8, unit: Unit) -> Result<(), AllocFailed<Unit>>
+    pub fn join(&mut self, link: u8, unit: &Unit) -> Result<(), AllocError>
         requires { link < length self.old }
-        ensures ok { OnOk result (self.new ≡ joined_on link unit self.old) }
+        ensures ok { OnOk result (self.new ≡ joined_on link unit.now self.old) }
         ensures err { OnErr result (self.new ≡ self.old) }
     {
         self.lines[link as usize].join(unit)
@@ -68,7 +69,7 @@ impl<A: Allocator + Copy> Lines<A> {
     /// Takes the unit at this place, from 0, out of the line of this link, if there is one.
     ///
     /// Condition: there is such a link.
-    pub fn take_out(&mut self, link: u8, place: u64) -> Option<Unit>
+    pub fn take_out(&mut self, link: u8, place: u64) -> Option<UnderWay<A>>
         requires { link < length self.old }
         ensures { IsTakenOut result link place self.old self.new }
     {

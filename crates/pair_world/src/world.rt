@@ -10,7 +10,7 @@ ghost use Rattle.pair_streams.specs.Arrived.{AreDone};
 
 use super::fault::PlayFault;
 use l2_units::{Unit, copy_of_unit};
-use link_lines::{Line, Lines};
+use link_lines::{Line, Lines, UnderWay};
 use set_core::{SetCore, SetFault};
 use set_events::{Actor, Answer, Counts, Event, SetConfig};
 use set_step::is_asked;
@@ -324,7 +324,6 @@ impl World {
         let Shown::Answered(Answer::Sent { unit }) = shown else {
             return Ok(());
         };
-        let unit = copy_of_unit(unit);
         match end {
             End::A => self.to_b.join(link, unit)?,
             End::B => self.to_a.join(link, unit)?,
@@ -358,14 +357,18 @@ impl World {
         if !self.holds_link(link) {
             return Err(PlayFault::Impossible { place: 0 });
         }
-        let Some(unit) = self.take_out(end, link, 0) else {
+        let Some(under_way) = self.take_out(end, link, 0) else {
             return Err(PlayFault::Impossible { place: 0 });
         };
         if !self.is_link_up(end, link) {
             *shown = Shown::Lost;
             return Ok(());
         }
-        self.act(end, &Event::Heard { link, unit }, shown)
+        let event = Event::Heard {
+            link,
+            unit: under_way.unit(),
+        };
+        self.act(end, &event, shown)
     }
 
     /// The unit at this place of the link's line to the end is lost.
@@ -386,7 +389,7 @@ impl World {
     }
 
     /// Takes the unit at this place out of the link's line to the end, if there is one.
-    fn take_out(&mut self, end: End, link: u8, place: u64) -> Option<Unit>
+    fn take_out(&mut self, end: End, link: u8, place: u64) -> Option<UnderWay>
         requires { has_link self.old link ≡ true }
         ensures { IsTakenFrom result self.old end link place self.new }
     {

@@ -122,20 +122,10 @@ fn find_affected(world: &World, step: &Step) -> Option<Unit>
     ensures { result ≡ affected world.now step.now }
 {
     match step {
-        Step::Arrive { end, link } => unit_at(world.line(*end, *link), 0),
-        Step::Lose { end, link, place } => unit_at(world.line(*end, *link), *place),
+        Step::Arrive { end, link } => world.line(*end, *link).unit(0),
+        Step::Lose { end, link, place } => world.line(*end, *link).unit(*place),
         Step::Inject { unit, .. } => Some(copy_of_unit(unit)),
         Step::Act { .. } | Step::Emit { .. } | Step::Together { .. } => None,
-    }
-}
-
-/// The unit at this place of a line, from 0.
-fn unit_at(line: &Line, place: u64) -> Option<Unit>
-    ensures { result ≡ slice_get line.now place }
-{
-    match line.unit(place) {
-        Some(unit) => Some(copy_of_unit(unit)),
-        None => None,
     }
 }
 

@@ -49,7 +49,7 @@ fn write_marks(alloc: Global, link: u8, way: &str, line: &Line) -> Result<Vec<u8
         let Some(unit) = line.unit(place) else {
             continue;
         };
-        text.extend_from_slice(&write_mark(alloc, link, way, unit)?)?;
+        text.extend_from_slice(&write_mark(alloc, link, way, &unit)?)?;
     }
     Ok(text)
 }

@@ -1,9 +1,9 @@
-//! Three units on two links, each step by hand.
+//! Units under way on two links, each step by hand.
 ghost use Rattle.std.specs.Prelude.{◌≡◌, ◌<◌, length};
 
 use super::bench::holds;
-use l2_units::{Header, Unit};
-use link_lines::Lines;
+use l2_units::{Header, Unit, body_of, same_unit};
+use link_lines::{Lines, UnderWay};
 use std::test::Fail;
 
 /// A fill-in unit of this FSN.
@@ -21,9 +21,9 @@ fn fill_in(fsn: u16) -> Unit
 }
 
 /// The FSN of a unit that was taken out.
-fn fsn_of(unit: Option<Unit>) -> Option<u16> {
-    match unit {
-        Some(Unit::Fisu { head }) => Some(head.fsn),
+fn fsn_of(taken: Option<UnderWay>) -> Option<u16> {
+    match taken?.unit() {
+        Unit::Fisu { head } => Some(head.fsn),
         _ => None,
     }
 }
@@ -34,7 +34,7 @@ fn is_joined(lines: &mut Lines, link: u8, fsn: u16) -> bool
     requires fsn { fsn < 128 }
     ensures { length lines.new ≡ length lines.old }
 {
-    lines.join(link, fill_in(fsn)).is_ok()
+    lines.join(link, &fill_in(fsn)).is_ok()
 }
 
 #[test]
@@ -54,4 +54,35 @@ fn a_unit_is_taken_from_its_place_on_its_own_link(rt: HostRuntime) -> Result<(),
     let last = lines.take_out(0, 0).is_none();
     let left = cleared && last && other == Some(3);
     holds(joined && left && [second, third, first] == [Some(5), None, Some(4)])
+}
+
+/// A message of three octets.
+fn message() -> Unit {
+    Unit::Msu {
+        head: Header {
+            bsn: 127,
+            bib: true,
+            fsn: 9,
+            fib: false,
+        },
+        body: body_of(&[0x85, 1, 2]),
+    }
+}
+
+/// Whether that message is at the front of this line, and leaves it.
+fn leaves_as_it_came(lines: &mut Lines) -> bool
+    requires { 0 < length lines.old }
+{
+    let sent = message();
+    let seen = matches!(lines.line(0).unit(0), Some(unit) if same_unit(&unit, &sent));
+    let taken =
+        matches!(lines.take_out(0, 0), Some(under_way) if same_unit(&under_way.unit(), &sent));
+    seen && taken
+}
+
+#[test]
+fn a_message_leaves_with_its_octets(rt: HostRuntime) -> Result<(), Fail> {
+    let mut lines = Lines::new(rt.alloc(), 1)?;
+    let joined = lines.join(0, &message()).is_ok();
+    holds(joined && leaves_as_it_came(&mut lines) && lines.line(0).is_empty())
 }

@@ -4,12 +4,12 @@ use Rattle.pair_world.proofs.world.World.arrive.Goals as goal
 
 pub returns-then-not-is_link_up-clause-carried : goal.returns-then-not-is_link_up-clause-carried
 returns-then-not-is_link_up-clause-carried c =
-    arrives_so _ c.take_out.new.self _ _ c.in-Some.unit
+    arrives_so _ c.take_out.new.self _ _ c.in-Some.under_way
     (sym c.holds_link.ensures.value ∙ c.if-not-holds_link.false) c.in-Some.ensures
     ∙ rw (sym c.is_link_up.ensures ∙ c.if-not-is_link_up.true) refl
 
 pub returns-clause-carried : goal.returns-clause-carried
 returns-clause-carried c =
-    rw (arrives_so _ c.take_out.new.self _ _ c.in-Some.unit
+    rw (arrives_so _ c.take_out.new.self _ _ c.in-Some.under_way
     (sym c.holds_link.ensures.value ∙ c.if-not-holds_link.false) c.in-Some.ensures)
-    (rw (sym c.is_link_up.ensures ∙ c.if-not-is_link_up.false) c.act.ensures.acts)
+    (rw (sym c.is_link_up.ensures ∙ c.if-not-is_link_up.false, sym c.unit.ensures) c.act.ensures.acts)
