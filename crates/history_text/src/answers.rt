@@ -59,6 +59,7 @@ fn read_answer(
 }
 
 /// `accepted N`
+#[inline(never)]
 fn read_accepted(word: &[u8], answer: &mut Answer) -> bool
     ensures { if_found result answer.new ≡ option_map Accepted (number_of word.now) }
 {
@@ -72,6 +73,7 @@ fn read_accepted(word: &[u8], answer: &mut Answer) -> bool
 }
 
 /// `taken HEX`
+#[inline(never)]
 fn read_taken(alloc: Global, word: &[u8], answer: &mut Answer) -> Result<bool, AllocError>
     ensures { IfOk result (λ found. if_found found answer.new ≡ taken_in word.now) }
 {
@@ -88,6 +90,7 @@ fn read_taken(alloc: Global, word: &[u8], answer: &mut Answer) -> Result<bool, A
 }
 
 /// `found FATE`, from the words behind the name
+#[inline(never)]
 fn read_found(name: &[u8], others: &[u8], answer: &mut Answer) -> bool
     ensures { if_found result answer.new ≡ option_map Found (fate_in name.now (word others.now)) }
 {
@@ -147,6 +150,7 @@ fn cause_of(number: u8) -> Option<DiscardCause>
 }
 
 /// `sent HEX`, with check octets
+#[inline(never)]
 fn read_sent(
     alloc: Global,
     profile: Profile,
@@ -169,6 +173,7 @@ fn read_sent(
 }
 
 /// `heard acked=K took=T asked=B resend=B fault=F`, from the words behind the name
+#[inline(never)]
 fn read_heard(words: &[u8], answer: &mut Answer) -> bool
     ensures { if_found result answer.new ≡ heard_in words.now }
 {
@@ -232,6 +237,7 @@ fn read_fault(word: &[u8]) -> Option<ControlFault>
 }
 
 /// `refused N`
+#[inline(never)]
 fn read_refused(word: &[u8], answer: &mut Answer) -> bool
     ensures { if_found result answer.new
         ≡ option_map Refused (option_and_then refusal_in (number_of word.now)) }

@@ -73,6 +73,7 @@ fn read_event(
 }
 
 /// `offer HEX`
+#[inline(never)]
 fn read_offer(alloc: Global, word: &[u8], event: &mut Event) -> Result<bool, AllocError>
     ensures { IfOk result (λ found. if_found found event.new ≡ option_map Offer (body_in word.now)) }
 {
@@ -86,6 +87,7 @@ fn read_offer(alloc: Global, word: &[u8], event: &mut Event) -> Result<bool, All
 }
 
 /// `find N`
+#[inline(never)]
 fn read_find(word: &[u8], event: &mut Event) -> bool
     ensures { if_found result event.new ≡ option_map Find (number_of word.now) }
 {
@@ -99,6 +101,7 @@ fn read_find(word: &[u8], event: &mut Event) -> bool
 }
 
 /// `hear L HEX`
+#[inline(never)]
 fn read_hear(
     alloc: Global,
     profile: Profile,
@@ -131,6 +134,7 @@ fn read_on_link(name: &[u8], word: &[u8], event: &mut Event) -> bool
 }
 
 /// The event of this name on a link.
+#[inline(never)]
 fn read_event_on_link(name: &[u8], link: u8, event: &mut Event) -> bool
     ensures { if_found result event.new ≡ link_event_in name.now link }
 {
@@ -146,6 +150,7 @@ fn read_event_on_link(name: &[u8], link: u8, event: &mut Event) -> bool
 }
 
 /// What a terminal tells of a link now and then.
+#[inline(never)]
 fn read_rare_event(name: &[u8], link: u8, event: &mut Event) -> bool
     ensures { if_found result event.new ≡ link_event name.now link }
 {
