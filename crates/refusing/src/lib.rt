@@ -2,7 +2,8 @@
 //!
 //! [`Refusing`] counts the allocations that are asked of it, and refuses the one that it was made for: a growth is one
 //! too, since it asks for a new block. What is over any allocator takes a `&Refusing`, which is copied freely: so a test
-//! keeps the count, and asks [`Refusing::refuses_no_more`] whether the number was reached.
+//! keeps the count, and asks [`Refusing::refuses_no_more`] whether the number was reached, and [`Refusing::blocks`] how many
+//! blocks are out.
 #![tactic(auto)]
 
 use std::alloc::{AllocError, Allocator};
@@ -13,6 +14,10 @@ pub struct Refusing<B: Allocator> {
     inner: B,
     /// The number of the one to refuse among those to come, counted from 1; 0 where none of them is refused.
     left: Cell<u64>,
+    /// How many blocks were handed out.
+    handed: Cell<u64>,
+    /// How many of them came back.
+    returned: Cell<u64>,
 }
 
 impl<B: Allocator> Refusing<B> {
@@ -22,6 +27,8 @@ impl<B: Allocator> Refusing<B> {
         Refusing {
             inner,
             left: Cell::new(number),
+            handed: Cell::new(0),
+            returned: Cell::new(0),
         }
     }
 
@@ -34,11 +41,21 @@ impl<B: Allocator> Refusing<B> {
     pub fn refuses_no_more(&self) -> bool {
         self.left.get() == 0
     }
+
+    /// How many blocks are out: those that were handed out and didn't come back. A growth hands one out and takes one back.
+    pub fn blocks(&self) -> u64 {
+        self.handed.get().wrapping_sub(self.returned.get())
+    }
 }
 
 impl<B: Allocator> Drop for Refusing<B> {
     fn drop(self) {
-        let Self { inner: _, left: _ } = self;
+        let Self {
+            inner: _,
+            left: _,
+            handed: _,
+            returned: _,
+        } = self;
     }
 }
 
@@ -49,6 +66,11 @@ fn refuses(left: &Cell<u64>) -> bool {
     number == 1
 }
 
+/// One more.
+fn count(blocks: &Cell<u64>) {
+    blocks.set(blocks.get().wrapping_add(1));
+}
+
 unsafe impl<B: Allocator> Allocator for Refusing<B> {
     ghost dealloc_token = { λ heap ty ptr. B.dealloc_token heap.inner ty ptr };
 
@@ -56,10 +78,17 @@ unsafe impl<B: Allocator> Allocator for Refusing<B> {
         if refuses(&self.left) {
             return Err(AllocError);
         }
-        self.inner.allocate(size, align)
+        match self.inner.allocate(size, align) {
+            Ok(block) => {
+                count(&self.handed);
+                Ok(block)
+            }
+            Err(refused) => Err(refused),
+        }
     }
 
     unsafe fn deallocate(&self, ptr: *mut u8, size: usize, align: usize) {
+        count(&self.returned);
         self.inner.deallocate(ptr, size, align);
     }
 }

@@ -10,7 +10,7 @@ use prog.Memory.{Memory, size, align, capped}
 use prog.Routine.{Routine}
 use prog.Wp.{WpFn, Tables}
 use types.Logic.{Logic}
-use types.Kit.{Item, ‵, raw, ◌⊛◌, later, given, ◌$◌, ◌∵◌, !, qed, by, move, keep, use1, split, split3, join, learn, fsplit, fjoin, feq_i, suffices, await, done}
+use types.Kit.{Item, ‵, raw, ◌⊛◌, later, given, ◌$◌, ◌∵◌, !, qed, by, move, keep, use1, use2, split, split3, join, learn, fsplit, fjoin, feq_i, suffices, await, done}
 use types.Run.{stop, fld, addr, no_more, and_then, of_opd, returns, enter, unit_lit}
 use types.ByLocal.{alloc_all, pass_all, free_all, look_at, get, through, sets, lands_as}
 use contract.BorrowLft.{◌⊑◌, ⊑_trans}
@@ -30,10 +30,13 @@ use denote.Triple.Call.{calls_at}
 use denote.Triple.Clauses.{Ended, Clauses}
 use denote.Triple.Spec.{triple_of}
 use denote.Triple.Statement.{Triple}
-use denote.Triple.Table.{entered}
+use denote.Triple.Table.{entered, cited}
 use denote.Triple.Walked.{Stays, stay_dropped, walk_of, ends_at, walked, Goes-dropped, walk_Meets}
 use Rattle.std.proofs.alloc.Calls.{Al, seen, token, gives_key, Gives, at_gives, Gives-goes, Gives-Gives}
-use Rattle.refusing.proofs.Inside.{the_args, the_self, inner_at}
+use Rattle.refusing.proofs.Asking.{Counts, at_counts, counts_from, counts_gives}
+use Rattle.refusing.proofs.Inside.{the_args, the_self, inner_at, returned_at}
+use Rattle.refusing.proofs.count.Symbol as count_symbol
+use Rattle.refusing.proofs.count.Met as count_met
 use Rattle.refusing.specs.contracts.Refusing as refusing
 use Rattle.refusing.specs.contracts.RefusingAllocator.deallocate as told
 use Rattle.refusing.specs.contracts.RefusingAllocator.deallocate.Key as key
@@ -57,7 +60,8 @@ module _ (Z : Al) where
   )
 
 module _ (Z : Al) {M : Type 1} {𝓤 : Ura M} (𝓛 : Logic 𝓤) (at_mem : Memory → SProp 𝓤) (run : Routine → Fun 𝓤)
-    (𝓣 : Tables 𝓤 𝓛.H) (inner_gives : Triple 𝓤 (𝓣.C (gives_key Z)) (Gives Z 𝓛 at_mem run)) where
+    (𝓣 : Tables 𝓤 𝓛.H) (inner_gives : Triple 𝓤 (𝓣.C (gives_key Z)) (Gives Z 𝓛 at_mem run))
+    (counted : Triple 𝓤 (𝓣.C count_symbol.name) (Counts 𝓛 at_mem run)) where
   open 𝓛 use {H}
 
   abbrev held : Clauses 𝓤 (ended Z)
@@ -101,15 +105,23 @@ module _ (Z : Al) {M : Type 1} {𝓤 : Ura M} (𝓛 : Logic 𝓤) (at_mem : Memo
     walk n_fits a_fits (block_ptr b o) =
         let inner : Z.row.Denot = r.now.inner in
         let at : ℕ × ℕ = inner_at Z r.ref_ptr in
+        let returned : ℕ × ℕ = returned_at Z r.ref_ptr in
         let x : Ptr = block_ptr b o in
         let call : (Gives Z 𝓛 at_mem run).Ghost = at_gives Z 𝓛 at_mem run κ₁ q₁ at inner b o n a τ in
         qed 𝓛 (entry x
         ∷ (raw (fact 𝓤 (κ₂ ⊑ Z.row.lives)) ⊛ raw (fact 𝓤 Fits) ⊛ ‵ (fsep (froom τ b o) (token Z inner τ x))) ∷ []) ∵
         move ! (1 ∷ []) $ split3 ! $ heard ! (κ₂ ⊑ Z.row.lives) (λ lives. heard ! Fits (λ fits. move ! (1 ∷ []) $
         split ! $ split ! $ move ! (2 ∷ []) $ fsplit ! $ fsplit ! $ move ! (1 ∷ []) $ unhide ! $ fsplit ! $ fsplit ! $
-        use1 𝓛 (‵ (seen Z κ₁ at inner)) (id⊢ 𝓤 _) $ keep ! (0 ∷ 5 ∷ 6 ∷ 7 ∷ []) $
+        use1 𝓛 (‵ (seen Z κ₁ at inner)) (id⊢ 𝓤 _) $ move ! (1 ∷ []) $ fsplit ! $ move ! (1 ∷ []) $ fsplit ! $ move ! (1 ∷ []) $ fsplit ! $
+        keep ! (0 ∷ 8 ∷ 4 ∷ 9 ∷ 10 ∷ []) $
         enter ! 𝓣.C 𝓣.Λ (here Z) (values x) _ $ alloc_all ! (λ l.
         pass_all ! refl ((tt, tt), ((tt, tt), ((tt, record { fits = n_fits }), ((tt, record { fits = a_fits }), tt)))) $
+        sets ! (addr ! (through ! refl (fld ! refl (stop !)))) refl (tt, tt) $
+        use2 𝓛 (raw ((Counts 𝓛 at_mem run).pre (at_counts 𝓛 at_mem run κ₁ q₁ returned))) (counts_from 𝓛 at_mem run κ₁ q₁ returned) $
+        calls_at ! (fm_of 𝓤 H 𝓛.laws 𝓣) (Counts 𝓛 at_mem run) counted (at_counts 𝓛 at_mem run κ₁ q₁ returned)
+        (and_then ! (get ! refl) (no_more !)) (λ u.
+        use1 𝓛 (later (given (u ≡ vunit) (‵ (flft κ₁ q₁)))) (counts_gives 𝓛 at_mem run κ₁ q₁ returned u) $
+        await ! tt $ learn ! (λ is_counted. lands_as ! is_counted refl (tt, tt) $ move ! (1 ∷ []) $
         sets ! (addr ! (through ! refl (fld ! refl (stop !)))) refl (tt, tt) $
         join ! $ move ! (2 ∷ []) $ fsplit ! $ move ! (1 ∷ 2 ∷ []) $ join ! $ move ! (1 ∷ 0 ∷ []) $ join ! $
         use1 𝓛 (raw ((Gives Z 𝓛 at_mem run).pre call))
@@ -122,7 +134,7 @@ module _ (Z : Al) {M : Type 1} {𝓤 : Ura M} (𝓛 : Logic 𝓤) (at_mem : Memo
         returns ! (look_at ! 0 refl) $ free_all ! refl $
         suffices ! _ (ends_at 𝓛 (ended Z) (stayed Z) held (bound x) vunit tt (tt, (tt, (tt, (tt, tt)))) (tt, (tt, (tt, (tt, tt))))) $
         nothing ! $ feq_i ! (List Val) (vunit ∷ []) (vunit ∷ []) refl $ nothing ! $ nothing ! $ fjoin ! $ nothing ! $ fjoin ! $
-        nothing ! $ fjoin ! $ nothing ! $ fjoin ! $ join ! $ move ! (2 ∷ 3 ∷ []) $ join ! $ join ! $ done !)))))
+        nothing ! $ fjoin ! $ nothing ! $ fjoin ! $ join ! $ move ! (2 ∷ 3 ∷ []) $ join ! $ join ! $ done !)))))))
 
 pub deallocate_spec : {M : Type 1} → statement M
 unfolding tables_of
@@ -145,5 +157,8 @@ deallocate_spec 𝓤 𝓛 𝓜 𝓡 wired Y L g d drops met _ =
     (λ κs. (shr_vals, (rawptr_vals, (uint_vals w64, (uint_vals w64, tt)))))
     (λ κs. ((λ r vs s. s.0), (rawptr_Tells, (uint_Tells w64, (uint_Tells w64, tt)))))
     (λ κs qs bounds a τ are.
-    walk Z 𝓛 𝓜.mem 𝓡.returns 𝓣 (met.deallocate drops) κs.0 κs.1.0 qs.0 qs.1.0 bounds.0 a.0 a.1.1.0 a.1.1.1.0 τ
+    walk Z 𝓛 𝓜.mem 𝓡.returns 𝓣 (met.deallocate drops)
+    (cited 𝓤 𝓛.H _ 𝓜 𝓡 𝓡.env count_symbol.name (𝓡.env count_symbol.name) refl
+    (count_met.met 𝓤 𝓛 𝓜 𝓡 (code.calls-refusing::count 𝓡.env wired)))
+    κs.0 κs.1.0 qs.0 qs.1.0 bounds.0 a.0 a.1.1.0 a.1.1.1.0 τ
     are.1.1.0.1 are.1.1.1.0.1 a.1.0)))
