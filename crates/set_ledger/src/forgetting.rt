@@ -13,19 +13,23 @@ use super::share::{Forgotten, count_messages};
 use set_core::SetFault;
 use set_events::Answer;
 use set_history::{Asked, History, Reader, Told};
-use std::alloc::{AllocError, Global};
+use std::alloc::{AllocError, Allocator, Global};
 use std::sync::ledger::Ledger;
 
 /// A seat forgets the receipts of its calls before the set's base, and keeps what they added up to: a set's history has
 /// no entry of them any more, and [`Held::end`] holds the others against it, as before. The share stays. Where there are
-/// such calls it takes time by how many receipts there are, and meanwhile memory by how many stay.
+/// such calls it takes time by how many receipts there are, and meanwhile memory by how many stay: the seat's own, and
+/// that of `alloc` for one event at a time.
 ///
 /// Fault: 1 [`SetFault::NoMemory`], only where memory was refused; the seat is then as it was.
-pub fn forget<C: Opening, M: Ledger, O: Ledger, A: Ledger, S: Seat<C, M, O, A>>(
-    alloc: Global,
-    held: &Held<C, M, O, A>,
-    seat: &mut S,
-) -> Result<(), SetFault>
+pub fn forget<
+    C: Opening,
+    M: Ledger,
+    O: Ledger,
+    A: Ledger,
+    G: Allocator + Copy,
+    S: Seat<C, M, O, A>,
+>(alloc: Global, held: &Held<C, M, O, A, G>, seat: &mut S) -> Result<(), SetFault>
     ensures forgets { OnOk result (Forgets
         (calls_at (S.state seat.old).who held.now.set.base.books - (S.state seat.old).forgotten.calls)
         (S.state seat.old) (S.state seat.new)) }
@@ -41,9 +45,10 @@ pub fn forget<C: Opening, M: Ledger, O: Ledger, A: Ledger, S: Seat<C, M, O, A>>(
 }
 
 /// The first so many receipts are forgotten, or all, where there are fewer. What they added up to is kept.
-pub(crate) fn forget_first(
+pub(crate) fn forget_first<G: Allocator + Copy>(
     alloc: Global,
-    receipts: &mut History,
+    room: G,
+    receipts: &mut History<G>,
     forgotten: &mut Forgotten,
     many: u64,
 ) -> Result<(), AllocError>
@@ -57,7 +62,7 @@ pub(crate) fn forget_first(
     }
     let mut left = receipts.reader();
     let counted = count_first(*forgotten, &mut left, many);
-    let kept = copy_of(alloc, left)?;
+    let kept = copy_of(alloc, room, left)?;
     *receipts = kept;
     *forgotten = counted;
     Ok(())
@@ -106,10 +111,14 @@ fn count_asked(asked: &Asked<'_>, answer: &Answer) -> u64
 }
 
 /// A history of these entries.
-fn copy_of(alloc: Global, entries: Reader<'_>) -> Result<History, AllocError>
+fn copy_of<G: Allocator + Copy>(
+    alloc: Global,
+    room: G,
+    entries: Reader<'_>,
+) -> Result<History<G>, AllocError>
     ensures { IfOk result (λ copy. copy.items ≡ entries.entry) }
 {
-    let mut copy = History::new(alloc);
+    let mut copy = History::new(room);
     let mut left = entries;
     while let Some(told) = left.next() {
         let event = told.event(alloc)?;

@@ -12,7 +12,7 @@ use super::seat::{TermSeat, UserSeat, put_terminals, put_users};
 use super::share::{Blanks, SeatShare};
 use set_core::{SetCore, SetFault};
 use set_events::SetConfig;
-use std::alloc::{AllocFailed, Global};
+use std::alloc::{AllocFailed, Allocator, Global};
 use std::marker::Model;
 use std::sync::ledger::{Book, Ledger, Share};
 use thiserror::Error;
@@ -25,8 +25,8 @@ pub const MOST_USERS: u16 = 64;
 /// Of every value it holds that the totals are what the set's history adds up to since its opening ([`Held::totals`]), and
 /// that legal histories lead to its base from what its type says that it was opened with ([`Held::replays`]).
 #[derive(Drop)]
-pub struct Held<C: Opening, M: Ledger, O: Ledger, A: Ledger> {
-    pub(crate) core: SetCore,
+pub struct Held<C: Opening, M: Ledger, O: Ledger, A: Ledger, G: Allocator = Global> {
+    pub(crate) core: SetCore<G>,
     pub(crate) users: u16,
     pub(crate) links: u8,
     pub(crate) calls: Book<C>,
@@ -36,7 +36,7 @@ pub struct Held<C: Opening, M: Ledger, O: Ledger, A: Ledger> {
     pub(crate) rest: Rest<C, M, O, A>,
 }
 
-impl<C: Opening, M: Ledger, O: Ledger, A: Ledger> Model for Held<C, M, O, A> {
+impl<C: Opening, M: Ledger, O: Ledger, A: Ledger, G: Allocator> Model for Held<C, M, O, A, G> {
     ghost use Rattle.set_ledger.specs.Totals.{HeldState};
 
     ghost Value = { HeldState };
@@ -85,16 +85,16 @@ pub enum CreateFault {
 
 /// A set that was opened, and its seats.
 #[derive(Drop)]
-pub struct Opened<C: Opening, M: Ledger, O: Ledger, A: Ledger> {
+pub struct Opened<C: Opening, M: Ledger, O: Ledger, A: Ledger, G: Allocator = Global> {
     /// The set.
-    pub held: Held<C, M, O, A>,
+    pub held: Held<C, M, O, A, G>,
     /// A seat for each user, 0, 1, ..
-    pub users: Vec<UserSeat<C, M, O, A>>,
+    pub users: Vec<UserSeat<C, M, O, A, G>, G>,
     /// A seat for the terminal of each link, 0, 1, ..
-    pub terminals: Vec<TermSeat<C, M, O, A>>,
+    pub terminals: Vec<TermSeat<C, M, O, A, G>, G>,
 }
 
-impl<C: Opening, M: Ledger, O: Ledger, A: Ledger> Held<C, M, O, A> {
+impl<C: Opening, M: Ledger, O: Ledger, A: Ledger, G: Allocator + Copy> Held<C, M, O, A, G> {
     /// Opens a set as this configuration has it, for so many users: the set, a seat for each user, and one for
     /// the terminal of each link. From nothing the totals and the shares are 0. The configuration's settings are those
     /// that the type tells.
@@ -102,11 +102,11 @@ impl<C: Opening, M: Ledger, O: Ledger, A: Ledger> Held<C, M, O, A> {
     /// Faults: 2 [`CreateFault::Users`] exactly where there is no user or more than 64, tested first;
     /// 1 [`CreateFault::NoMemory`] only where memory was refused.
     pub fn open(
-        alloc: Global,
+        alloc: G,
         config: &SetConfig,
         users: u16,
         blanks: Blanks,
-    ) -> Result<Opened<C, M, O, A>, CreateFault>
+    ) -> Result<Opened<C, M, O, A, G>, CreateFault>
         requires calls { (0 < users) × (users ≤ 64) → Names blanks.calls C.name C.parts }
         requires messages { (0 < users) × (users ≤ 64) → Names blanks.messages M.name M.parts }
         requires octets { (0 < users) × (users ≤ 64) → Names blanks.octets O.name O.parts }
@@ -134,7 +134,7 @@ impl<C: Opening, M: Ledger, O: Ledger, A: Ledger> Held<C, M, O, A> {
     }
 
     /// The set.
-    pub fn core(&self) -> &SetCore
+    pub fn core(&self) -> &SetCore<G>
         ensures { result.now ≡ self.now.set }
     {
         &self.core
@@ -197,15 +197,15 @@ impl<C: Opening, M: Ledger, O: Ledger, A: Ledger> Held<C, M, O, A> {
 }
 
 /// A new set, and room for its seats.
-fn room_for<C: Opening, M: Ledger, O: Ledger, A: Ledger>(
-    alloc: Global,
+fn room_for<C: Opening, M: Ledger, O: Ledger, A: Ledger, G: Allocator + Copy>(
+    alloc: G,
     config: &SetConfig,
     users: u16,
 ) -> Result<
     (
-        SetCore,
-        Vec<UserSeat<C, M, O, A>>,
-        Vec<TermSeat<C, M, O, A>>,
+        SetCore<G>,
+        Vec<UserSeat<C, M, O, A, G>, G>,
+        Vec<TermSeat<C, M, O, A, G>, G>,
     ),
     SetFault,
 >
@@ -220,14 +220,14 @@ fn room_for<C: Opening, M: Ledger, O: Ledger, A: Ledger>(
 }
 
 /// A new set with its seats, for which there is room.
-fn with_seats<C: Opening, M: Ledger, O: Ledger, A: Ledger>(
-    core: SetCore,
+fn with_seats<C: Opening, M: Ledger, O: Ledger, A: Ledger, G: Allocator + Copy>(
+    core: SetCore<G>,
     users: u16,
     links: u8,
     blanks: Blanks,
-    user_seats: Vec<UserSeat<C, M, O, A>>,
-    term_seats: Vec<TermSeat<C, M, O, A>>,
-) -> Opened<C, M, O, A>
+    user_seats: Vec<UserSeat<C, M, O, A, G>, G>,
+    term_seats: Vec<TermSeat<C, M, O, A, G>, G>,
+) -> Opened<C, M, O, A, G>
     requires few { (users ≤ 64) × (links ≤ 16) }
     requires new { AreTotals no_share core }
     requires opening { IsBaseOf C.settings core.base }

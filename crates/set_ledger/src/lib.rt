@@ -22,6 +22,8 @@
 //! has one. The fields of `Held` and of the seats are private here, and [`Seat`] is sealed, so no other crate makes or
 //! changes a seat, or makes a receipt: "the trait bound `OtherSeat: Step<C, M, O, A>` is not satisfied".
 //!
+//! A set and its seats take memory of an allocator `G`, by default the program's. A set that ends is one over the program's.
+//!
 //! This crate takes no lock and waits for nothing.
 #![tactic(auto)]
 

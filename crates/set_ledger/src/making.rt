@@ -8,6 +8,7 @@ use super::share::{SeatShare, count_messages, count_octets};
 use set_core::{SetCore, SetFault};
 use set_events::{Actor, Answer, Event};
 use set_history::History;
+use std::alloc::Allocator;
 
 /// A step that was made: its answer, and what it brought to the totals.
 #[derive(Drop)]
@@ -17,10 +18,10 @@ pub(crate) struct Made {
 }
 
 /// Makes a step at the set, puts its receipt last, and tells what it brought to the totals.
-pub(crate) fn make(
-    core: &mut SetCore,
+pub(crate) fn make<G: Allocator + Copy, R: Allocator + Copy>(
+    core: &mut SetCore<G>,
     who: Actor,
-    receipts: &mut History,
+    receipts: &mut History<R>,
     event: &Event,
 ) -> Result<Made, SetFault>
     requires actor { IsActor who }

@@ -15,7 +15,7 @@ use super::stepping::Step;
 use set_core::SetFault;
 use set_events::{Actor, Answer, Event};
 use set_history::{History, Reader};
-use std::alloc::{AllocError, Global};
+use std::alloc::{AllocError, Allocator, Global};
 use std::marker::{Model, PhantomData};
 use std::sync::ledger::{Ledger, Share};
 
@@ -43,17 +43,19 @@ pub trait Seat<C: Opening, M: Ledger, O: Ledger, A: Ledger>: Step<C, M, O, A> {
 
 /// A user's seat. Only [`step_in`] and [`forget`] change it.
 #[derive(Drop)]
-pub struct UserSeat<C: Opening, M: Ledger, O: Ledger, A: Ledger> {
+pub struct UserSeat<C: Opening, M: Ledger, O: Ledger, A: Ledger, G: Allocator = Global> {
     number: u16,
     pub(crate) calls: Part<C>,
     pub(crate) messages: Part<M>,
     pub(crate) octets: Part<O>,
-    receipts: History,
+    receipts: History<G>,
     forgotten: Forgotten,
+    /// What the receipts take memory from.
+    alloc: G,
     set: PhantomData<A>,
 }
 
-impl<C: Opening, M: Ledger, O: Ledger, A: Ledger> Model for UserSeat<C, M, O, A> {
+impl<C: Opening, M: Ledger, O: Ledger, A: Ledger, G: Allocator> Model for UserSeat<C, M, O, A, G> {
     ghost use Rattle.set_ledger.specs.Seats.{SeatState};
 
     ghost Value = { SeatState };
@@ -69,16 +71,18 @@ impl<C: Opening, M: Ledger, O: Ledger, A: Ledger> Model for UserSeat<C, M, O, A>
 
 /// The seat of a link's terminal. Only [`step_in`] and [`forget`] change it.
 #[derive(Drop)]
-pub struct TermSeat<C: Opening, M: Ledger, O: Ledger, A: Ledger> {
+pub struct TermSeat<C: Opening, M: Ledger, O: Ledger, A: Ledger, G: Allocator = Global> {
     link: u8,
     pub(crate) calls: Part<C>,
     pub(crate) acknowledged: Part<A>,
-    receipts: History,
+    receipts: History<G>,
     forgotten: Forgotten,
+    /// What the receipts take memory from.
+    alloc: G,
     set: PhantomData<(M, O)>,
 }
 
-impl<C: Opening, M: Ledger, O: Ledger, A: Ledger> Model for TermSeat<C, M, O, A> {
+impl<C: Opening, M: Ledger, O: Ledger, A: Ledger, G: Allocator> Model for TermSeat<C, M, O, A, G> {
     ghost use Rattle.set_ledger.specs.Seats.{SeatState};
 
     ghost Value = { SeatState };
@@ -92,10 +96,15 @@ impl<C: Opening, M: Ledger, O: Ledger, A: Ledger> Model for TermSeat<C, M, O, A>
         × AddsUp (term_state s.link s.calls.told s.acknowledged.told s.forgotten s.receipts.items) };
 }
 
-impl<C: Opening, M: Ledger, O: Ledger, A: Ledger> Step<C, M, O, A> for UserSeat<C, M, O, A> {
+impl<C: Opening, M: Ledger, O: Ledger, A: Ledger, G: Allocator + Copy> Step<C, M, O, A>
+    for UserSeat<C, M, O, A, G> {
     ghost state = { λ s. s };
 
-    fn step(&mut self, held: &mut Held<C, M, O, A>, event: &Event) -> Result<Answer, SetFault> {
+    fn step<H: Allocator + Copy>(
+        &mut self,
+        held: &mut Held<C, M, O, A, H>,
+        event: &Event,
+    ) -> Result<Answer, SetFault> {
         let who = Actor::User(self.number);
         match make(&mut held.core, who, &mut self.receipts, event) {
             Ok(made) => {
@@ -109,11 +118,18 @@ impl<C: Opening, M: Ledger, O: Ledger, A: Ledger> Step<C, M, O, A> for UserSeat<
     }
 
     fn forget(&mut self, alloc: Global, many: u64) -> Result<(), AllocError> {
-        forget_first(alloc, &mut self.receipts, &mut self.forgotten, many)
+        forget_first(
+            alloc,
+            self.alloc,
+            &mut self.receipts,
+            &mut self.forgotten,
+            many,
+        )
     }
 }
 
-impl<C: Opening, M: Ledger, O: Ledger, A: Ledger> Seat<C, M, O, A> for UserSeat<C, M, O, A> {
+impl<C: Opening, M: Ledger, O: Ledger, A: Ledger, G: Allocator + Copy> Seat<C, M, O, A>
+    for UserSeat<C, M, O, A, G> {
     fn actor(&self) -> Actor {
         Actor::User(self.number)
     }
@@ -136,10 +152,15 @@ impl<C: Opening, M: Ledger, O: Ledger, A: Ledger> Seat<C, M, O, A> for UserSeat<
     }
 }
 
-impl<C: Opening, M: Ledger, O: Ledger, A: Ledger> Step<C, M, O, A> for TermSeat<C, M, O, A> {
+impl<C: Opening, M: Ledger, O: Ledger, A: Ledger, G: Allocator + Copy> Step<C, M, O, A>
+    for TermSeat<C, M, O, A, G> {
     ghost state = { λ s. s };
 
-    fn step(&mut self, held: &mut Held<C, M, O, A>, event: &Event) -> Result<Answer, SetFault> {
+    fn step<H: Allocator + Copy>(
+        &mut self,
+        held: &mut Held<C, M, O, A, H>,
+        event: &Event,
+    ) -> Result<Answer, SetFault> {
         let who = Actor::Terminal(self.link);
         match make(&mut held.core, who, &mut self.receipts, event) {
             Ok(made) => {
@@ -153,11 +174,18 @@ impl<C: Opening, M: Ledger, O: Ledger, A: Ledger> Step<C, M, O, A> for TermSeat<
     }
 
     fn forget(&mut self, alloc: Global, many: u64) -> Result<(), AllocError> {
-        forget_first(alloc, &mut self.receipts, &mut self.forgotten, many)
+        forget_first(
+            alloc,
+            self.alloc,
+            &mut self.receipts,
+            &mut self.forgotten,
+            many,
+        )
     }
 }
 
-impl<C: Opening, M: Ledger, O: Ledger, A: Ledger> Seat<C, M, O, A> for TermSeat<C, M, O, A> {
+impl<C: Opening, M: Ledger, O: Ledger, A: Ledger, G: Allocator + Copy> Seat<C, M, O, A>
+    for TermSeat<C, M, O, A, G> {
     fn actor(&self) -> Actor {
         Actor::Terminal(self.link)
     }
@@ -180,7 +208,7 @@ impl<C: Opening, M: Ledger, O: Ledger, A: Ledger> Seat<C, M, O, A> for TermSeat<
     }
 }
 
-impl<C: Opening, M: Ledger, O: Ledger, A: Ledger> UserSeat<C, M, O, A> {
+impl<C: Opening, M: Ledger, O: Ledger, A: Ledger, G: Allocator + Copy> UserSeat<C, M, O, A, G> {
     /// The user's number, 0 to 63.
     pub fn number(&self) -> u16
         ensures who { self.now.who ≡ User result }
@@ -209,7 +237,7 @@ impl<C: Opening, M: Ledger, O: Ledger, A: Ledger> UserSeat<C, M, O, A> {
     }
 }
 
-impl<C: Opening, M: Ledger, O: Ledger, A: Ledger> TermSeat<C, M, O, A> {
+impl<C: Opening, M: Ledger, O: Ledger, A: Ledger, G: Allocator + Copy> TermSeat<C, M, O, A, G> {
     /// The number of the terminal's link, 0 to 15.
     pub fn link(&self) -> u8
         ensures who { self.now.who ≡ Terminal result }
@@ -236,11 +264,14 @@ impl<C: Opening, M: Ledger, O: Ledger, A: Ledger> TermSeat<C, M, O, A> {
 ///
 /// Faults: 2 [`SetFault::Exhausted`] only where the history has 2^48 entries; 1 [`SetFault::NoMemory`] only
 /// where memory was refused. After a fault the set and the seat are as they were.
-pub fn step_in<C: Opening, M: Ledger, O: Ledger, A: Ledger, S: Seat<C, M, O, A>>(
-    held: &mut Held<C, M, O, A>,
-    seat: &mut S,
-    event: &Event,
-) -> Result<Answer, SetFault>
+pub fn step_in<
+    C: Opening,
+    M: Ledger,
+    O: Ledger,
+    A: Ledger,
+    G: Allocator + Copy,
+    S: Seat<C, M, O, A>,
+>(held: &mut Held<C, M, O, A, G>, seat: &mut S, event: &Event) -> Result<Answer, SetFault>
     requires { IsOwn (S.state seat.old).who event.now }
     ensures step { IfOk result
         (λ answer. IsStep held.old.set (S.state seat.old).who event.now answer held.new.set) }
@@ -258,8 +289,8 @@ pub fn step_in<C: Opening, M: Ledger, O: Ledger, A: Ledger, S: Seat<C, M, O, A>>
 }
 
 /// Puts the seats of the users 0, 1, .. into this room, each with one part of each ledger that it moves.
-pub(crate) fn put_users<C: Opening, M: Ledger, O: Ledger, A: Ledger>(
-    seats: &mut Vec<UserSeat<C, M, O, A>>,
+pub(crate) fn put_users<C: Opening, M: Ledger, O: Ledger, A: Ledger, G: Allocator + Copy>(
+    seats: &mut Vec<UserSeat<C, M, O, A, G>, G>,
     users: u16,
     calls: &mut Share<C>,
     messages: &mut Share<M>,
@@ -276,14 +307,16 @@ pub(crate) fn put_users<C: Opening, M: Ledger, O: Ledger, A: Ledger>(
         × (messages.new.parts + users ≡ messages.old.parts) }
     ensures octets { (octets.new.amount ≡ 0) × (octets.new.parts + users ≡ octets.old.parts) }
 {
+    let alloc = *seats.allocator();
     for number in 0..users {
         let seat = UserSeat {
             number,
             calls: Part::cut(calls),
             messages: Part::cut(messages),
             octets: Part::cut(octets),
-            receipts: History::new(*seats.allocator()),
+            receipts: History::new(alloc),
             forgotten: NOTHING_FORGOTTEN,
+            alloc,
             set: PhantomData,
         };
         seats.push_reserved(seat);
@@ -292,8 +325,8 @@ pub(crate) fn put_users<C: Opening, M: Ledger, O: Ledger, A: Ledger>(
 
 /// Puts the seats of the terminals of the links 0, 1, .. into this room, each with one part of each ledger that it
 /// moves.
-pub(crate) fn put_terminals<C: Opening, M: Ledger, O: Ledger, A: Ledger>(
-    seats: &mut Vec<TermSeat<C, M, O, A>>,
+pub(crate) fn put_terminals<C: Opening, M: Ledger, O: Ledger, A: Ledger, G: Allocator + Copy>(
+    seats: &mut Vec<TermSeat<C, M, O, A, G>, G>,
     links: u8,
     calls: &mut Share<C>,
     acknowledged: &mut Share<A>,
@@ -307,13 +340,15 @@ pub(crate) fn put_terminals<C: Opening, M: Ledger, O: Ledger, A: Ledger>(
     ensures acknowledged { (acknowledged.new.amount ≡ 0)
         × (acknowledged.new.parts + links ≡ acknowledged.old.parts) }
 {
+    let alloc = *seats.allocator();
     for link in 0..links {
         let seat = TermSeat {
             link,
             calls: Part::cut(calls),
             acknowledged: Part::cut(acknowledged),
-            receipts: History::new(*seats.allocator()),
+            receipts: History::new(alloc),
             forgotten: NOTHING_FORGOTTEN,
+            alloc,
             set: PhantomData,
         };
         seats.push_reserved(seat);

@@ -8,7 +8,7 @@ use super::held::Held;
 use super::opening::Opening;
 use set_core::SetFault;
 use set_events::{Answer, Event};
-use std::alloc::{AllocError, Global};
+use std::alloc::{AllocError, Allocator, Global};
 use std::sync::ledger::Ledger;
 
 /// What makes steps at a set, and has a receipt for each, but for the first ones, which it forgot.
@@ -19,7 +19,11 @@ pub trait Step<C: Opening, M: Ledger, O: Ledger, A: Ledger> {
     ghost state: { Self → SeatState };
 
     /// `step_in`.
-    fn step(&mut self, held: &mut Held<C, M, O, A>, event: &Event) -> Result<Answer, SetFault>
+    fn step<G: Allocator + Copy>(
+        &mut self,
+        held: &mut Held<C, M, O, A, G>,
+        event: &Event,
+    ) -> Result<Answer, SetFault>
         requires { IsOwn (state self.old).who event.now }
         ensures step { IfOk result
             (λ answer. IsStep held.old.set (state self.old).who event.now answer held.new.set) }

@@ -2,7 +2,7 @@ use Rattle.std.proofs.Common.{◌≡◌, ◌++◌, length}
 use Rattle.set_ledger.proofs.forgetting.copy_of.Given as goal
 
 abbrev pub invariant-loop-told : goal.invariant-loop-told
-invariant-loop-told l = l.copy.items ++ l.left ≡ l.fn.entries
+invariant-loop-told g l = l.copy.items ++ l.left ≡ l.fn.entries
 
 abbrev pub decreases-loop-told : goal.decreases-loop-told
-decreases-loop-told l = length l.left
+decreases-loop-told g l = length l.left

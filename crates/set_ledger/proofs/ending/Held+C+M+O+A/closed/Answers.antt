@@ -5,7 +5,7 @@ use Rattle.set_ledger.specs.Openings.{IsBaseOf}
 use Rattle.set_ledger.specs.Totals.{HeldState}
 use Rattle.set_ledger.proofs.Closing.{complete_lengths, whole_sum, whole_sums, closes}
 use Rattle.set_ledger.proofs.Telling.{settings_told}
-use Rattle.set_ledger.proofs.held.Held.closed.Goals as goal
+use Rattle.set_ledger.proofs.ending.Held+C+M+O+A.closed.Goals as goal
 
 pub returns-clause-base : goal.returns-clause-base
 returns-clause-base g c = c.into_base_and_history-base.ensures.base ∙ ap (λ (h : HeldState). h.set.base) c.self.view_is
