@@ -14,7 +14,7 @@ use link_lines::{Line, Lines, UnderWay};
 use set_core::{SetCore, SetFault};
 use set_events::{Actor, Answer, Counts, Event, SetConfig};
 use set_step::is_asked;
-use std::alloc::Global;
+use std::alloc::{Allocator, Global};
 use std::marker::Model;
 use world_steps::{End, Shown, Step};
 
@@ -22,14 +22,14 @@ use world_steps::{End, Shown, Step};
 ///
 /// A set takes some thousands of octets and a world is handed on with each step, so the sets stay where they are.
 #[derive(Drop)]
-pub struct World {
-    a: Box<SetCore>,
-    b: Box<SetCore>,
-    to_a: Lines,
-    to_b: Lines,
+pub struct World<G: Allocator = Global> {
+    a: Box<SetCore<G>, G>,
+    b: Box<SetCore<G>, G>,
+    to_a: Lines<G>,
+    to_b: Lines<G>,
 }
 
-impl Model for World {
+impl<G: Allocator> Model for World<G> {
     ghost use Rattle.pair_model.specs.World.{World as WorldState};
 
     ghost Value = { WorldState };
@@ -41,7 +41,7 @@ impl Model for World {
     ghost invariant = { λ w. IsPaired (record { a = w.a.value; b = w.b.value; to_a = w.to_a; to_b = w.to_b }) };
 }
 
-impl World {
+impl<G: Allocator + Copy> World<G> {
     ghost use Rattle.std.specs.Prelude.{◌≡◌, ◌<◌, ◌^◌, ◌↔◌, IfErr, IfSome, IsTrue, OnOk, MatchResult, is_some, true};
     ghost use Rattle.set_model.specs.Rows.{total_of};
     ghost use Rattle.set_model.specs.State.{is_up};
@@ -59,7 +59,7 @@ impl World {
     /// Faults: 4 [`PlayFault::Links`] exactly where the configurations differ in links, tested first; then
     /// 5 [`PlayFault::Profile`] exactly where they differ in their profile; 1 [`PlayFault::NoMemory`] only where memory was
     /// refused.
-    pub fn new(alloc: Global, a: &SetConfig, b: &SetConfig) -> Result<World, PlayFault>
+    pub fn new(alloc: G, a: &SetConfig, b: &SetConfig) -> Result<World<G>, PlayFault>
         ensures { MatchResult result (IsBegun a.now b.now)
             (λ fault. FailsToBegin fault a.now b.now) }
     {
@@ -73,7 +73,7 @@ impl World {
     }
 
     /// The world of two configurations with as many links.
-    fn of_pair(alloc: Global, a: &SetConfig, b: &SetConfig) -> Result<World, PlayFault>
+    fn of_pair(alloc: G, a: &SetConfig, b: &SetConfig) -> Result<World<G>, PlayFault>
         requires { a.now.links ≡ b.now.links }
         ensures { MatchResult result (λ world. world ≡ world_of (new_set a.now) (new_set b.now))
             (λ fault. fault ≡ PlayFault.NoMemory) }
@@ -90,7 +90,7 @@ impl World {
     /// Faults: 2 [`PlayFault::Impossible`], with the place 0, and 3 [`PlayFault::Exhausted`] exactly where the step
     /// is, and an impossible step is that whether a history is full or not; 1 [`PlayFault::NoMemory`] only where
     /// memory was refused. A fault gives the world up.
-    pub fn step(mut self, step: &Step) -> Result<(World, Shown), PlayFault>
+    pub fn step(mut self, step: &Step) -> Result<(World<G>, Shown), PlayFault>
         ensures { IsStepped result (carried_out self step.now) }
     {
         let mut shown = Shown::Answered(Answer::Done);
@@ -135,11 +135,11 @@ impl World {
     /// a link that hasn't settled tells the number of the last message that its end accepted there, so it isn't
     /// unreasonable (`NumbersTell`).
     pub fn play(
-        alloc: Global,
+        alloc: G,
         a: &SetConfig,
         b: &SetConfig,
         steps: &[Step],
-    ) -> Result<World, PlayFault>
+    ) -> Result<World<G>, PlayFault>
         ensures world { IsPlayed result a.now b.now steps.now }
         ensures keeps { IsHonestRun a.now b.now steps.now
             → KeepsLinks (begun a.now b.now) steps.now }
@@ -163,7 +163,7 @@ impl World {
     }
 
     /// The set at this end.
-    pub fn core(&self, end: End) -> &SetCore
+    pub fn core(&self, end: End) -> &SetCore<G>
         ensures { result.now ≡ at_end self.now end }
     {
         match end {
@@ -173,7 +173,7 @@ impl World {
     }
 
     /// The units under way to this end on the link, oldest first; none on a link that the world hasn't.
-    pub fn line(&self, end: End, link: u8) -> &Line
+    pub fn line(&self, end: End, link: u8) -> &Line<G>
         ensures { result.now ≡ line_to self.now end link }
     {
         match end {
@@ -389,7 +389,7 @@ impl World {
     }
 
     /// Takes the unit at this place out of the link's line to the end, if there is one.
-    fn take_out(&mut self, end: End, link: u8, place: u64) -> Option<UnderWay>
+    fn take_out(&mut self, end: End, link: u8, place: u64) -> Option<UnderWay<G>>
         requires { has_link self.old link ≡ true }
         ensures { IsTakenFrom result self.old end link place self.new }
     {
@@ -468,7 +468,7 @@ fn are_asked(steps: &[Step])
 }
 
 /// A set of this configuration. It has no history that could be full.
-fn new_end(alloc: Global, config: &SetConfig) -> Result<SetCore, PlayFault>
+fn new_end<G: Allocator + Copy>(alloc: G, config: &SetConfig) -> Result<SetCore<G>, PlayFault>
     ensures ok { IfOk result (λ set. set ≡ new_set config.now) }
     ensures err { IfErr result (λ fault. fault ≡ PlayFault.NoMemory) }
 {
@@ -476,7 +476,12 @@ fn new_end(alloc: Global, config: &SetConfig) -> Result<SetCore, PlayFault>
 }
 
 /// One event at a set, by its actor: its answer is shown.
-fn apply(set: &mut SetCore, who: Actor, event: &Event, shown: &mut Shown) -> Result<(), SetFault>
+fn apply<G: Allocator + Copy>(
+    set: &mut SetCore<G>,
+    who: Actor,
+    event: &Event,
+    shown: &mut Shown,
+) -> Result<(), SetFault>
     requires in_range { IsActor who }
     requires who { who ≡ actor_of event.now }
     ensures applies { Applies result set.old event.now shown.new set.new }

@@ -1,6 +1,6 @@
 //! What is told of a script.
 ghost use Rattle.std.specs.Prelude.{◌≡◌, ◌++◌, MatchResult};
-ghost use Rattle.pair_model.specs.World.{World};
+ghost use Rattle.pair_model.specs.World.{World as ModelWorld};
 ghost use Rattle.world_steps.specs.declared.step.Step.{Step};
 ghost use Rattle.script_text.specs.Scripts.{Told};
 
@@ -17,7 +17,7 @@ pub trait Account {
     ghost told: { Told };
 
     /// Which note is that of a world before a step.
-    ghost is_note: { World → Step → Self.Note → Type 0 };
+    ghost is_note: { ModelWorld → Step → Self.Note → Type 0 };
 
     /// Keeps what is needed of the world before a step.
     fn note(world: &World, step: &Step) -> Self::Note
@@ -40,7 +40,7 @@ pub trait Account {
         world: &World,
         out: &mut Vec<u8>,
     ) -> Result<(), AllocError>
-        ensures { (before : World) → is_note before step.now note → MatchResult result
+        ensures { (before : ModelWorld) → is_note before step.now note → MatchResult result
             (λ done. out.new.items
             ≡ out.old.items ++ told.step number before step.now shown.now world.now)
             (λ want. out.new.items ≡ out.old.items) };

@@ -7,7 +7,7 @@ use Rattle.pair_world.proofs.WorldLemmas.{rise_fails}
 use Rattle.pair_world.proofs.world.World.raise.Goals as goal
 
 pub returns-in_err-apply-clause-carried : goal.returns-in_err-apply-clause-carried
-returns-in_err-apply-clause-carried c =
+returns-in_err-apply-clause-carried o c =
     let near = ap (λ (w : World). w.a) c.self.view_is in
     let far = ap (λ (w : World). w.b) c.self.view_is in
     let a = subst (λ (set : LinkSet). is_settled c.args.link set.state ≡ true) (c.deref.ensures ∙ near) (sym c.is_settled.ensures ∙ c.if-not-is_settled.false) in
@@ -17,7 +17,7 @@ returns-in_err-apply-clause-carried c =
     (inl (subst (λ (set : LinkSet). FailsAt c.in_err-apply.field-0.0 set) (c.deref_mut.ensures.value ∙ near) c.in_err-apply.ensures.applies))
 
 pub returns-in_err-apply-2-clause-carried : goal.returns-in_err-apply-2-clause-carried
-returns-in_err-apply-2-clause-carried c =
+returns-in_err-apply-2-clause-carried o c =
     let near = ap (λ (w : World). w.a) c.self.view_is in
     let far = ap (λ (w : World). w.b) c.self.view_is in
     let a = subst (λ (set : LinkSet). is_settled c.args.link set.state ≡ true) (c.deref.ensures ∙ near) (sym c.is_settled.ensures ∙ c.if-not-is_settled.false) in
