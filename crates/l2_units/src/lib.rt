@@ -2,7 +2,8 @@
 //!
 //! A unit here is the text between two flags without its two check octets: the header with the
 //! sequence numbers and indicator bits, the length indicator, and what the length indicator counts.
-//! [`read`] takes octets apart, [`write`] puts a unit together; both follow one grammar.
+//! [`read`] takes octets apart, [`write`] puts a unit together; both follow one grammar. [`parts_of`] reads and leaves
+//! the body where it stands.
 //!
 //! This crate never looks at flags, inserted zeros or check bits, never acts on what a unit says,
 //! and takes no memory.
@@ -26,6 +27,6 @@ mod writing;
 
 pub use grammar::{copy_of_unit, header_in, one_text, same_unit};
 pub use profile::Profile;
-pub use reading::{UnitFault, body_of, read, read_wide};
+pub use reading::{UnitFault, body_of, parts_of, read, read_wide};
 pub use unit::{Header, LONGEST_BODY, LONGEST_UNIT, SHORTEST_BODY, Unit};
 pub use writing::{write, write_wide};

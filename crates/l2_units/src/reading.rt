@@ -1,5 +1,6 @@
 //! Octets to a unit.
 ghost use Rattle.std.specs.Prelude.{◌≡◌, ◌<◌, ◌≤◌, ◌+◌, ◌*◌, ◌^◌, ◌↔◌, [], ◌∷◌, IfOk, length, Some};
+ghost use Rattle.std.specs.Option.{option_map};
 ghost use Rattle.std.specs.Result.{result_ok};
 ghost use Rattle.l2_units.specs.Profile.{Narrow, Wide};
 ghost use Rattle.l2_units.specs.declared.unit.Unit.{Unit as SignalUnit};
@@ -84,6 +85,28 @@ pub fn read_wide(octets: &[u8]) -> Result<Unit, UnitFault>
         return Err(UnitFault::Length);
     }
     Ok(with_field(wide_header_of(whole), rest))
+}
+
+/// The header of the unit that `octets` (without check octets) stand for, and its field: the octets behind the length
+/// indicator, none in an FISU, one or two in an LSSU, 3 to 273 in an MSU. Nothing is copied.
+///
+/// Refusals as those of [`read`].
+#[inline(always)]
+pub fn parts_of(octets: &[u8]) -> Result<(Header, &[u8]), UnitFault>
+    ensures exact { option_map (λ parts. unit_with parts.0 parts.1.now) (result_ok result) ≡ unit_of Narrow octets.now }
+    ensures short { (result ≡ Err UnitFault.Short) ↔ (length octets.now < 3) }
+    ensures long { (result ≡ Err UnitFault.Long) ↔ (276 < length octets.now) }
+{
+    let [backward, forward, third, field @ ..] = octets else {
+        return Err(UnitFault::Short);
+    };
+    if field.len() > LONGEST_BODY {
+        return Err(UnitFault::Long);
+    }
+    if (*third % 64) as usize != field.len().min(63) {
+        return Err(UnitFault::Length);
+    }
+    Ok((header_of(*backward, *forward), field))
 }
 
 /// The number of these four octets, least significant first.
