@@ -1,12 +1,14 @@
 -- Steps of the readers of numbers and hexadecimal.
-use Rattle.std.proofs.Common.{refl, arith, ◌≡◌, ◌∙◌, ap, sym, ◌<◌, ◌≤◌, [], ◌∷◌, length, ℕ, ◌+◌, ◌-◌, ◌*◌, ◌%◌, ◌^◌, Bool, true, false, nat_lt, List, ◌++◌, Option, Some, None, append_assoc, drop, drop-cons, add-one, suc, slice_index_or, inl, inr, append-nil, ◌/◌, set, zero}
+use Rattle.std.proofs.Common.{refl, arith, ◌≡◌, ◌∙◌, ap, sym, ◌<◌, ◌≤◌, [], ◌∷◌, length, ℕ, ◌+◌, ◌-◌, ◌*◌, ◌%◌, ◌^◌, Bool, true, false, nat_lt, List, ◌++◌, Option, Some, None, append_assoc, drop, drop-cons, add-one, suc, slice_index_or, inl, inr, append-nil, take, ◌/◌, set, zero}
 use Rattle.std.proofs.lemmas.Grind.{common_steps}
 use Rattle.std.proofs.lemmas.Bool.Decides.{nat_tests}
 use Rattle.std.proofs.lemmas.Fmt.{decimal_step, decimal_digit}
-use Rattle.std.proofs.lemmas.List.{drop-set}
+use Rattle.std.proofs.lemmas.List.{drop-set, take_more_set, length-set}
+use Rattle.std.proofs.lemmas.Grind.{take-set_at}
+use Rattle.std.proofs.Math.Seq.{take-suc}
 use Rattle.std.specs.Fmt.{decimal}
 use Rattle.std.specs.Option.{option_map, option_and_then}
-use Rattle.figures.specs.Figures.{digits_behind, below_2_64, is_digit, hex_value, octet_of, octets_of, octet_before, NoDigitFits}
+use Rattle.figures.specs.Figures.{digits_behind, below_2_64, is_digit, hex_value, octet_of, octets_of, octet_before, NoDigitFits, hex_text, hex_digit}
 
 -- a value that has passed 2^64 stays past it
 pub too_big : (value : ℕ) (cs : List ℕ) → 2 ^ 64 ≤ value → option_and_then below_2_64 (digits_behind value cs) ≡ None
@@ -121,3 +123,40 @@ place_fewer left (suc place) more room =
     let e : suc place - 1 + 1 ≡ suc place = omega arith in
     let whole : left < 10 ^ suc (suc place) = rw (add-one) at room in
     rw e (omega (arith, whole))
+
+-- hexadecimal of one list behind another
+pub hex_append : (xs ys : List ℕ) → hex_text (xs ++ ys) ≡ hex_text xs ++ hex_text ys
+hex_append [] ys = refl
+hex_append (x ∷ xs) ys = ap (λ (digits : List ℕ). hex_digit (x / 16) ∷ hex_digit (x % 16) ∷ digits) (hex_append xs ys)
+
+-- two digits more are written at the front
+pub hex_more : (octets digits : List ℕ) (p high low : ℕ) → p < length octets → 2 * p + 1 < length digits
+    → high ≡ hex_digit (slice_index_or octets p 0 / 16) → low ≡ hex_digit (slice_index_or octets p 0 % 16)
+    → take (2 * p) digits ≡ hex_text (take p octets)
+    → take (2 * (p + 1)) (set (set digits (2 * p) high) (2 * p + 1) low) ≡ hex_text (take (p + 1) octets)
+hex_more octets digits p high low within room high_is low_is before =
+    let here : 2 * p + 1 < length (set digits (2 * p) high) = omega (arith, room, length-set digits (2 * p) high) in
+    let next : suc p ≡ p + 1 = omega arith in
+    let more : take (p + 1) octets ≡ take p octets ++ slice_index_or octets p 0 ∷ [] = rw next at (take-suc octets p 0 within) in
+    let both : hex_text (slice_index_or octets p 0 ∷ []) ≡ high ∷ low ∷ [] = rw (high_is, low_is) refl in
+    take-set_at (set digits (2 * p) high) (2 * p + 1) (2 * (p + 1)) low (omega arith) here
+    ∙ ap (λ (front : List ℕ). front ++ low ∷ []) (take_more_set digits (2 * p) high (omega (arith, room)))
+    ∙ append_assoc (take (2 * p) digits) (high ∷ []) (low ∷ [])
+    ∙ ap (λ (front : List ℕ). front ++ high ∷ low ∷ []) before
+    ∙ ap (λ (back : List ℕ). hex_text (take p octets) ++ back) (sym both)
+    ∙ sym (ap hex_text more ∙ hex_append (take p octets) (slice_index_or octets p 0 ∷ []))
+
+-- some octets are written, and others are left
+pub hex_split : (start before new left front rest : List ℕ) → front ++ rest ≡ left → new ≡ before ++ hex_text front
+    → before ++ hex_text left ≡ start → new ++ hex_text rest ≡ start
+hex_split start before new left front rest all added is =
+    ap (λ (text : List ℕ). text ++ hex_text rest) added ∙ append_assoc before (hex_text front) (hex_text rest)
+    ∙ ap (λ (text : List ℕ). before ++ text) (sym (hex_append front rest) ∙ ap hex_text all) ∙ is
+
+-- a number of two digits
+pub two_decimals : (value high low : ℕ) (before : List ℕ) → 10 ≤ value → value < 2 ^ 64 → high ∷ [] ≡ decimal (value / 10) → low ∷ [] ≡ decimal (value % 10)
+    → (before ++ high ∷ []) ++ low ∷ [] ≡ before ++ decimal value
+two_decimals value high low before more fits first second =
+    let last : low ∷ [] ≡ (48 + value % 10) ∷ [] = second ∙ decimal_digit (value % 10) (omega arith) in
+    append_assoc before (high ∷ []) (low ∷ [])
+    ∙ ap (λ (digits : List ℕ). before ++ digits) (ap (λ (front : List ℕ). front ++ low ∷ []) first ∙ ap (λ (back : List ℕ). decimal (value / 10) ++ back) last ∙ sym (decimal_step value more fits))

@@ -1,6 +1,7 @@
 //! Numbers and hexadecimal, as the script writes them.
-ghost use Rattle.std.specs.Prelude.{◌≡◌, [], ◌∷◌, ◌++◌, ◌<◌, ◌≤◌, ◌+◌, ◌-◌, ◌*◌, ◌^◌, drop, decimal, IfOk, MatchOption, MatchResult, true};
+ghost use Rattle.std.specs.Prelude.{◌≡◌, [], ◌∷◌, ◌++◌, ◌<◌, ◌≤◌, ◌+◌, ◌-◌, ◌*◌, ◌^◌, drop, take, length, decimal, IfOk, MatchOption, MatchResult, true};
 ghost use Rattle.std.specs.Option.{option_and_then, option_map};
+ghost use Rattle.std.specs.Vec.{vec_len, vec_capacity};
 ghost use Rattle.figures.specs.Figures.{number_of, number_below, hex_value, octet_of, octets_of, digits_behind, below_2_64, hex_text, hex_digit, is_digit, NoDigitFits, bit};
 
 use std::alloc::{AllocError, Global};
@@ -119,17 +120,8 @@ pub fn read_octets(alloc: Global, word: &[u8]) -> Result<Option<Vec<u8>>, AllocE
     Ok(Some(octets))
 }
 
-/// The hexadecimal digit of a value below 16, in lower case.
-fn digit_of(value: u8) -> u8
-    requires { value < 16 }
-    ensures { result ≡ hex_digit value }
-{
-    if value < 10 {
-        value + b'0'
-    } else {
-        value + (b'a' - 10)
-    }
-}
+/// How many octets are written at once.
+const PIECE: usize = 32;
 
 /// Writes octets at the end, two digits each, in lower case.
 ///
@@ -139,13 +131,56 @@ pub fn push_hex(text: &mut Vec<u8>, octets: &[u8]) -> Result<(), AllocError>
         (λ done. text.new.items ≡ text.old.items ++ hex_text octets.now)
         (λ want. text.new.items ≡ text.old.items) }
 {
-    // with room for all of them a digit costs no test and no call
     text.reserve(2 * octets.len())?;
-    for octet in octets {
-        text.push_reserved(digit_of(*octet / 16));
-        text.push_reserved(digit_of(*octet % 16));
+    let mut left = octets;
+    while !left.is_empty() {
+        let (piece, rest) = left.split_at(left.len().min(PIECE));
+        push_piece(text, piece);
+        left = rest;
     }
     Ok(())
+}
+
+/// Writes at most 32 octets at the end, for which there is room.
+#[inline(always)]
+fn push_piece(text: &mut Vec<u8>, octets: &[u8])
+    requires few { length octets.now ≤ 32 }
+    requires room { vec_len text.old + 2 * length octets.now ≤ vec_capacity text.old }
+    ensures written { text.new.items ≡ text.old.items ++ hex_text octets.now }
+    ensures len { vec_len text.new ≡ vec_len text.old + 2 * length octets.now }
+    ensures capacity { vec_capacity text.old ≤ vec_capacity text.new }
+{
+    let mut digits = [0; 2 * PIECE];
+    write_hex(octets, &mut digits);
+    match text.extend_from_slice(&digits[..2 * octets.len()]) {
+        Ok(()) => {}
+        Err(_) => unreachable!(),
+    }
+}
+
+/// Writes at most 32 octets at the front, two digits each.
+#[inline(always)]
+fn write_hex(octets: &[u8], digits: &mut [u8; 2 * PIECE])
+    requires { length octets.now ≤ 32 }
+    ensures { take (2 * length octets.now) digits.new ≡ hex_text octets.now }
+{
+    for place in 0..octets.len() {
+        digits[2 * place] = digit_of(octets[place] / 16);
+        digits[2 * place + 1] = digit_of(octets[place] % 16);
+    }
+}
+
+/// The hexadecimal digit of a value below 16, in lower case.
+#[inline(always)]
+fn digit_of(value: u8) -> u8
+    requires { value < 16 }
+    ensures { result ≡ hex_digit value }
+{
+    if value < 10 {
+        value + b'0'
+    } else {
+        value + (b'a' - 10)
+    }
 }
 
 /// Writes a number at the end, in decimal.
@@ -159,6 +194,12 @@ pub fn push_number(text: &mut Vec<u8>, value: u64) -> Result<(), AllocError>
     if value <= 9 {
         text.reserve(1)?;
         text.push_reserved(decimal_digit(value as u8));
+        return Ok(());
+    }
+    if value <= 99 {
+        text.reserve(2)?;
+        text.push_reserved(decimal_digit((value / 10) as u8));
+        text.push_reserved(decimal_digit((value % 10) as u8));
         return Ok(());
     }
     let mut digits = [0; 20];
