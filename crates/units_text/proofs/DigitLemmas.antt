@@ -1,16 +1,16 @@
 -- The characters of an input, one by one.
-use Rattle.std.proofs.Common.{refl, arith, ◌≡◌, ◌∙◌, ap, sym, ◌<◌, ◌≤◌, [], ◌∷◌, length, ℕ, ◌+◌, ◌*◌, ◌^◌, Bool, true, false, nat_lt, ◌||◌, List, ◌++◌, drop, drop-cons, slice_index_or, suc, Option, Some, None, append_assoc, append-nil, length-append}
-use Rattle.std.proofs.lemmas.Grind.{flat_map-append}
+use Rattle.std.proofs.Common.{refl, arith, ◌≡◌, ◌∙◌, ap, sym, ◌<◌, ◌≤◌, [], ◌∷◌, length, ℕ, ◌+◌, ◌-◌, ◌*◌, ◌^◌, Bool, true, false, nat_lt, ◌||◌, List, ◌++◌, take, drop, slice_index_or, Option, Some, None, append_assoc, append-nil, length-append}
+use Rattle.std.proofs.lemmas.Grind.{flat_map-append, common_steps}
 use Rattle.std.proofs.lemmas.Bool.Decides.{nat_tests}
-use Rattle.std.specs.Option.{option_to_list, option_map, is_some}
+use Rattle.std.specs.Option.{option_to_list, option_map, option_and_then, is_some}
 use Rattle.printing.specs.declared.fault.Stop.{Stop}
 use Rattle.printing.specs.declared.fault.Stop.TheVariants.{Input, Memory}
 use Rattle.units_text.specs.declared.digit.Digit.{Digit}
 use Rattle.units_text.specs.declared.digits.Digits.{Digits}
 use Rattle.units_text.specs.declared.fault.UnreadableOctet.{UnreadableOctet}
-use Rattle.figures.specs.Figures.{hex_value}
+use Rattle.figures.specs.Figures.{hex_value, octet_of, octets_of, octet_before}
 use Rattle.units_text.specs.UnitsText.{is_blank, readable, values_of, paired, left_over, octets_in}
-use Rattle.units_text.specs.UnitsReading.{Decodes, Halts, HaltsIn}
+use Rattle.units_text.specs.UnitsReading.{BeginsWithOctet, Decodes, DecodesFirst, Halts, HaltsIn, ReadsPairs}
 
 -- Digits.
 
@@ -191,15 +191,15 @@ decodes_none digits before = record {
   goes_on = λ past fits has. (rw (append-nil past) has, rw (append-nil past, append-nil (paired (values_of past))) refl);
 }
 
-pub decodes_then : (a b d : Digits) (c : ℕ) (cs : List ℕ) (x y z : List ℕ) → Decodes a (c ∷ []) x y b → Decodes b cs y z d → Decodes a (c ∷ cs) x z d
-decodes_then a b d c cs x y z f g = record {
+pub decodes_then : (a b d : Digits) (cs ds x y z : List ℕ) → Decodes a cs x y b → Decodes b ds y z d → Decodes a (cs ++ ds) x z d
+decodes_then a b d cs ds x y z f g = record {
   octets = f.octets ++ g.octets;
   added = g.added ∙ ap (λ (front : List ℕ). front ++ g.octets) f.added ∙ append_assoc x f.octets g.octets;
-  few = omega (arith, f.few, g.few, length-append f.octets g.octets);
+  few = omega (arith, f.few, g.few, length-append f.octets g.octets, length-append cs ds);
   goes_on = λ past fits has.
-      let past_is : (past ++ c ∷ []) ++ cs ≡ past ++ c ∷ cs = append_assoc past (c ∷ []) cs in
-      let first = f.goes_on past (omega (arith, fits)) has in
-      let more = g.goes_on (past ++ c ∷ []) (omega (arith, fits, length-append past (c ∷ []))) first.0 in (
+      let past_is : (past ++ cs) ++ ds ≡ past ++ (cs ++ ds) = append_assoc past cs ds in
+      let first = f.goes_on past (omega (arith, fits, length-append cs ds)) has in
+      let more = g.goes_on (past ++ cs) (omega (arith, fits, length-append past cs, length-append cs ds)) first.0 in (
         rw past_is at more.0,
         ap (λ (text : List ℕ). paired (values_of text)) (sym past_is) ∙ more.1 ∙ ap (λ (front : List ℕ). front ++ g.octets) first.1
             ∙ append_assoc (paired (values_of past)) f.octets g.octets,
@@ -209,16 +209,16 @@ decodes_then a b d c cs x y z f g = record {
 halts_on : (stop : Stop UnreadableOctet) (input before a b : List ℕ) → HaltsIn stop input ((before ++ a) ++ b) → HaltsIn stop input (before ++ (a ++ b))
 halts_on stop input before a b h = rw (append_assoc before a b) at h
 
-pub halts_then : (stop : Stop UnreadableOctet) (a b : Digits) (c : ℕ) (cs : List ℕ) (x y z : List ℕ) → Decodes a (c ∷ []) x y b → Halts stop b cs y z → Halts stop a (c ∷ cs) x z
-halts_then stop a b c cs x y z f g = record {
+pub halts_then : (stop : Stop UnreadableOctet) (a b : Digits) (cs ds x y z : List ℕ) → Decodes a cs x y b → Halts stop b ds y z → Halts stop a (cs ++ ds) x z
+halts_then stop a b cs ds x y z f g = record {
   octets = f.octets ++ g.octets;
   added = g.added ∙ ap (λ (front : List ℕ). front ++ g.octets) f.added ∙ append_assoc x f.octets g.octets;
-  few = omega (arith, f.few, g.few, length-append f.octets g.octets);
+  few = omega (arith, f.few, g.few, length-append f.octets g.octets, length-append cs ds);
   ends = λ past fits has left.
-      let past_is : (past ++ c ∷ []) ++ (cs ++ left) ≡ past ++ c ∷ (cs ++ left) = append_assoc past (c ∷ []) (cs ++ left) in
-      let first = f.goes_on past (omega (arith, fits)) has in
-      let more = g.ends (past ++ c ∷ []) (omega (arith, fits, length-append past (c ∷ []))) first.0 left in
-      halts_on stop (past ++ c ∷ (cs ++ left)) (paired (values_of past)) f.octets g.octets (rw (past_is, first.1) at more);
+      let past_is : (past ++ cs) ++ (ds ++ left) ≡ past ++ ((cs ++ ds) ++ left) = append_assoc past cs (ds ++ left) ∙ ap (λ (rest : List ℕ). past ++ rest) (sym (append_assoc cs ds left)) in
+      let first = f.goes_on past (omega (arith, fits, length-append cs ds)) has in
+      let more = g.ends (past ++ cs) (omega (arith, fits, length-append past cs, length-append cs ds)) first.0 left in
+      halts_on stop (past ++ ((cs ++ ds) ++ left)) (paired (values_of past)) f.octets g.octets (rw (past_is, first.1) at more);
 }
 
 pub halts_more : (stop : Stop UnreadableOctet) (a : Digits) (c : ℕ) (cs : List ℕ) (x z : List ℕ) → Halts stop a (c ∷ []) x z → Halts stop a (c ∷ cs) x z
@@ -229,5 +229,135 @@ halts_more stop a c cs x z halts = record {
   ends = λ past fits has left. halts.ends past (omega (arith, fits)) has (cs ++ left);
 }
 
-pub drop_step : (xs : List ℕ) (i d : ℕ) → i < length xs → drop i xs ≡ slice_index_or xs i d ∷ drop (i + 1) xs
-drop_step xs i d h = let next : suc i ≡ i + 1 = omega arith in drop-cons xs i d h ∙ ap (λ (n : ℕ). slice_index_or xs i d ∷ drop n xs) next
+-- Octets whose two digits stand side by side.
+
+-- the characters are digits, two of each octet
+record AreDigits (digits octets : List ℕ) : Type 0 where
+  all_readable : readable digits ≡ digits
+  even : left_over (values_of digits) ≡ None
+  are : paired (values_of digits) ≡ octets
+  few : length octets ≤ length digits
+
+are_digits : (digits octets : List ℕ) → octets_of digits ≡ Some octets → AreDigits digits octets
+are_digits [] octets e = let none : [] ≡ octets = cc in rw (← none) (record {
+  all_readable = refl;
+  even = refl;
+  are = refl;
+  few = omega arith;
+})
+are_digits (c ∷ []) octets e = cc
+are_digits (c ∷ d ∷ cs) octets e = go (hex_value c) (hex_value d) (octets_of cs) refl refl refl e (are_digits cs)
+  where
+    go : (x y : Option ℕ) (z : Option (List ℕ)) → hex_value c ≡ x → hex_value d ≡ y → octets_of cs ≡ z → octet_before x y z ≡ Some octets
+        → ((more : List ℕ) → octets_of cs ≡ Some more → AreDigits cs more) → AreDigits (c ∷ d ∷ cs) octets
+    go None y z h l rest is later = cc
+    go (Some high) None z h l rest is later = cc
+    go (Some high) (Some low) None h l rest is later = cc
+    go (Some high) (Some low) (Some more) h l rest is later =
+        let on = later more rest in
+        let all : (16 * high + low) ∷ more ≡ octets = cc in
+        let values : values_of (c ∷ d ∷ cs) ≡ high ∷ low ∷ values_of cs = rw (h, l) refl in
+        rw (← all) (record {
+          all_readable = digit_front c high (d ∷ cs) h ∙ ap (λ (text : List ℕ). c ∷ text) (digit_front d low cs l ∙ ap (λ (text : List ℕ). d ∷ text) on.all_readable);
+          even = ap left_over values ∙ on.even;
+          are = ap paired values ∙ ap (λ (octets : List ℕ). (16 * high + low) ∷ octets) on.are;
+          few = omega (arith, on.few);
+        })
+
+decodes_pairs : (old new : Digits) (digits octets before : List ℕ) → octets_of digits ≡ Some octets → old.high ≡ None → new.high ≡ old.high
+    → (old.place + length digits < 2 ^ 64 → new.place ≡ old.place + length digits) → Decodes old digits before (before ++ octets) new
+decodes_pairs old new digits octets before are none high_is place_is =
+    let is = are_digits digits octets are in
+    record {
+      octets = octets;
+      added = refl;
+      few = is.few;
+      goes_on = λ past fits has.
+          let even : left_over (values_of past) ≡ None = sym has.digit ∙ ap (option_map (λ (digit : Digit). digit.value)) none in
+          let values : values_of (past ++ digits) ≡ values_of past ++ values_of digits = values_front past digits in (
+            record {
+              all_readable = readable_front past digits has.all_readable ∙ ap (λ (cs : List ℕ). past ++ cs) is.all_readable;
+              place = omega (arith, fits, has.place, place_is (omega (arith, fits, has.place)), length-append past digits);
+              digit = ap (option_map (λ (digit : Digit). digit.value)) (high_is ∙ none) ∙ sym (ap left_over values ∙ left_even (values_of past) (values_of digits) even ∙ is.even);
+            },
+            ap paired values ∙ paired_even (values_of past) (values_of digits) even ∙ ap (λ (more : List ℕ). paired (values_of past) ++ more) is.are,
+          );
+    }
+
+-- the octets of pairs were added
+pub pairs_decoded : (old new : Digits) (text left before after : List ℕ) → ReadsPairs text left before after → old.high ≡ None → new.high ≡ old.high
+    → (old.place + (length text - length left) < 2 ^ 64 → new.place ≡ old.place + (length text - length left)) → DecodesFirst old text before left after new
+pairs_decoded old new text left before after pairs none high_is place_is =
+    let size : length text - length left ≡ length pairs.digits = omega (arith, ap length pairs.split, length-append pairs.digits left) in
+    let first : Decodes old pairs.digits before after new =
+    rw (← pairs.added) at (decodes_pairs old new pairs.digits pairs.octets before pairs.are none high_is (rw size at place_is)) in
+    record {
+      decodes = λ last_is last later. rw pairs.split (decodes_then old new last pairs.digits left before after last_is first later);
+      halts = λ stop last_is later. rw pairs.split (halts_then stop old new pairs.digits left before after last_is first later);
+    }
+
+-- none was read
+pub none_decoded : (old : Digits) (text before : List ℕ) → DecodesFirst old text before text before old
+none_decoded old text before = record {
+  decodes = λ after last later. later;
+  halts = λ stop after later. later;
+}
+
+pub no_pairs : (text before : List ℕ) → ReadsPairs text text before before
+no_pairs text before = record {
+  digits = [];
+  octets = [];
+  split = refl;
+  are = refl;
+  added = sym (append-nil before);
+}
+
+-- a pair more
+pub pairs_then : (octet : ℕ) (text rest left before middle after : List ℕ) → BeginsWithOctet text octet rest → middle ≡ before ++ octet ∷ []
+    → ReadsPairs rest left middle after → ReadsPairs text left before after
+pairs_then octet text rest left before middle after begins added pairs = record {
+  digits = begins.high ∷ begins.low ∷ pairs.digits;
+  octets = octet ∷ pairs.octets;
+  split = begins.split ∙ ap (λ (text : List ℕ). begins.high ∷ begins.low ∷ text) pairs.split;
+  are = go (hex_value begins.high) (hex_value begins.low) begins.is;
+  added = pairs.added ∙ ap (λ (front : List ℕ). front ++ pairs.octets) added ∙ append_assoc before (octet ∷ []) pairs.octets;
+}
+  where
+    go : (x y : Option ℕ) → Some octet ≡ option_and_then (λ high. option_map (λ low. 16 * high + low) y) x → octet_before x y (octets_of pairs.digits) ≡ Some (octet ∷ pairs.octets)
+    go None y e = cc
+    go (Some high) None e = cc
+    go (Some high) (Some low) e =
+        let same : 16 * high + low ≡ octet = cc in
+        rw (pairs.are, same) refl
+
+pub first_of_two : (text : List ℕ) (octet : ℕ) → 2 ≤ length text → Some octet ≡ octet_of (slice_index_or text 0 0 ∷ slice_index_or text 1 0 ∷ [])
+    → BeginsWithOctet text octet (take (length text - 2) (drop 2 text))
+first_of_two [] octet two is = absurd (omega arith)
+first_of_two (high ∷ []) octet two is = absurd (omega arith)
+first_of_two (high ∷ low ∷ rest) octet two is =
+    let same : take (length (high ∷ low ∷ rest) - 2) rest ≡ rest = grind (arith, common_steps) in
+    record {
+      high = high;
+      low = low;
+      split = ap (λ (text : List ℕ). high ∷ low ∷ text) (sym same);
+      is = is;
+    }
+
+pub none_waits : (high : Option Digit) → is_some high ≡ false → high ≡ None
+none_waits None e = refl
+none_waits (Some digit) e = cc
+
+-- a character more, behind those that were read in pairs
+pub decodes_on : (a b d last : Digits) (text left x y z after : List ℕ) → 1 ≤ length left → DecodesFirst a text x left y b
+    → Decodes b (slice_index_or left 0 0 ∷ []) y z d → Decodes d (take (length left - 1) (drop 1 left)) z after last → Decodes a text x after last
+decodes_on a b d last text [] x y z after one pairs first later = absurd (omega arith)
+decodes_on a b d last text (c ∷ rest) x y z after one pairs first later =
+    let same : take (length (c ∷ rest) - 1) rest ≡ rest = grind (arith, common_steps) in
+    pairs.decodes after last (decodes_then b d last (c ∷ []) rest y z after first (rw same at later))
+
+pub halts_on_later : (stop : Stop UnreadableOctet) (a b d : Digits) (text left x y z after : List ℕ) → 1 ≤ length left → DecodesFirst a text x left y b
+    → Decodes b (slice_index_or left 0 0 ∷ []) y z d → Halts stop d (take (length left - 1) (drop 1 left)) z after → Halts stop a text x after
+halts_on_later stop a b d text [] x y z after one pairs first later = absurd (omega arith)
+halts_on_later stop a b d text (c ∷ rest) x y z after one pairs first later =
+    let same : take (length (c ∷ rest) - 1) rest ≡ rest = grind (arith, common_steps) in
+    pairs.halts stop after (halts_then stop b d (c ∷ []) rest y z after first (rw same at later))

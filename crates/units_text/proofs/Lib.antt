@@ -1,3 +1,4 @@
+pub mod BitLemmas
 pub mod DigitLemmas
 pub mod ReaderLemmas
 pub mod TableLemmas

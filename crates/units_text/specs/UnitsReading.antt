@@ -1,5 +1,5 @@
 -- What a reader of `units` under way stands for, and what calls on it print.
-use Rattle.std.specs.Prelude.{◌≡◌, ℕ, ◌+◌, ◌≤◌, ◌<◌, ◌^◌, Bool, List, [], ◌++◌, length, Some, Result, MatchResult}
+use Rattle.std.specs.Prelude.{◌≡◌, ℕ, ◌+◌, ◌≤◌, ◌<◌, ◌^◌, Bool, List, [], ◌∷◌, ◌++◌, length, Some, Result, MatchResult}
 use Rattle.std.specs.Option.{option_map}
 use Rattle.l2_bits.specs.declared.marks.Mark.{Mark}
 use Rattle.l2_bits.specs.LineBits.{line_bits}
@@ -12,6 +12,7 @@ use Rattle.units_text.specs.declared.marked_line.MarkedLine.{MarkedLine}
 use Rattle.units_text.specs.declared.units_reading.UnitsReader.{UnitsReader}
 use Rattle.units_text.specs.declared.fault.UnreadableOctet.{UnreadableOctet}
 use Rattle.printing.specs.Printing.{IsWhole, StopsIn}
+use Rattle.figures.specs.Figures.{octet_of, octets_of}
 use Rattle.units_text.specs.UnitsText.{IsUnitsText, readable, values_of, paired, left_over, octets_in, fault_place, marks_text, counts_of}
 
 -- The line.
@@ -71,6 +72,21 @@ pub record Decodes (old : Digits) (text before after : List ℕ) (new : Digits) 
       → HasDigits (past ++ text) new
       × (paired (values_of (past ++ text)) ≡ paired (values_of past) ++ octets)
 
+-- the characters begin with the two digits of this octet
+pub record BeginsWithOctet (text : List ℕ) (octet : ℕ) (left : List ℕ) : Type 0 where
+  pub high : ℕ
+  pub low : ℕ
+  pub split : text ≡ high ∷ low ∷ left
+  pub is : Some octet ≡ octet_of (high ∷ low ∷ [])
+
+-- the octets of the first of these characters, two digits each, were added; the other characters are left
+pub record ReadsPairs (text left before after : List ℕ) : Type 0 where
+  pub digits : List ℕ
+  pub octets : List ℕ
+  pub split : text ≡ digits ++ left
+  pub are : octets_of digits ≡ Some octets
+  pub added : after ≡ before ++ octets
+
 -- the input's octets are these up to the fault; where memory was wanted, they begin so
 abbrev pub HaltsIn : Stop UnreadableOctet → List ℕ → List ℕ → Type 0
 HaltsIn (Input fault) input octets =
@@ -85,6 +101,14 @@ pub record Halts (stop : Stop UnreadableOctet) (old : Digits)
   pub few : length octets ≤ length text
   pub ends : (past : List ℕ) → length past + length text ≤ 2 ^ 60 → HasDigits past old
       → (left : List ℕ) → HaltsIn stop (past ++ (text ++ left)) (paired (values_of past) ++ octets)
+
+-- the first of these characters were read: what is done with the others completes what is done with all
+pub record DecodesFirst (old : Digits) (text before left middle : List ℕ)
+    (new : Digits) : Type 0 where
+  pub decodes : (after : List ℕ) (last : Digits) → Decodes new left middle after last
+      → Decodes old text before after last
+  pub halts : (stop : Stop UnreadableOctet) (after : List ℕ) → Halts stop new left middle after
+      → Halts stop old text before after
 
 -- the reader has read this without a fault, and has printed these lines
 pub record HasRead (past lines : List ℕ) (reader : UnitsReader) : Type 0 where

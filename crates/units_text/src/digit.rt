@@ -1,7 +1,7 @@
 //! The digits of `units`.
-ghost use Rattle.std.specs.Prelude.{◌≡◌, ◌<◌, nat_lt, if◌then◌else◌, Some, None};
+ghost use Rattle.std.specs.Prelude.{◌≡◌, ◌<◌, [], ◌∷◌, nat_lt, if◌then◌else◌, Some, None};
 ghost use Rattle.std.specs.Option.{option_map};
-ghost use Rattle.figures.specs.Figures.{hex_value};
+ghost use Rattle.figures.specs.Figures.{hex_value, octet_of as octet_of_word};
 
 /// The value of each character that is a hexadecimal digit, of either case, and 255 for the others.
 static VALUES: [u8; 256] = [
@@ -48,4 +48,18 @@ fn value_of(c: u8) -> u8
     ensures { (if nat_lt result 16 then Some result else None) ≡ hex_value c }
 {
     VALUES[c as usize]
+}
+
+/// The octet of these two digits, of either case.
+#[inline(always)]
+pub(crate) fn octet_of(high: u8, low: u8) -> Option<u8>
+    ensures { result ≡ octet_of_word (high ∷ low ∷ []) }
+{
+    let high = value_of(high);
+    let low = value_of(low);
+    if high < 16 && low < 16 {
+        Some(16 * high + low)
+    } else {
+        None
+    }
 }

@@ -1,13 +1,16 @@
 //! The lines that `units` prints.
 ghost use Rattle.std.specs.Prelude.{◌≡◌, ◌++◌, IfOk, OnOk, codes, decimal};
 ghost use Rattle.l2_bits.specs.Deframing.{marked};
-ghost use Rattle.l2_units.specs.Grammar.{unit_of};
+ghost use Rattle.l2_units.specs.Grammar.{unit_of, unit_with};
+ghost use Rattle.l2_units.specs.declared.unit.Unit.TheVariants.{Lssu, Msu};
+ghost use Rattle.figures.specs.Figures.{bit};
 ghost use Rattle.l2_units.specs.declared.profile.Profile.TheVariants.{Narrow};
 ghost use Rattle.units_text.specs.UnitsText.{InputHasOneText, good_text, line_head, mark_text, unit_text, unit_words, counts_text};
 
-use figures::{bit_of, push_hex, push_number};
+use figures::{push_hex, push_number};
 use l2_bits::MarkKind;
-use l2_units::{Header, Unit, read};
+use l2_signals::Status;
+use l2_units::{Header, Unit, parts_of};
 use std::alloc::{AllocError, Global};
 
 /// How many marks of each kind a line has given.
@@ -34,8 +37,8 @@ fn push_good(octets: &[u8], text: &mut Vec<u8>) -> Result<(), AllocError>
     ensures { OnOk result (text.new.items
         ≡ text.old.items ++ good_text (unit_of Narrow octets.now) octets.now) }
 {
-    match read(octets) {
-        Ok(unit) => push_unit(&unit, text),
+    match parts_of(octets) {
+        Ok((head, field)) => push_unit(head, field, text),
         Err(fault) => push_fault(fault.number(), text),
     }
 }
@@ -50,13 +53,24 @@ fn push_fault(number: u8, text: &mut Vec<u8>) -> Result<(), AllocError>
     text.extend_from_slice(b"\n")
 }
 
-/// Adds the line of a unit.
-fn push_unit(unit: &Unit, text: &mut Vec<u8>) -> Result<(), AllocError>
-    ensures { OnOk result (text.new.items ≡ text.old.items ++ unit_text unit.now) }
+/// Adds the line of the unit that has this header and this field behind its length indicator.
+fn push_unit(head: Header, field: &[u8], text: &mut Vec<u8>) -> Result<(), AllocError>
+    ensures { OnOk result (text.new.items ≡ text.old.items ++ unit_text (unit_with head field.now)) }
 {
     text.extend_from_slice(b"good ")?;
-    push_unit_words(unit, text)?;
+    push_parts(head, field, text)?;
     text.extend_from_slice(b"\n")
+}
+
+/// Adds the words of the unit that has this header and this field behind its length indicator.
+fn push_parts(head: Header, field: &[u8], text: &mut Vec<u8>) -> Result<(), AllocError>
+    ensures { OnOk result (text.new.items ≡ text.old.items ++ unit_words (unit_with head field.now)) }
+{
+    match field {
+        [] => push_head(b"fisu", head, text),
+        [first] | [first, _] => push_lssu(head, Status::of(*first), text),
+        _ => push_msu(head, field, text),
+    }
 }
 
 /// Adds the words of a unit, as they stand on its line behind `good`. It fails only where memory is wanted.
@@ -65,17 +79,27 @@ pub fn push_unit_words(unit: &Unit, text: &mut Vec<u8>) -> Result<(), AllocError
 {
     match unit {
         Unit::Fisu { head } => push_head(b"fisu", *head, text),
-        Unit::Lssu { head, status } => {
-            push_head(b"lssu", *head, text)?;
-            text.extend_from_slice(b" status=")?;
-            push_number(text, u64::from(status.number()))
-        }
-        Unit::Msu { head, body } => {
-            push_head(b"msu", *head, text)?;
-            text.extend_from_slice(b" body=")?;
-            push_hex(text, body.as_slice())
-        }
+        Unit::Lssu { head, status } => push_lssu(*head, *status, text),
+        Unit::Msu { head, body } => push_msu(*head, body.as_slice(), text),
     }
+}
+
+/// Adds the words of a link status unit.
+fn push_lssu(head: Header, status: Status, text: &mut Vec<u8>) -> Result<(), AllocError>
+    ensures { OnOk result (text.new.items ≡ text.old.items ++ unit_words (Lssu head status)) }
+{
+    push_head(b"lssu", head, text)?;
+    text.extend_from_slice(b" status=")?;
+    push_number(text, u64::from(status.number()))
+}
+
+/// Adds the words of a message with this body.
+fn push_msu(head: Header, body: &[u8], text: &mut Vec<u8>) -> Result<(), AllocError>
+    ensures { OnOk result (text.new.items ≡ text.old.items ++ unit_words (Msu head (record { items = body.now }))) }
+{
+    push_head(b"msu", head, text)?;
+    text.extend_from_slice(b" body=")?;
+    push_hex(text, body)
 }
 
 /// Adds the kind of a unit and its header, without an end of the line.
@@ -85,12 +109,25 @@ fn push_head(kind: &[u8], head: Header, text: &mut Vec<u8>) -> Result<(), AllocE
     text.extend_from_slice(kind)?;
     text.extend_from_slice(b" bsn=")?;
     push_number(text, u64::from(head.bsn))?;
-    text.extend_from_slice(b" bib=")?;
-    push_number(text, u64::from(bit_of(head.bib)))?;
-    text.extend_from_slice(b" fsn=")?;
+    text.extend_from_slice(bib_words(head.bib))?;
     push_number(text, u64::from(head.fsn))?;
-    text.extend_from_slice(b" fib=")?;
-    push_number(text, u64::from(bit_of(head.fib)))
+    text.extend_from_slice(fib_words(head.fib))
+}
+
+/// The words of a BIB, and the one before an FSN.
+#[inline(always)]
+fn bib_words(bib: bool) -> &'static [u8]
+    ensures { result.now ≡ codes " bib=" ++ (decimal (bit bib) ++ codes " fsn=") }
+{
+    if bib { b" bib=1 fsn=" } else { b" bib=0 fsn=" }
+}
+
+/// The words of a FIB.
+#[inline(always)]
+fn fib_words(fib: bool) -> &'static [u8]
+    ensures { result.now ≡ codes " fib=" ++ decimal (bit fib) }
+{
+    if fib { b" fib=1" } else { b" fib=0" }
 }
 
 /// The last line.

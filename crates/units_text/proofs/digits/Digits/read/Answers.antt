@@ -1,29 +1,24 @@
-use Rattle.std.proofs.Common.{◌≡◌, ◌+◌, [], drop, arith}
-use Rattle.std.proofs.lemmas.List.{drop_all}
+use Rattle.printing.specs.declared.fault.Stop.TheVariants.{Memory}
 use Rattle.printing.proofs.PrintLemmas.{passed_on}
-use Rattle.units_text.proofs.DigitLemmas.{decodes_none, decodes_then, halts_then, halts_more, drop_step}
+use Rattle.units_text.proofs.DigitLemmas.{halts_for_memory, decodes_on, halts_on_later}
 use Rattle.units_text.proofs.digits.Digits.read.Goals as goal
 
-pub returns-in_err-take : goal.returns-in_err-take
-returns-in_err-take c =
-    rw (passed_on c.from_residual.result c.in_err-take.field-0.0 c.from_residual.ensures.1)
-    (c.loop-c.invariant.halts c.in_err-take.field-0.0 c.take.new.octets.items
-    (rw (drop_step c.args.text.now c.loop-c.c-index 0 (omega arith))
-    (halts_more c.in_err-take.field-0.0 c.loop-c.self _ (drop (c.loop-c.c-index + 1) c.args.text.now) c.loop-c.octets.items c.take.new.octets.items c.in_err-take.ensures)))
+pub returns-in_err-left : goal.returns-in_err-left
+returns-in_err-left c =
+    rw (passed_on c.from_residual.result Memory c.from_residual.ensures.1)
+    (c.loop-left.invariant.halts Memory c.read_pairs.new.octets.items
+    (halts_for_memory c.loop-left.self c.loop-left.left.now c.loop-left.octets.items c.read_pairs.new.octets.items c.in_err-left.ensures.reads))
 
-pub loop-c-preserved : goal.loop-c-preserved
-loop-c-preserved c = record {
-  decodes = λ after new later.
-      c.loop-c.invariant.decodes after new
-      (rw (drop_step c.args.text.now c.loop-c.c-index 0 (omega arith))
-      (decodes_then c.loop-c.self c.take.new.self new _ _ c.loop-c.octets.items c.take.new.octets.items after c.in_ok-take.ensures later));
-  halts = λ stop after later.
-      c.loop-c.invariant.halts stop after
-      (rw (drop_step c.args.text.now c.loop-c.c-index 0 (omega arith))
-      (halts_then stop c.loop-c.self c.take.new.self _ _ c.loop-c.octets.items c.take.new.octets.items after c.in_ok-take.ensures later));
-}
-
-pub returns : goal.returns
-returns c =
-    let none : drop c.loop-c.c-index c.args.text.now ≡ [] = drop_all c.loop-c.c-index c.args.text.now (omega arith) in
-    c.loop-c.invariant.decodes c.loop-c.octets.items c.loop-c.self (rw none (decodes_none c.loop-c.self c.loop-c.octets.items))
+pub loop-left-preserved : goal.loop-left-preserved
+loop-left-preserved c =
+    let l = c.loop-left in
+    record {
+      decodes = λ after new later.
+          l.invariant.decodes after new
+          (decodes_on l.self c.read_pairs.new.self c.take.new.self new l.left.now c.in_ok-left.left.now l.octets.items c.read_pairs.new.octets.items c.take.new.octets.items after
+          c.in-len1-up.len_at_least c.in_ok-left.ensures.reads c.in_ok-take.ensures later);
+      halts = λ stop after later.
+          l.invariant.halts stop after
+          (halts_on_later stop l.self c.read_pairs.new.self c.take.new.self l.left.now c.in_ok-left.left.now l.octets.items c.read_pairs.new.octets.items c.take.new.octets.items after
+          c.in-len1-up.len_at_least c.in_ok-left.ensures.reads c.in_ok-take.ensures later);
+    }

@@ -1,4 +1,4 @@
-use Rattle.std.proofs.Common.{List, ℕ, drop}
+use Rattle.std.proofs.Common.{List, ℕ, length}
 use Rattle.printing.specs.declared.fault.Stop.{Stop}
 use Rattle.units_text.specs.declared.digits.Digits.{Digits}
 use Rattle.units_text.specs.declared.fault.UnreadableOctet.{UnreadableOctet}
@@ -6,10 +6,13 @@ use Rattle.units_text.specs.UnitsReading.{Decodes, Halts}
 use Rattle.units_text.proofs.digits.Digits.read.Given as goal
 
 -- what the characters that are left do completes what all do
-abbrev pub invariant-loop-c : goal.invariant-loop-c
-invariant-loop-c l = record {
-  decodes : (after : List ℕ) (new : Digits) → Decodes l.self (drop l.c-index l.text) l.octets.items after new
+abbrev pub invariant-loop-left : goal.invariant-loop-left
+invariant-loop-left l = record {
+  decodes : (after : List ℕ) (new : Digits) → Decodes l.self l.left l.octets.items after new
       → Decodes l.initial.self l.text l.initial.octets.items after new;
-  halts : (stop : Stop UnreadableOctet) (after : List ℕ) → Halts stop l.self (drop l.c-index l.text) l.octets.items after
+  halts : (stop : Stop UnreadableOctet) (after : List ℕ) → Halts stop l.self l.left l.octets.items after
       → Halts stop l.initial.self l.text l.initial.octets.items after;
 }
+
+abbrev pub decreases-loop-left : goal.decreases-loop-left
+decreases-loop-left l = length l.left
