@@ -1,9 +1,9 @@
 //! An allocator for tests, which refuses one allocation and passes all others on.
 //!
 //! [`Refusing`] counts the allocations that are asked of it, and refuses the one that it was made for: a growth is one
-//! too, since it asks for a new block. What is over any allocator takes a `&Refusing`, which is copied freely: so a test
-//! keeps the count, and asks [`Refusing::refuses_no_more`] whether the number was reached, and [`Refusing::blocks`] how many
-//! blocks are out.
+//! too, since it asks for a new block. What is over any allocator takes a `&Refusing`, which is copied freely: so a
+//! test keeps the count, and asks [`Refusing::refuses_no_more`] whether the number was reached, and
+//! [`Refusing::blocks`] how many blocks are out.
 #![tactic(auto)]
 
 use std::alloc::{AllocError, Allocator};
@@ -42,7 +42,8 @@ impl<B: Allocator> Refusing<B> {
         self.left.get() == 0
     }
 
-    /// How many blocks are out: those that were handed out and didn't come back. A growth hands one out and takes one back.
+    /// How many blocks are out: those that were handed out and didn't come back. A growth hands one out and takes one
+    /// back.
     pub fn blocks(&self) -> u64 {
         self.handed.get().wrapping_sub(self.returned.get())
     }
