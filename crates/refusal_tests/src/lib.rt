@@ -13,16 +13,20 @@ mod lines;
 #[cfg(test)]
 mod script;
 #[cfg(test)]
+mod seats;
+#[cfg(test)]
 mod sets;
 #[cfg(test)]
 mod windows;
+#[cfg(test)]
+mod worlds;
 
 #[cfg(test)]
 use std::test::Fail;
 
-/// At most so many growths are refused in one test: a set opens 256 queues, and its base as many.
+/// At most so many growths are refused in one test: a set opens 256 queues, and its base as many; a world has two.
 #[cfg(test)]
-const MOST_GROWTHS: u64 = 1_000;
+const MOST_GROWTHS: u64 = 4_000;
 
 /// A call is made so often at most: one growth is refused by the test, and one by the tool.
 #[cfg(test)]

@@ -14,7 +14,7 @@ fn a_refused_growth_lays_no_line(rt: HostRuntime) -> Result<(), Fail> {
 fn each_growth_is_refused(alloc: Global) -> bool {
     for number in 1..=MOST_GROWTHS {
         let refusing = Refusing::new(alloc, number);
-        if !is_laid(&refusing) {
+        if !is_laid(&refusing) || refusing.blocks() != 0 {
             return false;
         }
         if !refusing.refuses_no_more() {
@@ -25,10 +25,14 @@ fn each_growth_is_refused(alloc: Global) -> bool {
     false
 }
 
-fn is_laid<A: Allocator + Copy>(alloc: A) -> bool {
+/// The line is laid, again where it was refused; nothing is left of one that was.
+fn is_laid(refusing: &Refusing<Global>) -> bool {
     for _ in 0..TRIES {
-        if let Ok((mut near, mut far)) = ring_pair(alloc, 2) {
+        if let Ok((mut near, mut far)) = ring_pair(refusing, 2) {
             return holds_two(&mut near, &mut far) && holds_two(&mut far, &mut near);
+        }
+        if refusing.blocks() != 0 {
+            return false;
         }
     }
     false

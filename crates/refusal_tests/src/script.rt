@@ -1,4 +1,5 @@
 //! What is asked of a set: each event at least once, where it takes what memory it can.
+ghost use Rattle.std.specs.Prelude.{◌≡◌, IfSome};
 ghost use Rattle.set_model.specs.History.{IsActor};
 
 use arrayvec::ArrayVec;
@@ -54,12 +55,14 @@ pub(crate) const SCRIPT: [Ask; 21] = [
 ];
 
 /// The settings of a set of two links with point code 2. The far end has 1.
-pub(crate) fn config() -> Option<SetConfig> {
+pub(crate) fn config() -> Option<SetConfig>
+    ensures { IfSome result (λ config. config.links ≡ 2) }
+{
     SetConfig::new(0, 2, 2, 1, 0x80, Method::Basic).ok()
 }
 
 /// The octets of a message of this stream: SIO, and a label between these point codes (Q.704 2.2).
-fn message_of(stream: u8) -> [u8; 5] {
+pub(crate) fn message_of(stream: u8) -> [u8; 5] {
     [0x85, 1, 0x80, 0, 16 * (stream % 16)]
 }
 

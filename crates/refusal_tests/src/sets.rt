@@ -26,7 +26,7 @@ fn each_opening_is_refused(alloc: Global) -> bool {
 fn each_is_opened(alloc: Global, twin: &SetCore) -> bool {
     for number in 1..=MOST_GROWTHS {
         let refusing = Refusing::new(alloc, number);
-        if !is_opened(&refusing, twin) {
+        if !is_opened(&refusing, twin) || refusing.blocks() != 0 {
             return false;
         }
         if !refusing.refuses_no_more() {
@@ -38,7 +38,7 @@ fn each_is_opened(alloc: Global, twin: &SetCore) -> bool {
 }
 
 fn is_opened(refusing: &Refusing<Global>, twin: &SetCore) -> bool {
-    match opened(refusing) {
+    match opened_over(refusing) {
         Some(set) => are_alike(&set, twin),
         None => false,
     }
@@ -83,7 +83,7 @@ fn a_refused_growth_leaves_a_set(rt: HostRuntime) -> Result<(), Fail> {
 fn each_growth_is_refused(alloc: Global) -> bool {
     for number in 1..=MOST_GROWTHS {
         let refusing = Refusing::new(alloc, 0);
-        if !is_right(&refusing, number, alloc) {
+        if !is_right(&refusing, number, alloc) || refusing.blocks() != 0 {
             return false;
         }
         if !refusing.refuses_no_more() {
@@ -107,7 +107,7 @@ fn is_right_beside(
     alloc: Global,
     twin: &mut SetCore,
 ) -> bool {
-    match opened(refusing) {
+    match opened_over(refusing) {
         Some(mut set) => {
             refusing.refuse(number);
             is_asked(alloc, &mut set, twin)
@@ -116,8 +116,22 @@ fn is_right_beside(
     }
 }
 
+/// A set that is opened, again where it was refused; nothing is left of one that was.
+fn opened_over(refusing: &Refusing<Global>) -> Option<SetCore<&Refusing<Global>>> {
+    let config = config()?;
+    for _ in 0..TRIES {
+        if let Ok(set) = SetCore::new(refusing, &config) {
+            return Some(set);
+        }
+        if refusing.blocks() != 0 {
+            return None;
+        }
+    }
+    None
+}
+
 /// A set that is opened, again where it was refused.
-fn opened<A: Allocator + Copy>(alloc: A) -> Option<SetCore<A>> {
+pub(crate) fn opened(alloc: Global) -> Option<SetCore> {
     let config = config()?;
     for _ in 0..TRIES {
         if let Ok(set) = SetCore::new(alloc, &config) {
@@ -157,7 +171,7 @@ fn makes_base<A: Allocator + Copy>(set: &mut SetCore<A>, twin: &SetCore) -> bool
     false
 }
 
-fn bases(twin: &mut SetCore) -> bool {
+pub(crate) fn bases(twin: &mut SetCore) -> bool {
     for _ in 0..TRIES {
         if twin.checkpoint().is_ok() {
             return true;
@@ -180,7 +194,7 @@ fn goes_alike<A: Allocator + Copy>(
 }
 
 /// The event, made again where memory was refused.
-fn made(alloc: Global, ask: Ask) -> Option<Event> {
+pub(crate) fn made(alloc: Global, ask: Ask) -> Option<Event> {
     for _ in 0..TRIES {
         if let Some(event) = event_of(alloc, ask) {
             return Some(event);
@@ -224,7 +238,7 @@ fn asked<A: Allocator + Copy>(
 }
 
 /// The set answers, asked again where that was refused.
-fn answered<A: Allocator + Copy>(
+pub(crate) fn answered<A: Allocator + Copy>(
     set: &mut SetCore<A>,
     who: Actor,
     event: &Event,
@@ -241,7 +255,7 @@ fn answered<A: Allocator + Copy>(
 }
 
 /// All readers of both tell the same.
-fn are_alike<A: Allocator + Copy>(set: &SetCore<A>, twin: &SetCore) -> bool {
+pub(crate) fn are_alike<A: Allocator + Copy>(set: &SetCore<A>, twin: &SetCore) -> bool {
     have_same_totals(set, twin)
         && have_same_links(set, twin)
         && have_same_places(set, twin)
@@ -249,9 +263,15 @@ fn are_alike<A: Allocator + Copy>(set: &SetCore<A>, twin: &SetCore) -> bool {
 }
 
 fn have_same_totals<A: Allocator + Copy>(set: &SetCore<A>, twin: &SetCore) -> bool {
-    set.counts() == twin.counts()
-        && set.books() == twin.books()
-        && set.acknowledged() == twin.acknowledged()
+    have_same_sums(set, twin) && have_same_numbers(set, twin)
+}
+
+fn have_same_sums<A: Allocator + Copy>(set: &SetCore<A>, twin: &SetCore) -> bool {
+    set.counts() == twin.counts() && set.books() == twin.books()
+}
+
+fn have_same_numbers<A: Allocator + Copy>(set: &SetCore<A>, twin: &SetCore) -> bool {
+    set.acknowledged() == twin.acknowledged()
         && set.entries() == twin.entries()
         && set.numbers_given() == twin.numbers_given()
         && set.links() == twin.links()
@@ -308,7 +328,7 @@ fn a_refused_offer_uses_no_number(rt: HostRuntime) -> Result<(), Fail> {
 fn each_offer_is_refused(alloc: Global) -> bool {
     for number in 1..=MOST_GROWTHS {
         let refusing = Refusing::new(alloc, 0);
-        if !is_first(&refusing, number, alloc) {
+        if !is_first(&refusing, number, alloc) || refusing.blocks() != 0 {
             return false;
         }
         if !refusing.refuses_no_more() {
@@ -328,7 +348,7 @@ fn is_first(refusing: &Refusing<Global>, number: u64, alloc: Global) -> bool {
 }
 
 fn is_accepted(refusing: &Refusing<Global>, number: u64, event: &Event) -> bool {
-    match opened(refusing) {
+    match opened_over(refusing) {
         Some(mut set) => {
             refusing.refuse(number);
             is_accepted_first(&mut set, event)
@@ -340,8 +360,12 @@ fn is_accepted(refusing: &Refusing<Global>, number: u64, event: &Event) -> bool 
 fn is_accepted_first<A: Allocator + Copy>(set: &mut SetCore<A>, event: &Event) -> bool {
     let mut answer = Answer::Done;
     answered(set, Actor::User(0), event, &mut answer)
-        && answer.same(&Answer::Accepted { number: 0 })
+        && is_first_answer(&answer)
         && set.history().len() == 1
+}
+
+fn is_first_answer(answer: &Answer) -> bool {
+    answer.same(&Answer::Accepted { number: 0 })
 }
 
 /// The audit of one entry tells that it's legal, or that one with another answer isn't; or memory is wanted, and it tells
@@ -367,7 +391,7 @@ fn each_audit_is_refused(alloc: Global, number: u64) -> bool {
 fn each_growth_ends_it(alloc: Global, entry: &Entry, is_legal: bool) -> bool {
     for number in 1..=MOST_GROWTHS {
         let refusing = Refusing::new(alloc, number);
-        if told(&refusing, entry) != Some(is_legal) {
+        if told(&refusing, entry) != Some(is_legal) || refusing.blocks() != 0 {
             return false;
         }
         if !refusing.refuses_no_more() {

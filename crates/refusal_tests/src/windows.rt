@@ -17,7 +17,7 @@ fn a_refused_growth_leaves_a_window(rt: HostRuntime) -> Result<(), Fail> {
 fn each_growth_is_refused(alloc: Global) -> bool {
     for number in 1..=MOST_GROWTHS {
         let refusing = Refusing::new(alloc, number);
-        if !is_right(&refusing, alloc) {
+        if !is_right(&refusing, alloc) || refusing.blocks() != 0 {
             return false;
         }
         if !refusing.refuses_no_more() {
@@ -36,14 +36,27 @@ fn is_right(refusing: &Refusing<Global>, alloc: Global) -> bool {
 }
 
 fn is_right_beside(refusing: &Refusing<Global>, twin: &mut Window) -> bool {
-    match opened(refusing) {
+    match opened_over(refusing) {
         Some(mut window) => are_alike(&window, twin) && is_filled(&mut window, twin),
         None => false,
     }
 }
 
+/// A window that is opened, again where it was refused; nothing is left of one that was.
+fn opened_over(refusing: &Refusing<Global>) -> Option<Window<&Refusing<Global>>> {
+    for _ in 0..TRIES {
+        if let Ok(window) = Window::new(refusing) {
+            return Some(window);
+        }
+        if refusing.blocks() != 0 {
+            return None;
+        }
+    }
+    None
+}
+
 /// A window that is opened, again where it was refused.
-fn opened<A: Allocator + Copy>(alloc: A) -> Option<Window<A>> {
+fn opened(alloc: Global) -> Option<Window> {
     for _ in 0..TRIES {
         if let Ok(window) = Window::new(alloc) {
             return Some(window);
