@@ -11,7 +11,7 @@
 //! that is played, alone or with the opening before it. `NAME.terminal_explained` beside `NAME.terminal`, and the tables
 //! `NAME.terminal_first`, `NAME.terminal_second` and `NAME.terminal_third`, are so for the lines that drive an end; before
 //! the third line stand the opening and a command. `NAME.run` is the words behind `mtpbank run`, one a line: threads run as
-//! they ask. A line is printed for each name.
+//! they ask, and of what they print the time that they took is left out. A line is printed for each name.
 //! Whether a run is as it should be is all that this program tells; it proves nothing.
 #![tactic(auto)]
 
@@ -355,7 +355,24 @@ fn ran_as<R: Threads + Wait + Clock + Eprint + Copy + Send + Sync + 'static>(
         Ok(None) => Ok(String::new(alloc)),
         Err(fault) => Ok(format!(in alloc; "{fault}\n")?),
     };
-    ran_with(sink.into_inner(), told)
+    ran_with(without_time(alloc, sink.into_inner())?, told)
+}
+
+/// These lines, each without what a clock told: the seconds, and what is behind them.
+fn without_time(alloc: Global, printed: Vec<u8>) -> io::Result<Vec<u8>> {
+    let Ok(text) = String::from_utf8(printed) else {
+        return Ok(Vec::new(alloc));
+    };
+    let mut kept = String::new(alloc);
+    for line in text.lines() {
+        let timeless = match line.split_once(" seconds=") {
+            Some((before, _)) => before,
+            None => line,
+        };
+        kept.push_str(timeless)?;
+        kept.push_str("\n")?;
+    }
+    Ok(kept.into_bytes())
 }
 
 /// The line that tells how a run ended, if it tells anything.
