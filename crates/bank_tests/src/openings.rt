@@ -44,6 +44,7 @@ pub(crate) fn plan_with(turns: u32, fail: Option<u8>, checkpoint: Option<u16>) -
         fail,
         checkpoint,
         managed: None,
+        keeps: false,
     }
 }
 

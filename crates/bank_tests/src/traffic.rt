@@ -135,6 +135,7 @@ fn goes_through<R: Threads + Wait + Clock + Copy + Send + Sync + 'static>(
         managed: false,
         noise: None,
         seed: 0,
+        keeps: false,
     };
     let Ok(ends) = run_traffic(rt, alloc, &traffic) else {
         return Err(Fail::from("not run"));

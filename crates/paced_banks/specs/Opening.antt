@@ -70,6 +70,7 @@ pub record IsPlan (traffic : Traffic) (fail : Option ℕ) (plan : Plan) : Type 0
   pub fail_is : plan.fail ≡ fail
   pub checkpoint_is : plan.checkpoint ≡ traffic.checkpoint
   pub managed_is : links_managed plan.managed ≡ (if traffic.managed then Some traffic.links else None)
+  pub keeps_is : plan.keeps ≡ traffic.keeps
 
 -- the same for each of so many sets
 abbrev pub each_set : {X : Type 0} → ℕ → X → List X

@@ -29,6 +29,8 @@ pub struct Traffic {
     pub noise: Option<u32>,
     /// What befalls the octets of each line goes by this number.
     pub seed: u32,
+    /// The octets that terminals put into their lines are kept.
+    pub keeps: bool,
     pub ghost few_sets: { (1 ≤ sets) × (sets ≤ 16) },
     pub ghost few_links: { (1 ≤ links) × (links ≤ 16) },
     pub ghost few_users: { (1 ≤ users) × (users ≤ 16) },

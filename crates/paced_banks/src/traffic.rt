@@ -202,6 +202,7 @@ fn plan_of(traffic: &Traffic, fail: Option<u8>) -> Plan
         fail,
         checkpoint: traffic.checkpoint,
         managed: managed_of(traffic),
+        keeps: traffic.keeps,
     }
 }
 

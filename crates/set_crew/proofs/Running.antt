@@ -15,6 +15,7 @@ use Rattle.set_crew.specs.declared.carried.Carried.{Carried}
 use Rattle.set_crew.specs.Carrying.{carried_in}
 use Rattle.set_crew.specs.Counts.{answered_in, reported}
 use Rattle.set_crew.specs.Managing.{are_marks, of_turns}
+use Rattle.line_tape.specs.Taping.{IsTape}
 use Rattle.set_crew.specs.Shifts.{AfterHalf, DoesShift, Halves, Standing, Turns, Slices, SlicesFrom, one_more, TurnsOf, TurnsWhere, both, fresh, standing, Slice}
 
 -- it went, or it failed
@@ -35,11 +36,11 @@ by_first_half turns first fault before between is went =
     (first, between, went, subst (λ (f : Result TermReport TermFault). AfterHalf turns f (Err fault) between between) (sym is) (refl, refl))
 
 -- A SHIFT, from a new terminal on
-pub shift_of : (plan : Plan) (link number : ℕ) (counts : Result TermReport TermFault) (ended : Result ShiftReport TermFault) (answered : Answered) (carried : Carried) (marks : List ℕ) (before after : Standing) (made : List Entry)
+pub shift_of : (plan : Plan) (link number : ℕ) (counts : Result TermReport TermFault) (ended : Result ShiftReport TermFault) (answered : Answered) (carried : Carried) (tape : Option (List ℕ)) (marks : List ℕ) (before after : Standing) (made : List Entry)
     → TurnsOf plan number counts before after → before.taken ≡ [] → before.inside ≡ told Start (told Emergency (opened number plan.timers))
-    → before.made ≡ [] → before.faults ≡ [] → number ≡ link → are_marks number made marks ≡ true → of_turns plan.managed marks made ≡ after.made → ended ≡ reported answered carried counts
-    → answered ≡ answered_in number made → carried ≡ carried_in plan.managed number made → DoesShift plan link ended made
-shift_of plan link number counts ended answered carried marks before after made turned taken_is inside_is made_is faults_is same marked end_is told_is counted carries =
+    → before.made ≡ [] → before.faults ≡ [] → number ≡ link → are_marks number made marks ≡ true → of_turns plan.managed marks made ≡ after.made → ended ≡ reported answered carried tape counts
+    → answered ≡ answered_in number made → carried ≡ carried_in plan.managed number made → before.line.put ≡ [] → IsTape plan.keeps tape after.line.put → DoesShift plan link ended made
+shift_of plan link number counts ended answered carried tape marks before after made turned taken_is inside_is made_is faults_is same marked end_is told_is counted carries none taped =
     let new = told Start (told Emergency (opened number plan.timers)) in
     let start : before ≡ fresh number plan.timers before.line =
     ap (λ (t : List ℕ). standing t before.inside before.made before.faults before.line) taken_is
@@ -55,7 +56,10 @@ shift_of plan link number counts ended answered carried marks before after made 
       marks = marks;
       marks_are = marked;
       made_is = end_is;
-      ended_is = told_is ∙ ap (λ (a : Answered). reported a carried counts) counted ∙ ap (λ (c : Carried). reported (answered_in number made) c counts) carries;
+      none_put = none;
+      tape = tape;
+      tape_is = taped;
+      ended_is = told_is ∙ ap (λ (a : Answered). reported a carried tape counts) counted ∙ ap (λ (c : Carried). reported (answered_in number made) c tape counts) carries;
     })
 
 -- A SLICE more.

@@ -1,5 +1,5 @@
 -- WHAT A SET ANSWERED to the terminal of a link: whether the link came up, and the messages that were accepted on it.
-use Rattle.std.specs.Prelude.{◌==◌, ◌&&◌, ◌+◌, ℕ, Bool, true, false, List, [], ◌∷◌, Result, Ok, Err, if◌then◌else◌}
+use Rattle.std.specs.Prelude.{◌==◌, ◌&&◌, ◌+◌, ℕ, Bool, true, false, List, [], ◌∷◌, Option, Result, Ok, Err, if◌then◌else◌}
 use Rattle.set_events.specs.declared.answer.Answer.{Answer}
 use Rattle.set_events.specs.declared.answer.Answer.TheVariants.{Done, Heard as HeardAnswer}
 use Rattle.set_events.specs.declared.answer.Took.{Took}
@@ -61,6 +61,7 @@ abbrev pub answered_in : ℕ → List Entry → Answered
 answered_in link entries = record { came_up = came_up link entries; messages = taken_on link entries }
 
 -- what turns came to
-abbrev pub reported : Answered → Carried → Result TermReport TermFault → Result ShiftReport TermFault
-reported answered carried (Ok turns) = Ok (record { turns = turns; answered = answered; carried = carried })
-reported answered carried (Err fault) = Err fault
+abbrev pub reported : Answered → Carried → Option (List ℕ) → Result TermReport TermFault → Result ShiftReport TermFault
+reported answered carried tape (Ok turns) =
+    Ok (record { turns = turns; answered = answered; carried = carried; tape = tape })
+reported answered carried tape (Err fault) = Err fault

@@ -18,6 +18,7 @@ use Rattle.set_crew.specs.declared.report.ShiftReport.{ShiftReport}
 use Rattle.set_crew.specs.Carrying.{carried_in}
 use Rattle.set_crew.specs.Counts.{answered_in, reported}
 use Rattle.set_crew.specs.Managing.{are_marks, of_turns}
+use Rattle.line_tape.specs.Taping.{IsTape}
 use Rattle.set_crew.specs.Seats.{AreCalls}
 
 -- how a terminal stands: the octets that it took, its inside, its entries, its set's faults, and what it saw of its line
@@ -127,7 +128,7 @@ abbrev pub fresh : ℕ → Timers → Seen → Standing
 fresh link timers line = standing [] (told Start (told Emergency (opened link timers))) [] [] line
 
 -- A SHIFT: the turns of the plan over some line left these entries, or, where links are managed, those of them that level
--- 3 didn't ask for; and what is reported of both
+-- 3 didn't ask for; what is reported of both; and the tape of what they put into the line, of which nothing was put before
 pub record DoesShift (plan : Plan) (link : ℕ) (ended : Result ShiftReport TermFault) (made : List Entry) : Type 0 where
   pub line : Seen
   pub after : Standing
@@ -136,7 +137,10 @@ pub record DoesShift (plan : Plan) (link : ℕ) (ended : Result ShiftReport Term
   pub marks : List ℕ
   pub marks_are : are_marks link made marks ≡ true
   pub made_is : of_turns plan.managed marks made ≡ after.made
-  pub ended_is : ended ≡ reported (answered_in link made) (carried_in plan.managed link made) counts
+  pub none_put : line.put ≡ []
+  pub tape : Option (List ℕ)
+  pub tape_is : IsTape plan.keeps tape after.line.put
+  pub ended_is : ended ≡ reported (answered_in link made) (carried_in plan.managed link made) tape counts
 
 -- THE TERMINALS, from this link on, each took its own turns, and asked the set nothing else
 abbrev pub DidShifts : ℕ → Plan → List (Result ShiftReport TermFault) → Books → List Entry → Type 0

@@ -50,6 +50,8 @@ pub struct Plan {
     /// terminals what to do and when they have taken turns enough; `turns` are the most then, and `fail` is no matter. What
     /// level 3 asks of a set when time has passed is asked ([`SeatDoor`](super::SeatDoor)).
     pub managed: Option<Managed>,
+    /// The octets that terminals put into their lines are kept.
+    pub keeps: bool,
     pub ghost few_turns: { turns ≤ 2 ^ 32 },
 }
 

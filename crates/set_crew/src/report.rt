@@ -4,11 +4,12 @@ ghost use Rattle.set_crew.specs.Counts.{counted, counts_up, counts_message, is_d
 
 use super::carried::Carried;
 use arrayvec::ArrayVec;
+use line_tape::Tape;
 use link_term::{TermFault, TermReport};
 use set_events::{Answer, Event, Took};
 
 /// What the turns of a link's terminal came to.
-#[derive(Clone, Copy, Debug, PartialEq, Eq)]
+#[derive(Debug, Drop)]
 pub struct ShiftReport {
     /// What they counted at the line.
     pub turns: TermReport,
@@ -16,6 +17,8 @@ pub struct ShiftReport {
     pub answered: Answered,
     /// What the link carried meanwhile.
     pub carried: Carried,
+    /// What they put into the line, where that was to be kept.
+    pub tape: Tape,
 }
 
 /// What the calls of a user came to.
@@ -62,14 +65,16 @@ pub(crate) fn reported(
     turns: Result<TermReport, TermFault>,
     answered: Answered,
     carried: Carried,
+    tape: Tape,
 ) -> Result<ShiftReport, TermFault>
-    ensures { result ≡ reported answered carried turns }
+    ensures { result ≡ reported answered carried tape turns }
 {
     match turns {
         Ok(turns) => Ok(ShiftReport {
             turns,
             answered,
             carried,
+            tape,
         }),
         Err(fault) => Err(fault),
     }

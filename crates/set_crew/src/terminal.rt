@@ -13,6 +13,7 @@ use super::report::reported;
 use super::seat_door::SeatDoor;
 use super::slices::managed_turns;
 use line_ring::Line;
+use line_tape::{Tape, TapedLine};
 use link_term::{Command, Door, Gate, TermFault, TermReport, Terminal};
 use set_shared::{LinkSet, Opening, TermSeat};
 use std::alloc::Global;
@@ -94,13 +95,16 @@ impl<
             every,
         );
         let gate = Lent { gate: &orders.gate };
+        let keeps = plan.keeps;
+        let line = TapedLine::new(line, Tape::new(alloc, keeps));
         let mut terminal = Terminal::new(door, line, gate, orders.set, link, plan.timers);
         terminal.command(Command::Emergency);
         terminal.command(Command::Start);
         let report = planned_turns(rt, set, orders, link, &mut terminal);
         orders.gate.ended(orders.set, link);
-        let (door, _line, _gate) = terminal.into_parts();
-        let told = reported(report, door.answered(), door.carried());
+        let (door, line, _gate) = terminal.into_parts();
+        let tape = line.into_tape(keeps);
+        let told = reported(report, door.answered(), door.carried(), tape);
         let seat = door.into_seat();
         // it's the seat of that link still
         seat.link();

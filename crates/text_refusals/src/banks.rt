@@ -28,6 +28,7 @@ fn plan() -> Plan {
         fail: None,
         checkpoint: None,
         managed: None,
+        keeps: false,
     }
 }
 

@@ -3,4 +3,4 @@ use Rattle.paced_banks.proofs.Plans.{same_timers}
 use Rattle.paced_banks.proofs.traffic.plan_of.Goals as goal
 
 pub returns : goal.returns
-returns c = record { timers_are = same_timers _ _ _ _ _ _ _ _ _ _ _ _; turns_are = refl; fail_is = refl; checkpoint_is = refl; managed_is = c.managed_of.ensures }
+returns c = record { timers_are = same_timers _ _ _ _ _ _ _ _ _ _ _ _; turns_are = refl; fail_is = refl; checkpoint_is = refl; managed_is = c.managed_of.ensures; keeps_is = refl }

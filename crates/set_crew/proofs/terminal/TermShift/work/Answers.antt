@@ -1,4 +1,4 @@
-use Rattle.std.proofs.Common.{◌∙◌, ap, sym, ◌≡◌, ℕ, Option}
+use Rattle.std.proofs.Common.{◌∙◌, ap, sym, subst, ◌≡◌, ℕ, Option}
 use Rattle.set_crew.specs.declared.plan.Managed.{Managed}
 use Rattle.term_model.specs.Terminal.{told}
 use Rattle.term_model.specs.declared.command.Command.TheVariants.{Emergency, Start}
@@ -6,6 +6,7 @@ use Rattle.set_crew.specs.Carrying.{carried_in}
 use Rattle.set_crew.specs.Counts.{answered_in}
 use Rattle.set_crew.specs.Managing.{are_marks, of_turns}
 use Rattle.set_crew.specs.Seats.{link_in}
+use Rattle.line_tape.specs.Taping.{IsTape}
 use Rattle.set_crew.proofs.Marking.{none_of_turns}
 use Rattle.set_crew.proofs.Running.{shift_of}
 use Rattle.set_crew.proofs.terminal.TermShift.work.Goals as goal
@@ -24,7 +25,7 @@ returns-clause-shift g c =
     ∙ ap (λ seat. link_in seat.who) c.new-door.ensures.seat ∙ ap link_in c.link-link.ensures.who in (
       all,
       c.into_seat-seat.ensures.all,
-      shift_of _ (link_in c.args.self.seat.who) c.link-link.result c.planned_turns-report.result _ _ _ out.marks _ _ _ c.planned_turns-report.ensures.turns
+      shift_of _ (link_in c.args.self.seat.who) c.link-link.result c.planned_turns-report.result _ _ _ c.into_tape-tape.result out.marks _ _ _ c.planned_turns-report.ensures.turns
           (second.taken ∙ first.taken ∙ new.taken)
           (second.inside ∙ ap (told Start) (first.inside ∙ ap (told Emergency) new.inside))
           (ap (λ it. of_turns it.managed it.marks it.caller.all) door ∙ none_of_turns c.new-door.result.managed c.new-door.result.caller.all c.new-door.result.marks c.new-door.ensures.made c.new-door.ensures.marks)
@@ -34,5 +35,7 @@ returns-clause-shift g c =
           (ap (λ (m : Option Managed). of_turns m out.marks all) (sym managed) ∙ ap (λ it. of_turns it.managed it.marks it.caller.all) c.into_parts-door.ensures.door)
           c.reported-told.ensures
           (c.answered.ensures ∙ ap (λ n. answered_in n all) number)
-          (c.carried.ensures.carried ∙ ap (λ (m : Option Managed). carried_in m (link_in out.caller.seat.who) all) managed ∙ ap (λ n. carried_in plan.managed n all) number),
+          (c.carried.ensures.carried ∙ ap (λ (m : Option Managed). carried_in m (link_in out.caller.seat.who) all) managed ∙ ap (λ n. carried_in plan.managed n all) number)
+          (ap (λ it. it.put) (second.line ∙ first.line ∙ new.line) ∙ c.new-line.ensures.put)
+          (subst (IsTape plan.keeps c.into_tape-tape.result) (ap (λ it. it.put) c.into_parts-door.ensures.line) c.into_tape-tape.ensures),
     )
