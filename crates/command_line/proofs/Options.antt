@@ -1,12 +1,12 @@
 -- The options of a command, one after the other, and a run whose link is looked at.
-use Rattle.std.proofs.Common.{refl, ◌≡◌, ◌≢◌, ◌∙◌, ap, ap₂, ◌<◌, ◌≤◌, ◌↔◌, IsTrue, Bool, true, false, ℕ, List, [], ◌∷◌, ◌++◌, Option, None, Some, Result, Ok, Err, IfSome}
+use Rattle.std.proofs.Common.{refl, sym, ◌≡◌, ◌≢◌, ◌∙◌, ap, ap₂, ◌<◌, ◌≤◌, ◌↔◌, IsTrue, Bool, true, false, ℕ, List, [], ◌∷◌, ◌++◌, Option, None, Some, Result, Ok, Err, IfSome}
 use Rattle.std.specs.Prelude.{MatchResult}
 use Rattle.std.proofs.lemmas.List.{append_assoc}
 use Rattle.clap.specs.Words.{Shape, Row, Rule}
 use Rattle.command_line.specs.declared.run_words.RunWords.{RunWords}
 use Rattle.command_line.specs.declared.run_words.Unasked.{Unasked}
 use Rattle.command_line.specs.declared.run_words.Unasked.TheVariants.{Link}
-use Rattle.command_line.specs.RunOptions.{AreValues, IsRun, IsUnasked, LacksLink, with_rules}
+use Rattle.command_line.specs.RunOptions.{AreValues, IsRun, IsUnasked, LacksLink, goes_alone, with_rules}
 
 -- one option more, behind these of a command
 pub one_more : (old new base : Shape) (rules : List Rule) (rule its : Rule) → old ≡ with_rules base rules
@@ -27,6 +27,11 @@ pub looked_at : (run : RunWords) (rows : List Row) (result : Result RunWords Una
     → MatchResult result (λ (it : RunWords). IsRun it rows) (λ (why : Unasked). IsUnasked why rows)
 looked_at run rows (Ok same) values is = rw is.0 (record { values = values; link = is.1 })
 looked_at run rows (Err why) values is = rw is.0 (lacks run rows run.fail refl values is.1 is.2)
+
+-- more is asked for than a capture, which none can be
+pub not_alone : (a b c x y z : Bool) → a ≡ x → b ≡ y → c ≡ z → goes_alone a b c ≡ true → goes_alone x y z ≡ false → ⊥
+not_alone a b c x y z p q r alone more =
+    cc (sym alone ∙ ap (λ (t : Bool). goes_alone t b c) p ∙ ap (λ (t : Bool). goes_alone x t c) q ∙ ap (λ (t : Bool). goes_alone x y t) r ∙ more)
 
 -- two truths of one fact
 pub same_truth : (a b : Bool) (P : Type 0) → IsTrue a ↔ P → IsTrue b ↔ P → a ≡ b

@@ -1,5 +1,5 @@
 -- THE OPTIONS of `run`: how the library reads them, and which values they have.
-use Rattle.std.specs.Prelude.{◌≡◌, ◌<◌, ◌≤◌, ◌↔◌, ℕ, Bool, true, false, List, [], ◌∷◌, ◌++◌, codes, Option, None, Some, IfSome, IsTrue}
+use Rattle.std.specs.Prelude.{◌≡◌, ◌<◌, ◌≤◌, ◌↔◌, ℕ, Bool, true, false, List, [], ◌∷◌, ◌++◌, codes, Option, None, Some, IfSome, IsTrue, not, ◌&&◌, ◌||◌}
 use Rattle.clap.specs.Words.{Shape, Row, Rule, Text, first_of, new_rule}
 use Rattle.clap.specs.Simple.{new_shape}
 use Rattle.clap.specs.declared.builder.action.ArgAction.TheVariants.{SetTrue}
@@ -30,8 +30,8 @@ way_rules =
 -- what its lines do, and what is printed
 abbrev pub line_rules : List Rule
 line_rules =
-    flag_rule (codes "per-link") ∷ flag_rule (codes "report") ∷ option_rule (codes "noise")
-    ∷ option_rule (codes "seed") ∷ []
+    flag_rule (codes "per-link") ∷ flag_rule (codes "report") ∷ flag_rule (codes "capture")
+    ∷ option_rule (codes "noise") ∷ option_rule (codes "seed") ∷ []
 
 abbrev pub with_rules : Shape → List Rule → Shape
 with_rules shape rules = record shape { rules = shape.rules ++ rules }
@@ -67,6 +67,10 @@ abbrev pub usual_turns : Bool → ℕ
 usual_turns true = 1000000
 usual_turns false = 20000
 
+-- a capture is printed in place of all lines
+abbrev pub goes_alone : Bool → Bool → Bool → Bool
+goes_alone capture report per_link = not (capture && (report || per_link))
+
 -- each number in its range, as the options tell it
 pub record AreValues (run : RunWords) (rows : List Row) : Type 0 where
   pub sets : IsNumber 1 16 1 run.sets (first_of (codes "sets") rows)
@@ -79,6 +83,8 @@ pub record AreValues (run : RunWords) (rows : List Row) : Type 0 where
   pub checkpoint : IsOptional 1 1024 run.checkpoint (first_of (codes "checkpoint") rows)
   pub per_link : IsTrue run.per_link ↔ (first_of (codes "per-link") rows ≡ Some (codes "true"))
   pub report : IsTrue run.report ↔ (first_of (codes "report") rows ≡ Some (codes "true"))
+  pub capture : IsTrue run.capture ↔ (first_of (codes "capture") rows ≡ Some (codes "true"))
+  pub alone : goes_alone run.capture run.report run.per_link ≡ true
   pub noise : IsOptional 1 10000000 run.noise (first_of (codes "noise") rows)
   pub seed : IsNumber 0 4294967295 1 run.seed (first_of (codes "seed") rows)
 

@@ -259,10 +259,9 @@ A fault ends the input: one line on standard error, with status 1; what was prin
   fault read, fault write, fault memory              standard input, standard output or memory failed";
 
 pub(crate) const RUN_PAGE: &str = "\
-Two banks run: one has the ends a of all sets, the other the ends b. The users
-of ends a offer, those of ends b take, and each link is a pair of rings between
-two terminals. Printed is what was accepted, where it stands, and that each
-history is legal. --report shows it at work, and whether all came in order:
+Two banks run: one has the ends a of all sets, the other the ends b. Users of
+ends a offer, those of ends b take. Printed is what was accepted, where it is,
+and that each history is legal. --report tells whether all came in order:
   mtpbank run --report --links 4 --fail 1 --noise 100000
 `mtpbank run --help` says what each line tells, and each fault.";
 
@@ -334,6 +333,13 @@ it takes. Behind the lines above, for each set, each end and each link:
   missing set=I stream=U message=N
                     message N of user U wasn't the next of its stream that was
                     taken; the status is 1 then
+With --capture a pcap file of link type 139 is printed in place of all lines, as
+`mtpbank capture` writes it: each unit that was sent, before noise struck it,
+those of end a as sent and those of end b as received. The high octet of a link's
+number is its set's. An octet time is 125 microseconds, as at 64 kbit/s, and a
+unit's time is that of the octet in which its closing flag ended on its own line;
+units of one time stand end a first, then by sets and links. All octets that were
+sent are kept in memory until then.
 With --noise one of N octets that are put into each line is struck: each of its
 bits is inverted, or it's lost. Which one comes first, and what befalls each,
 goes by --seed, and is different on each line.

@@ -4,7 +4,7 @@ ghost use Rattle.std.specs.Option.{option_map};
 ghost use Rattle.clap.specs.Words.{app_of, first_of, found_of, rows_of, rule_of};
 ghost use Rattle.clap.specs.Simple.{new_shape, shape_of};
 ghost use Rattle.clap.specs.declared.builder.command.Command.{out-Command};
-ghost use Rattle.command_line.specs.RunOptions.{AreValues, IsMethod, IsNumber, IsOptional, IsRun, IsUnasked, IsWithin, flag_rule, line_rules, option_rule, run_shape, size_rules, usual_turns, way_rules, with_rules};
+ghost use Rattle.command_line.specs.RunOptions.{AreValues, IsMethod, IsNumber, IsOptional, IsRun, IsUnasked, IsWithin, flag_rule, goes_alone, line_rules, option_rule, run_shape, size_rules, usual_turns, way_rules, with_rules};
 
 use super::help::{RUN_HELP, RUN_PAGE};
 use super::run_words::{RunWords, Unasked};
@@ -72,6 +72,11 @@ fn values_of(found: &ArgMatches<'_>) -> Result<RunWords, &'static str>
     let Some(seed) = number_in(found, "seed", 0, 4_294_967_295, 1) else {
         return Err("--seed is a number from 0 to 4294967295");
     };
+    let per_link = is_set(value_of(found, "per-link"));
+    let capture = is_set(value_of(found, "capture"));
+    if !goes_alone(capture, report, per_link) {
+        return Err("--capture goes without --report and --per-link");
+    }
     Ok(RunWords {
         sets: sets as u16,
         links: links as u8,
@@ -81,11 +86,19 @@ fn values_of(found: &ArgMatches<'_>) -> Result<RunWords, &'static str>
         cyclic,
         turns: turns as u32,
         checkpoint,
-        per_link: is_set(value_of(found, "per-link")),
+        per_link,
         report,
+        capture,
         noise,
         seed: seed as u32,
     })
+}
+
+/// Whether a capture is asked for alone, if one is.
+fn goes_alone(capture: bool, report: bool, per_link: bool) -> bool
+    ensures { result ≡ goes_alone capture report per_link }
+{
+    !(capture && (report || per_link))
 }
 
 /// How many turns there are where no number is told: with a report, as many as there can be.
@@ -250,13 +263,19 @@ fn with_lines<'a>(alloc: Global, command: Command<'a>) -> Result<Command<'a>, Al
     let by_link = with_option(command, lines)?;
     let report = flag(alloc, "report", "Links managed, and what came of all, too");
     let reported = with_option(by_link, report)?;
+    let capture = flag(
+        alloc,
+        "capture",
+        "A pcap of what was sent, in place of all lines",
+    );
+    let captured = with_option(reported, capture)?;
     let noise = option(
         alloc,
         "noise",
         "N",
         "One of N octets is struck, 1 to 10000000 [none]",
     );
-    let noisy = with_option(reported, noise)?;
+    let noisy = with_option(captured, noise)?;
     let seed = option(
         alloc,
         "seed",

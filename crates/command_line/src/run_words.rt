@@ -24,6 +24,9 @@ pub struct RunWords {
     pub per_link: bool,
     /// Links are managed, and what came of the traffic is reported.
     pub report: bool,
+    /// What is sent on each link is captured, and printed in place of all lines; neither lines of each link nor a report are
+    /// asked for then.
+    pub capture: bool,
     /// One of so many octets that are put into a line is damaged or lost, if any is: 1 to 10,000,000.
     pub noise: Option<u32>,
     /// What befalls the octets of each line goes by this number.
