@@ -1,3 +1,4 @@
+pub mod Each
 pub mod Ends
 pub mod Failing
 pub mod Left

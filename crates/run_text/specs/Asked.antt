@@ -20,6 +20,7 @@ pub record IsTrafficOf (words : RunWords) (traffic : Traffic) : Type 0 where
   pub managed_is : traffic.managed ≡ words.report
   pub noise_is : traffic.noise ≡ words.noise
   pub seed_is : traffic.seed ≡ words.seed
+  pub keeps_is : traffic.keeps ≡ words.capture
 
 -- what came of it, as it's printed, and the first message that is missing
 abbrev pub IsTextAsked : RunWords → Option Missing → List ℕ → Type 0

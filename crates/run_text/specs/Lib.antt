@@ -1,4 +1,5 @@
 pub mod Asked
+pub mod Capturing
 pub mod Failures
 pub mod RunText
 pub mod Running

@@ -14,6 +14,7 @@ use Rattle.report_text.specs.Verdict.{IsVerdict}
 use Rattle.run_text.specs.declared.fault.RunFault.{RunFault}
 use Rattle.run_text.specs.declared.running.Shown.{Shown}
 use Rattle.run_text.specs.declared.fault.RunFault.TheVariants.{Thread, Close, User, Terminal}
+use Rattle.run_text.specs.Capturing.{IsCapture}
 use Rattle.run_text.specs.Failures.{failure_of}
 use Rattle.run_text.specs.RunText.{run_text}
 
@@ -26,19 +27,29 @@ pub record GotThrough (end : SetEnd) : Type 0 where
   pub users : All IsOk end.users.items
   pub terminals : All IsOk end.reports.items
 
--- what is shown of ends: lines of each link, a report, and how many milliseconds the run took, if a clock told them
+-- what is shown of ends: lines of each link, a report, or the capture in place of them; and how many milliseconds the run took, if a clock told them
 pub record Showing : Type 0 where
   pub per_link : Bool
   pub report : Bool
+  pub capture : Bool
   pub time : Option ℕ
 
 abbrev pub showing : Shown → Showing
-showing shown = record { per_link = shown.per_link; report = shown.report; time = shown.time }
+showing shown =
+    record { per_link = shown.per_link; report = shown.report; capture = shown.capture; time = shown.time }
 
 -- the text, with a report where one is asked for
 abbrev pub shown_text : Showing → List SetEnd → List SetEnd → Option Missing → List ℕ
 shown_text shown near far missing =
     run_text shown.per_link near far ++ (if shown.report then report_text shown.time near far missing else [])
+
+-- that, or the capture of what was sent in place of it
+abbrev pub IsShownWhere : Bool → Showing → List SetEnd → List SetEnd → Option Missing → List ℕ → Type 0
+IsShownWhere false shown near far missing text = text ≡ shown_text shown near far missing
+IsShownWhere true shown near far missing text = IsCapture near far text
+
+abbrev pub IsShown : Showing → List SetEnd → List SetEnd → Option Missing → List ℕ → Type 0
+IsShown shown = IsShownWhere shown.capture shown
 
 -- the first message that is missing is looked for where a report is asked for
 abbrev pub IsMissing : Bool → Traffic → List SetEnd → Option Missing → Type 0
@@ -52,7 +63,7 @@ pub record IsTextOfEnds (traffic : Traffic) (shown : Showing) (near far : List S
   pub near_got_through : All GotThrough near
   pub far_got_through : All GotThrough far
   pub missing_is : IsMissing shown.report traffic far missing
-  pub text_is : text ≡ shown_text shown near far missing
+  pub text_is : IsShown shown near far missing text
 
 -- what this traffic came to at its ends, and what is printed of it
 pub record IsRunText (traffic : Traffic) (per_link report : Bool) (missing : Option Missing) (text : List ℕ)
@@ -62,7 +73,8 @@ pub record IsRunText (traffic : Traffic) (per_link report : Bool) (missing : Opt
   pub time : Option ℕ
   pub near_are : AreEndsOf traffic (near_end traffic) near
   pub far_are : AreEndsOf traffic (far_end traffic) far
-  pub of_ends : IsTextOfEnds traffic (record { per_link = per_link; report = report; time = time }) near far missing text
+  pub of_ends : IsTextOfEnds traffic
+      (record { per_link = per_link; report = report; capture = traffic.keeps; time = time }) near far missing text
 
 -- where the sink failed, the text was begun; for any other fault nothing was written
 abbrev pub CutsOff : {T : Type 0} → (T → List ℕ → Type 0) → List ℕ → Fault RunFault → Type 0

@@ -85,5 +85,6 @@ fn traffic_of(words: &RunWords) -> Traffic
         managed: words.report,
         noise: words.noise,
         seed: words.seed,
+        keeps: words.capture,
     }
 }

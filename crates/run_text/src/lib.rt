@@ -15,6 +15,7 @@
 #![tactic(auto)]
 
 mod asked;
+mod capturing;
 mod failures;
 mod fault;
 mod link;

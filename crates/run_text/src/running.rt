@@ -3,8 +3,9 @@ ghost use Rattle.std.specs.Prelude.{◌≡◌, ◌≢◌, ◌≤◌, All, IfErr,
 ghost use Rattle.bank_core.specs.Faults.{EndsEarly};
 ghost use Rattle.run_text.specs.Failures.{failure_of};
 ghost use Rattle.run_text.specs.RunText.{run_text};
-ghost use Rattle.run_text.specs.Running.{IsAnEnd, IsFaultOfEnds, IsFaultOfRun, Runs, TellsLack, WritesAll, WritesEnds, IsMissing, showing, shown_text};
+ghost use Rattle.run_text.specs.Running.{IsAnEnd, IsFaultOfEnds, IsFaultOfRun, Runs, TellsLack, WritesAll, WritesEnds, IsMissing, IsShown, showing, shown_text};
 
+use super::capturing::capture_of;
 use super::failures::find_failure;
 use super::fault::RunFault;
 use super::summing::totals_of_ends;
@@ -25,13 +26,15 @@ pub struct Shown {
     pub per_link: bool,
     /// A report, with the verdict on what was taken.
     pub report: bool,
+    /// The capture of what was sent on each link, in place of all that.
+    pub capture: bool,
     /// How many milliseconds the run took, for the report, if a clock told them.
     pub time: Option<u64>,
 }
 
 /// Runs this traffic through these gates, and writes what its sets came to at both ends; with `per_link` behind that what
 /// each link came to; with `report` behind that a report, in which case the answer is the first message that is missing, if one
-/// is. When all threads have ended, before anything is written, `ended` is called, which tells how many milliseconds they took.
+/// is. Where the traffic keeps what is sent, the capture of that is written in place of all these. When all threads have ended, before anything is written, `ended` is called, which tells how many milliseconds they took.
 ///
 /// Faults: [`RunFault::Thread`] and [`RunFault::Close`] as [`run_through`] has them; [`Fault::Memory`] where memory was
 /// wanted there or here; [`RunFault::User`] or [`RunFault::Terminal`] of the first user that ended early or terminal
@@ -62,6 +65,7 @@ pub fn write_run<
     let shown = Shown {
         per_link,
         report,
+        capture: traffic.keeps,
         time,
     };
     let ends = match came_to {
@@ -136,8 +140,32 @@ fn write_text<W: Sink>(
     }
 }
 
-/// The text about these ends, with what is to be shown, and the first message that is missing, if a report is asked for.
+/// What is written about these ends, and the first message that is missing, if a report is asked for.
 fn report_on(
+    alloc: Global,
+    traffic: &Traffic,
+    near: &[SetEnd],
+    far: &[SetEnd],
+    shown: Shown,
+) -> Result<Report, AllocError>
+    requires ends { All IsAnEnd near.now × All IsAnEnd far.now }
+    requires few { (length near.now ≤ 16) × (length far.now ≤ 16) }
+    ensures missing { IfOk result (λ report. IsMissing shown.report traffic.now far.now report.missing) }
+    ensures text { IfOk result (λ report. IsShown (showing shown) near.now far.now report.missing report.text.items) }
+{
+    let lines = lines_on(alloc, traffic, near, far, shown)?;
+    if !shown.capture {
+        return Ok(lines);
+    }
+    let text = capture_of(alloc, near, far)?;
+    Ok(Report {
+        text,
+        missing: lines.missing,
+    })
+}
+
+/// The lines about these ends, and the first message that is missing, if a report is asked for.
+fn lines_on(
     alloc: Global,
     traffic: &Traffic,
     near: &[SetEnd],

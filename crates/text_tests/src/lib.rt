@@ -9,6 +9,8 @@
 use std::test::Fail;
 
 #[cfg(test)]
+mod captures;
+#[cfg(test)]
 mod cut_runs;
 #[cfg(test)]
 mod devices;

@@ -24,6 +24,7 @@ fn traffic_of(messages: u16, turns: u32, noise: Option<u32>) -> Traffic {
         managed: true,
         noise,
         seed: 7,
+        keeps: false,
     }
 }
 

@@ -28,6 +28,7 @@ fn printed<R: Threads + Wait + Clock + Copy + Send + Sync + 'static>(
         managed: false,
         noise: None,
         seed: 0,
+        keeps: false,
     };
     let gates = gates_of(alloc, &traffic)?;
     let mut sink = Writer::new(Vec::new(alloc));

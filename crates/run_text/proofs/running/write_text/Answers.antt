@@ -1,5 +1,5 @@
-use Rattle.std.proofs.Common.{◌∙◌}
-use Rattle.run_text.specs.Running.{IsTextOfEnds, showing}
+use Rattle.std.proofs.Common.{subst, sym}
+use Rattle.run_text.specs.Running.{IsShown, IsTextOfEnds, showing}
 use Rattle.run_text.proofs.Ends.{wrote_all, wrote_some}
 use Rattle.run_text.proofs.Failing.{all_got_through}
 use Rattle.run_text.proofs.running.write_text.Goals as goal
@@ -13,7 +13,7 @@ returns-in-Ok-write_all-clause-text g c =
       near_got_through = through.0;
       far_got_through = through.1;
       missing_is = c.in-Ok.ensures.missing;
-      text_is = c.deref.ensures.value ∙ c.in-Ok.ensures.text;
+      text_is = subst (IsShown (showing c.args.shown) c.args.near.now c.args.far.now c.in-Ok.report.missing) (sym c.deref.ensures.value) c.in-Ok.ensures.text;
     })
 
 pub returns-in-Ok-clause-text : goal.returns-in-Ok-clause-text
@@ -24,5 +24,5 @@ returns-in-Ok-clause-text g c =
       near_got_through = through.0;
       far_got_through = through.1;
       missing_is = c.in-Ok.ensures.missing;
-      text_is = c.deref.ensures.value ∙ c.in-Ok.ensures.text;
+      text_is = subst (IsShown (showing c.args.shown) c.args.near.now c.args.far.now c.in-Ok.report.missing) (sym c.deref.ensures.value) c.in-Ok.ensures.text;
     })
