@@ -94,6 +94,10 @@ impl LinkManager for PaceGate {
             (Event::Down { .. } | Event::DownBlind { .. }, Answer::Done) => {
                 at.fall(self.turn(set, link));
             }
+            // the far end's order about the link came first, and the set left it
+            (Event::Next { .. } | Event::Down { .. }, Answer::Refused { .. }) if at.is_up() => {
+                at.fall(self.turn(set, link));
+            }
             _ => {}
         }
     }
@@ -121,7 +125,8 @@ impl LinkManager for PaceGate {
         LinkOrder::Run
     }
 
-    fn ended(&self, set: u16, _link: u8) {
+    fn ended(&self, set: u16, link: u8) {
+        self.leave(set, link);
         if let Some(watch) = self.watch(set) {
             watch.end(self.is_near());
         }

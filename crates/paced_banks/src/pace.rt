@@ -10,6 +10,10 @@ use std::thread;
 /// How many turns a terminal may be ahead of the one at the other end.
 const LEAD: u64 = 64;
 
+/// How many turns a terminal of a managed set may be ahead of the set's last one: what is timed on one link has to do with
+/// what passes on the others.
+const SET_LEAD: u64 = 1_024;
+
 /// How often a terminal yields to other threads before it goes on alone.
 const PATIENCE: u32 = 1_000_000;
 
@@ -22,11 +26,25 @@ struct LinkTurns {
     far: AtomicU64,
     /// Whether an end waited in vain, so that neither waits any more.
     apart: AtomicBool,
+    /// Whether a terminal takes no more turns.
+    ended: AtomicBool,
+}
+
+impl LinkTurns {
+    /// How many turns both its terminals have begun, where both take turns yet and wait for others.
+    fn least(&self) -> u64 {
+        if self.ended.load(Ordering::SeqCst) || self.apart.load(Ordering::SeqCst) {
+            return u64::MAX;
+        }
+        let near = self.near.load(Ordering::SeqCst);
+        near.min(self.far.load(Ordering::SeqCst))
+    }
 }
 
 /// The gate of one of two banks: a terminal that is 64 turns ahead of the one at the other end of its link yields to
 /// other threads until that is no longer so. It yields at most 1,000,000 times, for the other end may have ended by a
-/// fault, or may never have begun; then the link's ends wait for each other no more.
+/// fault, or may never have begun; then the link's ends wait for each other no more. Where links are managed, a terminal that is
+/// 1,024 turns ahead of the last one of its set yields too.
 #[derive(Drop)]
 pub struct PaceGate {
     /// Those of link 0 of set 0, of link 1 of set 0, .., of link 0 of set 1, ..
@@ -47,6 +65,7 @@ pub fn pace_gates(alloc: Global, sets: u16, links: u8) -> Result<(PaceGate, Pace
                 near: AtomicU64::new(0),
                 far: AtomicU64::new(0),
                 apart: AtomicBool::new(false),
+                ended: AtomicBool::new(false),
             });
         }
     }
@@ -111,6 +130,38 @@ impl PaceGate {
         }
     }
 
+    /// The terminal of this link takes no more turns, so that nobody waits for it.
+    pub(crate) fn leave(&self, set: u16, link: u8) {
+        if let Some(turns) = self.turns_of(set, link) {
+            turns.ended.store(true, Ordering::SeqCst);
+        }
+    }
+
+    /// How many turns the last terminal of this set has begun, of those that take turns yet.
+    fn least_of(&self, set: u16) -> u64 {
+        let mut least = u64::MAX;
+        for link in 0..self.links {
+            if let Some(turns) = self.turns_of(set, link) {
+                least = least.min(turns.least());
+            }
+        }
+        least
+    }
+
+    /// A turn of this link, which has begun so many, goes on once the set's last terminal isn't too far behind.
+    fn keep_to_set(&self, set: u16, turns: &LinkTurns, begun: u64) {
+        for _time in 0..PATIENCE {
+            if begun < self.least_of(set).saturating_add(SET_LEAD) {
+                return;
+            }
+            if turns.apart.load(Ordering::SeqCst) {
+                return;
+            }
+            thread::yield_now();
+        }
+        turns.apart.store(true, Ordering::SeqCst);
+    }
+
     fn turns_of(&self, set: u16, link: u8) -> Option<&LinkTurns> {
         let place = usize::from(set) * usize::from(self.links) + usize::from(link);
         self.turns.get(place)
@@ -140,6 +191,9 @@ impl Gate for PaceGate {
             keep_pace(&turns.near, &turns.far, &turns.apart);
         } else {
             keep_pace(&turns.far, &turns.near, &turns.apart);
+        }
+        if self.management.is_some() {
+            self.keep_to_set(set, turns, self.turn(set, link));
         }
     }
 

@@ -61,6 +61,11 @@ impl LinkWatch {
         self.out_since.store(turn, Ordering::SeqCst);
     }
 
+    /// Whether it's up at its set.
+    pub(crate) fn is_up(&self) -> bool {
+        self.up.load(Ordering::SeqCst)
+    }
+
     /// Whether it rested long enough in this turn to be started again.
     pub(crate) fn is_rested(&self, turn: u64) -> bool {
         !self.up.load(Ordering::SeqCst)
