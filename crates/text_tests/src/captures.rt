@@ -113,6 +113,26 @@ struct Seen {
     sound: bool,
 }
 
+/// One more at this place.
+fn count(counts: &mut [u32; 8], place: usize) {
+    if let Some(count) = counts.get_mut(place) {
+        *count = count.saturating_add(1);
+    }
+}
+
+impl Seen {
+    /// A record more, behind one of this time.
+    fn see(&mut self, record: &Record<'_>, time: u64) {
+        let side = side_of(record.octets);
+        count(&mut self.units, side);
+        if record.octets.len() > 9 {
+            count(&mut self.messages, side);
+        }
+        let in_order = record.time >= time && record.time % 125 == 0;
+        self.sound = self.sound && in_order && is_sound(record.octets);
+    }
+}
+
 /// Reads a capture back.
 fn read_back(file: &[u8]) -> Option<Seen> {
     let mut seen = Seen {
@@ -122,19 +142,24 @@ fn read_back(file: &[u8]) -> Option<Seen> {
     };
     let mut left = file.get(24..)?;
     let mut time = 0;
-    while !left.is_empty() {
-        let (record, more) = first_of(left)?;
-        let side = side_of(record.octets);
-        seen.units[side] = seen.units[side].saturating_add(1);
-        if record.octets.len() > 9 {
-            seen.messages[side] = seen.messages[side].saturating_add(1);
+    for _octet in file {
+        if left.is_empty() {
+            return Some(seen);
         }
-        let in_order = record.time >= time && record.time.is_multiple_of(125);
-        seen.sound = seen.sound && in_order && is_sound(record.octets);
+        let (record, more) = first_of(left)?;
+        seen.see(&record, time);
         time = record.time;
         left = more;
     }
-    Some(seen)
+    None
+}
+
+fn sum_of(counts: &[u32]) -> u32 {
+    let mut sum: u32 = 0;
+    for count in counts {
+        sum = sum.saturating_add(*count);
+    }
+    sum
 }
 
 /// The file begins as a pcap file of link type 139; each end of each link sent units, all of them whole, whatever noise struck;
@@ -149,6 +174,6 @@ fn what_was_sent_is_read_back(rt: HostRuntime) -> Result<(), Fail> {
         return Err(Fail::from("a record is cut off"));
     };
     let each = seen.units.iter().all(|units| *units > 100);
-    let from_a: u32 = seen.messages[4..].iter().sum();
+    let from_a = sum_of(&seen.messages[4..]);
     holds(file.starts_with(&head) && seen.sound && each && from_a >= 80)
 }
