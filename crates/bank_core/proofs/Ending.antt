@@ -1,9 +1,9 @@
 -- What sets came to, one after another.
 use Rattle.std.proofs.Common.{refl, ◌≡◌, ◌∙◌, ap, sym, subst, map, List, [], ◌∷◌, ◌++◌, append_assoc, append-nil, arith, length, Result, Ok, Err}
 use Rattle.std.specs.List.{AllZip}
-use Rattle.set_crew.specs.declared.end.SetEnd.{SetEnd}
-use Rattle.set_crew.specs.declared.fault.CrewFault.{CrewFault}
-use Rattle.set_crew.proofs.Doing.{each_more}
+use Rattle.bank_crew.specs.declared.end.SetEnd.{SetEnd}
+use Rattle.bank_crew.specs.declared.fault.CrewFault.{CrewFault}
+use Rattle.bank_crew.proofs.Doing.{each_more}
 use Rattle.std.proofs.lemmas.List.{map-append}
 use Rattle.bank_core.specs.declared.running.EndOf.{EndOf}
 use Rattle.bank_core.specs.Ends.{AreEnds, and_end, outcome}

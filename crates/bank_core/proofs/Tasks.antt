@@ -2,9 +2,9 @@
 use Rattle.std.proofs.Common.{◌≡◌, ◌∙◌, ap, sym, ℕ, List, [], ◌∷◌, ◌++◌, append_assoc, map, drop}
 use Rattle.std.proofs.lemmas.List.{map-append}
 use Rattle.set_events.specs.declared.config.SetConfig.{SetConfig}
-use Rattle.set_crew.specs.declared.plan.Plan.{Plan}
-use Rattle.set_crew.specs.Ends.{Task, task_of}
-use Rattle.set_crew.specs.Jobs.{Duty, first_or}
+use Rattle.bank_crew.specs.declared.plan.Plan.{Plan}
+use Rattle.bank_crew.specs.Ends.{Task, task_of}
+use Rattle.bank_crew.specs.Jobs.{Duty, first_or}
 use Rattle.bank_core.specs.Ends.{tasks_from}
 
 -- the first set's, and those of the rest

@@ -1,11 +1,11 @@
 -- THE ENDS of sets: what each came to.
 use Rattle.std.specs.Prelude.{ℕ, List, [], ◌∷◌, drop, Result, Ok, Err}
 use Rattle.set_events.specs.declared.config.SetConfig.{SetConfig}
-use Rattle.set_crew.specs.declared.end.SetEnd.{SetEnd}
-use Rattle.set_crew.specs.declared.fault.CrewFault.{CrewFault}
-use Rattle.set_crew.specs.declared.plan.Plan.{Plan}
-use Rattle.set_crew.specs.Jobs.{Duty, first_or}
-use Rattle.set_crew.specs.Ends.{IsDone, Task, task_of}
+use Rattle.bank_crew.specs.declared.end.SetEnd.{SetEnd}
+use Rattle.bank_crew.specs.declared.fault.CrewFault.{CrewFault}
+use Rattle.bank_crew.specs.declared.plan.Plan.{Plan}
+use Rattle.bank_crew.specs.Jobs.{Duty, first_or}
+use Rattle.bank_crew.specs.Ends.{IsDone, Task, task_of}
 
 -- set by set, in the order of the tasks
 abbrev pub AreEnds : List Task → List SetEnd → Type 0

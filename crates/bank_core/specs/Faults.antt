@@ -2,9 +2,9 @@
 use Rattle.std.specs.Prelude.{◌≡◌, ℕ, List, Result, Err}
 use Rattle.l2_units.specs.declared.profile.Profile.TheVariants.{Narrow}
 use Rattle.set_events.specs.declared.config.SetConfig.{SetConfig}
-use Rattle.set_crew.specs.declared.end.SetEnd.{SetEnd}
-use Rattle.set_crew.specs.declared.fault.CrewFault.{CrewFault}
-use Rattle.set_crew.specs.declared.fault.CrewFault.TheVariants as crew
+use Rattle.bank_crew.specs.declared.end.SetEnd.{SetEnd}
+use Rattle.bank_crew.specs.declared.fault.CrewFault.{CrewFault}
+use Rattle.bank_crew.specs.declared.fault.CrewFault.TheVariants as crew
 use Rattle.bank_core.specs.declared.fault.BankFault.{BankFault}
 use Rattle.bank_core.specs.Ends.{outcome}
 use Rattle.bank_core.specs.declared.fault.BankFault.TheVariants.{NoMemory, Users, Sets, NoThread, Unclosed, Wide}

@@ -1,9 +1,9 @@
 -- WHAT A SET'S THREAD PROMISES: that its task is done.
 use Rattle.std.specs.Prelude.{map, Result, IfOk}
-use Rattle.set_crew.specs.declared.end.SetEnd.{SetEnd}
-use Rattle.set_crew.specs.declared.fault.CrewFault.{CrewFault}
-use Rattle.set_crew.specs.Ends.{IsDone, Task, task_of}
-use Rattle.set_crew.specs.Jobs.{duty_of}
+use Rattle.bank_crew.specs.declared.end.SetEnd.{SetEnd}
+use Rattle.bank_crew.specs.declared.fault.CrewFault.{CrewFault}
+use Rattle.bank_crew.specs.Ends.{IsDone, Task, task_of}
+use Rattle.bank_crew.specs.Jobs.{duty_of}
 use Rattle.bank_core.specs.declared.running.EndOf.{EndOf}
 
 abbrev pub promised : EndOf → Task

@@ -1,16 +1,16 @@
 //! A bank of sets, and how it's started.
 ghost use Rattle.std.specs.Prelude.{◌≡◌, ◌<◌, ◌≤◌, ◌↔◌, ◌⊎◌, map, length, vec_len, All, IfOk, IfErr, IsTrue};
-ghost use Rattle.set_crew.specs.Ends.{task_of};
-ghost use Rattle.set_crew.specs.Jobs.{duty_of};
+ghost use Rattle.bank_crew.specs.Ends.{task_of};
+ghost use Rattle.bank_crew.specs.Jobs.{duty_of};
 ghost use Rattle.bank_core.specs.Ends.{tasks_from};
 ghost use Rattle.bank_core.specs.Faults.{CannotStart, EndsEarly, IsNarrow};
 ghost use Rattle.bank_core.specs.Room.{IsRoomFor};
 
 use super::fault::BankFault;
 use super::running::Running;
+use bank_crew::{Job, LinkManager, Orders, Plan, Work};
 use l2_units::Profile;
 use line_ring::Line;
-use set_crew::{Job, LinkManager, Orders, Plan, Work};
 use set_events::SetConfig;
 use set_ledger::MOST_USERS;
 use std::alloc::Global;

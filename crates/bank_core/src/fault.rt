@@ -2,7 +2,7 @@
 ghost use Rattle.std.specs.Prelude.{◌≡◌};
 ghost use Rattle.bank_core.specs.Faults.{fault_number};
 
-use set_crew::CrewFault;
+use bank_crew::CrewFault;
 use std::alloc::AllocError;
 use thiserror::Error;
 

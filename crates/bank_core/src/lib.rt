@@ -2,7 +2,7 @@
 //!
 //! [`Bank::create`] takes the sets' configurations, [`Bank::start`] gives each set a thread, and [`Running::join`]
 //! hands out what each set came to. A set's thread opens its set, runs its terminals and users, gathers their seats,
-//! and closes it (`set_crew`): its history is legal for its configuration, whatever the threads did, and in whatever
+//! and closes it (`bank_crew`): its history is legal for its configuration, whatever the threads did, and in whatever
 //! order.
 //!
 //! ```text
@@ -25,10 +25,10 @@ mod running;
 mod summing;
 
 pub use bank::Bank;
-pub use fault::BankFault;
-pub use running::{Running, sort_out};
-pub use set_crew::{
+pub use bank_crew::{
     Answered, Carried, CrewFault, Job, LinkManager, LinkOrder, Managed, Plan, SetEnd, ShiftReport,
     UserFault, UserReport,
 };
+pub use fault::BankFault;
+pub use running::{Running, sort_out};
 pub use summing::{SetTotals, totals};

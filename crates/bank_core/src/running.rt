@@ -1,18 +1,18 @@
 //! Sets that run in threads, and what they come to.
 ghost use Rattle.std.specs.Prelude.{◌≡◌, length, map, vec_len, Ok, IfOk, IfErr, OnOk};
 ghost use Rattle.std.specs.List.{AllZip};
-ghost use Rattle.set_crew.specs.Ends.{task_of};
-ghost use Rattle.set_crew.specs.Jobs.{duty_of};
+ghost use Rattle.bank_crew.specs.Ends.{task_of};
+ghost use Rattle.bank_crew.specs.Jobs.{duty_of};
 ghost use Rattle.bank_core.specs.Ends.{AreEnds, outcome};
 ghost use Rattle.bank_core.specs.Promises.{Keeps, promised};
 ghost use Rattle.bank_core.specs.Faults.{CannotStart, EndsEarly, TellsFirst};
 ghost use Rattle.bank_core.specs.Room.{IsRoomFor};
 
 use super::fault::BankFault;
-use line_ring::Line;
-use set_crew::{
+use bank_crew::{
     CrewFault, Job, LinkManager, Plan, SetEnd, Work, ask_for_stack, one_set, why_unstarted,
 };
+use line_ring::Line;
 use set_events::SetConfig;
 use std::alloc::{AllocError, Global};
 use std::marker::Model;
@@ -59,7 +59,7 @@ pub(crate) struct Room {
 
 impl Model for Running {
     ghost use Rattle.std.specs.Prelude.{List};
-    ghost use Rattle.set_crew.specs.Ends.{Task};
+    ghost use Rattle.bank_crew.specs.Ends.{Task};
 
     ghost Value = { List Task };
 

@@ -4,8 +4,8 @@
 use super::openings::{
     are_legal, bank_of, configs_of, ends_of, holds, loops_of, offers_of, plan_of,
 };
+use bank_crew::{LinkManager, LinkOrder};
 use link_term::Gate;
-use set_crew::{LinkManager, LinkOrder};
 use set_events::{Answer, Counts, Event, Method};
 use std::alloc::{AllocError, Global};
 use std::sync::atomic::{AtomicU64, Ordering};

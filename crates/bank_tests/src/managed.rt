@@ -1,8 +1,8 @@
 //! What the gates of two banks order of a link that they manage.
 use super::openings::holds;
+use bank_crew::{LinkManager, LinkOrder};
+use bank_traffic::{PaceGate, Traffic, gates_of};
 use link_term::Gate;
-use paced_banks::{PaceGate, Traffic, gates_of};
-use set_crew::{LinkManager, LinkOrder};
 use set_events::{Answer, Counts, Event, Refusal};
 use std::test::Fail;
 

@@ -2,8 +2,8 @@
 
 use super::openings::{bank_of, configs_of, ends_of, holds, loops_of, plan_of, takes_of};
 use bank_core::{BankFault, CrewFault, SetEnd, sort_out};
+use bank_crew::why_unstarted;
 use link_term::OpenGate;
-use set_crew::why_unstarted;
 use set_events::Method;
 use std::alloc::{AllocError, Global};
 use std::sync::Wait;

@@ -27,7 +27,7 @@ use Rattle.set_model.specs.Rows.{is_unacked}
 use Rattle.set_model.specs.Sound.{AreFew}
 use Rattle.set_model.specs.State.{State, new_state}
 use Rattle.set_model.specs.Step.{messages_in, octets_of, step}
-use Rattle.set_moves.specs.Agreement.{Agrees, Kept}
+use Rattle.set_changeover.specs.Agreement.{Agrees, Kept}
 use Rattle.set_step.specs.Answering.{AnswersFor}
 
 -- Places.

@@ -1,1 +1,4 @@
 mod Heard
+mod Courses
+mod Lines
+mod Verdicts

@@ -16,7 +16,7 @@ use Rattle.set_model.specs.History.{Base, longest_history, no_books}
 use Rattle.set_model.specs.Sound.{AreFew}
 use Rattle.set_model.specs.State.{State}
 use Rattle.set_model.specs.Step.{messages_in, octets_of}
-use Rattle.set_moves.specs.Agreement.{Kept, Agrees}
+use Rattle.set_changeover.specs.Agreement.{Kept, Agrees}
 
 -- what is kept of the set, what was added up, how many entries there were, and the answer to the last
 pub record Hearing : Type 0 where

@@ -1,2 +1,4 @@
 pub mod FirstWrong
 pub mod Hearing
+pub mod Auditing
+pub mod Reading

@@ -1,8 +1,7 @@
 //! A history that an auditor hears item by item. What a set answers is worked out by hand from Q.703 5.
 use history_audit::{Auditor, Finding};
 use history_items::Item;
-use history_lines::LinePlace;
-use history_text::read_item;
+use history_text::{LinePlace, read_item};
 use l2_units::Profile;
 use set_events::{Answer, Fate, Method, Refusal, SetConfig};
 use std::alloc::Global;

@@ -1,11 +1,11 @@
 //! Histories that are audited in pieces of several sizes.
 ghost use Rattle.std.specs.Prelude.{◌<◌};
 
-use audit_text::{AuditFault, audit};
-use printing::Fault;
+use history_audit::{AuditFault, audit};
 use std::alloc::Global;
 use std::test::Fail;
 use test_devices::{Page, Text};
+use text_printing::Fault;
 
 /// Two pieces and what came since: `audit` has to say this, and end so, whatever the pieces that are read.
 const HISTORY: &[u8] = b"# Two pieces.

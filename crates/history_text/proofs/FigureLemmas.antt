@@ -5,7 +5,7 @@ use Rattle.std.proofs.lemmas.Fmt.{decimal_is_IsNumeral, decimal_digit, first_dec
 use Rattle.std.proofs.lemmas.Str.Parse.{FoldsDigits, numerals_by_fold, tells_digits}
 use Rattle.std.specs.Str.Parse.{AllDigits, digits_value}
 use Rattle.std.specs.Option.{option_and_then}
-use Rattle.figures.specs.Figures.{is_digit, digits_behind, below_2_64, number_of, number_below, hex_value, hex_digit, hex_text, octets_of}
+use Rattle.text_base.specs.Figures.{is_digit, digits_behind, below_2_64, number_of, number_below, hex_value, hex_digit, hex_text, octets_of}
 use Rattle.history_text.specs.Entries.{AreOctets}
 use Rattle.history_text.specs.Reading.{is_gap, is_arrow}
 use Rattle.history_text.proofs.WordLemmas.{passes}

@@ -15,8 +15,8 @@ use Rattle.l2_units.specs.Grammar.{head_of, text, unit_of, IsUnit, IsTheTextOf}
 use Rattle.l2_units.specs.declared.profile.Profile.{Profile}
 use Rattle.l2_units.specs.declared.profile.Profile.TheVariants.{Narrow, Wide}
 use Rattle.l2_units.proofs.Texts.{stands_is}
-use Rattle.l2_signals.specs.declared.cause.ControlFault.{ControlFault}
-use Rattle.l2_signals.specs.declared.cause.ControlFault.TheVariants.{Bsn, Fib}
+use Rattle.l2_units.specs.declared.cause.ControlFault.{ControlFault}
+use Rattle.l2_units.specs.declared.cause.ControlFault.TheVariants.{Bsn, Fib}
 use Rattle.set_events.specs.declared.event.Actor.{Actor}
 use Rattle.set_events.specs.declared.event.Actor.TheVariants.{User, Terminal}
 use Rattle.set_events.specs.declared.event.Event.{Event}
@@ -33,10 +33,10 @@ use Rattle.set_events.specs.declared.answer.Answer.{Answer}
 use Rattle.set_events.specs.declared.answer.Answer.TheVariants.{Accepted, Taken, Found, Sent, Heard, Done, Refused}
 use Rattle.set_events.specs.declared.history.Entry.{Entry}
 use Rattle.set_events.specs.Numbers.{refusal_number}
-use Rattle.figures.specs.Figures.{number_of, number_below, octets_of, hex_text, bit}
-use Rattle.answer_texts.specs.Texts.{answer_text, unit_octets, sent_line, fate_text, took_text, fault_code, report_text}
+use Rattle.text_base.specs.Figures.{number_of, number_below, octets_of, hex_text, bit}
+use Rattle.script_answers.specs.Texts.{answer_text, unit_octets, sent_line, fate_text, took_text, fault_code, report_text}
 use Rattle.history_text.specs.Entries.{numbered, actor_text, event_text, entry_text, AreOctets, IsOnLine, ActorFits, EventFits, FateFits, AnswerFits, EntryFits, EntriesFit, entries_text}
-use Rattle.play_script.specs.Script.{unit_of as unit_in}
+use Rattle.script_grammar.specs.Script.{unit_of as unit_in}
 use Rattle.history_text.specs.Reading.{behind, is_gap, is_arrow, word, others, value, link_in, acked_in, actor_in, body_in, link_event_in, linked_fate_in, refusal_in, took_in, yes_in, fault_in, heard_in, told, asked_in, told_in, entry_in, entry_of}
 use Rattle.history_text.proofs.WordLemmas.{passes, until_passed, behind_passed, behind_ended}
 use Rattle.history_text.proofs.FigureLemmas.{number_again, below_again, number_is_word, number_no_arrow, octets_again, octets_are_word, octets_no_arrow, first_octet}

@@ -12,8 +12,8 @@ use Rattle.set_events.specs.declared.answer.Fate.TheVariants.{Waiting, Unacked, 
 use Rattle.set_events.specs.declared.answer.Answer.{Answer}
 use Rattle.set_events.specs.declared.answer.Answer.TheVariants.{Accepted, Taken, Found, Sent, Heard, Done, Refused}
 use Rattle.set_events.specs.declared.history.Entry.{Entry}
-use Rattle.figures.specs.Figures.{hex_text}
-use Rattle.answer_texts.specs.Texts.{answer_text, unit_octets}
+use Rattle.text_base.specs.Figures.{hex_text}
+use Rattle.script_answers.specs.Texts.{answer_text, unit_octets}
 
 -- words, and a number behind them
 abbrev pub numbered : List ℕ → ℕ → List ℕ

@@ -5,8 +5,8 @@ use Rattle.std.specs.Option.{option_map, option_and_then}
 use Rattle.std.specs.Str.{bytes_eq}
 use Rattle.l2_units.specs.Grammar.{unit_of}
 use Rattle.l2_units.specs.declared.profile.Profile.{Profile}
-use Rattle.l2_signals.specs.declared.cause.ControlFault.{ControlFault}
-use Rattle.l2_signals.specs.declared.cause.ControlFault.TheVariants.{Bsn, Fib}
+use Rattle.l2_units.specs.declared.cause.ControlFault.{ControlFault}
+use Rattle.l2_units.specs.declared.cause.ControlFault.TheVariants.{Bsn, Fib}
 use Rattle.set_events.specs.declared.event.Actor.{Actor}
 use Rattle.set_events.specs.declared.event.Actor.TheVariants.{User, Terminal}
 use Rattle.set_events.specs.declared.event.Event.{Event}
@@ -22,8 +22,8 @@ use Rattle.set_events.specs.declared.answer.Refusal.TheVariants.{TooShort, TooLo
 use Rattle.set_events.specs.declared.answer.Answer.{Answer}
 use Rattle.set_events.specs.declared.answer.Answer.TheVariants.{Accepted, Taken, Found, Sent, Heard, Done, Refused}
 use Rattle.set_events.specs.declared.history.Entry.{Entry}
-use Rattle.figures.specs.Figures.{number_of, number_below, octets_of}
-use Rattle.play_script.specs.Script.{link_event, unit_of as unit_in}
+use Rattle.text_base.specs.Figures.{number_of, number_below, octets_of}
+use Rattle.script_grammar.specs.Script.{link_event, unit_of as unit_in}
 use Rattle.history_text.specs.Entries.{entry_text}
 
 -- what stands before the first octet of a kind, and what stands behind it

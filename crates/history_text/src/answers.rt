@@ -2,16 +2,16 @@
 ghost use Rattle.std.specs.Prelude.{◌≡◌, IfOk, Some};
 ghost use Rattle.std.specs.Option.{option_map, option_and_then};
 ghost use Rattle.set_events.specs.declared.answer.Answer.TheVariants.{Accepted, Found, Heard, Refused};
-ghost use Rattle.figures.specs.Figures.{number_of};
+ghost use Rattle.text_base.specs.Figures.{number_of};
 ghost use Rattle.history_text.specs.Reading.{answer_in, told_in, taken_in, sent_in, heard_in, fate_in, linked_fate_in, cause_in, refusal_in, took_in, fault_in, word, others};
-ghost use Rattle.play_script.specs.Script.{if_found};
+ghost use Rattle.script_grammar.specs.Script.{if_found};
 
 use super::words::{cut, value_of};
-use figures::{is_word, read_below_256, read_below_65536, read_number, read_octets};
 use l2_units::{LONGEST_BODY, Profile, body_of};
-use play_script::unit_in;
+use script_grammar::unit_in;
 use set_events::{Answer, ControlFault, DiscardCause, Fate, Refusal, Report, Took};
 use std::alloc::{AllocError, Global};
+use text_base::{is_word, read_below_256, read_below_65536, read_number, read_octets};
 
 /// Whether the words behind the arrow tell what was answered, which then stands in `answer`; else what stands there isn't
 /// told. An answer has room for a unit, so that it's better filled in its place than handed on.

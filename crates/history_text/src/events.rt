@@ -2,16 +2,16 @@
 ghost use Rattle.std.specs.Prelude.{◌≡◌, IfOk};
 ghost use Rattle.std.specs.Option.{option_map, option_and_then};
 ghost use Rattle.set_events.specs.declared.event.Event.TheVariants.{Offer, Find};
-ghost use Rattle.figures.specs.Figures.{number_of};
+ghost use Rattle.text_base.specs.Figures.{number_of};
 ghost use Rattle.history_text.specs.Reading.{actor_in, event_in, hear_in, link_event_in, asked_in, body_in, link_in};
-ghost use Rattle.play_script.specs.Script.{if_found, link_event};
+ghost use Rattle.script_grammar.specs.Script.{if_found, link_event};
 
 use super::words::{cut, read_body};
-use figures::{is_word, read_below_256, read_number};
 use l2_units::Profile;
-use play_script::{read_link_event, read_unit};
+use script_grammar::{read_link_event, read_unit};
 use set_events::{Actor, Event};
 use std::alloc::{AllocError, Global};
+use text_base::{is_word, read_below_256, read_number};
 
 /// Who asked.
 pub(crate) fn read_actor(kind: &[u8], number: &[u8]) -> Option<Actor>

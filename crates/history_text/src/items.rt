@@ -2,17 +2,17 @@
 ghost use Rattle.std.specs.Prelude.{◌≡◌, IfOk};
 ghost use Rattle.history_items.specs.Items.{piece};
 ghost use Rattle.history_items.specs.declared.item.Item.TheVariants.{Checkpoint};
-ghost use Rattle.play_script.specs.Script.{if_found};
+ghost use Rattle.script_grammar.specs.Script.{if_found};
 ghost use Rattle.history_text.specs.Pieces.{ItemsReadBack, PiecesAreTheWhole, item_of, items_text};
 
 use super::reading::{BLANK, read_entry_into};
 use super::writing::write_entries;
-use figures::is_word;
 use history_items::Item;
 use l2_units::{Profile, one_text};
 use set_history::Reader;
 use std::alloc::{AllocError, Global};
 use std::marker::Model;
+use text_base::is_word;
 
 /// The item of a history of this profile whose text this line is, with its LF; `None`: none has it. It fails only where
 /// memory is wanted.

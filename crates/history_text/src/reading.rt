@@ -3,7 +3,7 @@ ghost use Rattle.std.specs.Prelude.{◌≡◌, IfOk, IfSome, Some};
 ghost use Rattle.set_events.specs.declared.history.Entry.{Entry};
 ghost use Rattle.history_text.specs.Entries.{entry_text, EntryFits, OneEntry, OneHistory};
 ghost use Rattle.history_text.specs.Reading.{entry_in, entry_of};
-ghost use Rattle.play_script.specs.Script.{if_found};
+ghost use Rattle.script_grammar.specs.Script.{if_found};
 
 use super::answers::read_told;
 use super::events::{read_actor, read_asked};

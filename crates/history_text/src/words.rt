@@ -3,9 +3,9 @@ ghost use Rattle.std.specs.Prelude.{◌≡◌, ◌<◌, IfOk, length, position};
 ghost use Rattle.std.specs.Option.{ForSome};
 ghost use Rattle.history_text.specs.Reading.{behind, is_gap, is_sign, is_arrow, word, others, told, body_in};
 
-use figures::{is_word, read_octets};
 use set_events::Body;
 use std::alloc::{AllocError, Global};
+use text_base::{is_word, read_octets};
 
 /// The first word, and what stands behind the octet that ends it: the first up to 0x20, a space, an LF or another control
 /// character.

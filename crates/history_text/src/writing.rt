@@ -1,15 +1,15 @@
 //! An entry to its text.
 ghost use Rattle.std.specs.Prelude.{◌≡◌, ◌++◌, IfOk, OnOk, codes};
-ghost use Rattle.figures.specs.Figures.{hex_text};
-ghost use Rattle.answer_texts.specs.Texts.{answer_text, unit_octets};
+ghost use Rattle.text_base.specs.Figures.{hex_text};
+ghost use Rattle.script_answers.specs.Texts.{answer_text, unit_octets};
 ghost use Rattle.history_text.specs.Entries.{numbered, actor_text, body_text, event_text, entry_text, entries_text};
 
-use answer_texts::{push_answer, unit_octets};
-use figures::{push_hex, push_number};
 use l2_units::{Profile, Unit};
+use script_answers::{push_answer, unit_octets};
 use set_events::{Actor, Answer, Entry, Event};
 use set_history::Reader;
 use std::alloc::{AllocError, Global};
+use text_base::{push_hex, push_number};
 
 /// The text of an entry of a set of this profile, ended by LF; it fails only where memory is wanted.
 pub fn write_entry(alloc: Global, profile: Profile, entry: &Entry) -> Result<Vec<u8>, AllocError>

@@ -1,9 +1,9 @@
 -- What one row does, by cases on the state, the input and the status that is heard.
 use Rattle.std.proofs.Common.{◌≡◌, ◌≢◌, ℕ, ◌+◌, ◌≤◌, ◌↔◌, Bool, true, false, IsFalse, if◌then◌else◌, Some, refl, sym, subst, arith, nat_lt}
 use Rattle.std.proofs.lemmas.Bool.Decides.{nat_tests}
-use Rattle.l2_signals.specs.Orders.{is_start}
-use Rattle.l2_signals.specs.declared.status.Status.{Status}
-use Rattle.l2_signals.specs.declared.timer.TimerOrder.{TimerOrder}
+use Rattle.l2_units.specs.Orders.{is_start}
+use Rattle.l2_units.specs.declared.status.Status.{Status}
+use Rattle.l2_units.specs.declared.timer.TimerOrder.{TimerOrder}
 use Rattle.l2_align.specs.declared.align.State.{State}
 use Rattle.l2_align.specs.declared.signals.AlignIn.{AlignIn}
 use Rattle.l2_align.specs.declared.signals.End.{End}

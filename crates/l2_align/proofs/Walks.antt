@@ -1,6 +1,6 @@
 -- Walks over lists of inputs.
 use Rattle.std.proofs.Common.{◌≡◌, ◌+◌, ◌≤◌, ◌⊎◌, inl, inr, ◌↔◌, Bool, true, false, Some, List, [], ◌∷◌, ◌++◌, refl, sym, ap, arith, ◌∙◌}
-use Rattle.l2_signals.specs.Orders.{is_start}
+use Rattle.l2_units.specs.Orders.{is_start}
 use Rattle.l2_align.specs.declared.align.State.{State}
 use Rattle.l2_align.specs.declared.signals.AlignIn.{AlignIn}
 use Rattle.l2_align.specs.declared.signals.End.{End}

@@ -1,7 +1,7 @@
 -- Runs of initial alignment control: the table folded over a list of inputs, the first input first.
 use Rattle.std.specs.Prelude.{◌≡◌, ◌≢◌, ℕ, ◌+◌, IsTrue, List, [], ◌∷◌, ◌++◌, ⊤}
-use Rattle.l2_signals.specs.Orders.{is_start}
-use Rattle.l2_signals.specs.declared.timer.TimerOrder.{TimerOrder}
+use Rattle.l2_units.specs.Orders.{is_start}
+use Rattle.l2_units.specs.declared.timer.TimerOrder.{TimerOrder}
 use Rattle.l2_align.specs.declared.align.State.{State}
 use Rattle.l2_align.specs.declared.signals.AlignIn.{AlignIn}
 use Rattle.l2_align.specs.declared.signals.AlignOut.{AlignOut}

@@ -1,7 +1,7 @@
 -- The table of initial alignment control (Q.703 7.3): a row for each state and input.
 use Rattle.std.specs.Prelude.{◌+◌, true, false, if◌then◌else◌, nat_lt, Option, Some, None}
-use Rattle.l2_signals.specs.declared.status.Status.{Status}
-use Rattle.l2_signals.specs.declared.timer.TimerOrder.{TimerOrder}
+use Rattle.l2_units.specs.declared.status.Status.{Status}
+use Rattle.l2_units.specs.declared.timer.TimerOrder.{TimerOrder}
 use Rattle.l2_align.specs.declared.align.State.{State}
 use Rattle.l2_align.specs.declared.signals.AlignIn.{AlignIn}
 use Rattle.l2_align.specs.declared.signals.AlignOut.{AlignOut}

@@ -5,7 +5,7 @@ ghost use Rattle.l2_align.specs.Alignment.{initial};
 ghost use Rattle.l2_align.specs.Table.{row, aborted, aligned, asking, fallen_back, first_proving, idle, nothing, proving, seeking, sending, shortened};
 
 use crate::signals::{AlignIn, AlignOut, End, Monitor};
-use l2_signals::{Status, TimerOrder};
+use l2_units::{Status, TimerOrder};
 use std::marker::Model;
 
 /// Where initial alignment stands (Q.703 7.3), as the contracts see it.

@@ -10,7 +10,7 @@
 //! - Outputs: the [`AlignOut`] that it returns.
 //! - Laws over all runs: [`laws`].
 //!
-//! Statuses and orders to timers are those of `l2_signals`: O (SIO, out of alignment), N (SIN, normal), E (SIE,
+//! Statuses and orders to timers are those of `l2_units`: O (SIO, out of alignment), N (SIN, normal), E (SIE,
 //! emergency), OS (SIOS, out of service), PO (SIPO, processor outage) and B (SIB, busy).
 //!
 //! ```text

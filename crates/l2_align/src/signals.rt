@@ -1,6 +1,6 @@
 //! What initial alignment control is told, and what it answers.
 
-use l2_signals::{Status, TimerOrder};
+use l2_units::{Status, TimerOrder};
 
 /// An input of initial alignment control.
 #[derive(Clone, Copy, Debug, PartialEq, Eq)]

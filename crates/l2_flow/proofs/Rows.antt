@@ -2,9 +2,9 @@
 use Rattle.std.proofs.Common.{◌≡◌, Bool, true, false, ◌||◌, refl}
 use Rattle.l2_flow.specs.declared.input.FlowIn.{FlowIn}
 use Rattle.l2_flow.specs.declared.input.FlowIn.TheVariants.{Busy, Ease, T5, HeardBusy, Acked, Sent, T6, T7, Reset}
-use Rattle.l2_signals.specs.declared.timer.TimerOrder.{TimerOrder}
+use Rattle.l2_units.specs.declared.timer.TimerOrder.{TimerOrder}
 use Rattle.l2_flow.specs.Table.{row}
-use Rattle.l2_signals.specs.Orders.{is_start, is_stop}
+use Rattle.l2_units.specs.Orders.{is_start, is_stop}
 use Rattle.l2_flow.specs.Runs.{is_t5, is_t6, is_t7}
 use Rattle.l2_flow.specs.Laws.{is_busy, is_ease_or_reset, is_heard_busy, is_acked_or_reset, is_sent_or_more, is_all_acked_or_reset}
 use Rattle.l2_flow.proofs.Lasting.{since_next}

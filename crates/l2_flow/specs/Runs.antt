@@ -3,8 +3,8 @@ use Rattle.std.specs.Prelude.{Bool, true, false, ◌||◌, List, [], ◌∷◌}
 use Rattle.l2_flow.specs.declared.input.FlowIn.{FlowIn}
 use Rattle.l2_flow.specs.declared.input.FlowIn.TheVariants.{T5, T6, T7}
 use Rattle.l2_flow.specs.declared.output.FlowOut.{FlowOut}
-use Rattle.l2_signals.specs.Orders.{is_start, is_stop}
-use Rattle.l2_signals.specs.declared.timer.TimerOrder.{TimerOrder}
+use Rattle.l2_units.specs.Orders.{is_start, is_stop}
+use Rattle.l2_units.specs.declared.timer.TimerOrder.{TimerOrder}
 use Rattle.l2_flow.specs.Since.{Since}
 use Rattle.l2_flow.specs.Table.{row_of}
 use Rattle.l2_flow.specs.Values.{Values, cleared}

@@ -3,8 +3,8 @@ use Rattle.std.specs.Prelude.{Bool, true, false, Some, None}
 use Rattle.l2_flow.specs.declared.input.FlowIn.{FlowIn}
 use Rattle.l2_flow.specs.declared.input.FlowIn.TheVariants.{Busy, Ease, T5, HeardBusy, Acked, Sent, T6, T7, Reset}
 use Rattle.l2_flow.specs.declared.output.FlowOut.{FlowOut}
-use Rattle.l2_signals.specs.declared.timer.TimerOrder.TheVariants.{Keep, Start, Stop}
-use Rattle.l2_signals.specs.declared.cause.Cause.{Cause}
+use Rattle.l2_units.specs.declared.timer.TimerOrder.TheVariants.{Keep, Start, Stop}
+use Rattle.l2_units.specs.declared.cause.Cause.{Cause}
 use Rattle.l2_flow.specs.Values.{Values, cleared}
 
 -- what an input does: what is told, and the values after it

@@ -4,8 +4,8 @@ ghost use Rattle.l2_flow.specs.Table.{row_of};
 
 use crate::input::FlowIn;
 use crate::output::FlowOut;
-use l2_signals::TimerOrder::{Keep, Start, Stop};
-use l2_signals::{Cause, TimerOrder};
+use l2_units::TimerOrder::{Keep, Start, Stop};
+use l2_units::{Cause, TimerOrder};
 use std::marker::Model;
 
 /// Flow control of one link: which ends are busy, and whether T7 runs.

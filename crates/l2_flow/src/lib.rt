@@ -43,7 +43,7 @@
 //!   Reset                            stop T5, T6 and T7                             as at the start
 //! ```
 //!
-//! Causes of failure, by number, and orders to timers are those of `l2_signals`.
+//! Causes of failure, by number, and orders to timers are those of `l2_units`.
 //!
 //! The functions that do nothing are laws of this table, over every run: the contract of each is a theorem.
 #![tactic(auto)]

@@ -1,7 +1,7 @@
 ghost use Rattle.std.specs.Prelude.{◌≡◌};
 ghost use Rattle.l2_flow.specs.Table.{quiet};
 
-use l2_signals::{Cause, TimerOrder};
+use l2_units::{Cause, TimerOrder};
 
 /// What flow control answers to one input.
 #[derive(Clone, Copy, Debug, PartialEq, Eq)]

@@ -6,7 +6,7 @@ use Rattle.l2_window.specs.Window.{WindowState, most_unacked}
 use Rattle.l2_window.specs.Line.{Carried}
 use Rattle.l2_window.specs.declared.control.Choice.{Choice}
 use Rattle.l2_window.specs.declared.control.Choice.TheVariants.{Again, First, Fill}
-use Rattle.l2_signals.specs.declared.cause.ControlFault.TheVariants.{Bsn}
+use Rattle.l2_units.specs.declared.cause.ControlFault.TheVariants.{Bsn}
 use Rattle.l2_window.proofs.Rules.{AreKept}
 use Rattle.l2_window.proofs.Runs as runs
 use Rattle.l2_pcr.specs.Pcr.{PcrState, start, choice_of, control_after, is_forced, cycle_place, is_second, has_abnormal_bsn}

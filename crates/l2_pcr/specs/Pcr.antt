@@ -8,7 +8,7 @@ use Rattle.l2_window.specs.declared.control.Choice.{Choice}
 use Rattle.l2_window.specs.declared.control.Choice.TheVariants.{Again, First, Fill}
 use Rattle.l2_window.specs.declared.control.Sending.{Sending}
 use Rattle.l2_window.specs.declared.control.HeardPart.{HeardPart}
-use Rattle.l2_signals.specs.declared.cause.ControlFault.TheVariants.{Bsn}
+use Rattle.l2_units.specs.declared.cause.ControlFault.TheVariants.{Bsn}
 
 -- what contracts see of one end's control, beside its window
 pub record PcrState : Type 0 where

@@ -1,7 +1,7 @@
 -- What one row does, by cases on the state, the input and the status that is heard.
 use Rattle.std.proofs.Common.{◌≡◌, ◌≢◌, Bool, inl, inr, Some, refl}
-use Rattle.l2_signals.specs.declared.cause.Cause.{Cause}
-use Rattle.l2_signals.specs.declared.status.Status.{Status}
+use Rattle.l2_units.specs.declared.cause.Cause.{Cause}
+use Rattle.l2_units.specs.declared.status.Status.{Status}
 use Rattle.l2_state.specs.declared.link_state.State.{State}
 use Rattle.l2_state.specs.declared.signals.StateIn.{StateIn}
 use Rattle.l2_state.specs.declared.signals.Told.{Told}

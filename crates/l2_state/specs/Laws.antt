@@ -1,7 +1,7 @@
 -- Laws above the table, over all lists of inputs from a link out of service.
 use Rattle.std.specs.Prelude.{◌≡◌, ◌⊎◌, Some, List, ◌∷◌, ◌++◌}
 use Rattle.l2_state.specs.declared.link_state.State.{State}
-use Rattle.l2_signals.specs.declared.cause.Cause.{Cause}
+use Rattle.l2_units.specs.declared.cause.Cause.{Cause}
 use Rattle.l2_state.specs.declared.signals.StateIn.{StateIn}
 use Rattle.l2_state.specs.declared.signals.Told.{Told}
 use Rattle.l2_state.specs.Runs.{after, told_at}

@@ -1,8 +1,8 @@
 -- The table of link state control (Q.703 12): a row for each state and input that isn't ignored.
 use Rattle.std.specs.Prelude.{Bool, true, false, Some, None}
-use Rattle.l2_signals.specs.declared.cause.Cause.{Cause}
-use Rattle.l2_signals.specs.declared.status.Status.{Status}
-use Rattle.l2_signals.specs.declared.timer.TimerOrder.{TimerOrder}
+use Rattle.l2_units.specs.declared.cause.Cause.{Cause}
+use Rattle.l2_units.specs.declared.status.Status.{Status}
+use Rattle.l2_units.specs.declared.timer.TimerOrder.{TimerOrder}
 use Rattle.l2_state.specs.declared.link_state.State.{State}
 use Rattle.l2_state.specs.declared.signals.Sending.{Sending}
 use Rattle.l2_state.specs.declared.signals.StateIn.{StateIn}

@@ -9,7 +9,7 @@
 //! - Outputs: the [`StateOut`] that it returns.
 //! - Laws over all runs: [`laws`].
 //!
-//! Statuses, causes and orders to timers are those of `l2_signals`: O (SIO, out of alignment), N (SIN, normal), E
+//! Statuses, causes and orders to timers are those of `l2_units`: O (SIO, out of alignment), N (SIN, normal), E
 //! (SIE, emergency), OS (SIOS, out of service), PO (SIPO, processor outage) and B (SIB, busy); causes by number.
 //!
 //! ```text

@@ -1,11 +1,11 @@
 //! The machine: its state, and the rows of its table as the arms of one `match`.
 
 ghost use Rattle.std.specs.Prelude.{◌≡◌};
-ghost use Rattle.l2_signals.specs.declared.cause.Cause.{Cause};
+ghost use Rattle.l2_units.specs.declared.cause.Cause.{Cause};
 ghost use Rattle.l2_state.specs.Table.{row, down, silent, raised, ready, aligning, stopped};
 
 use crate::signals::{Sending, StateIn, StateOut, Switch, Told};
-use l2_signals::{Cause, Status, TimerOrder};
+use l2_units::{Cause, Status, TimerOrder};
 use std::marker::Model;
 
 /// Where a link stands (Q.703 12), as the contracts see it.

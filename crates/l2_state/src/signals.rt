@@ -1,6 +1,6 @@
 //! What link state control is told, and what it answers.
 
-use l2_signals::{Cause, Status, TimerOrder};
+use l2_units::{Cause, Status, TimerOrder};
 
 /// An input of link state control.
 #[derive(Clone, Copy, Debug, PartialEq, Eq)]

@@ -6,8 +6,8 @@ use Rattle.std.proofs.lemmas.Option.{same_Some, none-some}
 use Rattle.std.proofs.lemmas.Bool.Decides.{nat_tests}
 use Rattle.std.proofs.Props.{props}
 use Rattle.std.proofs.lemmas.Grind.{common_steps}
-use Rattle.l2_signals.specs.declared.status.Status.{Status}
-use Rattle.l2_signals.specs.Numbers.{status_number}
+use Rattle.l2_units.specs.declared.status.Status.{Status}
+use Rattle.l2_units.specs.Numbers.{status_number}
 use Rattle.l2_units.specs.declared.unit.Header.{Header}
 use Rattle.l2_units.specs.declared.unit.Unit.{Unit as SignalUnit}
 use Rattle.l2_units.specs.declared.unit.Unit.TheVariants.{Fisu, Lssu, Msu}

@@ -1,3 +1,5 @@
 pub mod Fault
 pub mod Grammar
 pub mod Profile
+pub mod Numbers
+pub mod Orders

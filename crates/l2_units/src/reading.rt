@@ -7,9 +7,9 @@ ghost use Rattle.l2_units.specs.declared.unit.Unit.{Unit as SignalUnit};
 ghost use Rattle.l2_units.specs.Grammar.{StandsFor, IsHeadOf, IsBodyOf, head_of, header_in, wide_header, unit_of, unit_with};
 ghost use Rattle.l2_units.specs.Fault.{number_of};
 
+use super::status::Status;
 use super::unit::{Header, LONGEST_BODY, Unit};
 use arrayvec::ArrayVec;
-use l2_signals::Status;
 use thiserror::Error;
 
 /// The most octets of a body in the wide profile, whose header has one octet more.

@@ -1,8 +1,8 @@
 //! The signal units and their header (Q.703 2.1, 2.2).
 ghost use Rattle.std.specs.Prelude.{◌<◌, ◌^◌};
 
+use super::status::Status;
 use arrayvec::ArrayVec;
-use l2_signals::Status;
 
 /// The fewest octets of an MSU's body: the SIO and two octets of SIF (Q.703 2.3.3).
 pub const SHORTEST_BODY: usize = 3;

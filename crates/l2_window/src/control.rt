@@ -4,8 +4,7 @@ ghost use Rattle.l2_window.specs.Control.{fsn_of};
 ghost use Rattle.l2_window.specs.Window.{fsn_count};
 
 use super::window::Window;
-use l2_signals::ControlFault;
-use l2_units::Header;
+use l2_units::{ControlFault, Header};
 use std::alloc::Allocator;
 
 /// What an error control chooses to send next.

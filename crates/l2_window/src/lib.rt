@@ -37,8 +37,7 @@ mod window;
 
 pub use control::{Choice, HeardPart, Sending};
 pub use fault::WindowFault;
-pub use l2_signals::ControlFault;
-pub use l2_units::Profile;
+pub use l2_units::{ControlFault, Profile};
 pub use law::{numbers_never_mislead, numbers_tell_places};
 pub use queue::Queue;
 pub use window::{NoMemory, Window};

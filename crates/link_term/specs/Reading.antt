@@ -1,6 +1,6 @@
 -- A MARK BY THE UNIT THAT IT BRINGS, if any: what a terminal makes of it (Q.703 5 to 10).
 use Rattle.std.specs.Prelude.{ℕ, Option}
-use Rattle.l2_signals.specs.declared.status.Status.{Status}
+use Rattle.l2_units.specs.declared.status.Status.{Status}
 use Rattle.l2_align.specs.declared.signals.AlignIn.{AlignIn}
 use Rattle.l2_state.specs.declared.signals.StateIn.{StateIn}
 use Rattle.l2_units.specs.declared.unit.Unit.{Unit as SignalUnit}

@@ -15,9 +15,8 @@ use super::door::Door;
 use super::machines::{ask_up, input_flow};
 use super::tap::Tap;
 use l2_flow::FlowIn;
-use l2_signals::Status;
 use l2_state::State;
-use l2_units::{Unit, header_in};
+use l2_units::{Status, Unit, header_in};
 use set_events::{Answer, Event, Refusal, SetFault};
 use term_core::{Inside, first_header};
 

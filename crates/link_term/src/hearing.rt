@@ -20,9 +20,8 @@ use super::machines::{input_align, input_flow, input_state};
 use l2_align::AlignIn;
 use l2_bits::MarkKind;
 use l2_flow::FlowIn;
-use l2_signals::{Cause, ControlFault, Status};
 use l2_state::StateIn;
-use l2_units::{Unit, copy_of_unit, header_in, read};
+use l2_units::{Cause, ControlFault, Status, Unit, copy_of_unit, header_in, read};
 use set_events::{Answer, Event, Refusal, Report, SetFault};
 use term_core::{Inside, Verdict};
 

@@ -8,8 +8,8 @@ ghost use Rattle.term_model.specs.Machines.{asks_up, asks_down, tells, state_in,
 use super::door::Door;
 use l2_align::{AlignIn, End};
 use l2_flow::FlowIn;
-use l2_signals::Cause;
 use l2_state::{StateIn, Told};
+use l2_units::Cause;
 use set_events::{Event, SetFault};
 use term_core::Inside;
 

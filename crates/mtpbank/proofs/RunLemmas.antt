@@ -1,11 +1,11 @@
 -- What a subcommand answers, with a fault of either text.
 use Rattle.std.specs.Prelude.{MatchResult}
 use Rattle.std.proofs.Common.{◌≡◌, ◌∙◌, refl, ap, subst, ℕ, List, Option, Some, None, Result, Ok, Err, IfSome}
-use Rattle.printing.specs.declared.fault.Fault.{Fault}
-use Rattle.printing.specs.declared.fault.Fault.TheVariants.{Input, Memory, Read, Long, Write}
-use Rattle.printing.specs.Printing.{Printed, IsBegun, Prints}
-use Rattle.run_text.specs.Running.{CutsOff, WritesText}
-use Rattle.run_text.specs.declared.fault.RunFault.{RunFault}
+use Rattle.text_printing.specs.declared.fault.Fault.{Fault}
+use Rattle.text_printing.specs.declared.fault.Fault.TheVariants.{Input, Memory, Read, Long, Write}
+use Rattle.text_printing.specs.Printing.{Printed, IsBegun, Prints}
+use Rattle.text_run.specs.Running.{CutsOff, WritesText}
+use Rattle.text_run.specs.declared.fault.RunFault.{RunFault}
 use Rattle.mtpbank.specs.declared.running.TextFault.{TextFault}
 use Rattle.mtpbank.specs.Running.{IsText, with_fault}
 

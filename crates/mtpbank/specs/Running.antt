@@ -1,26 +1,26 @@
 -- WHAT EACH SUBCOMMAND MAKES OF AN INPUT.
 use Rattle.std.specs.Prelude.{◌≡◌, ◌≢◌, ◌⊎◌, ◌^◌, ℕ, List, None, Result, Ok, Err}
 use Rattle.std.specs.Option.{option_map}
-use Rattle.command_line.specs.declared.words.Words.{Words}
-use Rattle.command_line.specs.declared.words.Words.TheVariants.{Units, Play, PlayExplained, Decode, DecodeWide, Capture, Ladder, Audit, Terminal, TerminalExplained, HistoryOfA, HistoryOfB, Run}
+use Rattle.mtpbank_words.specs.declared.words.Words.{Words}
+use Rattle.mtpbank_words.specs.declared.words.Words.TheVariants.{Units, Play, PlayExplained, Decode, DecodeWide, Capture, Ladder, Audit, Terminal, TerminalExplained, HistoryOfA, HistoryOfB, Run}
 use Rattle.clap.specs.Values.{kind_of}
 use Rattle.clap.specs.declared.error.kind.ErrorKind.TheVariants.{DisplayHelp, DisplayVersion}
-use Rattle.command_line.specs.declared.run_words.RunWords.{RunWords}
-use Rattle.command_line.specs.declared.words.WordsFault.{WordsFault}
-use Rattle.command_line.specs.declared.words.WordsFault.TheVariants.{NoMemory, Words as WrongWords, Link, Said}
-use Rattle.run_text.specs.Asked.{IsTextAsked}
-use Rattle.printing.specs.declared.fault.Fault.{Fault}
-use Rattle.printing.specs.declared.fault.Fault.TheVariants.{Input, Memory, Read, Long, Write}
-use Rattle.printing.specs.Printing.{Printed}
+use Rattle.mtpbank_words.specs.declared.run_words.RunWords.{RunWords}
+use Rattle.mtpbank_words.specs.declared.words.WordsFault.{WordsFault}
+use Rattle.mtpbank_words.specs.declared.words.WordsFault.TheVariants.{NoMemory, Words as WrongWords, Link, Said}
+use Rattle.text_run.specs.Asked.{IsTextAsked}
+use Rattle.text_printing.specs.declared.fault.Fault.{Fault}
+use Rattle.text_printing.specs.declared.fault.Fault.TheVariants.{Input, Memory, Read, Long, Write}
+use Rattle.text_printing.specs.Printing.{Printed}
 use Rattle.l2_units.specs.declared.profile.Profile.TheVariants.{Narrow, Wide}
-use Rattle.play_text.specs.PlayText.{IsPlayText, IsExplainedPlayText}
-use Rattle.units_text.specs.UnitsText.{IsUnitsText}
-use Rattle.decode_text.specs.Decoding.{IsDecodeText}
+use Rattle.script_play.specs.PlayText.{IsPlayText, IsExplainedPlayText}
+use Rattle.text_units.specs.UnitsText.{IsUnitsText}
+use Rattle.text_decode.specs.Decoding.{IsDecodeText}
 use Rattle.script_capture.specs.Capture.{IsCapture}
 use Rattle.script_ladder.specs.Ladder.{IsLadder}
 use Rattle.script_history.specs.Histories.{IsHistoryText}
-use Rattle.world_steps.specs.declared.step.End.TheVariants.{A, B}
-use Rattle.audit_text.specs.Auditing.{IsAuditText}
+use Rattle.pair_steps.specs.declared.step.End.TheVariants.{A, B}
+use Rattle.history_audit.specs.Auditing.{IsAuditText}
 use Rattle.terminal_explain.specs.Explaining.{IsExplainedTerminalText}
 use Rattle.terminal_text.specs.Text.{IsTerminalText}
 use Rattle.mtpbank.specs.declared.running.TextFault.{TextFault}
@@ -48,7 +48,7 @@ IsTextOf HistoryOfA input text = IsText (IsHistoryText A input) PlayFault text
 IsTextOf HistoryOfB input text = IsText (IsHistoryText B input) PlayFault text
 IsTextOf (Run run) input text = ⊥
 
--- all subcommands read an input but `run`, whose text stands in `run_text`
+-- all subcommands read an input but `run`, whose text stands in `text_run`
 abbrev pub ReadsInput : Words → Type 0
 ReadsInput (Run run) = ⊥
 ReadsInput words = Unit {0}

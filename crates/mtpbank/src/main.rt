@@ -11,16 +11,14 @@
 ghost use Rattle.std.specs.Prelude.{◌≡◌, ◌≢◌, ◌⊎◌, Ok, Err, IsOk, IsErr};
 ghost use Rattle.std.specs.Process.{exit_status};
 ghost use Rattle.clap.specs.Values.{kind_of};
-ghost use Rattle.command_line.specs.declared.words.Words.TheVariants.{Run};
-ghost use Rattle.command_line.specs.declared.words.WordsFault.TheVariants.{NoMemory, Words as WrongWords, Link, Said};
+ghost use Rattle.mtpbank_words.specs.declared.words.Words.TheVariants.{Run};
+ghost use Rattle.mtpbank_words.specs.declared.words.WordsFault.TheVariants.{NoMemory, Words as WrongWords, Link, Said};
 ghost use Rattle.mtpbank.specs.Running.{EndsAsAsked, EndsRun, IsDone, ReadsInput};
 ghost use Rattle.clap.specs.declared.error.kind.ErrorKind.TheVariants.{DisplayHelp, DisplayVersion};
 
 mod running;
 
-use command_line::{RunWords, Words, WordsFault, asked_by, not_unicode};
-use printing::{Fault, Reader, Writer};
-use run_text::RunFault;
+use mtpbank_words::{RunWords, Words, WordsFault, asked_by, not_unicode};
 use running::run;
 use std::fmt::Display;
 use std::io;
@@ -29,6 +27,8 @@ use std::process::ExitCode;
 use std::sync::Wait;
 use std::thread::Threads;
 use std::time::Clock;
+use text_printing::{Fault, Reader, Writer};
+use text_run::RunFault;
 
 /// The status of a fault of input, memory, reading or writing.
 const FAULT: u8 = 1;
@@ -141,7 +141,7 @@ fn ran<R: Threads + Wait + Clock + Eprint + Copy + Send + Sync + 'static>(
 {
     let shows = rt.stderr().is_terminal();
     let mut sink = Writer::new(io::writer(rt));
-    match run_text::run(threads, rt.alloc(), words, shows, &mut sink) {
+    match text_run::run(threads, rt.alloc(), words, shows, &mut sink) {
         Ok(Some(missing)) => told(rt, missing),
         Ok(None) => ended::<RunFault>(rt, Ok(()), sink.is_closed()),
         Err(fault) => ended(rt, Err(fault), sink.is_closed()),

@@ -1,22 +1,22 @@
 //! What the subcommands do, over any source and sink.
 ghost use Rattle.std.specs.Prelude.{◌≡◌, ◌≤◌, ◌^◌, length, IfSome, OnOk};
-ghost use Rattle.printing.specs.Printing.{Prints, FailsByDevices};
+ghost use Rattle.text_printing.specs.Printing.{Prints, FailsByDevices};
 ghost use Rattle.mtpbank.specs.Running.{IsTextOf, ReadsInput, longest_of, with_fault};
 
-use audit_text::{AuditFault, audit};
-use command_line::Words;
-use decode_text::{UnreadableUnit, decode};
+use history_audit::{AuditFault, audit};
 use l2_units::Profile;
-use play_text::{ExplainedFault, ScriptFault, play, play_explained};
-use printing::{Fault, Sink, Source};
+use mtpbank_words::Words;
 use script_capture::capture;
 use script_history::{End, history};
 use script_ladder::ladder;
+use script_play::{ExplainedFault, ScriptFault, play, play_explained};
 use std::alloc::Global;
 use terminal_explain::{ExplainedTerminalFault, terminal_explained};
 use terminal_text::{TerminalFault, terminal};
+use text_decode::{UnreadableUnit, decode};
+use text_printing::{Fault, Sink, Source};
+use text_units::{UnreadableOctet, units};
 use thiserror::Error;
-use units_text::{UnreadableOctet, units};
 
 /// How the input of a subcommand can be at fault.
 #[derive(Debug, Drop, Error)]

@@ -2,7 +2,7 @@
 use Rattle.std.proofs.lemmas.Bool.{eqb-true}
 use Rattle.std.proofs.Common.{refl, arith, ◌≡◌, ◌∙◌, ap, sym, subst, ℕ, ◌≤◌, ◌<◌, ◌==◌, Bool, true, false, List, ◌∷◌, length, slice_get, Some}
 use Rattle.l2_units.specs.declared.unit.Unit.{Unit as SignalUnit}
-use Rattle.link_lines.specs.Lines.{units_on}
+use Rattle.pair_steps.specs.Lines.{units_on}
 use Rattle.set_events.specs.declared.config.Method.{Method}
 use Rattle.set_events.specs.declared.event.Event.TheVariants.{Heard as HeardEvent}
 use Rattle.set_model.specs.declared.phase.Phase.TheVariants.{Up}

@@ -10,7 +10,7 @@ use Rattle.l3_orders.specs.declared.order.Order.TheVariants.{Coo, Coa, Cbd, Cba,
 use Rattle.l3_orders.specs.Grammar.{order_of, order_any, link_of}
 use Rattle.l3_orders.proofs.Texts.{any_of}
 use Rattle.set_model.specs.State.{last_accepted}
-use Rattle.link_lines.specs.Lines.{units_on}
+use Rattle.pair_steps.specs.Lines.{units_on}
 use Rattle.set_events.specs.declared.config.Method.{Method}
 use Rattle.set_model.specs.declared.phase.Phase.{Phase}
 use Rattle.set_model.specs.declared.phase.Phase.TheVariants.{Up, Down, Settled}

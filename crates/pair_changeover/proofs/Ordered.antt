@@ -2,7 +2,7 @@
 -- step keeps what holds of them.
 use Rattle.std.proofs.Common.{arith, ◌≡◌, ap, sym, subst, ℕ, ◌≤◌, ◌<◌, ◌-◌, Bool, List, ◌∷◌, length}
 use Rattle.l2_units.specs.declared.unit.Unit.{Unit as SignalUnit}
-use Rattle.link_lines.specs.Lines.{units_on, with_units}
+use Rattle.pair_steps.specs.Lines.{units_on, with_units}
 use Rattle.set_events.specs.declared.answer.Answer.TheVariants.{Heard as HeardBack}
 use Rattle.set_events.specs.declared.config.Method.{Method}
 use Rattle.set_events.specs.declared.event.Event.{Event}
@@ -14,7 +14,7 @@ use Rattle.set_model.specs.State.{LinkState, State, has_phase_settled}
 use Rattle.set_model.specs.Step.{Outcome, next, step}
 use Rattle.set_model.proofs.Lists.{present}
 use Rattle.set_model.proofs.Walk.{IsAt}
-use Rattle.world_steps.specs.declared.step.Shown.TheVariants.{Answered}
+use Rattle.pair_steps.specs.declared.step.Shown.TheVariants.{Answered}
 use Rattle.pair_model.specs.Promises.{IsOneMethod}
 use Rattle.pair_model.specs.Run.{Past, past_heard}
 use Rattle.pair_model.proofs.Kept.{kept_on}

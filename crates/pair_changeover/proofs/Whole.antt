@@ -10,9 +10,9 @@ use Rattle.set_model.specs.State.{LinkState, State, is_up, is_settled, link_is_s
 use Rattle.set_model.specs.Step.{Outcome, step}
 use Rattle.set_model.proofs.Lists.{present, within}
 use Rattle.set_model.proofs.Walk.{IsAt}
-use Rattle.world_steps.specs.declared.step.End.{End}
-use Rattle.world_steps.specs.declared.step.Shown.{Shown}
-use Rattle.world_steps.specs.declared.step.Step.TheVariants.{Act}
+use Rattle.pair_steps.specs.declared.step.End.{End}
+use Rattle.pair_steps.specs.declared.step.Shown.{Shown}
+use Rattle.pair_steps.specs.declared.step.Step.TheVariants.{Act}
 use Rattle.pair_model.specs.World.{has_own_step}
 use Rattle.pair_model.specs.Promises.{IsOneMethod, IsSoundStep}
 use Rattle.pair_model.specs.Run.{Past, past_asked, past_sent}

@@ -14,11 +14,11 @@ use Rattle.set_events.specs.declared.config.SetConfig.{SetConfig}
 use Rattle.set_model.specs.Rows.{Row, wait, held, parked, place, standing, was_discarded}
 use Rattle.set_model.specs.State.{given, LinkState, State, has_phase_up, has_phase_settled, is_settled, last_accepted, target}
 use Rattle.set_model.specs.Changeover.{is_reasonable, left_by}
-use Rattle.world_steps.specs.declared.step.End.{End}
-use Rattle.world_steps.specs.declared.step.Step.{Step}
-use Rattle.world_steps.specs.declared.step.Step.TheVariants.{Arrive}
-use Rattle.world_steps.specs.declared.step.Shown.{Shown}
-use Rattle.world_steps.specs.declared.step.Shown.TheVariants.{Answered}
+use Rattle.pair_steps.specs.declared.step.End.{End}
+use Rattle.pair_steps.specs.declared.step.Step.{Step}
+use Rattle.pair_steps.specs.declared.step.Step.TheVariants.{Arrive}
+use Rattle.pair_steps.specs.declared.step.Shown.{Shown}
+use Rattle.pair_steps.specs.declared.step.Shown.TheVariants.{Answered}
 use Rattle.pair_model.specs.Promises.{IsAskedStep, AreSteps, IsSoundRun}
 use Rattle.pair_model.specs.Run.{Message, Past, Stage, messages, body_in, begun, past_at, HoldsAlong, HoldsAtEach}
 use Rattle.pair_model.specs.World.{at_end, other, line_to}

@@ -5,10 +5,10 @@ use Rattle.set_events.specs.declared.config.Method.TheVariants.{Basic}
 use Rattle.set_events.specs.declared.config.SetConfig.{SetConfig}
 use Rattle.set_events.specs.declared.event.Event.TheVariants.{Offer, Down}
 use Rattle.set_model.specs.Step.{step}
-use Rattle.world_steps.specs.declared.step.End.TheVariants.{A, B}
-use Rattle.world_steps.specs.declared.step.Step.{Step}
-use Rattle.world_steps.specs.declared.step.Step.TheVariants.{Act, Emit, Arrive, Lose, Together}
-use Rattle.world_steps.specs.declared.step.Shown.{Shown}
+use Rattle.pair_steps.specs.declared.step.End.TheVariants.{A, B}
+use Rattle.pair_steps.specs.declared.step.Step.{Step}
+use Rattle.pair_steps.specs.declared.step.Step.TheVariants.{Act, Emit, Arrive, Lose, Together}
+use Rattle.pair_steps.specs.declared.step.Shown.{Shown}
 use Rattle.pair_model.specs.World.{World, Outcome, shows, impossible, exhausted, carried_out}
 use Rattle.pair_model.specs.Run.{Stage, begun, passed, Message}
 

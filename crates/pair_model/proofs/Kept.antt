@@ -3,7 +3,7 @@ use Rattle.std.proofs.Common.{refl, arith, ◌≡◌, ◌∙◌, ap, ap₂, sym,
 use Rattle.std.proofs.lemmas.Option.{same_Some}
 use Rattle.l2_window.specs.Window.{WindowState}
 use Rattle.l2_units.specs.declared.unit.Unit.{Unit as SignalUnit}
-use Rattle.link_lines.specs.Lines.{no_units, units_on}
+use Rattle.pair_steps.specs.Lines.{no_units, units_on}
 use Rattle.set_events.specs.declared.config.Method.{Method}
 use Rattle.set_events.specs.declared.config.SetConfig.{SetConfig}
 use Rattle.set_model.specs.Rows.{Row, body_at, is_unacked, unack, IsNumbered}

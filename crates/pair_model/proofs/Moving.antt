@@ -4,7 +4,7 @@ use Rattle.std.proofs.Common.{refl, arith, ◌≡◌, ◌∙◌, ap, sym, subst,
 use Rattle.std.proofs.lemmas.Bool.{eqb-true}
 use Rattle.std.proofs.lemmas.List.{append-nil}
 use Rattle.l2_units.specs.declared.unit.Unit.{Unit as SignalUnit}
-use Rattle.link_lines.specs.Lines.{units_on, with_units, joined_on, without}
+use Rattle.pair_steps.specs.Lines.{units_on, with_units, joined_on, without}
 use Rattle.set_events.specs.declared.answer.Answer.TheVariants.{Sent, Heard as HeardBack}
 use Rattle.set_events.specs.declared.answer.Refusal.{Refusal as SetRefusal}
 use Rattle.set_events.specs.declared.answer.Refusal.TheVariants.{NotUp, NoSuchLink}
@@ -21,7 +21,7 @@ use Rattle.set_model.proofs.Walk.{link_count_stays, IsAt}
 use Rattle.set_model.proofs.Soundness.{step_sound}
 use Rattle.set_model.proofs.Lists.{length_set}
 use Rattle.set_model.proofs.Places.{itself, apart_back}
-use Rattle.world_steps.specs.declared.step.Shown.TheVariants.{Answered}
+use Rattle.pair_steps.specs.declared.step.Shown.TheVariants.{Answered}
 use Rattle.pair_model.specs.Run.{Past, Message, messages, first_sent, body_in, taken_by, past_sent, past_heard, past_risen, added_at, cleared_at}
 use Rattle.pair_model.specs.Promises.{IsOneMethod}
 use Rattle.pair_model.proofs.Counts.{count_stays}

@@ -1,7 +1,7 @@
 -- EVERY STEP KEEPS THE TIE OF EACH LINK: two ends, seen from the one that acts.
 use Rattle.std.proofs.Common.{refl, ◌≡◌, ◌≢◌, ◌∙◌, ap, sym, ℕ, ◌<◌, ◌==◌, false, List, length}
 use Rattle.l2_units.specs.declared.unit.Unit.{Unit as SignalUnit}
-use Rattle.link_lines.specs.Lines.{units_of, units_on, with_units}
+use Rattle.pair_steps.specs.Lines.{units_of, units_on, with_units}
 use Rattle.set_events.specs.declared.config.Method.{Method}
 use Rattle.set_events.specs.declared.event.Event.{Event}
 use Rattle.set_events.specs.declared.event.Event.TheVariants.{Offer, Take, Find, Next, Heard, Up as UpEvent, Down as DownEvent, DownBlind, NoAnswer, Restore, BackTimeout}
@@ -13,7 +13,7 @@ use Rattle.set_model.proofs.Lists.{get_set_same, get_set_other}
 use Rattle.set_model.proofs.Places.{false_true, itself}
 use Rattle.set_model.proofs.Soundness.{step_sound}
 use Rattle.set_model.proofs.Staying.{keeps_messages}
-use Rattle.world_steps.specs.declared.step.Shown.{Shown}
+use Rattle.pair_steps.specs.declared.step.Shown.{Shown}
 use Rattle.pair_model.specs.World.{has_own_step}
 use Rattle.pair_model.specs.Run.{Past, past_asked}
 use Rattle.pair_model.proofs.Counts.{IsApart, count_stays}

@@ -8,10 +8,10 @@ use Rattle.set_events.specs.declared.event.Event.TheVariants.{DownBlind, NoAnswe
 use Rattle.set_model.specs.Rows.{Row, unack}
 use Rattle.set_model.specs.Sound.{IsAsked}
 use Rattle.set_model.specs.State.{LinkState, State, has_phase_settled}
-use Rattle.world_steps.specs.declared.step.Step.{Step}
-use Rattle.world_steps.specs.declared.step.Step.TheVariants.{Act, Inject}
-use Rattle.world_steps.specs.declared.step.Shown.{Shown}
-use Rattle.world_steps.specs.declared.step.Shown.TheVariants.{Answered}
+use Rattle.pair_steps.specs.declared.step.Step.{Step}
+use Rattle.pair_steps.specs.declared.step.Step.TheVariants.{Act, Inject}
+use Rattle.pair_steps.specs.declared.step.Shown.{Shown}
+use Rattle.pair_steps.specs.declared.step.Shown.TheVariants.{Answered}
 use Rattle.pair_model.specs.Run.{Message, Past, Stage, messages, bodies, begun, HoldsAlong, HoldsAtEach}
 
 -- HONEST RUNS. Both ends keep messages safe by one method, whatever its limits at each.

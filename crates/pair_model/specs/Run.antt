@@ -11,12 +11,12 @@ use Rattle.set_events.specs.declared.event.Event.TheVariants.{Offer}
 use Rattle.set_model.specs.History.{new_set}
 use Rattle.set_model.specs.Rows.{Row, unack, stream_of}
 use Rattle.set_model.specs.State.{State}
-use Rattle.world_steps.specs.declared.step.End.{End}
-use Rattle.world_steps.specs.declared.step.End.TheVariants.{A, B}
-use Rattle.world_steps.specs.declared.step.Step.{Step}
-use Rattle.world_steps.specs.declared.step.Step.TheVariants.{Act, Emit, Arrive, Lose, Together, Inject}
-use Rattle.world_steps.specs.declared.step.Shown.{Shown}
-use Rattle.world_steps.specs.declared.step.Shown.TheVariants.{Answered}
+use Rattle.pair_steps.specs.declared.step.End.{End}
+use Rattle.pair_steps.specs.declared.step.End.TheVariants.{A, B}
+use Rattle.pair_steps.specs.declared.step.Step.{Step}
+use Rattle.pair_steps.specs.declared.step.Step.TheVariants.{Act, Emit, Arrive, Lose, Together, Inject}
+use Rattle.pair_steps.specs.declared.step.Shown.{Shown}
+use Rattle.pair_steps.specs.declared.step.Shown.TheVariants.{Answered}
 use Rattle.pair_model.specs.World.{World, Outcome, shows, impossible, exhausted, world_of, at_end, other, line_to, carried_out}
 
 -- WHAT THE STEPS LEAD TO, from a world and with the place of the first step.

@@ -1,7 +1,7 @@
 -- THE WORLD: two ends and the units under way between them on their links.
 use Rattle.std.specs.Prelude.{◌≡◌, ℕ, Bool, true, false, ◌^◌, ◌&&◌, ◌||◌, nat_lt, nat_le, List, [], ◌∷◌, ◌++◌, length, if◌then◌else◌}
 use Rattle.l2_units.specs.declared.unit.Unit.{Unit as SignalUnit}
-use Rattle.link_lines.specs.Lines.{no_units, units_on, with_units, joined_on, without}
+use Rattle.pair_steps.specs.Lines.{no_units, units_on, with_units, joined_on, without}
 use Rattle.set_events.specs.declared.event.Actor.{Actor}
 use Rattle.set_events.specs.declared.event.Actor.TheVariants.{User, Terminal}
 use Rattle.set_events.specs.declared.event.Event.{Event}
@@ -13,12 +13,12 @@ use Rattle.set_model.specs.State.{link_count, is_up, is_settled}
 use Rattle.set_model.specs.Checkpoint.{counts_in}
 use Rattle.set_model.specs.History.{LinkSet, entries_in}
 use Rattle.set_model.specs.Step.{step}
-use Rattle.world_steps.specs.declared.step.End.{End}
-use Rattle.world_steps.specs.declared.step.End.TheVariants.{A, B}
-use Rattle.world_steps.specs.declared.step.Step.{Step}
-use Rattle.world_steps.specs.declared.step.Step.TheVariants.{Act, Emit, Arrive, Lose, Together, Inject}
-use Rattle.world_steps.specs.declared.step.Shown.{Shown}
-use Rattle.world_steps.specs.declared.step.Shown.TheVariants.{Answered, Up, Lost}
+use Rattle.pair_steps.specs.declared.step.End.{End}
+use Rattle.pair_steps.specs.declared.step.End.TheVariants.{A, B}
+use Rattle.pair_steps.specs.declared.step.Step.{Step}
+use Rattle.pair_steps.specs.declared.step.Step.TheVariants.{Act, Emit, Arrive, Lose, Together, Inject}
+use Rattle.pair_steps.specs.declared.step.Shown.{Shown}
+use Rattle.pair_steps.specs.declared.step.Shown.TheVariants.{Answered, Up, Lost}
 
 -- both ends, and the units under way to each: a line for each link
 pub record World : Type 0 where

@@ -5,7 +5,7 @@ use Rattle.set_events.specs.declared.answer.Fate.TheVariants.{Waiting, Unacked, 
 use Rattle.set_model.specs.Rows.{Row, is_unacked, is_waiting, is_held, is_parked, stands_back, is_users, waits, was_sent, was_held, standing, users, unack, wait, held, stream_of}
 use Rattle.set_model.specs.Checkpoint.{counts_in}
 use Rattle.set_model.specs.State.{State}
-use Rattle.world_steps.specs.declared.step.Step.{Step}
+use Rattle.pair_steps.specs.declared.step.Step.{Step}
 use Rattle.pair_model.specs.Run.{Message, messages, bodies, Stage, begun, passed, OnShows, HoldsAlong}
 use Rattle.pair_model.specs.World.{World, Outcome, shows, impossible, exhausted, carried_out}
 use Rattle.pair_changeover.specs.Pending.{pending, aside, kept_back, acked_on, accepted_on}

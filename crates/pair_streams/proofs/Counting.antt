@@ -2,7 +2,7 @@
 use Rattle.std.proofs.Common.{refl, arith, ◌≡◌, ◌∙◌, ap, sym, subst, ℕ, ◌<◌, ◌≤◌, Bool, true, false, List, [], ◌∷◌, length, cond, ◌||◌, nat_lt}
 use Rattle.std.proofs.lemmas.Bool.{ltb-true}
 use Rattle.l2_units.specs.declared.unit.Unit.{Unit as SignalUnit}
-use Rattle.link_lines.specs.Lines.{units_on, without}
+use Rattle.pair_steps.specs.Lines.{units_on, without}
 use Rattle.set_events.specs.declared.answer.Answer.{Answer}
 use Rattle.set_events.specs.declared.answer.Answer.TheVariants.{Accepted, Taken, Found, Sent, Heard as HeardBack, Done, Refused}
 use Rattle.set_events.specs.declared.config.Method.{Method}
@@ -13,11 +13,11 @@ use Rattle.set_model.specs.Sound.{IsSound}
 use Rattle.set_model.specs.State.{State, Settings, is_up, is_settled, link_is_settled, link_count, has_phase_settled, opened_with, settings_of}
 use Rattle.set_model.specs.Step.{Outcome as SetOutcome, step}
 use Rattle.set_model.proofs.Lists.{present, within}
-use Rattle.world_steps.specs.declared.step.End.{End}
-use Rattle.world_steps.specs.declared.step.End.TheVariants.{A, B}
-use Rattle.world_steps.specs.declared.step.Shown.TheVariants.{Answered, Up as CameUp, Lost}
-use Rattle.world_steps.specs.declared.step.Step.{Step}
-use Rattle.world_steps.specs.declared.step.Step.TheVariants.{Act, Emit, Arrive, Lose, Together, Inject}
+use Rattle.pair_steps.specs.declared.step.End.{End}
+use Rattle.pair_steps.specs.declared.step.End.TheVariants.{A, B}
+use Rattle.pair_steps.specs.declared.step.Shown.TheVariants.{Answered, Up as CameUp, Lost}
+use Rattle.pair_steps.specs.declared.step.Step.{Step}
+use Rattle.pair_steps.specs.declared.step.Step.TheVariants.{Act, Emit, Arrive, Lose, Together, Inject}
 use Rattle.pair_model.specs.World.{World, Outcome, shows, impossible, exhausted, at_end, with_end, line_to, with_line, actor_of, answer_to, after, is_full, has_link, has_actor, acts, with_sent, sends_on, emits, front_arrives, arrives, loses, risen, is_settled_at_both, rises, has_own_step, done_by, carried_out}
 use Rattle.pair_model.specs.Run.{Stage, begun, passed, OnShows, HoldsAlong}
 use Rattle.pair_model.specs.Promises.{IsOneMethod, IsAskedStep, AreSteps, IsQuietRun}

@@ -6,7 +6,7 @@ use Rattle.l3_orders.specs.declared.order.Order.{Order}
 use Rattle.l3_orders.specs.declared.order.Order.TheVariants.{Coo, Coa, Cbd, Cba, Eco, Eca}
 use Rattle.l3_orders.specs.Grammar.{order_of, order_any}
 use Rattle.l3_orders.proofs.Texts.{any_of}
-use Rattle.link_lines.specs.Lines.{units_on}
+use Rattle.pair_steps.specs.Lines.{units_on}
 use Rattle.set_events.specs.declared.answer.Fate.{Fate}
 use Rattle.set_events.specs.declared.answer.Fate.TheVariants.{Unacked, Acked}
 use Rattle.set_events.specs.declared.answer.Took.{Took}

@@ -12,7 +12,7 @@ use Rattle.set_model.specs.Step.{controlled, next, offer_refusal, offered, rises
 use Rattle.set_model.specs.Changeover.{acknowledged_by, answered_link, declared, left_by, moved_over, queued, released, withdrawn}
 use Rattle.set_model.proofs.Rows.{new_row, moved_length}
 use Rattle.set_model.proofs.Walk.{KeptBy, step_walks}
-use Rattle.world_steps.specs.declared.step.Shown.TheVariants.{Answered}
+use Rattle.pair_steps.specs.declared.step.Shown.TheVariants.{Answered}
 use Rattle.pair_model.specs.Run.{Message, Past, past_asked}
 use Rattle.pair_changeover.proofs.Table.{new_message}
 use Rattle.pair_streams.specs.Streams.{IsPart, RiseFrom}

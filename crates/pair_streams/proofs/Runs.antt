@@ -8,7 +8,7 @@ use Rattle.std.specs.Option.{option_map}
 use Rattle.std.proofs.lemmas.Bool.{ltb-true, eqb-true}
 use Rattle.std.proofs.lemmas.List.{append-nil}
 use Rattle.l2_units.specs.declared.unit.Unit.{Unit as SignalUnit}
-use Rattle.link_lines.specs.Lines.{units_on, without}
+use Rattle.pair_steps.specs.Lines.{units_on, without}
 use Rattle.set_events.specs.declared.answer.Answer.{Answer}
 use Rattle.set_events.specs.declared.answer.Fate.{Fate}
 use Rattle.set_events.specs.declared.answer.Fate.TheVariants.{Acked}
@@ -27,11 +27,11 @@ use Rattle.set_model.specs.Step.{Outcome as SetOutcome, step}
 use Rattle.set_model.proofs.Rows.{row_in_filter}
 use Rattle.set_model.proofs.Soundness.{opened_sound, opened_new}
 use Rattle.set_model.proofs.Walk.{IsAt}
-use Rattle.world_steps.specs.declared.step.End.{End}
-use Rattle.world_steps.specs.declared.step.End.TheVariants.{A, B}
-use Rattle.world_steps.specs.declared.step.Shown.TheVariants.{Answered, Up as CameUp, Lost}
-use Rattle.world_steps.specs.declared.step.Step.{Step}
-use Rattle.world_steps.specs.declared.step.Step.TheVariants.{Act, Emit, Arrive, Lose, Together, Inject}
+use Rattle.pair_steps.specs.declared.step.End.{End}
+use Rattle.pair_steps.specs.declared.step.End.TheVariants.{A, B}
+use Rattle.pair_steps.specs.declared.step.Shown.TheVariants.{Answered, Up as CameUp, Lost}
+use Rattle.pair_steps.specs.declared.step.Step.{Step}
+use Rattle.pair_steps.specs.declared.step.Step.TheVariants.{Act, Emit, Arrive, Lose, Together, Inject}
 use Rattle.pair_model.specs.World.{Outcome, shows, impossible, exhausted, at_end, with_end, line_to, with_line, actor_of, answer_to, after, is_full, has_link, has_actor, acts, with_sent, sends_on, emits, front_arrives, arrives, loses, risen, is_settled_at_both, rises, has_own_step, done_by, carried_out}
 use Rattle.pair_model.specs.Run.{Message, messages, Past, Stage, begun, no_past, with_past, past_arrived, passed, OnShows, HoldsAlong}
 use Rattle.pair_model.specs.Promises.{IsOneMethod, IsHonestStep, IsAskedStep, AreSteps, IsSoundRun, IsQuietRun}

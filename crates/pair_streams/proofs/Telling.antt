@@ -2,7 +2,7 @@
 use Rattle.std.proofs.Common.{refl, arith, ◌≡◌, sym, subst, ℕ, ◌<◌, Bool, true, false, List, [], ◌∷◌, length, cond}
 use Rattle.std.proofs.lemmas.Bool.{ltb-true}
 use Rattle.l2_units.specs.declared.unit.Unit.{Unit as SignalUnit}
-use Rattle.link_lines.specs.Lines.{units_on}
+use Rattle.pair_steps.specs.Lines.{units_on}
 use Rattle.set_events.specs.declared.answer.Answer.{Answer}
 use Rattle.set_events.specs.declared.config.Method.{Method}
 use Rattle.set_events.specs.declared.config.SetConfig.{SetConfig}
@@ -10,12 +10,12 @@ use Rattle.set_events.specs.declared.event.Event.TheVariants.{Heard}
 use Rattle.set_model.specs.declared.phase.Phase.TheVariants.{Up}
 use Rattle.set_model.specs.State.{LinkState, is_up, link_count}
 use Rattle.set_model.proofs.Walk.{IsAt}
-use Rattle.world_steps.specs.declared.step.End.{End}
-use Rattle.world_steps.specs.declared.step.End.TheVariants.{A, B}
-use Rattle.world_steps.specs.declared.step.Shown.{Shown}
-use Rattle.world_steps.specs.declared.step.Shown.TheVariants.{Answered, Lost}
-use Rattle.world_steps.specs.declared.step.Step.{Step}
-use Rattle.world_steps.specs.declared.step.Step.TheVariants.{Act, Emit, Arrive, Lose, Together, Inject}
+use Rattle.pair_steps.specs.declared.step.End.{End}
+use Rattle.pair_steps.specs.declared.step.End.TheVariants.{A, B}
+use Rattle.pair_steps.specs.declared.step.Shown.{Shown}
+use Rattle.pair_steps.specs.declared.step.Shown.TheVariants.{Answered, Lost}
+use Rattle.pair_steps.specs.declared.step.Step.{Step}
+use Rattle.pair_steps.specs.declared.step.Step.TheVariants.{Act, Emit, Arrive, Lose, Together, Inject}
 use Rattle.pair_model.specs.World.{World, Outcome, shows, impossible, exhausted, with_end, line_to, with_line, answer_to, after, is_full, has_link, front_arrives, arrives, carried_out}
 use Rattle.pair_model.specs.Run.{Stage, begun, passed, OnShows, HoldsAtEach}
 use Rattle.pair_model.specs.Promises.{IsOneMethod, IsAskedStep, AreSteps, IsQuietRun}

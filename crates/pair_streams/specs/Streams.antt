@@ -5,7 +5,7 @@ use Rattle.set_events.specs.declared.answer.DiscardCause.TheVariants.{Emergency}
 use Rattle.set_events.specs.declared.config.SetConfig.{SetConfig}
 use Rattle.set_model.specs.Rows.{stream_of, service_indicator, place, body_at}
 use Rattle.set_model.specs.State.{LinkState, State}
-use Rattle.world_steps.specs.declared.step.Step.{Step}
+use Rattle.pair_steps.specs.declared.step.Step.{Step}
 use Rattle.pair_model.specs.Promises.{IsAskedStep, AreSteps, IsSoundRun, IsQuietRun}
 use Rattle.pair_model.specs.Run.{Message, Past, Stage, begun, HoldsAlong, HoldsAtEach}
 use Rattle.pair_changeover.specs.Diverted.{OrdersTell}

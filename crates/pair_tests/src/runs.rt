@@ -4,7 +4,7 @@
 //! in a straight line. Others borrow one, hand it on, or have plain values.
 use l2_units::Profile;
 use pair_world::{End, PlayFault, Shown, Step, World};
-use play_script::read_step;
+use script_grammar::read_step;
 use set_events::{Event, Fate, Method, SetConfig};
 use std::alloc::Global;
 use std::test::Fail;

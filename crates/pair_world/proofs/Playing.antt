@@ -1,7 +1,7 @@
 -- Steps that are carried out one after another.
 use Rattle.std.proofs.Common.{◌≡◌, ◌∙◌, ap, sym, ℕ, List, drop}
 use Rattle.set_events.specs.declared.config.SetConfig.{SetConfig}
-use Rattle.world_steps.specs.declared.step.Step.{Step}
+use Rattle.pair_steps.specs.declared.step.Step.{Step}
 use Rattle.pair_model.specs.World.{World}
 use Rattle.pair_model.specs.Run.{leads_to, played_from}
 use Rattle.pair_world.specs.declared.fault.PlayFault.{PlayFault}

@@ -2,7 +2,7 @@
 use Rattle.std.proofs.Common.{refl, ◌≡◌, ◌∙◌, ◌⊎◌, ◌||◌, inl, inr, ap, subst, sym, ℕ, Bool, true, false, List, [], ◌∷◌, Some, slice_get, Result, Ok, Err, OnOk, OnErr}
 use Rattle.std.specs.Result.{IsErrAnd}
 use Rattle.l2_units.specs.declared.unit.Unit.{Unit as SignalUnit}
-use Rattle.link_lines.specs.Lines.{without}
+use Rattle.pair_steps.specs.Lines.{without}
 use Rattle.set_events.specs.declared.event.Event.{Event}
 use Rattle.set_events.specs.declared.answer.Answer.{Answer}
 use Rattle.set_events.specs.declared.event.Actor.{Actor}
@@ -12,8 +12,8 @@ use Rattle.set_events.specs.declared.fault.SetFault.{SetFault}
 use Rattle.set_events.specs.declared.fault.SetFault.TheVariants.{NoMemory as SetNoMemory, Exhausted as SetExhausted}
 use Rattle.set_model.proofs.Walk.{link_count_stays}
 use Rattle.std.proofs.lemmas.Option.{same_Some}
-use Rattle.world_steps.specs.declared.step.End.{End}
-use Rattle.world_steps.specs.declared.step.Shown.{Shown}
+use Rattle.pair_steps.specs.declared.step.End.{End}
+use Rattle.pair_steps.specs.declared.step.Shown.{Shown}
 use Rattle.pair_model.specs.World.{World, exhausted, is_full, at_end, actor_of, acts, has_actor, has_link, is_settled_at_both, rises, with_line, line_to, reaches, front_arrives, arrives}
 use Rattle.pair_world.specs.declared.fault.PlayFault.{PlayFault}
 use Rattle.pair_world.specs.Carried.{Fails, FailsAt, IsCarriedOut, LeavesTo, PlayFaultOf}

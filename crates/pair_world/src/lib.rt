@@ -11,9 +11,9 @@
 //! shows ([`Shown`]), or why it can't be done ([`PlayFault`]), and [`World::carry_out`] does so in place;
 //! [`World::play`] takes a list of steps, and promises what holds all along a sound run. A unit that an end emits
 //! joins the line of its link to the other end, from which it arrives in its order or is lost; nothing else happens
-//! to it, but that the lines of a link are empty when it comes up at both ends (`link_lines` keeps them).
+//! to it, but that the lines of a link are empty when it comes up at both ends (`pair_steps` keeps them).
 //!
-//! This crate knows no script and no text (`play_script`, `play_text`), and decides nothing of its own: each
+//! This crate knows no script and no text (`script_grammar`, `script_play`), and decides nothing of its own: each
 //! end is a set (`set_core`). The step of the world, case by case, is `specs/World.antt` of `pair_model`.
 #![tactic(auto)]
 
@@ -21,6 +21,5 @@ mod fault;
 mod world;
 
 pub use fault::PlayFault;
-pub use link_lines::Line;
+pub use pair_steps::{End, Line, Shown, Step};
 pub use world::World;
-pub use world_steps::{End, Shown, Step};

@@ -10,13 +10,12 @@ ghost use Rattle.pair_streams.specs.Arrived.{AreDone};
 
 use super::fault::PlayFault;
 use l2_units::{Unit, copy_of_unit};
-use link_lines::{Line, Lines, UnderWay};
+use pair_steps::{End, Line, Lines, Shown, Step, UnderWay};
 use set_core::{SetCore, SetFault};
 use set_events::{Actor, Answer, Counts, Event, SetConfig};
 use set_step::is_asked;
 use std::alloc::{Allocator, Global};
 use std::marker::Model;
-use world_steps::{End, Shown, Step};
 
 /// Two ends with the same links and one profile, and the units under way to each on each link, oldest first.
 ///

@@ -1,4 +1,4 @@
-//! Tests of refused memory: each growth of a call is refused in turn, over an allocator that refuses it (`refusing`).
+//! Tests of refused memory: each growth of a call is refused in turn, over an allocator that refuses it (`test_refusing`).
 //!
 //! A test makes the same calls at two values, one over such an allocator and its twin over the program's memory. Where a
 //! call is refused, all readers tell what they told before, and the same call then answers what the twin answers. It runs

@@ -1,9 +1,9 @@
 //! A line: the two rings of its ends.
 use super::{MOST_GROWTHS, TRIES, holds};
 use line_ring::{Full, Line, RingLine, ring_pair};
-use refusing::Refusing;
 use std::alloc::{Allocator, Global};
 use std::test::Fail;
+use test_refusing::Refusing;
 
 /// A line of two places each way is laid.
 #[test]

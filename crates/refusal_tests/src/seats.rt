@@ -8,7 +8,6 @@ ghost use Rattle.set_model.specs.State.{settings_of};
 use super::script::{Ask, SCRIPT, config, who_of};
 use super::sets::{answered, are_alike, bases, made, opened};
 use super::{MOST_GROWTHS, TRIES, holds};
-use refusing::Refusing;
 use set_core::{SetCore, SetFault};
 use set_events::{Actor, Answer, Event, SetConfig};
 use set_ledger::{
@@ -18,6 +17,7 @@ use std::alloc::{Allocator, Global};
 use std::marker::Brand;
 use std::sync::ledger::{Blank, Ledger};
 use std::test::Fail;
+use test_refusing::Refusing;
 
 /// Blanks for a set of two links and one user.
 fn blanks() -> Blanks

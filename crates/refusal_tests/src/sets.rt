@@ -3,12 +3,12 @@ ghost use Rattle.set_model.specs.History.{IsActor};
 
 use super::script::{Ask, SCRIPT, config, event_of, who_of};
 use super::{MOST_GROWTHS, TRIES, holds};
-use refusing::Refusing;
 use set_core::{SetCore, SetFault, audit};
 use set_events::{Actor, Answer, Entry, Event};
 use std::alloc::{Allocator, Global};
 use std::slice::from_ref;
 use std::test::Fail;
+use test_refusing::Refusing;
 
 /// A set is opened, each growth of that refused in turn.
 #[test]

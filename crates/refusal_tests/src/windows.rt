@@ -1,9 +1,9 @@
 //! A window of a link: its opening, room for more messages, and one message more.
 use super::{MOST_GROWTHS, TRIES, holds};
 use l2_window::Window;
-use refusing::Refusing;
 use std::alloc::{Allocator, Global};
 use std::test::Fail;
+use test_refusing::Refusing;
 
 /// How many messages a window is handed.
 const MESSAGES: u64 = 40;

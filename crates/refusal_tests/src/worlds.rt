@@ -3,10 +3,10 @@ use super::script::{config, message_of};
 use super::sets::are_alike;
 use super::{MOST_GROWTHS, TRIES, holds};
 use pair_world::{End, PlayFault, Step, World};
-use refusing::Refusing;
 use set_events::{Body, Event, Method, SetConfig};
 use std::alloc::{Allocator, Global};
 use std::test::Fail;
+use test_refusing::Refusing;
 
 /// A world is made, and takes each step: each growth of that refused in turn. A refused one gives the world up, and
 /// nothing is left of it.

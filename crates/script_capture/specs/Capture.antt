@@ -8,17 +8,17 @@ use Rattle.l2_units.specs.declared.profile.Profile.{Profile}
 use Rattle.l2_units.specs.declared.profile.Profile.TheVariants.{Narrow, Wide}
 use Rattle.set_events.specs.declared.answer.Answer.{Answer}
 use Rattle.set_events.specs.declared.answer.Answer.TheVariants.{Accepted, Taken, Found, Sent, Heard, Done, Refused}
-use Rattle.world_steps.specs.declared.step.End.{End}
-use Rattle.world_steps.specs.declared.step.End.TheVariants.{A, B}
-use Rattle.world_steps.specs.declared.step.Step.{Step}
-use Rattle.world_steps.specs.declared.step.Step.TheVariants.{Act, Emit, Arrive, Lose, Together, Inject}
-use Rattle.world_steps.specs.declared.step.Shown.{Shown}
-use Rattle.world_steps.specs.declared.step.Shown.TheVariants.{Up, Lost, Answered}
+use Rattle.pair_steps.specs.declared.step.End.{End}
+use Rattle.pair_steps.specs.declared.step.End.TheVariants.{A, B}
+use Rattle.pair_steps.specs.declared.step.Step.{Step}
+use Rattle.pair_steps.specs.declared.step.Step.TheVariants.{Act, Emit, Arrive, Lose, Together, Inject}
+use Rattle.pair_steps.specs.declared.step.Shown.{Shown}
+use Rattle.pair_steps.specs.declared.step.Shown.TheVariants.{Up, Lost, Answered}
 use Rattle.pair_model.specs.World.{World}
-use Rattle.answer_texts.specs.Texts.{unit_octets}
-use Rattle.printing.specs.Printing.{Printed}
-use Rattle.script_text.specs.declared.fault.ScriptFault.{ScriptFault}
-use Rattle.script_text.specs.Scripts.{Told, profile_of, IsScriptText}
+use Rattle.script_answers.specs.Texts.{unit_octets}
+use Rattle.text_printing.specs.Printing.{Printed}
+use Rattle.script_walk.specs.declared.fault.ScriptFault.{ScriptFault}
+use Rattle.script_walk.specs.Scripts.{Told, profile_of, IsScriptText}
 
 -- the low 16 and the low 32 bits of a number, the low octet first
 abbrev pub two : ℕ → List ℕ
@@ -109,6 +109,6 @@ capture_told = record {
   at_the_end = at_the_end;
 }
 
--- THE FILE (script_text, specs/Scripts.antt)
+-- THE FILE (script_walk, specs/Scripts.antt)
 abbrev pub IsCapture : List ℕ → Printed ScriptFault → Type 0
 IsCapture = IsScriptText capture_told

@@ -2,7 +2,7 @@
 //!
 //! [`capture`] reads a source's script and writes a pcap file of link type 139 (MTP2 with a pseudo-header): its head
 //! first, and a record for each unit as it's sent, stamped with one millisecond for each line of the script. It's one
-//! account of a script (`script_text`); `specs/Capture.antt` is the file: a function from the octets of the script.
+//! account of a script (`script_walk`); `specs/Capture.antt` is the file: a function from the octets of the script.
 //!
 //! ```text
 //! octets   0                1                 2, 3                        4 ..

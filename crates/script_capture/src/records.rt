@@ -3,10 +3,10 @@ ghost use Rattle.std.specs.Prelude.{◌≡◌, ◌++◌, IfOk};
 ghost use Rattle.l2_units.specs.declared.profile.Profile.TheVariants.{Wide};
 ghost use Rattle.script_capture.specs.Capture.{annex_a, annex_a_octets, captured, direction, file_head, four, pseudo_header, record_of, two, with_bit};
 
-use answer_texts::unit_octets;
 use l2_units::{Header, Profile, Unit};
+use pair_steps::End;
+use script_answers::unit_octets;
 use std::alloc::{AllocError, Global};
-use world_steps::End;
 
 /// What the file begins with, in its low octet first: the magic number of microseconds, version 2.4, no offset and no
 /// accuracy of time stamps, the most octets of a record, the link type.

@@ -1,16 +1,16 @@
 //! `mtpbank capture`: the units of a script as a pcap file.
 ghost use Rattle.std.specs.Prelude.{◌≡◌, ◌≤◌, ◌^◌, ◌++◌, length, IfSome, MatchResult, OnOk};
-ghost use Rattle.printing.specs.Printing.{Prints, FailsByDevices};
+ghost use Rattle.text_printing.specs.Printing.{Prints, FailsByDevices};
 ghost use Rattle.script_capture.specs.Capture.{IsCapture, pseudo_header, shown_record};
 
 use super::records::{head_of_file, write_record};
 use l2_units::Profile;
+use pair_steps::{End, Shown, Step};
 use pair_world::World;
-use printing::{Fault, Sink, Source};
-use script_text::{Account, ScriptFault, tell_script, world_profile};
+use script_walk::{Account, ScriptFault, tell_script, world_profile};
 use set_events::Answer;
 use std::alloc::{AllocError, Global};
-use world_steps::{End, Shown, Step};
+use text_printing::{Fault, Sink, Source};
 
 /// The units of a script.
 struct Units;

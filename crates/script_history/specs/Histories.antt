@@ -1,12 +1,12 @@
 -- THE HISTORY OF AN END: what its set was opened with, and an entry a line, when a script has ended.
 use Rattle.std.specs.Prelude.{ℕ, List, [], Option, Some, None}
 use Rattle.set_model.specs.History.{LinkSet}
-use Rattle.world_steps.specs.declared.step.End.{End}
+use Rattle.pair_steps.specs.declared.step.End.{End}
 use Rattle.pair_model.specs.World.{World, at_end}
-use Rattle.history_lines.specs.FirstLine.{history_text}
-use Rattle.printing.specs.Printing.{Printed}
-use Rattle.script_text.specs.declared.fault.ScriptFault.{ScriptFault}
-use Rattle.script_text.specs.Scripts.{Told, IsScriptText}
+use Rattle.history_text.specs.FirstLine.{history_text}
+use Rattle.text_printing.specs.Printing.{Printed}
+use Rattle.script_walk.specs.declared.fault.ScriptFault.{ScriptFault}
+use Rattle.script_walk.specs.Scripts.{Told, IsScriptText}
 
 -- all that a set was asked and answered
 abbrev pub set_text : LinkSet → List ℕ
@@ -25,6 +25,6 @@ history_told end = record {
   at_the_end = at_the_end end;
 }
 
--- THE TEXT (script_text, specs/Scripts.antt)
+-- THE TEXT (script_walk, specs/Scripts.antt)
 abbrev pub IsHistoryText : End → List ℕ → Printed ScriptFault → Type 0
 IsHistoryText end = IsScriptText (history_told end)

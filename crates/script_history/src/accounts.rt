@@ -1,15 +1,15 @@
 //! The account of a script in the history of an end, which its type names, since what is told belongs to the type.
 ghost use Rattle.std.specs.Prelude.{◌≡◌, ◌++◌, IfOk, MatchResult};
-ghost use Rattle.world_steps.specs.declared.step.End.{End};
+ghost use Rattle.pair_steps.specs.declared.step.End.{End};
 ghost use Rattle.script_history.specs.Histories.{set_text, at_the_end};
 
-use history_lines::write_history;
+use history_text::write_history;
+use pair_steps::{Shown, Step};
 use pair_world::{End, World};
-use script_text::Account;
+use script_walk::Account;
 use set_core::SetCore;
 use std::alloc::{AllocError, Global};
 use std::marker::PhantomData;
-use world_steps::{Shown, Step};
 
 /// An end that a type names.
 pub(crate) trait NamesEnd {
@@ -25,7 +25,7 @@ pub(crate) trait NamesEnd {
 pub(crate) struct OfA;
 
 impl NamesEnd for OfA {
-    ghost use Rattle.world_steps.specs.declared.step.End.TheVariants.{A};
+    ghost use Rattle.pair_steps.specs.declared.step.End.TheVariants.{A};
 
     ghost end = { A };
 
@@ -38,7 +38,7 @@ impl NamesEnd for OfA {
 pub(crate) struct OfB;
 
 impl NamesEnd for OfB {
-    ghost use Rattle.world_steps.specs.declared.step.End.TheVariants.{B};
+    ghost use Rattle.pair_steps.specs.declared.step.End.TheVariants.{B};
 
     ghost end = { B };
 

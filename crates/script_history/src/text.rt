@@ -1,13 +1,13 @@
 //! `mtpbank history`: what one end of a script was asked and answered.
 ghost use Rattle.std.specs.Prelude.{◌≤◌, ◌^◌, length, IfSome, OnOk};
-ghost use Rattle.printing.specs.Printing.{Prints, FailsByDevices};
+ghost use Rattle.text_printing.specs.Printing.{Prints, FailsByDevices};
 ghost use Rattle.script_history.specs.Histories.{IsHistoryText};
 
 use super::accounts::{History, OfA, OfB};
 use pair_world::End;
-use printing::{Fault, Sink, Source};
-use script_text::{ScriptFault, tell_script};
+use script_walk::{ScriptFault, tell_script};
 use std::alloc::Global;
+use text_printing::{Fault, Sink, Source};
 
 /// Plays the script that the source gives, and writes the history of this end when it has ended.
 ///

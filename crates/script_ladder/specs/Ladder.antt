@@ -8,7 +8,7 @@ use Rattle.l3_orders.specs.declared.order.Order.TheVariants.{Coo, Coa, Cbd, Cba,
 use Rattle.l2_units.specs.declared.profile.Profile.{Profile}
 use Rattle.l2_units.specs.Profile.{fsn_count}
 use Rattle.l3_orders.specs.Grammar.{order_of}
-use Rattle.decode_text.specs.Decoding.{order_words}
+use Rattle.text_decode.specs.Decoding.{order_words}
 use Rattle.set_events.specs.declared.event.Event.{Event}
 use Rattle.set_events.specs.declared.event.Event.TheVariants.{Offer, Take, Find, Next, Heard as HeardEvent, Up as UpEvent, Down, DownBlind, NoAnswer, Restore, BackTimeout}
 use Rattle.set_events.specs.declared.answer.Answer.TheVariants.{Accepted, Taken, Found, Sent, Heard, Done, Refused}
@@ -21,18 +21,18 @@ use Rattle.set_events.specs.declared.answer.Fate.TheVariants.{Waiting, Unacked, 
 use Rattle.set_model.specs.Rows.{Row, place}
 use Rattle.set_model.specs.State.{State, is_settled, unacked_in}
 use Rattle.set_model.specs.declared.numbered.Numbered.{Numbered}
-use Rattle.world_steps.specs.declared.step.End.{End}
-use Rattle.world_steps.specs.declared.step.End.TheVariants.{A, B}
-use Rattle.world_steps.specs.declared.step.Step.{Step}
-use Rattle.world_steps.specs.declared.step.Step.TheVariants.{Act, Emit, Arrive, Lose, Together, Inject}
-use Rattle.world_steps.specs.declared.step.Shown.{Shown}
-use Rattle.world_steps.specs.declared.step.Shown.TheVariants.{Up, Lost, Answered}
+use Rattle.pair_steps.specs.declared.step.End.{End}
+use Rattle.pair_steps.specs.declared.step.End.TheVariants.{A, B}
+use Rattle.pair_steps.specs.declared.step.Step.{Step}
+use Rattle.pair_steps.specs.declared.step.Step.TheVariants.{Act, Emit, Arrive, Lose, Together, Inject}
+use Rattle.pair_steps.specs.declared.step.Shown.{Shown}
+use Rattle.pair_steps.specs.declared.step.Shown.TheVariants.{Up, Lost, Answered}
 use Rattle.pair_model.specs.World.{World, line_to, at_end, counts_at, other}
-use Rattle.answer_texts.specs.Texts.{shown_text, took_text, fault_code}
-use Rattle.figures.specs.Figures.{bit, hex_text}
-use Rattle.printing.specs.Printing.{Printed}
-use Rattle.script_text.specs.declared.fault.ScriptFault.{ScriptFault}
-use Rattle.script_text.specs.Scripts.{Told, profile_of, IsScriptText}
+use Rattle.script_answers.specs.Texts.{shown_text, took_text, fault_code}
+use Rattle.text_base.specs.Figures.{bit, hex_text}
+use Rattle.text_printing.specs.Printing.{Printed}
+use Rattle.script_walk.specs.declared.fault.ScriptFault.{ScriptFault}
+use Rattle.script_walk.specs.Scripts.{Told, profile_of, IsScriptText}
 use Rattle.script_ladder.specs.Names.{isup_name}
 use Rattle.script_ladder.specs.Diverted.{stood, diverted}
 
@@ -543,6 +543,6 @@ heading = row_text (codes "line") (codes "end a") [] (codes "under way") [] (cod
 abbrev pub ladder_told : Told
 ladder_told = record { opening = λ w. heading; step = step_rows; at_the_end = λ w. [] }
 
--- THE TEXT (script_text, specs/Scripts.antt)
+-- THE TEXT (script_walk, specs/Scripts.antt)
 abbrev pub IsLadder : List ℕ → Printed ScriptFault → Type 0
 IsLadder = IsScriptText ladder_told

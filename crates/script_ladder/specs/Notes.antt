@@ -1,6 +1,6 @@
 -- What is kept of the world before a step.
 use Rattle.std.specs.Prelude.{◌≡◌}
-use Rattle.world_steps.specs.declared.step.Step.{Step}
+use Rattle.pair_steps.specs.declared.step.Step.{Step}
 use Rattle.pair_model.specs.World.{World}
 use Rattle.script_ladder.specs.declared.steps.Before.{Before}
 use Rattle.script_ladder.specs.Ladder.{Past, past_of}

@@ -1,22 +1,22 @@
 //! What an end's words are for what a step asked and showed.
 ghost use Rattle.std.specs.Prelude.{◌≡◌, ◌++◌, IfOk, codes};
-ghost use Rattle.figures.specs.Figures.{hex_text};
+ghost use Rattle.text_base.specs.Figures.{hex_text};
 ghost use Rattle.script_ladder.specs.Ladder.{accepted_in, answer_words, done_words, event_words, is_done, link_words, offered_words};
 ghost use Rattle.script_ladder.specs.Ladder.{plain, report_in, spaced, taken_words, without_end};
 ghost use Rattle.script_ladder.specs.Names.{isup_name};
-ghost use Rattle.answer_texts.specs.Texts.{shown_text};
+ghost use Rattle.script_answers.specs.Texts.{shown_text};
 
 use super::fitting::shorten;
 use super::isup::isup_name;
 use super::rows::CELL;
 use super::units::{message_name, write_number};
-use answer_texts::write_shown;
-use decode_text::write_both;
-use figures::push_hex;
 use l2_units::Profile;
+use pair_steps::Shown;
+use script_answers::write_shown;
 use set_events::{Answer, Event, Report};
 use std::alloc::{AllocError, Global};
-use world_steps::Shown;
+use text_base::push_hex;
+use text_decode::write_both;
 
 /// The answer as `play` prints it, without its line end; what users take has its name first.
 pub(crate) fn write_plain(

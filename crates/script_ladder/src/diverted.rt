@@ -8,11 +8,11 @@ use super::fitting::fit;
 use super::rows::write_further;
 use super::units::write_number;
 use arrayvec::ArrayVec;
-use decode_text::write_both;
 use pair_world::{End, World};
 use set_core::SetCore;
 use set_events::Fate;
 use std::alloc::{AllocError, Global};
+use text_decode::write_both;
 
 /// The most messages that can be unacknowledged on a link (Q.703 5.2.2).
 const MOST_SENT: usize = 127;

@@ -4,9 +4,9 @@ ghost use Rattle.script_ladder.specs.Ladder.{at_right, dashed, further, last_cel
 ghost use Rattle.script_ladder.specs.Ladder.{arriving, forged, going, losing};
 
 use super::fitting::fit;
-use decode_text::write_both;
+use pair_steps::End;
 use std::alloc::{AllocError, Global};
-use world_steps::End;
+use text_decode::write_both;
 
 /// The columns of an end's words.
 pub(crate) const CELL: usize = 30;

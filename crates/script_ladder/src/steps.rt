@@ -1,6 +1,6 @@
 //! `mtpbank ladder`: a script as a chart.
 ghost use Rattle.std.specs.Prelude.{◌≡◌, ◌≤◌, ◌^◌, [], codes, length, slice_get, IfOk, IfSome, None, OnOk};
-ghost use Rattle.printing.specs.Printing.{Prints, FailsByDevices};
+ghost use Rattle.text_printing.specs.Printing.{Prints, FailsByDevices};
 ghost use Rattle.pair_model.specs.World.{World as ModelWorld, other};
 ghost use Rattle.script_ladder.specs.Ladder.{IsLadder, affected, arrived_row, change_rows, effect_rows, end_of, far_words, first_row};
 ghost use Rattle.script_ladder.specs.Ladder.{forged_row, given_up, heading, link_at_stake, link_words, named_link, past_of, report_in, row_text};
@@ -14,15 +14,15 @@ use super::rows::{draw_arriving, draw_forged, draw_going, draw_losing, write_row
 use super::under_way::write_under_way;
 use super::units::{find_carried, write_any, write_sent_unit, write_unit};
 use arrayvec::ArrayVec;
-use decode_text::write_both;
 use l2_units::{Profile, Unit, copy_of_unit};
+use pair_steps::{Shown, Step};
 use pair_world::{End, Line, World};
-use printing::{Fault, Sink, Source};
-use script_text::{Account, ScriptFault, tell_script, world_profile};
+use script_walk::{Account, ScriptFault, tell_script, world_profile};
 use set_core::SetCore;
 use set_events::{Answer, Counts, Event, Report};
 use std::alloc::{AllocError, Global};
-use world_steps::{Shown, Step};
+use text_decode::write_both;
+use text_printing::{Fault, Sink, Source};
 
 /// The chart of a script.
 struct Chart;

@@ -1,17 +1,17 @@
 //! A unit in the words of the trade.
 ghost use Rattle.std.specs.Prelude.{◌≡◌, ◌++◌, IfOk, drop, slice_get};
-ghost use Rattle.decode_text.specs.Decoding.{order_words};
+ghost use Rattle.text_decode.specs.Decoding.{order_words};
 ghost use Rattle.l3_orders.specs.Grammar.{order_of};
 ghost use Rattle.script_ladder.specs.Ladder.{message_name, message_words, number_on, number_words, numbered_order, numbers_of, or_msu};
 ghost use Rattle.script_ladder.specs.Ladder.{order_in, sent_words, stream_words, unit_number, unit_words, words_of};
 
 use super::fitting::front_of;
 use super::isup::isup_name;
-use decode_text::{find_order, write_both, write_order_words};
 use l2_units::{Header, Profile, Unit};
 use l3_orders::Order;
 use set_core::SetCore;
 use std::alloc::{AllocError, Global};
+use text_decode::{find_order, write_both, write_order_words};
 
 /// The letters of an order's name.
 const NAME: usize = 3;

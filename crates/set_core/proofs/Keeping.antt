@@ -21,8 +21,8 @@ use Rattle.set_model.specs.Rows.{counts_of, is_unacked, numbers, total_of}
 use Rattle.set_model.specs.Step.{Gains, step, messages_in, octets_of}
 use Rattle.set_model.proofs.Staying.{step_gains, step_grows, AcceptsNone, accepts_none, step_at_most}
 use Rattle.set_model.proofs.Soundness.{opened_new}
-use Rattle.set_moves.specs.Agreement.{Kept, Agrees, shown}
-use Rattle.set_moves.proofs.Shown.{shown_is}
+use Rattle.set_changeover.specs.Agreement.{Kept, Agrees, shown}
+use Rattle.set_changeover.proofs.Shown.{shown_is}
 use Rattle.set_step.specs.Answering.{AnswersFor}
 use Rattle.set_events.specs.Owners.{IsOwn}
 use Rattle.set_core.specs.Gaining.{BooksGain, GainsNoOther, AreBounded, users_after, terminals_after}

@@ -9,7 +9,7 @@ use Rattle.set_model.specs.Rows.{total_of}
 use Rattle.set_model.specs.State.{State}
 use Rattle.set_model.specs.Checkpoint.{counts_in}
 use Rattle.set_model.specs.History.{Base, LinkSet, IsLegal, after, books_of, entries_of, longest_history}
-use Rattle.set_moves.specs.Agreement.{Kept, Agrees, shown}
+use Rattle.set_changeover.specs.Agreement.{Kept, Agrees, shown}
 
 -- what the set held at first, all that was asked and answered since, and what it holds after that
 abbrev pub with_history : Base → List Entry → LinkSet

@@ -3,7 +3,7 @@ ghost use Rattle.std.specs.Prelude.{◌≡◌, ◌<◌, ◌≤◌, ◌↔◌, []
 ghost use Rattle.set_model.specs.State.{new_state};
 ghost use Rattle.set_model.specs.Sound.{AreFew};
 ghost use Rattle.set_model.specs.History.{IsActor, IsLegal, entries_of, longest_history};
-ghost use Rattle.set_moves.specs.Agreement.{Agrees};
+ghost use Rattle.set_changeover.specs.Agreement.{Agrees};
 
 use super::base::Base;
 use super::tally::LONGEST_HISTORY;

@@ -47,7 +47,7 @@ impl<A: Allocator + Copy> Base<A> {
     ghost use Rattle.set_model.specs.State.{given};
     ghost use Rattle.set_core.specs.Gaining.{AreBounded};
     ghost use Rattle.set_core.specs.Keeping.{IsKept, base_of};
-    ghost use Rattle.set_moves.specs.Agreement.{Agrees};
+    ghost use Rattle.set_changeover.specs.Agreement.{Agrees};
 
     /// A set as this configuration has it, before anything was asked of it: no messages, no link up, and books of
     /// nothing.

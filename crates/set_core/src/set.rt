@@ -62,7 +62,7 @@ impl<A: Allocator + Copy> SetCore<A> {
     ghost use Rattle.set_model.specs.Rows.{place, total_of};
     ghost use Rattle.set_model.specs.Checkpoint.{counts_in};
     ghost use Rattle.set_core.specs.Gaining.{BooksGain, AreBounded};
-    ghost use Rattle.set_moves.specs.Agreement.{Agrees};
+    ghost use Rattle.set_changeover.specs.Agreement.{Agrees};
     ghost use Rattle.set_model.specs.History.{new_set, based, IsStep, IsActor, IsLegal, after, books_in, entries_in, longest_history};
 
     /// A set as this configuration has it: no messages, no link up, no history.

@@ -9,8 +9,8 @@ use Rattle.set_events.specs.declared.config.ConfigFault.TheVariants.{Links, Poin
 use Rattle.set_events.specs.declared.fault.SetFault.{SetFault}
 use Rattle.set_events.specs.declared.fault.SetFault.TheVariants.{NoMemory, Exhausted}
 -- the causes of a failed link that a heard unit can show
-pub use Rattle.l2_signals.specs.declared.cause.ControlFault.{ControlFault}
-pub use Rattle.l2_signals.specs.Numbers.{fault_number}
+pub use Rattle.l2_units.specs.declared.cause.ControlFault.{ControlFault}
+pub use Rattle.l2_units.specs.Numbers.{fault_number}
 
 abbrev pub refusal_number : SetRefusal → ℕ
 refusal_number TooShort = 1

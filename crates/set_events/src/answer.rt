@@ -4,8 +4,7 @@ ghost use Rattle.set_events.specs.Numbers.{refusal_number, cause_number};
 ghost use Rattle.set_events.specs.declared.answer.Answer.TheVariants.{Refused};
 
 use arrayvec::ArrayVec;
-use l2_signals::ControlFault;
-use l2_units::{Unit, same_unit};
+use l2_units::{ControlFault, Unit, same_unit};
 
 /// Where a message stands: in exactly one of these places.
 #[derive(Clone, Copy, Debug, PartialEq, Eq)]

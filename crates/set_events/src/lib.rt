@@ -22,4 +22,4 @@ pub use event::{Actor, Event};
 pub use fault::SetFault;
 pub use finished::Finished;
 pub use history::Entry;
-pub use l2_signals::ControlFault;
+pub use l2_units::ControlFault;

@@ -4,8 +4,7 @@ ghost use Rattle.set_history.specs.Told.{size_of};
 ghost use Rattle.set_history.specs.Kept.{kept_unit, kept_event, kept_answer, unit_size, event_size, answer_size, unit_body, event_body, answer_body};
 
 use super::numbers::{KeptHead, Length, Packed};
-use l2_signals::Status;
-use l2_units::Unit;
+use l2_units::{Status, Unit};
 use set_events::{Actor, Answer, Event, Fate, Refusal, Report};
 use std::mem::size_of;
 

@@ -12,9 +12,9 @@ use Rattle.set_model.specs.Rows.{Emergency, NoAnswer, Unreasonable, Fate, IsNumb
 use Rattle.set_model.specs.Sound.{is_unfinished as is_unfinished_fate}
 use Rattle.set_model.specs.State.{State, all_finished, given}
 use Rattle.set_model.proofs.Checkpointing.{checkpoints, stand_still}
-use Rattle.set_moves.specs.Agreement.{Message, Agrees, Holds, Kept, Stands, StandsFor, is_there as is_fate, kind_of, label_in, label_of}
-use Rattle.set_moves.specs.Parts.{kept_of}
-use Rattle.set_moves.specs.declared.parts.Parts.{Parts}
+use Rattle.set_changeover.specs.Agreement.{Message, Agrees, Holds, Kept, Stands, StandsFor, is_there as is_fate, kind_of, label_in, label_of}
+use Rattle.set_changeover.specs.Parts.{kept_of}
+use Rattle.set_changeover.specs.declared.parts.Parts.{Parts}
 use Rattle.set_traffic.proofs.Counts.{counted as counted_by, users_there}
 use Rattle.set_step.specs.Forgotten.{together}
 

@@ -9,7 +9,7 @@ use Rattle.set_model.specs.Rows.{Fate, Unacked, numbers, Waiting, is_users, tota
 use Rattle.set_events.specs.declared.answer.Counts.{Counts}
 use Rattle.set_model.specs.Checkpoint.{counts_in}
 use Rattle.set_model.proofs.Rows.{total_is, fewer_filter}
-use Rattle.set_moves.specs.Agreement.{Kept, StandsFor, Agrees, Holds, HoldsFew, rows_at}
+use Rattle.set_changeover.specs.Agreement.{Kept, StandsFor, Agrees, Holds, HoldsFew, rows_at}
 use Rattle.std.proofs.lemmas.Option.{slice_get_past, slice_get-map}
 use Rattle.set_model.specs.State.{State, LinkState, all_finished, none_finished, unacked_of, unacked_in, settings_of, new_link, new_state}
 use Rattle.set_model.proofs.Lists.{present}
@@ -21,13 +21,13 @@ use Rattle.set_model.specs.Sound.{IsAsked}
 use Rattle.set_model.specs.Step.{Event, Answer, step, stepped}
 use Rattle.set_model.proofs.Soundness.{opened_sound, step_sound}
 use Rattle.set_model.proofs.Walk.{step_is}
-use Rattle.set_moves.specs.declared.parts.Parts.{Parts}
+use Rattle.set_changeover.specs.declared.parts.Parts.{Parts}
 use Rattle.set_step.specs.Answering.{AnswersFor, wants_none}
-use Rattle.set_moves.specs.Parts.{Answers, AreCounted, kept_of, Settled, IsHere}
+use Rattle.set_changeover.specs.Parts.{Answers, AreCounted, kept_of, Settled, IsHere}
 use Rattle.set_queues.proofs.Standing.{occurs_here, given_queue}
 use Rattle.set_model.proofs.Settling.{settled_empty}
-use Rattle.set_moves.specs.Room.{SameButRoom}
-use Rattle.set_moves.proofs.Links.{agrees_same, is_in, whole_of}
+use Rattle.set_changeover.specs.Room.{SameButRoom}
+use Rattle.set_changeover.proofs.Links.{agrees_same, is_in, whole_of}
 use Rattle.set_traffic.proofs.Traffic.{queue_there}
 use Rattle.set_traffic.proofs.Counts.{counts_are}
 

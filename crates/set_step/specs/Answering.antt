@@ -2,7 +2,7 @@
 use Rattle.std.specs.Prelude.{◌≡◌, Bool, true, false, not}
 use Rattle.set_model.specs.State.{State}
 use Rattle.set_model.specs.Step.{stepped, Answer, Outcome, Event, Take, Find, Next, Heard, is_msu}
-use Rattle.set_moves.specs.Agreement.{Kept, Agrees}
+use Rattle.set_changeover.specs.Agreement.{Kept, Agrees}
 
 -- the answer is this outcome's, and what is kept agrees with its state
 pub record AnswersFor (outcome : Outcome) (answer : Answer) (k : Kept) : Type 0 where

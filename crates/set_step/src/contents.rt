@@ -6,17 +6,17 @@ ghost use Rattle.set_model.specs.Rows.{place, total_of, users};
 ghost use Rattle.set_model.specs.State.{State, all_finished, given, new_state, link_count, is_up as is_up_in, is_settled as is_settled_in, unacked_in};
 ghost use Rattle.set_model.specs.History.{longest_history};
 ghost use Rattle.set_model.specs.Step.{step};
-ghost use Rattle.set_moves.specs.Agreement.{Kept, Agrees, StandsFor, Holds, HoldsFew};
+ghost use Rattle.set_changeover.specs.Agreement.{Kept, Agrees, StandsFor, Holds, HoldsFew};
 ghost use Rattle.set_step.specs.Answering.{AnswersFor, wants_none};
-ghost use Rattle.set_moves.specs.Parts.{kept_of};
+ghost use Rattle.set_changeover.specs.Parts.{kept_of};
 
 use super::forgetting::{copied, kept};
 use super::step::carry_out;
 use l2_units::Profile;
 use l2_window::Window;
+use set_changeover::{Link, Parts, phase_of};
 use set_events::{Answer, Counts, Event, Fate, Finished, SetConfig, SetFault};
 use set_model::{Numbered, Phase};
-use set_moves::{Link, Parts, phase_of};
 use set_queues::{Bodies, Queues};
 use set_route::Routes;
 use set_traffic::is_asked;
@@ -188,7 +188,7 @@ impl<A: Allocator + Copy> Core<A> {
 
     /// The message at this place of the link's unacknowledged ones, the oldest at 0: its number, and the FSN
     /// that it carries (Q.703 2.2). Past the last one, or on a link that the set hasn't: `None`.
-    #[tactic(auto, using(crate::proofs::Kept::unacked_is, crate::proofs::Kept::unacked_past, set_moves::proofs::Links::whole_of, set_model::proofs::Lists::within))]
+    #[tactic(auto, using(crate::proofs::Kept::unacked_is, crate::proofs::Kept::unacked_past, set_changeover::proofs::Links::whole_of, set_model::proofs::Lists::within))]
     pub fn unacked_at(&self, link: u8, place: u16) -> Option<Numbered>
         ensures { (s : State) → StandsFor self.now s → result ≡ unacked_in s link place }
     {

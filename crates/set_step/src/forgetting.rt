@@ -2,12 +2,12 @@
 ghost use Rattle.std.specs.Prelude.{◌≡◌, ◌+◌, ◌<◌, ◌^◌, IfOk, List, ℕ};
 ghost use Rattle.set_model.specs.Checkpoint.{checkpointed};
 ghost use Rattle.set_model.specs.State.{State, all_finished};
-ghost use Rattle.set_moves.specs.Agreement.{Agrees, Holds};
-ghost use Rattle.set_moves.specs.Parts.{kept_of};
+ghost use Rattle.set_changeover.specs.Agreement.{Agrees, Holds};
+ghost use Rattle.set_changeover.specs.Parts.{kept_of};
 ghost use Rattle.set_step.specs.Forgotten.{together};
 
+use set_changeover::{HeardBody, Inbox, Link, Parts};
 use set_events::Finished;
-use set_moves::{HeardBody, Inbox, Link, Parts};
 use std::alloc::{AllocError, Allocator};
 use std::collections::VecDeque;
 

@@ -2,7 +2,7 @@
 //!
 //! What a set keeps, [`Core`], is queues of numbers and a fate for each (`set_queues`), the bodies by their numbers,
 //! its links, where its streams run, and the messages heard for users. It isn't a function of the state of the model
-//! (`set_model`), nor the other way round: it agrees with a state (`crates/set_moves/specs/Agreement.antt`), and
+//! (`set_model`), nor the other way round: it agrees with a state (`crates/set_changeover/specs/Agreement.antt`), and
 //! [`Core::apply`] says of every state that it agreed with that it agrees with what the model's step makes of it, and
 //! answers as that step does.
 //!
@@ -14,7 +14,7 @@
 //!
 //! An event costs what it moves, however many messages there ever were (`tools/set-bench`).
 //!
-//! What is kept, and the moves of changeover and changeback, stand in `set_moves`; what is offered, sent and heard in
+//! What is kept, and the moves of changeover and changeback, stand in `set_changeover`; what is offered, sent and heard in
 //! `set_traffic`, whose law [`is_asked`] says that whatever is offered is of one of the 16 streams, as the model asks
 //! of an event.
 //!

@@ -1,17 +1,17 @@
 //! What an event does to a set. Each function is a case of the set's step.
 ghost use Rattle.std.specs.Prelude.{◌≡◌, ◌^◌, true, IsOk, OnOk, OnErr};
 ghost use Rattle.set_model.specs.Step.{on_link, in_service, rises, falls, gives_up};
-ghost use Rattle.set_moves.specs.Agreement.{Holds};
+ghost use Rattle.set_changeover.specs.Agreement.{Holds};
 ghost use Rattle.set_step.specs.Answering.{wants_none, stepped_by};
-ghost use Rattle.set_moves.specs.Parts.{Answers, AreCounted, kept_of};
+ghost use Rattle.set_changeover.specs.Parts.{Answers, AreCounted, kept_of};
 
 use l3_orders::Order;
-use set_events::{Answer, Event, Fate, Refusal};
-use set_model::{Phase, Reached};
-use set_moves::{
+use set_changeover::{
     Parts, leave, make_room_beside, make_room_parked, phase_of, queue, restore, settle, time_out,
     unserved,
 };
+use set_events::{Answer, Event, Fate, Refusal};
+use set_model::{Phase, Reached};
 use set_traffic::{hear, offer, send_next};
 use std::alloc::{AllocError, Allocator};
 

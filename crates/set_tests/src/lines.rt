@@ -3,7 +3,7 @@ ghost use Rattle.std.specs.Prelude.{◌≡◌, ◌<◌, length};
 
 use super::bench::holds;
 use l2_units::{Header, Unit, body_of, same_unit};
-use link_lines::{Lines, UnderWay};
+use pair_steps::{Lines, UnderWay};
 use std::test::Fail;
 
 /// A fill-in unit of this FSN.

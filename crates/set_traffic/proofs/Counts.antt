@@ -7,7 +7,7 @@ use Rattle.std.specs.Option.{option_map_or}
 use Rattle.set_queues.specs.Messages.{one_if, is_of, is_queued, is_there, is_users, slot_at, unsent_of, count_of, counts_of}
 use Rattle.set_model.specs.Rows.{Fate, Row, row_of, unsent, is_unsent, IsNumbered, standing, users, counts_of as counts_in}
 use Rattle.set_model.proofs.Rows.{with_number, row_is_first, at_most_one}
-use Rattle.set_moves.specs.Agreement.{Message, Label, Stands, kind_of, label_in, label_of}
+use Rattle.set_changeover.specs.Agreement.{Message, Label, Stands, kind_of, label_in, label_of}
 use Rattle.std.proofs.lemmas.List.Elements.{filter_agree}
 
 -- rows that pass a test, of this number or a later one

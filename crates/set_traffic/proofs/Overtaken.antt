@@ -16,7 +16,7 @@ use Rattle.set_model.specs.Sound.{IsSound}
 use Rattle.set_model.proofs.Events.{withdrawn_rows, withdrawn_wait}
 use Rattle.set_model.proofs.SoundLink.{withdraws}
 use Rattle.set_model.proofs.Walk.{IsAt}
-use Rattle.set_moves.specs.Agreement.{Kept, StandsFor}
+use Rattle.set_changeover.specs.Agreement.{Kept, StandsFor}
 use Rattle.set_traffic.specs.Traffic.{holds_first}
 use Rattle.set_traffic.proofs.Traffic.{body_is}
 

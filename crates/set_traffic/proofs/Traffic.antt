@@ -15,11 +15,11 @@ use Rattle.l3_orders.specs.Grammar.{order_of}
 use Rattle.set_model.specs.Control.{Header, Control, head_of, part_of}
 use Rattle.set_model.specs.State.{LinkState, State, window_of, target}
 use Rattle.set_model.specs.Step.{choice_in, SignalUnit, Msu, Sent, next as next_of, sends, chosen, unit_of, in_service, Took, Ignored, is_heard, Message as MessageTaken, NothingTaken, takes, brought as accepted_body}
-use Rattle.set_moves.specs.declared.link.Link.{Link}
-use Rattle.set_moves.specs.declared.parts.Parts.{Parts}
-use Rattle.set_moves.specs.Agreement.{Holds, StandsFor, Message as KeptMessage, Kept, is_there, rows_at}
-use Rattle.set_moves.specs.Parts.{Up, kept_of, Gives, Obeys}
-use Rattle.set_moves.proofs.Links.{IsHere, served, stands_for, same_ups, same_target, profile_of, whole_of}
+use Rattle.set_changeover.specs.declared.link.Link.{Link}
+use Rattle.set_changeover.specs.declared.parts.Parts.{Parts}
+use Rattle.set_changeover.specs.Agreement.{Holds, StandsFor, Message as KeptMessage, Kept, is_there, rows_at}
+use Rattle.set_changeover.specs.Parts.{Up, kept_of, Gives, Obeys}
+use Rattle.set_changeover.proofs.Links.{IsHere, served, stands_for, same_ups, same_target, profile_of, whole_of}
 use Rattle.set_traffic.specs.Traffic.{ReachesTo, KeepsSpace, Brought, Nothing, Message, OrderBrought, Unread, brought_by, HasSpaceFor}
 use Rattle.set_queues.specs.Messages.{octets_at, octets_of, slot_at}
 use Rattle.set_model.proofs.Rows.{Found, found_by_number, row_in_filter}
@@ -30,7 +30,7 @@ use Rattle.set_queues.specs.Backs.{back_from}
 use Rattle.set_route.specs.Routing.{home_of}
 use Rattle.set_route.specs.Target.{target_of}
 use Rattle.set_model.specs.Changeover.{Order, Coo, Coa, Cbd, Cba, Eco, Eca, fate_on, obeyed, order_obeyed as obeyed_by}
-use Rattle.set_moves.specs.Room.{IsSpaciousFor, IsReady, target_beside}
+use Rattle.set_changeover.specs.Room.{IsSpaciousFor, IsReady, target_beside}
 
 -- The queue of a link that is there.
 pub queue_there : {A : Type 0} (parts : Parts A) (n : ℕ) → Holds (kept_of parts) → n < length parts.links.items → n < length parts.queues.lists.links

@@ -10,7 +10,7 @@ use Rattle.l2_window.specs.Window.{most_unacked}
 use Rattle.l2_units.specs.declared.profile.Profile.{Profile}
 use Rattle.std.specs.VecDeque.{deque_len, deque_capacity}
 use Rattle.set_model.specs.Changeover.{Order}
-use Rattle.set_moves.specs.Room.{IsSpaciousFor}
+use Rattle.set_changeover.specs.Room.{IsSpaciousFor}
 pub use Rattle.set_traffic.specs.declared.hearing.Brought.{Brought}
 pub use Rattle.set_traffic.specs.declared.hearing.Brought.TheVariants.{Nothing, Message, Order as OrderBrought, Unread}
 use Rattle.l3_orders.specs.Grammar.{IsOrder, order_of}
@@ -18,8 +18,8 @@ use Rattle.set_queues.specs.Queues.{QueuesState}
 use Rattle.set_queues.specs.Sending.{reach}
 use Rattle.set_queues.specs.Settling.{on}
 use Rattle.set_model.specs.Step.{SignalUnit, Msu}
-use Rattle.set_moves.specs.Agreement.{Kept, StandsFor}
-use Rattle.set_moves.specs.declared.parts.Parts.{Parts}
+use Rattle.set_changeover.specs.Agreement.{Kept, StandsFor}
+use Rattle.set_changeover.specs.declared.parts.Parts.{Parts}
 
 -- the link's control goes on as that is sent
 abbrev pub goes_on : ℕ → Choice → LinkState → State → State

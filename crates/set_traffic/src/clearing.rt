@@ -3,15 +3,15 @@ ghost use Rattle.std.specs.Prelude.{◌≡◌, ◌<◌, length};
 ghost use Rattle.set_model.specs.Changeover.{cleared, is_overtaken, overtakes};
 ghost use Rattle.set_model.specs.Rows.{wait};
 ghost use Rattle.set_model.specs.State.{State};
-ghost use Rattle.set_moves.specs.Agreement.{Holds, StandsFor};
-ghost use Rattle.set_moves.specs.Parts.{Becomes, IsHere, Up, kept_of};
+ghost use Rattle.set_changeover.specs.Agreement.{Holds, StandsFor};
+ghost use Rattle.set_changeover.specs.Parts.{Becomes, IsHere, Up, kept_of};
 ghost use Rattle.set_traffic.specs.Traffic.{holds_first};
 
 use super::hearing::order_in;
 use l3_orders::Order;
+use set_changeover::{Parts, phase_of};
 use set_events::{DiscardCause, Fate};
 use set_model::Phase;
-use set_moves::{Parts, phase_of};
 use std::alloc::Allocator;
 
 /// The orders that wait foremost for the link and were overtaken are discarded in their places (own): the link that such

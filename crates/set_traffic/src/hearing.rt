@@ -7,18 +7,18 @@ ghost use Rattle.set_queues.specs.Buffers.{profile_at};
 ghost use Rattle.set_model.specs.Control.{part_of};
 ghost use Rattle.set_model.specs.State.{State, window_of};
 ghost use Rattle.set_model.specs.Step.{SignalUnit, has_numbers, in_service, heard, is_heard, is_msu, brought as accepted_body, takes, after_control};
-ghost use Rattle.set_moves.specs.Agreement.{Agrees, Holds};
+ghost use Rattle.set_changeover.specs.Agreement.{Agrees, Holds};
 ghost use Rattle.set_traffic.specs.Traffic.{Acknowledges, HasSpaceFor, KeepsQueues, KeepsSpace, ReachesTo, brought_by};
-ghost use Rattle.set_moves.specs.Parts.{Answers, AreCounted, IsWhole, OfStates, BecomesAt, Obeys, kept_of};
-ghost use Rattle.set_moves.specs.Room.{IsSpaciousFor, SameButRoom};
+ghost use Rattle.set_changeover.specs.Parts.{Answers, AreCounted, IsWhole, OfStates, BecomesAt, Obeys, kept_of};
+ghost use Rattle.set_changeover.specs.Room.{IsSpaciousFor, SameButRoom};
 
 use super::offering::longest_of;
 use l2_units::{Header, Profile, Unit, header_in};
 use l2_window::HeardPart;
 use l3_orders::{Order, read_order, read_order_wide};
+use set_changeover::{HeardBody, Parts, make_room, make_room_beside, obey, target_of, unserved};
 use set_events::{Answer, Fate, Refusal, Report, Took};
 use set_model::service_indicator;
-use set_moves::{HeardBody, Parts, make_room, make_room_beside, obey, target_of, unserved};
 use set_queues::{Queues, fate_on};
 use set_route::home_of_code;
 use std::alloc::{AllocError, Allocator};
@@ -28,7 +28,7 @@ use std::alloc::{AllocError, Allocator};
 /// body the set's profile doesn't have.
 ///
 /// All memory that the body may want is taken first, so a fault leaves everything as it was.
-#[tactic(auto, using(set_moves::proofs::Links::whole_of, crate::proofs::Traffic::space_still))]
+#[tactic(auto, using(set_changeover::proofs::Links::whole_of, crate::proofs::Traffic::space_still))]
 pub fn hear<A: Allocator + Copy>(
     parts: &mut Parts<A>,
     number: u8,
@@ -197,7 +197,7 @@ fn control_hears<A: Allocator + Copy>(parts: &mut Parts<A>, number: u8, unit: &U
 }
 
 /// So many messages of the link are acknowledged, if any are: those up to this BSN.
-#[tactic(auto, using(set_moves::proofs::Links::on_less, set_moves::proofs::Links::acked_less))]
+#[tactic(auto, using(set_changeover::proofs::Links::on_less, set_changeover::proofs::Links::acked_less))]
 fn acknowledge<A: Allocator + Copy>(queues: &mut Queues<A>, number: u8, bsn: u16, acked: u16)
     requires known { number < length queues.old.lists.links }
     requires bsn { bsn < fsn_count (profile_at number queues.old.lists) }

@@ -4,7 +4,7 @@
 //! [`offer`] puts a message last where its stream runs. [`send_next`] gives the unit that the link's error control
 //! chooses of the link's queues, and moves the message that is sent for the first time. [`hear`] acknowledges,
 //! counts, and hands on what the unit brings: a message to the users' inbox, an order to the rules of changeover and
-//! changeback (`set_moves`). Both are refused at a link that isn't there, or isn't in service.
+//! changeback (`set_changeover`). Both are refused at a link that isn't there, or isn't in service.
 //!
 //! Contracts say of every state of the model (`set_model`) that the set agreed with that it stands for what the
 //! model's step makes of it, and answers as that step does. A unit costs what it moves, however many messages there

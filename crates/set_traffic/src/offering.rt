@@ -5,13 +5,13 @@ ghost use Rattle.set_queues.specs.Messages.{unsent_of};
 ghost use Rattle.set_model.specs.Rows.{stream_of};
 ghost use Rattle.set_model.specs.Sound.{IsAsked};
 ghost use Rattle.set_model.specs.Step.{refusal_by, offer_refusal, offered};
-ghost use Rattle.set_moves.specs.Agreement.{Holds};
-ghost use Rattle.set_moves.specs.Parts.{Answers, kept_of};
+ghost use Rattle.set_changeover.specs.Agreement.{Holds};
+ghost use Rattle.set_changeover.specs.Parts.{Answers, kept_of};
 
 use l2_units::{LONGEST_BODY, Profile};
+use set_changeover::{Parts, fate_of_new, make_room, stand_last};
 use set_events::{Answer, Body, Event, Refusal};
 use set_model::{service_indicator, stream_of_body};
-use set_moves::{Parts, fate_of_new, make_room, stand_last};
 use set_queues::Queues;
 use std::alloc::{AllocError, Allocator};
 
@@ -22,7 +22,7 @@ const SHORTEST_OFFER: usize = 5;
 const STREAM_LIMIT: u64 = 1024;
 
 /// A message is offered: refused, or the last of its queue from now on.
-#[tactic(auto, using(set_moves::proofs::Links::whole_of))]
+#[tactic(auto, using(set_changeover::proofs::Links::whole_of))]
 pub fn offer<A: Allocator + Copy>(
     parts: &mut Parts<A>,
     body: &Body,

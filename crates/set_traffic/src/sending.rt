@@ -7,16 +7,16 @@ ghost use Rattle.set_model.specs.Changeover.{cleared};
 ghost use Rattle.set_model.specs.Control.{head_of};
 ghost use Rattle.set_model.specs.State.{State, LinkState, window_of};
 ghost use Rattle.set_model.specs.Step.{choice_in, next, in_service};
-ghost use Rattle.set_moves.specs.Agreement.{Holds, StandsFor, rows_at};
-ghost use Rattle.set_moves.specs.Parts.{Answers, OfStates, BecomesAt, kept_of};
+ghost use Rattle.set_changeover.specs.Agreement.{Holds, StandsFor, rows_at};
+ghost use Rattle.set_changeover.specs.Parts.{Answers, OfStates, BecomesAt, kept_of};
 ghost use Rattle.set_traffic.specs.Traffic.{IsThere, goes_on};
 
 use super::clearing::clear;
 use arrayvec::ArrayVec;
 use l2_units::{Header, LONGEST_BODY, Unit, body_of};
 use l2_window::Choice;
+use set_changeover::{Parts, unserved};
 use set_events::{Answer, Fate};
-use set_moves::{Parts, unserved};
 use std::alloc::Allocator;
 
 /// The next unit to send, once the orders that were overtaken are discarded.

@@ -1,6 +1,6 @@
 -- A MARK AND THE MONITOR THAT RUNS (Q.703 10): what one more mark makes of a terminal, and what is to be done then.
 use Rattle.std.specs.Prelude.{◌≡◌, ℕ, ◌==◌, Bool, Option, Some, None, if◌then◌else◌}
-use Rattle.l2_signals.specs.declared.cause.Cause.{Cause}
+use Rattle.l2_units.specs.declared.cause.Cause.{Cause}
 use Rattle.l2_monitors.specs.Aerm.{after_mark as after_aerm_mark}
 use Rattle.l2_monitors.specs.Suerm.{Kept, after_mark}
 use Rattle.l2_align.specs.declared.align.State.{State as AlignState}

@@ -7,9 +7,8 @@ use crate::bits_left::BitsLeft;
 use l2_align::{Align, State as AlignState};
 use l2_flow::Flow;
 use l2_monitors::{Aerm, Suerm};
-use l2_signals::{Cause, Status};
 use l2_state::{LinkState, State};
-use l2_units::Header;
+use l2_units::{Cause, Header, Status};
 use std::marker::Model;
 use term_model::{Clocks, Command, Commands, Timers};
 

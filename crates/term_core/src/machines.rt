@@ -21,8 +21,8 @@ use crate::inside::Inside;
 use l2_align::{AlignIn, End, Monitor, NORMAL_PROVING};
 use l2_flow::FlowIn;
 use l2_monitors::{Aerm, Suerm};
-use l2_signals::{Cause, Status, TimerOrder};
 use l2_state::{StateIn, Switch, Told};
+use l2_units::{Cause, Status, TimerOrder};
 use set_events::Answer;
 
 impl Inside {

@@ -1,6 +1,6 @@
 -- A mark that brings no readable unit: what can come of it at the set.
 use Rattle.std.proofs.Common.{sym, subst, ◌≡◌, ℕ, ◌+◌, ◌==◌, Bool, true, false, nat_lt, List, Option, Some, None, if◌then◌else◌}
-use Rattle.l2_signals.specs.declared.cause.Cause.{Cause}
+use Rattle.l2_units.specs.declared.cause.Cause.{Cause}
 use Rattle.l2_bits.specs.declared.marks.Mark.{Mark}
 use Rattle.l2_units.specs.declared.unit.Unit.{Unit as SignalUnit}
 use Rattle.l2_monitors.specs.Suerm.{Kept}

@@ -1,6 +1,6 @@
 -- What the machines' inputs ask: by cases on what the tables tell, and on whether the link is up at the set.
 use Rattle.std.proofs.Common.{refl, ◌≡◌, Bool, true, false, Option, Some, None, if◌then◌else◌}
-use Rattle.l2_signals.specs.declared.cause.Cause.{Cause}
+use Rattle.l2_units.specs.declared.cause.Cause.{Cause}
 use Rattle.l2_align.specs.declared.align.State.{State}
 use Rattle.l2_align.specs.declared.signals.AlignIn.{AlignIn}
 use Rattle.l2_align.specs.declared.signals.End.{End}

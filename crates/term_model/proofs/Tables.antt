@@ -1,7 +1,7 @@
 -- What the three tables order of timers, and what link state control tells: row by row.
 use Rattle.std.proofs.Common.{arith, ◌≤◌, ◌+◌, Bool, true, false, nat_lt, Option, Some, None, if◌then◌else◌}
-use Rattle.l2_signals.specs.declared.status.Status.{Status}
-use Rattle.l2_signals.specs.declared.timer.TimerOrder.{TimerOrder}
+use Rattle.l2_units.specs.declared.status.Status.{Status}
+use Rattle.l2_units.specs.declared.timer.TimerOrder.{TimerOrder}
 use Rattle.l2_align.specs.declared.align.State.{State as AlignState}
 use Rattle.l2_align.specs.declared.signals.AlignIn.{AlignIn}
 use Rattle.l2_align.specs.declared.signals.AlignOut.{AlignOut}

@@ -1,10 +1,10 @@
 -- What a turn keeps: step by step.
 use Rattle.std.proofs.Common.{refl, sym, subst, arith, ◌≡◌, ◌∙◌, ℕ, ◌==◌, ◌<◌, ◌^◌, ◌||◌, Bool, true, false, not, nat_lt, length, List, [], ◌∷◌, Option, Some, None, if◌then◌else◌}
 use Rattle.std.proofs.lemmas.Bool.Decides.{nat_tests}
-use Rattle.l2_signals.specs.declared.cause.Cause.{Cause}
-use Rattle.l2_signals.specs.declared.cause.ControlFault.{ControlFault}
-use Rattle.l2_signals.specs.declared.status.Status.{Status}
-use Rattle.l2_signals.specs.Numbers.{cause_of}
+use Rattle.l2_units.specs.declared.cause.Cause.{Cause}
+use Rattle.l2_units.specs.declared.cause.ControlFault.{ControlFault}
+use Rattle.l2_units.specs.declared.status.Status.{Status}
+use Rattle.l2_units.specs.Numbers.{cause_of}
 use Rattle.l2_bits.specs.declared.marks.Mark.{Mark}
 use Rattle.l2_units.specs.declared.unit.Unit.{Unit as SignalUnit}
 use Rattle.l2_units.specs.Grammar.{head_of}

@@ -1,7 +1,7 @@
 -- STEP 5 OF A TURN: WHAT IS SENT NEXT. Where fewer than eight bits are left to send, a unit is chosen, by where the
 -- link stands (Q.703 11.2, 12.1).
 use Rattle.std.specs.Prelude.{ℕ, ◌+◌, ◌%◌, ◌==◌, ◌&&◌, Bool, true, false, nat_lt, length, Option, Some, None, if◌then◌else◌}
-use Rattle.l2_signals.specs.declared.status.Status.{Status}
+use Rattle.l2_units.specs.declared.status.Status.{Status}
 use Rattle.l2_units.specs.declared.unit.Header.{Header}
 use Rattle.l2_units.specs.declared.unit.Unit.{Unit as SignalUnit}
 use Rattle.l2_units.specs.Grammar.{head_of}

@@ -1,10 +1,10 @@
 -- STEP 3 OF A TURN: MARKS. Each mark goes to the monitor that runs, and a readable unit to the machines, and then,
 -- where the link is up at the set, to the set.
 use Rattle.std.specs.Prelude.{ℕ, ◌==◌, ◌||◌, Bool, true, false, not, nat_lt, List, [], ◌∷◌, Option, Some, None, if◌then◌else◌}
-use Rattle.l2_signals.specs.declared.cause.Cause.{Cause}
-use Rattle.l2_signals.specs.declared.cause.ControlFault.{ControlFault}
-use Rattle.l2_signals.specs.declared.status.Status.{Status}
-use Rattle.l2_signals.specs.Numbers.{cause_of}
+use Rattle.l2_units.specs.declared.cause.Cause.{Cause}
+use Rattle.l2_units.specs.declared.cause.ControlFault.{ControlFault}
+use Rattle.l2_units.specs.declared.status.Status.{Status}
+use Rattle.l2_units.specs.Numbers.{cause_of}
 use Rattle.l2_bits.specs.declared.marks.Mark.{Mark}
 use Rattle.l2_units.specs.declared.unit.Unit.{Unit as SignalUnit}
 use Rattle.l2_units.specs.Grammar.{unit_of, head_of}

@@ -4,9 +4,9 @@
 -- control; alignment with its end, and flow control with its failure. That a Start or a Stop never ends alignment,
 -- and a Reset never fails, is in the tables.
 use Rattle.std.specs.Prelude.{ℕ, ◌||◌, Bool, true, false, Option, Some, None, if◌then◌else◌}
-use Rattle.l2_signals.specs.declared.cause.Cause.{Cause}
-use Rattle.l2_signals.specs.declared.status.Status.{Status}
-use Rattle.l2_signals.specs.declared.timer.TimerOrder.{TimerOrder}
+use Rattle.l2_units.specs.declared.cause.Cause.{Cause}
+use Rattle.l2_units.specs.declared.status.Status.{Status}
+use Rattle.l2_units.specs.declared.timer.TimerOrder.{TimerOrder}
 use Rattle.l2_monitors.specs.Aerm.{threshold}
 use Rattle.l2_monitors.specs.Suerm.{Kept}
 use Rattle.l2_align.specs.declared.signals.AlignIn.{AlignIn}

@@ -1,8 +1,8 @@
 -- WORKED ROWS where the order of what comes in one turn matters. The expected values are those of Q.703 5 to 12 and of
 -- this project's own rules for a turn.
 use Rattle.std.specs.Prelude.{◌≡◌, true, false, [], ◌∷◌, Some, None}
-use Rattle.l2_signals.specs.declared.cause.Cause.{Cause}
-use Rattle.l2_signals.specs.declared.status.Status.{Status}
+use Rattle.l2_units.specs.declared.cause.Cause.{Cause}
+use Rattle.l2_units.specs.declared.status.Status.{Status}
 use Rattle.l2_bits.specs.declared.marks.Mark.{Mark}
 use Rattle.l2_bits.specs.Flags.{flag}
 use Rattle.l2_units.specs.declared.unit.Header.{Header}

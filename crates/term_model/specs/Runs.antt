@@ -2,8 +2,8 @@
 use Rattle.std.specs.Prelude.{◌≡◌, ℕ, ◌+◌, Bool, true, false, List, [], ◌∷◌, ◌++◌, length, Option, Some, None, if◌then◌else◌}
 use Rattle.std.specs.List.{flat_map}
 use Rattle.std.specs.Option.{option_to_list}
-use Rattle.l2_signals.specs.declared.cause.Cause.{Cause}
-use Rattle.l2_signals.specs.Numbers.{cause_number}
+use Rattle.l2_units.specs.declared.cause.Cause.{Cause}
+use Rattle.l2_units.specs.Numbers.{cause_number}
 use Rattle.l2_bits.specs.declared.marks.Mark.{Mark}
 use Rattle.l2_bits.specs.LineBits.{line_bits}
 use Rattle.l2_units.specs.declared.unit.Unit.{Unit as SignalUnit}

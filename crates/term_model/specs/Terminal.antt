@@ -1,7 +1,7 @@
 -- WHAT A TERMINAL HOLDS between two turns. Read this file first.
 use Rattle.std.specs.Prelude.{ℕ, Bool, true, false, List, Option, Some, None}
-use Rattle.l2_signals.specs.declared.cause.Cause.{Cause}
-use Rattle.l2_signals.specs.declared.status.Status.{Status}
+use Rattle.l2_units.specs.declared.cause.Cause.{Cause}
+use Rattle.l2_units.specs.declared.status.Status.{Status}
 use Rattle.l2_bits.specs.Flags.{flag}
 use Rattle.l2_units.specs.declared.unit.Header.{Header}
 use Rattle.l2_units.specs.Grammar.{header_in}

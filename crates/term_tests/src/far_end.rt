@@ -3,8 +3,7 @@ ghost use Rattle.std.specs.Prelude.{◌≡◌, [], ◌∷◌, ◌++◌};
 
 use arrayvec::ArrayVec;
 use l2_bits::{Deframer, MarkKind, flag_into, seal, stuff_into};
-use l2_signals::Status;
-use l2_units::{Header, LONGEST_UNIT, Unit, header_in, read, write};
+use l2_units::{Header, LONGEST_UNIT, Status, Unit, header_in, read, write};
 use line_ring::{Full, Line, Past};
 
 /// How many units of each kind were heard.

@@ -5,7 +5,7 @@ use super::core_door::{
     CoreDoor, LONG, config_of, downs, holds, is_legal, loaded, started_at, timers_of, ups,
 };
 use super::far_end::{FarEnd, Heard, Script};
-use l2_signals::Status;
+use l2_units::Status;
 use link_term::{Command, OpenGate, Terminal, Timers};
 use std::alloc::Global;
 use std::test::Fail;

@@ -2,8 +2,7 @@
 ghost use Rattle.std.specs.Prelude.{◌≡◌, IfSome};
 
 use super::core_door::{CoreDoor, LONG, door_of, holds};
-use l2_signals::{Cause, Status};
-use l2_units::{Header, Unit};
+use l2_units::{Cause, Header, Status, Unit};
 use line_ring::LossyLine;
 use link_term::{Command, Filling, LastUnit, TermState, Timers, Works};
 use std::alloc::Global;

@@ -3,15 +3,15 @@ use Rattle.std.proofs.Common.{◌≡◌, refl, sym, ap, ◌∙◌, ℕ, Bool, tr
 use Rattle.std.specs.Option.{option_map}
 use Rattle.l2_units.specs.declared.profile.Profile.{Profile}
 use Rattle.l2_units.specs.declared.profile.Profile.TheVariants.{Narrow, Wide}
-use Rattle.bench_core.specs.Ends.{BenchState}
-use Rattle.line_mistakes.specs.declared.lines.Blame.{Blame}
-use Rattle.line_mistakes.specs.Laws.{tells_timers}
-use Rattle.line_mistakes.specs.Showing.{explanation}
-use Rattle.line_mistakes.specs.TerminalBlaming.{blamed_line}
-use Rattle.line_mistakes.proofs.Openings.{openings_are_blamed}
-use Rattle.line_mistakes.proofs.TerminalBlamed.{terminal_lines_are_blamed}
-use Rattle.play_script.specs.Script.{first_line}
-use Rattle.play_script.specs.declared.script.Values.{Values}
+use Rattle.term_bench.specs.Ends.{BenchState}
+use Rattle.script_mistakes.specs.declared.lines.Blame.{Blame}
+use Rattle.script_mistakes.specs.Laws.{tells_timers}
+use Rattle.script_mistakes.specs.Showing.{explanation}
+use Rattle.script_mistakes.specs.TerminalBlaming.{blamed_line}
+use Rattle.script_mistakes.proofs.Openings.{openings_are_blamed}
+use Rattle.script_mistakes.proofs.TerminalBlamed.{terminal_lines_are_blamed}
+use Rattle.script_grammar.specs.Script.{first_line}
+use Rattle.script_grammar.specs.declared.script.Values.{Values}
 use Rattle.terminal_script.specs.declared.asked.Asked.{Asked}
 use Rattle.terminal_script.specs.Lines.{asked_of}
 use Rattle.terminal_script.specs.Timers.{Lengths}

@@ -1,9 +1,9 @@
 -- An explained text is the text of `terminal`, but for what is said of its fault.
 use Rattle.std.proofs.Common.{◌≡◌, refl, sym, ap, subst, ◌∙◌, ℕ, Bool, true, false, suc, nat_lt, List, [], ◌∷◌, length, Option, Some, None, Result, Ok, Err, IfSome}
 use Rattle.std.specs.Option.{option_map}
-use Rattle.printing.specs.declared.fault.Fault.{Fault}
-use Rattle.printing.specs.declared.fault.Fault.TheVariants.{Input, Memory, Read, Long as TooLong, Write}
-use Rattle.printing.specs.Printing.{Printed, behind, IsBegun, Prints}
+use Rattle.text_printing.specs.declared.fault.Fault.{Fault}
+use Rattle.text_printing.specs.declared.fault.Fault.TheVariants.{Input, Memory, Read, Long as TooLong, Write}
+use Rattle.text_printing.specs.Printing.{Printed, behind, IsBegun, Prints}
 use Rattle.text_lines.specs.declared.flaw.LineFlaw.TheVariants.{Long}
 use Rattle.text_lines.specs.Lines.{LineOutcome, prints, stops, is_remark, lines_of}
 use Rattle.text_lines.specs.Talks.{GoesOnBy, IsTextOfLines, MayBe}

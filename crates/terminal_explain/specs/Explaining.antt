@@ -1,15 +1,15 @@
 -- THE TEXT OF `terminal` with explanations: what is said of a line that ends it with a fault.
 use Rattle.std.specs.Prelude.{◌≡◌, ℕ, Bool, List, Option, Some, None, Result, Ok, Err, unwrap_or}
 use Rattle.std.specs.Option.{option_map}
-use Rattle.line_mistakes.specs.declared.lines.Blame.{Blame}
-use Rattle.line_mistakes.specs.Blaming.{blamed_opening}
-use Rattle.line_mistakes.specs.Showing.{explanation}
-use Rattle.line_mistakes.specs.TerminalBlaming.{blamed_line, blamed_link, blamed_profile}
-use Rattle.printing.specs.declared.fault.Fault.{Fault}
-use Rattle.printing.specs.declared.fault.Fault.TheVariants.{Input as InputFault, Memory as NoMemory, Read, Long as TooLong, Write}
-use Rattle.printing.specs.declared.fault.Stop.{Stop}
-use Rattle.printing.specs.declared.fault.Stop.TheVariants.{Input, Memory}
-use Rattle.printing.specs.Printing.{Printed}
+use Rattle.script_mistakes.specs.declared.lines.Blame.{Blame}
+use Rattle.script_mistakes.specs.Blaming.{blamed_opening}
+use Rattle.script_mistakes.specs.Showing.{explanation}
+use Rattle.script_mistakes.specs.TerminalBlaming.{blamed_line, blamed_link, blamed_profile}
+use Rattle.text_printing.specs.declared.fault.Fault.{Fault}
+use Rattle.text_printing.specs.declared.fault.Fault.TheVariants.{Input as InputFault, Memory as NoMemory, Read, Long as TooLong, Write}
+use Rattle.text_printing.specs.declared.fault.Stop.{Stop}
+use Rattle.text_printing.specs.declared.fault.Stop.TheVariants.{Input, Memory}
+use Rattle.text_printing.specs.Printing.{Printed}
 use Rattle.terminal_text.specs.declared.fault.TerminalFault.{TerminalFault}
 use Rattle.terminal_text.specs.declared.fault.TerminalFault.TheVariants.{Text, Step}
 use Rattle.terminal_text.specs.declared.open_end.End.{End as EndState}

@@ -1,9 +1,9 @@
 -- WHAT IS TOLD OF A LINE, and that it is so.
 use Rattle.std.specs.Prelude.{◌≡◌, ℕ, true, false, List, length, Option, Some, None, is_none, is_some}
 use Rattle.l2_units.specs.declared.profile.Profile.TheVariants.{Wide}
-use Rattle.line_mistakes.specs.Blaming.{blamed_opening}
-use Rattle.play_script.specs.Script.{first_line}
-use Rattle.play_script.specs.declared.script.Values.{Values}
+use Rattle.script_mistakes.specs.Blaming.{blamed_opening}
+use Rattle.script_grammar.specs.Script.{first_line}
+use Rattle.script_grammar.specs.declared.script.Values.{Values}
 use Rattle.terminal_script.specs.declared.asked.Asked.{Asked}
 use Rattle.terminal_script.specs.Lines.{asked_of}
 use Rattle.terminal_explain.specs.Explaining.{said}

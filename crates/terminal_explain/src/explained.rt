@@ -2,17 +2,17 @@
 ghost use Rattle.std.specs.Prelude.{◌≡◌, IfOk, string_bytes};
 ghost use Rattle.std.specs.Option.{option_map};
 ghost use Rattle.terminal_explain.specs.Explaining.{said, unread, IsExplanation};
-ghost use Rattle.line_mistakes.specs.Showing.{explanation};
+ghost use Rattle.script_mistakes.specs.Showing.{explanation};
 
 use super::fault::ExplainedTerminalFault;
-use line_mistakes::{
+use script_mistakes::{
     Blame, blame_link, blame_opening, blame_profile, blame_terminal_line, explain,
 };
-use printing::Stop;
 use std::alloc::{AllocError, Global};
 use std::marker::Model;
 use terminal_text::{Terminal, TerminalFault};
 use text_lines::{LineFlaw, TalkText};
+use text_printing::Stop;
 
 /// An end under way, whose faults are explained.
 #[derive(Drop)]

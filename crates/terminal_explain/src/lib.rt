@@ -7,7 +7,7 @@
 //! ```
 //!
 //! [`terminal_explained`] drives an end by the lines of a source, as `terminal_text::terminal` does: the same octets and the
-//! same fault. The fault brings the explanation along: which line it is, what is wanted there (`line_mistakes`), the line
+//! same fault. The fault brings the explanation along: which line it is, what is wanted there (`script_mistakes`), the line
 //! itself, and a caret under the word at fault. `specs/Explaining.antt` says what it is: a function of the line, and of
 //! whether it's the first, the one behind it, or a later one. Each line that is refused has one, and what it says of a set
 //! or a link is so (`specs/Reasons.antt`).

@@ -3,8 +3,8 @@ use Rattle.std.specs.Prelude.{ℕ, Bool, ◌==◌, ◌%◌, ◌||◌, List, [], 
 use Rattle.std.specs.List.{list_all}
 use Rattle.std.specs.Option.{option_map, option_and_then}
 use Rattle.std.specs.Str.{bytes_eq}
-use Rattle.figures.specs.Figures.{number_of}
-use Rattle.play_script.specs.Script.{first_word, other_words, link_of, some_octets}
+use Rattle.text_base.specs.Figures.{number_of}
+use Rattle.script_grammar.specs.Script.{first_word, other_words, link_of, some_octets}
 use Rattle.set_events.specs.declared.event.Event.{Event}
 use Rattle.term_model.specs.declared.command.Command.{Command}
 use Rattle.terminal_script.specs.declared.asked.Asked.{Asked}

@@ -2,8 +2,8 @@
 use Rattle.std.specs.Prelude.{ℕ, ◌==◌, ◌^◌, ◌||◌, List, Option, Some, None, if◌then◌else◌, codes}
 use Rattle.std.specs.Option.{option_and_then}
 use Rattle.std.specs.Str.{bytes_eq}
-use Rattle.figures.specs.Figures.{number_below}
-use Rattle.play_script.specs.Script.{first_word, other_words, value_in}
+use Rattle.text_base.specs.Figures.{number_below}
+use Rattle.script_grammar.specs.Script.{first_word, other_words, value_in}
 use Rattle.term_model.specs.declared.timers.Timers.{Timers}
 
 -- the six lengths

@@ -2,8 +2,8 @@
 use Rattle.std.specs.Prelude.{ℕ, ◌+◌, ◌*◌, ◌==◌, ◌&&◌, ◌^◌, min, nat_le, List, [], ◌∷◌, length, Option, Some, None, if◌then◌else◌, codes}
 use Rattle.std.specs.Option.{option_map, option_and_then}
 use Rattle.std.specs.Str.{bytes_eq}
-use Rattle.figures.specs.Figures.{number_of, number_below}
-use Rattle.play_script.specs.Script.{first_word, other_words, value_in, some_octets}
+use Rattle.text_base.specs.Figures.{number_of, number_below}
+use Rattle.script_grammar.specs.Script.{first_word, other_words, value_in, some_octets}
 use Rattle.terminal_script.specs.declared.asked.Repeated.{Repeated}
 
 -- how often: 1 to 2^20

@@ -1,7 +1,7 @@
 //! The lines of `terminal`: what each of them asks for.
 //!
 //! A line is words with one space between two. The first line is that of a script, of which end a is this end
-//! ([`play_script::read_opening`]); [`read_timers`] reads one that may follow it, and [`read_asked`] any other as what it asks
+//! ([`script_grammar::read_opening`]); [`read_timers`] reads one that may follow it, and [`read_asked`] any other as what it asks
 //! for, an [`Asked`]. A line that is none of these is answered by `None`, with no word about why; `read_asked` fails only
 //! where memory is wanted.
 //!

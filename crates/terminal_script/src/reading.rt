@@ -7,11 +7,11 @@ ghost use Rattle.terminal_script.specs.Units.{times_in, times_of};
 
 use super::asked::{Asked, Repeated};
 use super::units::read_unit;
-use figures::{is_word, read_number};
-use play_script::{cut, read_link, read_some_octets, value_in_word};
+use script_grammar::{cut, read_link, read_some_octets, value_in_word};
 use set_events::{Body, Event};
 use std::alloc::{AllocError, Global};
 use term_model::Command;
+use text_base::{is_word, read_number};
 
 /// What a line asks for that isn't the first, nor tells timers; `None`: it's unreadable. A link's number over 255 is read as
 /// 255, since no set has either link.

@@ -3,9 +3,9 @@ ghost use Rattle.std.specs.Prelude.{◌≡◌};
 ghost use Rattle.std.specs.Option.{option_map};
 ghost use Rattle.terminal_script.specs.Timers.{length_in, lengths_of, lengths_behind, timers_of};
 
-use figures::{is_word, read_number};
-use play_script::{cut, value_in_word};
+use script_grammar::{cut, value_in_word};
 use term_model::Timers;
+use text_base::{is_word, read_number};
 
 /// The lengths where no line tells them, in octet times: at 64 kbit/s 45 s, 50 s, 1.5 s, 0.1 s, 4 s and 1 s (Q.703 12.3).
 pub const USUAL_TIMERS: Timers = Timers {

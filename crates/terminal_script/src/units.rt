@@ -1,18 +1,18 @@
 //! A unit on a line, from the words that tell it.
 ghost use Rattle.std.specs.Prelude.{◌≡◌, ◌<◌, ◌∷◌, IfOk, IfSome, MatchOption, Some, None, codes, length, min};
 ghost use Rattle.std.specs.Option.{option_and_then, option_map, option_copied};
-ghost use Rattle.figures.specs.Figures.{number_below};
-ghost use Rattle.play_script.specs.Script.{some_octets, value_in};
+ghost use Rattle.text_base.specs.Figures.{number_below};
+ghost use Rattle.script_grammar.specs.Script.{some_octets, value_in};
 ghost use Rattle.terminal_script.specs.Heads.{head_words_of};
 ghost use Rattle.terminal_script.specs.Units.{fisu_in, head_in, head_of_words, long_enough, lssu_in, msu_in, octets_in, sequence_in, short_enough, unit_in, with_rest};
 
 use super::asked::Repeated;
 use super::reading::read_times;
-use figures::{is_word, read_number};
 use l2_units::{LONGEST_BODY, LONGEST_UNIT, SHORTEST_BODY};
-use play_script::{cut, read_some_octets, value_in_word};
+use script_grammar::{cut, read_some_octets, value_in_word};
 use set_events::Body;
 use std::alloc::{AllocError, Global};
+use text_base::{is_word, read_number};
 
 /// The first two octets of a unit, and the words behind those that tell them.
 #[derive(Clone, Copy)]

@@ -1,10 +1,10 @@
 //! An end that is driven on devices which fail when they're told to.
 ghost use Rattle.std.specs.Prelude.{◌<◌};
 
-use printing::Fault;
 use std::alloc::Global;
 use terminal_text::{TerminalFault, terminal};
 use test_devices::{Page, Text};
+use text_printing::Fault;
 
 /// How a run ended, and what it wrote.
 #[derive(Drop)]

@@ -4,9 +4,9 @@
 
 use super::devices::run_of;
 use super::holds;
-use printing::Fault;
 use std::alloc::{AllocError, Global};
 use std::test::Fail;
+use text_printing::Fault;
 
 /// Many calls, more than any text here takes.
 const MANY: u32 = 1_000_000;

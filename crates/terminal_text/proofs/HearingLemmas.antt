@@ -12,10 +12,10 @@ use Rattle.l2_bits.specs.Stuffing.{AppendsText, text_after}
 use Rattle.link_term.specs.Filling.{Taps}
 use Rattle.link_term.specs.declared.tap.LastUnit.{LastUnit}
 use Rattle.std.specs.Option.{option_to_list}
-use Rattle.bench_core.specs.Ends.{BenchState}
-use Rattle.bench_core.specs.Waiting.{Hears as HearsTurn, HearsBit, HearsPiece, HearsPieces, TurnAndUnit, Waits}
-use Rattle.bench_core.specs.declared.turn.Turn.{Turn}
-use Rattle.figures.specs.Figures.{hex_text}
+use Rattle.term_bench.specs.Ends.{BenchState}
+use Rattle.term_bench.specs.Waiting.{Hears as HearsTurn, HearsBit, HearsPiece, HearsPieces, TurnAndUnit, Waits}
+use Rattle.term_bench.specs.declared.turn.Turn.{Turn}
+use Rattle.text_base.specs.Figures.{hex_text}
 use Rattle.l2_bits.specs.LineBits.{bits_of, line_bits}
 use Rattle.l2_units.specs.declared.unit.Unit.{Unit as SignalUnit}
 use Rattle.terminal_text.proofs.RowLemmas.{left_at_end, shows_more, shows_nothing}

@@ -1,17 +1,17 @@
 -- The line that opens an end.
 use Rattle.std.proofs.Common.{refl, sym, ap, subst, arith, ◌≡◌, ◌∙◌, ◌<◌, ◌≤◌, nat_lt, ℕ, Bool, true, false, List, [], append-nil, Option, Some, Result, Ok, Err, MatchResult}
 use Rattle.std.proofs.lemmas.Bool.Decides.{nat_tests}
-use Rattle.printing.specs.declared.fault.Stop.{Stop}
-use Rattle.printing.specs.declared.fault.Stop.TheVariants.{Memory}
+use Rattle.text_printing.specs.declared.fault.Stop.{Stop}
+use Rattle.text_printing.specs.declared.fault.Stop.TheVariants.{Memory}
 use Rattle.set_events.specs.declared.event.Event.{Event}
 use Rattle.set_model.specs.History.{IsActor}
-use Rattle.bench_core.specs.Ends.{BenchState, new_bench}
+use Rattle.term_bench.specs.Ends.{BenchState, new_bench}
 use Rattle.l2_units.specs.declared.profile.Profile.{Profile}
 use Rattle.l2_units.specs.declared.profile.Profile.TheVariants.{Narrow}
-use Rattle.play_script.specs.Opened.{IsEnd, IsOpening}
-use Rattle.play_script.specs.Script.{first_line}
-use Rattle.play_script.specs.declared.script.Opening.{Opening}
-use Rattle.play_script.specs.declared.script.Values.{Values}
+use Rattle.script_grammar.specs.Opened.{IsEnd, IsOpening}
+use Rattle.script_grammar.specs.Script.{first_line}
+use Rattle.script_grammar.specs.declared.script.Opening.{Opening}
+use Rattle.script_grammar.specs.declared.script.Values.{Values}
 use Rattle.set_events.specs.declared.config.SetConfig.{SetConfig}
 use Rattle.set_events.specs.declared.config.Method.{Method}
 use Rattle.set_model.specs.State.{Settings, settings_of as settings_in}

@@ -2,10 +2,10 @@
 use Rattle.std.proofs.Common.{refl, sym, ap, subst, arith, ◌≡◌, ◌∙◌, ℕ, zero, suc, ◌+◌, ◌==◌, ◌&&◌, Bool, true, false, List, [], ◌∷◌, ◌++◌, append_assoc, append-nil, Option, None, Some, if◌then◌else◌}
 use Rattle.std.proofs.lemmas.Bool.Decides.{nat_tests}
 use Rattle.std.specs.Str.{bytes_eq}
-use Rattle.bench_core.specs.Waiting.{TurnAndUnit}
-use Rattle.bench_core.specs.declared.turn.Turn.{Turn}
+use Rattle.term_bench.specs.Waiting.{TurnAndUnit}
+use Rattle.term_bench.specs.declared.turn.Turn.{Turn}
 use Rattle.l2_units.specs.declared.unit.Unit.{Unit as SignalUnit}
-use Rattle.units_text.specs.UnitsText.{unit_words}
+use Rattle.text_units.specs.UnitsText.{unit_words}
 use Rattle.terminal_text.specs.Rows.{AddsUnit, EndsRow, Shows, ShowsLines, ShowsTurn, left_behind, left_of, row_text}
 use Rattle.terminal_text.specs.Showing.{is_silent, leading, leading_at, over, row_line, shown_behind, stays, turn_lines, unit_line, words_or}
 use Rattle.terminal_text.specs.declared.rows.Row.{Row}

@@ -1,12 +1,12 @@
 -- WHAT A LINE OF `terminal` PRINTS, and what it leaves of a bench.
 use Rattle.std.specs.Prelude.{◌≡◌, ◌<◌, ℕ, Bool, true, false, ◌==◌, ◌&&◌, nat_lt, List, [], ◌∷◌, ◌++◌, length, map, Option, Some, None, slice_get, codes, decimal, if◌then◌else◌}
-use Rattle.answer_texts.specs.Texts.{answer_text}
-use Rattle.bench_core.specs.Ends.{AtLink, BenchState, Commands, IsAt, is_start, new_links, phase_of, word_of}
-use Rattle.bench_core.specs.Waiting.{HearsPieces, TurnAndUnit}
-use Rattle.bench_core.specs.declared.counts.TurnCounts.{TurnCounts}
-use Rattle.bench_core.specs.declared.word.LinkWord.{LinkWord}
-use Rattle.bench_core.specs.declared.word.Phase.{Phase}
-use Rattle.figures.specs.Figures.{hex_text}
+use Rattle.script_answers.specs.Texts.{answer_text}
+use Rattle.term_bench.specs.Ends.{AtLink, BenchState, Commands, IsAt, is_start, new_links, phase_of, word_of}
+use Rattle.term_bench.specs.Waiting.{HearsPieces, TurnAndUnit}
+use Rattle.term_bench.specs.declared.counts.TurnCounts.{TurnCounts}
+use Rattle.term_bench.specs.declared.word.LinkWord.{LinkWord}
+use Rattle.term_bench.specs.declared.word.Phase.{Phase}
+use Rattle.text_base.specs.Figures.{hex_text}
 use Rattle.history_items.specs.Items.{piece}
 use Rattle.history_text.specs.Entries.{entries_text}
 use Rattle.history_text.specs.Pieces.{items_text}
@@ -14,8 +14,8 @@ use Rattle.l2_bits.specs.Flags.{flag}
 use Rattle.l2_bits.specs.LineBits.{bits_of, line_bits}
 use Rattle.l2_bits.specs.SealedText.{sealed_text}
 use Rattle.l2_bits.specs.Stuffing.{text_after}
-use Rattle.l2_signals.specs.Numbers.{cause_number}
-use Rattle.l2_signals.specs.declared.cause.Cause.{Cause}
+use Rattle.l2_units.specs.Numbers.{cause_number}
+use Rattle.l2_units.specs.declared.cause.Cause.{Cause}
 use Rattle.l2_units.specs.declared.profile.Profile.TheVariants.{Narrow}
 use Rattle.set_events.specs.declared.answer.Answer.{Answer}
 use Rattle.set_events.specs.declared.event.Actor.{Actor}

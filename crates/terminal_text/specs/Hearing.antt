@@ -1,7 +1,7 @@
 -- A LINE UNDER WAY: what came on it so far, and what its turns showed.
 use Rattle.std.specs.Prelude.{◌≡◌, ℕ, ◌+◌, Bool, List, ◌++◌, length, map}
-use Rattle.bench_core.specs.Ends.{BenchState}
-use Rattle.bench_core.specs.Waiting.{HearsPieces, TurnAndUnit}
+use Rattle.term_bench.specs.Ends.{BenchState}
+use Rattle.term_bench.specs.Waiting.{HearsPieces, TurnAndUnit}
 use Rattle.terminal_text.specs.Rows.{Shows}
 use Rattle.terminal_text.specs.Showing.{without_unit}
 use Rattle.terminal_text.specs.declared.hearing.Hearing.{Hearing}

@@ -1,6 +1,6 @@
 -- A LOOK at a link.
 use Rattle.std.specs.Prelude.{◌≡◌, ℕ, Some, slice_get}
-use Rattle.bench_core.specs.Ends.{AtLink, BenchState, phase_of, word_of}
+use Rattle.term_bench.specs.Ends.{AtLink, BenchState, phase_of, word_of}
 use Rattle.terminal_text.specs.declared.words.Look.{Look}
 
 pub record IsLook (at : AtLink) (look : Look) : Type 0 where

@@ -1,18 +1,18 @@
--- LAW: a line of `terminal` has one outcome, since what comes on a line decides what the turns do (bench_core).
+-- LAW: a line of `terminal` has one outcome, since what comes on a line decides what the turns do (term_bench).
 use Rattle.std.specs.Prelude.{◌≡◌, ◌<◌, ℕ, Bool, true, false, List, [], ◌∷◌, ◌++◌, length, map, Option, Some, None, codes, decimal, slice_set}
 use Rattle.std.proofs.Common.{ap, refl, sym, subst, ◌∙◌}
 use Rattle.std.proofs.Props.{props}
-use Rattle.answer_texts.specs.Texts.{answer_text}
-use Rattle.bench_core.proofs.OneLemmas.{one_hearing, one_there, same_bench, same_set}
-use Rattle.bench_core.specs.Ends.{AtLink, BenchState, phase_of, told_at}
-use Rattle.bench_core.specs.Waiting.{HearsPieces, TurnAndUnit}
-use Rattle.figures.specs.Figures.{hex_text}
+use Rattle.script_answers.specs.Texts.{answer_text}
+use Rattle.term_bench.proofs.OneLemmas.{one_hearing, one_there, same_bench, same_set}
+use Rattle.term_bench.specs.Ends.{AtLink, BenchState, phase_of, told_at}
+use Rattle.term_bench.specs.Waiting.{HearsPieces, TurnAndUnit}
+use Rattle.text_base.specs.Figures.{hex_text}
 use Rattle.l2_bits.specs.Flags.{flag}
 use Rattle.l2_bits.specs.LineBits.{bits_of}
 use Rattle.l2_units.specs.declared.profile.Profile.{Profile}
 use Rattle.l2_units.specs.declared.profile.Profile.TheVariants.{Narrow, Wide}
-use Rattle.play_script.specs.Script.{first_line}
-use Rattle.play_script.specs.declared.script.Values.{Values}
+use Rattle.script_grammar.specs.Script.{first_line}
+use Rattle.script_grammar.specs.declared.script.Values.{Values}
 use Rattle.set_events.specs.declared.answer.Answer.{Answer}
 use Rattle.set_events.specs.declared.event.Event.{Event}
 use Rattle.set_events.specs.declared.history.Entry.{Entry}

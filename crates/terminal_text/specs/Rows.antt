@@ -1,7 +1,7 @@
 -- ROWS UNDER WAY: what is printed of what turns show, while a row of units may go on.
 use Rattle.std.specs.Prelude.{◌≡◌, ℕ, ◌+◌, true, false, List, [], ◌∷◌, ◌++◌, Option, Some, None}
-use Rattle.bench_core.specs.Waiting.{TurnAndUnit}
-use Rattle.bench_core.specs.declared.turn.Turn.{Turn}
+use Rattle.term_bench.specs.Waiting.{TurnAndUnit}
+use Rattle.term_bench.specs.declared.turn.Turn.{Turn}
 use Rattle.l2_units.specs.declared.unit.Unit.{Unit as SignalUnit}
 use Rattle.terminal_text.specs.Showing.{is_silent, leading, leading_at, row_line, shown_behind, turn_lines, unit_line, words_or}
 use Rattle.terminal_text.specs.declared.rows.Row.{Row}

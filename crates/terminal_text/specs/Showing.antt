@@ -2,13 +2,13 @@
 -- changes, and the units that were appended.
 use Rattle.std.specs.Prelude.{ℕ, suc, zero, Bool, true, false, ◌==◌, ◌&&◌, ◌+◌, List, [], ◌∷◌, ◌++◌, Option, Some, None, codes, decimal, if◌then◌else◌}
 use Rattle.std.specs.Str.{bytes_eq}
-use Rattle.bench_core.specs.Waiting.{TurnAndUnit}
-use Rattle.bench_core.specs.declared.turn.Turn.{Turn}
-use Rattle.bench_core.specs.declared.word.LinkWord.{LinkWord}
-use Rattle.l2_signals.specs.Numbers.{cause_number}
-use Rattle.l2_signals.specs.declared.cause.Cause.{Cause}
+use Rattle.term_bench.specs.Waiting.{TurnAndUnit}
+use Rattle.term_bench.specs.declared.turn.Turn.{Turn}
+use Rattle.term_bench.specs.declared.word.LinkWord.{LinkWord}
+use Rattle.l2_units.specs.Numbers.{cause_number}
+use Rattle.l2_units.specs.declared.cause.Cause.{Cause}
 use Rattle.l2_units.specs.declared.unit.Unit.{Unit as SignalUnit}
-use Rattle.units_text.specs.UnitsText.{unit_words}
+use Rattle.text_units.specs.UnitsText.{unit_words}
 
 -- THE WORDS for how a link stands
 abbrev pub word_name : LinkWord → List ℕ

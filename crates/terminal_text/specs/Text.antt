@@ -2,13 +2,13 @@
 -- stands comes behind the last.
 use Rattle.std.specs.Prelude.{◌≡◌, ℕ, Bool, true, false, List, [], length, Option, Some, None}
 use Rattle.std.specs.Option.{option_map}
-use Rattle.answer_texts.specs.Texts.{end_text}
-use Rattle.bench_core.specs.Ends.{BenchState, new_links}
+use Rattle.script_answers.specs.Texts.{end_text}
+use Rattle.term_bench.specs.Ends.{BenchState, new_links}
 use Rattle.l2_units.specs.declared.profile.Profile.{Profile}
 use Rattle.l2_units.specs.declared.profile.Profile.TheVariants.{Narrow, Wide}
-use Rattle.play_script.specs.Script.{first_line}
-use Rattle.play_script.specs.declared.script.Values.{Values}
-use Rattle.printing.specs.Printing.{Printed}
+use Rattle.script_grammar.specs.Script.{first_line}
+use Rattle.script_grammar.specs.declared.script.Values.{Values}
+use Rattle.text_printing.specs.Printing.{Printed}
 use Rattle.set_model.specs.Checkpoint.{counts_in}
 use Rattle.set_model.specs.History.{LinkSet, no_books}
 use Rattle.set_model.specs.State.{Settings, opened_with}
@@ -24,7 +24,7 @@ use Rattle.text_lines.specs.Flaws.{flaw_of}
 use Rattle.text_lines.specs.Lines.{LineOutcome, prints, stops}
 use Rattle.text_lines.specs.Talks.{IsTalkText, TalkRules}
 use Rattle.text_lines.specs.declared.flaw.LineFlaw.TheVariants.{Long}
-use Rattle.world_steps.specs.declared.step.End.TheVariants.{A}
+use Rattle.pair_steps.specs.declared.step.End.TheVariants.{A}
 
 -- An end is there once the first line has opened its set. While it is new, the timers' lengths may be told.
 abbrev pub TerminalOutcome : Type 0

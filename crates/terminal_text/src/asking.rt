@@ -8,12 +8,12 @@ ghost use Rattle.terminal_text.specs.Answers.{Asks, CommandsBy, Does, Looks, ask
 use super::fault::Want;
 use super::hearing::{hear_digits, hear_flags, hear_octets, hear_unit};
 use super::words::{Look, write_look};
-use bench_core::Bench;
 use history_text::{write_answer, write_entries, write_piece};
 use l2_units::Profile;
 use link_term::Command;
 use set_events::{Actor, Event};
 use std::alloc::Global;
+use term_bench::Bench;
 use terminal_script::Asked;
 
 /// The link that is asked for, if one is.

@@ -1,6 +1,6 @@
 //! What comes on a link's line.
 ghost use Rattle.std.specs.Prelude.{◌≡◌, ◌<◌, ◌≤◌, ◌+◌, ◌∷◌, [], ◌++◌, IfOk, OnOk, codes, decimal, length};
-ghost use Rattle.figures.specs.Figures.{hex_text};
+ghost use Rattle.text_base.specs.Figures.{hex_text};
 ghost use Rattle.l2_bits.specs.Flags.{flag};
 ghost use Rattle.l2_bits.specs.LineBits.{bits_of};
 ghost use Rattle.terminal_text.specs.Answers.{Exchanges, HearsLine, bits_in, one_by_one, unit_bits};
@@ -10,13 +10,13 @@ ghost use Rattle.terminal_text.specs.Showing.{over};
 use super::fault::Want;
 use super::rows::Rows;
 use arrayvec::ArrayVec;
-use bench_core::Bench;
-use figures::{push_hex, push_number};
 use l2_bits::{flag_into, seal, stuff_into};
 use l2_units::LONGEST_UNIT;
 use link_term::{LastUnit, NoTap};
 use std::alloc::{AllocError, Global};
+use term_bench::Bench;
 use terminal_script::Repeated;
+use text_base::{push_hex, push_number};
 
 /// Bits that come on a line: the tap that tells the units of the turns, what is shown of them, and how many they are.
 #[derive(Drop)]

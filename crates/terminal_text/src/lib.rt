@@ -1,7 +1,7 @@
 //! The text of `terminal`: one end of a set of links whose lines are elsewhere.
 //!
 //! ```text
-//! line of the input (terminal_script) -> bench: turns by octets and bits, calls of user 0 and of terminals (bench_core)
+//! line of the input (terminal_script) -> bench: turns by octets and bits, calls of user 0 and of terminals (term_bench)
 //!                                     -> event lines, and one answer
 //! ```
 //!

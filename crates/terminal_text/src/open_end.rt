@@ -1,7 +1,7 @@
 //! A terminal's end under way, and what a line of the input does.
 ghost use Rattle.std.specs.Prelude.{◌≡◌, MatchResult, Some, [], length, false};
-ghost use Rattle.play_script.specs.Script.{first_line};
-ghost use Rattle.printing.specs.declared.fault.Stop.TheVariants.{Input, Memory};
+ghost use Rattle.script_grammar.specs.Script.{first_line};
+ghost use Rattle.text_printing.specs.declared.fault.Stop.TheVariants.{Input, Memory};
 ghost use Rattle.terminal_script.specs.Timers.{timers_of};
 ghost use Rattle.terminal_script.specs.Lines.{asked_of};
 ghost use Rattle.terminal_text.specs.Answers.{is_below, link_in};
@@ -13,17 +13,17 @@ ghost use Rattle.text_lines.specs.Talking.{IsCarriedOut, MayTell};
 
 use super::asking::{carry_out, link_of};
 use super::fault::{TerminalFault, Want};
-use answer_texts::write_end;
-use bench_core::Bench;
 use l2_units::Profile;
-use play_script::read_opening;
-use printing::Stop;
+use pair_steps::End as Side;
+use script_answers::write_end;
+use script_grammar::read_opening;
 use std::alloc::Global;
 use std::marker::Model;
+use term_bench::Bench;
 use term_model::Timers;
 use terminal_script::{Asked, USUAL_TIMERS, read_asked, read_timers};
 use text_lines::{LineFlaw, TalkText, find_flaw};
-use world_steps::End as Side;
+use text_printing::Stop;
 
 /// An end whose set is open.
 #[derive(Drop)]

@@ -5,11 +5,11 @@ ghost use Rattle.terminal_text.specs.Rows.{AddsUnit, EndsRow, Shows, ShowsTurn, 
 
 use super::fault::Want;
 use super::words::{is_silent, push_row, push_turn};
-use bench_core::Turn;
-use figures::is_word;
 use l2_units::Unit;
 use std::alloc::Global;
-use units_text::push_unit_words;
+use term_bench::Turn;
+use text_base::is_word;
+use text_units::push_unit_words;
 
 /// A row of units that read so, which may go on.
 #[derive(Drop)]

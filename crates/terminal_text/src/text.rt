@@ -1,13 +1,13 @@
 //! `mtpbank terminal`: the text of an input.
 ghost use Rattle.std.specs.Prelude.{◌≤◌, ◌^◌, length, IfSome, OnOk};
-ghost use Rattle.printing.specs.Printing.{Prints, FailsByDevices};
+ghost use Rattle.text_printing.specs.Printing.{Prints, FailsByDevices};
 ghost use Rattle.terminal_text.specs.Text.{IsTerminalText};
 
 use super::fault::TerminalFault;
 use super::open_end::Terminal;
-use printing::{Fault, Sink, Source};
 use std::alloc::Global;
 use text_lines::print_talk;
+use text_printing::{Fault, Sink, Source};
 
 /// The most octets of an input, 2^60.
 const LONGEST: usize = 1 << 60;

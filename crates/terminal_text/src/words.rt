@@ -1,14 +1,14 @@
 //! The words of `terminal`.
 ghost use Rattle.std.specs.Prelude.{◌≡◌, ◌++◌, IfOk, OnOk, codes, decimal};
-ghost use Rattle.bench_core.specs.Ends.{AtLink};
+ghost use Rattle.term_bench.specs.Ends.{AtLink};
 ghost use Rattle.terminal_text.specs.Answers.{cause_or_0, counts_words, look_text, phase_name, standing_words};
 ghost use Rattle.terminal_text.specs.Looking.{IsLook};
 ghost use Rattle.terminal_text.specs.Showing.{cause_words, is_silent, link_line, link_words, message_line, over, row_line, stays, times_words, turn_lines, word_name};
 
-use bench_core::{LinkWord, Phase, Turn, TurnCounts};
-use figures::{is_word, push_number};
-use l2_signals::Cause;
+use l2_units::Cause;
 use std::alloc::{AllocError, Global};
+use term_bench::{LinkWord, Phase, Turn, TurnCounts};
+use text_base::{is_word, push_number};
 
 /// The word for how a link stands.
 pub(crate) fn name_of(word: LinkWord) -> &'static str

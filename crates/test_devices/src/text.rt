@@ -1,7 +1,7 @@
 //! A text that is read in pieces.
 ghost use Rattle.std.specs.Prelude.{◌<◌, Some};
 
-use printing::{DeviceFault, Source};
+use text_printing::{DeviceFault, Source};
 
 /// A text that is read in pieces.
 #[derive(Drop)]

@@ -2,9 +2,9 @@
 
 use super::line_text::LineText;
 use super::talk_text::TalkText;
-use printing::Stop;
 use std::alloc::Global;
 use std::marker::Model;
+use text_printing::Stop;
 
 /// The lines of a text that has a function.
 #[derive(Drop)]

@@ -6,9 +6,9 @@ ghost use Rattle.text_lines.specs.Talks.{MayRead};
 
 use super::lines::{end_of_line, is_passed_over};
 use super::talk_text::TalkText;
-use printing::{Printer, Stop};
 use std::alloc::Global;
 use std::marker::Model;
+use text_printing::{Printer, Stop};
 
 /// The most octets of a line, without its LF.
 const LONGEST_LINE: usize = 4096;

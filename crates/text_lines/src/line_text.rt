@@ -3,8 +3,8 @@ ghost use Rattle.std.specs.Prelude.{◌≡◌, ◌≤◌, length};
 ghost use Rattle.text_lines.specs.Lines.{Rules};
 ghost use Rattle.text_lines.specs.Reading.{IsDone, Adds};
 
-use printing::Stop;
 use std::alloc::Global;
+use text_printing::Stop;
 
 /// The lines of a text; its value is what the lines before one leave for it.
 pub trait LineText {

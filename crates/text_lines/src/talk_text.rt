@@ -4,8 +4,8 @@ ghost use Rattle.text_lines.specs.Reading.{Adds};
 ghost use Rattle.text_lines.specs.Talking.{IsCarriedOut};
 ghost use Rattle.text_lines.specs.Talks.{HaveOneOutcome, TalkRules};
 
-use printing::Stop;
 use std::alloc::Global;
+use text_printing::Stop;
 
 /// The lines of a text whose outcomes a relation tells; its value is what the lines before one leave for it.
 pub trait TalkText {

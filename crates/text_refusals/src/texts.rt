@@ -1,20 +1,20 @@
 //! The texts that read an input, each with a short one.
 use super::kept::Kept;
 use super::{Came, holds, is_right};
-use audit_text::audit;
-use decode_text::decode;
+use history_audit::audit;
 use l2_units::Profile;
-use play_text::{play, play_explained};
-use printing::Fault;
 use script_capture::capture;
 use script_history::{End, history};
 use script_ladder::ladder;
+use script_play::{play, play_explained};
 use std::alloc::Global;
 use std::test::Fail;
 use terminal_explain::terminal_explained;
 use terminal_text::terminal;
 use test_devices::Text;
-use units_text::units;
+use text_decode::decode;
+use text_printing::Fault;
+use text_units::units;
 
 const SCRIPT: &[u8] = b"set links=1 method=basic a=2 b=1 sio=80
 together 0

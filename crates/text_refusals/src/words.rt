@@ -1,6 +1,6 @@
 //! The words of the command line.
 use super::{Came, holds, is_right};
-use command_line::{Words, WordsFault, words_of};
+use mtpbank_words::{Words, WordsFault, words_of};
 use std::alloc::Global;
 use std::test::Fail;
 

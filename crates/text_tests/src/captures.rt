@@ -1,14 +1,14 @@
 //! Captures of runs, read back.
 
 use super::holds;
-use paced_banks::{Traffic, gates_of};
-use printing::Writer;
-use run_text::write_run;
+use bank_traffic::{Traffic, gates_of};
 use std::alloc::Global;
 use std::sync::Wait;
 use std::test::Fail;
 use std::thread::Threads;
 use std::time::Clock;
+use text_printing::Writer;
+use text_run::write_run;
 
 /// The capture of a run of two sets of two links, over lines with noise.
 fn captured<R: Threads + Wait + Clock + Copy + Send + Sync + 'static>(

@@ -1,9 +1,7 @@
 //! A writer that fails, at each call, where a run of two banks prints what it came to.
 
 use super::holds;
-use command_line::{RunWords, Words, words_of};
-use printing::Fault;
-use run_text::{Missing, RunFault, run};
+use mtpbank_words::{RunWords, Words, words_of};
 use std::alloc::Global;
 use std::io::Eprint;
 use std::sync::Wait;
@@ -11,6 +9,8 @@ use std::test::Fail;
 use std::thread::Threads;
 use std::time::Clock;
 use test_devices::Page;
+use text_printing::Fault;
+use text_run::{Missing, RunFault, run};
 
 /// The smallest run there is.
 fn words(alloc: Global) -> Option<RunWords> {

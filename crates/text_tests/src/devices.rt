@@ -1,11 +1,11 @@
 //! The texts of faults, and writes of any length.
 use super::holds;
-use play_text::{LineFlaw, ScriptFault};
-use printing::{Fault, Sink, Writer};
+use script_play::{LineFlaw, ScriptFault};
 use std::alloc::{AllocError, Global};
 use std::fmt::Display;
 use std::test::Fail;
-use units_text::UnreadableOctet;
+use text_printing::{Fault, Sink, Writer};
+use text_units::UnreadableOctet;
 
 /// The fault shows this line.
 fn shows<T: Display + Drop>(alloc: Global, fault: Fault<T>, line: &str) -> bool {

@@ -1,14 +1,14 @@
 //! Reports of runs: what doesn't depend on who gets on, and when.
 
 use super::holds;
-use paced_banks::{Traffic, gates_of};
-use printing::Writer;
-use run_text::{Missing, write_run};
+use bank_traffic::{Traffic, gates_of};
 use std::alloc::Global;
 use std::sync::Wait;
 use std::test::Fail;
 use std::thread::Threads;
 use std::time::Clock;
+use text_printing::Writer;
+use text_run::{Missing, write_run};
 
 /// One set of three links, three users of so many messages each, and link 1 that fails.
 fn traffic_of(messages: u16, turns: u32, noise: Option<u32>) -> Traffic {

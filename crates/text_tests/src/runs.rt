@@ -1,14 +1,14 @@
 //! Runs of two banks, as they're told.
 
 use super::holds;
-use paced_banks::{Traffic, gates_of};
-use printing::{Fault, Writer};
-use run_text::{End, RunFault, TermFault, UserFault, run, write_run};
+use bank_traffic::{Traffic, gates_of};
 use std::alloc::Global;
 use std::sync::Wait;
 use std::test::Fail;
 use std::thread::Threads;
 use std::time::Clock;
+use text_printing::{Fault, Writer};
+use text_run::{End, RunFault, TermFault, UserFault, run, write_run};
 
 /// What is printed of one set of two links, whose two users offer 50 messages each, and whose link 0 fails half way.
 fn printed<R: Threads + Wait + Clock + Copy + Send + Sync + 'static>(

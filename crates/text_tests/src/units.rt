@@ -3,10 +3,10 @@ ghost use Rattle.std.specs.Prelude.{◌<◌};
 
 use super::holds;
 use super::texts::seen_of;
-use printing::Fault;
 use std::alloc::Global;
 use std::test::Fail;
-use units_text::UnreadableOctet;
+use text_printing::Fault;
+use text_units::UnreadableOctet;
 
 /// The input prints these lines, by pieces of so many octets, and ends with a fault at this place, or well.
 fn prints_by(

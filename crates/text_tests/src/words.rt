@@ -1,6 +1,6 @@
 //! Words with what they ask for, and help.
 use super::holds;
-use command_line::{RunWords, Words, WordsFault, not_unicode, words_of};
+use mtpbank_words::{RunWords, Words, WordsFault, not_unicode, words_of};
 use std::alloc::{AllocError, Global};
 use std::test::Fail;
 

@@ -1,5 +1,5 @@
 use Rattle.std.proofs.Common.{inl, refl}
-use Rattle.run_text.specs.Asked.{IsTextAsked}
+use Rattle.text_run.specs.Asked.{IsTextAsked}
 use Rattle.mtpbank.proofs.RunLemmas.{ends_well}
 use Rattle.mtpbank.proofs.ran.Goals as goal
 

@@ -1,5 +1,5 @@
 use Rattle.std.specs.Vec.Iter.{into_iter_items}
-use Rattle.set_crew.proofs.Taking.{ran_out}
+use Rattle.bank_crew.proofs.Taking.{ran_out}
 use Rattle.bank_core.proofs.Ending.{none_left_out}
 use Rattle.bank_core.proofs.running.sort_out.Goals as goal
 

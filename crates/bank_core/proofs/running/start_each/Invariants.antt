@@ -1,7 +1,7 @@
 use Rattle.std.proofs.Common.{◌≡◌, ◌≤◌, map, length}
 use Rattle.std.specs.Vec.{vec_len, vec_capacity}
-use Rattle.set_crew.specs.Ends.{task_of}
-use Rattle.set_crew.specs.Jobs.{duty_of}
+use Rattle.bank_crew.specs.Ends.{task_of}
+use Rattle.bank_crew.specs.Jobs.{duty_of}
 use Rattle.bank_core.specs.Promises.{promised}
 use Rattle.bank_core.proofs.running.start_each.Given as goal
 

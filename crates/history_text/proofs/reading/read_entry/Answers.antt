@@ -1,5 +1,5 @@
 use Rattle.std.proofs.Common.{◌∙◌, sym, ap}
-use Rattle.play_script.specs.Script.{if_found}
+use Rattle.script_grammar.specs.Script.{if_found}
 use Rattle.history_text.proofs.ReadingLemmas.{only_entry, read_has_text}
 use Rattle.history_text.proofs.reading.read_entry.Goals as goal
 

@@ -1,6 +1,6 @@
 use Rattle.std.proofs.Common.{refl, arith, ◌≡◌, ◌<◌, ◌≤◌, ◌%◌, length}
-use Rattle.l2_signals.specs.declared.status.Status.{Status}
-use Rattle.l2_signals.specs.Numbers.{status_number}
+use Rattle.l2_units.specs.declared.status.Status.{Status}
+use Rattle.l2_units.specs.Numbers.{status_number}
 use Rattle.l2_units.specs.declared.unit.Unit.{Unit as SignalUnit}
 use Rattle.l2_units.specs.declared.unit.Unit.TheVariants.{Fisu, Lssu, Msu}
 use Rattle.l2_units.specs.Profile.{Profile, Narrow, Wide, longest_body}

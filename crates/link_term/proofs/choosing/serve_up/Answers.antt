@@ -1,5 +1,5 @@
 use Rattle.std.proofs.Common.{refl, ◌≡◌, rules}
-use Rattle.l2_signals.specs.declared.status.Status.TheVariants.{Busy}
+use Rattle.l2_units.specs.declared.status.Status.TheVariants.{Busy}
 use Rattle.term_model.specs.Choosing.{serves, sends, sends_status}
 use Rattle.link_term.proofs.Choices.{as_chosen}
 use Rattle.link_term.proofs.choosing.serve_up.Goals as goal

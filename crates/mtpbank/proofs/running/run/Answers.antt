@@ -1,12 +1,12 @@
-use Rattle.units_text.specs.UnitsText.{IsUnitsText}
-use Rattle.play_text.specs.PlayText.{IsPlayText, IsExplainedPlayText}
-use Rattle.decode_text.specs.Decoding.{IsDecodeText}
+use Rattle.text_units.specs.UnitsText.{IsUnitsText}
+use Rattle.script_play.specs.PlayText.{IsPlayText, IsExplainedPlayText}
+use Rattle.text_decode.specs.Decoding.{IsDecodeText}
 use Rattle.l2_units.specs.declared.profile.Profile.TheVariants.{Narrow, Wide}
 use Rattle.script_capture.specs.Capture.{IsCapture}
 use Rattle.script_ladder.specs.Ladder.{IsLadder}
-use Rattle.audit_text.specs.Auditing.{IsAuditText}
+use Rattle.history_audit.specs.Auditing.{IsAuditText}
 use Rattle.script_history.specs.Histories.{IsHistoryText}
-use Rattle.world_steps.specs.declared.step.End.TheVariants.{A, B}
+use Rattle.pair_steps.specs.declared.step.End.TheVariants.{A, B}
 use Rattle.terminal_explain.specs.Explaining.{IsExplainedTerminalText}
 use Rattle.terminal_text.specs.Text.{IsTerminalText}
 use Rattle.mtpbank.specs.declared.running.TextFault.TheVariants.{Units as UnitsFault, Play as PlayFault, Explained as ExplainedPlayFault, Decode as DecodeFault, Audit as AuditedFault, Terminal as TerminalLineFault, ExplainedTerminal as ExplainedTerminalLineFault}

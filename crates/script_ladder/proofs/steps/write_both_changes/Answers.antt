@@ -1,7 +1,7 @@
 use Rattle.std.proofs.Common.{ap, ap₂, ◌∙◌, ◌++◌, List, ℕ}
 use Rattle.std.proofs.lemmas.Result.{IfOk-weaker}
 use Rattle.set_events.specs.declared.answer.Counts.{Counts}
-use Rattle.world_steps.specs.declared.step.End.TheVariants.{A, B}
+use Rattle.pair_steps.specs.declared.step.End.TheVariants.{A, B}
 use Rattle.script_ladder.specs.Ladder.{changes, further}
 use Rattle.script_ladder.proofs.steps.write_both_changes.Goals as goal
 

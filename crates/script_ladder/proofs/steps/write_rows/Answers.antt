@@ -1,7 +1,7 @@
 use Rattle.std.proofs.Common.{ap, ap₂, ◌∙◌, ◌++◌, List, ℕ, Option}
 use Rattle.std.proofs.lemmas.Result.{IfOk-weaker}
 use Rattle.set_events.specs.declared.answer.Report.{Report}
-use Rattle.world_steps.specs.declared.step.End.{End}
+use Rattle.pair_steps.specs.declared.step.End.{End}
 use Rattle.script_ladder.specs.Ladder.{Past, effect_rows, end_of, past_of}
 use Rattle.script_ladder.proofs.steps.write_rows.Goals as goal
 

@@ -1,8 +1,8 @@
 use Rattle.std.proofs.Common.{arith, refl, ◌≡◌, sym, subst}
 use Rattle.set_model.specs.Checkpoint.{checkpointed}
-use Rattle.set_moves.specs.declared.parts.Parts.{Parts}
-use Rattle.set_moves.specs.Agreement.{Agrees, Kept}
-use Rattle.set_moves.specs.Parts.{kept_of}
+use Rattle.set_changeover.specs.declared.parts.Parts.{Parts}
+use Rattle.set_changeover.specs.Agreement.{Agrees, Kept}
+use Rattle.set_changeover.specs.Parts.{kept_of}
 use Rattle.set_step.proofs.Forgotten.{fits, kept_agrees, kept_in}
 use Rattle.set_step.proofs.forgetting.kept.Given.{Over}
 use Rattle.set_step.proofs.forgetting.kept.Goals as goal

@@ -3,9 +3,9 @@ use Rattle.set_queues.specs.Buffers.{Lists}
 use Rattle.set_route.specs.Routing.{raised}
 use Rattle.set_model.specs.Rows.{Waiting}
 use Rattle.set_model.specs.Step.{risen_link}
-use Rattle.set_moves.specs.Parts.{Settled, kept_of}
-use Rattle.set_moves.proofs.Links.{agrees_same, is_in}
-use Rattle.set_moves.proofs.States.{becomes, risen_for}
+use Rattle.set_changeover.specs.Parts.{Settled, kept_of}
+use Rattle.set_changeover.proofs.Links.{agrees_same, is_in}
+use Rattle.set_changeover.proofs.States.{becomes, risen_for}
 use Rattle.set_step.proofs.Kept.{is_empty}
 use Rattle.set_step.proofs.step.bring_up.Goals as goal
 

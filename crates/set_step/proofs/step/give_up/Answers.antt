@@ -1,6 +1,6 @@
 use Rattle.std.proofs.Common.{refl, arith}
-use Rattle.set_moves.specs.Parts.{Down}
-use Rattle.set_moves.proofs.Links.{agrees_same, is_in, here_room}
+use Rattle.set_changeover.specs.Parts.{Down}
+use Rattle.set_changeover.proofs.Links.{agrees_same, is_in, here_room}
 use Rattle.set_step.proofs.step.give_up.Goals as goal
 
 pub returns-in_ok-make_room_beside-in-Some-Down-clause-ok : goal.returns-in_ok-make_room_beside-in-Some-Down-clause-ok

@@ -3,9 +3,9 @@ use Rattle.set_model.specs.Changeover.{Coo, leaving_order, left_by, queued}
 use Rattle.set_model.specs.State.{LinkState, Profile, Settings, last_accepted}
 use Rattle.l2_units.specs.Profile.{fsn_count}
 use Rattle.set_model.specs.Step.{Done, falls}
-use Rattle.set_moves.specs.Agreement.{StandsFor}
-use Rattle.set_moves.specs.Parts.{Up, kept_of}
-use Rattle.set_moves.proofs.Links.{agrees_same, is_in, served, found, stands_for, whole_of, has_room_left, beside_left}
+use Rattle.set_changeover.specs.Agreement.{StandsFor}
+use Rattle.set_changeover.specs.Parts.{Up, kept_of}
+use Rattle.set_changeover.proofs.Links.{agrees_same, is_in, served, found, stands_for, whole_of, has_room_left, beside_left}
 use Rattle.set_step.proofs.step.take_down.Goals as goal
 use Rattle.set_step.proofs.step.take_down.Goals.{then-blind, else-blind}
 

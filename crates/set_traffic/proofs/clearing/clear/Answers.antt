@@ -3,9 +3,9 @@ use Rattle.set_model.specs.Rows.{NoAnswer}
 use Rattle.set_model.specs.Changeover.{cleared}
 use Rattle.set_model.specs.State.{State}
 use Rattle.set_model.proofs.Walk.{IsAt}
-use Rattle.set_moves.specs.Agreement.{StandsFor}
-use Rattle.set_moves.specs.Parts.{Up, kept_of}
-use Rattle.set_moves.proofs.States.{becomes, withdrawn_for}
+use Rattle.set_changeover.specs.Agreement.{StandsFor}
+use Rattle.set_changeover.specs.Parts.{Up, kept_of}
+use Rattle.set_changeover.proofs.States.{becomes, withdrawn_for}
 use Rattle.set_traffic.proofs.Overtaken.{clears_first, cleared_all, some_waits, one_less, links_left, cleared_sound}
 use Rattle.set_traffic.proofs.clearing.clear.Goals as goal
 

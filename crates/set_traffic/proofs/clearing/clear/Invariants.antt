@@ -1,8 +1,8 @@
 use Rattle.std.proofs.Common.{◌≡◌, ◌<◌, length}
 use Rattle.set_queues.specs.Buffers.{Waiting, queue_at}
 use Rattle.set_model.specs.State.{State}
-use Rattle.set_moves.specs.Agreement.{StandsFor}
-use Rattle.set_moves.specs.Parts.{kept_of}
+use Rattle.set_changeover.specs.Agreement.{StandsFor}
+use Rattle.set_changeover.specs.Parts.{kept_of}
 use Rattle.set_traffic.proofs.Overtaken.{ClearsOn}
 use Rattle.set_traffic.proofs.clearing.clear.Given as goal
 

@@ -4,7 +4,7 @@ use Rattle.l3_orders.specs.Grammar.{order_of}
 use Rattle.set_queues.specs.Buffers.{Waiting}
 use Rattle.set_model.specs.Changeover.{overtakes}
 use Rattle.set_model.specs.State.{Settings}
-use Rattle.set_moves.specs.Parts.{kept_of}
+use Rattle.set_changeover.specs.Parts.{kept_of}
 use Rattle.set_traffic.proofs.Traffic.{found_at}
 use Rattle.set_traffic.proofs.Overtaken.{none_first, first_is}
 use Rattle.set_traffic.proofs.clearing.is_first_overtaken.Goals as goal

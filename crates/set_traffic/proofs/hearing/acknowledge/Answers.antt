@@ -1,6 +1,6 @@
 use Rattle.std.proofs.Common.{arith, ◌∙◌, ap, ◌+◌, ℕ}
 use Rattle.std.proofs.lemmas.Bool.Decides.{nat_tests}
-use Rattle.set_moves.proofs.States.{acked_for, link_for}
+use Rattle.set_changeover.proofs.States.{acked_for, link_for}
 use Rattle.set_traffic.proofs.hearing.acknowledge.Goals as goal
 
 pub returns-then-acked-eq0-clause-stands : goal.returns-then-acked-eq0-clause-stands

@@ -3,11 +3,11 @@ use Rattle.l2_units.specs.Grammar.{head_of}
 use Rattle.set_model.specs.Control.{Control, control_heard}
 use Rattle.set_model.specs.Step.{is_msu, one_if, after_control}
 use Rattle.set_model.specs.State.{LinkState, State, window_of}
-use Rattle.set_moves.specs.declared.link.Link.{Link}
-use Rattle.set_moves.specs.Agreement.{StandsFor}
-use Rattle.set_moves.specs.Parts.{kept_of, IsCounted}
+use Rattle.set_changeover.specs.declared.link.Link.{Link}
+use Rattle.set_changeover.specs.Agreement.{StandsFor}
+use Rattle.set_changeover.specs.Parts.{kept_of, IsCounted}
 use Rattle.set_traffic.proofs.Traffic.{told}
-use Rattle.set_moves.proofs.Links.{found, link_set, set_view, counted_set, wider}
+use Rattle.set_changeover.proofs.Links.{found, link_set, set_view, counted_set, wider}
 use Rattle.set_traffic.proofs.hearing.control_hears.Given.{Over}
 use Rattle.set_traffic.proofs.hearing.control_hears.Goals as goal
 use Rattle.set_traffic.proofs.hearing.control_hears.Goals.{After-hear-part}

@@ -4,12 +4,12 @@ use Rattle.set_model.specs.Control.{HeardPart, part_of}
 use Rattle.set_model.specs.Sound.{IsSound}
 use Rattle.set_model.specs.State.{LinkState, Profile, Settings, State, window_of}
 use Rattle.set_model.specs.Step.{SignalUnit, Took, is_heard, HeardBack, heard as heard_of, controls, after_control, report_of, is_msu}
-use Rattle.set_moves.specs.Agreement.{Kept, StandsFor, Agrees}
-use Rattle.set_moves.specs.Parts.{Up, kept_of}
-use Rattle.set_moves.proofs.Links.{IsHere, is_in, served}
+use Rattle.set_changeover.specs.Agreement.{Kept, StandsFor, Agrees}
+use Rattle.set_changeover.specs.Parts.{Up, kept_of}
+use Rattle.set_changeover.proofs.Links.{IsHere, is_in, served}
 use Rattle.set_model.proofs.SoundLink.{hears_sound}
 use Rattle.set_traffic.specs.Traffic.{brought_by}
-use Rattle.set_moves.specs.declared.parts.Parts.{Parts}
+use Rattle.set_changeover.specs.declared.parts.Parts.{Parts}
 use Rattle.set_traffic.proofs.Traffic.{numbers_fit, queue_there}
 use Rattle.set_traffic.proofs.hearing.hear.Given.{Over}
 use Rattle.set_traffic.proofs.hearing.hear.Goals as goal

@@ -1,4 +1,4 @@
-use Rattle.set_moves.specs.Parts.{kept_of}
+use Rattle.set_changeover.specs.Parts.{kept_of}
 use Rattle.set_traffic.proofs.Traffic.{delivered, message_taken, order_obeyed}
 use Rattle.set_traffic.proofs.hearing.take_in.Goals as goal
 

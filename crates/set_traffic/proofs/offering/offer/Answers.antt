@@ -4,9 +4,9 @@ use Rattle.set_route.specs.Routing.{place_of}
 use Rattle.set_model.specs.Rows.{stream_of}
 use Rattle.set_model.specs.State.{Profile, Settings, State, fate_at}
 use Rattle.set_model.specs.Step.{Accepted, offer_refusal, refusal_by}
-use Rattle.set_moves.specs.Agreement.{Kept, StandsFor}
-use Rattle.set_moves.specs.Parts.{kept_of}
-use Rattle.set_moves.proofs.Links.{agrees_same}
+use Rattle.set_changeover.specs.Agreement.{Kept, StandsFor}
+use Rattle.set_changeover.specs.Parts.{kept_of}
+use Rattle.set_changeover.proofs.Links.{agrees_same}
 use Rattle.set_traffic.proofs.Counts.{unsent_is}
 use Rattle.set_traffic.proofs.offering.offer.Goals as goal
 

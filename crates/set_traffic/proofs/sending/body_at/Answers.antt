@@ -1,5 +1,5 @@
 use Rattle.std.proofs.Common.{◌∙◌, ap, refl, sym, Some}
-use Rattle.set_moves.specs.Parts.{kept_of}
+use Rattle.set_changeover.specs.Parts.{kept_of}
 use Rattle.set_traffic.proofs.Traffic.{found_at, body_is}
 use Rattle.set_traffic.proofs.sending.body_at.Goals as goal
 

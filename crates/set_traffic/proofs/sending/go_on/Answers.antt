@@ -2,10 +2,10 @@ use Rattle.std.proofs.Common.{refl, arith, ◌≡◌, ◌∙◌, ap, slice_get, 
 use Rattle.set_model.specs.Control.{control_after}
 use Rattle.set_model.specs.Rows.{octets_in, unack}
 use Rattle.set_model.specs.State.{State, LinkState, window_of}
-use Rattle.set_moves.specs.Agreement.{StandsFor}
-use Rattle.set_moves.specs.Parts.{kept_of}
-use Rattle.set_moves.proofs.States.{becomes, link_for}
-use Rattle.set_moves.proofs.Links.{link_set}
+use Rattle.set_changeover.specs.Agreement.{StandsFor}
+use Rattle.set_changeover.specs.Parts.{kept_of}
+use Rattle.set_changeover.proofs.States.{becomes, link_for}
+use Rattle.set_changeover.proofs.Links.{link_set}
 use Rattle.set_traffic.proofs.Traffic.{weight_is, told}
 use Rattle.set_traffic.proofs.sending.go_on.Given.{Over}
 use Rattle.set_traffic.proofs.sending.go_on.Goals as goal

@@ -1,10 +1,10 @@
 use Rattle.std.proofs.Common.{arith, refl, subst, sym}
-use Rattle.set_moves.proofs.States.{becomes, sent_for}
+use Rattle.set_changeover.proofs.States.{becomes, sent_for}
 use Rattle.l2_window.specs.declared.control.Choice.TheVariants.{First}
 use Rattle.set_model.specs.Changeover.{cleared}
-use Rattle.set_moves.specs.Agreement.{Holds}
-use Rattle.set_moves.specs.Parts.{Up, kept_of}
-use Rattle.set_moves.proofs.Links.{is_in}
+use Rattle.set_changeover.specs.Agreement.{Holds}
+use Rattle.set_changeover.specs.Parts.{Up, kept_of}
+use Rattle.set_changeover.proofs.Links.{is_in}
 use Rattle.set_traffic.specs.Traffic.{goes_on}
 use Rattle.set_traffic.proofs.Overtaken.{cleared_order}
 use Rattle.set_traffic.proofs.Traffic.{given, with_body}

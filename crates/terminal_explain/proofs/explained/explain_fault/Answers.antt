@@ -1,6 +1,6 @@
 use Rattle.std.proofs.Common.{◌∙◌, ap, sym, Some}
-use Rattle.line_mistakes.specs.declared.lines.Blame.{Blame}
-use Rattle.line_mistakes.specs.Showing.{explanation}
+use Rattle.script_mistakes.specs.declared.lines.Blame.{Blame}
+use Rattle.script_mistakes.specs.Showing.{explanation}
 use Rattle.terminal_text.specs.declared.fault.TerminalFault.{TerminalFault}
 use Rattle.terminal_explain.specs.Explaining.{said}
 use Rattle.terminal_explain.proofs.explained.explain_fault.Goals as goal

@@ -1,6 +1,6 @@
 use Rattle.std.proofs.Common.{refl, ap, ◌∙◌, ℕ}
 use Rattle.terminal_text.specs.Answers.{look_text}
-use Rattle.bench_core.specs.declared.word.Phase.{Phase}
+use Rattle.term_bench.specs.declared.word.Phase.{Phase}
 use Rattle.terminal_text.proofs.asking.look.Goals as goal
 
 pub returns : goal.returns

@@ -1,6 +1,6 @@
 use Rattle.std.proofs.Common.{refl, ap, sym, ◌∙◌}
-use Rattle.bench_core.proofs.OneLemmas.{one_there}
-use Rattle.bench_core.specs.Ends.{AtLink, word_of}
+use Rattle.term_bench.proofs.OneLemmas.{one_there}
+use Rattle.term_bench.specs.Ends.{AtLink, word_of}
 use Rattle.terminal_text.proofs.asking.look_at.Goals as goal
 
 pub returns : goal.returns

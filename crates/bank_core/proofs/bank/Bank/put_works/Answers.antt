@@ -3,9 +3,9 @@ use Rattle.std.proofs.lemmas.List.{length-append}
 use Rattle.std.specs.Option.{option_to_list}
 use Rattle.std.specs.Vec.{vec_len}
 use Rattle.std.specs.Vec.Iter.{into_iter_items}
-use Rattle.set_crew.specs.Ends.{task_of}
-use Rattle.set_crew.specs.Jobs.{duty_of}
-use Rattle.set_crew.proofs.Taking.{ran_out, taken}
+use Rattle.bank_crew.specs.Ends.{task_of}
+use Rattle.bank_crew.specs.Jobs.{duty_of}
+use Rattle.bank_crew.proofs.Taking.{ran_out, taken}
 use Rattle.bank_core.proofs.Tasks.{first_task, put_one}
 use Rattle.bank_core.proofs.bank.Bank.put_works.Goals as goal
 

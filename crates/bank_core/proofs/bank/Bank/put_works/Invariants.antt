@@ -1,8 +1,8 @@
 use Rattle.std.proofs.Common.{◌≡◌, ◌≤◌, ◌+◌, ◌++◌, map, length}
 use Rattle.std.specs.Vec.{vec_len, vec_capacity}
 use Rattle.std.specs.Vec.Iter.{into_iter_items, into_iter_len}
-use Rattle.set_crew.specs.Ends.{task_of}
-use Rattle.set_crew.specs.Jobs.{duty_of}
+use Rattle.bank_crew.specs.Ends.{task_of}
+use Rattle.bank_crew.specs.Jobs.{duty_of}
 use Rattle.bank_core.specs.Ends.{tasks_from}
 use Rattle.bank_core.proofs.bank.Bank.put_works.Given as goal
 

@@ -1,6 +1,6 @@
 use Rattle.std.proofs.Common.{◌∙◌, ap, subst, sym}
 use Rattle.set_model.specs.History.{LinkSet}
-use Rattle.world_steps.specs.declared.step.End.TheVariants.{A, B}
+use Rattle.pair_steps.specs.declared.step.End.TheVariants.{A, B}
 use Rattle.pair_model.specs.World.{World}
 use Rattle.pair_world.specs.Carried.{FailsAt}
 use Rattle.pair_world.proofs.WorldLemmas.{act_fails}

@@ -2,7 +2,7 @@ use Rattle.std.proofs.Common.{◌≡◌, ◌∙◌, ap, sym, subst, [], refl}
 use Rattle.set_events.specs.declared.answer.Counts.{Counts}
 use Rattle.set_model.specs.Checkpoint.{counts_in}
 use Rattle.set_model.specs.History.{Base}
-use Rattle.set_moves.specs.Agreement.{shown}
+use Rattle.set_changeover.specs.Agreement.{shown}
 use Rattle.set_core.specs.Gaining.{AreBounded}
 use Rattle.set_core.specs.Keeping.{base_of, books_by}
 use Rattle.set_core.proofs.Keeping.{books_begin, bounded}

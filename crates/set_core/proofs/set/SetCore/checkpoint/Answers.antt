@@ -3,7 +3,7 @@ use Rattle.set_model.specs.Checkpoint.{checkpointed, counts_in}
 use Rattle.set_model.specs.History.{Base, LinkSet, after, based, books_in}
 use Rattle.set_model.specs.Rows.{numbers}
 use Rattle.set_model.proofs.Checkpointing.{counts_stay}
-use Rattle.set_moves.specs.Agreement.{Agrees}
+use Rattle.set_changeover.specs.Agreement.{Agrees}
 use Rattle.set_core.specs.Keeping.{with_history}
 use Rattle.set_core.proofs.Keeping.{based_books, based_settings, kept_by, kept_on, shown_based, with_based}
 use Rattle.set_core.proofs.set.SetCore.checkpoint.Given.{Over}

@@ -1,7 +1,7 @@
 use Rattle.std.proofs.Common.{arith, ◌+◌, ◌∙◌, ap}
 use Rattle.set_events.specs.declared.answer.Counts.{Counts}
 use Rattle.set_model.specs.Rows.{total_of}
-use Rattle.set_moves.specs.Parts.{kept_of}
+use Rattle.set_changeover.specs.Parts.{kept_of}
 use Rattle.set_step.proofs.Kept.{all_told, counted_few, counts_told}
 use Rattle.set_step.proofs.contents.Core.counts.Goals as goal
 

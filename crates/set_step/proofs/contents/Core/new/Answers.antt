@@ -2,9 +2,9 @@ use Rattle.std.proofs.Common.{refl, arith, ap, replicate, ◌≡◌, ◌∙◌}
 use Rattle.set_queues.specs.Buffers.{Lists, no_lists}
 use Rattle.l2_units.specs.declared.profile.Profile.{Profile}
 use Rattle.set_model.specs.State.{new_state, none_finished}
-use Rattle.set_moves.specs.declared.parts.Parts.{Parts}
-use Rattle.set_moves.specs.Agreement.{Agrees}
-use Rattle.set_moves.specs.Parts.{kept_of}
+use Rattle.set_changeover.specs.declared.parts.Parts.{Parts}
+use Rattle.set_changeover.specs.Agreement.{Agrees}
+use Rattle.set_changeover.specs.Parts.{kept_of}
 use Rattle.set_step.proofs.Kept.{opened}
 use Rattle.set_step.proofs.contents.Core.new.Given.{Over}
 use Rattle.set_step.proofs.contents.Core.new.Goals as goal

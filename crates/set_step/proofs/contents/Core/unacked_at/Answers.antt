@@ -3,8 +3,8 @@ use Rattle.std.proofs.lemmas.Bool.Decides.{nat_tests}
 use Rattle.set_queues.specs.Buffers.{Unacked, queue_at, last_at, profile_at}
 use Rattle.l2_window.specs.Window.{fsn_count}
 use Rattle.set_model.specs.State.{State, unacked_in}
-use Rattle.set_moves.specs.Agreement.{StandsFor}
-use Rattle.set_moves.specs.Parts.{kept_of}
+use Rattle.set_changeover.specs.Agreement.{StandsFor}
+use Rattle.set_changeover.specs.Parts.{kept_of}
 use Rattle.set_step.proofs.Kept.{unacked_is}
 use Rattle.set_step.proofs.contents.Core.unacked_at.Given.{Over}
 use Rattle.set_step.proofs.contents.Core.unacked_at.Goals as goal

@@ -1,3 +1,0 @@
-mod Courses
-mod Lines
-mod Verdicts

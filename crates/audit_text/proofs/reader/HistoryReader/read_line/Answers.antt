@@ -1,5 +1,0 @@
-use Rattle.audit_text.proofs.Lines.{goes_further}
-use Rattle.audit_text.proofs.reader.HistoryReader.read_line.Goals as goal
-
-pub returns : goal.returns
-returns c = goes_further c.end_line.result _ _ _ _ _ c.in_ok-keep.ensures c.end_line.ensures.read

@@ -1,5 +1,0 @@
-use Rattle.audit_text.proofs.Verdicts.{one_text_each}
-use Rattle.audit_text.proofs.text.one_audit_text.Goals as goal
-
-pub returns : goal.returns
-returns c = one_text_each

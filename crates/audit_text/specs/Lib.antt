@@ -1,2 +1,0 @@
-pub mod Auditing
-pub mod Reading

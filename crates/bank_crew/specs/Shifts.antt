@@ -1,0 +1,155 @@
+-- WHAT A TERMINAL DOES, turn by turn, as the entries that it leaves in the set's history.
+use Rattle.std.specs.Prelude.{◌≡◌, ◌==◌, ◌<◌, ◌≤◌, ◌+◌, ◌-◌, ◌/◌, ◌^◌, ℕ, suc, min, Bool, true, false, List, [], ◌∷◌, Option, None, Some, Result, Ok, Err, MatchResult}
+use Rattle.set_events.specs.declared.books.Books.{Books}
+use Rattle.set_events.specs.declared.event.Actor.{Actor}
+use Rattle.set_events.specs.declared.fault.SetFault.{SetFault}
+use Rattle.set_events.specs.declared.history.Entry.{Entry}
+use Rattle.term_model.specs.declared.command.Command.TheVariants.{Emergency, Start, Stop}
+use Rattle.term_model.specs.declared.report.TermReport.{TermReport}
+use Rattle.term_model.specs.declared.timers.Timers.{Timers}
+use Rattle.term_model.specs.Terminal.{Terminal, opened, told}
+use Rattle.link_term.specs.declared.fault.TermFault.{TermFault}
+use Rattle.link_term.specs.Looking.{Seen}
+use Rattle.link_term.specs.Running.{Runs, RunFails}
+use Rattle.bank_crew.specs.declared.manager.LinkOrder.{LinkOrder}
+use Rattle.bank_crew.specs.declared.plan.Managed.{Managed}
+use Rattle.bank_crew.specs.declared.plan.Plan.{Plan}
+use Rattle.bank_crew.specs.declared.report.ShiftReport.{ShiftReport}
+use Rattle.bank_crew.specs.Carrying.{carried_in}
+use Rattle.bank_crew.specs.Counts.{answered_in, reported}
+use Rattle.bank_crew.specs.Managing.{are_marks, of_turns}
+use Rattle.line_tape.specs.Taping.{IsTape}
+use Rattle.bank_crew.specs.Seats.{AreCalls}
+
+-- how a terminal stands: the octets that it took, its inside, its entries, its set's faults, and what it saw of its line
+pub record Standing : Type 0 where
+  pub taken : List ℕ
+  pub inside : Terminal
+  pub made : List Entry
+  pub faults : List SetFault
+  pub line : Seen
+
+abbrev pub standing : List ℕ → Terminal → List Entry → List SetFault → Seen → Standing
+standing taken inside made faults line =
+    record { taken = taken; inside = inside; made = made; faults = faults; line = line }
+
+-- SO MANY TURNS, or fewer, where a fault broke them off
+abbrev pub Turns : ℕ → Result TermReport TermFault → Standing → Standing → Type 0
+Turns turns told before after = MatchResult told
+    (λ report. Runs turns before.taken after.taken before.inside before.made after.made before.line after.line
+    report after.inside)
+    (λ fault. RunFails fault before.faults after.faults turns before.taken after.taken before.inside before.made
+    after.made before.line after.line after.inside)
+
+-- what two runs counted together; the second one knows why the link failed last
+abbrev pub added : ℕ → ℕ → ℕ
+added m n = min (m + n) (2 ^ 64 - 1)
+
+abbrev pub both : TermReport → TermReport → TermReport
+both first second = record {
+  turns = added first.turns second.turns;
+  sent = added first.sent second.sent;
+  good = added first.good second.good;
+  bad = added first.bad second.bad;
+  sixteen = added first.sixteen second.sixteen;
+  cause = second.cause;
+}
+
+abbrev pub with_first : TermReport → Result TermReport TermFault → Result TermReport TermFault
+with_first first (Ok second) = Ok (both first second)
+with_first first (Err fault) = Err fault
+
+abbrev pub commanded : Standing → Standing
+commanded t = record t { inside = told Stop t.inside }
+
+-- the rest of the turns, after Stop
+abbrev pub AfterHalf : ℕ → Result TermReport TermFault → Result TermReport TermFault → Standing → Standing → Type 0
+AfterHalf turns (Ok first) ended before after =
+    (second : Result TermReport TermFault) × Turns (turns - turns / 2) second (commanded before) after
+    × (ended ≡ with_first first second)
+AfterHalf turns (Err fault) ended before after = (ended ≡ Err fault) × (after ≡ before)
+
+-- half of the turns, Stop, and the rest of them
+abbrev pub Halves : ℕ → Result TermReport TermFault → Standing → Standing → Type 0
+Halves turns ended before after =
+    (first : Result TermReport TermFault) × (between : Standing) × Turns (turns / 2) first before between
+    × AfterHalf turns first ended between after
+
+-- THE TURNS OF A PLAN: all at once, but where this link is the one that is to fail
+abbrev pub is_to_fail : Option ℕ → ℕ → Bool
+is_to_fail None link = false
+is_to_fail (Some number) link = number == link
+
+abbrev pub TurnsBy : Bool → ℕ → Result TermReport TermFault → Standing → Standing → Type 0
+TurnsBy true = Halves
+TurnsBy false = Turns
+
+-- WHAT IS ORDERED of a terminal between two slices of its turns
+abbrev pub told_by : LinkOrder → Terminal → Terminal
+told_by LinkOrder.Run t = t
+told_by LinkOrder.Start t = told Start (told Emergency t)
+told_by LinkOrder.Stop t = told Stop t
+told_by LinkOrder.End t = t
+
+abbrev pub ordered : LinkOrder → Standing → Standing
+ordered order t = record t { inside = told_by order t.inside }
+
+-- A SLICE: so many turns, behind an order
+abbrev pub Slice : LinkOrder → ℕ → Result TermReport TermFault → Standing → Standing → Type 0
+Slice order turns ended before after = Turns turns ended (ordered order before) after
+
+-- slices one after another, each of at least one turn and all together of so many at most; what they counted is added to
+-- what was counted before, up to the first that a fault broke off
+pub data SlicesFrom : ℕ → TermReport → Result TermReport TermFault → Standing → Standing → Type 0 where
+  no_more : (most : ℕ) (counted : TermReport) (at : Standing) → SlicesFrom most counted (Ok counted) at at
+  broken_off : (most turns : ℕ) (order : LinkOrder) (counted : TermReport) (fault : TermFault) (before after : Standing)
+      → turns ≤ most → Slice order turns (Err fault) before after → SlicesFrom most counted (Err fault) before after
+  one_more : (most turns : ℕ) (order : LinkOrder) (counted report : TermReport) (ended : Result TermReport TermFault)
+      (before between after : Standing) → 0 < turns → turns ≤ most → Slice order turns (Ok report) before between
+      → SlicesFrom (most - turns) (both counted report) ended between after → SlicesFrom most counted ended before after
+
+abbrev pub no_turns : TermReport
+no_turns = record { turns = 0; sent = 0; good = 0; bad = 0; sixteen = 0; cause = 0 }
+
+-- SLICES of turns
+abbrev pub Slices : ℕ → Result TermReport TermFault → Standing → Standing → Type 0
+Slices turns = SlicesFrom turns no_turns
+
+-- THE TURNS OF A SHIFT: by slices where links are managed
+abbrev pub TurnsWhere : Option Managed → Bool → ℕ → Result TermReport TermFault → Standing → Standing → Type 0
+TurnsWhere None fails turns = TurnsBy fails turns
+TurnsWhere (Some managed) fails turns = Slices turns
+
+abbrev pub TurnsOf : Plan → ℕ → Result TermReport TermFault → Standing → Standing → Type 0
+TurnsOf plan link = TurnsWhere plan.managed (is_to_fail plan.fail link) plan.turns
+
+-- a terminal that did nothing yet, and is told to come up in an emergency
+abbrev pub fresh : ℕ → Timers → Seen → Standing
+fresh link timers line = standing [] (told Start (told Emergency (opened link timers))) [] [] line
+
+-- A SHIFT: the turns of the plan over some line left these entries, or, where links are managed, those of them that level
+-- 3 didn't ask for; what is reported of both; and the tape of what they put into the line, of which nothing was put before
+pub record DoesShift (plan : Plan) (link : ℕ) (ended : Result ShiftReport TermFault) (made : List Entry) : Type 0 where
+  pub line : Seen
+  pub after : Standing
+  pub counts : Result TermReport TermFault
+  pub turns : TurnsOf plan link counts (fresh link plan.timers line) after
+  pub marks : List ℕ
+  pub marks_are : are_marks link made marks ≡ true
+  pub made_is : of_turns plan.managed marks made ≡ after.made
+  pub none_put : line.put ≡ []
+  pub tape : Option (List ℕ)
+  pub tape_is : IsTape plan.keeps tape after.line.put
+  pub ended_is : ended ≡ reported (answered_in link made) (carried_in plan.managed link made) tape counts
+
+-- THE TERMINALS, from this link on, each took its own turns, and asked the set nothing else
+abbrev pub DidShifts : ℕ → Plan → List (Result ShiftReport TermFault) → Books → List Entry → Type 0
+DidShifts link plan [] books history = Unit {0}
+DidShifts link plan (ended ∷ more) books history =
+    ((calls : List Entry) × AreCalls (Actor.Terminal link) books history calls × DoesShift plan link ended calls)
+    × DidShifts (suc link) plan more books history
+
+-- and those that have no line asked it nothing
+abbrev pub AskNothing : ℕ → ℕ → Books → List Entry → Type 0
+AskNothing lines links books history =
+    (link : ℕ) → lines ≤ link → link < links → AreCalls (Actor.Terminal link) books history []

@@ -1,0 +1,202 @@
+//! A seat with all that was asked at it, of which it may forget some.
+ghost use Rattle.std.specs.Prelude.{◌≡◌, ◌<◌, ◌^◌, [], length};
+ghost use Rattle.set_events.specs.Owners.{IsOwn};
+ghost use Rattle.set_events.specs.declared.event.Actor.TheVariants.{User, Terminal};
+ghost use Rattle.set_events.specs.declared.event.Event.TheVariants.{Offer, Take, Find};
+ghost use Rattle.bank_crew.specs.Jobs.{Calls};
+ghost use Rattle.bank_crew.specs.Seats.{AreAll};
+
+use set_events::{Answer, Event, SetFault};
+use set_shared::{LinkSet, Opening, Seat, SeatShare, TermSeat, UserSeat};
+use std::alloc::Global;
+use std::marker::{Model, PhantomData};
+use std::snapshot::Snapshot;
+use std::sync::Wait;
+use std::sync::ledger::Ledger;
+
+/// With fewer receipts a seat forgets none.
+const FEW: usize = 1_024;
+
+/// A seat before it forgot receipts, and after: for contracts alone, it takes no octets.
+#[derive(Drop)]
+pub(crate) struct Forgetting<S> {
+    pub(crate) before: Snapshot<S>,
+    pub(crate) after: Snapshot<S>,
+}
+
+/// A seat whose receipts that lie before a checkpoint are forgotten now and then: when there are twice as many as it had
+/// after the last time, so that this takes each call the same time. Contracts see the seat, and all that was asked there.
+#[derive(Drop)]
+pub(crate) struct Caller<C: Opening, M: Ledger, O: Ledger, A: Ledger, S: Seat<C, M, O, A> + Drop> {
+    seat: S,
+    forgettings: Vec<Forgetting<S>>,
+    /// With so many receipts it's time for the next.
+    many: usize,
+    set: PhantomData<(C, M, O, A)>,
+}
+
+impl<C: Opening, M: Ledger, O: Ledger, A: Ledger, S: Seat<C, M, O, A> + Drop> Model
+    for Caller<C, M, O, A, S> {
+    ghost use Rattle.bank_crew.specs.Seats.{CallerState};
+
+    ghost Value = { CallerState };
+
+    ghost use Rattle.std.specs.Prelude.{◌≡◌, length};
+    ghost use Rattle.bank_crew.specs.Seats.{caller_state, joined};
+
+    ghost view = { λ c. caller_state (joined S.state c.forgettings.items) (S.state c.seat) };
+
+    ghost invariant = { λ c. length (joined S.state c.forgettings.items) ≡ (S.state c.seat).forgotten.calls };
+}
+
+impl<C: Opening, M: Ledger, O: Ledger, A: Ledger, S: Seat<C, M, O, A> + Drop> Caller<
+    C,
+    M,
+    O,
+    A,
+    S,
+> {
+    /// A seat at which nothing was asked yet.
+    pub(crate) fn new(alloc: Global, seat: S) -> Caller<C, M, O, A, S>
+        requires receipts { (S.state seat).receipts ≡ [] }
+        requires forgotten { (S.state seat).forgotten.calls ≡ 0 }
+        ensures seat { result.seat ≡ S.state seat }
+        ensures all { result.all ≡ [] }
+    {
+        Caller {
+            seat,
+            forgettings: Vec::new(alloc),
+            many: FEW,
+            set: PhantomData,
+        }
+    }
+
+    /// What its calls added to the set's totals.
+    pub(crate) fn share(&self) -> SeatShare
+        ensures { result ≡ self.now.seat.share }
+    {
+        self.seat.share()
+    }
+
+    /// How many calls there were.
+    pub(crate) fn count(&self) -> u64
+        ensures calls { result ≡ length self.now.all }
+        ensures few { result < 2 ^ 64 }
+    {
+        self.seat.share().calls
+    }
+
+    /// The seat.
+    pub(crate) fn into_seat(self) -> S
+        ensures seat { S.state result ≡ self.seat }
+        ensures all { AreAll (S.state result) self.all }
+    {
+        self.seat
+    }
+
+    /// Forgets what lies before the last checkpoint, where there are many receipts. Where memory is refused all are kept
+    /// until there are twice as many.
+    fn forget<R: Wait>(&mut self, rt: &R, set: &LinkSet<C, M, O, A>)
+        ensures who { self.new.seat.who ≡ self.old.seat.who }
+        ensures all { self.new.all ≡ self.old.all }
+    {
+        if self.seat.receipts().len() < self.many {
+            return;
+        }
+        let _ = self.forget_now(rt, set);
+        self.many = self.seat.receipts().len().saturating_mul(2).max(FEW);
+    }
+
+    /// Forgets what lies before the last checkpoint.
+    fn forget_now<R: Wait>(&mut self, rt: &R, set: &LinkSet<C, M, O, A>) -> Result<(), SetFault>
+        ensures who { self.new.seat.who ≡ self.old.seat.who }
+        ensures all { self.new.all ≡ self.old.all }
+    {
+        self.forgettings.reserve(1)?;
+        let before = Snapshot::of(&self.seat);
+        set.forget(rt, &mut self.seat)?;
+        let after = Snapshot::of(&self.seat);
+        self.forgettings.push_reserved(Forgetting { before, after });
+        Ok(())
+    }
+}
+
+impl<C: Opening, M: Ledger, O: Ledger, A: Ledger> Caller<C, M, O, A, UserSeat<C, M, O, A>> {
+    /// The user's number, 0 to 63.
+    pub(crate) fn number(&self) -> u16
+        ensures { self.now.seat.who ≡ User result }
+    {
+        self.seat.number()
+    }
+
+    /// Offers a message of these octets.
+    pub(crate) fn offer<R: Wait>(
+        &mut self,
+        rt: &R,
+        set: &LinkSet<C, M, O, A>,
+        octets: &[u8],
+    ) -> Result<Answer, SetFault>
+        ensures who { self.new.seat.who ≡ self.old.seat.who }
+        ensures calls { Calls self.old.seat.who (Offer octets.now) result self.old.all self.new.all }
+    {
+        let answered = set.offer(rt, &mut self.seat, octets);
+        self.forget(rt, set);
+        answered
+    }
+
+    /// Takes the oldest message that was heard for users.
+    pub(crate) fn take<R: Wait>(
+        &mut self,
+        rt: &R,
+        set: &LinkSet<C, M, O, A>,
+    ) -> Result<Answer, SetFault>
+        ensures who { self.new.seat.who ≡ self.old.seat.who }
+        ensures calls { Calls self.old.seat.who Take result self.old.all self.new.all }
+    {
+        let answered = set.take(rt, &mut self.seat);
+        self.forget(rt, set);
+        answered
+    }
+
+    /// Asks where the message of this number stands.
+    pub(crate) fn find<R: Wait>(
+        &mut self,
+        rt: &R,
+        set: &LinkSet<C, M, O, A>,
+        number: u64,
+    ) -> Result<Answer, SetFault>
+        ensures who { self.new.seat.who ≡ self.old.seat.who }
+        ensures calls { Calls self.old.seat.who (Find number) result self.old.all self.new.all }
+    {
+        let answered = set.find(rt, &mut self.seat, number);
+        self.forget(rt, set);
+        answered
+    }
+}
+
+impl<C: Opening, M: Ledger, O: Ledger, A: Ledger> Caller<C, M, O, A, TermSeat<C, M, O, A>> {
+    /// The number of the terminal's link, 0 to 15.
+    pub(crate) fn link(&self) -> u8
+        ensures { self.now.seat.who ≡ Terminal result }
+    {
+        self.seat.link()
+    }
+
+    /// One step on the terminal's own link; `held` is called once the lock is had.
+    pub(crate) fn step<R: Wait, F: FnOnce()>(
+        &mut self,
+        rt: &R,
+        set: &LinkSet<C, M, O, A>,
+        event: &Event,
+        held: F,
+    ) -> Result<Answer, SetFault>
+        requires own { IsOwn self.old.seat.who event.now }
+        requires callable { F.IsAlwaysCallable held }
+        ensures who { self.new.seat.who ≡ self.old.seat.who }
+        ensures calls { Calls self.old.seat.who event.now result self.old.all self.new.all }
+    {
+        let answered = set.term_step_held(rt, &mut self.seat, event, held);
+        self.forget(rt, set);
+        answered
+    }
+}

@@ -1,0 +1,179 @@
+//! The threads of one set.
+ghost use Rattle.std.specs.Prelude.{◌≡◌, ◌++◌, [], ◌∷◌, map, IfErr, IfOk, OnOk};
+ghost use Rattle.std.specs.Vec.Iter.{into_iter_items};
+ghost use Rattle.bank_crew.specs.Faults.{CannotStart};
+ghost use Rattle.bank_crew.specs.Keeping.{AreKept, GathersTerminals, KeepsJob};
+ghost use Rattle.bank_crew.specs.declared.fault.CrewFault.TheVariants.{NoMemory, NoThread};
+
+use super::fault::{CrewFault, UserFault};
+use super::report::{ShiftReport, UserReport};
+use super::terminal::ShiftOf;
+use super::user::JobOf;
+use link_term::TermFault;
+use set_shared::{Opening, TermSeat, UserSeat};
+use std::alloc::{AllocError, Global};
+use std::sync::ledger::Ledger;
+use std::thread::{Promise, PromisedHandle, Scope, Threads};
+use std::vec::IntoIter;
+
+/// A seat whose thread has ended, and what the thread tells.
+#[derive(Drop)]
+pub(crate) struct Ended<S: Drop, T: Drop> {
+    pub(crate) seat: S,
+    pub(crate) told: T,
+}
+
+/// A user's seat, and what the user reports, or why it ended early.
+pub(crate) type UserEnd<C, M, O, A> = Ended<UserSeat<C, M, O, A>, Result<UserReport, UserFault>>;
+
+/// A terminal's seat, and what its turns came to, or why they ended early.
+pub(crate) type TermEnd<C, M, O, A> = Ended<TermSeat<C, M, O, A>, Result<ShiftReport, TermFault>>;
+
+/// The thread of a user.
+pub(crate) type UserThread<C, M, O, A> = PromisedHandle<UserEnd<C, M, O, A>, JobOf>;
+
+/// The thread of a terminal.
+pub(crate) type TermThread<C, M, O, A> = PromisedHandle<TermEnd<C, M, O, A>, ShiftOf>;
+
+/// The threads of a set's users and terminals, and the seats of the terminals that have no line.
+#[derive(Drop)]
+pub(crate) struct Crew<C: Opening, M: Ledger, O: Ledger, A: Ledger> {
+    pub(crate) users: Vec<UserThread<C, M, O, A>>,
+    pub(crate) terminals: Vec<TermThread<C, M, O, A>>,
+    pub(crate) idle: IntoIter<TermSeat<C, M, O, A>, Global>,
+}
+
+/// The seats of a set, and what was gathered beside them.
+#[derive(Drop)]
+pub(crate) struct Gathered<C: Opening, M: Ledger, O: Ledger, A: Ledger> {
+    pub(crate) users: Vec<UserSeat<C, M, O, A>>,
+    pub(crate) user_ends: Vec<Result<UserReport, UserFault>>,
+    pub(crate) terminals: Vec<TermSeat<C, M, O, A>>,
+    pub(crate) reports: Vec<Result<ShiftReport, TermFault>>,
+}
+
+/// The seats of threads that have ended, and what each thread tells.
+#[derive(Drop)]
+struct Back<S: Drop, T: Drop> {
+    seats: Vec<S>,
+    told: Vec<T>,
+}
+
+impl<C: Opening, M: Ledger, O: Ledger, A: Ledger> Crew<C, M, O, A> {
+    /// Waits for the users and then for the terminals, whose seats stand before the idle ones.
+    pub(crate) fn gather<R: Threads>(
+        self,
+        rt: &R,
+        alloc: Global,
+    ) -> Result<Gathered<C, M, O, A>, CrewFault>
+        ensures users { IfOk result (λ all. AreKept KeepsJob
+            (map (λ thread. thread.promise) self.users.items) all.users.items all.user_ends.items) }
+        ensures terminals { IfOk result (λ all. GathersTerminals
+            (map (λ thread. thread.promise) self.terminals.items) (into_iter_items self.idle)
+            all.terminals.items all.reports.items) }
+    {
+        let Crew {
+            users,
+            terminals,
+            idle,
+        } = self;
+        let of_users = wait_for_all(rt, alloc, users);
+        let of_terminals = wait_for_all(rt, alloc, terminals);
+        let of_users = of_users?;
+        let of_terminals = of_terminals?;
+        let Back { mut seats, told } = of_terminals;
+        add_idle(&mut seats, idle)?;
+        Ok(Gathered {
+            users: of_users.seats,
+            user_ends: of_users.told,
+            terminals: seats,
+            reports: told,
+        })
+    }
+}
+
+/// Puts these seats behind those.
+fn add_idle<S: Drop>(seats: &mut Vec<S>, idle: IntoIter<S, Global>) -> Result<(), AllocError>
+    ensures { OnOk result (seats.new.items ≡ seats.old.items ++ into_iter_items idle) }
+{
+    let mut idle = idle;
+    while let Some(seat) = idle.next() {
+        seats.reserve(1)?;
+        seats.push_reserved(seat);
+    }
+    Ok(())
+}
+
+/// Starts a thread that does this until it ends, behind those that were started.
+///
+/// Faults: [`CrewFault::NoMemory`] where memory is wanted, [`CrewFault::NoThread`] where a thread is, though there is memory.
+pub(crate) fn start_thread<
+    's,
+    'e: 's,
+    P: Promise<T> + Drop,
+    T: Send + Drop + 's,
+    F: FnOnce() -> T + Send + Drop + 's,
+>(
+    scope: &'s Scope<'s, &'e ()>,
+    alloc: Global,
+    threads: &mut Vec<PromisedHandle<T, P>>,
+    promise: P,
+    work: F,
+) -> Result<(), CrewFault>
+    requires runs { F.pre work }
+    requires keeps { (end : T) → F.post work end → P.kept_by promise end }
+    ensures started { OnOk result (map (λ thread. thread.promise) threads.new.items
+        ≡ map (λ thread. thread.promise) threads.old.items ++ promise ∷ []) }
+    ensures fault { IfErr result CannotStart }
+{
+    threads.reserve(1)?;
+    match scope.spawn_with(promise, work) {
+        Ok(started) => {
+            threads.push_reserved(started);
+            Ok(())
+        }
+        Err(_) => Err(why_unstarted(&ask_for_stack(alloc))),
+    }
+}
+
+/// How many octets are asked for, to see whether there is memory: those of a thread's least stack.
+const STACK: usize = 131_072;
+
+/// Asks for the memory of a thread's least stack, 131,072 octets, which is given back with the answer.
+pub fn ask_for_stack(alloc: Global) -> Result<Vec<u8>, AllocError> {
+    Vec::with_capacity(alloc, STACK)
+}
+
+/// Why a thread couldn't be started, which the system doesn't tell: [`CrewFault::NoMemory`] exactly where the memory of
+/// a stack was refused too, else [`CrewFault::NoThread`].
+pub fn why_unstarted(stack: &Result<Vec<u8>, AllocError>) -> CrewFault
+    ensures memory { IfErr stack.now (λ _. result ≡ NoMemory) }
+    ensures thread { IfOk stack.now (λ _. result ≡ NoThread) }
+    ensures fault { CannotStart result }
+{
+    match stack {
+        Ok(_) => CrewFault::NoThread,
+        Err(_) => CrewFault::NoMemory,
+    }
+}
+
+/// Waits for these threads: their seats, and what each tells.
+fn wait_for_all<S: Drop, T: Drop, P: Promise<Ended<S, T>>, R: Threads>(
+    rt: &R,
+    alloc: Global,
+    threads: Vec<PromisedHandle<Ended<S, T>, P>>,
+) -> Result<Back<S, T>, AllocError>
+    ensures { IfOk result (λ back. AreKept P.kept_by (map (λ thread. thread.promise) threads.items)
+        back.seats.items back.told.items) }
+{
+    let mut seats = Vec::new(alloc);
+    let mut told = Vec::new(alloc);
+    for thread in threads {
+        seats.reserve(1)?;
+        told.reserve(1)?;
+        let end = thread.join(rt);
+        seats.push_reserved(end.seat);
+        told.push_reserved(end.told);
+    }
+    Ok(Back { seats, told })
+}

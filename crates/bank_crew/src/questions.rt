@@ -1,0 +1,79 @@
+//! What level 3 asks of a set when time has passed, counted by what a link's terminal asks (Q.704 5.7, 6.4).
+ghost use Rattle.std.specs.Prelude.{◌≡◌, true, IfSome};
+ghost use Rattle.bank_crew.specs.Managing.{is_question};
+
+use super::report::{tells_up, was_done};
+use set_events::{Answer, Event, Refusal};
+
+/// After so many units of a link the answer to an order about it is waited for no more. At 64 kbit/s that's 3 s or more
+/// of FISUs.
+const PATIENCE: u32 = 4_096;
+
+/// What is waited for.
+#[derive(Clone, Copy, Debug, Drop, PartialEq, Eq)]
+pub(crate) struct Awaited {
+    /// How often the set refused an Up of the link, since it isn't settled what the far end has.
+    refused: u32,
+    /// How many units were asked for since streams were asked back to the link; `None` where they weren't.
+    units: Option<u32>,
+}
+
+impl Awaited {
+    /// Nothing.
+    pub(crate) const NOTHING: Awaited = Awaited {
+        refused: 0,
+        units: None,
+    };
+
+    /// What is asked behind this answer to an event of the terminal: streams are asked back to a link that came up
+    /// (Q.704 6.2); that no answer came to its changeover (5.7.2), or to its changeback (6.4), after a while.
+    pub(crate) fn question(&mut self, link: u8, event: &Event, answer: &Answer) -> Option<Event>
+        ensures { IfSome result (λ question. is_question link question ≡ true) }
+    {
+        if tells_up(link, event) {
+            return self.behind_up(link, answer);
+        }
+        let units = self.units?;
+        self.units = Some(units.saturating_add(1));
+        if units < PATIENCE {
+            return None;
+        }
+        self.units = None;
+        Some(Event::BackTimeout { link })
+    }
+
+    fn behind_up(&mut self, link: u8, answer: &Answer) -> Option<Event>
+        ensures { IfSome result (λ question. is_question link question ≡ true) }
+    {
+        if was_done(answer) {
+            *self = Awaited::NOTHING;
+            return Some(Event::Restore { link });
+        }
+        if !is_unsettled(answer) {
+            return None;
+        }
+        self.refused = self.refused.saturating_add(1);
+        if self.refused < PATIENCE {
+            return None;
+        }
+        self.refused = 0;
+        Some(Event::NoAnswer { link })
+    }
+
+    /// The set gave this answer to a question.
+    pub(crate) fn hear(&mut self, question: &Event, answer: &Answer) {
+        if let (Event::Restore { .. }, Answer::Done) = (question, answer) {
+            self.units = Some(0);
+        }
+    }
+}
+
+/// Whether the set refused, since it isn't settled what the far end has.
+fn is_unsettled(answer: &Answer) -> bool {
+    matches!(
+        answer,
+        Answer::Refused {
+            why: Refusal::Unsettled
+        }
+    )
+}

@@ -1,0 +1,204 @@
+//! The door of a set that threads share.
+ghost use Rattle.std.specs.Prelude.{◌≡◌, true, [], ◌∷◌, ◌++◌, IfOk, IfErr};
+ghost use Rattle.set_events.specs.Owners.{IsOwn};
+ghost use Rattle.bank_crew.specs.Carrying.{carried_in};
+ghost use Rattle.bank_crew.specs.Counts.{answered_in};
+ghost use Rattle.bank_crew.specs.Managing.{are_marks, is_mark, of_turns};
+ghost use Rattle.bank_crew.specs.Seats.{AreAll, link_in};
+
+use super::caller::Caller;
+use super::carried::{Carried, NOTHING_CARRIED};
+use super::manager::LinkManager;
+use super::pauses::Pauses;
+use super::plan::Managed;
+use super::questions::Awaited;
+use super::report::{Answered, NOTHING};
+use line_ring::Past;
+use link_term::{Door, Faults};
+use set_events::{Answer, Event, SetFault};
+use set_shared::{LinkSet, Opening, TermSeat};
+use std::alloc::Global;
+use std::sync::Wait;
+use std::sync::ledger::Ledger;
+
+/// A terminal's own seat at a set that threads share. Each step takes the set's lock, passes the gate's `inside`
+/// under it, and leaves its entry among the seat's receipts. Those are all that this door made, but for what the seat
+/// forgot, and for what level 3 asks between two steps where links are managed: that streams come back to a link that came
+/// up, and that an answer didn't come. The lock may be waited for.
+#[derive(Drop)]
+pub struct SeatDoor<'a, C: Opening, M: Ledger, O: Ledger, A: Ledger, R: Wait, G: LinkManager> {
+    rt: &'a R,
+    set: &'a LinkSet<C, M, O, A>,
+    number: u16,
+    caller: Caller<C, M, O, A, TermSeat<C, M, O, A>>,
+    gate: &'a G,
+    managed: Option<Managed>,
+    awaited: Awaited,
+    /// Of each entry whose it is, for contracts alone.
+    marks: Past,
+    faults: Faults,
+    answered: Answered,
+    carried: Carried,
+    pauses: Pauses,
+    ghost is_counted: { answered ≡ answered_in (link_in caller.seat.who) caller.all },
+    ghost is_carried: { carried ≡ carried_in managed (link_in caller.seat.who) caller.all },
+    ghost is_marked: { are_marks (link_in caller.seat.who) caller.all marks ≡ true },
+}
+
+impl<'a, C: Opening, M: Ledger, O: Ledger, A: Ledger, R: Wait, G: LinkManager> SeatDoor<
+    'a,
+    C,
+    M,
+    O,
+    A,
+    R,
+    G,
+> {
+    /// The door of this seat's link, at its set, whose number is only told to the gate. Its link is the seat's, which
+    /// made no step yet, and what it makes are the seat's receipts, with those that it forgets. With `every` a checkpoint of
+    /// the set is taken after so many of the door's steps each.
+    pub fn new(
+        rt: &'a R,
+        alloc: Global,
+        set: &'a LinkSet<C, M, O, A>,
+        number: u16,
+        seat: TermSeat<C, M, O, A>,
+        gate: &'a G,
+        managed: Option<Managed>,
+        every: Option<u64>,
+    ) -> SeatDoor<'a, C, M, O, A, R, G>
+        requires receipts { seat.receipts ≡ [] }
+        requires forgotten { seat.forgotten.calls ≡ 0 }
+        ensures seat { result.caller.seat ≡ seat }
+        ensures made { result.caller.all ≡ [] }
+        ensures marks { result.marks ≡ [] }
+        ensures faults { result.faults ≡ [] }
+        ensures managed { result.managed ≡ managed }
+    {
+        SeatDoor {
+            rt,
+            set,
+            number,
+            caller: Caller::new(alloc, seat),
+            gate,
+            managed,
+            awaited: Awaited::NOTHING,
+            marks: Past::new(),
+            faults: Faults::new(),
+            answered: NOTHING,
+            carried: NOTHING_CARRIED,
+            pauses: Pauses::of(every),
+        }
+    }
+
+    /// What the set answered to the steps that were made through the door.
+    pub fn answered(&self) -> Answered
+        ensures { result ≡ answered_in (link_in self.now.caller.seat.who) self.now.caller.all }
+    {
+        self.answered
+    }
+
+    /// What the link carried by those steps.
+    pub fn carried(&self) -> Carried
+        ensures carried { result ≡ carried_in self.now.managed (link_in self.now.caller.seat.who) self.now.caller.all }
+        ensures marks { are_marks (link_in self.now.caller.seat.who) self.now.caller.all self.now.marks ≡ true }
+    {
+        self.carried
+    }
+
+    /// The seat: what it forgot, and its receipts, are the steps that were made through the door.
+    pub fn into_seat(self) -> TermSeat<C, M, O, A>
+        ensures seat { result ≡ self.entry.caller.seat }
+        ensures all { AreAll result self.entry.caller.all }
+    {
+        self.caller.into_seat()
+    }
+
+    /// One step, which this mark tells.
+    fn ask(&mut self, event: &Event, mark: u8) -> Result<Answer, SetFault>
+        requires own { IsOwn self.old.caller.seat.who event.now }
+        requires mark { is_mark (link_in self.old.caller.seat.who) event.now mark ≡ true }
+        ensures ok { IfOk result (λ answer. (self.new.caller.all ≡ self.old.caller.all
+            ++ record { who = self.old.caller.seat.who; event = event.now; answer = answer } ∷ [])
+            × (self.new.marks ≡ self.old.marks ++ mark ∷ [])) }
+        ensures err { IfErr result (λ fault. (self.new.caller.all ≡ self.old.caller.all)
+            × (self.new.marks ≡ self.old.marks)) }
+        ensures who { self.new.caller.seat.who ≡ self.old.caller.seat.who }
+        ensures faults { self.new.faults ≡ self.old.faults }
+        ensures managed { self.new.managed ≡ self.old.managed }
+    {
+        let link = self.caller.link();
+        let (set, gate) = (self.number, self.gate);
+        let inside = || gate.inside(set, link);
+        let answered = self.caller.step(self.rt, self.set, event, inside);
+        if let Ok(answer) = &answered {
+            // each that is counted is a call
+            self.caller.count();
+            self.marks.note(mark);
+            self.answered = self.answered.with(link, event, answer);
+            self.carried = self.carried.with(self.managed, link, event, answer);
+        }
+        answered
+    }
+
+    /// Level 3 hears this answer, and may ask something of its own; it's no matter that memory is refused to that.
+    fn follow(&mut self, event: &Event, answer: &Answer)
+        ensures made { of_turns self.new.managed self.new.marks self.new.caller.all
+            ≡ of_turns self.old.managed self.old.marks self.old.caller.all }
+        ensures who { self.new.caller.seat.who ≡ self.old.caller.seat.who }
+        ensures faults { self.new.faults ≡ self.old.faults }
+        ensures managed { self.new.managed ≡ self.old.managed }
+    {
+        let Some(_) = self.managed else {
+            return;
+        };
+        let link = self.caller.link();
+        self.gate.answered(self.number, link, event, answer);
+        let Some(question) = self.awaited.question(link, event, answer) else {
+            return;
+        };
+        if let Ok(answer) = self.ask(&question, 0) {
+            self.gate.answered(self.number, link, &question, &answer);
+            self.awaited.hear(&question, &answer);
+        }
+    }
+}
+
+impl<'a, C: Opening, M: Ledger, O: Ledger, A: Ledger, R: Wait, G: LinkManager> Door
+    for SeatDoor<'a, C, M, O, A, R, G> {
+    ghost use Rattle.std.specs.Prelude.{◌≡◌, refl};
+    ghost use Rattle.std.proofs.Common.{◌∙◌};
+    ghost use Rattle.bank_crew.specs.Managing.{of_turns};
+    ghost use Rattle.bank_crew.specs.Seats.{link_in};
+
+    ghost number = { λ door. link_in door.caller.seat.who };
+
+    ghost made = { λ door. of_turns door.managed door.marks door.caller.all };
+
+    ghost faults = { λ door. door.faults };
+
+    ghost is_same = { λ first second. second.managed ≡ first.managed };
+
+    ghost same_self = { λ door. refl };
+
+    ghost same_on = { λ first second third a b. b ∙ a };
+
+    fn link(&self) -> u8 {
+        self.caller.link()
+    }
+
+    fn step(&mut self, event: &Event) -> Result<Answer, SetFault> {
+        // it's the seat of that link still
+        self.caller.link();
+        let answered = self.ask(event, 1);
+        match &answered {
+            Ok(answer) => {
+                self.follow(event, answer);
+                self.pauses
+                    .pause(self.rt, self.set, self.caller.share().calls);
+            }
+            Err(fault) => self.faults.note(*fault),
+        }
+        answered
+    }
+}

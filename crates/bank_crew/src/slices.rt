@@ -1,0 +1,102 @@
+//! A terminal's turns where its link is managed.
+ghost use Rattle.std.specs.Prelude.{◌≡◌, ◌≤◌, ◌^◌, false, OnOk};
+ghost use Rattle.link_term.specs.Looking.{seen};
+ghost use Rattle.bank_crew.specs.Shifts.{Slice, Slices, standing};
+
+use super::manager::{LinkManager, LinkOrder};
+use super::orders::Orders;
+use super::terminal::{one_report, so_many};
+use line_ring::Line;
+use link_term::{Command, Door, Gate, TermFault, TermReport, Terminal};
+use set_shared::{LinkSet, Opening};
+use std::sync::Wait;
+use std::sync::ledger::Ledger;
+
+/// How many turns a managed terminal takes before it's told anew what to do.
+const SLICE: u64 = 256;
+
+/// Turns by slices, each behind what the gate orders, until it ends them, or all turns of the plan were taken.
+pub(crate) fn managed_turns<
+    C: Opening,
+    M: Ledger,
+    O: Ledger,
+    A: Ledger,
+    D: Door,
+    L: Line,
+    T: Gate,
+    G: LinkManager,
+    R: Wait,
+>(
+    rt: &R,
+    set: &LinkSet<C, M, O, A>,
+    orders: &Orders<G>,
+    link: u8,
+    terminal: &mut Terminal<D, L, T>,
+) -> Result<TermReport, TermFault>
+    requires failed { terminal.old.works.failed ≡ false }
+    ensures turns { Slices orders.now.plan.turns result
+        (standing terminal.old.works.receiver terminal.old.works.inside (D.made terminal.old.door) (D.faults terminal.old.door)
+        (seen (L.taken_so_far terminal.old.line) (L.waiting terminal.old.line) (L.put_so_far terminal.old.line)
+        (L.free terminal.old.line)))
+        (standing terminal.new.works.receiver terminal.new.works.inside (D.made terminal.new.door) (D.faults terminal.new.door)
+        (seen (L.taken_so_far terminal.new.line) (L.waiting terminal.new.line) (L.put_so_far terminal.new.line)
+        (L.free terminal.new.line))) }
+    ensures number { D.number terminal.new.door ≡ D.number terminal.old.door }
+    ensures door { D.is_same terminal.old.door terminal.new.door }
+{
+    let mut counted = NO_TURNS;
+    let mut left = orders.plan.turns;
+    while left > 0 {
+        let order = orders.gate.order(orders.set, link, &set.counts(rt));
+        if order == LinkOrder::End {
+            return Ok(counted);
+        }
+        let turns = left.min(SLICE);
+        match one_slice(terminal, order, turns) {
+            Ok(more) => counted = one_report(counted, more),
+            Err(fault) => return Err(fault),
+        }
+        left -= turns;
+    }
+    Ok(counted)
+}
+
+/// No turn was taken yet.
+const NO_TURNS: TermReport = TermReport {
+    turns: 0,
+    sent: 0,
+    good: 0,
+    bad: 0,
+    sixteen: 0,
+    cause: 0,
+};
+
+/// What is ordered, and so many turns.
+fn one_slice<D: Door, L: Line, T: Gate>(
+    terminal: &mut Terminal<D, L, T>,
+    order: LinkOrder,
+    turns: u64,
+) -> Result<TermReport, TermFault>
+    requires failed { terminal.old.works.failed ≡ false }
+    requires few { turns ≤ 2 ^ 32 }
+    ensures turns { Slice order turns result
+        (standing terminal.old.works.receiver terminal.old.works.inside (D.made terminal.old.door) (D.faults terminal.old.door)
+        (seen (L.taken_so_far terminal.old.line) (L.waiting terminal.old.line) (L.put_so_far terminal.old.line)
+        (L.free terminal.old.line)))
+        (standing terminal.new.works.receiver terminal.new.works.inside (D.made terminal.new.door) (D.faults terminal.new.door)
+        (seen (L.taken_so_far terminal.new.line) (L.waiting terminal.new.line) (L.put_so_far terminal.new.line)
+        (L.free terminal.new.line))) }
+    ensures number { D.number terminal.new.door ≡ D.number terminal.old.door }
+    ensures door { D.is_same terminal.old.door terminal.new.door }
+    ensures goes_on { OnOk result (terminal.new.works.failed ≡ false) }
+{
+    match order {
+        LinkOrder::Run | LinkOrder::End => {}
+        LinkOrder::Start => {
+            terminal.command(Command::Emergency);
+            terminal.command(Command::Start);
+        }
+        LinkOrder::Stop => terminal.command(Command::Stop),
+    }
+    so_many(terminal, turns)
+}

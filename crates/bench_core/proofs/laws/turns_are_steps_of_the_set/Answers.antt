@@ -1,8 +1,0 @@
-use Rattle.bench_core.proofs.TalkLemmas.{talk_is_legal, turn_is_of_terminal}
-use Rattle.bench_core.proofs.laws.turns_are_steps_of_the_set.Goals as goal
-
-pub returns-clause-talks : goal.returns-clause-talks
-returns-clause-talks c = talk_is_legal
-
-pub returns-clause-turns : goal.returns-clause-turns
-returns-clause-turns c = turn_is_of_terminal

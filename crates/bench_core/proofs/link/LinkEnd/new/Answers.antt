@@ -1,5 +1,0 @@
-use Rattle.bench_core.proofs.LinkLemmas.{new_at}
-use Rattle.bench_core.proofs.link.LinkEnd.new.Goals as goal
-
-pub returns : goal.returns
-returns c = new_at c.new.result c.args.lengths c.args.link c.new.ensures.inside c.new.ensures.taken c.new.ensures.failed

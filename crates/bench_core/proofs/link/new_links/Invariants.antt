@@ -1,7 +1,0 @@
-use Rattle.std.proofs.Common.{◌≡◌}
-use Rattle.bench_core.specs.Ends.{new_links}
-use Rattle.bench_core.proofs.link.new_links.Given as goal
-
--- the links so far
-abbrev pub invariant-loop-link : goal.invariant-loop-link
-invariant-loop-link l = l.made.items ≡ new_links l.lengths l.link

@@ -1,6 +1,0 @@
-use Rattle.std.proofs.Common.{◌≡◌, ◌++◌, map, take}
-use Rattle.command_line.specs.Advice.{plain}
-use Rattle.command_line.proofs.advice.push_shown.Given as goal
-
-abbrev pub invariant-loop-c : goal.invariant-loop-c
-invariant-loop-c l = l.text.items ≡ l.initial.text.items ++ map plain (take l.c-index l.word)

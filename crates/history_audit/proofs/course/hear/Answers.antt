@@ -1,0 +1,23 @@
+use Rattle.std.proofs.Common.{◌∙◌, ap, Some, None, Err}
+use Rattle.history_audit.specs.Hearing.{IsEntry}
+use Rattle.history_audit.proofs.Courses.{has_room, is_full, is_wrong, nobody_found, wrong_found}
+use Rattle.history_audit.proofs.course.hear.Goals as goal
+
+-- src/course.rt
+pub returns-in-Ok-WrongAnswer : goal.returns-in-Ok-WrongAnswer
+returns-in-Ok-WrongAnswer c = λ told is.
+    let item = c.args.item.now in
+    is_wrong told c.args.number item c.args.course.now is c.requires c.hear.new.self (Some c.copy.result) c.entries-entries.result
+    (λ opening items h. wrong_found opening items item c.in-Ok-WrongAnswer.field-0 c.hear.new.self c.copy.result c.in-Ok-WrongAnswer.field-0-is (c.in-Ok-WrongAnswer.ensures.found opening items h) (c.copy.ensures ∙ c.answer.ensures))
+    c.entries-entries.ensures.heard (has_room c.hear.result _ _ (IsEntry item) _ c.in-Ok-WrongAnswer.is c.hear.ensures.exhausted.1)
+
+pub returns-in-Ok-NoSuchActor : goal.returns-in-Ok-NoSuchActor
+returns-in-Ok-NoSuchActor c = λ told is.
+    let item = c.args.item.now in
+    is_wrong told c.args.number item c.args.course.now is c.requires c.hear.new.self None c.entries-entries.result
+    (λ opening items h. nobody_found opening items item c.in-Ok-NoSuchActor.field-0 c.hear.new.self c.in-Ok-NoSuchActor.field-0-is (c.in-Ok-NoSuchActor.ensures.found opening items h))
+    c.entries-entries.ensures.heard (has_room c.hear.result _ _ (IsEntry item) _ c.in-Ok-NoSuchActor.is c.hear.ensures.exhausted.1)
+
+pub returns-in-Err-Exhausted : goal.returns-in-Err-Exhausted
+returns-in-Err-Exhausted c = λ told is.
+    is_full told c.args.number c.args.item.now c.args.course.now is c.requires c.hear.new.self (c.hear.ensures.exhausted.0 (c.in-Err-Exhausted.is ∙ ap Err c.in-Err-Exhausted.field-0-is))

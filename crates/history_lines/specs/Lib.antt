@@ -1,2 +1,0 @@
-pub mod FirstLine
-pub mod Telling

@@ -1,0 +1,384 @@
+//! Stored runs: each script and each line of units beside which its output stands is run anew, and held against it.
+//!
+//! It reads the file `list` of the folder that it runs in: a name a line, of a script (`.play`), a line of units
+//! (`.units`), units to decode (`.decode`, or `.decode_wide` of the wide profile), a history to audit (`.history`), the
+//! lines that drive an end (`.terminal`), or a table of scripts that all give the same:
+//! of each line of `NAME.first` a script is made, and of each line of `NAME.second` one with the opening before it. Beside
+//! `NAME.play` stands `NAME.stdout`, what the run prints, and where it ends with a fault `NAME.fault`, the line that tells
+//! it. `NAME.pcap` is what the capture of `NAME.play` writes, `NAME.history_a` and `NAME.history_b` what the histories of
+//! its ends print, and `NAME.ladder` is its chart. `NAME.explained` is what is told of `NAME.play` where its fault is
+//! explained; a table `NAME.told_first` or `NAME.told_second` has four such lines each, of which the third shows the line
+//! that is played, alone or with the opening before it. `NAME.terminal_explained` beside `NAME.terminal`, and the tables
+//! `NAME.terminal_first`, `NAME.terminal_second` and `NAME.terminal_third`, are so for the lines that drive an end; before
+//! the third line stand the opening and a command. `NAME.run` is the words behind `mtpbank run`, one a line: threads run as
+//! they ask, and of what they print the time that they took is left out. A line is printed for each name.
+//! Whether a run is as it should be is all that this program tells; it proves nothing.
+#![tactic(auto)]
+
+use history_audit::audit;
+use l2_units::Profile;
+use mtpbank_words::{RunWords, Words, words_of};
+use script_capture::capture;
+use script_history::{End, history};
+use script_ladder::ladder;
+use script_play::{play, play_explained};
+use std::alloc::Global;
+use std::fmt::Display;
+use std::io::Eprint;
+use std::process::ExitCode;
+use std::sync::Wait;
+use std::thread::Threads;
+use std::time::Clock;
+use std::{fs, io};
+use terminal_explain::terminal_explained;
+use terminal_text::terminal;
+use text_decode::decode;
+use text_printing::{Fault, Reader, Writer};
+use text_units::units;
+
+/// The first line of the scripts of a table.
+const OPENING: &str = "set links=1 method=basic a=2 b=1 sio=80\n";
+
+/// The lines before the third that drives an end.
+const TWO_LINES: &str = "set links=1 method=basic a=2 b=1 sio=80\nstart 0\n";
+
+/// What a run prints, and the line that tells how it ends.
+#[derive(Drop, PartialEq)]
+struct Ran {
+    printed: Vec<u8>,
+    told: String,
+}
+
+fn main(rt: HostRuntime) -> io::Result<ExitCode> {
+    let list = fs::read_to_string(&rt, "list")?;
+    Ok(if all_are_as_stored(&rt, &rt, &list)? {
+        ExitCode::SUCCESS
+    } else {
+        ExitCode::FAILURE
+    })
+}
+
+/// Whether each run of this list gives what is stored beside it. A line is printed for each. What starts threads is the same
+/// runtime.
+fn all_are_as_stored<R: Threads + Wait + Clock + Eprint + Copy + Send + Sync + 'static>(
+    rt: &HostRuntime,
+    threads: &R,
+    list: &str,
+) -> io::Result<bool> {
+    let mut all = true;
+    for name in list.lines() {
+        let same = is_as_stored(rt, threads, name)?;
+        let told = if same { "as stored" } else { "ANOTHER OUTPUT" };
+        println!(rt; "{name} {told}")?;
+        all = all && same;
+    }
+    Ok(all)
+}
+
+/// Whether each run of this name gives what is stored beside it.
+fn is_as_stored<R: Threads + Wait + Clock + Eprint + Copy + Send + Sync + 'static>(
+    rt: &HostRuntime,
+    threads: &R,
+    name: &str,
+) -> io::Result<bool> {
+    if name.ends_with(".first") {
+        all_give(rt, name, "")
+    } else if name.ends_with(".second") {
+        all_give(rt, name, OPENING)
+    } else if name.ends_with(".told_first") {
+        all_told(rt, name, Kind::Explained, "")
+    } else if name.ends_with(".told_second") {
+        all_told(rt, name, Kind::Explained, OPENING)
+    } else if name.ends_with(".terminal_first") {
+        all_told(rt, name, Kind::DrivenExplained, "")
+    } else if name.ends_with(".terminal_second") {
+        all_told(rt, name, Kind::DrivenExplained, OPENING)
+    } else if name.ends_with(".terminal_third") {
+        all_told(rt, name, Kind::DrivenExplained, TWO_LINES)
+    } else if name.ends_with(".run") {
+        gives_stored(rt, name, threads_of(threads, rt, name)?)
+    } else {
+        gives_stored(rt, name, ran_by_name(rt, name)?)
+    }
+}
+
+/// Whether this is what is stored beside this name.
+fn gives_stored(rt: &HostRuntime, name: &str, ran: Ran) -> io::Result<bool> {
+    Ok(ran == stored_beside(rt, name)?)
+}
+
+/// Whether each line of this table gives what is stored beside it, behind the opening.
+fn all_give(rt: &HostRuntime, name: &str, opening: &str) -> io::Result<bool> {
+    let table = fs::read_to_string(rt, name)?;
+    all_lines_give(rt.alloc(), opening, &table, &stored_beside(rt, name)?)
+}
+
+fn all_lines_give(alloc: Global, opening: &str, table: &str, stored: &Ran) -> io::Result<bool> {
+    let mut all = !table.is_empty();
+    for line in table.split_terminator('\n') {
+        all = all && ran_behind(alloc, Kind::Played, opening, line)? == *stored;
+    }
+    Ok(all)
+}
+
+/// What the run of this line gives, behind the opening.
+fn ran_behind(alloc: Global, kind: Kind, opening: &str, line: &str) -> io::Result<Ran> {
+    let script = format!(in alloc; "{opening}{line}\n")?;
+    run_of(alloc, kind, script.as_bytes())
+}
+
+/// Whether of each line that this table shows, behind the opening, just what stands around it is told.
+fn all_told(rt: &HostRuntime, name: &str, kind: Kind, opening: &str) -> io::Result<bool> {
+    let table = fs::read_to_string(rt, name)?;
+    let lines: Vec<&str> = table.split_terminator('\n').collect(rt.alloc())?;
+    all_lines_told(rt.alloc(), kind, opening, &lines)
+}
+
+fn all_lines_told(alloc: Global, kind: Kind, opening: &str, lines: &[&str]) -> io::Result<bool> {
+    let mut all = !lines.is_empty();
+    for told in lines.chunks(4) {
+        all = all && is_told(alloc, kind, opening, told)?;
+    }
+    Ok(all)
+}
+
+/// Whether just these four lines are told of the script of which the third shows the line, behind two columns.
+fn is_told(alloc: Global, kind: Kind, opening: &str, told: &[&str]) -> io::Result<bool> {
+    let [fault, wanted, shown, caret] = told else {
+        return Ok(false);
+    };
+    let Some(line) = shown.strip_prefix("  ") else {
+        return Ok(false);
+    };
+    let told = format!(in alloc; "{fault}\n{wanted}\n{shown}\n{caret}\n")?;
+    Ok(ran_behind(alloc, kind, opening, line)?.told == told)
+}
+
+/// What the run of a name does with its input.
+#[derive(Clone, Copy, PartialEq, Eq)]
+enum Kind {
+    Units,
+    Decoded,
+    WideDecoded,
+    HistoryOfA,
+    HistoryOfB,
+    Audited,
+    Driven,
+    DrivenExplained,
+    Ladder,
+    Captured,
+    Explained,
+    Played,
+}
+
+fn kind_of(name: &str) -> Kind {
+    match ending_of(name) {
+        "units" => Kind::Units,
+        "decode" => Kind::Decoded,
+        "decode_wide" => Kind::WideDecoded,
+        "history_a" => Kind::HistoryOfA,
+        "history_b" => Kind::HistoryOfB,
+        "history" => Kind::Audited,
+        "terminal" => Kind::Driven,
+        "terminal_explained" => Kind::DrivenExplained,
+        "ladder" => Kind::Ladder,
+        "pcap" => Kind::Captured,
+        "explained" => Kind::Explained,
+        _ => Kind::Played,
+    }
+}
+
+/// What stands behind the last dot of a name.
+fn ending_of(name: &str) -> &str {
+    match name.rsplit_once('.') {
+        Some((_, ending)) => ending,
+        None => "",
+    }
+}
+
+impl Kind {
+    /// The ending of the input beside a name that the run is told of, as a script's capture, its chart, or the history of
+    /// one of its ends; `None`: the input has the name itself.
+    fn told_of(self) -> Option<&'static str> {
+        match self {
+            Kind::Units
+            | Kind::Decoded
+            | Kind::WideDecoded
+            | Kind::Audited
+            | Kind::Driven
+            | Kind::Played => None,
+            Kind::DrivenExplained => Some("terminal"),
+            _ => Some("play"),
+        }
+    }
+
+    /// Whether the file of the name is what is told of a fault.
+    fn explains(self) -> bool {
+        matches!(self, Kind::Explained | Kind::DrivenExplained)
+    }
+}
+
+/// What the run of this name gives.
+fn ran_by_name(rt: &HostRuntime, name: &str) -> io::Result<Ran> {
+    let kind = kind_of(name);
+    let input = match kind.told_of() {
+        Some(ending) => read_beside(rt, name, ending)?,
+        None => fs::read(rt, name)?,
+    };
+    run_of(rt.alloc(), kind, &input)
+}
+
+/// What is stored beside this name, or under it.
+fn stored_beside(rt: &HostRuntime, name: &str) -> io::Result<Ran> {
+    ran_with(printed_beside(rt, name)?, told_beside(rt, name))
+}
+
+/// What a run printed, and what was told of its end.
+fn ran_with(printed: Vec<u8>, told: io::Result<String>) -> io::Result<Ran> {
+    Ok(Ran {
+        printed,
+        told: told?,
+    })
+}
+
+/// What is to be printed.
+fn printed_beside(rt: &HostRuntime, name: &str) -> io::Result<Vec<u8>> {
+    let kind = kind_of(name);
+    if kind.told_of().is_some() && !kind.explains() {
+        fs::read(rt, name)
+    } else {
+        read_beside(rt, name, "stdout")
+    }
+}
+
+/// What is to be told; nothing where no fault is stored.
+fn told_beside(rt: &HostRuntime, name: &str) -> io::Result<String> {
+    if kind_of(name).explains() {
+        return fs::read_to_string(rt, name);
+    }
+    let path = beside(rt.alloc(), name, "fault")?;
+    match fs::read_to_string(rt, path.as_str()) {
+        Ok(text) => Ok(text),
+        Err(_) => Ok(String::new(rt.alloc())),
+    }
+}
+
+fn read_beside(rt: &HostRuntime, name: &str, kind: &str) -> io::Result<Vec<u8>> {
+    let path = beside(rt.alloc(), name, kind)?;
+    fs::read(rt, path.as_str())
+}
+
+/// The file of this kind beside a script or a line.
+fn beside(alloc: Global, name: &str, kind: &str) -> io::Result<String> {
+    let stem = match name.rsplit_once('.') {
+        Some((stem, _)) => stem,
+        None => name,
+    };
+    Ok(format!(in alloc; "{stem}.{kind}")?)
+}
+
+/// What the run of this input gives.
+fn run_of(alloc: Global, kind: Kind, input: &[u8]) -> io::Result<Ran> {
+    let mut source = Reader::new(input);
+    let mut sink = Writer::new(Vec::new(alloc));
+    let told = run_on(alloc, kind, &mut source, &mut sink);
+    ran_with(sink.into_inner(), told)
+}
+
+/// Runs the source to the sink; the line that tells how that ended.
+fn run_on(
+    alloc: Global,
+    kind: Kind,
+    source: &mut Reader<&[u8]>,
+    sink: &mut Writer<Vec<u8>>,
+) -> io::Result<String> {
+    match kind {
+        Kind::Units => told_of(alloc, units(alloc, source, sink)),
+        Kind::Decoded => told_of(alloc, decode(alloc, Profile::Narrow, source, sink)),
+        Kind::WideDecoded => told_of(alloc, decode(alloc, Profile::Wide, source, sink)),
+        Kind::HistoryOfA => told_of(alloc, history(alloc, End::A, source, sink)),
+        Kind::HistoryOfB => told_of(alloc, history(alloc, End::B, source, sink)),
+        Kind::Audited => told_of(alloc, audit(alloc, source, sink)),
+        Kind::Driven => told_of(alloc, terminal(alloc, source, sink)),
+        Kind::DrivenExplained => told_of(alloc, terminal_explained(alloc, source, sink)),
+        Kind::Ladder => told_of(alloc, ladder(alloc, source, sink)),
+        Kind::Captured => told_of(alloc, capture(alloc, source, sink)),
+        Kind::Explained => told_of(alloc, play_explained(alloc, source, sink)),
+        Kind::Played => told_of(alloc, play(alloc, source, sink)),
+    }
+}
+
+/// What the threads give that the words in the file of this name ask for, behind `run`.
+fn threads_of<R: Threads + Wait + Clock + Eprint + Copy + Send + Sync + 'static>(
+    threads: &R,
+    rt: &HostRuntime,
+    name: &str,
+) -> io::Result<Ran> {
+    let alloc = rt.alloc();
+    let text = fs::read_to_string(rt, name)?;
+    match run_words(alloc, &text)? {
+        Some(words) => ran_as(threads, alloc, &words),
+        None => Ok(Ran {
+            printed: Vec::new(alloc),
+            told: "no run\n".to_string(alloc)?,
+        }),
+    }
+}
+
+/// The run that these words ask for, one a line, if they ask for one.
+fn run_words(alloc: Global, text: &str) -> io::Result<Option<RunWords>> {
+    let mut words = Vec::new(alloc);
+    push_words(text, &mut words)?;
+    Ok(match words_of(alloc, words.as_slice()) {
+        Ok(Words::Run(run)) => Some(run),
+        _ => None,
+    })
+}
+
+fn push_words<'a>(text: &'a str, words: &mut Vec<&'a str>) -> io::Result<()> {
+    words.push("run")?;
+    for word in text.lines() {
+        words.push(word)?;
+    }
+    Ok(())
+}
+
+/// What a run of threads gives.
+fn ran_as<R: Threads + Wait + Clock + Eprint + Copy + Send + Sync + 'static>(
+    rt: &R,
+    alloc: Global,
+    words: &RunWords,
+) -> io::Result<Ran> {
+    let mut sink = Writer::new(Vec::new(alloc));
+    let told = match text_run::run(rt, alloc, words, false, &mut sink) {
+        Ok(Some(missing)) => Ok(format!(in alloc; "{missing}\n")?),
+        Ok(None) => Ok(String::new(alloc)),
+        Err(fault) => Ok(format!(in alloc; "{fault}\n")?),
+    };
+    ran_with(without_time(alloc, sink.into_inner())?, told)
+}
+
+/// These lines, each without what a clock told: the seconds, and what is behind them.
+fn without_time(alloc: Global, printed: Vec<u8>) -> io::Result<Vec<u8>> {
+    let Ok(text) = String::from_utf8(printed) else {
+        return Ok(Vec::new(alloc));
+    };
+    let mut kept = String::new(alloc);
+    for line in text.lines() {
+        let timeless = match line.split_once(" seconds=") {
+            Some((before, _)) => before,
+            None => line,
+        };
+        kept.push_str(timeless)?;
+        kept.push_str("\n")?;
+    }
+    Ok(kept.into_bytes())
+}
+
+/// The line that tells how a run ended, if it tells anything.
+fn told_of<T: Display + Drop>(alloc: Global, ended: Result<(), Fault<T>>) -> io::Result<String> {
+    match ended {
+        Ok(()) => Ok(String::new(alloc)),
+        Err(fault) => Ok(format!(in alloc; "{fault}\n")?),
+    }
+}

@@ -1,0 +1,32 @@
+use Rattle.std.proofs.Common.{sym, ◌∙◌, codes}
+use Rattle.clap.specs.Words.{first_of, found_of, rows_of}
+use Rattle.clap.specs.declared.parser.matches.ArgMatches.TheViews.{out-ArgMatches}
+use Rattle.clap.proofs.WalkLemmas.{first_value-rows}
+use Rattle.mtpbank_words.specs.CommandLine.{IsWord}
+use Rattle.mtpbank_words.proofs.Subcommands.{found_is, no_run, options}
+use Rattle.mtpbank_words.proofs.words.named.Goals as goal
+
+-- src/words.rt
+pub returns-in-Err : goal.returns-in-Err
+returns-in-Err c =
+    let f = found_of c.in-Some.found.now in
+    let is = found_is (out-ArgMatches c.args.matches.now).subcommand c.in-Some.name.now (rows_of f) c.in-Some.ensures.name c.in-Some.ensures.rows in
+    rw is (no_run c.in-Some.name.now (rows_of f) c.in-run.is c.in-Err.why c.in-Err.ensures)
+
+pub returns-in-Some-word_of : goal.returns-in-Some-word_of
+returns-in-Some-word_of c =
+    let f = found_of c.in-Some.found.now in
+    let is = found_is (out-ArgMatches c.args.matches.now).subcommand c.in-Some.name.now (rows_of f) c.in-Some.ensures.name c.in-Some.ensures.rows in
+    let end = c.get_str.ensures ∙ first_value-rows f (codes "END") in
+    let word : IsWord c.in-Some-word_of.asked c.in-Some.name.now (first_of (codes "END") (rows_of f)) = rw (sym end) c.in-Some-word_of.ensures in
+    rw is (word, options c.in-Some-word_of.asked c.in-Some.name.now (first_of (codes "END") (rows_of f)) (rows_of f) c.in_default-name.not-run word)
+
+pub returns-in-None : goal.returns-in-None
+returns-in-None c =
+    let f = found_of c.in-Some.found.now in
+    let is = found_is (out-ArgMatches c.args.matches.now).subcommand c.in-Some.name.now (rows_of f) c.in-Some.ensures.name c.in-Some.ensures.rows in
+    let end = c.get_str.ensures ∙ first_value-rows f (codes "END") in
+    rw is (record {
+      none = λ asked found. c.in-None.ensures asked (rw end found.0);
+      no_link = λ linkless. c.in_default-name.not-run linkless.0;
+    })

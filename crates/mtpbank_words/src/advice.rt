@@ -1,0 +1,370 @@
+//! What is said of words that the program doesn't take, where more can be said than the library does.
+ghost use Rattle.std.specs.Prelude.{◌≡◌, ◌++◌, ◌<◌, IfOk, None, OnOk, length, map, position};
+ghost use Rattle.std.specs.Option.{ForSome, option_map};
+ghost use Rattle.mtpbank_words.specs.Advice.{advice, end_text, fits, history_advice, input_advice, input_of, input_text, is_equals, is_number_in, is_operand, name_of, option_name, option_of, option_text, plain, range_text, run_advice, run_usage, usage_of, value_text, without_flag, word_text};
+
+use std::alloc::{AllocError, Global};
+use std::convert::AsStr;
+use text_base::{is_word, read_number};
+
+/// The line with the usage of `run`, behind another.
+const RUN_USAGE: &[u8] = b"\nusage: mtpbank run [--sets N] [--links L] [--users U] [--messages M] \
+[--fail K] [--method WORD] [--turns T] [--checkpoint C] [--per-link]";
+
+/// A subcommand that reads standard input.
+#[derive(Clone, Copy, Debug, PartialEq, Eq)]
+pub enum Input {
+    Units,
+    Play,
+    Decode,
+    Capture,
+    Ladder,
+    Audit,
+    Terminal,
+    History,
+}
+
+/// An option of `run` that has a value.
+#[derive(Clone, Copy, Debug, PartialEq, Eq)]
+pub enum RunOption {
+    Sets,
+    Links,
+    Users,
+    Messages,
+    Fail,
+    Method,
+    Turns,
+    Checkpoint,
+}
+
+/// What is said of these words, which the program doesn't take, at most two lines without the last LF; `None`: what the
+/// library says is all.
+pub(crate) fn advise<S: AsStr>(alloc: Global, words: &[S]) -> Result<Option<Vec<u8>>, AllocError>
+    ensures { IfOk result (λ said. option_map (λ text. text.items) said
+        ≡ advice (map S.text words.now)) }
+{
+    let [name, others @ ..] = words else {
+        return Ok(None);
+    };
+    let name = name.as_str().as_bytes();
+    if is_word(name, b"run") {
+        return advise_run(alloc, others);
+    }
+    match find_input(name) {
+        Some(Input::History) => advise_history(alloc, others),
+        Some(Input::Play) => { advise_input(alloc, Input::Play, skip_flag(b"--explain", others)) }
+        Some(Input::Terminal) => {
+            advise_input(alloc, Input::Terminal, skip_flag(b"--explain", others))
+        }
+        Some(Input::Decode) => { advise_input(alloc, Input::Decode, skip_flag(b"--wide", others)) }
+        Some(input) => advise_input(alloc, input, others),
+        None => Ok(None),
+    }
+}
+
+/// The subcommand of this name that reads standard input.
+fn find_input(name: &[u8]) -> Option<Input>
+    ensures { result ≡ input_of name.now }
+{
+    if is_word(name, b"units") {
+        Some(Input::Units)
+    } else if is_word(name, b"play") {
+        Some(Input::Play)
+    } else if is_word(name, b"decode") {
+        Some(Input::Decode)
+    } else if is_word(name, b"capture") {
+        Some(Input::Capture)
+    } else if is_word(name, b"ladder") {
+        Some(Input::Ladder)
+    } else if is_word(name, b"audit") {
+        Some(Input::Audit)
+    } else if is_word(name, b"terminal") {
+        Some(Input::Terminal)
+    } else if is_word(name, b"history") {
+        Some(Input::History)
+    } else {
+        None
+    }
+}
+
+/// The subcommand's name.
+fn title(input: Input) -> &'static [u8]
+    ensures { result.now ≡ name_of input }
+{
+    match input {
+        Input::History => b"history",
+        _ => usage(input),
+    }
+}
+
+/// How the words of this subcommand are written.
+fn usage(input: Input) -> &'static [u8]
+    ensures { result.now ≡ usage_of input }
+{
+    match input {
+        Input::Units => b"units",
+        Input::Play => b"play",
+        Input::Decode => b"decode",
+        Input::Capture => b"capture",
+        Input::Ladder => b"ladder",
+        Input::Audit => b"audit",
+        Input::Terminal => b"terminal",
+        Input::History => b"history END",
+    }
+}
+
+/// Whether the word stands for a thing, and is no option.
+fn is_thing(word: &[u8]) -> bool
+    ensures { result ≡ is_operand word.now }
+{
+    match word {
+        [] => true,
+        [first, ..] => *first != b'-',
+    }
+}
+
+/// The words behind this flag, where it stands first.
+fn skip_flag<'a, S: AsStr>(flag: &[u8], words: &'a [S]) -> &'a [S]
+    ensures { map S.text result.now ≡ without_flag flag.now (map S.text words.now) }
+{
+    match words {
+        [first, others @ ..] if is_word(first.as_str().as_bytes(), flag) => others,
+        _ => words,
+    }
+}
+
+/// What is said where the first of these words is one that a subcommand which reads standard input doesn't take.
+fn advise_input<S: AsStr>(
+    alloc: Global,
+    input: Input,
+    words: &[S],
+) -> Result<Option<Vec<u8>>, AllocError>
+    ensures { IfOk result (λ said. option_map (λ text. text.items) said
+        ≡ input_advice input (map S.text words.now)) }
+{
+    match words {
+        [first, ..] if is_thing(first.as_str().as_bytes()) => Ok(Some(say_input(alloc, input)?)),
+        _ => Ok(None),
+    }
+}
+
+/// That this subcommand reads standard input.
+fn say_input(alloc: Global, input: Input) -> Result<Vec<u8>, AllocError>
+    ensures { IfOk result (λ text. text.items ≡ input_text input) }
+{
+    let mut text = Vec::from_slice(alloc, b"mtpbank ")?;
+    text.extend_from_slice(title(input))?;
+    text.extend_from_slice(b": reads standard input: mtpbank ")?;
+    text.extend_from_slice(usage(input))?;
+    text.extend_from_slice(b" < FILE")?;
+    Ok(text)
+}
+
+/// What is said of the words behind `history`.
+fn advise_history<S: AsStr>(alloc: Global, words: &[S]) -> Result<Option<Vec<u8>>, AllocError>
+    ensures { IfOk result (λ said. option_map (λ text. text.items) said
+        ≡ history_advice (map S.text words.now)) }
+{
+    match words {
+        [] => Ok(None),
+        [end] => advise_end(alloc, end.as_str().as_bytes()),
+        [_, others @ ..] => advise_input(alloc, Input::History, others),
+    }
+}
+
+/// What is said of an end that is none.
+fn advise_end(alloc: Global, word: &[u8]) -> Result<Option<Vec<u8>>, AllocError>
+    ensures { IfOk result (λ said. option_map (λ text. text.items) said ≡ end_text word.now) }
+{
+    if !is_thing(word) || is_word(word, b"a") || is_word(word, b"b") {
+        return Ok(None);
+    }
+    let mut text = Vec::from_slice(alloc, b"mtpbank history: ")?;
+    push_shown(&mut text, word)?;
+    text.extend_from_slice(b" isn't an end, a or b\nusage: mtpbank history END < FILE")?;
+    Ok(Some(text))
+}
+
+/// What is said of the first of the words behind `run` that is wrong.
+fn advise_run<S: AsStr>(alloc: Global, words: &[S]) -> Result<Option<Vec<u8>>, AllocError>
+    ensures { IfOk result (λ said. option_map (λ text. text.items) said
+        ≡ run_advice None (map S.text words.now)) }
+{
+    let mut option = None;
+    let mut left = words;
+    while let [word, others @ ..] = left {
+        let word = word.as_str().as_bytes();
+        match option {
+            Some(it) if takes(it, word) => option = None,
+            Some(it) => return Ok(Some(say_value(alloc, it, word)?)),
+            None => match find_option(word) {
+                Some(it) => option = Some(it),
+                None => {
+                    if let Some(said) = advise_word(alloc, word)? {
+                        return Ok(Some(said));
+                    }
+                }
+            },
+        }
+        left = others;
+    }
+    Ok(None)
+}
+
+/// What is said of a word that is no option with its value behind it.
+fn advise_word(alloc: Global, word: &[u8]) -> Result<Option<Vec<u8>>, AllocError>
+    ensures { IfOk result (λ said. option_map (λ text. text.items) said ≡ word_text word.now) }
+{
+    if is_thing(word) {
+        return Ok(Some(say_word(alloc, word)?));
+    }
+    let Some(place) = find_equals(word) else {
+        return Ok(None);
+    };
+    match find_option(&word[..place]) {
+        Some(option) if !takes(option, &word[place + 1..]) => {
+            Ok(Some(say_value(alloc, option, &word[place + 1..])?))
+        }
+        _ => Ok(None),
+    }
+}
+
+/// The place of the first `=`.
+fn find_equals(word: &[u8]) -> Option<usize>
+    ensures place { result ≡ position is_equals word.now }
+    ensures within { ForSome result (λ place. place < length word.now) }
+{
+    word.iter().position(|c| *c == b'=')
+}
+
+/// The option of this name.
+fn find_option(word: &[u8]) -> Option<RunOption>
+    ensures { result ≡ option_of word.now }
+{
+    if is_word(word, b"--sets") {
+        Some(RunOption::Sets)
+    } else if is_word(word, b"--links") {
+        Some(RunOption::Links)
+    } else if is_word(word, b"--users") {
+        Some(RunOption::Users)
+    } else if is_word(word, b"--messages") {
+        Some(RunOption::Messages)
+    } else if is_word(word, b"--fail") {
+        Some(RunOption::Fail)
+    } else if is_word(word, b"--method") {
+        Some(RunOption::Method)
+    } else if is_word(word, b"--turns") {
+        Some(RunOption::Turns)
+    } else if is_word(word, b"--checkpoint") {
+        Some(RunOption::Checkpoint)
+    } else {
+        None
+    }
+}
+
+/// How the option is written.
+fn name(option: RunOption) -> &'static [u8]
+    ensures { result.now ≡ option_name option }
+{
+    match option {
+        RunOption::Sets => b"--sets",
+        RunOption::Links => b"--links",
+        RunOption::Users => b"--users",
+        RunOption::Messages => b"--messages",
+        RunOption::Fail => b"--fail",
+        RunOption::Method => b"--method",
+        RunOption::Turns => b"--turns",
+        RunOption::Checkpoint => b"--checkpoint",
+    }
+}
+
+/// What its value can be.
+fn range(option: RunOption) -> &'static [u8]
+    ensures { result.now ≡ range_text option }
+{
+    match option {
+        RunOption::Sets => b"a number from 1 to 16",
+        RunOption::Links => b"a number from 1 to 16",
+        RunOption::Users => b"a number from 1 to 16",
+        RunOption::Messages => b"a number from 1 to 1024",
+        RunOption::Fail => b"the number of a link, 0 to 15",
+        RunOption::Method => b"basic or cyclic",
+        RunOption::Turns => b"a number from 1 to 1000000",
+        RunOption::Checkpoint => b"a number from 1 to 1024",
+    }
+}
+
+/// Whether the option can have this value.
+fn takes(option: RunOption, value: &[u8]) -> bool
+    ensures { result ≡ fits option value.now }
+{
+    match option {
+        RunOption::Sets => is_within(1, 16, value),
+        RunOption::Links => is_within(1, 16, value),
+        RunOption::Users => is_within(1, 16, value),
+        RunOption::Messages => is_within(1, 1_024, value),
+        RunOption::Fail => is_within(0, 15, value),
+        RunOption::Method => is_word(value, b"basic") || is_word(value, b"cyclic"),
+        RunOption::Turns => is_within(1, 1_000_000, value),
+        RunOption::Checkpoint => is_within(1, 1_024, value),
+    }
+}
+
+/// Whether the word is a number from `least` to `most`.
+fn is_within(least: u64, most: u64, word: &[u8]) -> bool
+    ensures { result ≡ is_number_in least most word.now }
+{
+    match read_number(word) {
+        Some(number) => least <= number && number <= most,
+        None => false,
+    }
+}
+
+/// That the value isn't one that the option can have.
+fn say_value(alloc: Global, option: RunOption, value: &[u8]) -> Result<Vec<u8>, AllocError>
+    ensures { IfOk result (λ text. text.items ≡ value_text option value.now) }
+{
+    let mut text = Vec::from_slice(alloc, b"mtpbank run: ")?;
+    text.extend_from_slice(name(option))?;
+    text.push(b' ')?;
+    push_shown(&mut text, value)?;
+    text.extend_from_slice(b" isn't ")?;
+    text.extend_from_slice(range(option))?;
+    push_run_usage(&mut text)?;
+    Ok(text)
+}
+
+/// That the word is no option.
+fn say_word(alloc: Global, word: &[u8]) -> Result<Vec<u8>, AllocError>
+    ensures { IfOk result (λ text. text.items ≡ option_text word.now) }
+{
+    let mut text = Vec::from_slice(alloc, b"mtpbank run: ")?;
+    push_shown(&mut text, word)?;
+    text.extend_from_slice(b" isn't an option")?;
+    push_run_usage(&mut text)?;
+    Ok(text)
+}
+
+/// Adds the line with the usage of `run`.
+fn push_run_usage(text: &mut Vec<u8>) -> Result<(), AllocError>
+    ensures { OnOk result (text.new.items ≡ text.old.items ++ run_usage) }
+{
+    text.extend_from_slice(RUN_USAGE)
+}
+
+/// Adds a word as it's shown on one line: a dot for each control character.
+fn push_shown(text: &mut Vec<u8>, word: &[u8]) -> Result<(), AllocError>
+    ensures { OnOk result (text.new.items ≡ text.old.items ++ map plain word.now) }
+{
+    for c in word {
+        text.push(shown(*c))?;
+    }
+    Ok(())
+}
+
+/// A dot for a control character.
+fn shown(c: u8) -> u8
+    ensures { result ≡ plain c }
+{
+    if c < 32 || c == 127 { b'.' } else { c }
+}

@@ -1,0 +1,413 @@
+//! The words of the command line.
+ghost use Rattle.std.specs.Prelude.{◌≡◌, ◌≢◌, ◌↔◌, IfErr, IfOk, IsTrue, MatchOption, MatchResult, codes, false, map};
+ghost use Rattle.std.specs.Option.{option_map};
+ghost use Rattle.clap.specs.Words.{app_of, subcommand_rows_of};
+ghost use Rattle.clap.specs.declared.error.ErrorKind.TheVariants.{InvalidSubcommand, InvalidValue, OutOfMemory};
+ghost use Rattle.clap.specs.Simple.{new_shape, shape_of};
+ghost use Rattle.clap.specs.declared.builder.command.Command.{out-Command};
+ghost use Rattle.clap.specs.Values.{kind_of};
+ghost use Rattle.mtpbank_words.specs.CommandLine.{program, without_subcommands, decode_shape, history_shape, play_shape, terminal_shape, words_in};
+ghost use Rattle.mtpbank_words.specs.CommandLine.{AreWrong, IsAboutWord, IsAsked, IsFound, IsKind, IsNotFound, IsRefused, IsWord, Refuses};
+
+use super::advice::advise;
+use super::help::{
+    AUDIT_HELP, AUDIT_PAGE, CAPTURE_HELP, CAPTURE_PAGE, DECODE_HELP, DECODE_PAGE, HELP,
+    HISTORY_HELP, HISTORY_PAGE, LADDER_HELP, LADDER_PAGE, PLAY_HELP, PLAY_PAGE, PROGRAM_PAGE,
+    TERMINAL_HELP, TERMINAL_PAGE, UNITS_HELP, UNITS_PAGE,
+};
+use super::run_options::{run_command, run_of};
+use super::run_words::{RunWords, Unasked};
+use clap::error::ErrorKind;
+use clap::{Arg, ArgAction, ArgMatches, Command};
+use std::alloc::{AllocError, Global};
+use std::convert::AsStr;
+
+/// What the command line asks for.
+#[derive(Clone, Copy, Debug, PartialEq, Eq)]
+pub enum Words {
+    /// Tell what a signalling terminal sees of the digits on standard input.
+    Units,
+    /// Play a script of two ends of a link set from standard input.
+    Play,
+    /// Play it so, and explain the line that ends it with a fault.
+    PlayExplained,
+    /// Tell what the units on standard input say.
+    Decode,
+    /// The same of units of the wide profile.
+    DecodeWide,
+    /// Write what a script's ends send as a file that network analysers read.
+    Capture,
+    /// Draw what happens at both ends of a script as a chart.
+    Ladder,
+    /// Tell whether the history on standard input is legal.
+    Audit,
+    /// Drive one end of a link set, whose lines are elsewhere, by the lines on standard input.
+    Terminal,
+    /// Drive it so, and explain the line that ends it with a fault.
+    TerminalExplained,
+    /// Print the history of end a of a script.
+    HistoryOfA,
+    /// Print the history of end b of a script.
+    HistoryOfB,
+    /// Run two banks of sets in threads, with traffic between them.
+    Run(RunWords),
+}
+
+/// Why the words ask for nothing.
+#[derive(Debug, Drop)]
+pub enum WordsFault {
+    /// 1: memory is wanted.
+    NoMemory,
+    /// 2: wrong words, or a question for help or the version.
+    Words(clap::Error),
+    /// 3: the link that is to fail in a run isn't one of its links.
+    Link,
+    /// 4: wrong words of which this is said, at most two lines without the last LF.
+    Said(Vec<u8>),
+}
+
+impl From<AllocError> for WordsFault {
+    ghost use Rattle.std.specs.Prelude.{◌≡◌};
+    ghost use Rattle.mtpbank_words.specs.declared.words.WordsFault.TheVariants.{NoMemory};
+
+    ghost from_gives = { λ _ fault. fault ≡ NoMemory };
+
+    fn from(_error: AllocError) -> WordsFault {
+        WordsFault::NoMemory
+    }
+}
+
+/// What these words, those after the program's name, ask for.
+///
+/// 1 [`WordsFault::NoMemory`] may come before the other; 2 [`WordsFault::Words`] only where `clap`'s definition
+/// refuses the words, or where they name no subcommand of the program, no end behind `history`, or behind `run` a number
+/// out of its range or no method; 3 [`WordsFault::Link`] only where all these are right, but the link that is to fail
+/// isn't below the links. 4 [`WordsFault::Said`] as 2, of words of which more can be said than the library does
+/// (`specs/Advice.antt`): a word behind a subcommand that reads standard input, an end that is none, and behind `run` a
+/// value out of its range or a word that is no option.
+pub fn words_of<S: AsStr>(alloc: Global, words: &[S]) -> Result<Words, WordsFault>
+    ensures asked { IfOk result (λ found. IsAsked found (map S.text words.now)) }
+    ensures refused { IfErr result (λ fault. Refuses fault (map S.text words.now)) }
+{
+    let mut command = command(alloc)?;
+    match found_by(&mut command, words) {
+        Err(WordsFault::Words(error)) => Err(with_advice(alloc, words, error)),
+        found => found,
+    }
+}
+
+/// What is said of these words, for which the library has this error: advice where they are wrong and there is some.
+fn with_advice<S: AsStr>(alloc: Global, words: &[S], error: clap::Error) -> WordsFault
+    ensures { IsRefused (map S.text words.now) → Refuses result (map S.text words.now) }
+{
+    if !is_about_a_word(error.kind()) {
+        return WordsFault::Words(error);
+    }
+    match advise(alloc, words) {
+        Ok(Some(said)) => WordsFault::Said(said),
+        Ok(None) => WordsFault::Words(error),
+        Err(_) => WordsFault::NoMemory,
+    }
+}
+
+/// Whether an error of this kind is about a word that isn't taken, or a value.
+fn is_about_a_word(kind: ErrorKind) -> bool
+    ensures { IsTrue result ↔ IsAboutWord kind }
+{
+    matches!(kind, ErrorKind::UnknownArgument | ErrorKind::InvalidValue)
+}
+
+/// What these arguments ask for: the first is the program's own name, as the system hands it, and the words are all
+/// behind it. Faults as [`words_of`]'s, of those words.
+pub fn asked_by(alloc: Global, args: &[String]) -> Result<Words, WordsFault>
+    ensures asked { IfOk result (λ found. IsAsked found (words_in args.now)) }
+    ensures refused { IfErr result (λ fault. Refuses fault (words_in args.now)) }
+{
+    if args.is_empty() {
+        return words_of(alloc, args);
+    }
+    words_of(alloc, &args[1..])
+}
+
+/// What the program's command finds in the words.
+fn found_by<'a, S: AsStr>(command: &mut Command<'a>, words: &'a [S]) -> Result<Words, WordsFault>
+    requires { app_of command.old ≡ program }
+    ensures asked { IfOk result (λ found. IsAsked found (map S.text words.entry.now)) }
+    ensures refused { IfErr result (λ fault. Refuses fault (map S.text words.entry.now)) }
+{
+    match command.try_get_matches_from_mut(words) {
+        Ok(matches) => match named(&matches) {
+            Ok(asked) => Ok(asked),
+            Err(Unasked::Value(said)) => Err(nothing_asked(command, said)),
+            Err(Unasked::Link) => Err(WordsFault::Link),
+        },
+        Err(error) => Err(fault_of(error)),
+    }
+}
+
+/// What the subcommand that was found asks for.
+fn named(matches: &ArgMatches<'_>) -> Result<Words, Unasked>
+    ensures { MatchResult result
+        (λ asked. IsFound asked (subcommand_rows_of matches.now))
+        (λ why. IsNotFound why (subcommand_rows_of matches.now)) }
+{
+    let Some((name, found)) = matches.subcommand() else {
+        return Err(Unasked::Value(NO_END));
+    };
+    match name {
+        "run" => match run_of(found) {
+            Ok(run) => Ok(Words::Run(run)),
+            Err(why) => Err(why),
+        },
+        _ => match word_of(name, found.get_str("END")) {
+            Some(asked) => Ok(asked),
+            None => Err(Unasked::Value(NO_END)),
+        },
+    }
+}
+
+/// What is said where the end is neither.
+const NO_END: &str = "an end is a or b, as in `mtpbank history a`";
+
+/// What a subcommand of this name asks for, with the word behind it, if there is one.
+fn word_of(name: &str, end: Option<&str>) -> Option<Words>
+    requires other { name.now ≢ codes "run" }
+    ensures { MatchOption result
+        ((asked : Words) → IsWord asked name.now (option_map (λ s. s.now) end.entry) → ⊥)
+        (λ asked. IsWord asked name.now (option_map (λ s. s.now) end.entry)) }
+{
+    match name {
+        "units" => Some(Words::Units),
+        "play" => Some(play_of(end)),
+        "decode" => Some(decode_of(end)),
+        "capture" => Some(Words::Capture),
+        "ladder" => Some(Words::Ladder),
+        "audit" => Some(Words::Audit),
+        "terminal" => Some(terminal_of(end)),
+        "history" => history_of(end),
+        _ => None,
+    }
+}
+
+/// What is asked for by `play`, with what its flag says.
+fn play_of(explains: Option<&str>) -> Words
+    ensures { IsWord result (codes "play") (option_map (λ s. s.now) explains.entry) }
+{
+    match explains {
+        Some("true") => Words::PlayExplained,
+        _ => Words::Play,
+    }
+}
+
+/// What is asked for by `decode`, with what its flag says.
+fn decode_of(is_wide: Option<&str>) -> Words
+    ensures { IsWord result (codes "decode") (option_map (λ s. s.now) is_wide.entry) }
+{
+    match is_wide {
+        Some("true") => Words::DecodeWide,
+        _ => Words::Decode,
+    }
+}
+
+/// What is asked for by `terminal`, with what its flag says.
+fn terminal_of(explains: Option<&str>) -> Words
+    ensures { IsWord result (codes "terminal") (option_map (λ s. s.now) explains.entry) }
+{
+    match explains {
+        Some("true") => Words::TerminalExplained,
+        _ => Words::Terminal,
+    }
+}
+
+/// The history that is asked for.
+fn history_of(end: Option<&str>) -> Option<Words>
+    ensures { MatchOption result
+        ((asked : Words) → IsWord asked (codes "history") (option_map (λ s. s.now) end.entry) → ⊥)
+        (λ asked. IsWord asked (codes "history") (option_map (λ s. s.now) end.entry)) }
+{
+    match end {
+        Some("a") => Some(Words::HistoryOfA),
+        Some("b") => Some(Words::HistoryOfB),
+        _ => None,
+    }
+}
+
+/// The words ask for nothing, since a value is none; this is said.
+fn nothing_asked(command: &mut Command<'_>, said: &str) -> WordsFault
+    ensures { IsKind InvalidValue result }
+{
+    match command.error(ErrorKind::InvalidValue, said) {
+        Ok(error) => WordsFault::Words(error),
+        Err(_) => WordsFault::NoMemory,
+    }
+}
+
+/// What is answered where a word isn't Unicode: it's no subcommand of the program.
+///
+/// 1 [`WordsFault::NoMemory`] may come in its place; 2 [`WordsFault::Words`] is of the kind
+/// [`ErrorKind::InvalidSubcommand`], so it's told on standard error, with status 2.
+pub fn not_unicode(alloc: Global) -> WordsFault
+    ensures { IsKind InvalidSubcommand result }
+{
+    match refusal(alloc) {
+        Ok(error) => fault_of(error),
+        Err(_) => WordsFault::NoMemory,
+    }
+}
+
+/// What is said of a word that isn't Unicode.
+fn refusal(alloc: Global) -> Result<clap::Error, AllocError>
+    ensures { IfOk result (λ error. kind_of error ≡ InvalidSubcommand) }
+{
+    command(alloc)?.error(ErrorKind::InvalidSubcommand, "a word isn't Unicode")
+}
+
+/// Want of memory is no fault of the words.
+fn fault_of(error: clap::Error) -> WordsFault
+    ensures wrong { AreWrong result → kind_of error ≢ OutOfMemory }
+    ensures kind { IsKind (kind_of error) result }
+{
+    match error.kind() {
+        ErrorKind::OutOfMemory => WordsFault::NoMemory,
+        _ => WordsFault::Words(error),
+    }
+}
+
+/// The words that the program knows.
+fn command<'a>(alloc: Global) -> Result<Command<'a>, AllocError>
+    ensures { IfOk result (λ command. app_of command ≡ program) }
+{
+    itself(alloc)?
+        .subcommand(units_command(alloc))?
+        .subcommand(play_command(alloc)?)?
+        .subcommand(decode_command(alloc)?)?
+        .subcommand(capture_command(alloc))?
+        .subcommand(ladder_command(alloc))?
+        .subcommand(audit_command(alloc))?
+        .subcommand(history_command(alloc)?)?
+        .subcommand(terminal_command(alloc)?)?
+        .subcommand(run_command(alloc)?)
+}
+
+/// The word `units`.
+fn units_command<'a>(alloc: Global) -> Command<'a>
+    ensures shape { shape_of result ≡ new_shape (codes "units") }
+    ensures local { (out-Command result).has_globals ≡ false }
+{
+    Command::new(alloc, "units")
+        .about("Tells what a signalling terminal sees of the octets of a line")
+        .after_help(UNITS_PAGE)
+        .after_long_help(UNITS_HELP)
+}
+
+/// The word `play`, and a flag. What stands behind a subcommand is END to the library, so that one reader serves all.
+fn play_command<'a>(alloc: Global) -> Result<Command<'a>, AllocError>
+    ensures shape { IfOk result (λ command. shape_of command ≡ play_shape) }
+    ensures local { IfOk result (λ command. (out-Command command).has_globals ≡ false) }
+{
+    let explain = Arg::new(alloc, "END")
+        .long("explain")
+        .action(ArgAction::SetTrue)
+        .help("Explains the line that ends the script with a fault");
+    Command::new(alloc, "play")
+        .about("Plays a script of two ends of a link set, line by line")
+        .after_help(PLAY_PAGE)
+        .after_long_help(PLAY_HELP)
+        .arg(explain)
+}
+
+/// The word `decode`, and a flag.
+fn decode_command<'a>(alloc: Global) -> Result<Command<'a>, AllocError>
+    ensures shape { IfOk result (λ command. shape_of command ≡ decode_shape) }
+    ensures local { IfOk result (λ command. (out-Command command).has_globals ≡ false) }
+{
+    let wide = Arg::new(alloc, "END")
+        .long("wide")
+        .action(ArgAction::SetTrue)
+        .help("Reads units of the wide profile, with numbers of 12 bits");
+    Command::new(alloc, "decode")
+        .about("Tells what the octets of signal units say, a unit a line")
+        .after_help(DECODE_PAGE)
+        .after_long_help(DECODE_HELP)
+        .arg(wide)
+}
+
+/// The word `capture`.
+fn capture_command<'a>(alloc: Global) -> Command<'a>
+    ensures shape { shape_of result ≡ new_shape (codes "capture") }
+    ensures local { (out-Command result).has_globals ≡ false }
+{
+    Command::new(alloc, "capture")
+        .about("Plays a script, and writes the units that are sent as a pcap file")
+        .after_help(CAPTURE_PAGE)
+        .after_long_help(CAPTURE_HELP)
+}
+
+/// The word `ladder`.
+fn ladder_command<'a>(alloc: Global) -> Command<'a>
+    ensures shape { shape_of result ≡ new_shape (codes "ladder") }
+    ensures local { (out-Command result).has_globals ≡ false }
+{
+    Command::new(alloc, "ladder")
+        .about("Plays a script, and draws what happens at both ends as a chart")
+        .after_help(LADDER_PAGE)
+        .after_long_help(LADDER_HELP)
+}
+
+/// The word `audit`.
+fn audit_command<'a>(alloc: Global) -> Command<'a>
+    ensures shape { shape_of result ≡ new_shape (codes "audit") }
+    ensures local { (out-Command result).has_globals ≡ false }
+{
+    Command::new(alloc, "audit")
+        .about("Tells whether a history of a link set is legal")
+        .after_help(AUDIT_PAGE)
+        .after_long_help(AUDIT_HELP)
+}
+
+/// The word `terminal`, and a flag.
+fn terminal_command<'a>(alloc: Global) -> Result<Command<'a>, AllocError>
+    ensures shape { IfOk result (λ command. shape_of command ≡ terminal_shape) }
+    ensures local { IfOk result (λ command. (out-Command command).has_globals ≡ false) }
+{
+    let explain = Arg::new(alloc, "END")
+        .long("explain")
+        .action(ArgAction::SetTrue)
+        .help("Explains the line that ends the input with a fault");
+    Command::new(alloc, "terminal")
+        .about("Drives one end of a link set, whose lines are yours, line by line")
+        .after_help(TERMINAL_PAGE)
+        .after_long_help(TERMINAL_HELP)
+        .arg(explain)
+}
+
+/// The word `history`, and an end behind it.
+fn history_command<'a>(alloc: Global) -> Result<Command<'a>, AllocError>
+    ensures shape { IfOk result (λ command. shape_of command ≡ history_shape) }
+    ensures local { IfOk result (λ command. (out-Command command).has_globals ≡ false) }
+{
+    let end = Arg::new(alloc, "END")
+        .required(true)
+        .help("Whose history: a or b");
+    Command::new(alloc, "history")
+        .about("Prints what an end of a script, a or b, was asked and answered")
+        .after_help(HISTORY_PAGE)
+        .after_long_help(HISTORY_HELP)
+        .arg(end)
+}
+
+/// The program's words but for its subcommands.
+fn itself<'a>(alloc: Global) -> Result<Command<'a>, AllocError>
+    ensures { IfOk result (λ command. app_of command ≡ without_subcommands) }
+{
+    let named = Command::new(alloc, "mtpbank").bin_name("mtpbank")?;
+    Ok(
+        named
+            .version("0.1.0")
+            .about("A proved bank of signalling terminals for Signalling System No. 7")
+            .no_binary_name(true)
+            .subcommand_required(true)
+            .after_help(PROGRAM_PAGE)
+            .after_long_help(HELP),
+    )
+}

@@ -1,6 +1,0 @@
-use Rattle.std.proofs.Common.{refl}
-use Rattle.paced_banks.proofs.Plans.{same_timers}
-use Rattle.paced_banks.proofs.traffic.plan_of.Goals as goal
-
-pub returns : goal.returns
-returns c = record { timers_are = same_timers _ _ _ _ _ _ _ _ _ _ _ _; turns_are = refl; fail_is = refl; checkpoint_is = refl; managed_is = c.managed_of.ensures; keeps_is = refl }

@@ -1,0 +1,26 @@
+//! The words of a world of two ends: what can happen in it, a [`Step`], what it shows, [`Shown`], and the units under way
+//! to one end, [`Lines`].
+//!
+//! ```text
+//! link 0   unit unit unit          oldest first: place 0 is the next to arrive
+//! link 1
+//! ..
+//! link 15  unit                    a line for each link
+//! ```
+//!
+//! A unit joins a line at its end and leaves it from any place, and a line can be emptied; [`Line`] is one of them to
+//! read. No call touches the line of another link. Whether a unit that leaves was heard or lost is the caller's to know.
+//!
+//! This crate knows no set: it serves those who make steps (`script_grammar`) or print what they show (`script_answers`)
+//! without the world itself; `pair_world` says what a step does.
+#![tactic(auto)]
+
+mod line;
+mod lines;
+mod step;
+mod under_way;
+
+pub use line::Line;
+pub use lines::Lines;
+pub use step::{End, Shown, Step};
+pub use under_way::UnderWay;

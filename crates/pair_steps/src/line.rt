@@ -1,0 +1,90 @@
+//! Units under way on one link.
+ghost use Rattle.std.specs.Prelude.{◌≡◌, ◌==◌, [], ◌∷◌, ◌++◌, OnOk, OnErr, length, slice_get};
+ghost use Rattle.pair_steps.specs.Lines.{IsTakenFrom};
+
+use super::under_way::UnderWay;
+use l2_units::Unit;
+use std::alloc::{AllocError, Allocator, Global};
+use std::collections::VecDeque;
+use std::marker::Model;
+
+/// Units under way on one link, oldest first, each in as much memory as it has octets. Contracts see the list. The front leaves it
+/// at the same cost whatever stands behind.
+#[derive(Drop)]
+pub struct Line<A: Allocator = Global> {
+    units: VecDeque<UnderWay<A>, A>,
+    /// What a message's octets are kept by.
+    alloc: A,
+}
+
+impl<A: Allocator> Model for Line<A> {
+    ghost use Rattle.std.specs.Prelude.{List};
+    ghost use Rattle.l2_units.specs.declared.unit.Unit.{Unit as SignalUnit};
+
+    ghost Value = { List SignalUnit };
+
+    ghost view = { λ l. l.units.items };
+}
+
+impl<A: Allocator + Copy> Line<A> {
+    /// Nothing is under way.
+    pub(crate) fn new(alloc: A) -> Line<A>
+        ensures { result ≡ [] }
+    {
+        Line {
+            units: VecDeque::new(alloc),
+            alloc,
+        }
+    }
+
+    /// A unit joins the line; where memory is wanted, nothing has changed.
+    pub(crate) fn join(&mut self, unit: &Unit) -> Result<(), AllocError>
+        ensures ok { OnOk result (self.new ≡ self.old ++ unit.now ∷ []) }
+        ensures err { OnErr result (self.new ≡ self.old) }
+    {
+        let under_way = UnderWay::of(self.alloc, unit)?;
+        self.units.push_back(under_way)?;
+        Ok(())
+    }
+
+    /// How many units are under way.
+    pub fn len(&self) -> usize
+        ensures { result ≡ length self.now }
+    {
+        self.units.len()
+    }
+
+    /// Whether none is.
+    pub fn is_empty(&self) -> bool
+        ensures { result ≡ (length self.now == 0) }
+    {
+        self.units.is_empty()
+    }
+
+    /// The unit at this place, the oldest at 0.
+    pub fn unit(&self, place: u64) -> Option<Unit>
+        ensures { result ≡ slice_get self.now place }
+    {
+        match self.units.get(place as usize) {
+            Some(under_way) => Some(under_way.unit()),
+            None => None,
+        }
+    }
+
+    /// Takes the unit at this place out of the line, if there is one.
+    pub(crate) fn take_out(&mut self, place: u64) -> Option<UnderWay<A>>
+        ensures { IsTakenFrom result self.old place self.new }
+    {
+        if place == 0 {
+            return self.units.pop_front();
+        }
+        self.units.remove(place as usize)
+    }
+
+    /// Nothing is under way any more.
+    pub(crate) fn clear(&mut self)
+        ensures { self.new ≡ [] }
+    {
+        self.units.clear();
+    }
+}

@@ -1,0 +1,21 @@
+-- Pieces of a text behind one another.
+use Rattle.std.proofs.Common.{◌≡◌, ◌∙◌, ℕ, List, ◌++◌, length, take, ap, sym, arith, append_assoc, ◌≤◌, Result, Ok, Err, take-take, length-append, codes, decimal}
+use Rattle.std.proofs.Math.Seq.{take-append_seam}
+use Rattle.set_events.specs.declared.answer.Report.{Report}
+use Rattle.script_answers.specs.Texts.{Appends, report_text, flags_text, took_text}
+
+-- a piece that was written, and a text behind it
+pub behind : {E : Type 0} (result : Result (Unit {0}) E) (old middle piece more new : List ℕ) → middle ≡ old ++ piece
+    → Appends result middle more new → Appends result old (piece ++ more) new
+behind (Ok done) old middle piece more new e f = f ∙ ap (λ (x : List ℕ). x ++ more) e ∙ append_assoc old piece more
+behind (Err want) old middle piece more new e f =
+    let shorter : length old ≤ length middle = rw (e, length-append old piece) (omega arith) in
+    sym (take-take (length old) (length middle) new shorter) ∙ ap (take (length old)) (f ∙ e) ∙ take-append_seam old piece
+
+-- the pieces of what a heard unit did
+pub report_pieces : {E : Type 0} (result : Result (Unit {0}) E) (r : Report) (took : List ℕ) (o0 o1 o2 new : List ℕ)
+    → took ≡ codes " took=" ++ took_text r.took → o1 ≡ o0 ++ (codes "heard acked=" ++ decimal r.acked) → o2 ≡ o1 ++ took
+    → Appends result o2 (flags_text r) new → Appends result o0 (report_text r) new
+report_pieces result r took o0 o1 o2 new word e1 e2 end =
+    behind result o0 o1 (codes "heard acked=" ++ decimal r.acked) (codes " took=" ++ (took_text r.took ++ flags_text r)) new e1
+    (behind result o1 o2 (codes " took=" ++ took_text r.took) (flags_text r) new (rw word at e2) end)

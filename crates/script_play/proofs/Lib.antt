@@ -1,0 +1,3 @@
+pub mod EndLemmas
+mod Reasons
+mod Same

@@ -1,0 +1,3 @@
+pub mod PlayText
+pub mod Explaining
+pub mod Reasons

@@ -1,0 +1,233 @@
+//! A script under way, and what a line of it does.
+ghost use Rattle.std.specs.Prelude.{◌≡◌, ◌≢◌, Some, IsSome, MatchResult};
+ghost use Rattle.script_grammar.specs.Script.{first_line};
+ghost use Rattle.pair_model.specs.World.{World as ModelWorld, Outcome, carried_out};
+ghost use Rattle.pair_world.specs.Carried.{Fails};
+ghost use Rattle.text_printing.specs.declared.fault.Stop.TheVariants.{Input};
+ghost use Rattle.text_lines.specs.Flaws.{flaw_of};
+ghost use Rattle.text_lines.specs.Lines.{prints};
+ghost use Rattle.text_lines.specs.Reading.{IsDone, Tells};
+ghost use Rattle.script_walk.specs.declared.fault.ScriptFault.TheVariants.{Text};
+ghost use Rattle.script_walk.specs.Scripts.{Told, opened, outcome_of, profile_of, read_script};
+ghost use Rattle.pair_steps.specs.declared.step.Step.{Step as ModelStep};
+
+use super::account::Account;
+use super::fault::ScriptFault;
+use l2_units::Profile;
+use pair_steps::{Shown, Step};
+use pair_world::{End, PlayFault, World};
+use script_grammar::{read_opening, read_step_into};
+use std::alloc::Global;
+use std::marker::{Model, PhantomData};
+use text_lines::{LineFlaw, LineText, find_flaw};
+use text_printing::Stop;
+
+/// A script under way.
+#[derive(Drop)]
+pub struct Script<A> {
+    /// The world, once the first line has made it.
+    world: Option<World>,
+    /// The last line's step, and what it showed: both have room for a unit, and are filled where they stand.
+    step: Step,
+    shown: Shown,
+    account: PhantomData<A>,
+}
+
+impl<A> Model for Script<A> {
+    ghost use Rattle.std.specs.Prelude.{Option};
+    ghost use Rattle.pair_model.specs.World.{World as ModelWorld};
+
+    ghost Value = { Option ModelWorld };
+
+    ghost view = { λ script. script.world };
+}
+
+impl<A: Account> Script<A> {
+    ghost use Rattle.std.specs.Prelude.{◌≡◌, None};
+    ghost use Rattle.std.specs.Option.{option_map};
+    ghost use Rattle.set_model.specs.State.{link_count};
+    ghost use Rattle.script_walk.specs.Scripts.{profile_of};
+
+    /// Before the first line.
+    pub fn new() -> Script<A>
+        ensures { result ≡ None }
+    {
+        Script {
+            world: None,
+            step: Step::Together { link: 0 },
+            shown: Shown::Up,
+            account: PhantomData,
+        }
+    }
+
+    /// How many links the world has, once the first line has made it.
+    pub fn links(&self) -> Option<u8>
+        ensures { result ≡ option_map (λ w. link_count w.a.state) self.now }
+    {
+        match &self.world {
+            Some(world) => Some(world.core(End::A).links()),
+            None => None,
+        }
+    }
+
+    /// The profile of the world, once the first line has made it.
+    pub fn profile(&self) -> Option<Profile>
+        ensures { result ≡ option_map profile_of self.now }
+    {
+        match &self.world {
+            Some(world) => Some(world_profile(world)),
+            None => None,
+        }
+    }
+}
+
+/// The profile of a world.
+pub fn world_profile(world: &World) -> Profile
+    ensures { result ≡ profile_of world.now }
+{
+    world.core(End::A).config().profile()
+}
+
+impl<A: Account> LineText for Script<A> {
+    type Fault = ScriptFault;
+
+    ghost use Rattle.script_walk.specs.Scripts.{script_rules};
+
+    ghost rules = { script_rules A.told };
+
+    fn unreadable(number: u64) -> ScriptFault {
+        ScriptFault::Text {
+            line: number,
+            flaw: LineFlaw::Long,
+        }
+    }
+
+    fn line(
+        &mut self,
+        alloc: Global,
+        number: u64,
+        text: &[u8],
+        out: &mut Vec<u8>,
+    ) -> Result<(), Stop<ScriptFault>> {
+        if self.world.is_none() {
+            open::<A>(alloc, &mut self.world, number, text, out)
+        } else {
+            let Script {
+                world,
+                step,
+                shown,
+                ..
+            } = self;
+            carry_out::<A>(alloc, world, step, shown, number, text, out)
+        }
+    }
+
+    fn end(&self, alloc: Global, out: &mut Vec<u8>) -> Result<(), Stop<ScriptFault>> {
+        A::tell_end(alloc, &self.world, out)?;
+        Ok(())
+    }
+}
+
+/// The first line makes the world.
+fn open<A: Account>(
+    alloc: Global,
+    world: &mut Option<World>,
+    number: u64,
+    text: &[u8],
+    out: &mut Vec<u8>,
+) -> Result<(), Stop<ScriptFault>>
+    ensures { IsDone result (opened A.told number text.now (first_line text.now))
+        out.old.items out.new.items world.new }
+{
+    let made = make_world(alloc, number, text)?;
+    let told = A::tell_opening(alloc, &made, out);
+    *world = Some(made);
+    told?;
+    Ok(())
+}
+
+/// The world that the first line asks for.
+fn make_world(alloc: Global, number: u64, text: &[u8]) -> Result<World, Stop<ScriptFault>>
+    ensures { MatchResult result
+        (λ world. (t : Told)
+        → opened t number text.now (first_line text.now) ≡ prints (t.opening world) (Some world))
+        (λ stop. (t : Told) → Tells stop (opened t number text.now (first_line text.now))) }
+{
+    let Some(opening) = read_opening(text) else {
+        return Err(unread(number, text));
+    };
+    match World::new(alloc, &opening.a, &opening.b) {
+        Ok(world) => Ok(world),
+        Err(PlayFault::NoMemory) => Err(Stop::Memory),
+        Err(_) => unreachable!(),
+    }
+}
+
+/// This line can't be read.
+fn unread(number: u64, text: &[u8]) -> Stop<ScriptFault>
+    ensures { result ≡ Input (Text number (flaw_of text.now)) }
+{
+    Stop::Input(ScriptFault::Text {
+        line: number,
+        flaw: find_flaw(text),
+    })
+}
+
+/// A line after the first asks for a step, which is carried out.
+fn carry_out<A: Account>(
+    alloc: Global,
+    world: &mut Option<World>,
+    step: &mut Step,
+    shown: &mut Shown,
+    number: u64,
+    text: &[u8],
+    out: &mut Vec<u8>,
+) -> Result<(), Stop<ScriptFault>>
+    requires { IsSome world.old }
+    ensures { IsDone result (read_script A.told number world.old text.now)
+        out.old.items out.new.items world.new }
+{
+    let Some(world) = world.as_mut() else {
+        unreachable!();
+    };
+    match read_step_into(alloc, world_profile(world), text, step) {
+        Ok(true) => carry_out_step::<A>(alloc, world, number, step, shown, out),
+        Ok(false) => Err(unread(number, text)),
+        Err(_) => Err(Stop::Memory),
+    }
+}
+
+/// The step of this line is carried out, and what it shows is told.
+fn carry_out_step<A: Account>(
+    alloc: Global,
+    world: &mut World,
+    number: u64,
+    step: &Step,
+    shown: &mut Shown,
+    out: &mut Vec<u8>,
+) -> Result<(), Stop<ScriptFault>>
+    ensures { IsDone result
+        (outcome_of A.told number world.old step.now (carried_out world.old step.now))
+        out.old.items out.new.items (Some world.new) }
+{
+    let note = A::note(world, step);
+    match world.carry_out(step, shown) {
+        Ok(()) => Ok(A::tell_step(alloc, number, note, step, shown, world, out)?),
+        Err(fault) => Err(stop_of(fault, number)),
+    }
+}
+
+/// Why a step that fails so stops the script at this line.
+fn stop_of(fault: PlayFault, number: u64) -> Stop<ScriptFault>
+    requires links { fault ≢ PlayFault.Links }
+    requires profiles { fault ≢ PlayFault.Profile }
+    ensures { (t : Told) (w : ModelWorld) (step : ModelStep) (outcome : Outcome) → Fails fault outcome
+        → Tells result (outcome_of t number w step outcome) }
+{
+    match fault {
+        PlayFault::NoMemory => Stop::Memory,
+        PlayFault::Impossible { .. } => Stop::Input(ScriptFault::Step { line: number }),
+        PlayFault::Exhausted => Stop::Input(ScriptFault::Exhausted),
+        PlayFault::Links | PlayFault::Profile => unreachable!(),
+    }
+}

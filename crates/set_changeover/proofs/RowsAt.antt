@@ -1,0 +1,102 @@
+-- WHAT STANDS IN EACH PLACE after rows came to stand elsewhere, queue after queue, and where each number stands then.
+use Rattle.std.proofs.Common.{arith, refl, ap, sym, ◌∙◌, Option, ◌≡◌, ◌≤◌, ◌<◌, [], ◌∷◌, length, ℕ, zero, suc, Bool, true, false, List, ◌++◌, Some, None, take, drop, cond, not, filter, option_map}
+use Rattle.std.specs.List.{drop-map}
+use Rattle.std.proofs.lemmas.Bool.Decides.{nat_tests}
+use Rattle.std.proofs.lemmas.List.{map-append, append-nil}
+use Rattle.set_queues.specs.Buffers.{is_standing, same_fate}
+use Rattle.set_model.specs.Rows.{Fate, Row, standing, numbers, turned, moved, all_with, appended, IsNumbered, AreBefore, row_of, place, body_at}
+use Rattle.set_model.specs.Laws.{SameMessages}
+use Rattle.set_model.proofs.Events.{numbers_joined, appended_in, appended_out}
+use Rattle.set_model.proofs.Rows.{turned_same, turned_left, moved_same, moved_gone, moved_joined, fewer_filter, filter_within, filter_apart, with_number, at_most_one, row_is_first, place_moved, not_found}
+use Rattle.set_model.proofs.Staying.{messages_stay}
+use Rattle.std.specs.Prelude.{IsSome}
+use Rattle.set_queues.specs.Slots.{slot_at}
+use Rattle.set_changeover.specs.Agreement.{Message, is_there, label_in, label_of, rows_at}
+use Rattle.std.proofs.lemmas.List.Elements.{filter-append}
+use Rattle.set_queues.specs.Queues.{occurs, AreGiven}
+use Rattle.set_queues.proofs.Standing.{same_is, same_self, occurs-split}
+
+-- a number occurs among the rows that a test picks as often as its row is picked
+occurs_picked : (p : Row → Bool) (n : ℕ) (rows : List Row) → occurs n (numbers (filter p rows)) ≡ length (filter p (with_number n rows))
+occurs_picked p n [] = refl
+occurs_picked p n (x ∷ rows) = grind (arith, occurs_picked p n rows)
+
+-- WHERE A NUMBER STANDS when those of a list have come to stand elsewhere
+pub record GoesTo (ns : List ℕ) (to : Fate) (n : ℕ) (rows new : List Row) : Type 0 where
+  pub stays : occurs n ns ≡ 0 → place n new ≡ place n rows
+  pub goes : 0 < occurs n ns → place n new ≡ Some to
+
+-- the first so many of those that stand somewhere
+module _ (test : Fate → Bool) (to : Fate) where
+  goes_first : (n k : ℕ) (rows : List Row) → length (with_number n rows) ≤ 1 → GoesTo (take k (numbers (standing test rows))) to n rows (turned test to k rows)
+  goes_first n zero rows one = record { stays = λ e. refl; goes = λ e. absurd (omega (arith, e)) }
+  goes_first n (suc k) [] one = record { stays = λ e. refl; goes = λ e. absurd (omega (arith, e)) }
+  goes_first n (suc k) (x ∷ rows) one = let few = fewer_filter (λ (row : Row). test row.fate) (with_number n rows) in grind (arith, nat_tests, goes_first n k rows, goes_first n (suc k) rows, occurs-split n (suc k) (numbers (standing test rows)), occurs-split n k (numbers (standing test rows)), occurs_picked (λ (row : Row). test row.fate) n rows)
+
+  -- a place that is told by the row of the number alone
+  told : (n : ℕ) (rows new here : List Row) → with_number n rows ≡ here → length here ≤ 1 → place n new ≡ option_map (λ (row : Row). cond (test row.fate) to row.fate) (row_of n rows) → GoesTo (numbers (standing test rows)) to n rows new
+  told n rows new [] is one e = grind (arith, occurs_picked (λ (row : Row). test row.fate) n rows, row_is_first n rows)
+  told n rows new (x ∷ here) is one e = grind (arith, occurs_picked (λ (row : Row). test row.fate) n rows, row_is_first n rows, fewer_filter (λ (row : Row). test row.fate) here)
+
+-- WHAT STANDS SOMEWHERE has a message.
+pub none_at : (given n : ℕ) (rows : List Row) → IsNumbered given rows → given ≤ n → row_of n rows ≡ None
+none_at given n rows numbered far = not_found given n rows numbered far
+
+given_one : (slot : Option Message) (row : Option Row) (to : Fate) → option_map (λ (r : Row). r.fate) row ≡ Some to → option_map label_in slot ≡ option_map label_of (option_map (λ (r : Row). r.body) row) → IsSome slot
+given_one slot None to there label = absurd cc
+given_one None (Some row) to there label = absurd cc
+given_one (Some m) (Some row) to there label = refl
+
+pub given_all : (ns : List ℕ) (to : Fate) (ms : List (Option Message)) (rows new : List Row) → ((n : ℕ) → option_map label_in (slot_at n ms) ≡ option_map label_of (body_at n rows)) → ((n : ℕ) → body_at n new ≡ body_at n rows) → ((n : ℕ) → GoesTo ns to n rows new) → AreGiven ns ms
+given_all ns to ms rows new labels bodies goes n h = given_one (slot_at n ms) (row_of n new) to ((goes n).goes h) (labels n ∙ ap (option_map label_of) (sym (bodies n)))
+
+-- A NEW MESSAGE stands last in the place of its fate.
+pub appended_at : (number : ℕ) (rows : List Row) (body : List ℕ) (fate f : Fate) → is_standing f ≡ true → numbers (rows_at f (appended number rows body fate)) ≡ cond (same_fate fate f) (numbers (rows_at f rows) ++ number ∷ []) (numbers (rows_at f rows))
+appended_at number rows body fate f s = grind (arith, appended_in number rows body fate (is_there f), appended_out number rows body fate (is_there f), map-append)
+
+-- where they don't stand
+elsewhere : (test : Fate → Bool) (f : Fate) → is_standing f ≡ true → test f ≡ false → (g : Fate) → test g ≡ true → is_there f g ≡ false
+elsewhere test f s e g h = grind (arith, same_is)
+
+-- WHAT BECAME OF THE PLACES when the rows of these numbers came to stand there: what is left where they stood, and
+-- they stand last where they went.
+pub record Shifts (given : ℕ) (test : Fate → Bool) (to : Fate) (ns left : List ℕ) (rows new : List Row) : Type 0 where
+  pub places : (f : Fate) → is_standing f ≡ true → numbers (rows_at f new) ≡ cond (test f) left (cond (same_fate to f) (numbers (rows_at f rows) ++ ns) (numbers (rows_at f rows)))
+  pub messages : SameMessages given rows new
+  pub goes : (n : ℕ) → GoesTo ns to n rows new
+
+-- those that turn stand last in their new place, where none there stands behind one of them
+joined : (test there : Fate → Bool) (to : Fate) → there to ≡ true → ((f : Fate) → test f ≡ true → there f ≡ false) → (n : ℕ) (rows : List Row) → AreBefore there test rows → numbers (standing there (turned test to n rows)) ≡ numbers (standing there rows) ++ take n (numbers (standing test rows))
+joined test there to own apart zero rows o = grind (arith, append-nil)
+joined test there to own apart (suc n) [] o = refl
+joined test there to own apart (suc n) (x ∷ rows) o = grind (arith, joined test there to own apart n rows o.1, joined test there to own apart (suc n) rows o.1, o.0, apart x.fate)
+
+-- the first so many of one place, to a final fate, or to such a place
+pub turned_shifts : (given : ℕ) (from to : Fate) → is_standing from ≡ true → is_there from to ≡ false → (n : ℕ) (rows : List Row) → IsNumbered given rows → (is_standing to ≡ true → AreBefore (is_there to) (is_there from) rows) → Shifts given (is_there from) to (take n (numbers (rows_at from rows))) (drop n (numbers (rows_at from rows))) rows (turned (is_there from) to n rows)
+turned_shifts given from to stood off n rows numbered order = record {
+  places = λ f s.
+      let left = turned_left (is_there from) to off n rows in
+      let come = λ (t : is_standing to ≡ true). joined (is_there from) (is_there to) to (same_self to t) (elsewhere (is_there from) to t off) n rows (order t) in
+      let same = λ (e : is_there from f ≡ false) (away : same_fate to f ≡ false). turned_same (is_there from) (is_there f) to away (elsewhere (is_there from) f s e) n rows in
+      grind (arith, left, come, same, drop-map, same_is f from stood, same_is to f s);
+  messages = (messages_stay (is_there from) to (all_with to) given rows numbered).turned_stay n;
+  goes = λ k. goes_first (is_there from) to k n rows (at_most_one given k rows numbered);
+}
+
+-- all of one or more places, behind those that stand there
+pub moved_shifts : (given : ℕ) (test : Fate → Bool) (to : Fate) (rows : List Row) → IsNumbered given rows → test to ≡ false → is_standing to ≡ true → Shifts given test to (numbers (standing test rows)) [] rows (moved test (all_with to) rows)
+moved_shifts given test to rows numbered off there = record {
+  places = λ f s.
+      let gone : test f ≡ true → standing (is_there f) (moved test (all_with to) rows) ≡ [] = λ e. let away : same_fate to f ≡ false = grind (arith, same_is) in moved_gone test (is_there f) (all_with to) rows (λ x. away) (λ g h. grind (arith, same_is)) in
+      grind (arith, gone, moved_joined test (is_there f) (all_with to) rows, moved_same test (is_there f) (all_with to) rows, numbers_joined (all_with to) (rows_at f rows) (standing test rows), elsewhere test f s, same_is to f s);
+  messages = (messages_stay test to (all_with to) given rows numbered).moved_stay;
+  goes = λ k. told test to k rows _ _ refl (at_most_one given k rows numbered) (place_moved test (all_with to) given k rows numbered);
+}
+
+-- ROWS THAT STAND LAST FROM NOW ON, each with its fate: what stands in each place stays
+abbrev pub parted : (Fate → Bool) → List Row → List Row
+parted test rows = standing (λ f. not (test f)) rows ++ standing test rows
+
+pub parted_at : (test : Fate → Bool) (f : Fate) (rows : List Row) → is_standing f ≡ true → (b : Bool) → test f ≡ b → standing (is_there f) (parted test rows) ≡ standing (is_there f) rows
+parted_at test f rows s true e = grind (arith, filter-append, filter_apart, filter_within, same_is)
+parted_at test f rows s false e = grind (arith, filter-append, append-nil, filter_apart, filter_within, same_is)

@@ -1,0 +1,156 @@
+//! Changeback: streams come back to a link, and their messages with them (Q.704 6).
+ghost use Rattle.std.specs.Prelude.{◌≡◌, ◌≢◌, ◌+◌, ◌*◌, ◌<◌, ◌≤◌, ℕ, true, length, Some, OnErr, OnOk};
+ghost use Rattle.set_queues.specs.Backs.{back_count};
+ghost use Rattle.set_route.specs.Routing.{code_for, home_of};
+ghost use Rattle.set_model.specs.Changeover.{released, can_declare, some_declare, some_in_use};
+ghost use Rattle.set_model.specs.State.{State, link_count};
+ghost use Rattle.set_model.specs.Step.{on_link, in_service, comes_back, runs_out};
+ghost use Rattle.set_changeover.specs.Agreement.{Holds, StandsFor};
+ghost use Rattle.set_changeover.specs.Parts.{Answers, Becomes, IsWhole, kept_of};
+ghost use Rattle.set_changeover.specs.Room.{back_at, home_room, CanComeBack};
+
+use super::changeover::body_of;
+use super::parts::{Parts, phase_of, stand_last, unserved};
+use l3_orders::Order;
+use set_events::{Answer, Fate, Refusal};
+use set_model::Phase;
+use set_route::{Code, changeback_code, home_of_code};
+use std::alloc::{AllocError, Allocator};
+
+/// A set has at most so many links, and a home so many codes.
+const MOST_LINKS: usize = 16;
+
+/// Streams whose home this link is are to come back to it: a declaration on every other link that is up,
+/// the lowest-numbered first, where streams of this home run and its code is free.
+#[tactic(auto, using(crate::proofs::Links::whole_of))]
+pub fn restore<A: Allocator + Copy>(
+    parts: &mut Parts<A>,
+    number: u8,
+    answer: &mut Answer,
+) -> Result<(), AllocError>
+    requires holds { Holds (kept_of parts.old) }
+    ensures ok { OnOk result (Answers parts.old parts.new answer.new
+        (λ s. in_service number s (λ link. comes_back number s))) }
+    ensures err { OnErr result (kept_of parts.new ≡ kept_of parts.old) }
+{
+    if let Some(why) = unserved(parts, number) {
+        *answer = why.into();
+        return Ok(());
+    }
+    if !has_alternative(parts, number) {
+        *answer = Refusal::Nothing.into();
+        return Ok(());
+    }
+    parts.bodies.reserve(MOST_LINKS)?;
+    parts.queues.reserve(MOST_LINKS)?;
+    parts.queues.reserve_each(1)?;
+    for alternative in 0..parts.links.len() as u8 {
+        if !may_declare(parts, number, alternative) {
+            continue;
+        }
+        let declaration = Order::Cbd {
+            link: number,
+            code: changeback_code(number, alternative),
+        };
+        let body = body_of(&parts.config, &declaration);
+        stand_last(parts, body.as_slice(), Fate::Waiting { link: alternative });
+        parts.routes.ask(number, alternative);
+    }
+    *answer = Answer::Done;
+    Ok(())
+}
+
+/// No acknowledgement came: what stands back for this link waits for it, code by code, and all its codes
+/// are free (own).
+#[tactic(auto, using(crate::proofs::Links::whole_of))]
+pub fn time_out<A: Allocator + Copy>(
+    parts: &mut Parts<A>,
+    number: u8,
+    answer: &mut Answer,
+) -> Result<(), AllocError>
+    requires holds { Holds (kept_of parts.old) }
+    ensures ok { OnOk result (Answers parts.old parts.new answer.new
+        (λ s. on_link number s (λ link. runs_out number s))) }
+    ensures err { OnErr result (kept_of parts.new ≡ kept_of parts.old) }
+{
+    if usize::from(number) >= parts.links.len() {
+        *answer = Refusal::NoSuchLink.into();
+        return Ok(());
+    }
+    if !has_code_in_use(parts, number) {
+        *answer = Refusal::Nothing.into();
+        return Ok(());
+    }
+    let back = parts.queues.back_count(number);
+    parts
+        .queues
+        .reserve_at(Fate::Waiting { link: number }, back)?;
+    // the lowest code first
+    for alternative in 0..16u8 {
+        release(parts, changeback_code(number, alternative));
+    }
+    *answer = Answer::Done;
+    Ok(())
+}
+
+/// Whether streams can come back from some link.
+#[tactic(auto, using(crate::proofs::Declaring::count_is, crate::proofs::Declaring::declares_next))]
+fn has_alternative<A: Allocator + Copy>(parts: &Parts<A>, number: u8) -> bool
+    requires whole { IsWhole parts.now }
+    requires known { number < length parts.now.links.items }
+    ensures { (s : State) → StandsFor (kept_of parts.now) s
+        → result ≡ some_declare number 0 (link_count s) s }
+{
+    for alternative in 0..parts.links.len() as u8 {
+        if may_declare(parts, number, alternative) {
+            return true;
+        }
+    }
+    false
+}
+
+/// Whether streams of this home can come back from that link.
+fn may_declare<A: Allocator + Copy>(parts: &Parts<A>, home: u8, alternative: u8) -> bool
+    requires home { home < 16 }
+    requires alternative { alternative < 16 }
+    ensures { (s : State) → StandsFor (kept_of parts.now) s
+        → result ≡ can_declare home alternative s }
+{
+    alternative != home
+        && phase_of(parts, alternative) == Some(Phase::Up)
+        && parts.routes.can_ask(home, alternative)
+}
+
+/// Whether a code of this home is open or spent.
+fn has_code_in_use<A: Allocator + Copy>(parts: &Parts<A>, home: u8) -> bool
+    requires { home < 16 }
+    ensures { (s : State) → StandsFor (kept_of parts.now) s
+        → result ≡ some_in_use (code_for home 0) 16 s }
+{
+    for alternative in 0..16u8 {
+        if parts.routes.code(changeback_code(home, alternative)) != Code::Free {
+            return true;
+        }
+    }
+    false
+}
+
+/// What waits for the code's acknowledgement waits for its home from now on, and its streams run there;
+/// the code is free.
+#[tactic(auto, using(set_queues::proofs::Standing::links))]
+pub(crate) fn release<A: Allocator + Copy>(parts: &mut Parts<A>, code: u8)
+    requires whole { IsWhole parts.old }
+    requires known { home_of code < length parts.old.links.items }
+    requires room { length (back_at code parts.old) ≤ home_room code parts.old }
+    ensures stands { Becomes parts.old parts.new (released code) }
+    ensures fits { CanComeBack (home_of code) parts.old → CanComeBack (home_of code) parts.new }
+    ensures links { parts.new.links ≡ parts.old.links }
+    ensures whole { IsWhole parts.new }
+{
+    let home = home_of_code(code);
+    parts.queues.is_sound();
+    parts
+        .queues
+        .divert(Fate::Back { code }, Fate::Waiting { link: home });
+    parts.routes.give_back(code);
+}

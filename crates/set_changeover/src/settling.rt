@@ -1,0 +1,91 @@
+//! How a link settles (Q.704 5.5): what reached the far end is acknowledged, the rest is moved.
+ghost use Rattle.std.specs.Prelude.{◌≡◌, ◌<◌, ◌≤◌, ◌^◌, length, map, slice_get, Some};
+ghost use Rattle.set_queues.specs.Buffers.{KeepsRoom, profile_at, room_at};
+ghost use Rattle.set_queues.specs.Settling.{on};
+ghost use Rattle.set_model.specs.Changeover.{settled, judged, discarded, fate_on, is_told};
+ghost use Rattle.set_model.specs.State.{State, LinkState, target};
+ghost use Rattle.set_changeover.specs.Agreement.{StandsFor, Agrees};
+ghost use Rattle.set_changeover.specs.Parts.{Down, IsWhole, AreCounted, AtLink, IsOut, IsReach, Becomes, BecomesAt, kept_of};
+
+use super::parts::{Parts, target_of};
+use set_events::{DiscardCause, Fate};
+use set_model::{Phase, Reached};
+use std::alloc::Allocator;
+
+/// The link settles: what reached the far end is acknowledged, and what stands on it is moved.
+///
+/// Conditions: a link of the set that isn't up, and room for all that stand on it where they go.
+#[tactic(auto, using(crate::proofs::Links::same_target))]
+pub fn settle<A: Allocator + Copy>(parts: &mut Parts<A>, number: u8, reached: Reached)
+    requires whole { IsWhole parts.old }
+    requires counted { AreCounted (2 ^ 61) parts.old.links.items }
+    requires reached { IsReach (profile_at number parts.old.queues.lists) reached }
+    requires known { number < length parts.old.links.items }
+    requires out { AtLink number parts.old.links.items IsOut }
+    requires room { length (on number parts.old.queues.lists) ≤ room_at (fate_on
+        (target parts.old.links.items)) parts.old.queues.rooms }
+    ensures stands { (s : State) (link : LinkState) → slice_get s.links number ≡ Some link
+        → link.phase ≡ Down → Agrees (kept_of parts.old) s
+        → StandsFor (kept_of parts.new) (settled reached number link s) }
+{
+    let target = target_of(&parts.links);
+    judge(parts, number, reached);
+    parts.queues.settle(number, target);
+    let link = &mut parts.links[usize::from(number)];
+    link.phase = Phase::Settled;
+    link.answered = is_told(reached);
+    parts.routes.settle(number, target);
+}
+
+/// Whether an order tells how the link's life ended.
+fn is_told(reached: Reached) -> bool
+    ensures { result ≡ is_told reached }
+{
+    match reached {
+        Reached::Upto { .. } | Reached::Unknown => true,
+        Reached::Unanswered => false,
+    }
+}
+
+/// What reached the far end is acknowledged, or what might be doubled is discarded (own).
+#[tactic(auto, using(crate::proofs::Links::acked_less, crate::proofs::Links::on_less, crate::proofs::Links::set_view, set_model::proofs::Lists::length_set, set_queues::proofs::Standing::links))]
+fn judge<A: Allocator + Copy>(parts: &mut Parts<A>, number: u8, reached: Reached)
+    requires whole { IsWhole parts.old }
+    requires counted { AreCounted (2 ^ 61) parts.old.links.items }
+    requires reached { IsReach (profile_at number parts.old.queues.lists) reached }
+    requires known { number < length parts.old.links.items }
+    ensures stands { BecomesAt number parts.old parts.new (judged reached number) }
+    ensures fewer { length (on number parts.new.queues.lists) ≤ length
+        (on number parts.old.queues.lists) }
+    ensures rooms { KeepsRoom parts.old.queues.rooms parts.new.queues.rooms }
+    ensures phases { map (λ link. link.phase) parts.new.links.items ≡ map
+        (λ link. link.phase) parts.old.links.items }
+    ensures whole { IsWhole parts.new }
+{
+    match reached {
+        Reached::Upto { number: fsn } => match parts.queues.acknowledge(number, fsn) {
+            Ok(acked) => parts.links[usize::from(number)].acked += u64::from(acked),
+            Err(_) => discard(parts, number, DiscardCause::Unreasonable),
+        },
+        Reached::Unknown => parts
+            .queues
+            .discard(Fate::Unacked { link: number }, DiscardCause::Emergency),
+        Reached::Unanswered => discard(parts, number, DiscardCause::NoAnswer),
+    }
+}
+
+/// What was sent on the link, or waits for it, is discarded.
+#[tactic(auto, using(set_queues::proofs::Standing::links))]
+fn discard<A: Allocator + Copy>(parts: &mut Parts<A>, number: u8, cause: DiscardCause)
+    requires whole { IsWhole parts.old }
+    requires known { number < length parts.old.links.items }
+    ensures stands { Becomes parts.old parts.new (discarded cause number) }
+    ensures fewer { length (on number parts.new.queues.lists) ≤ length
+        (on number parts.old.queues.lists) }
+    ensures rooms { KeepsRoom parts.old.queues.rooms parts.new.queues.rooms }
+    ensures links { parts.new.links ≡ parts.old.links }
+    ensures whole { IsWhole parts.new }
+{
+    parts.queues.discard(Fate::Unacked { link: number }, cause);
+    parts.queues.discard(Fate::Waiting { link: number }, cause);
+}

@@ -1,6 +1,0 @@
-use Rattle.set_crew.proofs.Running.{either_way}
-use Rattle.set_crew.proofs.terminal.so_many.Goals as goal
-
--- src/terminal.rt
-pub returns-clause-turns : goal.returns-clause-turns
-returns-clause-turns g c = either_way _ _ _ _ c.run.result c.run.ensures.runs (c.run.ensures.breaks c.requires.failed)

@@ -1,9 +1,0 @@
-use Rattle.std.proofs.Common.{rules}
-use Rattle.set_queues.proofs.Standing.{queued_stands}
-use Rattle.set_moves.specs.Parts.{kept_of}
-use Rattle.set_moves.proofs.States.{becomes, appended_for}
-use Rattle.set_moves.proofs.parts.stand_last.Goals as goal
-
-pub returns-clause-stands : goal.returns-clause-stands
-returns-clause-stands o c = λ s f.
-    becomes (appended_for (kept_of c.args.parts.now) s c.args.body.now c.args.fate f (queued_stands c.args.fate c.requires.queued) c.requires.known) (search rules)

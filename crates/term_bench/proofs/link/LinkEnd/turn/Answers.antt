@@ -1,0 +1,30 @@
+use Rattle.std.proofs.Common.{refl, subst}
+use Rattle.term_bench.specs.Ends.{AtLink, at_link}
+use Rattle.term_bench.specs.Turns.{TakesTurn}
+use Rattle.term_bench.specs.declared.turn.Turn.{Turn}
+use Rattle.term_bench.proofs.LinkLemmas.{takes_turn}
+use Rattle.term_bench.proofs.link.LinkEnd.turn.Goals as goal
+
+pub returns-in-Ok-clause-turns : goal.returns-in-Ok-clause-turns
+returns-in-Ok-clause-turns g c =
+    let took = c.in-Ok.ensures.takes in
+    let one = c.counted-self-inside.ensures in
+    let turn : Turn = record {
+      number = c.counted-self-inside.result.turns;
+      put = c.in-Ok.put;
+      messages = c.heard.result;
+      sent = c.units_in.result;
+      before = c.word_of-before.result;
+      after = c.word_of.result;
+      cause = c.cause.result;
+    } in
+    let now : AtLink = at_link c.take_octet.new.works c.self.inside.bits c.self.inside.waiting c.counted-self-inside.result in (
+      took.1,
+      subst (λ (at : AtLink). TakesTurn c.args.door.now.link c.args.octet c.args.door.now.set at turn took.1 c.take_octet.new.door.set now) c.self.view_is
+          (takes_turn c.args.door.now.link c.args.octet c.args.door.now.set c.take_octet.new.door.set c.take_octet.new.door.heard
+          c.self.inside.works c.take_octet.new.works c.self.inside.bits c.self.inside.waiting c.self.inside.counts
+          c.counted-self-inside.result c.in-Ok.turned took.1 turn took.2 took.0 c.in-Ok.ensures.goes_on
+          (record { turns = one.turns; sent = one.sent; good = one.good; bad = one.bad; sixteen = one.sixteen })
+          c.heard.ensures c.units_in.ensures.value c.word_of-before.ensures c.word_of.ensures refl c.cause.ensures),
+      took.3,
+    )

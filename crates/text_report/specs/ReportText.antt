@@ -1,0 +1,126 @@
+-- THE TEXT OF A REPORT: a line for each end of each set, one for each end of each of its links, one of all together, and the
+-- verdict.
+use Rattle.std.specs.Prelude.{◌==◌, ◌+◌, ◌*◌, ◌/◌, ◌%◌, ◌-◌, ◌^◌, min, ℕ, suc, List, [], ◌∷◌, ◌++◌, codes, decimal, Option, None, Some, Result, Ok, Err, if◌then◌else◌}
+use Rattle.link_term.specs.declared.fault.TermFault.{TermFault}
+use Rattle.bank_crew.specs.declared.end.SetEnd.{SetEnd}
+use Rattle.bank_crew.specs.declared.report.ShiftReport.{ShiftReport}
+use Rattle.text_report.specs.declared.figures.Figure.{Figure}
+use Rattle.text_report.specs.declared.figures.LinkFigures.{LinkFigures}
+use Rattle.text_report.specs.declared.figures.SetFigures.{SetFigures}
+use Rattle.text_report.specs.declared.verdict.Missing.{Missing}
+use Rattle.text_report.specs.Figures.{capped, link_figures, set_figures, summed}
+
+-- AN END OF A SET
+abbrev pub came_text : SetFigures → List ℕ
+came_text f =
+    codes " offered=" ++ (decimal f.offered ++ (codes " delivered=" ++ (decimal f.delivered
+    ++ (codes " acknowledged=" ++ (decimal f.acknowledged ++ (codes " taken=" ++ decimal f.taken))))))
+
+abbrev pub left_text : SetFigures → List ℕ
+left_text f =
+    codes " waiting=" ++ (decimal f.waiting ++ (codes " unacked=" ++ (decimal f.unacked
+    ++ (codes " diverted=" ++ (decimal f.diverted ++ (codes " discarded=" ++ (decimal f.discarded
+    ++ (codes " retransmitted=" ++ (decimal f.retransmitted ++ codes "\n")))))))))
+
+abbrev pub end_text : ℕ → List ℕ → SetFigures → List ℕ
+end_text set end f =
+    (codes "set=" ++ (decimal set ++ (codes " end=" ++ end))) ++ (came_text f ++ left_text f)
+
+abbrev pub ends_text : ℕ → SetEnd → SetEnd → List ℕ
+ends_text set near far =
+    end_text set (codes "a") (set_figures near far) ++ end_text set (codes "b") (set_figures far near)
+
+-- AN END OF A LINK: the causes of failures by their names (Q.703 12)
+abbrev pub cause_name : ℕ → List ℕ
+cause_name cause =
+    if cause == 1 then codes "suerm" else (if cause == 2 then codes "bsn" else (if cause == 3 then codes "fib" else
+    (if cause == 4 then codes "t1" else (if cause == 5 then codes "t6" else (if cause == 6 then codes "t7" else
+    (if cause == 7 then codes "status" else (if cause == 8 then codes "alignment" else
+    (if cause == 9 then codes "stop" else codes "none"))))))))
+
+abbrev pub sent_text : LinkFigures → List ℕ
+sent_text f =
+    codes " sent=" ++ (decimal f.sent ++ (codes " sent_messages=" ++ (decimal f.sent_messages
+    ++ (codes " sent_octets=" ++ (decimal f.sent_octets ++ (codes " again=" ++ decimal f.again))))))
+
+abbrev pub heard_text : LinkFigures → List ℕ
+heard_text f =
+    codes " heard=" ++ (decimal f.heard ++ (codes " heard_messages=" ++ (decimal f.heard_messages
+    ++ (codes " heard_octets=" ++ (decimal f.heard_octets ++ (codes " errors=" ++ decimal f.errors))))))
+
+abbrev pub life_text : LinkFigures → List ℕ
+life_text f = codes " ups=" ++ (decimal f.ups ++ (codes " cause=" ++ (cause_name f.cause ++ codes "\n")))
+
+abbrev pub link_text : ℕ → ℕ → List ℕ → LinkFigures → List ℕ
+link_text set link end f =
+    (codes "set=" ++ (decimal set ++ (codes " link=" ++ (decimal link ++ (codes " end=" ++ end)))))
+    ++ (sent_text f ++ (heard_text f ++ life_text f))
+
+-- where a terminal failed there is no line
+abbrev pub one_text : ℕ → ℕ → List ℕ → Result ShiftReport TermFault → List ℕ
+one_text set link end (Ok report) = link_text set link end (link_figures report)
+one_text set link end (Err fault) = []
+
+abbrev pub links_text : ℕ → ℕ → List (Result ShiftReport TermFault) → List (Result ShiftReport TermFault) → List ℕ
+links_text set link [] far = []
+links_text set link (a ∷ near) [] = []
+links_text set link (a ∷ near) (b ∷ far) =
+    (one_text set link (codes "a") a ++ one_text set link (codes "b") b) ++ links_text set (suc link) near far
+
+-- THE SETS, from this number on
+abbrev pub set_text : ℕ → SetEnd → SetEnd → List ℕ
+set_text set near far = ends_text set near far ++ links_text set 0 near.reports.items far.reports.items
+
+abbrev pub sets_text : ℕ → List SetEnd → List SetEnd → List ℕ
+sets_text set [] far = []
+sets_text set (a ∷ near) [] = []
+sets_text set (a ∷ near) (b ∷ far) = set_text set a b ++ sets_text (suc set) near far
+
+-- ALL TOGETHER
+abbrev pub in_all : Figure → List SetEnd → ℕ
+in_all figure [] = 0
+in_all figure (end ∷ ends) = summed figure end.reports.items + in_all figure ends
+
+abbrev pub in_both : Figure → List SetEnd → List SetEnd → ℕ
+in_both figure near far = capped (in_all figure near + in_all figure far)
+
+-- so much in so many milliseconds, in each second
+abbrev pub rate : ℕ → ℕ → ℕ
+rate n milliseconds = capped (n * 1000) / (if milliseconds == 0 then 1 else milliseconds)
+
+abbrev pub seconds_text : ℕ → List ℕ
+seconds_text milliseconds =
+    decimal (milliseconds / 1000) ++ (codes "." ++ (decimal (milliseconds / 100 % 10)
+    ++ (decimal (milliseconds / 10 % 10) ++ decimal (milliseconds % 10))))
+
+abbrev pub sum_text : ℕ → ℕ → List ℕ
+sum_text messages octets =
+    codes "run messages=" ++ (decimal messages ++ (codes " octets=" ++ decimal octets))
+
+abbrev pub rates_text : ℕ → ℕ → List ℕ
+rates_text messages octets =
+    codes " messages_a_second=" ++ (decimal messages ++ (codes " octets_a_second="
+    ++ (decimal octets ++ codes "\n")))
+
+-- where no clock tells the time there is none
+abbrev pub time_text : ℕ → ℕ → Option ℕ → List ℕ
+time_text messages octets None = codes "\n"
+time_text messages octets (Some milliseconds) =
+    (codes " seconds=" ++ seconds_text milliseconds)
+    ++ rates_text (rate messages milliseconds) (rate octets milliseconds)
+
+abbrev pub total_text : ℕ → ℕ → Option ℕ → List ℕ
+total_text messages octets time = sum_text messages octets ++ time_text messages octets time
+
+-- THE VERDICT
+abbrev pub verdict_text : Option Missing → List ℕ
+verdict_text None = codes "all delivered in order\n"
+verdict_text (Some missing) =
+    codes "missing set=" ++ (decimal missing.set ++ (codes " stream=" ++ (decimal missing.stream
+    ++ (codes " message=" ++ (decimal missing.message ++ codes "\n")))))
+
+-- THE REPORT
+abbrev pub report_text : Option ℕ → List SetEnd → List SetEnd → Option Missing → List ℕ
+report_text time near far missing =
+    sets_text 0 near far
+    ++ (total_text (in_both Figure.Heard near far) (in_both Figure.HeardOctets near far) time ++ verdict_text missing)

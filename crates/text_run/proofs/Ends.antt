@@ -1,0 +1,102 @@
+-- The ends of a traffic, one by one, and what is written of them.
+use Rattle.std.proofs.Common.{refl, arith, ◌≡◌, ap, sym, subst, ℕ, zero, suc, Bool, false, List, [], ◌∷◌, ◌++◌, length, map, Option, Result, Ok, Err, All, IsOk, IfErr}
+use Rattle.std.specs.Result.{is_err}
+use Rattle.std.proofs.lemmas.List.{length-append, length-map}
+use Rattle.std.proofs.lemmas.List.Elements.{All-nil, All-cons}
+use Rattle.set_events.specs.declared.config.SetConfig.{SetConfig}
+use Rattle.bank_crew.specs.declared.end.SetEnd.{SetEnd}
+use Rattle.bank_crew.specs.Ends.{Task}
+use Rattle.bank_core.specs.Ends.{AreEnds}
+use Rattle.bank_traffic.specs.declared.asked.Traffic.{Traffic}
+use Rattle.bank_traffic.specs.Opening.{AreEndsOf, OneEnd, far_end, near_end, numbers_below}
+use Rattle.text_printing.specs.declared.fault.Fault.{Fault}
+use Rattle.text_printing.specs.declared.fault.Fault.TheVariants.{Input, Memory, Read, Long, Write}
+use Rattle.text_report.specs.declared.verdict.Missing.{Missing}
+use Rattle.text_run.specs.declared.fault.RunFault.{RunFault}
+use Rattle.mtpbank_words.specs.declared.run_words.RunWords.{RunWords}
+use Rattle.text_run.specs.Asked.{IsFaultOfAsked, IsTrafficOf}
+use Rattle.text_run.specs.Running.{IsAnEnd, IsFaultOfRun, IsRunText, IsTextOfEnds, Runs, Showing, WritesAll, WritesEnds, WritesText}
+
+-- no fault
+pub ok_of : {A B : Type 0} (r : Result A B) → false ≡ is_err r → IsOk r
+ok_of (Ok x) is = refl
+ok_of (Err x) is = absurd (cc is)
+
+-- each is the end of a set
+each_end : (tasks : List Task) (ends : List SetEnd) → AreEnds tasks ends → All IsAnEnd ends × (length ends ≡ length tasks)
+each_end [] [] are = (All-nil IsAnEnd, refl)
+each_end [] (end ∷ ends) are = absurd are
+each_end (task ∷ tasks) [] are = absurd are
+each_end (task ∷ tasks) (end ∷ ends) are =
+    let rest = each_end tasks ends are.1 in
+    (All-cons IsAnEnd end ends (task.config, are.0.closed) rest.0, omega (arith, rest.1))
+
+so_many : (n : ℕ) → length (numbers_below n) ≡ n
+so_many zero = refl
+so_many (suc n) =
+    let more = length-append (numbers_below n) (n ∷ []) in
+    let fewer = so_many n in
+    omega (arith, more, fewer)
+
+pub ends_of : (traffic : Traffic) (side : OneEnd) (ends : List SetEnd) → AreEndsOf traffic side ends
+    → All IsAnEnd ends × (length ends ≡ traffic.sets)
+ends_of traffic side ends are =
+    let each = each_end are.0 ends are.2 in
+    let configs = map (λ (task : Task). task.config) are.0 in
+    let numbers = ap length are.1.configs.numbers in
+    let all = length-map configs (λ (config : SetConfig). config.set) in
+    let tasks = length-map are.0 (λ (task : Task). task.config) in
+    let many = so_many traffic.sets in
+    (each.0, omega (arith, each.1, numbers, all, tasks, many))
+
+-- a text that is one thing is another
+pub wider : {T : Type 0} (P Q : T → List ℕ → Type 0) → ((answer : T) (text : List ℕ) → P answer text → Q answer text) → (result : Result T (Fault RunFault))
+    (old new : Option (List ℕ)) → WritesText P result old new → WritesText Q result old new
+wider P Q f (Ok answer) old new w = record { printed = w.printed; added = w.added; ends = f answer w.printed w.ends }
+wider P Q f (Err (Input fault)) old new w = record { printed = w.printed; added = w.added; ends = w.ends }
+wider P Q f (Err Memory) old new w = record { printed = w.printed; added = w.added; ends = w.ends }
+wider P Q f (Err Read) old new w = absurd w.ends
+wider P Q f (Err Long) old new w = absurd w.ends
+wider P Q f (Err Write) old new w =
+    record { printed = w.printed; added = w.added; ends = (w.ends.0, w.ends.1, f w.ends.0 (w.printed ++ w.ends.1) w.ends.2) }
+
+-- all octets of a text were written, or some of them
+pub wrote_all : {T : Type 0} (Q : T → List ℕ → Type 0) (octets : List ℕ) (answer : T) (result : Result (Unit {0}) (Fault RunFault)) (old new : Option (List ℕ))
+    → result ≡ Ok tt → WritesAll octets result old new → Q answer octets → WritesText Q (Ok answer) old new
+wrote_all Q octets answer (Ok done) old new is w q = record { printed = w.printed; added = w.added; ends = subst (Q answer) (sym w.ends) q }
+wrote_all Q octets answer (Err fault) old new is w q = absurd (cc is)
+
+wrote_part : {T : Type 0} (Q : T → List ℕ → Type 0) (octets : List ℕ) (answer : T) (fault : Fault RunFault) (old new : Option (List ℕ))
+    → WritesAll octets (Err fault) old new → Q answer octets → WritesText Q (Err fault) old new
+wrote_part Q octets answer (Input fault) old new w q = record { printed = w.printed; added = w.added; ends = w.ends }
+wrote_part Q octets answer Memory old new w q = record { printed = w.printed; added = w.added; ends = w.ends }
+wrote_part Q octets answer Read old new w q = absurd w.ends
+wrote_part Q octets answer Long old new w q = absurd w.ends
+wrote_part Q octets answer Write old new w q = record { printed = w.printed; added = w.added; ends = (answer, w.ends.1, subst (Q answer) (sym w.ends.2) q) }
+
+pub wrote_some : {T : Type 0} (Q : T → List ℕ → Type 0) (octets : List ℕ) (answer : T) (result : Result (Unit {0}) (Fault RunFault)) (fault : Fault RunFault) (old new : Option (List ℕ))
+    → result ≡ Err fault → WritesAll octets result old new → Q answer octets → WritesText Q (Err fault) old new
+wrote_some Q octets answer result fault old new is w q =
+    wrote_part Q octets answer fault old new (subst (λ (r : Result (Unit {0}) (Fault RunFault)). WritesAll octets r old new) is w) q
+
+-- a fault of the traffic that was asked for
+pub fault_asked : {T : Type 0} (words : RunWords) (traffic : Traffic) → IsTrafficOf words traffic → (result : Result T (Fault RunFault)) → IfErr result (IsFaultOfRun traffic) → IfErr result (IsFaultOfAsked words)
+fault_asked words traffic are (Ok done) is = tt
+fault_asked words traffic are (Err fault) is = (traffic, are, is)
+
+-- the text of these ends is that of the traffic that came to them
+pub runs_of : (traffic : Traffic) (per_link report : Bool) (shown : Showing) (near near' far far' : List SetEnd) (result : Result (Option Missing) (Fault RunFault)) (old new : Option (List ℕ))
+    → shown.per_link ≡ per_link → shown.report ≡ report → shown.capture ≡ traffic.keeps → near' ≡ near → far' ≡ far → AreEndsOf traffic (near_end traffic) near → AreEndsOf traffic (far_end traffic) far
+    → WritesEnds traffic shown near' far' result old new → Runs traffic per_link report result old new
+runs_of traffic per_link report shown near near' far far' result old new lines told kept same_near same_far near_are far_are w =
+    wider (IsTextOfEnds traffic shown near' far') (IsRunText traffic per_link report) (λ missing text is. record {
+      near = near;
+      far = far;
+      time = shown.time;
+      near_are = near_are;
+      far_are = far_are;
+      of_ends = subst (λ (p : Bool). IsTextOfEnds traffic (record { per_link = p; report = report; capture = traffic.keeps; time = shown.time }) near far missing text) lines
+          (subst (λ (r : Bool). IsTextOfEnds traffic (record { per_link = shown.per_link; report = r; capture = traffic.keeps; time = shown.time }) near far missing text) told
+          (subst (λ (k : Bool). IsTextOfEnds traffic (record { per_link = shown.per_link; report = shown.report; capture = k; time = shown.time }) near far missing text) kept
+          (subst (λ (n : List SetEnd). IsTextOfEnds traffic shown n far missing text) same_near (subst (λ (f : List SetEnd). IsTextOfEnds traffic shown near' f missing text) same_far is))));
+    }) result old new w

@@ -1,0 +1,95 @@
+-- Where no failure is told each user got through, and no terminal failed.
+use Rattle.std.proofs.Common.{refl, ◌≡◌, ℕ, suc, List, [], ◌∷◌, Option, None, Some, Result, Ok, Err, All, IsOk, IfErr}
+use Rattle.std.specs.Option.{option_or}
+use Rattle.std.proofs.lemmas.List.Elements.{All-nil, All-cons}
+use Rattle.bank_crew.specs.declared.report.ShiftReport.{ShiftReport}
+use Rattle.bank_crew.specs.declared.report.UserReport.{UserReport}
+use Rattle.link_term.specs.declared.fault.TermFault.{TermFault}
+use Rattle.bank_crew.specs.declared.end.SetEnd.{SetEnd}
+use Rattle.pair_steps.specs.declared.step.End.{End}
+use Rattle.pair_steps.specs.declared.step.End.TheVariants.{A, B}
+use Rattle.bank_crew.specs.declared.fault.UserFault.{UserFault}
+use Rattle.text_run.specs.declared.failures.Failed.{Failed}
+use Rattle.text_run.specs.declared.failures.Stuck.{Stuck}
+use Rattle.text_run.specs.Failures.{stuck_from, failed_from, failure_in, failure_from, failure_of}
+use Rattle.text_printing.specs.declared.fault.Fault.{Fault}
+use Rattle.text_printing.specs.declared.fault.Fault.TheVariants.{Input, Memory, Read, Long, Write}
+use Rattle.bank_traffic.specs.declared.asked.Traffic.{Traffic}
+use Rattle.bank_traffic.specs.Opening.{AreEndsOf, far_end, near_end}
+use Rattle.text_run.specs.declared.fault.RunFault.{RunFault}
+use Rattle.text_run.specs.declared.fault.RunFault.TheVariants.{Thread, Close, User, Terminal}
+use Rattle.text_run.specs.Running.{GotThrough, IsFailure, IsFaultOfEnds, IsFaultOfRun, TellsLack}
+
+pub neither : {T : Type 0} (a b : Option T) → option_or a b ≡ None → (a ≡ None) × (b ≡ None)
+neither None b h = (refl, h)
+neither (Some x) b h = cc h
+
+none_stuck : (user : ℕ) (users : List (Result UserReport UserFault)) → stuck_from user users ≡ None → All IsOk users
+none_stuck user [] h = All-nil IsOk
+none_stuck user (Ok done ∷ users) h = All-cons IsOk (Ok done) users refl (none_stuck (suc user) users h)
+none_stuck user (Err fault ∷ users) h = cc h
+
+none_failed : (link : ℕ) (reports : List (Result ShiftReport TermFault)) → failed_from link reports ≡ None → All IsOk reports
+none_failed link [] h = All-nil IsOk
+none_failed link (Ok report ∷ reports) h = All-cons IsOk (Ok report) reports refl (none_failed (suc link) reports h)
+none_failed link (Err fault ∷ reports) h = cc h
+
+none_in : (end : End) (set : ℕ) (user : Option Stuck) (failed : Option Failed) → failure_in end set user failed ≡ None → (user ≡ None) × (failed ≡ None)
+none_in end set (Some user) failed h = cc h
+none_in end set None (Some failed) h = cc h
+none_in end set None None h = (refl, refl)
+
+none_from : (end : End) (set : ℕ) (sets : List SetEnd) → failure_from end set sets ≡ None → All GotThrough sets
+none_from end set [] h = All-nil GotThrough
+none_from end set (of_set ∷ sets) h =
+    let both = neither _ (failure_from end (suc set) sets) h in
+    let here = none_in end set _ _ both.0 in
+    All-cons GotThrough of_set sets (record { users = none_stuck 0 of_set.users.items here.0; terminals = none_failed 0 of_set.reports.items here.1 })
+    (none_from end (suc set) sets both.1)
+
+pub all_got_through : (near far : List SetEnd) → failure_of near far ≡ None → All GotThrough near × All GotThrough far
+all_got_through near far h =
+    let both = neither (failure_from A 0 near) (failure_from B 0 far) h in
+    (none_from A 0 near both.0, none_from B 0 far both.1)
+
+-- a failed sink is a fault of ends of which none failed
+pub ended_well : (near far : List SetEnd) (result : Result (Unit {0}) (Fault RunFault)) → failure_of near far ≡ None → IfErr result (λ fault. fault ≡ Write)
+    → IfErr result (IsFaultOfEnds near far)
+ended_well near far (Ok done) none is = tt
+ended_well near far (Err fault) none is = rw is none
+
+-- what is told of ends is told of the traffic that came to them
+told : (traffic : Traffic) (near far : List SetEnd) → AreEndsOf traffic (near_end traffic) near
+    → AreEndsOf traffic (far_end traffic) far → (fault : RunFault) → failure_of near far ≡ Some fault → IsFailure traffic fault
+told traffic near far a b Thread is = tt
+told traffic near far a b Close is = tt
+told traffic near far a b (User set end user fault) is = record { near = near; far = far; near_are = a; far_are = b; failure_is = is }
+told traffic near far a b (Terminal set end link fault) is = record { near = near; far = far; near_are = a; far_are = b; failure_is = is }
+
+told_of_run : (traffic : Traffic) (near far : List SetEnd) → AreEndsOf traffic (near_end traffic) near
+    → AreEndsOf traffic (far_end traffic) far → (fault : Fault RunFault) → IsFaultOfEnds near far fault → IsFaultOfRun traffic fault
+told_of_run traffic near far a b (Input fault) is = told traffic near far a b fault is
+told_of_run traffic near far a b Memory is = tt
+told_of_run traffic near far a b Read is = is
+told_of_run traffic near far a b Long is = is
+told_of_run traffic near far a b Write is = tt
+
+pub fault_of_run : {T : Type 0} (traffic : Traffic) (near far : List SetEnd) → AreEndsOf traffic (near_end traffic) near
+    → AreEndsOf traffic (far_end traffic) far → (result : Result T (Fault RunFault)) → IfErr result (IsFaultOfEnds near far)
+    → IfErr result (IsFaultOfRun traffic)
+fault_of_run traffic near far a b (Ok done) is = tt
+fault_of_run traffic near far a b (Err fault) is = told_of_run traffic near far a b fault is
+
+-- a bank that ended early lacked something
+early : (traffic : Traffic) (fault : RunFault) → TellsLack (Input fault) → IsFailure traffic fault
+early traffic Thread is = tt
+early traffic Close is = tt
+early traffic (User set end user fault) is = absurd is
+early traffic (Terminal set end link fault) is = absurd is
+
+pub lack_of_run : (traffic : Traffic) (fault : Fault RunFault) → TellsLack fault → IsFaultOfRun traffic fault
+lack_of_run traffic (Input fault) is = early traffic fault is
+lack_of_run traffic Memory is = tt
+lack_of_run traffic Read is = is
+lack_of_run traffic Long is = is
+lack_of_run traffic Write is = absurd is

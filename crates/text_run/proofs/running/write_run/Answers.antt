@@ -1,0 +1,38 @@
+use Rattle.std.proofs.Common.{refl, arith, ◌∙◌, ap, sym, subst, All, length}
+use Rattle.bank_traffic.specs.Opening.{AreEndsOf, far_end, near_end}
+use Rattle.text_run.specs.Running.{IsAnEnd}
+use Rattle.text_run.proofs.Ends.{ends_of, runs_of}
+use Rattle.text_run.proofs.Failing.{fault_of_run, lack_of_run}
+use Rattle.text_run.proofs.running.write_run.Goals as goal
+
+-- src/running.rt
+pub write_ends-requires-clause-ends : goal.write_ends-requires-clause-ends
+write_ends-requires-clause-ends g c =
+    let traffic = c.args.traffic.now in
+    let near = ends_of traffic (near_end traffic) c.in-Ok.ends.near.items c.in-Ok.ensures.near in
+    let far = ends_of traffic (far_end traffic) c.in-Ok.ends.far.items c.in-Ok.ensures.far in
+    (subst (All IsAnEnd) (sym c.deref.ensures.value) near.0, subst (All IsAnEnd) (sym c.deref-2.ensures.value) far.0)
+
+pub write_ends-requires-clause-few : goal.write_ends-requires-clause-few
+write_ends-requires-clause-few g c =
+    let traffic = c.args.traffic.now in
+    let near = ends_of traffic (near_end traffic) c.in-Ok.ends.near.items c.in-Ok.ensures.near in
+    let far = ends_of traffic (far_end traffic) c.in-Ok.ends.far.items c.in-Ok.ensures.far in (
+      omega (arith, ap length c.deref.ensures.value, near.1, traffic.few_sets.1),
+      omega (arith, ap length c.deref-2.ensures.value, far.1, traffic.few_sets.1),
+    )
+
+pub returns-clause-text : goal.returns-clause-text
+returns-clause-text g c =
+    runs_of c.args.traffic.now c.args.asked.0 c.args.asked.1 _ c.in-Ok.ends.near.items c.deref.result.now c.in-Ok.ends.far.items c.deref-2.result.now c.write_ends.result _ _
+    refl refl refl c.deref.ensures.value c.deref-2.ensures.value c.in-Ok.ensures.near c.in-Ok.ensures.far c.write_ends.ensures.text
+
+pub returns-clause-fault : goal.returns-clause-fault
+returns-clause-fault g c =
+    fault_of_run c.args.traffic.now c.deref.result.now c.deref-2.result.now
+    (subst (AreEndsOf c.args.traffic.now (near_end c.args.traffic.now)) (sym c.deref.ensures.value) c.in-Ok.ensures.near)
+    (subst (AreEndsOf c.args.traffic.now (far_end c.args.traffic.now)) (sym c.deref-2.ensures.value) c.in-Ok.ensures.far)
+    c.write_ends.result c.write_ends.ensures.fault
+
+pub returns-in-Err-clause-fault : goal.returns-in-Err-clause-fault
+returns-in-Err-clause-fault g c = lack_of_run c.args.traffic.now c.fault_of.result c.fault_of.ensures

@@ -1,0 +1,147 @@
+-- A RUN, from its traffic to what is written.
+use Rattle.std.specs.Prelude.{◌≡◌, ℕ, Bool, true, false, List, [], ◌++◌, Option, None, Some, Result, MatchResult, All, IsOk, if◌then◌else◌}
+use Rattle.std.specs.Io.KnownBytes.{Appends}
+use Rattle.set_events.specs.declared.config.SetConfig.{SetConfig}
+use Rattle.bank_crew.specs.declared.end.SetEnd.{SetEnd}
+use Rattle.bank_crew.specs.Ends.{IsEndOf}
+use Rattle.bank_traffic.specs.declared.asked.Traffic.{Traffic}
+use Rattle.bank_traffic.specs.Opening.{AreEndsOf, far_end, near_end}
+use Rattle.text_printing.specs.declared.fault.Fault.{Fault}
+use Rattle.text_printing.specs.declared.fault.Fault.TheVariants.{Input, Memory, Read, Long, Write}
+use Rattle.text_report.specs.declared.verdict.Missing.{Missing}
+use Rattle.text_report.specs.ReportText.{report_text}
+use Rattle.text_report.specs.Verdict.{IsVerdict}
+use Rattle.text_run.specs.declared.fault.RunFault.{RunFault}
+use Rattle.text_run.specs.declared.running.Shown.{Shown}
+use Rattle.text_run.specs.declared.fault.RunFault.TheVariants.{Thread, Close, User, Terminal}
+use Rattle.text_run.specs.Capturing.{IsCapture}
+use Rattle.text_run.specs.Failures.{failure_of}
+use Rattle.text_run.specs.RunText.{run_text}
+
+-- the end of a set of some configuration
+abbrev pub IsAnEnd : SetEnd → Type 0
+IsAnEnd end = (config : SetConfig) × IsEndOf config end
+
+-- each user got through, and no terminal failed
+pub record GotThrough (end : SetEnd) : Type 0 where
+  pub users : All IsOk end.users.items
+  pub terminals : All IsOk end.reports.items
+
+-- what is shown of ends: lines of each link, a report, or the capture in place of them; and how many milliseconds the run took, if a clock told them
+pub record Showing : Type 0 where
+  pub per_link : Bool
+  pub report : Bool
+  pub capture : Bool
+  pub time : Option ℕ
+
+abbrev pub showing : Shown → Showing
+showing shown =
+    record { per_link = shown.per_link; report = shown.report; capture = shown.capture; time = shown.time }
+
+-- the text, with a report where one is asked for
+abbrev pub shown_text : Showing → List SetEnd → List SetEnd → Option Missing → List ℕ
+shown_text shown near far missing =
+    run_text shown.per_link near far ++ (if shown.report then report_text shown.time near far missing else [])
+
+-- that, or the capture of what was sent in place of it
+abbrev pub IsShownWhere : Bool → Showing → List SetEnd → List SetEnd → Option Missing → List ℕ → Type 0
+IsShownWhere false shown near far missing text = text ≡ shown_text shown near far missing
+IsShownWhere true shown near far missing text = IsCapture near far text
+
+abbrev pub IsShown : Showing → List SetEnd → List SetEnd → Option Missing → List ℕ → Type 0
+IsShown shown = IsShownWhere shown.capture shown
+
+-- the first message that is missing is looked for where a report is asked for
+abbrev pub IsMissing : Bool → Traffic → List SetEnd → Option Missing → Type 0
+IsMissing false traffic far missing = missing ≡ None
+IsMissing true traffic far missing = IsVerdict traffic.users traffic.messages 0 far missing
+
+-- what is printed of these ends: something only where each user got through, and no terminal failed
+pub record IsTextOfEnds (traffic : Traffic) (shown : Showing) (near far : List SetEnd) (missing : Option Missing)
+    (text : List ℕ) : Type 0 where
+  pub no_failure : failure_of near far ≡ None
+  pub near_got_through : All GotThrough near
+  pub far_got_through : All GotThrough far
+  pub missing_is : IsMissing shown.report traffic far missing
+  pub text_is : IsShown shown near far missing text
+
+-- what this traffic came to at its ends, and what is printed of it
+pub record IsRunText (traffic : Traffic) (per_link report : Bool) (missing : Option Missing) (text : List ℕ)
+    : Type 0 where
+  pub near : List SetEnd
+  pub far : List SetEnd
+  pub time : Option ℕ
+  pub near_are : AreEndsOf traffic (near_end traffic) near
+  pub far_are : AreEndsOf traffic (far_end traffic) far
+  pub of_ends : IsTextOfEnds traffic
+      (record { per_link = per_link; report = report; capture = traffic.keeps; time = time }) near far missing text
+
+-- where the sink failed, the text was begun; for any other fault nothing was written
+abbrev pub CutsOff : {T : Type 0} → (T → List ℕ → Type 0) → List ℕ → Fault RunFault → Type 0
+CutsOff IsText printed (Input fault) = printed ≡ []
+CutsOff IsText printed Memory = printed ≡ []
+CutsOff IsText printed Read = ⊥
+CutsOff IsText printed Long = ⊥
+CutsOff {T} IsText printed Write = (answer : T) × (more : List ℕ) × IsText answer (printed ++ more)
+
+pub record WritesText {T : Type 0} (IsText : T → List ℕ → Type 0) (result : Result T (Fault RunFault))
+    (old new : Option (List ℕ)) : Type 0 where
+  pub printed : List ℕ
+  pub added : Appends old new printed
+  pub ends : MatchResult result (λ (answer : T). IsText answer printed) (CutsOff IsText printed)
+
+-- these octets were written
+abbrev pub WritesAll : List ℕ → Result (Unit {0}) (Fault RunFault) → Option (List ℕ)
+    → Option (List ℕ) → Type 0
+WritesAll octets result old new = WritesText (λ (done : Unit {0}) (printed : List ℕ). printed ≡ octets) result old new
+
+-- what was written is the text of these ends
+abbrev pub WritesEnds : Traffic → Showing → List SetEnd → List SetEnd → Result (Option Missing) (Fault RunFault)
+    → Option (List ℕ) → Option (List ℕ) → Type 0
+WritesEnds traffic shown near far result old new = WritesText (IsTextOfEnds traffic shown near far) result old new
+
+-- THE RUN: what was written is the text of what the threads came to
+abbrev pub Runs : Traffic → Bool → Bool → Result (Option Missing) (Fault RunFault) → Option (List ℕ)
+    → Option (List ℕ) → Type 0
+Runs traffic per_link report result old new = WritesText (IsRunText traffic per_link report) result old new
+
+-- WHY IT ENDS SO. Of ends that are at hand: a failure is told, the first one; memory was wanted here, or the sink failed,
+-- only where there is none.
+abbrev pub IsFaultOfEnds : List SetEnd → List SetEnd → Fault RunFault → Type 0
+IsFaultOfEnds near far (Input fault) = failure_of near far ≡ Some fault
+IsFaultOfEnds near far Memory = failure_of near far ≡ None
+IsFaultOfEnds near far Read = ⊥
+IsFaultOfEnds near far Long = ⊥
+IsFaultOfEnds near far Write = failure_of near far ≡ None
+
+-- this is the failure of what the traffic came to at its ends
+pub record FailsAt (traffic : Traffic) (fault : RunFault) : Type 0 where
+  pub near : List SetEnd
+  pub far : List SetEnd
+  pub near_are : AreEndsOf traffic (near_end traffic) near
+  pub far_are : AreEndsOf traffic (far_end traffic) far
+  pub failure_is : failure_of near far ≡ Some fault
+
+abbrev pub IsFailure : Traffic → RunFault → Type 0
+IsFailure traffic Thread = Unit {0}
+IsFailure traffic Close = Unit {0}
+IsFailure traffic (User set end user fault) = FailsAt traffic (User set end user fault)
+IsFailure traffic (Terminal set end link fault) = FailsAt traffic (Terminal set end link fault)
+
+abbrev pub IsFaultOfRun : Traffic → Fault RunFault → Type 0
+IsFaultOfRun traffic (Input fault) = IsFailure traffic fault
+IsFaultOfRun traffic Memory = Unit {0}
+IsFaultOfRun traffic Read = ⊥
+IsFaultOfRun traffic Long = ⊥
+IsFaultOfRun traffic Write = Unit {0}
+
+-- a bank that ended early is told by what it lacked; no end is at hand then
+abbrev pub TellsLack : Fault RunFault → Type 0
+TellsLack (Input Thread) = Unit {0}
+TellsLack (Input Close) = Unit {0}
+TellsLack (Input (User set end user fault)) = ⊥
+TellsLack (Input (Terminal set end link fault)) = ⊥
+TellsLack Memory = Unit {0}
+TellsLack Read = ⊥
+TellsLack Long = ⊥
+TellsLack Write = ⊥

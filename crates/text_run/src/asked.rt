@@ -1,0 +1,90 @@
+//! A run as its words ask for it.
+ghost use Rattle.std.specs.Prelude.{◌≡◌, ◌≢◌, IfErr, OnOk};
+ghost use Rattle.text_run.specs.Asked.{IsFaultOfAsked, IsTrafficOf, RunsAsked};
+
+use super::fault::RunFault;
+use super::progress::Progress;
+use super::running::write_run;
+use bank_traffic::{PaceGate, Traffic, gates_of};
+use mtpbank_words::RunWords;
+use std::alloc::Global;
+use std::io::Eprint;
+use std::sync::Wait;
+use std::thread::Threads;
+use std::time::{Clock, Instant};
+use text_printing::{Fault, Sink};
+use text_report::Missing;
+
+/// Runs what these words ask for, and writes what its sets came to; with `shows`, standard error tells meanwhile how far
+/// it is. Where the words ask for a report the answer is the first message that is missing, if one is.
+///
+/// Faults, in which nothing was written but before [`Fault::Write`]: [`RunFault::Thread`], [`RunFault::Close`],
+/// [`RunFault::User`], [`RunFault::Terminal`], [`Fault::Memory`], [`Fault::Write`], as [`write_run`] has them.
+pub fn run<R: Threads + Wait + Clock + Eprint + Copy + Send + Sync + 'static, W: Sink>(
+    rt: &R,
+    alloc: Global,
+    words: &RunWords,
+    shows: bool,
+    sink: &mut W,
+) -> Result<Option<Missing>, Fault<RunFault>>
+    ensures text { RunsAsked words.now result (W.written sink.old) (W.written sink.new) }
+    ensures fault { IfErr result (IsFaultOfAsked words.now) }
+    ensures failed { IfErr result (λ fault. fault ≡ Fault.Write → W.failures sink.new ≢ W.failures sink.old) }
+    ensures sound { OnOk result (W.failures sink.new ≡ W.failures sink.old) }
+{
+    let traffic = traffic_of(words);
+    let Ok((near, far)) = gates_of(alloc, &traffic) else {
+        return Err(Fault::Memory);
+    };
+    let progress = if shows {
+        shown(rt, alloc, words, &near)
+    } else {
+        None
+    };
+    let asked = (words.per_link, words.report);
+    let since = Instant::now(rt).ok();
+    write_run(rt, alloc, &traffic, (near, far), asked, sink, || {
+        if let Some(progress) = progress {
+            progress.end(rt);
+        }
+        milliseconds_since(rt, since)
+    })
+}
+
+/// How many milliseconds went by since then, if a clock tells them.
+fn milliseconds_since<R: Clock>(rt: &R, since: Option<Instant>) -> Option<u64> {
+    let elapsed = since?.elapsed(rt).ok()?;
+    Some(elapsed.as_millis().min(u128::from(u64::MAX)) as u64)
+}
+
+/// Begins to tell how far a run of these words is.
+fn shown<R: Threads + Wait + Clock + Eprint + Copy + Send + Sync + 'static>(
+    rt: &R,
+    alloc: Global,
+    words: &RunWords,
+    near: &PaceGate,
+) -> Option<Progress> {
+    let turns = u64::from(words.sets) * u64::from(words.links) * u64::from(words.turns);
+    let messages = u64::from(words.sets) * u64::from(words.users) * u64::from(words.messages);
+    Progress::start(rt, alloc, near, turns, messages)
+}
+
+/// The traffic that these words ask for.
+fn traffic_of(words: &RunWords) -> Traffic
+    ensures { IsTrafficOf words.now result }
+{
+    Traffic {
+        sets: words.sets,
+        links: words.links,
+        users: words.users,
+        messages: words.messages,
+        fail: words.fail,
+        cyclic: words.cyclic,
+        turns: u64::from(words.turns),
+        checkpoint: words.checkpoint,
+        managed: words.report,
+        noise: words.noise,
+        seed: words.seed,
+        keeps: words.capture,
+    }
+}

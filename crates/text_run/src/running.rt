@@ -1,0 +1,233 @@
+//! A run, from its traffic to what is written.
+ghost use Rattle.std.specs.Prelude.{◌≡◌, ◌≢◌, ◌≤◌, All, IfErr, IfOk, OnOk, None, length};
+ghost use Rattle.bank_core.specs.Faults.{EndsEarly};
+ghost use Rattle.text_run.specs.Failures.{failure_of};
+ghost use Rattle.text_run.specs.RunText.{run_text};
+ghost use Rattle.text_run.specs.Running.{IsAnEnd, IsFaultOfEnds, IsFaultOfRun, Runs, TellsLack, WritesAll, WritesEnds, IsMissing, IsShown, showing, shown_text};
+
+use super::capturing::capture_of;
+use super::failures::find_failure;
+use super::fault::RunFault;
+use super::summing::totals_of_ends;
+use super::texts::{write_all_sets, write_links};
+use bank_core::{BankFault, SetEnd};
+use bank_traffic::{PaceGate, Traffic, run_through};
+use std::alloc::{AllocError, Global};
+use std::sync::Wait;
+use std::thread::Threads;
+use std::time::Clock;
+use text_printing::{Fault, Sink};
+use text_report::{Missing, Report, report_of};
+
+/// What is written of ends behind what their sets came to.
+#[derive(Clone, Copy, Debug, PartialEq, Eq)]
+pub struct Shown {
+    /// What each link came to.
+    pub per_link: bool,
+    /// A report, with the verdict on what was taken.
+    pub report: bool,
+    /// The capture of what was sent on each link, in place of all that.
+    pub capture: bool,
+    /// How many milliseconds the run took, for the report, if a clock told them.
+    pub time: Option<u64>,
+}
+
+/// Runs this traffic through these gates, and writes what its sets came to at both ends; with `per_link` behind that what
+/// each link came to; with `report` behind that a report, in which case the answer is the first message that is missing, if one
+/// is. Where the traffic keeps what is sent, the capture of that is written in place of all these. When all threads have ended, before anything is written, `ended` is called, which tells how many milliseconds they took.
+///
+/// Faults: [`RunFault::Thread`] and [`RunFault::Close`] as [`run_through`] has them; [`Fault::Memory`] where memory was
+/// wanted there or here; [`RunFault::User`] or [`RunFault::Terminal`] of the first user that ended early or terminal
+/// that failed. Nothing is written then. [`Fault::Write`] where the sink fails; what was written is a beginning of the text.
+pub fn write_run<
+    R: Threads + Wait + Clock + Copy + Send + Sync + 'static,
+    W: Sink,
+    F: FnOnce() -> Option<u64>,
+>(
+    rt: &R,
+    alloc: Global,
+    traffic: &Traffic,
+    gates: (PaceGate, PaceGate),
+    asked: (bool, bool),
+    sink: &mut W,
+    ended: F,
+) -> Result<Option<Missing>, Fault<RunFault>>
+    requires callable { F.IsAlwaysCallable ended }
+    ensures text { Runs traffic.now asked.0 asked.1 result (W.written sink.old) (W.written sink.new) }
+    ensures fault { IfErr result (IsFaultOfRun traffic.now) }
+    ensures failed { IfErr result (λ fault. fault ≡ Fault.Write → W.failures sink.new ≢ W.failures sink.old) }
+    ensures sound { OnOk result (W.failures sink.new ≡ W.failures sink.old) }
+{
+    let (near_gate, far_gate) = gates;
+    let came_to = run_through(rt, alloc, traffic, near_gate, far_gate);
+    let time = ended();
+    let (per_link, report) = asked;
+    let shown = Shown {
+        per_link,
+        report,
+        capture: traffic.keeps,
+        time,
+    };
+    let ends = match came_to {
+        Ok(ends) => ends,
+        Err(fault) => return Err(fault_of(fault)),
+    };
+    write_ends(alloc, traffic, &ends.near, &ends.far, shown, sink)
+}
+
+/// Why there is nothing to write.
+fn fault_of(fault: BankFault) -> Fault<RunFault>
+    requires early { EndsEarly fault }
+    ensures { TellsLack result }
+{
+    match fault {
+        BankFault::NoThread => Fault::Input(RunFault::Thread),
+        BankFault::Unclosed => Fault::Input(RunFault::Close),
+        _ => Fault::Memory,
+    }
+}
+
+/// Writes what these ends of a traffic came to, at most 16 of each bank, and behind that what is to be shown; with a report
+/// the answer is the first message that is missing, if one is.
+///
+/// Faults: [`RunFault::User`] or [`RunFault::Terminal`] exactly where a user ended early or a terminal failed, of the
+/// first one: the ends a come before the ends b, a set's users before its terminals. [`Fault::Memory`] where memory was
+/// wanted here. Nothing is written then. [`Fault::Write`] where the sink fails; what was written is a beginning of the text.
+pub fn write_ends<W: Sink>(
+    alloc: Global,
+    traffic: &Traffic,
+    near: &[SetEnd],
+    far: &[SetEnd],
+    shown: Shown,
+    sink: &mut W,
+) -> Result<Option<Missing>, Fault<RunFault>>
+    requires ends { All IsAnEnd near.now × All IsAnEnd far.now }
+    requires few { (length near.now ≤ 16) × (length far.now ≤ 16) }
+    ensures text { WritesEnds traffic.now (showing shown) near.now far.now result (W.written sink.old) (W.written sink.new) }
+    ensures fault { IfErr result (IsFaultOfEnds near.now far.now) }
+    ensures failed { IfErr result (λ fault. fault ≡ Fault.Write → W.failures sink.new ≢ W.failures sink.old) }
+    ensures sound { OnOk result (W.failures sink.new ≡ W.failures sink.old) }
+{
+    match find_failure(near, far) {
+        Some(fault) => Err(Fault::Input(fault)),
+        None => write_text(alloc, traffic, near, far, shown, sink),
+    }
+}
+
+/// Writes what ends came to of which none failed.
+fn write_text<W: Sink>(
+    alloc: Global,
+    traffic: &Traffic,
+    near: &[SetEnd],
+    far: &[SetEnd],
+    shown: Shown,
+    sink: &mut W,
+) -> Result<Option<Missing>, Fault<RunFault>>
+    requires ends { All IsAnEnd near.now × All IsAnEnd far.now }
+    requires few { (length near.now ≤ 16) × (length far.now ≤ 16) }
+    requires none { failure_of near.now far.now ≡ None }
+    ensures text { WritesEnds traffic.now (showing shown) near.now far.now result (W.written sink.old) (W.written sink.new) }
+    ensures fault { IfErr result (IsFaultOfEnds near.now far.now) }
+    ensures failed { IfErr result (λ fault. fault ≡ Fault.Write → W.failures sink.new ≢ W.failures sink.old) }
+    ensures sound { OnOk result (W.failures sink.new ≡ W.failures sink.old) }
+{
+    match report_on(alloc, traffic, near, far, shown) {
+        Ok(report) => match write_all(sink, &report.text) {
+            Ok(()) => Ok(report.missing),
+            Err(fault) => Err(fault),
+        },
+        Err(_) => Err(Fault::Memory),
+    }
+}
+
+/// What is written about these ends, and the first message that is missing, if a report is asked for.
+fn report_on(
+    alloc: Global,
+    traffic: &Traffic,
+    near: &[SetEnd],
+    far: &[SetEnd],
+    shown: Shown,
+) -> Result<Report, AllocError>
+    requires ends { All IsAnEnd near.now × All IsAnEnd far.now }
+    requires few { (length near.now ≤ 16) × (length far.now ≤ 16) }
+    ensures missing { IfOk result (λ report. IsMissing shown.report traffic.now far.now report.missing) }
+    ensures text { IfOk result (λ report. IsShown (showing shown) near.now far.now report.missing report.text.items) }
+{
+    let lines = lines_on(alloc, traffic, near, far, shown)?;
+    if !shown.capture {
+        return Ok(lines);
+    }
+    let text = capture_of(alloc, near, far)?;
+    Ok(Report {
+        text,
+        missing: lines.missing,
+    })
+}
+
+/// The lines about these ends, and the first message that is missing, if a report is asked for.
+fn lines_on(
+    alloc: Global,
+    traffic: &Traffic,
+    near: &[SetEnd],
+    far: &[SetEnd],
+    shown: Shown,
+) -> Result<Report, AllocError>
+    requires ends { All IsAnEnd near.now × All IsAnEnd far.now }
+    requires few { (length near.now ≤ 16) × (length far.now ≤ 16) }
+    ensures missing { IfOk result (λ report. IsMissing shown.report traffic.now far.now report.missing) }
+    ensures text { IfOk result (λ report. report.text.items
+        ≡ shown_text (showing shown) near.now far.now report.missing) }
+{
+    let mut text = text_of(alloc, near, far, shown.per_link)?;
+    if !shown.report {
+        return Ok(Report {
+            text,
+            missing: None,
+        });
+    }
+    let report = report_of(alloc, traffic, near, far, shown.time)?;
+    text.extend_from_slice(&report.text)?;
+    Ok(Report {
+        text,
+        missing: report.missing,
+    })
+}
+
+/// The text about these ends.
+fn text_of(
+    alloc: Global,
+    near: &[SetEnd],
+    far: &[SetEnd],
+    per_link: bool,
+) -> Result<Vec<u8>, AllocError>
+    requires ends { All IsAnEnd near.now × All IsAnEnd far.now }
+    requires few { (length near.now ≤ 16) × (length far.now ≤ 16) }
+    ensures { IfOk result (λ text. text.items ≡ run_text per_link near.now far.now) }
+{
+    let near_totals = totals_of_ends(alloc, near)?;
+    let far_totals = totals_of_ends(alloc, far)?;
+    let mut text = write_all_sets(alloc, near_totals, &far_totals)?;
+    if !per_link {
+        return Ok(text);
+    }
+    let links = write_links(alloc, near, far)?;
+    text.extend_from_slice(&links)?;
+    Ok(text)
+}
+
+/// Writes all these octets.
+fn write_all<W: Sink>(sink: &mut W, octets: &[u8]) -> Result<(), Fault<RunFault>>
+    ensures writes { WritesAll octets.now result (W.written sink.old) (W.written sink.new) }
+    ensures fault { IfErr result (λ fault. fault ≡ Fault.Write) }
+    ensures failed { IfErr result (λ fault. W.failures sink.new ≢ W.failures sink.old) }
+    ensures sound { OnOk result (W.failures sink.new ≡ W.failures sink.old) }
+{
+    let mut written: usize = 0;
+    while written < octets.len() {
+        match sink.write(&octets[written..]) {
+            Ok(count) => written += count,
+            Err(_) => return Err(Fault::Write),
+        }
+    }
+    Ok(())
+}

@@ -1,5 +1,0 @@
-use Rattle.units_text.proofs.DigitLemmas.{first_of_two}
-use Rattle.units_text.proofs.digits.first_pair.Goals as goal
-
-pub returns-clause-begins : goal.returns-clause-begins
-returns-clause-begins c = first_of_two c.args.text.now c.in-Some.octet c.in-len2-up.len_at_least c.in-Some.ensures

@@ -1,5 +1,0 @@
-use Rattle.units_text.proofs.ReaderLemmas.{units_reads}
-use Rattle.units_text.proofs.units_reading.UnitsReaderPrinter.read.Goals as goal
-
-pub returns : goal.returns
-returns c = units_reads c.read_all.result _ _ _ _ _ c.read_all.ensures
