@@ -1,11 +1,10 @@
 -- Octets stand for one unit at most.
-use Rattle.std.proofs.Common.{refl, arith, zero, suc, get_or, ◌≡◌, ◌∙◌, ap, subst, sym, ◌<◌, ◌≤◌, ◌^◌, [], ◌∷◌, ◌++◌, length, ℕ, ◌+◌, ◌*◌, ◌/◌, ◌%◌, Bool, true, false, List, min, nat_le, ◌==◌, Option, Some, None, Result, Ok, Err, IfOk}
+use Rattle.std.proofs.Common.{refl, arith, zero, suc, get_or, ◌≡◌, ◌∙◌, ap, subst, sym, ◌<◌, ◌≤◌, ◌^◌, [], ◌∷◌, ◌++◌, length, ℕ, ◌+◌, ◌*◌, ◌/◌, ◌%◌, Bool, true, false, List, nat_le, ◌==◌, Some, None, Result, Ok, Err, IfOk}
 use Rattle.std.specs.Prelude.{if◌then◌else◌}
 use Rattle.std.specs.Result.{result_ok}
 use Rattle.std.proofs.lemmas.Option.{same_Some, none-some}
 use Rattle.std.proofs.lemmas.Bool.Decides.{nat_tests}
 use Rattle.std.proofs.Props.{props}
-use Rattle.std.proofs.lemmas.Grind.{common_steps}
 use Rattle.l2_units.specs.declared.status.Status.{Status}
 use Rattle.l2_units.specs.Numbers.{status_number}
 use Rattle.l2_units.specs.declared.unit.Header.{Header}

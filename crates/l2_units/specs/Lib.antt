@@ -3,3 +3,4 @@ pub mod Grammar
 pub mod Profile
 pub mod Numbers
 pub mod Orders
+pub mod Lent

@@ -56,7 +56,7 @@ pub fn copy_of_unit(unit: &Unit) -> Unit
 
 /// Whether both headers have the same numbers and indicators.
 #[tactic(auto, using(crate::proofs::Texts::same_header))]
-fn same_head(head: &Header, other: &Header) -> bool
+pub(crate) fn same_head(head: &Header, other: &Header) -> bool
     ensures { IsTrue result ↔ (head.now ≡ other.now) }
 {
     if head.bsn != other.bsn || head.fsn != other.fsn {

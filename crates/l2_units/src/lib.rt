@@ -21,6 +21,8 @@
 //! | | | | alignment not possible | 8 |
 //! | | | | stopped | 9 |
 //!
+//! A [`UnitRef`] is a unit whose body stays where it stands.
+//!
 //! This crate never looks at flags, inserted zeros or check bits, never acts on what a unit says,
 //! and takes no memory.
 //!
@@ -37,6 +39,7 @@
 
 mod cause;
 mod grammar;
+mod lent;
 mod profile;
 mod reading;
 mod status;
@@ -46,8 +49,9 @@ mod writing;
 
 pub use cause::{Cause, ControlFault};
 pub use grammar::{copy_of_unit, header_in, one_text, same_unit};
+pub use lent::UnitRef;
 pub use profile::Profile;
-pub use reading::{UnitFault, body_of, parts_of, read, read_wide};
+pub use reading::{UnitFault, body_of, parts_of, read, read_ref, read_wide};
 pub use status::Status;
 pub use timer::TimerOrder;
 pub use unit::{Header, LONGEST_BODY, LONGEST_UNIT, SHORTEST_BODY, Unit};

@@ -6,7 +6,9 @@ ghost use Rattle.l2_units.specs.Profile.{Narrow, Wide};
 ghost use Rattle.l2_units.specs.declared.unit.Unit.{Unit as SignalUnit};
 ghost use Rattle.l2_units.specs.Grammar.{StandsFor, IsHeadOf, IsBodyOf, head_of, header_in, wide_header, unit_of, unit_with};
 ghost use Rattle.l2_units.specs.Fault.{number_of};
+ghost use Rattle.l2_units.specs.Lent.{body_in, unit_in};
 
+use super::lent::UnitRef;
 use super::status::Status;
 use super::unit::{Header, LONGEST_BODY, Unit};
 use arrayvec::ArrayVec;
@@ -94,6 +96,7 @@ pub fn read_wide(octets: &[u8]) -> Result<Unit, UnitFault>
 #[inline(always)]
 pub fn parts_of(octets: &[u8]) -> Result<(Header, &[u8]), UnitFault>
     ensures exact { option_map (λ parts. unit_with parts.0 parts.1.now) (result_ok result) ≡ unit_of Narrow octets.now }
+    ensures few { IfOk result (λ parts. length parts.1.now ≤ 273) }
     ensures short { (result ≡ Err UnitFault.Short) ↔ (length octets.now < 3) }
     ensures long { (result ≡ Err UnitFault.Long) ↔ (276 < length octets.now) }
 {
@@ -107,6 +110,35 @@ pub fn parts_of(octets: &[u8]) -> Result<(Header, &[u8]), UnitFault>
         return Err(UnitFault::Length);
     }
     Ok((header_of(*backward, *forward), field))
+}
+
+/// The unit that `octets` (without check octets) stand for, whose body stays among them.
+///
+/// Refusals as those of [`read`].
+pub fn read_ref(octets: &[u8]) -> Result<UnitRef<'_>, UnitFault>
+    ensures exact { option_map unit_in (result_ok result) ≡ unit_of Narrow octets.now }
+    ensures few { IfOk result (λ unit. length (body_in unit) ≤ 273) }
+    ensures short { (result ≡ Err UnitFault.Short) ↔ (length octets.now < 3) }
+    ensures long { (result ≡ Err UnitFault.Long) ↔ (276 < length octets.now) }
+{
+    let (head, field) = parts_of(octets)?;
+    Ok(lent_with(head, field))
+}
+
+/// The unit with this header and these octets behind the length indicator, where they stand.
+fn lent_with(head: Header, field: &[u8]) -> UnitRef<'_>
+    requires { length field.now ≤ 273 }
+    ensures value { unit_in result ≡ unit_with head field.now }
+    ensures few { length (body_in result) ≤ 273 }
+{
+    match field {
+        [] => UnitRef::Fisu { head },
+        [first] | [first, _] => UnitRef::Lssu {
+            head,
+            status: Status::of(*first),
+        },
+        _ => UnitRef::Msu { head, body: field },
+    }
 }
 
 /// The number of these four octets, least significant first.

@@ -1,4 +1,5 @@
 pub mod Config
+pub mod Lent
 pub mod Method
 pub mod Numbers
 pub mod Owners

@@ -2,7 +2,8 @@
 //!
 //! Plain data: this crate decides nothing, waits for nothing and knows no rule of the standard but
 //! the lengths and ranges that its types keep. A body is a list of octets to every contract, so two
-//! events, answers or entries are equal exactly where a reader of them sees the same.
+//! events, answers or entries are equal exactly where a reader of them sees the same. An [`EventRef`] and an
+//! [`AnswerRef`] leave the body where it stands, and a [`Reply`] is the place of an answer.
 #![tactic(auto)]
 
 mod answer;
@@ -13,6 +14,8 @@ mod event;
 mod fault;
 mod finished;
 mod history;
+mod lent;
+mod reply;
 
 pub use answer::{Answer, Counts, DiscardCause, Fate, Refusal, Report, Took};
 pub use body::Body;
@@ -23,3 +26,5 @@ pub use fault::SetFault;
 pub use finished::Finished;
 pub use history::Entry;
 pub use l2_units::ControlFault;
+pub use lent::{AnswerRef, EventRef};
+pub use reply::Reply;

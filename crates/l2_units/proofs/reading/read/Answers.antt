@@ -1,8 +1,6 @@
-use Rattle.std.proofs.Common.{rules, arith, sym, ◌<◌, ◌≡◌, List, ℕ, slice_index, get_or, Fits, w8, Ok}
+use Rattle.std.proofs.Common.{arith, Ok}
 use Rattle.std.proofs.lemmas.Grind.{common_steps}
-use Rattle.std.specs.Result.{result_ok}
 use Rattle.l2_units.specs.Profile.{Narrow}
-use Rattle.l2_units.specs.Grammar.{unit_of}
 use Rattle.l2_units.proofs.Texts.{found_stands, only_stands}
 use Rattle.l2_units.proofs.reading.read.Goals as goal
 
