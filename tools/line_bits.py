@@ -1,6 +1,6 @@
 """The octets and bits of a signalling line (ITU-T Q.703 2, 3.1, 3.2, 4.1, 4.2), for the tools beside this file.
 
-Units to bits: `check_octets`, `stuffed`, `packed`. Bits back to units: `marks`, `unit_of`, `text_units`. Both are
+Units to bits: `check_octets`, `stuffed`, `packed`. Bits back to units: `marks`, `unit_of`, `units_text`. Both are
 written from the standard and docs/DECISIONS.md, apart from the program's code, so that they can be held against it.
 """
 from typing import NamedTuple
@@ -115,7 +115,7 @@ def mark_line(mark):
     return text + (f" body={unit.body.hex()}" if unit.kind == "msu" else "")
 
 
-def text_units(octets):
+def units_text(octets):
     """What `units` prints of this input, and the place of its fault or None."""
     bad = [place for place, octet in enumerate(octets) if octet not in BLANKS and octet not in HEX_DIGITS][:1]
     digits = bytes(octet for octet in octets[:bad[0] if bad else None] if octet not in BLANKS)
