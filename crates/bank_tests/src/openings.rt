@@ -224,7 +224,7 @@ pub(crate) fn are_legal(alloc: Global, configs: &[SetConfig], ends: &[SetEnd]) -
     holds(configs.len() == ends.len())?;
     for (config, end) in configs.iter().zip(ends) {
         holds(end.closed.config == *config)?;
-        match audit_history_from(alloc, &end.closed.base, end.closed.history.reader()) {
+        match audit_history_from(&end.closed.base, end.closed.history.reader()) {
             Ok(legal) => holds(legal)?,
             Err(_) => return Err(Fail::from("no memory")),
         }

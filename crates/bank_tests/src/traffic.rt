@@ -90,7 +90,7 @@ fn heard_all(end: &SetEnd, messages: u16) -> Result<bool, Fail> {
 
 /// A legal history from the opening, with so many messages accepted, each in one place.
 fn is_sound(alloc: Global, end: &SetEnd, messages: u64) -> Result<(), Fail> {
-    match audit_history_from(alloc, &end.closed.base, end.closed.history.reader()) {
+    match audit_history_from(&end.closed.base, end.closed.history.reader()) {
         Ok(legal) => holds(legal && end.closed.base.entries() == 0)?,
         Err(_) => return Err(Fail::from("no memory")),
     }

@@ -1,12 +1,13 @@
 //! A history as it's told.
 ghost use Rattle.std.specs.Prelude.{◌≡◌, ◌+◌, ◌<◌, ◌≤◌, ◌^◌, ◌↔◌, ℕ, IfOk, IfErr, IsTrue, MatchResult, slice_index};
+ghost use Rattle.set_events.specs.Lent.{answer_in, event_in};
 ghost use Rattle.set_model.specs.History.{IsActor};
 ghost use Rattle.set_model.specs.Step.{octets_of, octets_offered};
 ghost use Rattle.history_audit.specs.Hearing.{CountsEntry, is_actor};
 
 use history_items::Item;
 use set_core::{Core, SetFault};
-use set_events::{Actor, Answer, Books, Entry, Event, SetConfig};
+use set_events::{Actor, Answer, AnswerRef, Books, Entry, EventRef, Reply, SetConfig};
 use std::alloc::Global;
 use std::marker::Model;
 
@@ -35,7 +36,7 @@ pub struct Auditor {
     /// How many entries there were.
     entries: u64,
     /// What a set answers to the last entry.
-    answer: Answer,
+    reply: Reply,
 }
 
 impl Model for Auditor {
@@ -45,9 +46,9 @@ impl Model for Auditor {
 
     ghost use Rattle.history_audit.specs.Hearing.{hearing_of, CanGoOn};
 
-    ghost view = { λ a. hearing_of a.core a.books a.entries a.answer };
+    ghost view = { λ a. hearing_of a.core a.books a.entries a.reply };
 
-    ghost invariant = { λ a. CanGoOn (hearing_of a.core a.books a.entries a.answer) };
+    ghost invariant = { λ a. CanGoOn (hearing_of a.core a.books a.entries a.reply) };
 }
 
 impl Auditor {
@@ -76,7 +77,7 @@ impl Auditor {
                 acknowledged: 0,
             },
             entries: 0,
-            answer: Answer::Done,
+            reply: Reply::new(),
         })
     }
 
@@ -110,10 +111,12 @@ impl Auditor {
         if !can_ask(entry.who) {
             return Ok(Finding::NoSuchActor);
         }
-        self.core.apply(&entry.event, &mut self.answer)?;
+        let asked = EventRef::of(&entry.event);
+        self.core.apply(&asked, &mut self.reply)?;
         self.entries += 1;
-        count(&mut self.books, entry.who, &entry.event, &self.answer);
-        if !self.answer.same(&entry.answer) {
+        let answer = self.reply.get();
+        count(&mut self.books, entry.who, &asked, &answer);
+        if !answer.same(&AnswerRef::of(&entry.answer)) {
             return Ok(Finding::WrongAnswer);
         }
         Ok(Finding::Right)
@@ -131,10 +134,10 @@ impl Auditor {
     }
 
     /// What a set answers to the last entry, where its actor is one that a set has.
-    pub fn answer(&self) -> &Answer
-        ensures { result.now ≡ self.now.answer }
+    pub fn answer(&self) -> Answer
+        ensures { result ≡ self.now.answer }
     {
-        &self.answer
+        self.reply.answer()
     }
 
     /// How many entries were heard, at most 2^48.
@@ -173,31 +176,31 @@ fn can_ask(who: Actor) -> bool
 }
 
 /// Counts an entry: a call of the actor, and the message that it accepted, if any.
-fn count(books: &mut Books, who: Actor, event: &Event, answer: &Answer)
+fn count(books: &mut Books, who: Actor, event: &EventRef<'_>, answer: &AnswerRef<'_>)
     requires actor { IsActor who }
     requires user_calls { (n : ℕ) → slice_index books.old.user_calls n < 2 ^ 63 }
     requires term_calls { (n : ℕ) → slice_index books.old.term_calls n < 2 ^ 63 }
     requires messages { books.old.messages < 2 ^ 63 }
     requires octets { books.old.octets < 2 ^ 63 }
-    requires body { octets_of event.now answer.now ≤ 273 }
-    ensures { CountsEntry books.old who event.now answer.now books.new }
+    requires body { octets_of (event_in event.now) (answer_in answer.now) ≤ 273 }
+    ensures { CountsEntry books.old who (event_in event.now) (answer_in answer.now) books.new }
 {
     match who {
         Actor::User(number) => books.user_calls[usize::from(number)] += 1,
         Actor::Terminal(link) => books.term_calls[usize::from(link)] += 1,
     }
-    if let Answer::Accepted { .. } = answer {
+    if let AnswerRef::Accepted { .. } = answer {
         books.messages += 1;
         books.octets += offered_octets(event);
     }
 }
 
 /// The octets of an offered body; of another event none.
-fn offered_octets(event: &Event) -> u64
-    ensures { result ≡ octets_offered event.now }
+fn offered_octets(event: &EventRef<'_>) -> u64
+    ensures { result ≡ octets_offered (event_in event.now) }
 {
     match event {
-        Event::Offer { body } => body.len() as u64,
+        EventRef::Offer { body } => body.len() as u64,
         _ => 0,
     }
 }

@@ -145,7 +145,7 @@ fn hear(course: &mut Course, number: u64, item: &Item) -> Result<(), Stop<AuditF
         Ok(Finding::WrongAnswer) => {
             course.stand = Stand::Wrong {
                 line: number,
-                answer: Some(course.auditor.answer().copy()),
+                answer: Some(course.auditor.answer()),
                 entries: entries + 1,
             };
             Ok(())

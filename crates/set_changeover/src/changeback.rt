@@ -12,7 +12,7 @@ ghost use Rattle.set_changeover.specs.Room.{back_at, home_room, CanComeBack};
 use super::changeover::body_of;
 use super::parts::{Parts, phase_of, stand_last, unserved};
 use l3_orders::Order;
-use set_events::{Answer, Fate, Refusal};
+use set_events::{Fate, Refusal, Reply};
 use set_model::Phase;
 use set_route::{Code, changeback_code, home_of_code};
 use std::alloc::{AllocError, Allocator};
@@ -26,19 +26,19 @@ const MOST_LINKS: usize = 16;
 pub fn restore<A: Allocator + Copy>(
     parts: &mut Parts<A>,
     number: u8,
-    answer: &mut Answer,
+    reply: &mut Reply,
 ) -> Result<(), AllocError>
     requires holds { Holds (kept_of parts.old) }
-    ensures ok { OnOk result (Answers parts.old parts.new answer.new
+    ensures ok { OnOk result (Answers parts.old parts.new reply.new
         (λ s. in_service number s (λ link. comes_back number s))) }
     ensures err { OnErr result (kept_of parts.new ≡ kept_of parts.old) }
 {
     if let Some(why) = unserved(parts, number) {
-        *answer = why.into();
+        reply.set_refused(why);
         return Ok(());
     }
     if !has_alternative(parts, number) {
-        *answer = Refusal::Nothing.into();
+        reply.set_refused(Refusal::Nothing);
         return Ok(());
     }
     parts.bodies.reserve(MOST_LINKS)?;
@@ -56,7 +56,7 @@ pub fn restore<A: Allocator + Copy>(
         stand_last(parts, body.as_slice(), Fate::Waiting { link: alternative });
         parts.routes.ask(number, alternative);
     }
-    *answer = Answer::Done;
+    reply.set_done();
     Ok(())
 }
 
@@ -66,19 +66,19 @@ pub fn restore<A: Allocator + Copy>(
 pub fn time_out<A: Allocator + Copy>(
     parts: &mut Parts<A>,
     number: u8,
-    answer: &mut Answer,
+    reply: &mut Reply,
 ) -> Result<(), AllocError>
     requires holds { Holds (kept_of parts.old) }
-    ensures ok { OnOk result (Answers parts.old parts.new answer.new
+    ensures ok { OnOk result (Answers parts.old parts.new reply.new
         (λ s. on_link number s (λ link. runs_out number s))) }
     ensures err { OnErr result (kept_of parts.new ≡ kept_of parts.old) }
 {
     if usize::from(number) >= parts.links.len() {
-        *answer = Refusal::NoSuchLink.into();
+        reply.set_refused(Refusal::NoSuchLink);
         return Ok(());
     }
     if !has_code_in_use(parts, number) {
-        *answer = Refusal::Nothing.into();
+        reply.set_refused(Refusal::Nothing);
         return Ok(());
     }
     let back = parts.queues.back_count(number);
@@ -89,7 +89,7 @@ pub fn time_out<A: Allocator + Copy>(
     for alternative in 0..16u8 {
         release(parts, changeback_code(number, alternative));
     }
-    *answer = Answer::Done;
+    reply.set_done();
     Ok(())
 }
 

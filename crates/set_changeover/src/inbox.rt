@@ -1,8 +1,6 @@
 //! The messages heard for users.
 ghost use Rattle.std.specs.Prelude.{◌≡◌, ◌≤◌, ℕ, List, length, IfOk};
 
-use arrayvec::ArrayVec;
-use l2_units::{LONGEST_BODY, body_of};
 use std::alloc::{AllocError, Allocator, Global};
 use std::collections::VecDeque;
 use std::marker::Model;
@@ -25,12 +23,13 @@ impl<A: Allocator> Model for HeardBody<A> {
 }
 
 impl<A: Allocator + Copy> HeardBody<A> {
-    /// The body of a unit.
-    pub fn new(alloc: A, body: &ArrayVec<u8, LONGEST_BODY>) -> Result<HeardBody<A>, AllocError>
-        ensures { IfOk result (λ heard. heard ≡ body.now.items) }
+    /// The body of a unit. Condition: at most 273 octets.
+    pub fn new(alloc: A, body: &[u8]) -> Result<HeardBody<A>, AllocError>
+        requires { length body.now ≤ 273 }
+        ensures { IfOk result (λ heard. heard ≡ body.now) }
     {
         Ok(HeardBody {
-            octets: Vec::from_slice(alloc, body.as_slice())?,
+            octets: Vec::from_slice(alloc, body)?,
         })
     }
 
@@ -43,10 +42,11 @@ impl<A: Allocator + Copy> HeardBody<A> {
         })
     }
 
-    /// The body as a unit has it. It takes no memory.
-    pub fn body(&self) -> ArrayVec<u8, LONGEST_BODY>
-        ensures { result.items ≡ self.now }
+    /// Its octets.
+    pub fn octets(&self) -> &[u8]
+        ensures value { result.now ≡ self.now }
+        ensures few { length result.now ≤ 273 }
     {
-        body_of(&self.octets)
+        &self.octets
     }
 }

@@ -7,7 +7,7 @@ ghost use Rattle.set_changeover.specs.Agreement.{Agrees};
 
 use super::base::Base;
 use super::tally::LONGEST_HISTORY;
-use set_events::{Actor, Answer, Entry, SetConfig};
+use set_events::{Actor, AnswerRef, Entry, EventRef, Reply, SetConfig};
 use set_history::Reader;
 use set_step::{Core, SetFault};
 use std::alloc::{Allocator, Global};
@@ -66,13 +66,13 @@ fn replay<A: Allocator + Copy>(
         (λ is_legal. IsTrue is_legal ↔ IsLegal base.now.state entries.now) }
     ensures fault { IfErr result (λ fault. fault ≡ SetFault.NoMemory) }
 {
-    let mut answer = Answer::Done;
+    let mut reply = Reply::new();
     for entry in entries {
         if !is_actor(entry.who) {
             return Ok(false);
         }
-        core.apply(&entry.event, &mut answer)?;
-        if !answer.same(&entry.answer) {
+        core.apply(&EventRef::of(&entry.event), &mut reply)?;
+        if !reply.get().same(&AnswerRef::of(&entry.answer)) {
             return Ok(false);
         }
     }
@@ -98,7 +98,7 @@ pub fn audit_history(
         return Err(SetFault::Exhausted);
     }
     let opening = Base::opening(alloc, config)?;
-    audit_history_from(alloc, &opening, entries)
+    audit_history_from(&opening, entries)
 }
 
 /// [`audit_from`] of a history where it's kept: the entries that are left to read.
@@ -106,7 +106,6 @@ pub fn audit_history(
 /// Faults: 2 [`SetFault::Exhausted`] exactly where those before the base and these are more than 2^48, tested first;
 /// 1 [`SetFault::NoMemory`] only where memory was refused.
 pub fn audit_history_from<A: Allocator + Copy>(
-    alloc: Global,
     base: &Base<A>,
     entries: Reader<'_>,
 ) -> Result<bool, SetFault>
@@ -119,12 +118,11 @@ pub fn audit_history_from<A: Allocator + Copy>(
         return Err(SetFault::Exhausted);
     }
     let mut core = base.core()?;
-    replay_history(alloc, &mut core, base, entries)
+    replay_history(&mut core, base, entries)
 }
 
 /// [`replay`] of the entries that are left to read.
 fn replay_history<A: Allocator + Copy>(
-    alloc: Global,
     core: &mut Core<A>,
     base: &Base<A>,
     entries: Reader<'_>,
@@ -137,13 +135,13 @@ fn replay_history<A: Allocator + Copy>(
     ensures fault { IfErr result (λ fault. fault ≡ SetFault.NoMemory) }
 {
     let mut left = entries;
-    let mut answer = Answer::Done;
+    let mut reply = Reply::new();
     while let Some(told) = left.next() {
         if !is_actor(told.who()) {
             return Ok(false);
         }
-        core.apply(&told.event(alloc)?, &mut answer)?;
-        if !answer.same(&told.answer()) {
+        core.apply(&told.asked(), &mut reply)?;
+        if !reply.get().same(&told.answered()) {
             return Ok(false);
         }
     }

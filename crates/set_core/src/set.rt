@@ -6,7 +6,7 @@ ghost use Rattle.set_model.specs.Rows.{numbers};
 use super::base::Base;
 use super::tally::{LONGEST_HISTORY, Tally};
 use boxcar::tag::{Names, Tag};
-use set_events::{Actor, Answer, Books, Counts, Event, Fate, SetConfig};
+use set_events::{Actor, Answer, Books, Counts, Event, EventRef, Fate, Reply, SetConfig};
 use set_history::{History, Reader};
 use set_step::{Core, Numbered, SetFault};
 use std::alloc::{Allocator, Global};
@@ -18,8 +18,8 @@ use std::marker::Model;
 /// Readers: [`SetCore::base`], [`SetCore::place_of`], [`SetCore::counts`], [`SetCore::books`],
 /// [`SetCore::acknowledged`], [`SetCore::entries`], [`SetCore::history`], [`SetCore::config`], [`SetCore::links`],
 /// [`SetCore::is_up`], [`SetCore::is_settled`], [`SetCore::unacked_at`].
-/// The one input: [`SetCore::apply`], or [`SetCore::apply_into`], which puts the answer where the caller has room for
-/// it. [`SetCore::checkpoint`] makes what it holds its base.
+/// The one input: [`SetCore::apply`], or [`SetCore::apply_into`], which leaves a body where it stands and puts the answer into a
+/// place that the caller lends. [`SetCore::checkpoint`] makes what it holds its base.
 ///
 /// What it holds is what the history leads to from the base. Of every value it holds that the history
 /// is legal, that what is kept ([`SetCore::kept`]) agrees with what it leads to, and that the tally is that of
@@ -62,6 +62,7 @@ impl<A: Allocator + Copy> SetCore<A> {
     ghost use Rattle.set_model.specs.Rows.{place, total_of};
     ghost use Rattle.set_model.specs.Checkpoint.{counts_in};
     ghost use Rattle.set_core.specs.Gaining.{BooksGain, AreBounded};
+    ghost use Rattle.set_events.specs.Lent.{HasFitUnit, event_in};
     ghost use Rattle.set_changeover.specs.Agreement.{Agrees};
     ghost use Rattle.set_model.specs.History.{new_set, based, IsStep, IsActor, IsLegal, after, books_in, entries_in, longest_history};
 
@@ -98,25 +99,26 @@ impl<A: Allocator + Copy> SetCore<A> {
             ↔ (longest_history ≤ entries_in self.old) }
         ensures err { OnErr result (self.new ≡ self.old) }
     {
-        let mut answer = Answer::Done;
-        self.apply_into(who, event, &mut answer)?;
-        Ok(answer)
+        let mut reply = Reply::new();
+        self.apply_into(who, &EventRef::of(event), &mut reply)?;
+        Ok(reply.answer())
     }
 
-    /// [`SetCore::apply`] with the answer put into `answer`, whatever stood there: an answer has room for a unit, and
-    /// one that is handed on by value is copied each time.
+    /// [`SetCore::apply`] of an event whose body stays where it stands, with the answer put into `reply`, whatever stood
+    /// there. Condition: a unit that is heard has a body of at most 273 octets.
     ///
-    /// Faults: as of [`SetCore::apply`]; of what stands in `answer` then nothing is said.
+    /// Faults: as of [`SetCore::apply`]; of what stands in `reply` then nothing is said.
     pub fn apply_into(
         &mut self,
         who: Actor,
-        event: &Event,
-        answer: &mut Answer,
+        event: &EventRef<'_>,
+        reply: &mut Reply,
     ) -> Result<(), SetFault>
-        requires { IsActor who }
-        ensures ok { OnOk result (IsStep self.old who event.now answer.new self.new) }
+        requires actor { IsActor who }
+        requires fits { HasFitUnit event.now }
+        ensures ok { OnOk result (IsStep self.old who (event_in event.now) reply.new self.new) }
         ensures gains { OnOk result
-            (BooksGain (books_in self.old) who event.now answer.new (books_in self.new)) }
+            (BooksGain (books_in self.old) who (event_in event.now) reply.new (books_in self.new)) }
         ensures bounded { OnOk result (AreBounded (books_in self.new)) }
         ensures exhausted { (result ≡ Err SetFault.Exhausted)
             ↔ (longest_history ≤ entries_in self.old) }
@@ -126,9 +128,10 @@ impl<A: Allocator + Copy> SetCore<A> {
             return Err(SetFault::Exhausted);
         }
         self.history.reserve(event)?;
-        self.core.apply(event, answer)?;
-        self.tally.count(who, event, answer);
-        self.history.push(who, event, answer);
+        self.core.apply(event, reply)?;
+        let answer = reply.get();
+        self.tally.count(who, event, &answer);
+        self.history.push(who, event, &answer);
         Ok(())
     }
 

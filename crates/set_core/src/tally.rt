@@ -3,9 +3,10 @@ ghost use Rattle.std.specs.Prelude.{◌≡◌, ◌+◌, ◌<◌, ◌≤◌, ◌^
 ghost use Rattle.set_core.specs.Gaining.{users_after, terminals_after};
 ghost use Rattle.set_model.specs.History.{IsActor, no_books};
 ghost use Rattle.set_core.specs.Keeping.{IsTally};
+ghost use Rattle.set_events.specs.Lent.{answer_in, event_in};
 ghost use Rattle.set_model.specs.Step.{messages_in, octets_of, octets_offered};
 
-use set_events::{Actor, Answer, Event};
+use set_events::{Actor, AnswerRef, EventRef};
 
 /// The most entries of a set since its opening, 2^48.
 pub(crate) const LONGEST_HISTORY: u64 = 0x1_0000_0000_0000;
@@ -41,23 +42,23 @@ impl Tally {
     }
 
     /// Counts an entry: a call of the actor, and the message that it accepted, if any.
-    pub(crate) fn count(&mut self, who: Actor, event: &Event, answer: &Answer)
+    pub(crate) fn count(&mut self, who: Actor, event: &EventRef<'_>, answer: &AnswerRef<'_>)
         requires actor { IsActor who }
         requires user_calls { (n : ℕ) → slice_index self.old.user_calls n < 2 ^ 63 }
         requires term_calls { (n : ℕ) → slice_index self.old.term_calls n < 2 ^ 63 }
         requires messages { self.old.messages < 2 ^ 63 }
         requires octets { self.old.octets < 2 ^ 63 }
         requires entries { self.old.entries < 2 ^ 63 }
-        requires body { octets_of event.now answer.now ≤ 273 }
+        requires body { octets_of (event_in event.now) (answer_in answer.now) ≤ 273 }
         ensures user_calls { self.new.user_calls ≡ users_after who self.old.user_calls }
         ensures term_calls { self.new.term_calls ≡ terminals_after who self.old.term_calls }
-        ensures messages { self.new.messages ≡ self.old.messages + messages_in answer.now }
-        ensures octets { self.new.octets ≡ self.old.octets + octets_of event.now answer.now }
+        ensures messages { self.new.messages ≡ self.old.messages + messages_in (answer_in answer.now) }
+        ensures octets { self.new.octets ≡ self.old.octets + octets_of (event_in event.now) (answer_in answer.now) }
         ensures entries { self.new.entries ≡ self.old.entries + 1 }
     {
         self.entries += 1;
         self.count_call(who);
-        if let Answer::Accepted { .. } = answer {
+        if let AnswerRef::Accepted { .. } = answer {
             self.messages += 1;
             self.octets += offered_octets(event);
         }
@@ -82,11 +83,11 @@ impl Tally {
 }
 
 /// The octets of an offered body; of another event none.
-fn offered_octets(event: &Event) -> u64
-    ensures { result ≡ octets_offered event.now }
+fn offered_octets(event: &EventRef<'_>) -> u64
+    ensures { result ≡ octets_offered (event_in event.now) }
 {
     match event {
-        Event::Offer { body } => body.len() as u64,
+        EventRef::Offer { body } => body.len() as u64,
         _ => 0,
     }
 }

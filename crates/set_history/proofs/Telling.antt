@@ -8,6 +8,14 @@ use Rattle.set_events.specs.declared.answer.Answer.TheVariants.{Accepted, Taken,
 use Rattle.set_events.specs.declared.event.Actor.{Actor}
 use Rattle.set_events.specs.declared.event.Event.{Event}
 use Rattle.set_events.specs.declared.event.Event.TheVariants.{Offer, Take, Find, Next, Heard, Up, Down, DownBlind, NoAnswer, Restore, BackTimeout}
+use Rattle.l2_units.specs.Lent.{body_in as body_of, unit_in}
+use Rattle.l2_units.specs.declared.lent.UnitRef.{UnitRef}
+use Rattle.l2_units.specs.declared.lent.UnitRef.TheVariants.{Fisu as LentFisu, Lssu as LentLssu, Msu as LentMsu}
+use Rattle.set_events.specs.Lent.{answer_in, body_in, event_in, octets_in}
+use Rattle.set_events.specs.declared.lent.AnswerRef.{AnswerRef}
+use Rattle.set_events.specs.declared.lent.AnswerRef.TheVariants.{Accepted as LentAccepted, Taken as LentTaken, Found as LentFound, Sent as LentSent, Heard as LentReported, Done as LentDone, Refused as LentRefused}
+use Rattle.set_events.specs.declared.lent.EventRef.{EventRef}
+use Rattle.set_events.specs.declared.lent.EventRef.TheVariants.{Offer as LentOffer, Take as LentTake, Find as LentFind, Next as LentNext, Heard as LentHeard, Up as LentUp, Down as LentDown, DownBlind as LentDownBlind, NoAnswer as LentNoAnswer, Restore as LentRestore, BackTimeout as LentBackTimeout}
 use Rattle.set_history.specs.declared.record.KeptUnit.{KeptUnit}
 use Rattle.set_history.specs.declared.record.KeptUnit.TheVariants.{Fisu as KeptFisu, Lssu as KeptLssu, Msu as KeptMsu}
 use Rattle.set_history.specs.declared.record.KeptEvent.{KeptEvent}
@@ -137,6 +145,34 @@ all_more (first ∷ records) octets kept body h e = (
 pub length_told : (records : List Record) (octets : List ℕ) → length (told records octets) ≡ length records
 length_told [] octets = refl
 length_told (first ∷ records) octets = ap suc (length_told records (drop (size_of first) octets))
+
+-- a body that stays where it stands is the one that is kept
+unit_octets : (unit : UnitRef) → body_of unit ≡ unit_body (unit_in unit)
+unit_octets (LentFisu head) = refl
+unit_octets (LentLssu head status) = refl
+unit_octets (LentMsu head body) = refl
+
+pub event_octets : (event : EventRef) → octets_in event ≡ event_body (event_in event)
+event_octets (LentOffer body) = refl
+event_octets LentTake = refl
+event_octets (LentFind number) = refl
+event_octets (LentNext link) = refl
+event_octets (LentHeard link unit) = unit_octets unit
+event_octets (LentUp link) = refl
+event_octets (LentDown link) = refl
+event_octets (LentDownBlind link) = refl
+event_octets (LentNoAnswer link) = refl
+event_octets (LentRestore link) = refl
+event_octets (LentBackTimeout link) = refl
+
+pub answer_octets : (answer : AnswerRef) → body_in answer ≡ answer_body (answer_in answer)
+answer_octets (LentAccepted number) = refl
+answer_octets (LentTaken body) = refl
+answer_octets (LentFound fate) = refl
+answer_octets (LentSent unit) = unit_octets unit
+answer_octets (LentReported report) = refl
+answer_octets LentDone = refl
+answer_octets (LentRefused why) = refl
 
 -- what is kept of an entry tells it
 answer_alone : (answer : Answer) → told_answer (kept_answer answer) (answer_body answer) ≡ answer

@@ -7,8 +7,6 @@ use Rattle.set_events.specs.declared.answer.Answer.TheVariants.{Accepted, Taken,
 use Rattle.set_events.specs.declared.event.Event.{Event}
 use Rattle.set_events.specs.declared.event.Event.TheVariants.{Offer, Take, Find, Next, Heard, Up, Down, DownBlind, NoAnswer, Restore, BackTimeout}
 use Rattle.set_events.specs.declared.history.Entry.{Entry}
-use Rattle.set_history.specs.declared.asked.Asked.{Asked}
-use Rattle.set_history.specs.declared.asked.Asked.TheVariants.{Offer as AskedOffer, Take as AskedTake, Find as AskedFind, Next as AskedNext, Heard as AskedHeard, Up as AskedUp, Down as AskedDown, DownBlind as AskedDownBlind, NoAnswer as AskedNoAnswer, Restore as AskedRestore, BackTimeout as AskedBackTimeout}
 use Rattle.set_history.specs.declared.record.KeptUnit.{KeptUnit}
 use Rattle.set_history.specs.declared.record.KeptUnit.TheVariants.{Fisu as KeptFisu, Lssu as KeptLssu, Msu as KeptMsu}
 use Rattle.set_history.specs.declared.record.KeptEvent.{KeptEvent}
@@ -36,20 +34,6 @@ told_event (KeptDownBlind link) octets = DownBlind link
 told_event (KeptNoAnswer link) octets = NoAnswer link
 told_event (KeptRestore link) octets = Restore link
 told_event (KeptBackTimeout link) octets = BackTimeout link
-
--- what was asked, where its body's octets stay where they are kept
-abbrev pub event_in : Asked → Event
-event_in (AskedOffer body) = Offer body.now
-event_in AskedTake = Take
-event_in (AskedFind number) = Find number
-event_in (AskedNext link) = Next link
-event_in (AskedHeard link unit) = Heard link unit
-event_in (AskedUp link) = Up link
-event_in (AskedDown link) = Down link
-event_in (AskedDownBlind link) = DownBlind link
-event_in (AskedNoAnswer link) = NoAnswer link
-event_in (AskedRestore link) = Restore link
-event_in (AskedBackTimeout link) = BackTimeout link
 
 abbrev pub told_answer : KeptAnswer → List ℕ → Answer
 told_answer (KeptAccepted number) octets = Accepted number

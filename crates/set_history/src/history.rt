@@ -1,10 +1,11 @@
 //! The history: entries one after another.
 ghost use Rattle.std.specs.Prelude.{◌≡◌, ◌≤◌, ◌+◌, ◌++◌, length, vec_len, vec_capacity};
+ghost use Rattle.set_events.specs.Lent.{HasFitUnit, answer_in, body_in, event_in};
 
 use super::reader::Reader;
-use super::record::{KeptAnswer, KeptEvent, Record, body_in_answer, body_in_event};
+use super::record::{KeptAnswer, KeptEvent, Record};
 use l2_units::LONGEST_BODY;
-use set_events::{Actor, Answer, Event};
+use set_events::{Actor, AnswerRef, EventRef};
 use std::alloc::{AllocError, Allocator, Global};
 use std::marker::Model;
 
@@ -58,28 +59,30 @@ impl<A: Allocator + Copy> History<A> {
 
     /// Makes room for an entry of this event, whatever is answered to it; it fails only where memory is wanted. The
     /// entries stay either way.
-    pub fn reserve(&mut self, event: &Event) -> Result<(), AllocError>
-        ensures room { OnOk result (HasRoom event.now self.new) }
+    pub fn reserve(&mut self, event: &EventRef<'_>) -> Result<(), AllocError>
+        ensures room { OnOk result (HasRoom (event_in event.now) self.new) }
         ensures same { self.new.items ≡ self.old.items }
     {
         self.records.reserve(1)?;
-        self.octets
-            .reserve(body_in_event(event).len() + LONGEST_BODY)
+        self.octets.reserve(event.body().len() + LONGEST_BODY)
     }
 
-    /// This entry, at the end. There is room for it, so it takes no memory.
-    pub fn push(&mut self, who: Actor, event: &Event, answer: &Answer)
-        requires { HasRoom event.now self.old }
-        ensures { self.new.items ≡
-            self.old.items ++ record { who = who; event = event.now; answer = answer.now } ∷ [] }
+    /// This entry, at the end. There is room for it, so it takes no memory. Conditions: each unit, and what was taken, has
+    /// a body of at most 273 octets.
+    pub fn push(&mut self, who: Actor, event: &EventRef<'_>, answer: &AnswerRef<'_>)
+        requires room { HasRoom (event_in event.now) self.old }
+        requires unit { HasFitUnit event.now }
+        requires answer { length (body_in answer.now) ≤ 273 }
+        ensures { self.new.items ≡ self.old.items
+            ++ record { who = who; event = event_in event.now; answer = answer_in answer.now } ∷ [] }
     {
         let record = Record {
             who,
             event: KeptEvent::of(event),
             answer: KeptAnswer::of(answer),
         };
-        append(&mut self.octets, body_in_event(event));
-        append(&mut self.octets, body_in_answer(answer));
+        append(&mut self.octets, event.body());
+        append(&mut self.octets, answer.body());
         self.records.push_reserved(record);
     }
 

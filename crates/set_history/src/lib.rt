@@ -9,19 +9,17 @@
 //! ```
 //!
 //! Contracts see the list of entries. Whoever reads it goes from the first to the last by a [`Reader`], and sees each
-//! entry ([`Told`]) where it's kept, without a copy; what was asked so, too ([`Asked`]).
+//! entry ([`Told`]) where it's kept, without a copy.
 //!
 //! This crate decides nothing and waits for nothing; [`History::reserve`] alone takes memory, and what is read may.
 #![tactic(auto)]
 
-mod asked;
 mod history;
 mod numbers;
 mod reader;
 mod record;
 mod told;
 
-pub use asked::Asked;
 pub use history::History;
 pub use reader::Reader;
 pub use told::Told;

@@ -1,11 +1,13 @@
 //! What is kept of an entry, but for the octets of its bodies.
 ghost use Rattle.std.specs.Prelude.{◌≡◌, ◌≤◌, ◌<◌, ◌^◌, ◌+◌, ℕ, length};
 ghost use Rattle.set_history.specs.Told.{size_of};
-ghost use Rattle.set_history.specs.Kept.{kept_unit, kept_event, kept_answer, unit_size, event_size, answer_size, unit_body, event_body, answer_body};
+ghost use Rattle.l2_units.specs.Lent.{body_in as unit_body, unit_in};
+ghost use Rattle.set_events.specs.Lent.{HasFitUnit, answer_in, body_in, event_in};
+ghost use Rattle.set_history.specs.Kept.{kept_unit, kept_event, kept_answer, unit_size, event_size, answer_size};
 
 use super::numbers::{KeptHead, Length, Packed};
-use l2_units::{Status, Unit};
-use set_events::{Actor, Answer, Event, Fate, Refusal, Report};
+use l2_units::{Status, UnitRef};
+use set_events::{Actor, AnswerRef, EventRef, Fate, Refusal, Report};
 use std::mem::size_of;
 
 /// A unit without its body's octets.
@@ -57,18 +59,19 @@ const _: () = prove!(size_of::<Record>() <= 24);
 
 impl KeptUnit {
     /// What is kept of this unit.
-    pub(crate) fn of(unit: &Unit) -> KeptUnit
-        ensures { result ≡ kept_unit unit.now }
+    pub(crate) fn of(unit: &UnitRef<'_>) -> KeptUnit
+        requires { length (unit_body unit.now) ≤ 273 }
+        ensures { result ≡ kept_unit (unit_in unit.now) }
     {
         match unit {
-            Unit::Fisu { head } => KeptUnit::Fisu {
+            UnitRef::Fisu { head } => KeptUnit::Fisu {
                 head: KeptHead::of(*head),
             },
-            Unit::Lssu { head, status } => KeptUnit::Lssu {
+            UnitRef::Lssu { head, status } => KeptUnit::Lssu {
                 head: KeptHead::of(*head),
                 status: *status,
             },
-            Unit::Msu { head, body } => KeptUnit::Msu {
+            UnitRef::Msu { head, body } => KeptUnit::Msu {
                 head: KeptHead::of(*head),
                 body: Length::of(body.len()),
             },
@@ -89,28 +92,29 @@ impl KeptUnit {
 
 impl KeptEvent {
     /// What is kept of this event.
-    pub(crate) fn of(event: &Event) -> KeptEvent
-        ensures { result ≡ kept_event event.now }
+    pub(crate) fn of(event: &EventRef<'_>) -> KeptEvent
+        requires { HasFitUnit event.now }
+        ensures { result ≡ kept_event (event_in event.now) }
     {
         match event {
-            Event::Offer { body } => KeptEvent::Offer {
+            EventRef::Offer { body } => KeptEvent::Offer {
                 octets: Packed::of(body.len() as u64),
             },
-            Event::Take => KeptEvent::Take,
-            Event::Find { number } => KeptEvent::Find {
+            EventRef::Take => KeptEvent::Take,
+            EventRef::Find { number } => KeptEvent::Find {
                 number: Packed::of(*number),
             },
-            Event::Next { link } => KeptEvent::Next { link: *link },
-            Event::Heard { link, unit } => KeptEvent::Heard {
+            EventRef::Next { link } => KeptEvent::Next { link: *link },
+            EventRef::Heard { link, unit } => KeptEvent::Heard {
                 link: *link,
                 unit: KeptUnit::of(unit),
             },
-            Event::Up { link } => KeptEvent::Up { link: *link },
-            Event::Down { link } => KeptEvent::Down { link: *link },
-            Event::DownBlind { link } => KeptEvent::DownBlind { link: *link },
-            Event::NoAnswer { link } => KeptEvent::NoAnswer { link: *link },
-            Event::Restore { link } => KeptEvent::Restore { link: *link },
-            Event::BackTimeout { link } => KeptEvent::BackTimeout { link: *link },
+            EventRef::Up { link } => KeptEvent::Up { link: *link },
+            EventRef::Down { link } => KeptEvent::Down { link: *link },
+            EventRef::DownBlind { link } => KeptEvent::DownBlind { link: *link },
+            EventRef::NoAnswer { link } => KeptEvent::NoAnswer { link: *link },
+            EventRef::Restore { link } => KeptEvent::Restore { link: *link },
+            EventRef::BackTimeout { link } => KeptEvent::BackTimeout { link: *link },
         }
     }
 
@@ -128,23 +132,24 @@ impl KeptEvent {
 
 impl KeptAnswer {
     /// What is kept of this answer.
-    pub(crate) fn of(answer: &Answer) -> KeptAnswer
-        ensures { result ≡ kept_answer answer.now }
+    pub(crate) fn of(answer: &AnswerRef<'_>) -> KeptAnswer
+        requires { length (body_in answer.now) ≤ 273 }
+        ensures { result ≡ kept_answer (answer_in answer.now) }
     {
         match answer {
-            Answer::Accepted { number } => KeptAnswer::Accepted {
+            AnswerRef::Accepted { number } => KeptAnswer::Accepted {
                 number: Packed::of(*number),
             },
-            Answer::Taken { body } => KeptAnswer::Taken {
+            AnswerRef::Taken { body } => KeptAnswer::Taken {
                 body: Length::of(body.len()),
             },
-            Answer::Found { fate } => KeptAnswer::Found { fate: *fate },
-            Answer::Sent { unit } => KeptAnswer::Sent {
+            AnswerRef::Found { fate } => KeptAnswer::Found { fate: *fate },
+            AnswerRef::Sent { unit } => KeptAnswer::Sent {
                 unit: KeptUnit::of(unit),
             },
-            Answer::Heard { report } => KeptAnswer::Heard { report: *report },
-            Answer::Done => KeptAnswer::Done,
-            Answer::Refused { why } => KeptAnswer::Refused { why: *why },
+            AnswerRef::Heard { report } => KeptAnswer::Heard { report: *report },
+            AnswerRef::Done => KeptAnswer::Done,
+            AnswerRef::Refused { why } => KeptAnswer::Refused { why: *why },
         }
     }
 
@@ -158,40 +163,6 @@ impl KeptAnswer {
             KeptAnswer::Sent { unit } => unit.size(),
             _ => 0,
         }
-    }
-}
-
-/// The octets of a unit's body; it may have none.
-pub(crate) fn body_in_unit(unit: &Unit) -> &[u8]
-    ensures value { result.now ≡ unit_body unit.now }
-    ensures few { length (unit_body unit.now) ≤ 273 }
-{
-    match unit {
-        Unit::Msu { body, .. } => body.as_slice(),
-        _ => &[],
-    }
-}
-
-/// The octets of the body that is in an event; it may have none.
-pub(crate) fn body_in_event(event: &Event) -> &[u8]
-    ensures { result.now ≡ event_body event.now }
-{
-    match event {
-        Event::Offer { body } => body.octets(),
-        Event::Heard { unit, .. } => body_in_unit(unit),
-        _ => &[],
-    }
-}
-
-/// The octets of the body that is in an answer; it may have none.
-pub(crate) fn body_in_answer(answer: &Answer) -> &[u8]
-    ensures value { result.now ≡ answer_body answer.now }
-    ensures few { length (answer_body answer.now) ≤ 273 }
-{
-    match answer {
-        Answer::Taken { body } => body.as_slice(),
-        Answer::Sent { unit } => body_in_unit(unit),
-        _ => &[],
     }
 }
 

@@ -1,12 +1,13 @@
 //! An entry where it's kept.
-ghost use Rattle.std.specs.Prelude.{◌≡◌, ◌≤◌, ◌↔◌, length, IfOk, IsTrue, take};
+ghost use Rattle.std.specs.Prelude.{◌≡◌, ◌≤◌, length};
+ghost use Rattle.l2_units.specs.Lent.{body_in as unit_body, unit_in};
+ghost use Rattle.set_events.specs.Lent.{HasFitUnit, answer_in, body_in, event_in};
 ghost use Rattle.set_history.specs.Kept.{unit_size, event_size, answer_size};
 ghost use Rattle.set_history.specs.Told.{told_unit, told_event, told_answer};
 
-use super::asked::{Asked, asked_of};
 use super::record::{KeptAnswer, KeptEvent, KeptUnit, Record};
-use l2_units::{Unit, body_of};
-use set_events::{Actor, Answer, Body, Entry, Event};
+use l2_units::UnitRef;
+use set_events::{Actor, Answer, AnswerRef, Entry, Event, EventRef};
 use std::alloc::{AllocError, Global};
 use std::marker::Model;
 
@@ -30,8 +31,8 @@ impl<'a> Model for Told<'a> {
 }
 
 impl<'a> Told<'a> {
-    ghost use Rattle.std.specs.Prelude.{◌≡◌, ◌↔◌, IfOk, IsTrue};
-    ghost use Rattle.set_history.specs.Told.{event_in};
+    ghost use Rattle.std.specs.Prelude.{◌≡◌, ◌≤◌, ◌↔◌, IfOk, IsTrue, length};
+    ghost use Rattle.set_events.specs.Lent.{HasFitUnit, answer_in, body_in, event_in};
 
     /// Who asked.
     pub fn who(&self) -> Actor
@@ -40,28 +41,37 @@ impl<'a> Told<'a> {
         self.record.who
     }
 
-    /// What was asked. It takes no memory.
-    pub fn asked(&self) -> Asked<'a>
-        ensures { event_in result ≡ self.now.event }
+    /// What was asked, where it's kept.
+    pub fn asked(&self) -> EventRef<'a>
+        ensures value { event_in result ≡ self.now.event }
+        ensures fits { HasFitUnit result }
     {
         asked_of(&self.record.event, self.octets)
+    }
+
+    /// What was answered, where it's kept.
+    pub fn answered(&self) -> AnswerRef<'a>
+        ensures value { answer_in result ≡ self.now.answer }
+        ensures few { length (body_in result) ≤ 273 }
+    {
+        answered_of(
+            &self.record.answer,
+            &self.octets[self.record.event.size()..],
+        )
     }
 
     /// What was asked, by itself; it fails only where memory is wanted.
     pub fn event(&self, alloc: Global) -> Result<Event, AllocError>
         ensures { IfOk result (λ event. event ≡ self.now.event) }
     {
-        event_of(alloc, &self.record.event, self.octets)
+        self.asked().event(alloc)
     }
 
-    /// What was answered. It takes no memory.
+    /// What was answered, by itself. It takes no memory.
     pub fn answer(&self) -> Answer
         ensures { result ≡ self.now.answer }
     {
-        answer_of(
-            &self.record.answer,
-            &self.octets[self.record.event.size()..],
-        )
+        self.answered().answer()
     }
 
     /// The entry by itself; it fails only where memory is wanted.
@@ -80,8 +90,8 @@ impl<'a> Told<'a> {
         ensures { IsTrue result ↔ (self.now ≡ entry.now) }
     {
         self.who().same(entry.who)
-            && is_event(&self.record.event, self.octets, &entry.event)
-            && self.answer().same(&entry.answer)
+            && self.asked().same(&EventRef::of(&entry.event))
+            && self.answered().same(&AnswerRef::of(&entry.answer))
     }
 
     /// Whether both are the same, octet by octet. It takes no memory.
@@ -90,102 +100,76 @@ impl<'a> Told<'a> {
     {
         self.who().same(other.who())
             && self.asked().same(&other.asked())
-            && self.answer().same(&other.answer())
+            && self.answered().same(&other.answered())
     }
 }
 
 /// The unit of which this is kept, with the first of these octets as its body.
-pub(crate) fn unit_of(kept: &KeptUnit, octets: &[u8]) -> Unit
+fn unit_of<'a>(kept: &KeptUnit, octets: &'a [u8]) -> UnitRef<'a>
     requires { unit_size kept.now ≤ length octets.now }
-    ensures { result ≡ told_unit kept.now octets.now }
+    ensures value { unit_in result ≡ told_unit kept.now octets.now }
+    ensures few { length (unit_body result) ≤ 273 }
 {
     match kept {
-        KeptUnit::Fisu { head } => Unit::Fisu { head: head.head() },
-        KeptUnit::Lssu { head, status } => Unit::Lssu {
+        KeptUnit::Fisu { head } => UnitRef::Fisu { head: head.head() },
+        KeptUnit::Lssu { head, status } => UnitRef::Lssu {
             head: head.head(),
             status: *status,
         },
-        KeptUnit::Msu { head, body } => Unit::Msu {
+        KeptUnit::Msu { head, body } => UnitRef::Msu {
             head: head.head(),
-            body: body_of(&octets[..body.octets()]),
+            body: &octets[..body.octets()],
         },
     }
 }
 
 /// The event of which this is kept.
-fn event_of(alloc: Global, kept: &KeptEvent, octets: &[u8]) -> Result<Event, AllocError>
+fn asked_of<'a>(kept: &KeptEvent, octets: &'a [u8]) -> EventRef<'a>
     requires { event_size kept.now ≤ length octets.now }
-    ensures { IfOk result (λ event. event ≡ told_event kept.now octets.now) }
+    ensures value { event_in result ≡ told_event kept.now octets.now }
+    ensures fits { HasFitUnit result }
 {
     match kept {
-        KeptEvent::Offer { octets: size } => Ok(Event::Offer {
-            body: Body::from_slice(alloc, &octets[..size.number() as usize])?,
-        }),
-        KeptEvent::Take => Ok(Event::Take),
-        KeptEvent::Find { number } => Ok(Event::Find {
+        KeptEvent::Offer { octets: size } => EventRef::Offer {
+            body: &octets[..size.number() as usize],
+        },
+        KeptEvent::Take => EventRef::Take,
+        KeptEvent::Find { number } => EventRef::Find {
             number: number.number(),
-        }),
-        KeptEvent::Next { link } => Ok(Event::Next { link: *link }),
-        KeptEvent::Heard { link, unit } => Ok(Event::Heard {
+        },
+        KeptEvent::Next { link } => EventRef::Next { link: *link },
+        KeptEvent::Heard { link, unit } => EventRef::Heard {
             link: *link,
             unit: unit_of(unit, octets),
-        }),
-        KeptEvent::Up { link } => Ok(Event::Up { link: *link }),
-        KeptEvent::Down { link } => Ok(Event::Down { link: *link }),
-        KeptEvent::DownBlind { link } => Ok(Event::DownBlind { link: *link }),
-        KeptEvent::NoAnswer { link } => Ok(Event::NoAnswer { link: *link }),
-        KeptEvent::Restore { link } => Ok(Event::Restore { link: *link }),
-        KeptEvent::BackTimeout { link } => Ok(Event::BackTimeout { link: *link }),
+        },
+        KeptEvent::Up { link } => EventRef::Up { link: *link },
+        KeptEvent::Down { link } => EventRef::Down { link: *link },
+        KeptEvent::DownBlind { link } => EventRef::DownBlind { link: *link },
+        KeptEvent::NoAnswer { link } => EventRef::NoAnswer { link: *link },
+        KeptEvent::Restore { link } => EventRef::Restore { link: *link },
+        KeptEvent::BackTimeout { link } => EventRef::BackTimeout { link: *link },
     }
 }
 
 /// The answer of which this is kept.
-fn answer_of(kept: &KeptAnswer, octets: &[u8]) -> Answer
+fn answered_of<'a>(kept: &KeptAnswer, octets: &'a [u8]) -> AnswerRef<'a>
     requires { answer_size kept.now ≤ length octets.now }
-    ensures { result ≡ told_answer kept.now octets.now }
+    ensures value { answer_in result ≡ told_answer kept.now octets.now }
+    ensures few { length (body_in result) ≤ 273 }
 {
     match kept {
-        KeptAnswer::Accepted { number } => Answer::Accepted {
+        KeptAnswer::Accepted { number } => AnswerRef::Accepted {
             number: number.number(),
         },
-        KeptAnswer::Taken { body } => Answer::Taken {
-            body: body_of(&octets[..body.octets()]),
+        KeptAnswer::Taken { body } => AnswerRef::Taken {
+            body: &octets[..body.octets()],
         },
-        KeptAnswer::Found { fate } => Answer::Found { fate: *fate },
-        KeptAnswer::Sent { unit } => Answer::Sent {
+        KeptAnswer::Found { fate } => AnswerRef::Found { fate: *fate },
+        KeptAnswer::Sent { unit } => AnswerRef::Sent {
             unit: unit_of(unit, octets),
         },
-        KeptAnswer::Heard { report } => Answer::Heard { report: *report },
-        KeptAnswer::Done => Answer::Done,
-        KeptAnswer::Refused { why } => Answer::Refused { why: *why },
-    }
-}
-
-/// Whether this is kept of that event.
-fn is_event(kept: &KeptEvent, octets: &[u8], event: &Event) -> bool
-    requires { event_size kept.now ≤ length octets.now }
-    ensures { IsTrue result ↔ (told_event kept.now octets.now ≡ event.now) }
-{
-    match (kept, event) {
-        (KeptEvent::Offer { octets: size }, Event::Offer { body }) => {
-            &octets[..size.number() as usize] == body.octets()
-        }
-        (KeptEvent::Take, Event::Take) => true,
-        (KeptEvent::Find { number: a }, Event::Find { number: b }) => a.number() == *b,
-        (KeptEvent::Next { link: a }, Event::Next { link: b }) => *a == *b,
-        (
-            KeptEvent::Heard {
-                link: a,
-                unit: kept,
-            },
-            Event::Heard { link: b, unit },
-        ) => { *a == *b && l2_units::same_unit(&unit_of(kept, octets), unit) }
-        (KeptEvent::Up { link: a }, Event::Up { link: b }) => *a == *b,
-        (KeptEvent::Down { link: a }, Event::Down { link: b }) => *a == *b,
-        (KeptEvent::DownBlind { link: a }, Event::DownBlind { link: b }) => *a == *b,
-        (KeptEvent::NoAnswer { link: a }, Event::NoAnswer { link: b }) => *a == *b,
-        (KeptEvent::Restore { link: a }, Event::Restore { link: b }) => *a == *b,
-        (KeptEvent::BackTimeout { link: a }, Event::BackTimeout { link: b }) => *a == *b,
-        _ => false,
+        KeptAnswer::Heard { report } => AnswerRef::Heard { report: *report },
+        KeptAnswer::Done => AnswerRef::Done,
+        KeptAnswer::Refused { why } => AnswerRef::Refused { why: *why },
     }
 }

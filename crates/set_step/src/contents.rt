@@ -1,6 +1,7 @@
 //! What a set keeps, as one event after another changes it.
 ghost use Rattle.std.specs.Prelude.{◌≡◌, ◌<◌, ◌+◌, ◌%◌, ◌^◌, true, length, IsOk, IfOk, IfErr, OnOk, OnErr};
 ghost use Rattle.l2_window.specs.Window.{fsn_count};
+ghost use Rattle.set_events.specs.Lent.{event_in};
 ghost use Rattle.set_model.specs.Checkpoint.{checkpointed, counts_in};
 ghost use Rattle.set_model.specs.Rows.{place, total_of, users};
 ghost use Rattle.set_model.specs.State.{State, all_finished, given, new_state, link_count, is_up as is_up_in, is_settled as is_settled_in, unacked_in};
@@ -15,7 +16,7 @@ use super::step::carry_out;
 use l2_units::Profile;
 use l2_window::Window;
 use set_changeover::{Link, Parts, phase_of};
-use set_events::{Answer, Counts, Event, Fate, Finished, SetConfig, SetFault};
+use set_events::{Counts, EventRef, Fate, Finished, Reply, SetConfig, SetFault};
 use set_model::{Numbered, Phase};
 use set_queues::{Bodies, Queues};
 use set_route::Routes;
@@ -80,22 +81,22 @@ impl<A: Allocator + Copy> Core<A> {
         })
     }
 
-    /// What the set answers to this event is put into `answer`, whatever stood there: of whatever state it agreed
+    /// What the set answers to this event is put into `reply`, whatever stood there: of whatever state it agreed
     /// with, the answer is that of the step, and it agrees with the state that the step leads to.
     ///
     /// Refusals are answers. Fault: 1 [`SetFault::NoMemory`], only where memory was refused, which `Take`,
     /// `Find`, `Next` and a heard unit without a body never want; what is kept is then as it was.
     #[tactic(auto, using(crate::proofs::Kept::counted_of))]
-    pub fn apply(&mut self, event: &Event, answer: &mut Answer) -> Result<(), SetFault>
+    pub fn apply(&mut self, event: &EventRef<'_>, reply: &mut Reply) -> Result<(), SetFault>
         requires { HoldsFew longest_history self.old }
         ensures ok { OnOk result
-            ((s : State) → Agrees self.old s → AnswersFor (step s event.now) answer.new self.new) }
+            ((s : State) → Agrees self.old s → AnswersFor (step s (event_in event.now)) reply.new self.new) }
         ensures err { OnErr result (self.new ≡ self.old) }
         ensures fault { IfErr result (λ fault. fault ≡ SetFault.NoMemory) }
-        ensures none { wants_none event.now ≡ true → IsOk result }
+        ensures none { wants_none (event_in event.now) ≡ true → IsOk result }
     {
         is_asked(event);
-        Ok(carry_out(&mut self.parts, event, answer)?)
+        Ok(carry_out(&mut self.parts, event, reply)?)
     }
 
     /// A law: there is a state that it agrees with.

@@ -1,5 +1,6 @@
 //! What an event does to a set. Each function is a case of the set's step.
 ghost use Rattle.std.specs.Prelude.{◌≡◌, ◌^◌, true, IsOk, OnOk, OnErr};
+ghost use Rattle.set_events.specs.Lent.{event_in};
 ghost use Rattle.set_model.specs.Step.{on_link, in_service, rises, falls, gives_up};
 ghost use Rattle.set_changeover.specs.Agreement.{Holds};
 ghost use Rattle.set_step.specs.Answering.{wants_none, stepped_by};
@@ -10,53 +11,52 @@ use set_changeover::{
     Parts, leave, make_room_beside, make_room_parked, phase_of, queue, restore, settle, time_out,
     unserved,
 };
-use set_events::{Answer, Event, Fate, Refusal};
+use set_events::{EventRef, Fate, Refusal, Reply};
 use set_model::{Phase, Reached};
 use set_traffic::{hear, offer, send_next};
 use std::alloc::{AllocError, Allocator};
 
-/// What is answered to an event is put into `answer`: an answer has room for a unit, and one that is handed on by
-/// value is copied each time. On a fault nothing of the parts has changed.
+/// What is answered to an event is put into `reply`. On a fault nothing of the parts has changed.
 #[tactic(auto, using(crate::proofs::Kept::may_want))]
 pub(crate) fn carry_out<A: Allocator + Copy>(
     parts: &mut Parts<A>,
-    event: &Event,
-    answer: &mut Answer,
+    event: &EventRef<'_>,
+    reply: &mut Reply,
 ) -> Result<(), AllocError>
     requires holds { Holds (kept_of parts.old) }
     requires counted { AreCounted (2 ^ 60) parts.old.links.items }
-    ensures ok { OnOk result (Answers parts.old parts.new answer.new (stepped_by event.now)) }
+    ensures ok { OnOk result (Answers parts.old parts.new reply.new (stepped_by (event_in event.now))) }
     ensures err { OnErr result (kept_of parts.new ≡ kept_of parts.old) }
-    ensures none { wants_none event.now ≡ true → IsOk result }
+    ensures none { wants_none (event_in event.now) ≡ true → IsOk result }
 {
     match event {
-        Event::Offer { body } => offer(parts, body, answer),
-        Event::Take => {
-            *answer = match parts.inbox.pop_front() {
-                Some(heard) => Answer::Taken { body: heard.body() },
-                None => Refusal::Nothing.into(),
-            };
+        EventRef::Offer { body } => offer(parts, body, reply),
+        EventRef::Take => {
+            match parts.inbox.pop_front() {
+                Some(heard) => reply.set_taken(heard.octets()),
+                None => reply.set_refused(Refusal::Nothing),
+            }
             Ok(())
         }
-        Event::Find { number } => {
-            *answer = match parts.queues.fate_of(*number) {
-                Some(fate) => Answer::Found { fate },
-                None if *number < parts.queues.len() as u64 => Refusal::Finished.into(),
-                None => Refusal::UnknownNumber.into(),
-            };
+        EventRef::Find { number } => {
+            match parts.queues.fate_of(*number) {
+                Some(fate) => reply.set_found(fate),
+                None if *number < parts.queues.len() as u64 => reply.set_refused(Refusal::Finished),
+                None => reply.set_refused(Refusal::UnknownNumber),
+            }
             Ok(())
         }
-        Event::Next { link } => {
-            send_next(parts, *link, answer);
+        EventRef::Next { link } => {
+            send_next(parts, *link, reply);
             Ok(())
         }
-        Event::Heard { link, unit } => hear(parts, *link, unit, answer),
-        Event::Up { link } => bring_up(parts, *link, answer),
-        Event::Down { link } => take_down(parts, *link, false, answer),
-        Event::DownBlind { link } => take_down(parts, *link, true, answer),
-        Event::NoAnswer { link } => give_up(parts, *link, answer),
-        Event::Restore { link } => restore(parts, *link, answer),
-        Event::BackTimeout { link } => time_out(parts, *link, answer),
+        EventRef::Heard { link, unit } => hear(parts, *link, unit, reply),
+        EventRef::Up { link } => bring_up(parts, *link, reply),
+        EventRef::Down { link } => take_down(parts, *link, false, reply),
+        EventRef::DownBlind { link } => take_down(parts, *link, true, reply),
+        EventRef::NoAnswer { link } => give_up(parts, *link, reply),
+        EventRef::Restore { link } => restore(parts, *link, reply),
+        EventRef::BackTimeout { link } => time_out(parts, *link, reply),
     }
 }
 
@@ -65,23 +65,23 @@ pub(crate) fn carry_out<A: Allocator + Copy>(
 fn give_up<A: Allocator + Copy>(
     parts: &mut Parts<A>,
     number: u8,
-    answer: &mut Answer,
+    reply: &mut Reply,
 ) -> Result<(), AllocError>
     requires holds { Holds (kept_of parts.old) }
     requires counted { AreCounted (2 ^ 60) parts.old.links.items }
-    ensures ok { OnOk result (Answers parts.old parts.new answer.new
+    ensures ok { OnOk result (Answers parts.old parts.new reply.new
         (λ s. on_link number s (λ link. gives_up number s link link.phase))) }
     ensures err { OnErr result (kept_of parts.new ≡ kept_of parts.old) }
 {
-    *answer = match phase_of(parts, number) {
-        None => Refusal::NoSuchLink.into(),
+    match phase_of(parts, number) {
+        None => reply.set_refused(Refusal::NoSuchLink),
         Some(Phase::Down) => {
             make_room_beside(parts, number, 0)?;
             settle(parts, number, Reached::Unanswered);
-            Answer::Done
+            reply.set_done();
         }
-        Some(Phase::Up | Phase::Settled) => Refusal::Nothing.into(),
-    };
+        Some(Phase::Up | Phase::Settled) => reply.set_refused(Refusal::Nothing),
+    }
     Ok(())
 }
 
@@ -91,16 +91,16 @@ fn take_down<A: Allocator + Copy>(
     parts: &mut Parts<A>,
     number: u8,
     blind: bool,
-    answer: &mut Answer,
+    reply: &mut Reply,
 ) -> Result<(), AllocError>
     requires holds { Holds (kept_of parts.old) }
     requires counted { AreCounted (2 ^ 60) parts.old.links.items }
-    ensures ok { OnOk result (Answers parts.old parts.new answer.new (λ s. in_service number s
+    ensures ok { OnOk result (Answers parts.old parts.new reply.new (λ s. in_service number s
         (falls blind number s))) }
     ensures err { OnErr result (kept_of parts.new ≡ kept_of parts.old) }
 {
     if let Some(why) = unserved(parts, number) {
-        *answer = why.into();
+        reply.set_refused(why);
         return Ok(());
     }
     let order = if blind {
@@ -114,7 +114,7 @@ fn take_down<A: Allocator + Copy>(
     make_room_beside(parts, number, 1)?;
     leave(parts, number, blind);
     queue(parts, order);
-    *answer = Answer::Done;
+    reply.set_done();
     Ok(())
 }
 
@@ -126,17 +126,17 @@ fn take_down<A: Allocator + Copy>(
 fn bring_up<A: Allocator + Copy>(
     parts: &mut Parts<A>,
     number: u8,
-    answer: &mut Answer,
+    reply: &mut Reply,
 ) -> Result<(), AllocError>
     requires holds { Holds (kept_of parts.old) }
-    ensures ok { OnOk result (Answers parts.old parts.new answer.new
+    ensures ok { OnOk result (Answers parts.old parts.new reply.new
         (λ s. on_link number s (λ link. rises number s link.phase))) }
     ensures err { OnErr result (kept_of parts.new ≡ kept_of parts.old) }
 {
-    *answer = match phase_of(parts, number) {
-        None => Refusal::NoSuchLink.into(),
-        Some(Phase::Up) => Refusal::NotDown.into(),
-        Some(Phase::Down) => Refusal::Unsettled.into(),
+    match phase_of(parts, number) {
+        None => reply.set_refused(Refusal::NoSuchLink),
+        Some(Phase::Up) => reply.set_refused(Refusal::NotDown),
+        Some(Phase::Down) => reply.set_refused(Refusal::Unsettled),
         Some(Phase::Settled) => {
             make_room_parked(parts, number)?;
             parts.queues.reset(number);
@@ -146,8 +146,8 @@ fn bring_up<A: Allocator + Copy>(
             let profile = parts.config.profile();
             parts.links[usize::from(number)].rise(profile, parts.config.method);
             parts.routes.raise(number);
-            Answer::Done
+            reply.set_done();
         }
-    };
+    }
     Ok(())
 }

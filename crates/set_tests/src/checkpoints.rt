@@ -88,7 +88,7 @@ fn is_of_one_message(books: &Books) -> bool {
 fn are_legal_from_the_base(alloc: Global, set: &SetCore) -> bool {
     match set.history().entries(alloc) {
         Ok(entries) => {
-            audit_history_from(alloc, set.base(), set.history()) == Ok(true)
+            audit_history_from(set.base(), set.history()) == Ok(true)
                 && is_legal_as_it_is(alloc, set.base(), &entries)
         }
         Err(_) => false,
@@ -257,7 +257,7 @@ fn is_legal_from_the_opening(alloc: Global, set: &SetCore) -> bool {
     };
     match Base::opening(alloc, &config) {
         Ok(opening) => {
-            is_opening(&opening) && audit_history_from(alloc, &opening, set.history()) == Ok(true)
+            is_opening(&opening) && audit_history_from(&opening, set.history()) == Ok(true)
         }
         Err(_) => false,
     }

@@ -10,6 +10,9 @@ use Rattle.l2_units.specs.declared.profile.Profile.{Profile}
 use Rattle.l2_units.specs.declared.profile.Profile.TheVariants.{Narrow, Wide}
 use Rattle.l2_units.specs.Profile.{longest_body}
 use Rattle.l2_units.specs.Grammar.{IsHeadOf, head_of as header_in}
+use Rattle.l2_units.specs.Lent.{body_in, unit_in}
+use Rattle.l2_units.specs.declared.lent.UnitRef.{UnitRef}
+use Rattle.l2_units.specs.declared.lent.UnitRef.TheVariants.{Fisu as LentFisu, Lssu as LentLssu, Msu as LentMsu}
 use Rattle.set_model.specs.Rows.{Waiting, Unacked, Row, Fate, is_unacked, unack, numbers, octets_in, body_at, AreFit, Held, service_indicator}
 use Rattle.l3_orders.specs.Grammar.{order_of}
 use Rattle.set_model.specs.Control.{Header, Control, head_of, part_of}
@@ -49,6 +52,13 @@ part_reaches c w head msu q n last profile unacked h = record { count_is = grind
 -- the numbers of a unit that is heard are those of its link
 numbers_in : (p : Profile) (unit : SignalUnit) → is_heard p unit ≡ true → IsHeadOf p (header_in unit)
 numbers_in p unit e = grind (arith, nat_tests)
+
+-- and it has a body that a unit has room for
+pub body_fits : (p : Profile) (unit : UnitRef) → is_heard p (unit_in unit) ≡ true → length (body_in unit) ≤ 273
+body_fits p (LentFisu head) e = omega arith
+body_fits p (LentLssu head status) e = omega arith
+body_fits Narrow (LentMsu head body) e = grind (arith, nat_tests)
+body_fits Wide (LentMsu head body) e = grind (arith, nat_tests)
 
 pub numbers_fit : {A : Type 0} (parts : Parts A) (n : ℕ) (unit : SignalUnit) → Holds (kept_of parts) → n < length parts.links.items → is_heard parts.config.profile unit ≡ true → IsHeadOf (profile_at n parts.queues.lists) (header_in unit)
 numbers_fit parts n unit h known e =

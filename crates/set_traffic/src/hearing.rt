@@ -1,6 +1,7 @@
 //! What a heard unit does to a set.
-ghost use Rattle.std.specs.Prelude.{◌≡◌, ◌<◌, ◌^◌, false, length, None, IsOk, IfOk, IfSome, OnErr, OnOk};
+ghost use Rattle.std.specs.Prelude.{◌≡◌, ◌<◌, ◌≤◌, ◌^◌, false, length, None, IsOk, IfOk, IfSome, OnErr, OnOk};
 ghost use Rattle.l2_units.specs.Grammar.{IsHeadOf, head_of as header_of};
+ghost use Rattle.l2_units.specs.Lent.{body_in, unit_in};
 ghost use Rattle.l2_units.specs.Profile.{fsn_count};
 ghost use Rattle.l3_orders.specs.Grammar.{IsOrder, order_of};
 ghost use Rattle.set_queues.specs.Buffers.{profile_at};
@@ -13,11 +14,11 @@ ghost use Rattle.set_changeover.specs.Parts.{Answers, AreCounted, IsWhole, OfSta
 ghost use Rattle.set_changeover.specs.Room.{IsSpaciousFor, SameButRoom};
 
 use super::offering::longest_of;
-use l2_units::{Header, Profile, Unit, header_in};
+use l2_units::{Header, Profile, UnitRef};
 use l2_window::HeardPart;
 use l3_orders::{Order, read_order, read_order_wide};
 use set_changeover::{HeardBody, Parts, make_room, make_room_beside, obey, target_of, unserved};
-use set_events::{Answer, Fate, Refusal, Report, Took};
+use set_events::{Fate, Refusal, Reply, Report, Took};
 use set_model::service_indicator;
 use set_queues::{Queues, fate_on};
 use set_route::home_of_code;
@@ -32,22 +33,22 @@ use std::alloc::{AllocError, Allocator};
 pub fn hear<A: Allocator + Copy>(
     parts: &mut Parts<A>,
     number: u8,
-    unit: &Unit,
-    answer: &mut Answer,
+    unit: &UnitRef<'_>,
+    reply: &mut Reply,
 ) -> Result<(), AllocError>
     requires holds { Holds (kept_of parts.old) }
     requires counted { AreCounted (2 ^ 60) parts.old.links.items }
-    ensures ok { OnOk result (Answers parts.old parts.new answer.new (λ s. in_service number s
-        (heard unit.now number s))) }
+    ensures ok { OnOk result (Answers parts.old parts.new reply.new (λ s. in_service number s
+        (heard (unit_in unit.now) number s))) }
     ensures err { OnErr result (kept_of parts.new ≡ kept_of parts.old) }
-    ensures none { is_msu unit.now ≡ false → IsOk result }
+    ensures none { is_msu (unit_in unit.now) ≡ false → IsOk result }
 {
     if let Some(why) = unserved(parts, number) {
-        *answer = why.into();
+        reply.set_refused(why);
         return Ok(());
     }
     if !is_heard(parts.config.profile(), unit) {
-        *answer = Refusal::Nothing.into();
+        reply.set_refused(Refusal::Nothing);
         return Ok(());
     }
     let brought = make_space(parts, unit)?;
@@ -60,7 +61,7 @@ pub fn hear<A: Allocator + Copy>(
         resend: part.resend,
         fault: part.fault,
     };
-    *answer = Answer::Heard { report };
+    reply.set_heard(report);
     Ok(())
 }
 
@@ -81,24 +82,25 @@ pub(crate) enum Brought<A: Allocator> {
 /// for what it moves. Nothing else changes, also where memory is refused.
 fn make_space<A: Allocator + Copy>(
     parts: &mut Parts<A>,
-    unit: &Unit,
+    unit: &UnitRef<'_>,
 ) -> Result<Brought<A>, AllocError>
     requires whole { IsWhole parts.old }
-    ensures brought { IfOk result (λ brought. brought ≡ brought_by parts.old.config.profile unit.now) }
+    requires few { length (body_in unit.now) ≤ 273 }
+    ensures brought { IfOk result (λ brought. brought ≡ brought_by parts.old.config.profile (unit_in unit.now)) }
     ensures space { IfOk result (λ brought. HasSpaceFor brought parts.new) }
     ensures same { kept_of parts.new ≡ kept_of parts.old }
     ensures links { parts.new.links ≡ parts.old.links }
-    ensures none { is_msu unit.now ≡ false → IsOk result }
+    ensures none { is_msu (unit_in unit.now) ≡ false → IsOk result }
 {
-    let Unit::Msu { body, .. } = unit else {
+    let UnitRef::Msu { body, .. } = unit else {
         return Ok(Brought::Nothing);
     };
-    if service_indicator(body.as_slice()) != 0 {
+    if service_indicator(body) != 0 {
         parts.inbox.reserve(1)?;
         let message = HeardBody::new(*parts.links.allocator(), body)?;
         return Ok(Brought::Message(message));
     }
-    let Some(order) = order_in(parts.config.profile(), body.as_slice()) else {
+    let Some(order) = order_in(parts.config.profile(), body) else {
         return Ok(Brought::Unread);
     };
     make_room_for(parts, order)?;
@@ -106,13 +108,13 @@ fn make_space<A: Allocator + Copy>(
 }
 
 /// Whether the error control hears the unit: a FISU or MSU of the set's profile.
-fn is_heard(profile: Profile, unit: &Unit) -> bool
-    ensures { result ≡ is_heard profile unit.now }
+fn is_heard(profile: Profile, unit: &UnitRef<'_>) -> bool
+    ensures { result ≡ is_heard profile (unit_in unit.now) }
 {
     match unit {
-        Unit::Lssu { .. } => false,
-        Unit::Fisu { head } => has_numbers(profile, *head),
-        Unit::Msu { head, body } => {
+        UnitRef::Lssu { .. } => false,
+        UnitRef::Fisu { head } => has_numbers(profile, *head),
+        UnitRef::Msu { head, body } => {
             has_numbers(profile, *head) && body.len() <= longest_of(profile)
         }
     }
@@ -173,21 +175,25 @@ fn make_room_for<A: Allocator + Copy>(parts: &mut Parts<A>, order: Order) -> Res
 
 /// The control hears the unit, and the link counts: acknowledged messages are the first ones, and so many.
 #[tactic(auto, using(crate::proofs::Traffic::part_reaches))]
-fn control_hears<A: Allocator + Copy>(parts: &mut Parts<A>, number: u8, unit: &Unit) -> HeardPart
+fn control_hears<A: Allocator + Copy>(
+    parts: &mut Parts<A>,
+    number: u8,
+    unit: &UnitRef<'_>,
+) -> HeardPart
     requires counted { AreCounted (2 ^ 60) parts.old.links.items }
     requires known { number < length parts.old.links.items }
     requires queue { number < length parts.old.queues.lists.links }
-    requires fits { IsHeadOf (profile_at number parts.old.queues.lists) (header_of unit.now) }
+    requires fits { IsHeadOf (profile_at number parts.old.queues.lists) (header_of (unit_in unit.now)) }
     ensures part { OfStates number parts.old
         (λ link s. result ≡ part_of link.control (window_of number link s.rows)
-        (header_of unit.now) (is_msu unit.now)) }
+        (header_of (unit_in unit.now)) (is_msu (unit_in unit.now))) }
     ensures stands { BecomesAt number parts.old parts.new (λ link s.
-        after_control result (header_of unit.now) unit.now number s link) }
+        after_control result (header_of (unit_in unit.now)) (unit_in unit.now) number s link) }
     ensures counted { AreCounted (2 ^ 61) parts.new.links.items }
     ensures keeps { KeepsSpace parts.old parts.new }
 {
     let window = parts.queues.window(number);
-    let head = header_in(unit);
+    let head = unit.head();
     let link = &mut parts.links[usize::from(number)];
     let part = link.control.hear(window, head, has_message(unit));
     link.acked += u64::from(part.acked);
@@ -212,10 +218,10 @@ fn acknowledge<A: Allocator + Copy>(queues: &mut Queues<A>, number: u8, bsn: u16
 }
 
 /// Whether the unit is an MSU.
-fn has_message(unit: &Unit) -> bool
-    ensures { result ≡ is_msu unit.now }
+fn has_message(unit: &UnitRef<'_>) -> bool
+    ensures { result ≡ is_msu (unit_in unit.now) }
 {
-    matches!(unit, Unit::Msu { .. })
+    matches!(unit, UnitRef::Msu { .. })
 }
 
 /// Where what a unit brought goes, if it's accepted: to the users' inbox, or to the rules of changeover.

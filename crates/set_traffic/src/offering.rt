@@ -1,6 +1,7 @@
 //! A message that a user offers.
 ghost use Rattle.std.specs.Prelude.{◌≡◌, OnOk, OnErr};
 ghost use Rattle.l2_units.specs.Profile.{longest_body};
+ghost use Rattle.set_events.specs.Lent.{event_in};
 ghost use Rattle.set_queues.specs.Messages.{unsent_of};
 ghost use Rattle.set_model.specs.Rows.{stream_of};
 ghost use Rattle.set_model.specs.Sound.{IsAsked};
@@ -10,7 +11,7 @@ ghost use Rattle.set_changeover.specs.Parts.{Answers, kept_of};
 
 use l2_units::{LONGEST_BODY, Profile};
 use set_changeover::{Parts, fate_of_new, make_room, stand_last};
-use set_events::{Answer, Body, Event, Refusal};
+use set_events::{EventRef, Refusal, Reply};
 use set_model::{service_indicator, stream_of_body};
 use set_queues::Queues;
 use std::alloc::{AllocError, Allocator};
@@ -25,25 +26,24 @@ const STREAM_LIMIT: u64 = 1024;
 #[tactic(auto, using(set_changeover::proofs::Links::whole_of))]
 pub fn offer<A: Allocator + Copy>(
     parts: &mut Parts<A>,
-    body: &Body,
-    answer: &mut Answer,
+    octets: &[u8],
+    reply: &mut Reply,
 ) -> Result<(), AllocError>
     requires holds { Holds (kept_of parts.old) }
-    ensures ok { OnOk result (Answers parts.old parts.new answer.new (λ s. offered
-        (offer_refusal s.settings.profile s.rows body.now) s body.now)) }
+    ensures ok { OnOk result (Answers parts.old parts.new reply.new (λ s. offered
+        (offer_refusal s.settings.profile s.rows octets.now) s octets.now)) }
     ensures err { OnErr result (kept_of parts.new ≡ kept_of parts.old) }
 {
-    if let Some(why) = refusal_of(parts.config.profile(), &parts.queues, body) {
-        *answer = why.into();
+    if let Some(why) = refusal_of(parts.config.profile(), &parts.queues, octets) {
+        reply.set_refused(why);
         return Ok(());
     }
-    let octets = body.octets();
     let stream = stream_of_body(octets);
     let fate = fate_of_new(parts, stream);
     make_room(parts, fate)?;
     let number = stand_last(parts, octets, fate);
     parts.routes.accept(stream);
-    *answer = Answer::Accepted { number };
+    reply.set_accepted(number);
     Ok(())
 }
 
@@ -61,11 +61,10 @@ pub(crate) fn longest_of(profile: Profile) -> usize
 fn refusal_of<A: Allocator + Copy>(
     profile: Profile,
     queues: &Queues<A>,
-    body: &Body,
+    octets: &[u8],
 ) -> Option<Refusal>
-    ensures { result ≡ refusal_by profile (unsent_of (stream_of body.now) queues.now.messages) body.now }
+    ensures { result ≡ refusal_by profile (unsent_of (stream_of octets.now) queues.now.messages) octets.now }
 {
-    let octets = body.octets();
     if octets.len() < SHORTEST_OFFER {
         return Some(Refusal::TooShort);
     }
@@ -82,11 +81,11 @@ fn refusal_of<A: Allocator + Copy>(
 }
 
 /// A law: the octets of a label tell one of 16 streams.
-pub fn is_asked(event: &Event)
-    ensures { IsAsked event.now }
+pub fn is_asked(event: &EventRef<'_>)
+    ensures { IsAsked (event_in event.now) }
 {
-    if let Event::Offer { body } = event {
+    if let EventRef::Offer { body } = event {
         // a stream is below 16
-        stream_of_body(body.octets());
+        stream_of_body(body);
     }
 }

@@ -1,5 +1,5 @@
 //! What a link's terminal sends next.
-ghost use Rattle.std.specs.Prelude.{◌≡◌, ◌<◌, true, List, length, slice_get, Some, option_map};
+ghost use Rattle.std.specs.Prelude.{◌≡◌, ◌<◌, ◌≤◌, true, List, length, slice_get, Some, option_map};
 ghost use Rattle.l2_window.specs.Control.{fsn_of};
 ghost use Rattle.set_queues.specs.Buffers.{IsKnown, is_standing, queue_at};
 ghost use Rattle.set_model.specs.Rows.{IsInOrder, is_waiting, turned};
@@ -12,42 +12,35 @@ ghost use Rattle.set_changeover.specs.Parts.{Answers, OfStates, BecomesAt, kept_
 ghost use Rattle.set_traffic.specs.Traffic.{IsThere, goes_on};
 
 use super::clearing::clear;
-use arrayvec::ArrayVec;
-use l2_units::{Header, LONGEST_BODY, Unit, body_of};
+use l2_units::Header;
 use l2_window::Choice;
 use set_changeover::{Parts, unserved};
-use set_events::{Answer, Fate};
+use set_events::{Fate, Reply};
 use std::alloc::Allocator;
 
 /// The next unit to send, once the orders that were overtaken are discarded.
 #[tactic(auto, using(crate::proofs::Traffic::queue_there))]
-pub fn send_next<A: Allocator + Copy>(parts: &mut Parts<A>, number: u8, answer: &mut Answer)
+pub fn send_next<A: Allocator + Copy>(parts: &mut Parts<A>, number: u8, reply: &mut Reply)
     requires { Holds (kept_of parts.old) }
-    ensures { Answers parts.old parts.new answer.new (λ s. in_service number s
+    ensures { Answers parts.old parts.new reply.new (λ s. in_service number s
         (next number (cleared number s))) }
 {
     if let Some(why) = unserved(parts, number) {
-        *answer = why.into();
+        reply.set_refused(why);
         return;
     }
     clear(parts, number);
     let (choice, head) = go_on(parts, number);
-    *answer = match choice {
+    match choice {
         Choice::Again { place } => {
-            let body = body_at(parts, Fate::Unacked { link: number }, place);
-            let unit = Unit::Msu { head, body };
-            Answer::Sent { unit }
+            reply.set_message(head, body_at(parts, Fate::Unacked { link: number }, place));
         }
         Choice::First => {
-            let body = body_at(parts, Fate::Waiting { link: number }, 0);
+            reply.set_message(head, body_at(parts, Fate::Waiting { link: number }, 0));
             parts.queues.send(number).unwrap();
-            let unit = Unit::Msu { head, body };
-            Answer::Sent { unit }
         }
-        Choice::Fill => Answer::Sent {
-            unit: Unit::Fisu { head },
-        },
-    };
+        Choice::Fill => reply.set_fill_in(head),
+    }
 }
 
 /// The link's control chooses, and goes on as that is sent, before the message moves: the choice and the unit's header.
@@ -73,18 +66,15 @@ fn go_on<A: Allocator + Copy>(parts: &mut Parts<A>, number: u8) -> (Choice, Head
 
 /// The body of the message at this place of a queue, whatever the links have come to.
 #[tactic(auto, using(crate::proofs::Traffic::fit_at))]
-fn body_at<A: Allocator + Copy>(
-    parts: &Parts<A>,
-    fate: Fate,
-    place: usize,
-) -> ArrayVec<u8, LONGEST_BODY>
+fn body_at<A: Allocator + Copy>(parts: &Parts<A>, fate: Fate, place: usize) -> &[u8]
     requires holds { (links : List LinkState) × Holds (record (kept_of parts.now) { links = links }) }
     requires known { IsKnown fate parts.now.queues.lists }
     requires standing { is_standing fate ≡ true }
     requires place { place < length (queue_at fate parts.now.queues.lists) }
-    ensures { (s : State) → StandsFor (kept_of parts.now) s
-        → option_map (λ row. row.body) (slice_get (rows_at fate s.rows) place) ≡ Some result.items }
+    ensures body { (s : State) → StandsFor (kept_of parts.now) s
+        → option_map (λ row. row.body) (slice_get (rows_at fate s.rows) place) ≡ Some result.now }
+    ensures few { length result.now ≤ 273 }
 {
     let message = parts.queues.number_at(fate, place).unwrap();
-    body_of(parts.bodies.body(message))
+    parts.bodies.body(message)
 }

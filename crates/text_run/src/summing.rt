@@ -32,7 +32,7 @@ fn add_up_end(alloc: Global, end: &SetEnd) -> Result<SetTotals, AllocError>
     ensures small { IfOk result IsInRange }
 {
     let closed = &end.closed;
-    let Ok(legal) = audit_history_from(alloc, &closed.base, closed.history.reader()) else {
+    let Ok(legal) = audit_history_from(&closed.base, closed.history.reader()) else {
         return Err(AllocError);
     };
     Ok(SetTotals {

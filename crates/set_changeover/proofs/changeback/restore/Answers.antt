@@ -2,7 +2,7 @@ use Rattle.std.proofs.Common.{subst, ℕ, ◌-◌, ◌+◌, arith, ◌≡◌, �
 use Rattle.std.proofs.lemmas.Bool.Decides.{nat_tests}
 use Rattle.set_queues.specs.Bodies.{CanHold}
 use Rattle.set_queues.specs.Buffers.{Waiting}
-use Rattle.set_model.specs.Step.{Done, comes_back}
+use Rattle.set_model.specs.Step.{comes_back}
 use Rattle.set_changeover.specs.Parts.{Up}
 use Rattle.set_changeover.proofs.Links.{served, is_in, whole_of}
 use Rattle.set_model.specs.Changeover.{declared_from, declared_if}
@@ -11,12 +11,12 @@ use Rattle.set_changeover.proofs.changeback.restore.Goals as goal
 
 pub returns-then-not-has_alternative-clause-ok : goal.returns-then-not-has_alternative-clause-ok
 returns-then-not-has_alternative-clause-ok o c = λ s a.
-    served s c.args.number (λ link. comes_back c.args.number s) _ c.args.parts.now (is_in c.args.parts.now s c.args.number Up a c.in_default.ensures.here) (rw (sym (c.has_alternative.ensures s a.stands) ∙ c.if-not-has_alternative.true) (record { answer_is = c.into-then-not-has_alternative.ensures; stands = a.stands }))
+    served s c.args.number (λ link. comes_back c.args.number s) _ c.args.parts.now (is_in c.args.parts.now s c.args.number Up a c.in_default.ensures.here) (rw (sym (c.has_alternative.ensures s a.stands) ∙ c.if-not-has_alternative.true) (record { answer_is = c.set_refused-then-not-has_alternative.ensures; stands = a.stands }))
 
 pub returns-clause-ok : goal.returns-clause-ok
 returns-clause-ok o c = λ s a. let end : c.loop-alternative.alternative ≡ length c.args.parts.now.links.items = omega (arith, (whole_of c.args.parts.now c.requires.holds).few) in
-    served s c.args.number (λ link. comes_back c.args.number s) Done c.loop-alternative.parts (is_in c.args.parts.now s c.args.number Up a c.in_default.ensures.here) (rw (sym (c.has_alternative.ensures s a.stands) ∙ c.if-not-has_alternative.false) (record {
-      answer_is = refl;
+    served s c.args.number (λ link. comes_back c.args.number s) c.set_done.new.self c.loop-alternative.parts (is_in c.args.parts.now s c.args.number Up a c.in_default.ensures.here) (rw (sym (c.has_alternative.ensures s a.stands) ∙ c.if-not-has_alternative.false) (record {
+      answer_is = c.set_done.ensures;
       stands = rw (count_is c.args.parts.now s a.stands, ← end) (c.loop-alternative.invariant.stands s a.stands);
     }))
 

@@ -7,11 +7,11 @@ use Rattle.set_changeover.proofs.Declaring.{becomes_next}
 use Rattle.set_changeover.proofs.changeback.time_out.Goals as goal
 
 pub returns-then-not-has_code_in_use-clause-ok : goal.returns-then-not-has_code_in_use-clause-ok
-returns-then-not-has_code_in_use-clause-ok o c = λ s a. known_here c.args.parts.now c.args.parts.now s c.args.number _ _ a (omega arith) (rw (sym (c.has_code_in_use.ensures s a.stands) ∙ c.if-not-has_code_in_use.true) (record { answer_is = c.into-then-not-has_code_in_use.ensures; stands = a.stands }))
+returns-then-not-has_code_in_use-clause-ok o c = λ s a. known_here c.args.parts.now c.args.parts.now s c.args.number _ _ a (omega arith) (rw (sym (c.has_code_in_use.ensures s a.stands) ∙ c.if-not-has_code_in_use.true) (record { answer_is = c.set_refused-then-not-has_code_in_use.ensures; stands = a.stands }))
 
 pub returns-clause-ok : goal.returns-clause-ok
 returns-clause-ok o c = λ s a. let end : c.loop-alternative.alternative ≡ 16 = omega arith in
-    known_here c.args.parts.now c.loop-alternative.parts s c.args.number _ _ a (omega arith) (rw (sym (c.has_code_in_use.ensures s a.stands) ∙ c.if-not-has_code_in_use.false) (record { answer_is = refl; stands = rw end at (c.loop-alternative.invariant.stands s a.stands) }))
+    known_here c.args.parts.now c.loop-alternative.parts s c.args.number _ _ a (omega arith) (rw (sym (c.has_code_in_use.ensures s a.stands) ∙ c.if-not-has_code_in_use.false) (record { answer_is = c.set_done.ensures; stands = rw end at (c.loop-alternative.invariant.stands s a.stands) }))
 
 pub release-requires-clause-room : goal.release-requires-clause-room
 release-requires-clause-room o c =

@@ -1,6 +1,9 @@
-use Rattle.std.proofs.Common.{arith, ◌≡◌, ◌+◌, ◌^◌, ℕ, [], ◌∷◌, ◌++◌, sym, subst, drop, take, refl, List}
+use Rattle.std.proofs.Common.{arith, ◌≡◌, ◌∙◌, ◌+◌, ◌^◌, ℕ, [], ◌∷◌, ◌++◌, sym, subst, drop, take, refl, List}
 use Rattle.std.proofs.lemmas.List.{drop_all}
+use Rattle.set_events.specs.declared.event.Event.{Event}
 use Rattle.set_events.specs.declared.history.Entry.{Entry}
+use Rattle.set_model.specs.Step.{step}
+use Rattle.set_step.specs.Answering.{AnswersFor}
 use Rattle.set_model.specs.History.{IsLegal, after, entries_of}
 use Rattle.set_core.proofs.Keeping.{replay_none, replay_next, replay_taken, replay_more, replay_count, replay_actor, replay_answer, few_more}
 use Rattle.set_core.proofs.auditing.replay.Goals as goal
@@ -16,10 +19,10 @@ loop-entry-preserved o c =
     let first : ℕ = entries_of c.args.base.now [] in
     let x = c.entry-item.result in
     let next = replay_next opening entries c.loop-entry.core (first + i) i x c.loop-entry.invariant c.loop-entry-test.true c.entry-item.is in
-    let told = c.in_ok-apply.ensures.ok (after opening (take i entries)) next.agrees in
+    let told = subst (λ (event : Event). AnswersFor (step (after opening (take i entries)) event) c.apply.new.reply c.apply.new.self) c.of.ensures.value (c.in_ok-apply.ensures.ok (after opening (take i entries)) next.agrees) in
     let actor = c.is_actor.ensures.0 c.if-not-is_actor.false in
-    let same = c.same.ensures.0 c.if-not-same.false in
-    let more = replay_more opening entries c.loop-entry.core (first + i) (take i entries) (drop (i + 1) entries) x next c.apply.new.self c.apply.new.answer told actor same in
+    let same = sym c.get.ensures.value ∙ c.same.ensures.0 c.if-not-same.false ∙ c.of-in-loop-entry.ensures.value in
+    let more = replay_more opening entries c.loop-entry.core (first + i) (take i entries) (drop (i + 1) entries) x next c.apply.new.self c.apply.new.reply told actor same in
     replay_taken opening entries c.apply.new.self (first + (i + 1)) i x c.loop-entry-test.true c.entry-item.is
     (replay_count opening entries c.apply.new.self (first + i + 1) (first + (i + 1)) (take i entries ++ x ∷ []) (drop (i + 1) entries) (omega arith) more)
 
@@ -48,8 +51,8 @@ returns-then-not-same-clause-legal o c =
     let count : ℕ = entries_of c.args.base.now [] + i in
     let x = c.entry-item.result in
     let next = replay_next opening entries c.loop-entry.core count i x c.loop-entry.invariant c.loop-entry-test.true c.entry-item.is in
-    let told = c.in_ok-apply.ensures.ok (after opening (take i entries)) next.agrees in
-    (λ no. cc, λ legal. let same = c.same.ensures.1 (replay_answer opening entries c.loop-entry.core count (take i entries) (drop (i + 1) entries) x next c.apply.new.self c.apply.new.answer told legal) in let differs = c.if-not-same.true in cc)
+    let told = subst (λ (event : Event). AnswersFor (step (after opening (take i entries)) event) c.apply.new.reply c.apply.new.self) c.of.ensures.value (c.in_ok-apply.ensures.ok (after opening (take i entries)) next.agrees) in
+    (λ no. cc, λ legal. let same = c.same.ensures.1 (c.get.ensures.value ∙ replay_answer opening entries c.loop-entry.core count (take i entries) (drop (i + 1) entries) x next c.apply.new.self c.apply.new.reply told legal ∙ sym c.of-in-loop-entry.ensures.value) in let differs = c.if-not-same.true in cc)
 
 pub returns-clause-legal : goal.returns-clause-legal
 returns-clause-legal o c =

@@ -18,10 +18,10 @@ loop-told-preserved o c =
     let first : ℕ = entries_of c.args.base.now [] in
     let l = c.loop-told.invariant in
     let s = after opening l.0 in
-    let answers = subst (λ (event : Event). AnswersFor (step s event) c.apply.new.answer c.apply.new.self) c.in_ok-event.ensures (c.in_ok-apply.ensures.ok s l.1.agrees) in
+    let answers = subst (λ (event : Event). AnswersFor (step s event) c.apply.new.reply c.apply.new.self) c.asked.ensures.value (c.in_ok-apply.ensures.ok s l.1.agrees) in
     let actor = subst IsActor c.who.ensures (c.is_actor.ensures.0 c.if-not-is_actor.false) in
-    let same = c.same.ensures.0 c.if-not-same.false ∙ c.answer.ensures in
-    reading_on opening c.args.entries c.loop-told.core first c.loop-told.left c.next.new.self c.in-Some.told l c.in-Some.ensures c.apply.new.self c.apply.new.answer answers actor same
+    let same = sym c.get.ensures.value ∙ c.same.ensures.0 c.if-not-same.false ∙ c.answered.ensures.value in
+    reading_on opening c.args.entries c.loop-told.core first c.loop-told.left c.next.new.self c.in-Some.told l c.in-Some.ensures c.apply.new.self c.apply.new.reply answers actor same
 
 pub apply-requires : goal.apply-requires
 apply-requires o c =
@@ -38,10 +38,10 @@ returns-then-not-same-clause-legal o c =
     let s = after opening l.0 in
     let x = c.in-Some.told in
     let now = reading_now opening entries c.loop-told.core first c.loop-told.left c.next.new.self x l c.in-Some.ensures in
-    let answers = subst (λ (event : Event). AnswersFor (step s event) c.apply.new.answer c.apply.new.self) c.in_ok-event.ensures (c.in_ok-apply.ensures.ok s l.1.agrees) in (
+    let answers = subst (λ (event : Event). AnswersFor (step s event) c.apply.new.reply c.apply.new.self) c.asked.ensures.value (c.in_ok-apply.ensures.ok s l.1.agrees) in (
       λ no. cc,
       λ legal.
-          let right = replay_answer opening entries c.loop-told.core (first + length l.0) l.0 c.next.new.self x now c.apply.new.self c.apply.new.answer answers legal in
-          let same = c.same.ensures.1 (right ∙ sym c.answer.ensures) in
+          let right = replay_answer opening entries c.loop-told.core (first + length l.0) l.0 c.next.new.self x now c.apply.new.self c.apply.new.reply answers legal in
+          let same = c.same.ensures.1 (c.get.ensures.value ∙ right ∙ sym c.answered.ensures.value) in
           let differs = c.if-not-same.true in cc,
     )

@@ -26,7 +26,7 @@ returns-in_ok-make_room_parked-in-Some-Settled-clause-ok o c = λ s a.
     let f = (agrees_same c.args.parts.now roomy s c.in_ok-make_room_parked-in-Some-Settled.ensures.same a).stands in
     let i = is_in c.args.parts.now s n Settled a (rw c.in-Some-Settled.field-0-is at c.in-Some-Settled.ensures.here) in
     rw (i.there, i.phase_is) (record {
-      answer_is = refl;
+      answer_is = c.set_done.ensures;
       stands = becomes (risen_for (kept_of roomy) s n i.link (risen_link s.settings.profile s.settings.method) (raised n s.routing) f i.there refl (sym (a.sound.links n i.link i.there).profile))
           (rw (c.divert.ensures.messages, c.divert.ensures.lists, c.reset.ensures.lists, c.reset.ensures.same.0, f.links, c.from.ensures, c.rise.ensures, c.profile-profile.ensures, ← f.settings, c.raise.ensures, f.routing) refl);
     })

@@ -6,10 +6,10 @@ pub returns-in-Offer-clause-ok : goal.returns-in-Offer-clause-ok
 returns-in-Offer-clause-ok o c = rw c.in-Offer.is c.offer.ensures.ok
 
 pub returns-in-Some-clause-ok : goal.returns-in-Some-clause-ok
-returns-in-Some-clause-ok o c = rw c.in-Take.is (let same = c.pop_front.ensures in grind arith)
+returns-in-Some-clause-ok o c = rw c.in-Take.is (let same = c.pop_front.ensures in let told = c.set_taken.ensures in let octets = c.octets.ensures.value in grind arith)
 
 pub returns-in-None-clause-ok : goal.returns-in-None-clause-ok
-returns-in-None-clause-ok o c = rw c.in-Take.is (let same = c.pop_front.ensures in grind arith)
+returns-in-None-clause-ok o c = rw c.in-Take.is (let same = c.pop_front.ensures in let told = c.set_refused.ensures in grind arith)
 
 pub returns-in-Next-clause-ok : goal.returns-in-Next-clause-ok
 returns-in-Next-clause-ok o c = rw c.in-Next.is c.send_next.ensures

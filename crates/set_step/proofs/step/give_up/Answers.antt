@@ -6,7 +6,7 @@ use Rattle.set_step.proofs.step.give_up.Goals as goal
 pub returns-in_ok-make_room_beside-in-Some-Down-clause-ok : goal.returns-in_ok-make_room_beside-in-Some-Down-clause-ok
 returns-in_ok-make_room_beside-in-Some-Down-clause-ok o c = λ s a.
     let i = is_in c.args.parts.now s c.args.number Down a (rw c.in-Some-Down.field-0-is at c.in-Some-Down.ensures.here) in
-    rw (i.there, i.phase_is) (record { answer_is = refl; stands = c.settle.ensures.stands s i.link i.there i.phase_is (agrees_same c.args.parts.now _ s c.in_ok-make_room_beside-in-Some-Down.ensures.same a) })
+    rw (i.there, i.phase_is) (record { answer_is = c.set_done.ensures; stands = c.settle.ensures.stands s i.link i.there i.phase_is (agrees_same c.args.parts.now _ s c.in_ok-make_room_beside-in-Some-Down.ensures.same a) })
 
 pub settle-requires-clause-room : goal.settle-requires-clause-room
 settle-requires-clause-room o c =

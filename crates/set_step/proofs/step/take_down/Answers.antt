@@ -2,7 +2,7 @@ use Rattle.std.proofs.Common.{refl, arith, ◌≡◌, ◌∙◌, ◌<◌, ap, sy
 use Rattle.set_model.specs.Changeover.{Coo, leaving_order, left_by, queued}
 use Rattle.set_model.specs.State.{LinkState, Profile, Settings, last_accepted}
 use Rattle.l2_units.specs.Profile.{fsn_count}
-use Rattle.set_model.specs.Step.{Done, falls}
+use Rattle.set_model.specs.Step.{falls}
 use Rattle.set_changeover.specs.Agreement.{StandsFor}
 use Rattle.set_changeover.specs.Parts.{Up, kept_of}
 use Rattle.set_changeover.proofs.Links.{agrees_same, is_in, served, found, stands_for, whole_of, has_room_left, beside_left}
@@ -46,7 +46,7 @@ returns-clause-ok o c = λ s a.
       | else-blind w ↦ rw (w.order-is, w.if-blind.false, w.last_accepted.ensures.value) (ap (λ link. Coo n (last_accepted link)) (stands_for c.args.parts.now.links.items n w.from.result w.index.result.now w.from.ensures here.known w.index.ensures s.links i.link a.stands.links i.there))
     ] in
     let left = left_by c.args.blind n i.link s in
-    served s n (falls c.args.blind n s) Done c.queue.new.parts i (record {
-      answer_is = refl;
+    served s n (falls c.args.blind n s) c.set_done.new.self c.queue.new.parts i (record {
+      answer_is = c.set_done.ensures;
       stands = subst (λ o. StandsFor (kept_of c.queue.new.parts) (queued o left)) order (c.queue.ensures.stands left (c.leave.ensures.stands s i.link i.there (agrees_same c.args.parts.now _ s c.in_ok-make_room_beside.ensures.same a)));
     })

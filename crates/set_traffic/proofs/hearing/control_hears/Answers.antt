@@ -1,5 +1,6 @@
 use Rattle.std.proofs.Common.{refl, arith, ◌≡◌, ◌∙◌, ◌+◌, ap, sym, subst, List, ◌^◌, Some, slice_get, slice_set, ℕ}
 use Rattle.l2_units.specs.Grammar.{head_of}
+use Rattle.l2_units.specs.Lent.{unit_in}
 use Rattle.set_model.specs.Control.{Control, control_heard}
 use Rattle.set_model.specs.Step.{is_msu, one_if, after_control}
 use Rattle.set_model.specs.State.{LinkState, State, window_of}
@@ -34,7 +35,7 @@ overflow_add-link-2 o c = let k = (few o (goal.at.overflow_add-link-2 o c).After
 pub returns-clause-part : goal.returns-clause-part
 returns-clause-part o c = λ s link there f.
     let same = tells o (goal.at.returns-clause-part o c).After-hear-part s link there f in
-    rw (← c.header_in-head.ensures, ← c.has_message.ensures) (c.hear-part.ensures.part ∙ rw (same.1, same.0) (grind arith))
+    rw (← c.head-head.ensures, ← c.has_message.ensures) (c.hear-part.ensures.part ∙ rw (same.1, same.0) (grind arith))
 
 pub returns-clause-stands : goal.returns-clause-stands
 returns-clause-stands o c = λ s link there f.
@@ -42,10 +43,10 @@ returns-clause-stands o c = λ s link there f.
     let part = c.hear-part.result in
     let so = (goal.at.returns-clause-stands o c).After-hear-part in
     let told = tells o so s link there f in
-    let heard = record link { acked = link.acked + part.acked; accepted = link.accepted + one_if part.accept; control = control_heard link.control (window_of n link s.rows) (head_of c.args.unit.now) (is_msu c.args.unit.now) } in
+    let heard = record link { acked = link.acked + part.acked; accepted = link.accepted + one_if part.accept; control = control_heard link.control (window_of n link s.rows) (head_of (unit_in c.args.unit.now)) (is_msu (unit_in c.args.unit.now)) } in
     let links = link_set c.args.parts.now.links.items n c.from.result c.index_mut-link.result.now c.from.ensures c.requires.known c.index_mut-link.ensures.value (counted c.from-2.result c.from-3.result c.hear-part.new.self) _ s.links link c.link.view_is f.links there
-    ∙ ap (slice_set s.links n) (rw (c.hear-part.ensures.state, told.1, told.0, c.header_in-head.ensures, c.has_message.ensures, c.from-2.ensures, c.from-3.ensures) (grind arith)) in
-    subst (λ (ls : List LinkState). StandsFor (record (kept_of c.args.parts.now) { lists = c.acknowledge.new.queues.lists; messages = c.acknowledge.new.queues.messages; links = ls }) (after_control part (head_of c.args.unit.now) c.args.unit.now n s link)) (sym links)
+    ∙ ap (slice_set s.links n) (rw (c.hear-part.ensures.state, told.1, told.0, c.head-head.ensures, c.has_message.ensures, c.from-2.ensures, c.from-3.ensures) (grind arith)) in
+    subst (λ (ls : List LinkState). StandsFor (record (kept_of c.args.parts.now) { lists = c.acknowledge.new.queues.lists; messages = c.acknowledge.new.queues.messages; links = ls }) (after_control part (head_of (unit_in c.args.unit.now)) (unit_in c.args.unit.now) n s link)) (sym links)
     (c.acknowledge.ensures.stands (kept_of c.args.parts.now) s link heard there refl refl f)
 
 pub returns-clause-counted : goal.returns-clause-counted

@@ -3,8 +3,8 @@ use Rattle.set_changeover.specs.Parts.{kept_of}
 use Rattle.set_traffic.proofs.Traffic.{found_at, body_is}
 use Rattle.set_traffic.proofs.sending.body_at.Goals as goal
 
-pub returns : goal.returns
-returns o c = λ s f. body_is (kept_of c.args.parts.now) s f c.args.fate c.args.place c.unwrap-message.result c.requires.standing (sym c.number_at.ensures ∙ c.unwrap-message.ensures) ∙ c.body.ensures ∙ ap Some (sym c.body_of.ensures)
+pub returns-clause-body : goal.returns-clause-body
+returns-clause-body o c = λ s f. body_is (kept_of c.args.parts.now) s f c.args.fate c.args.place c.unwrap-message.result c.requires.standing (sym c.number_at.ensures ∙ c.unwrap-message.ensures) ∙ c.body.ensures
 
 pub body-requires : goal.body-requires
 body-requires o c =

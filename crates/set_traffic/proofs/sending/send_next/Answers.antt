@@ -10,12 +10,12 @@ use Rattle.set_traffic.proofs.Overtaken.{cleared_order}
 use Rattle.set_traffic.proofs.Traffic.{given, with_body}
 use Rattle.set_traffic.proofs.sending.send_next.Goals as goal
 
-pub body_at-body-requires-clause-holds : goal.body_at-body-requires-clause-holds
-body_at-body-requires-clause-holds o c =
+pub body_at-requires-clause-holds : goal.body_at-requires-clause-holds
+body_at-requires-clause-holds o c =
     (c.clear.new.parts.links.items, subst (λ parts. Holds (record (kept_of parts) { links = c.clear.new.parts.links.items })) (sym c.go_on-choice.ensures.same) c.clear.ensures.holds)
 
-pub body_at-body-requires-in-First-clause-holds : goal.body_at-body-requires-in-First-clause-holds
-body_at-body-requires-in-First-clause-holds o c =
+pub body_at-requires-in-First-clause-holds : goal.body_at-requires-in-First-clause-holds
+body_at-requires-in-First-clause-holds o c =
     (c.clear.new.parts.links.items, subst (λ parts. Holds (record (kept_of parts) { links = c.clear.new.parts.links.items })) (sym c.go_on-choice.ensures.same) c.clear.ensures.holds)
 
 pub returns-in-Again : goal.returns-in-Again
@@ -24,8 +24,8 @@ returns-in-Again o c = λ s a.
     let clear = cleared c.args.number s in
     let cleared_for = c.clear.ensures.stands s a.stands in
     let stands = c.go_on-choice.ensures.stands clear i.link i.there cleared_for in
-    given c.args.number s clear _ i c.go_on-choice.result.0 c.go_on-choice.result.1 _ (c.go_on-choice.ensures.chosen clear i.link i.there cleared_for) (c.go_on-choice.ensures.head clear i.link i.there cleared_for)
-    (rw c.in-Again.is (with_body _ _ c.body_at-body.result (c.body_at-body.ensures _ stands))) (rw c.in-Again.is (rw c.in-Again.is at stands))
+    rw c.set_message.ensures (given c.args.number s clear _ i c.go_on-choice.result.0 c.go_on-choice.result.1 _ (c.go_on-choice.ensures.chosen clear i.link i.there cleared_for) (c.go_on-choice.ensures.head clear i.link i.there cleared_for)
+    (rw c.in-Again.is (with_body _ _ (record { items = c.body_at.result.now }) (c.body_at.ensures.body _ stands))) (rw c.in-Again.is (rw c.in-Again.is at stands)))
 
 pub returns-in-First : goal.returns-in-First
 returns-in-First o c = λ s a.
@@ -35,9 +35,9 @@ returns-in-First o c = λ s a.
     let order = cleared_order c.args.number s (a.sound.links c.args.number i.link i.there).in_order in
     let sent = rw c.unwrap.ensures at c.send.ensures.sent in
     let stands = rw c.in-First.is at (c.go_on-choice.ensures.stands clear i.link i.there cleared_for) in
-    given c.args.number s clear _ i c.go_on-choice.result.0 c.go_on-choice.result.1 _ (c.go_on-choice.ensures.chosen clear i.link i.there cleared_for) (c.go_on-choice.ensures.head clear i.link i.there cleared_for)
-    (rw c.in-First.is (with_body _ _ c.body_at-body-in-First.result (c.body_at-body-in-First.ensures _ stands)))
-    (rw c.in-First.is (becomes (sent_for (kept_of c.go_on-choice.new.parts) (goes_on c.args.number First i.link clear) c.args.number stands order c.go_on-choice.ensures.queue) (grind (arith, sent.lists, sent.messages))))
+    rw c.set_message-in-First.ensures (given c.args.number s clear _ i c.go_on-choice.result.0 c.go_on-choice.result.1 _ (c.go_on-choice.ensures.chosen clear i.link i.there cleared_for) (c.go_on-choice.ensures.head clear i.link i.there cleared_for)
+    (rw c.in-First.is (with_body _ _ (record { items = c.body_at-in-First.result.now }) (c.body_at-in-First.ensures.body _ stands)))
+    (rw c.in-First.is (becomes (sent_for (kept_of c.go_on-choice.new.parts) (goes_on c.args.number First i.link clear) c.args.number stands order c.go_on-choice.ensures.queue) (grind (arith, sent.lists, sent.messages)))))
 
 pub returns-in-Fill : goal.returns-in-Fill
 returns-in-Fill o c = λ s a.
@@ -45,5 +45,5 @@ returns-in-Fill o c = λ s a.
     let clear = cleared c.args.number s in
     let cleared_for = c.clear.ensures.stands s a.stands in
     let stands = c.go_on-choice.ensures.stands clear i.link i.there cleared_for in
-    given c.args.number s clear _ i c.go_on-choice.result.0 c.go_on-choice.result.1 _ (c.go_on-choice.ensures.chosen clear i.link i.there cleared_for) (c.go_on-choice.ensures.head clear i.link i.there cleared_for)
-    (rw c.in-Fill.is refl) (rw c.in-Fill.is (rw c.in-Fill.is at stands))
+    rw c.set_fill_in.ensures (given c.args.number s clear _ i c.go_on-choice.result.0 c.go_on-choice.result.1 _ (c.go_on-choice.ensures.chosen clear i.link i.there cleared_for) (c.go_on-choice.ensures.head clear i.link i.there cleared_for)
+    (rw c.in-Fill.is refl) (rw c.in-Fill.is (rw c.in-Fill.is at stands)))

@@ -1,4 +1,5 @@
 use Rattle.std.proofs.Common.{arith, ◌≡◌, ◌∙◌, ap, ◌<◌, ◌^◌, ◌∷◌, [], ◌++◌, List, subst, sym}
+use Rattle.set_events.specs.Lent.{event_in}
 use Rattle.set_events.specs.declared.history.Entry.{Entry}
 use Rattle.set_model.specs.History.{Base, LinkSet, after, books_of, entries_in, entries_of}
 use Rattle.set_model.specs.Step.{step}
@@ -12,14 +13,14 @@ use Rattle.set_core.proofs.set.SetCore.apply_into.Goals as goal
 use Rattle.set_core.proofs.set.SetCore.apply_into.Goals.{After-push}
 
 abbrev entry : (o : Over) (c : After-push o) → Entry
-entry o c = record { who = c.args.who; event = c.args.event.now; answer = c.apply.new.answer }
+entry o c = record { who = c.args.who; event = event_in c.args.event.now; answer = c.apply.new.reply }
 
 abbrev base : (o : Over) (c : After-push o) → Base
 base o c = c.self.inside.base
 
 -- the entry stands last
 grown : (o : Over) (c : After-push o) → c.push.new.self.items ≡ c.self.inside.history.items ++ entry o c ∷ []
-grown o c = c.push.ensures ∙ ap (λ (xs : List Entry). xs ++ entry o c ∷ []) c.reserve.ensures.same
+grown o c = rw c.get-answer.ensures.value at c.push.ensures ∙ ap (λ (xs : List Entry). xs ++ entry o c ∷ []) c.reserve.ensures.same
 
 -- what is kept agreed with the state after the history, and is answered for
 told : (o : Over) (c : After-push o) → AnswersFor (step (after (base o c).state c.self.inside.history.items) (entry o c).event) (entry o c).answer c.apply.new.self
@@ -30,8 +31,8 @@ kept o c =
     let k = c.self.invariant.0 in
     let same : entries_of (base o c) c.self.inside.history.items ≡ entries_in c.args.self.now = ap (λ (set : LinkSet). entries_in set) c.self.view_is in
     let room : entries_of (base o c) c.self.inside.history.items < 2 ^ 48 = omega (arith, c.if-entries-ge-LONGEST_HISTORY.false, c.entries.ensures.value, same) in
-    subst (λ (entries : List Entry). IsKept (base o c) c.apply.new.self c.count.new.self entries) (sym (grown o c)) (kept_more (base o c) c.self.inside.core c.apply.new.self c.self.inside.history.items (entry o c) c.requires k.agrees (told o c) c.self.inside.tally c.count.new.self k room
-    (record { user_calls = c.count.ensures.user_calls; term_calls = c.count.ensures.term_calls; messages = c.count.ensures.messages; octets = c.count.ensures.octets; entries = c.count.ensures.entries }))
+    subst (λ (entries : List Entry). IsKept (base o c) c.apply.new.self c.count.new.self entries) (sym (grown o c)) (kept_more (base o c) c.self.inside.core c.apply.new.self c.self.inside.history.items (entry o c) c.requires.actor k.agrees (told o c) c.self.inside.tally c.count.new.self k room
+    (record { user_calls = c.count.ensures.user_calls; term_calls = c.count.ensures.term_calls; messages = rw c.get-answer.ensures.value at c.count.ensures.messages; octets = rw c.get-answer.ensures.value at c.count.ensures.octets; entries = c.count.ensures.entries }))
 
 pub apply-requires : goal.apply-requires
 apply-requires o c =
@@ -84,19 +85,19 @@ count-requires-clause-body o c =
     let k = c.self.invariant.0 in
     let s = after c.self.inside.base.state c.self.inside.history.items in
     let told = c.in_ok-apply.ensures.ok s k.agrees in
-    rw told.answer_is (step_gains s c.args.event.now k.agrees.sound.managed).octets
+    rw (c.get-answer.ensures.value, told.answer_is) (step_gains s (event_in c.args.event.now) k.agrees.sound.managed).octets
 
 pub invariant_of-self-2 : goal.invariant_of-self-2
 invariant_of-self-2 o c = (kept o c, c.self.invariant.1)
 
 pub returns-clause-ok : goal.returns-clause-ok
 returns-clause-ok o c =
-    rw (← c.self.view_is, grown o c) (is_step (base o c) c.self.inside.core c.apply.new.self c.self.inside.history.items (entry o c) c.requires c.self.invariant.0.agrees (told o c))
+    rw (← c.self.view_is, grown o c) (is_step (base o c) c.self.inside.core c.apply.new.self c.self.inside.history.items (entry o c) c.requires.actor c.self.invariant.0.agrees (told o c))
 
 pub returns-clause-gains : goal.returns-clause-gains
 returns-clause-gains o c =
     let k = c.self.invariant.0 in
-    rw (← c.self.view_is, grown o c) (gained (base o c) c.self.inside.core c.apply.new.self c.self.inside.history.items (entry o c) c.requires k.agrees (told o c) k.users k.terminals)
+    rw (← c.self.view_is, grown o c) (gained (base o c) c.self.inside.core c.apply.new.self c.self.inside.history.items (entry o c) c.requires.actor k.agrees (told o c) k.users k.terminals)
 
 pub returns-clause-bounded : goal.returns-clause-bounded
 returns-clause-bounded o c = (bounded (base o c) c.apply.new.self c.count.new.self c.push.new.self.items (kept o c))

@@ -1,4 +1,5 @@
-use Rattle.set_history.proofs.Telling.{pushed, pushed_all}
+use Rattle.set_events.specs.Lent.{answer_in, event_in}
+use Rattle.set_history.proofs.Telling.{answer_octets, event_octets, pushed, pushed_all}
 use Rattle.set_history.proofs.history.History.push.Goals as goal
 
 pub invariant_of-self : goal.invariant_of-self
@@ -8,9 +9,11 @@ invariant_of-self o c = rw (
   c.of-2.ensures,
   c.append-2.ensures.items,
   c.append.ensures.items,
-  c.body_in_event.ensures,
-  c.body_in_answer.ensures.value,
-) (pushed_all c.self.inside.records.items c.self.inside.octets.items c.args.who c.args.event.now c.args.answer.now c.self.invariant)
+  c.body.ensures,
+  c.body-2.ensures,
+  event_octets c.args.event.now,
+  answer_octets c.args.answer.now,
+) (pushed_all c.self.inside.records.items c.self.inside.octets.items c.args.who (event_in c.args.event.now) (answer_in c.args.answer.now) c.self.invariant)
 
 pub returns : goal.returns
 returns o c = rw (
@@ -20,6 +23,8 @@ returns o c = rw (
   c.of-2.ensures,
   c.append-2.ensures.items,
   c.append.ensures.items,
-  c.body_in_event.ensures,
-  c.body_in_answer.ensures.value,
-) (pushed c.self.inside.records.items c.self.inside.octets.items c.args.who c.args.event.now c.args.answer.now c.self.invariant)
+  c.body.ensures,
+  c.body-2.ensures,
+  event_octets c.args.event.now,
+  answer_octets c.args.answer.now,
+) (pushed c.self.inside.records.items c.self.inside.octets.items c.args.who (event_in c.args.event.now) (answer_in c.args.answer.now) c.self.invariant)
