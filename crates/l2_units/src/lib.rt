@@ -55,4 +55,4 @@ pub use reading::{UnitFault, body_of, parts_of, read, read_ref, read_wide};
 pub use status::Status;
 pub use timer::TimerOrder;
 pub use unit::{Header, LONGEST_BODY, LONGEST_UNIT, SHORTEST_BODY, Unit};
-pub use writing::{write, write_wide};
+pub use writing::{write, write_ref, write_wide};

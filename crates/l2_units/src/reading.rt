@@ -177,17 +177,7 @@ fn with_field(head: Header, field: &[u8]) -> Unit
     requires { length field.now ≤ 273 }
     ensures { result ≡ unit_with head field.now }
 {
-    match field {
-        [] => Unit::Fisu { head },
-        [first] | [first, _] => Unit::Lssu {
-            head,
-            status: Status::of(*first),
-        },
-        _ => Unit::Msu {
-            head,
-            body: body_of(field),
-        },
-    }
+    lent_with(head, field).unit()
 }
 
 /// The body of a message that has these octets, at most 273.

@@ -1,8 +1,10 @@
 //! A unit to octets.
 ghost use Rattle.std.specs.Prelude.{◌≡◌, ◌+◌, ◌*◌, ◌≤◌, ◌<◌, ◌^◌, ◌++◌, if◌then◌else◌, length};
 ghost use Rattle.l2_units.specs.Profile.{Narrow, Wide};
+ghost use Rattle.l2_units.specs.Lent.{body_in, unit_in};
 ghost use Rattle.l2_units.specs.Grammar.{IsHeadOf, head_of, body_of, text, octets_with, wide_number, four_octets, sequence_octet as octet_of};
 
+use super::lent::UnitRef;
 use super::unit::{Header, LONGEST_UNIT, Unit};
 use arrayvec::ArrayVec;
 
@@ -15,10 +17,21 @@ pub fn write(unit: &Unit) -> ArrayVec<u8, LONGEST_UNIT>
     requires { IsHeadOf Narrow (head_of unit.now) }
     ensures { result.items ≡ text Narrow unit.now }
 {
+    write_ref(&UnitRef::of(unit))
+}
+
+/// The same of a unit whose body stays where it stands.
+///
+/// Conditions: numbers below 128, and a body of at most 273 octets.
+pub fn write_ref(unit: &UnitRef<'_>) -> ArrayVec<u8, LONGEST_UNIT>
+    requires numbers { IsHeadOf Narrow (head_of (unit_in unit.now)) }
+    requires few { length (body_in unit.now) ≤ 273 }
+    ensures { result.items ≡ text Narrow (unit_in unit.now) }
+{
     match unit {
-        Unit::Fisu { head } => with_body(head, &[]),
-        Unit::Lssu { head, status } => with_body(head, &[status.number()]),
-        Unit::Msu { head, body } => with_body(head, body.as_slice()),
+        UnitRef::Fisu { head } => with_body(head, &[]),
+        UnitRef::Lssu { head, status } => with_body(head, &[status.number()]),
+        UnitRef::Msu { head, body } => with_body(head, body),
     }
 }
 
