@@ -4,6 +4,7 @@ ghost use Rattle.std.specs.Prelude.{◌≡◌};
 ghost use Rattle.l2_align.specs.Table.{row as align_row};
 ghost use Rattle.l2_state.specs.Table.{row as state_row};
 ghost use Rattle.l2_flow.specs.Table.{row_of as flow_row};
+ghost use Rattle.set_events.specs.Lent.{answer_in};
 ghost use Rattle.term_model.specs.Machines.{
   aligns,
   controls,
@@ -23,7 +24,7 @@ use l2_flow::FlowIn;
 use l2_monitors::{Aerm, Suerm};
 use l2_state::{StateIn, Switch, Told};
 use l2_units::{Cause, Status, TimerOrder};
-use set_events::Answer;
+use set_events::AnswerRef;
 
 impl Inside {
     /// An input of initial alignment control: what it makes of the terminal, and how alignment ends, if it does, which
@@ -98,10 +99,10 @@ impl Inside {
 
     /// What the set answered to Up: at Done its error control begins anew, from FSN 127; any other answer changes
     /// nothing (own).
-    pub fn rise(&mut self, answer: &Answer)
-        ensures { self.new ≡ risen answer.now self.old }
+    pub fn rise(&mut self, answer: &AnswerRef<'_>)
+        ensures { self.new ≡ risen (answer_in answer.now) self.old }
     {
-        if let Answer::Done = answer {
+        if let AnswerRef::Done = answer {
             self.up = true;
             self.blind = false;
             self.top = 127;

@@ -1,15 +1,16 @@
 //! What is sent: the header of units, and the bits that are left (Q.703 2, 3, 9.3).
 
-ghost use Rattle.std.specs.Prelude.{◌≡◌, ◌<◌, false, length, nat_lt, take, drop, Some};
+ghost use Rattle.std.specs.Prelude.{◌≡◌, ◌≤◌, ◌<◌, false, length, nat_lt, take, drop, Some};
 ghost use Rattle.l2_bits.specs.LineBits.{number_of};
 ghost use Rattle.l2_units.specs.Grammar.{IsHeadOf, head_of};
+ghost use Rattle.l2_units.specs.Lent.{body_in, unit_in};
 ghost use Rattle.l2_units.specs.declared.profile.Profile.TheVariants.{Narrow};
 ghost use Rattle.term_model.specs.Terminal.{last_head as head_before, start_head};
 ghost use Rattle.term_model.specs.Choosing.{raised_top, with_head, withheld};
 ghost use Rattle.term_model.specs.OctetOut.{Appends};
 
 use crate::inside::{Inside, NarrowHead};
-use l2_units::{Header, Unit, copy_of_unit, header_in, write};
+use l2_units::{Header, UnitRef, write_ref};
 
 impl Inside {
     /// A SIB that was due was chosen to be sent.
@@ -51,17 +52,16 @@ impl Inside {
     }
 
     /// Appends a unit to the bits that are left: its octets and their check octets, with zeros inserted, and a flag
-    /// (Q.703 2.2, 3, 4.2). Fewer than eight bits may be left, and its numbers have seven bits.
-    pub fn append(&mut self, unit: &Unit)
+    /// (Q.703 2.2, 3, 4.2). Fewer than eight bits may be left; its numbers have seven bits, and its body at most 273 octets.
+    pub fn append(&mut self, unit: &UnitRef<'_>)
         requires short { length self.old.bits < 8 }
-        requires narrow { IsHeadOf Narrow (head_of unit.now) }
-        ensures on_line { Appends (Some unit.now) self.old.bits self.new.bits }
-        ensures next { self.new ≡ record self.old { bits = self.new.bits; last = Some (head_of unit.now) } }
+        requires narrow { IsHeadOf Narrow (head_of (unit_in unit.now)) }
+        requires few { length (body_in unit.now) ≤ 273 }
+        ensures on_line { Appends (Some (unit_in unit.now)) self.old.bits self.new.bits }
+        ensures next { self.new ≡ record self.old { bits = self.new.bits; last = Some (head_of (unit_in unit.now)) } }
     {
-        self.bits.append(write(unit).as_slice());
-        self.last = Some(NarrowHead {
-            head: header_in(unit),
-        });
+        self.bits.append(write_ref(unit).as_slice());
+        self.last = Some(NarrowHead { head: unit.head() });
     }
 
     /// Whether this end is busy: then it acknowledges nothing new (Q.703 9.3).
@@ -73,9 +73,11 @@ impl Inside {
     }
 
     /// A unit as a busy end sends it: with the acknowledgement of the last unit appended (Q.703 9.3).
-    pub fn withholding(&self, unit: &Unit) -> Unit
-        ensures value { result ≡ with_head (withheld (head_before self.now) (head_of unit.now)) unit.now }
-        ensures narrow { IsHeadOf Narrow (head_of unit.now) → IsHeadOf Narrow (head_of result) }
+    pub fn withholding<'a>(&self, unit: &UnitRef<'a>) -> UnitRef<'a>
+        ensures value { unit_in result ≡ with_head (withheld (head_before self.now) (head_of (unit_in unit.now)))
+            (unit_in unit.now) }
+        ensures narrow { IsHeadOf Narrow (head_of (unit_in unit.now)) → IsHeadOf Narrow (head_of (unit_in result)) }
+        ensures body { body_in result ≡ body_in unit.now }
     {
         with_acknowledgement(self.last_head(), unit)
     }
@@ -111,21 +113,22 @@ pub fn first_header() -> Header
 }
 
 /// A unit with the acknowledgement of another header.
-fn with_acknowledgement(last: Header, unit: &Unit) -> Unit
-    ensures value { result ≡ with_head (withheld last (head_of unit.now)) unit.now }
-    ensures narrow { IsHeadOf Narrow last → IsHeadOf Narrow (head_of unit.now)
-        → IsHeadOf Narrow (head_of result) }
+fn with_acknowledgement<'a>(last: Header, unit: &UnitRef<'a>) -> UnitRef<'a>
+    ensures value { unit_in result ≡ with_head (withheld last (head_of (unit_in unit.now))) (unit_in unit.now) }
+    ensures narrow { IsHeadOf Narrow last → IsHeadOf Narrow (head_of (unit_in unit.now))
+        → IsHeadOf Narrow (head_of (unit_in result)) }
+    ensures body { body_in result ≡ body_in unit.now }
 {
-    match copy_of_unit(unit) {
-        Unit::Fisu { head } => Unit::Fisu {
-            head: hold_bsn(last, head),
+    match unit {
+        UnitRef::Fisu { head } => UnitRef::Fisu {
+            head: hold_bsn(last, *head),
         },
-        Unit::Lssu { head, status } => Unit::Lssu {
-            head: hold_bsn(last, head),
-            status,
+        UnitRef::Lssu { head, status } => UnitRef::Lssu {
+            head: hold_bsn(last, *head),
+            status: *status,
         },
-        Unit::Msu { head, body } => Unit::Msu {
-            head: hold_bsn(last, head),
+        UnitRef::Msu { head, body } => UnitRef::Msu {
+            head: hold_bsn(last, *head),
             body,
         },
     }
