@@ -1,6 +1,5 @@
 -- Step 5 of a turn, as it's carried out.
 use Rattle.std.proofs.Common.{refl, sym, subst, ap, ◌≡◌, ◌∙◌, true, false, nat_lt, length, List, [], ◌∷◌, ◌++◌, Some, None, Result, Ok, Err, if◌then◌else◌}
-use Rattle.std.specs.Result.{IsErrAnd}
 use Rattle.l2_units.specs.declared.unit.Unit.{Unit as SignalUnit}
 use Rattle.l2_units.specs.Grammar.{head_of}
 use Rattle.set_events.specs.declared.answer.Answer.{Answer}
@@ -14,8 +13,8 @@ use Rattle.term_model.specs.Talk.{Talk, done, ask, and_then}
 use Rattle.term_model.specs.Terminal.{Terminal}
 use Rattle.link_term.specs.declared.counts.Filling.{Filling}
 use Rattle.link_term.specs.Filling.{FillsBits, Fills, Taps}
-use Rattle.link_term.specs.Talking.{Gains, Breaks}
-use Rattle.link_term.proofs.Talking.{gains_none, gains_asked, gains_joined, breaks_answered, breaks_at_first, breaks_at_last}
+use Rattle.link_term.specs.Talking.{Gains}
+use Rattle.link_term.proofs.Talking.{gains_none, gains_asked, gains_joined, breaks_at_last}
 
 -- eight bits or more are left
 pub none_chosen : (t : Terminal) (made : List Entry) {T : Type 0} (tells : T → SignalUnit → T → Type 0) (tap tap' : T) → nat_lt (length t.bits) 8 ≡ false
@@ -67,36 +66,22 @@ sends_then talk next (Ok it) made mid made' faults faults_mid faults' t after te
 sends_then talk next (Err fault) made mid made' faults faults_mid faults' t after tells tap tap' first same second =
     (breaks_at_last talk next made mid made' t first second.0, second.1 ∙ ap (λ (fs : List SetFault). fs ++ fault ∷ []) same, second.2)
 
--- an event is asked, and the choice goes on by the answer
-pub asks_then : (event : Event) (more : Answer → Talk Filled) (who : Actor) (answer : Answer) (result : Result Filling SetFault)
-    (made mid made' : List Entry) (faults faults_mid faults' : List SetFault) (after : Terminal)
-    {T : Type 0} (tells : T → SignalUnit → T → Type 0) (tap tap' : T)
-    → mid ≡ made ++ record { who = who; event = event; answer = answer } ∷ [] → faults_mid ≡ faults
-    → Fills (more answer) result mid made' faults_mid faults' after tells tap tap'
-    → Fills (ask event more) result made made' faults faults' after tells tap tap'
-asks_then event more who answer (Ok it) made mid made' faults faults_mid faults' after tells tap tap' is same fills = (
-  record {
-    chosen = fills.0.chosen;
-    gains = gains_asked event more who answer made mid made' fills.0.chosen is fills.0.gains;
-    appends = fills.0.appends;
-    after_is = fills.0.after_is;
-    filling_is = fills.0.filling_is;
-    unchanged = fills.0.unchanged;
-    told = fills.0.told;
-    untold = fills.0.untold;
-  },
-  fills.1 ∙ same,
-)
-asks_then event more who answer (Err fault) made mid made' faults faults_mid faults' after tells tap tap' is same fills =
-    (breaks_answered event more who answer made mid made' is fills.0, fills.1 ∙ ap (λ (fs : List SetFault). fs ++ fault ∷ []) same, fills.2)
-
--- the call that answers a fault of the door tells that one
-pub fills_broken : (talk : Talk Filled) (result : Result Filling SetFault) (fault : SetFault) (made made' : List Entry)
-    (faults faults' : List SetFault) (after : Terminal) {T : Type 0} (tells : T → SignalUnit → T → Type 0) (tap tap' : T) → IsErrAnd result (λ e. e ≡ fault)
-    → Breaks talk made made' → faults' ≡ faults ++ fault ∷ [] → Taps tells None tap tap' → Fills talk result made made' faults faults' after tells tap tap'
-fills_broken talk (Ok it) fault made made' faults faults' after tells tap tap' is broke told none = absurd is
-fills_broken talk (Err other) fault made made' faults faults' after tells tap tap' is broke told none =
-    (broke, told ∙ ap (λ (f : SetFault). faults ++ f ∷ []) (sym is), none)
+-- an event is asked, and the choice is made by the answer
+pub asked_first : (event : Event) (more : Answer → Talk Filled) (who : Actor) (answer : Answer) (filling : Filling)
+    (made mid made' : List Entry) (after : Terminal) {T : Type 0} (tells : T → SignalUnit → T → Type 0) (tap tap' : T)
+    → mid ≡ made ++ record { who = who; event = event; answer = answer } ∷ []
+    → FillsBits (more answer) filling mid made' after tells tap tap'
+    → FillsBits (ask event more) filling made made' after tells tap tap'
+asked_first event more who answer filling made mid made' after tells tap tap' is fills = record {
+  chosen = fills.chosen;
+  gains = gains_asked event more who answer made mid made' fills.chosen is fills.gains;
+  appends = fills.appends;
+  after_is = fills.after_is;
+  filling_is = fills.filling_is;
+  unchanged = fills.unchanged;
+  told = fills.told;
+  untold = fills.untold;
+}
 
 -- a choice that comes to this one
 pub as_chosen : (talk choice : Talk Filled) (filling : Filling) (made made' : List Entry) (after : Terminal)
@@ -126,17 +111,12 @@ given_wide unit t made tells tap tap' wide none =
     subst (λ b. FillsBits (if b then and_then (counts_sent unit t) (λ t. sends (held_back t unit) t) else done (record { unit = None; narrow = false; after = t })) Filling.Wide made made t tells tap tap')
     (sym wide) (wide_given t made tells tap tap' none)
 
-pub given_narrow : (unit : SignalUnit) (t after : Terminal) (made made' : List Entry) {T : Type 0} (tells : T → SignalUnit → T → Type 0) (tap tap' : T)
-    → is_narrow (head_of unit) ≡ true
-    → FillsBits (and_then (counts_sent unit t) (λ t. sends (held_back t unit) t)) Filling.Chosen made made' after tells tap tap'
+-- any other is counted, and appended
+pub given_narrow : (unit : SignalUnit) (t counted after : Terminal) (made made' : List Entry) {T : Type 0} (tells : T → SignalUnit → T → Type 0) (tap tap' : T)
+    → is_narrow (head_of unit) ≡ true → counts_sent unit t ≡ done counted
+    → FillsBits (sends (held_back counted unit) counted) Filling.Chosen made made' after tells tap tap'
     → FillsBits (given unit t) Filling.Chosen made made' after tells tap tap'
-given_narrow unit t after made made' tells tap tap' narrow fills =
+given_narrow unit t counted after made made' tells tap tap' narrow is fills =
     subst (λ b. FillsBits (if b then and_then (counts_sent unit t) (λ t. sends (held_back t unit) t) else done (record { unit = None; narrow = false; after = t })) Filling.Chosen made made' after tells tap tap')
-    (sym narrow) fills
-
--- a message breaks off where it's counted
-pub given_broken : (unit : SignalUnit) (t : Terminal) (made made' : List Entry) → is_narrow (head_of unit) ≡ true
-    → Breaks (counts_sent unit t) made made' → Breaks (given unit t) made made'
-given_broken unit t made made' narrow broke =
-    subst (λ b. Breaks (if b then and_then (counts_sent unit t) (λ t. sends (held_back t unit) t) else done (record { unit = None; narrow = false; after = t })) made made')
-    (sym narrow) (breaks_at_first (counts_sent unit t) (λ t. sends (held_back t unit) t) made made' broke)
+    (sym narrow)
+    (subst (λ talk. FillsBits (and_then talk (λ t. sends (held_back t unit) t)) Filling.Chosen made made' after tells tap tap') (sym is) fills)

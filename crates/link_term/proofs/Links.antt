@@ -1,7 +1,9 @@
 -- No input of a machine changes which link a terminal is of.
-use Rattle.std.proofs.Common.{refl, ◌≡◌, ◌∙◌, ℕ, Bool, Option, Some, None}
+use Rattle.std.proofs.Common.{refl, ap, ◌≡◌, ◌∙◌, ℕ, Bool, true, false, Option, Some, None}
 use Rattle.l2_monitors.specs.Suerm.{Kept}
 use Rattle.l2_align.specs.declared.align.State.{State as AlignState}
+use Rattle.l2_flow.specs.declared.input.FlowIn.{FlowIn}
+use Rattle.l2_flow.specs.Table.{row as flow_row}
 use Rattle.l2_state.specs.declared.link_state.State.{State}
 use Rattle.l2_state.specs.declared.signals.StateIn.{StateIn}
 use Rattle.l2_state.specs.declared.signals.Switch.{Switch}
@@ -9,7 +11,8 @@ use Rattle.l2_state.specs.declared.signals.Told.{Told}
 use Rattle.l2_state.specs.Table.{row as state_row}
 use Rattle.set_events.specs.declared.answer.Answer.{Answer}
 use Rattle.term_core.specs.Judging.{by_aerm, by_suerm, in_state, while_aligning, judgement}
-use Rattle.term_model.specs.Machines.{switched, after_state, risen, fallen_if, stops_quietly}
+use Rattle.term_model.specs.Machines.{switched, after_state, risen, fallen_if, stops_quietly, controls, fails, flow_in}
+use Rattle.term_model.specs.Talk.{done}
 use Rattle.term_model.specs.Terminal.{Terminal}
 
 switched_link : (switch : Option Switch) (t : Terminal) → (switched switch t).link ≡ t.link
@@ -76,3 +79,19 @@ fallen_bits (Some (Told.Down cause)) t = refl
 
 pub quiet_bits : (t : Terminal) → (stops_quietly t).bits ≡ t.bits
 quiet_bits t = fallen_bits (state_row t.state StateIn.Stop).out.told (after_state StateIn.Stop t) ∙ state_bits StateIn.Stop t
+
+-- that a message is sent is no failure (Q.703 9.3): flow control asks nothing of the set
+
+sent_fails : (busy far t7 : Bool) → (flow_row busy far t7 FlowIn.Sent).out.failure ≡ None
+sent_fails true true true = refl
+sent_fails true true false = refl
+sent_fails true false true = refl
+sent_fails true false false = refl
+sent_fails false true true = refl
+sent_fails false true false = refl
+sent_fails false false true = refl
+sent_fails false false false = refl
+
+pub sent_asks_nothing : (t : Terminal) → flow_in FlowIn.Sent t ≡ done (controls FlowIn.Sent t)
+sent_asks_nothing t =
+    ap (λ failure. fails failure (controls FlowIn.Sent t)) (sent_fails t.flow.busy t.flow.far_busy t.flow.t7_runs)

@@ -1,23 +1,26 @@
 //! What a terminal sends next (Q.703 11.2, 12.1).
-ghost use Rattle.std.specs.Prelude.{◌≡◌, ◌<◌, List, length, IfOk, IsTrue};
+ghost use Rattle.std.specs.Prelude.{◌≡◌, ◌≤◌, ◌<◌, List, [], length, IfOk, IsTrue};
 ghost use Rattle.l2_units.specs.declared.profile.Profile.TheVariants.{Narrow};
 ghost use Rattle.l2_units.specs.declared.unit.Unit.TheVariants.{Fisu as FisuUnit};
 ghost use Rattle.l2_units.specs.Grammar.{IsHeadOf, head_of};
+ghost use Rattle.l2_units.specs.Lent.{body_in, unit_in};
 ghost use Rattle.link_term.specs.declared.counts.Filling.TheVariants.{Chosen};
 ghost use Rattle.link_term.specs.Filling.{next_asked, served, Fills, FillsBits};
 ghost use Rattle.link_term.specs.Talking.{Talks};
+ghost use Rattle.set_events.specs.Lent.{answer_in, body_in as body_of_answer};
 ghost use Rattle.set_events.specs.declared.history.Entry.{Entry};
 ghost use Rattle.term_model.specs.Choosing.{chosen, counts_sent, filled, given, held_back, is_narrow, sends, sends_fisu, sends_status, sent_by, serves, up_first};
+ghost use Rattle.term_model.specs.Talk.{done};
 ghost use Rattle.term_model.specs.Terminal.{start_head};
 
 use super::counts::Filling;
 use super::door::Door;
-use super::machines::{ask_up, input_flow};
+use super::machines::ask_up;
 use super::tap::Tap;
 use l2_flow::FlowIn;
 use l2_state::State;
-use l2_units::{Status, Unit, header_in};
-use set_events::{Answer, Event, Refusal, SetFault};
+use l2_units::{Status, UnitRef};
+use set_events::{AnswerRef, EventRef, Refusal, Reply, SetFault};
 use term_core::{Inside, first_header};
 
 /// Where fewer than eight bits are left to send, a unit is chosen and appended, unless the set gives one of the wide
@@ -25,6 +28,7 @@ use term_core::{Inside, first_header};
 pub(crate) fn fill<D: Door, T: Tap>(
     inside: &mut Inside,
     door: &mut D,
+    reply: &mut Reply,
     tap: &mut T,
 ) -> Result<Filling, SetFault>
     requires { D.number door.old ≡ inside.old.link }
@@ -38,13 +42,14 @@ pub(crate) fn fill<D: Door, T: Tap>(
     if !inside.is_short() {
         return Ok(Filling::Enough);
     }
-    choose(inside, door, tap)
+    choose(inside, door, reply, tap)
 }
 
 /// A unit is chosen, by where the link stands (Q.703 7.2, 12.1), and appended.
 fn choose<D: Door, T: Tap>(
     inside: &mut Inside,
     door: &mut D,
+    reply: &mut Reply,
     tap: &mut T,
 ) -> Result<Filling, SetFault>
     requires at { D.number door.old ≡ inside.old.link }
@@ -63,16 +68,17 @@ fn choose<D: Door, T: Tap>(
             send_status(inside, status, tap);
         }
         State::Ready => send_own(inside, &start_fisu(), tap),
-        State::InService { paused } => return serve(inside, door, paused, tap),
+        State::InService { paused } => return serve(inside, door, reply, paused, tap),
     }
     Ok(Filling::Chosen)
 }
 
 /// A unit that the set wasn't asked for is appended.
-fn send_own<T: Tap>(inside: &mut Inside, unit: &Unit, tap: &mut T)
+fn send_own<T: Tap>(inside: &mut Inside, unit: &UnitRef<'_>, tap: &mut T)
     requires short { length inside.old.bits < 8 }
-    requires narrow { IsHeadOf Narrow (head_of unit.now) }
-    ensures sends { (made : List Entry) → FillsBits (sends unit.now inside.old) Chosen made made inside.new
+    requires narrow { IsHeadOf Narrow (head_of (unit_in unit.now)) }
+    requires few { length (body_in unit.now) ≤ 273 }
+    ensures sends { (made : List Entry) → FillsBits (sends (unit_in unit.now) inside.old) Chosen made made inside.new
         T.told tap.old tap.new }
     ensures link { inside.new.link ≡ inside.old.link }
 {
@@ -87,7 +93,7 @@ fn send_status<T: Tap>(inside: &mut Inside, status: Status, tap: &mut T)
         T.told tap.old tap.new }
     ensures link { inside.new.link ≡ inside.old.link }
 {
-    let unit = Unit::Lssu {
+    let unit = UnitRef::Lssu {
         head: inside.last_head(),
         status,
     };
@@ -101,18 +107,19 @@ fn send_fisu<T: Tap>(inside: &mut Inside, tap: &mut T)
         T.told tap.old tap.new }
     ensures link { inside.new.link ≡ inside.old.link }
 {
-    let unit = Unit::Fisu {
+    let unit = UnitRef::Fisu {
         head: inside.last_head(),
     };
     send_own(inside, &unit, tap);
 }
 
 /// The FISU of a link on which nothing was sent or accepted (Q.703 12.1).
-fn start_fisu() -> Unit
-    ensures value { result ≡ FisuUnit start_head }
-    ensures narrow { IsHeadOf Narrow (head_of result) }
+fn start_fisu() -> UnitRef<'static>
+    ensures value { unit_in result ≡ FisuUnit start_head }
+    ensures narrow { IsHeadOf Narrow (head_of (unit_in result)) }
+    ensures empty { body_in result ≡ [] }
 {
-    Unit::Fisu {
+    UnitRef::Fisu {
         head: first_header(),
     }
 }
@@ -121,6 +128,7 @@ fn start_fisu() -> Unit
 fn serve<D: Door, T: Tap>(
     inside: &mut Inside,
     door: &mut D,
+    reply: &mut Reply,
     paused: bool,
     tap: &mut T,
 ) -> Result<Filling, SetFault>
@@ -134,7 +142,7 @@ fn serve<D: Door, T: Tap>(
     ensures door { D.is_same door.old door.new }
 {
     ask_up_first(inside, door)?;
-    serve_up(inside, door, paused, tap)
+    serve_up(inside, door, reply, paused, tap)
 }
 
 /// The set is asked for Up, unless it has said Done.
@@ -158,6 +166,7 @@ fn ask_up_first<D: Door>(inside: &mut Inside, door: &mut D) -> Result<(), SetFau
 fn serve_up<D: Door, T: Tap>(
     inside: &mut Inside,
     door: &mut D,
+    reply: &mut Reply,
     paused: bool,
     tap: &mut T,
 ) -> Result<Filling, SetFault>
@@ -183,13 +192,14 @@ fn serve_up<D: Door, T: Tap>(
         send_fisu(inside, tap);
         return Ok(Filling::Chosen);
     }
-    ask_next(inside, door, tap)
+    ask_next(inside, door, reply, tap)
 }
 
 /// The set is asked for the next unit.
 fn ask_next<D: Door, T: Tap>(
     inside: &mut Inside,
     door: &mut D,
+    reply: &mut Reply,
     tap: &mut T,
 ) -> Result<Filling, SetFault>
     requires at { D.number door.old ≡ inside.old.link }
@@ -202,34 +212,23 @@ fn ask_next<D: Door, T: Tap>(
     ensures door { D.is_same door.old door.new }
 {
     let link = inside.link();
-    // an answer has room for a unit, so it's looked at where it is
-    match &door.step(&Event::Next { link }) {
-        Ok(answer) => send(inside, door, answer, tap),
-        Err(fault) => Err(*fault),
-    }
+    door.step(&EventRef::Next { link }, reply)?;
+    Ok(send(inside, &reply.get(), tap))
 }
 
 /// What the set answers to Next: a unit; that the link isn't up there, so that it's stopped here, and SIOS goes out; or
 /// anything else, as if paused (own).
 #[tactic(auto, using(crate::proofs::Links::quiet_link, crate::proofs::Links::quiet_bits))]
-fn send<D: Door, T: Tap>(
-    inside: &mut Inside,
-    door: &mut D,
-    answer: &Answer,
-    tap: &mut T,
-) -> Result<Filling, SetFault>
-    requires at { D.number door.old ≡ inside.old.link }
+fn send<T: Tap>(inside: &mut Inside, answer: &AnswerRef<'_>, tap: &mut T) -> Filling
     requires short { length inside.old.bits < 8 }
-    ensures sends { Fills (sent_by answer.now inside.old) result (D.made door.old) (D.made door.new)
-        (D.faults door.old) (D.faults door.new) inside.new
+    requires few { length (body_of_answer answer.now) ≤ 273 }
+    ensures sends { (made : List Entry) → FillsBits (sent_by (answer_in answer.now) inside.old) result made made inside.new
         T.told tap.old tap.new }
-    ensures at { D.number door.new ≡ inside.new.link }
-    ensures number { D.number door.new ≡ D.number door.old }
-    ensures door { D.is_same door.old door.new }
+    ensures link { inside.new.link ≡ inside.old.link }
 {
     match answer {
-        Answer::Sent { unit } => return send_given(inside, door, unit, tap),
-        Answer::Refused {
+        AnswerRef::Sent { unit } => return send_given(inside, unit, tap),
+        AnswerRef::Refused {
             why: Refusal::NotUp,
         } => {
             inside.stop_quietly();
@@ -237,38 +236,31 @@ fn send<D: Door, T: Tap>(
         }
         _ => send_fisu(inside, tap),
     }
-    Ok(Filling::Chosen)
+    Filling::Chosen
 }
 
 /// A unit that the set gives, as it's sent (Q.703 5.2, 9.3); one of the wide profile isn't, and changes nothing here.
-fn send_given<D: Door, T: Tap>(
-    inside: &mut Inside,
-    door: &mut D,
-    unit: &Unit,
-    tap: &mut T,
-) -> Result<Filling, SetFault>
-    requires at { D.number door.old ≡ inside.old.link }
+fn send_given<T: Tap>(inside: &mut Inside, unit: &UnitRef<'_>, tap: &mut T) -> Filling
     requires short { length inside.old.bits < 8 }
-    ensures sends { Fills (given unit.now inside.old) result (D.made door.old)
-        (D.made door.new) (D.faults door.old) (D.faults door.new) inside.new
+    requires few { length (body_in unit.now) ≤ 273 }
+    ensures sends { (made : List Entry) → FillsBits (given (unit_in unit.now) inside.old) result made made inside.new
         T.told tap.old tap.new }
-    ensures at { D.number door.new ≡ inside.new.link }
-    ensures number { D.number door.new ≡ D.number door.old }
-    ensures door { D.is_same door.old door.new }
+    ensures link { inside.new.link ≡ inside.old.link }
 {
     if !has_narrow_numbers(unit) {
-        return Ok(Filling::Wide);
+        return Filling::Wide;
     }
-    count_sent(inside, door, unit)?;
+    count_sent(inside, unit);
     send_held(inside, unit, tap);
-    Ok(Filling::Chosen)
+    Filling::Chosen
 }
 
 /// A unit that the set gives is appended: while this end is busy it acknowledges nothing new (Q.703 9.3).
-fn send_held<T: Tap>(inside: &mut Inside, unit: &Unit, tap: &mut T)
+fn send_held<T: Tap>(inside: &mut Inside, unit: &UnitRef<'_>, tap: &mut T)
     requires short { length inside.old.bits < 8 }
-    requires narrow { IsHeadOf Narrow (head_of unit.now) }
-    ensures sends { (made : List Entry) → FillsBits (sends (held_back inside.old unit.now) inside.old) Chosen
+    requires narrow { IsHeadOf Narrow (head_of (unit_in unit.now)) }
+    requires few { length (body_in unit.now) ≤ 273 }
+    ensures sends { (made : List Entry) → FillsBits (sends (held_back inside.old (unit_in unit.now)) inside.old) Chosen
         made made inside.new T.told tap.old tap.new }
     ensures link { inside.new.link ≡ inside.old.link }
 {
@@ -280,29 +272,24 @@ fn send_held<T: Tap>(inside: &mut Inside, unit: &Unit, tap: &mut T)
 }
 
 /// Whether the unit's numbers have seven bits, as those of a terminal's line have.
-fn has_narrow_numbers(unit: &Unit) -> bool
-    ensures value { result ≡ is_narrow (head_of unit.now) }
-    ensures range { IsTrue result → IsHeadOf Narrow (head_of unit.now) }
+fn has_narrow_numbers(unit: &UnitRef<'_>) -> bool
+    ensures value { result ≡ is_narrow (head_of (unit_in unit.now)) }
+    ensures range { IsTrue result → IsHeadOf Narrow (head_of (unit_in unit.now)) }
 {
-    let head = header_in(unit);
+    let head = unit.head();
     head.bsn < 128 && head.fsn < 128
 }
 
-/// T7 runs from the first message on that isn't acknowledged (Q.703 9.3).
-fn count_sent<D: Door>(inside: &mut Inside, door: &mut D, unit: &Unit) -> Result<(), SetFault>
-    requires { D.number door.old ≡ inside.old.link }
-    ensures talks { Talks (counts_sent unit.now inside.old) result (D.made door.old)
-        (D.made door.new) (D.faults door.old) (D.faults door.new) inside.new }
-    ensures at { D.number door.new ≡ inside.new.link }
-    ensures number { D.number door.new ≡ D.number door.old }
-    ensures door { D.is_same door.old door.new }
-    ensures bits { IfOk result (λ done. inside.new.bits ≡ inside.old.bits) }
+/// T7 runs from the first message on that isn't acknowledged (Q.703 9.3). Nothing is asked of the set: that a message is
+/// sent is no failure.
+#[tactic(auto, using(crate::proofs::Links::sent_asks_nothing))]
+fn count_sent(inside: &mut Inside, unit: &UnitRef<'_>)
+    ensures counts { counts_sent (unit_in unit.now) inside.old ≡ done inside.new }
+    ensures link { inside.new.link ≡ inside.old.link }
+    ensures bits { inside.new.bits ≡ inside.old.bits }
 {
-    match unit {
-        Unit::Msu { head, .. } => {
-            inside.raise_top(head.fsn);
-            input_flow(inside, door, FlowIn::Sent)
-        }
-        Unit::Fisu { .. } | Unit::Lssu { .. } => Ok(()),
+    if let UnitRef::Msu { head, .. } = unit {
+        inside.raise_top(head.fsn);
+        inside.control(FlowIn::Sent);
     }
 }

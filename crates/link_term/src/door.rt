@@ -1,9 +1,10 @@
 //! What a terminal asks of its link's set, and where tests may step in.
-ghost use Rattle.std.specs.Prelude.{◌≡◌, [], ◌∷◌, ◌++◌, IfOk, IfErr};
+ghost use Rattle.std.specs.Prelude.{◌≡◌, [], ◌∷◌, ◌++◌, IfErr, OnOk};
+ghost use Rattle.set_events.specs.Lent.{HasFitUnit, event_in};
 ghost use Rattle.set_events.specs.Owners.{IsOwn};
 ghost use Rattle.set_events.specs.declared.event.Actor.TheVariants.{Terminal};
 
-use set_events::{Answer, Event, SetFault};
+use set_events::{EventRef, Reply, SetFault};
 
 /// The door of a link's set, for the terminal of that link.
 pub trait Door {
@@ -27,14 +28,16 @@ pub trait Door {
     fn link(&self) -> u8
         ensures { result ≡ number self.now };
 
-    /// One step of the link's terminal at the set: what the set answers. The event is one of that terminal: Next, Heard,
-    /// Up, Down, DownBlind, NoAnswer, Restore or BackTimeout, on its own link.
+    /// One step of the link's terminal at the set: what the set answers is put into the reply. The event is one of that
+    /// terminal: Next, Heard, Up, Down, DownBlind, NoAnswer, Restore or BackTimeout, on its own link; a heard unit has a
+    /// body of at most 273 octets.
     ///
-    /// Faults: 2 [`SetFault::Exhausted`], 1 [`SetFault::NoMemory`]. No entry was made then.
-    fn step(&mut self, event: &Event) -> Result<Answer, SetFault>
-        requires { IsOwn (Terminal (number self.old)) event.now }
-        ensures ok { IfOk result (λ answer. (made self.new ≡ made self.old
-            ++ record { who = Terminal (number self.old); event = event.now; answer = answer } ∷ [])
+    /// Faults: 2 [`SetFault::Exhausted`], 1 [`SetFault::NoMemory`]. No entry was made then, and the reply says nothing.
+    fn step(&mut self, event: &EventRef<'_>, reply: &mut Reply) -> Result<(), SetFault>
+        requires own { IsOwn (Terminal (number self.old)) (event_in event.now) }
+        requires fits { HasFitUnit event.now }
+        ensures ok { OnOk result ((made self.new ≡ made self.old
+            ++ record { who = Terminal (number self.old); event = event_in event.now; answer = reply.new } ∷ [])
             × (faults self.new ≡ faults self.old)) }
         ensures err { IfErr result (λ fault. (made self.new ≡ made self.old)
             × (faults self.new ≡ faults self.old ++ fault ∷ [])) }

@@ -1,8 +1,10 @@
 //! What a terminal does with a mark of the line: the monitors, the machines, the set (Q.703 5 to 10).
-ghost use Rattle.std.specs.Prelude.{◌≡◌, Some, None};
+ghost use Rattle.std.specs.Prelude.{◌≡◌, ◌≤◌, Some, None, length};
 ghost use Rattle.l2_bits.specs.Deframing.{marked as mark_of};
+ghost use Rattle.l2_units.specs.Lent.{body_in, unit_in};
 ghost use Rattle.link_term.specs.Reading.{brings, status_heard, report_heard, told_heard};
 ghost use Rattle.link_term.specs.Talking.{Talks};
+ghost use Rattle.set_events.specs.Lent.{answer_in};
 ghost use Rattle.term_model.specs.Hearing.{
   marked,
   judged,
@@ -21,8 +23,8 @@ use l2_align::AlignIn;
 use l2_bits::MarkKind;
 use l2_flow::FlowIn;
 use l2_state::StateIn;
-use l2_units::{Cause, ControlFault, Status, Unit, copy_of_unit, header_in, read};
-use set_events::{Answer, Event, Refusal, Report, SetFault};
+use l2_units::{Cause, ControlFault, Status, UnitRef, read_ref};
+use set_events::{AnswerRef, EventRef, Refusal, Reply, Report, SetFault};
 use term_core::{Inside, Verdict};
 
 /// A mark of this kind, of these octets where it's a good unit: the monitor that runs is told, and then a unit that is
@@ -30,6 +32,7 @@ use term_core::{Inside, Verdict};
 pub(crate) fn mark<D: Door>(
     inside: &mut Inside,
     door: &mut D,
+    reply: &mut Reply,
     kind: MarkKind,
     octets: &[u8],
 ) -> Result<(), SetFault>
@@ -41,8 +44,8 @@ pub(crate) fn mark<D: Door>(
     ensures door { D.is_same door.old door.new }
 {
     match kind {
-        MarkKind::Good => match &read(octets) {
-            Ok(unit) => readable(inside, door, unit),
+        MarkKind::Good => match read_ref(octets) {
+            Ok(unit) => readable(inside, door, reply, &unit),
             Err(_) => damaged(inside, door),
         },
         MarkKind::Bad | MarkKind::Sixteen => damaged(inside, door),
@@ -62,16 +65,22 @@ fn damaged<D: Door>(inside: &mut Inside, door: &mut D) -> Result<(), SetFault>
 }
 
 /// A mark that brings this unit is no error, and the unit is heard.
-fn readable<D: Door>(inside: &mut Inside, door: &mut D, unit: &Unit) -> Result<(), SetFault>
-    requires { D.number door.old ≡ inside.old.link }
-    ensures talks { Talks (brings (Some unit.now) inside.old) result (D.made door.old) (D.made door.new)
+fn readable<D: Door>(
+    inside: &mut Inside,
+    door: &mut D,
+    reply: &mut Reply,
+    unit: &UnitRef<'_>,
+) -> Result<(), SetFault>
+    requires at { D.number door.old ≡ inside.old.link }
+    requires few { length (body_in unit.now) ≤ 273 }
+    ensures talks { Talks (brings (Some (unit_in unit.now)) inside.old) result (D.made door.old) (D.made door.new)
         (D.faults door.old) (D.faults door.new) inside.new }
     ensures at { D.number door.new ≡ inside.new.link }
     ensures number { D.number door.new ≡ D.number door.old }
     ensures door { D.is_same door.old door.new }
 {
     judge(inside, door, false)?;
-    hear(inside, door, unit)
+    hear(inside, door, reply, unit)
 }
 
 /// The monitor that runs is told of a mark, an error or not (Q.703 10).
@@ -93,9 +102,15 @@ fn judge<D: Door>(inside: &mut Inside, door: &mut D, error: bool) -> Result<(), 
 
 /// A unit that is readable: a proving that was aborted may begin anew before the machines hear it (Q.703 7.3), and the
 /// set hears it where the link is up there after that.
-fn hear<D: Door>(inside: &mut Inside, door: &mut D, unit: &Unit) -> Result<(), SetFault>
-    requires { D.number door.old ≡ inside.old.link }
-    ensures talks { Talks (heard (Some unit.now) inside.old) result (D.made door.old) (D.made door.new)
+fn hear<D: Door>(
+    inside: &mut Inside,
+    door: &mut D,
+    reply: &mut Reply,
+    unit: &UnitRef<'_>,
+) -> Result<(), SetFault>
+    requires at { D.number door.old ≡ inside.old.link }
+    requires few { length (body_in unit.now) ≤ 273 }
+    ensures talks { Talks (heard (Some (unit_in unit.now)) inside.old) result (D.made door.old) (D.made door.new)
         (D.faults door.old) (D.faults door.new) inside.new }
     ensures at { D.number door.new ≡ inside.new.link }
     ensures number { D.number door.new ≡ D.number door.old }
@@ -103,22 +118,26 @@ fn hear<D: Door>(inside: &mut Inside, door: &mut D, unit: &Unit) -> Result<(), S
 {
     input_align(inside, door, AlignIn::Good)?;
     tell_machines(inside, door, unit)?;
-    tell_set(inside, door, unit)
+    tell_set(inside, door, reply, unit)
 }
 
 /// The machines hear a unit (Q.703 7.3, 8.2, 9.3, 11.1).
-fn tell_machines<D: Door>(inside: &mut Inside, door: &mut D, unit: &Unit) -> Result<(), SetFault>
+fn tell_machines<D: Door>(
+    inside: &mut Inside,
+    door: &mut D,
+    unit: &UnitRef<'_>,
+) -> Result<(), SetFault>
     requires { D.number door.old ≡ inside.old.link }
-    ensures talks { Talks (machines_hear unit.now inside.old) result (D.made door.old)
+    ensures talks { Talks (machines_hear (unit_in unit.now) inside.old) result (D.made door.old)
         (D.made door.new) (D.faults door.old) (D.faults door.new) inside.new }
     ensures at { D.number door.new ≡ inside.new.link }
     ensures number { D.number door.new ≡ D.number door.old }
     ensures door { D.is_same door.old door.new }
 {
     match unit {
-        Unit::Fisu { .. } => input_state(inside, door, StateIn::Fisu),
-        Unit::Lssu { status, .. } => hear_status(inside, door, *status),
-        Unit::Msu { .. } => input_state(inside, door, StateIn::Msu),
+        UnitRef::Fisu { .. } => input_state(inside, door, StateIn::Fisu),
+        UnitRef::Lssu { status, .. } => hear_status(inside, door, *status),
+        UnitRef::Msu { .. } => input_state(inside, door, StateIn::Msu),
     }
 }
 
@@ -152,37 +171,47 @@ fn tell_flow<D: Door>(inside: &mut Inside, door: &mut D, status: Status) -> Resu
 }
 
 /// The set hears a unit of any kind, where the link is up there (Q.703 5, 6).
-fn tell_set<D: Door>(inside: &mut Inside, door: &mut D, unit: &Unit) -> Result<(), SetFault>
-    requires { D.number door.old ≡ inside.old.link }
-    ensures talks { Talks (set_hears unit.now inside.old) result (D.made door.old) (D.made door.new)
+fn tell_set<D: Door>(
+    inside: &mut Inside,
+    door: &mut D,
+    reply: &mut Reply,
+    unit: &UnitRef<'_>,
+) -> Result<(), SetFault>
+    requires at { D.number door.old ≡ inside.old.link }
+    requires few { length (body_in unit.now) ≤ 273 }
+    ensures talks { Talks (set_hears (unit_in unit.now) inside.old) result (D.made door.old) (D.made door.new)
         (D.faults door.old) (D.faults door.new) inside.new }
     ensures at { D.number door.new ≡ inside.new.link }
     ensures number { D.number door.new ≡ D.number door.old }
     ensures door { D.is_same door.old door.new }
 {
     if inside.is_up() {
-        return tell_heard(inside, door, unit);
+        return tell_heard(inside, door, reply, unit);
     }
     Ok(())
 }
 
 /// The set hears a unit, and its answer is obeyed.
-fn tell_heard<D: Door>(inside: &mut Inside, door: &mut D, unit: &Unit) -> Result<(), SetFault>
-    requires { D.number door.old ≡ inside.old.link }
-    ensures talks { Talks (told_heard unit.now inside.old) result (D.made door.old) (D.made door.new)
+fn tell_heard<D: Door>(
+    inside: &mut Inside,
+    door: &mut D,
+    reply: &mut Reply,
+    unit: &UnitRef<'_>,
+) -> Result<(), SetFault>
+    requires at { D.number door.old ≡ inside.old.link }
+    requires few { length (body_in unit.now) ≤ 273 }
+    ensures talks { Talks (told_heard (unit_in unit.now) inside.old) result (D.made door.old) (D.made door.new)
         (D.faults door.old) (D.faults door.new) inside.new }
     ensures at { D.number door.new ≡ inside.new.link }
     ensures number { D.number door.new ≡ D.number door.old }
     ensures door { D.is_same door.old door.new }
 {
-    let event = Event::Heard {
+    let event = EventRef::Heard {
         link: inside.link(),
-        unit: copy_of_unit(unit),
+        unit: *unit,
     };
-    match &door.step(&event) {
-        Ok(answer) => report(inside, door, answer, header_in(unit).bsn),
-        Err(fault) => Err(*fault),
-    }
+    door.step(&event, reply)?;
+    report(inside, door, &reply.get(), unit.head().bsn)
 }
 
 /// What the set answers to a unit with this BSN: its report; that the link isn't up there, so that it's stopped here;
@@ -191,19 +220,19 @@ fn tell_heard<D: Door>(inside: &mut Inside, door: &mut D, unit: &Unit) -> Result
 fn report<D: Door>(
     inside: &mut Inside,
     door: &mut D,
-    answer: &Answer,
+    answer: &AnswerRef<'_>,
     bsn: u16,
 ) -> Result<(), SetFault>
     requires { D.number door.old ≡ inside.old.link }
-    ensures talks { Talks (reported answer.now bsn inside.old) result (D.made door.old)
+    ensures talks { Talks (reported (answer_in answer.now) bsn inside.old) result (D.made door.old)
         (D.made door.new) (D.faults door.old) (D.faults door.new) inside.new }
     ensures at { D.number door.new ≡ inside.new.link }
     ensures number { D.number door.new ≡ D.number door.old }
     ensures door { D.is_same door.old door.new }
 {
     match answer {
-        Answer::Heard { report } => obey_report(inside, door, *report, bsn),
-        Answer::Refused {
+        AnswerRef::Heard { report } => obey_report(inside, door, *report, bsn),
+        AnswerRef::Refused {
             why: Refusal::NotUp,
         } => {
             inside.stop_quietly();

@@ -1,5 +1,6 @@
 //! The three machines' inputs, with what they ask of the set (Q.703 12.1).
 ghost use Rattle.std.specs.Prelude.{◌≡◌, Some, if◌then◌else◌, IfOk};
+ghost use Rattle.set_events.specs.Lent.{HasFitUnit, event_in};
 ghost use Rattle.set_events.specs.declared.event.Event.TheVariants.{Down, DownBlind};
 ghost use Rattle.l2_state.specs.declared.signals.Told.TheVariants.{Down as ToldDown};
 ghost use Rattle.link_term.specs.Talking.{Talks};
@@ -10,10 +11,12 @@ use l2_align::{AlignIn, End};
 use l2_flow::FlowIn;
 use l2_state::{StateIn, Told};
 use l2_units::Cause;
-use set_events::{Event, SetFault};
+use set_events::{EventRef, Reply, SetFault};
 use term_core::Inside;
 
-/// The link is in service here: the set is told.
+/// The link is in service here: the set is told. That is seldom, so the answer's place is made for it, in this function's
+/// own frame.
+#[inline(never)]
 #[tactic(auto, using(crate::proofs::Links::risen_link, crate::proofs::Links::risen_bits))]
 pub(crate) fn ask_up<D: Door>(inside: &mut Inside, door: &mut D) -> Result<(), SetFault>
     requires { D.number door.old ≡ inside.old.link }
@@ -25,25 +28,28 @@ pub(crate) fn ask_up<D: Door>(inside: &mut Inside, door: &mut D) -> Result<(), S
     ensures bits { IfOk result (λ done. inside.new.bits ≡ inside.old.bits) }
 {
     let link = inside.link();
-    let answer = door.step(&Event::Up { link })?;
-    inside.rise(&answer);
+    let mut reply = Reply::new();
+    door.step(&EventRef::Up { link }, &mut reply)?;
+    inside.rise(&reply.get());
     Ok(())
 }
 
 /// What the set is told of a link that failed: after a Blind, that no FSN can be told to the far end (Q.704 5.6).
-fn down_event(inside: &Inside) -> Event
-    ensures { result ≡ (if inside.now.blind then DownBlind inside.now.link else Down
+fn down_event(inside: &Inside) -> EventRef<'static>
+    ensures value { event_in result ≡ (if inside.now.blind then DownBlind inside.now.link else Down
         inside.now.link) }
+    ensures fits { HasFitUnit result }
 {
     let link = inside.link();
     if inside.is_blind() {
-        Event::DownBlind { link }
+        EventRef::DownBlind { link }
     } else {
-        Event::Down { link }
+        EventRef::Down { link }
     }
 }
 
-/// The link is out of service here, and is up at the set: the set is told.
+/// The link is out of service here, and is up at the set: the set is told. Whatever it answers is obeyed.
+#[inline(never)]
 fn ask_down<D: Door>(inside: &mut Inside, door: &mut D, cause: Cause) -> Result<(), SetFault>
     requires { D.number door.old ≡ inside.old.link }
     ensures talks { Talks (asks_down cause inside.old) result (D.made door.old) (D.made door.new)
@@ -54,7 +60,7 @@ fn ask_down<D: Door>(inside: &mut Inside, door: &mut D, cause: Cause) -> Result<
     ensures bits { IfOk result (λ done. inside.new.bits ≡ inside.old.bits) }
 {
     let event = down_event(inside);
-    door.step(&event)?;
+    door.step(&event, &mut Reply::new())?;
     inside.fall(cause);
     Ok(())
 }

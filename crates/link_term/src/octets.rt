@@ -7,7 +7,7 @@ use super::counts::MarkCounts;
 use super::door::Door;
 use super::hearing::mark;
 use l2_bits::{Deframer, Rest};
-use set_events::SetFault;
+use set_events::{Reply, SetFault};
 use term_core::Inside;
 
 /// The bits that are left of an octet: each mark that they give is heard, in order. Answers how many of each kind there
@@ -17,6 +17,7 @@ pub(crate) fn hear_bits<D: Door>(
     rest: &mut Rest,
     inside: &mut Inside,
     door: &mut D,
+    reply: &mut Reply,
 ) -> Result<MarkCounts, SetFault>
     requires at { D.number door.old ≡ inside.old.link }
     requires few { length (rest_of rest.old) ≤ 8 }
@@ -32,14 +33,14 @@ pub(crate) fn hear_bits<D: Door>(
     let Some(kind) = deframer.feed_rest(rest) else {
         return Ok(MarkCounts::NONE);
     };
-    match mark(inside, door, kind, deframer.unit()) {
+    match mark(inside, door, reply, kind, deframer.unit()) {
         Ok(()) => {}
         Err(fault) => {
             drain(deframer, rest);
             return Err(fault);
         }
     }
-    match hear_bits(deframer, rest, inside, door) {
+    match hear_bits(deframer, rest, inside, door, reply) {
         Ok(later) => Ok(later.after(kind)),
         Err(fault) => Err(fault),
     }

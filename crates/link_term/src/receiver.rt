@@ -8,7 +8,7 @@ use super::door::Door;
 use super::octets::hear_bits;
 use l2_bits::{Deframer, Rest};
 use line_ring::Past;
-use set_events::SetFault;
+use set_events::{Reply, SetFault};
 use std::marker::Model;
 use term_core::Inside;
 
@@ -50,6 +50,7 @@ impl Receiver {
         octet: u8,
         inside: &mut Inside,
         door: &mut D,
+        reply: &mut Reply,
     ) -> Result<MarkCounts, SetFault>
         requires { D.number door.old ≡ inside.old.link }
         ensures hears { HearsOctet (line_bits self.old) (bits_of 8 octet) inside.old result
@@ -59,7 +60,13 @@ impl Receiver {
         ensures number { D.number door.new ≡ D.number door.old }
         ensures door { D.is_same door.old door.new }
     {
-        let heard = hear_bits(&mut self.deframer, &mut Rest::new(octet), inside, door);
+        let heard = hear_bits(
+            &mut self.deframer,
+            &mut Rest::new(octet),
+            inside,
+            door,
+            reply,
+        );
         self.taken.note(octet);
         heard
     }

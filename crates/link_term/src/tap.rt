@@ -1,8 +1,9 @@
 //! Who looks on at the units that a terminal sends.
-ghost use Rattle.std.specs.Prelude.{◌≡◌, None};
+ghost use Rattle.std.specs.Prelude.{◌≡◌, ◌≤◌, None, length};
+ghost use Rattle.l2_units.specs.Lent.{body_in, unit_in};
 ghost use Rattle.std.specs.Option.{option_map};
 
-use l2_units::{Unit, copy_of_unit};
+use l2_units::{Unit, UnitRef};
 
 /// What looks on at the units that a terminal sends, as a tap on its line would.
 pub trait Tap {
@@ -11,9 +12,10 @@ pub trait Tap {
     /// The first was told of this unit, and is the second then.
     ghost told: { Self → SignalUnit → Self → Type 0 };
 
-    /// The terminal has appended this unit to what it sends.
-    fn sends(&mut self, unit: &Unit)
-        ensures { told self.old unit.now self.new };
+    /// The terminal has appended this unit to what it sends. Its body, of at most 273 octets, stays where it stands.
+    fn sends(&mut self, unit: &UnitRef<'_>)
+        requires { length (body_in unit.now) ≤ 273 }
+        ensures { told self.old (unit_in unit.now) self.new };
 }
 
 /// No tap: nobody looks on.
@@ -26,7 +28,7 @@ impl Tap for NoTap {
     ghost told = { λ before unit after. ⊤ };
 
     #[inline(always)]
-    fn sends(&mut self, _unit: &Unit) {}
+    fn sends(&mut self, _unit: &UnitRef<'_>) {}
 }
 
 /// A tap that keeps the last unit of which it was told, some 290 octets.
@@ -63,7 +65,7 @@ impl Tap for LastUnit {
 
     ghost told = { λ before unit after. after.unit ≡ Some unit };
 
-    fn sends(&mut self, unit: &Unit) {
-        self.unit = Some(copy_of_unit(unit));
+    fn sends(&mut self, unit: &UnitRef<'_>) {
+        self.unit = Some(unit.unit());
     }
 }

@@ -16,7 +16,7 @@ use super::receiver::Receiver;
 use super::tap::Tap;
 use super::timing::end_timers;
 use line_ring::Line;
-use set_events::SetFault;
+use set_events::{Reply, SetFault};
 use term_core::Inside;
 
 /// A turn: commands, one octet in, marks, timers, what is sent next, one octet out.
@@ -27,6 +27,7 @@ pub(crate) fn take_turn<D: Door, L: Line, T: Tap>(
     receiver: &mut Receiver,
     inside: &mut Inside,
     door: &mut D,
+    reply: &mut Reply,
     line: &mut L,
     tap: &mut T,
 ) -> Result<Turned, TermFault>
@@ -48,7 +49,7 @@ pub(crate) fn take_turn<D: Door, L: Line, T: Tap>(
 {
     obey(inside, door)?;
     let octet = line.take();
-    let turned = from_octet(receiver, inside, door, octet, tap)?;
+    let turned = from_octet(receiver, inside, door, reply, octet, tap)?;
     if is_wide(turned.filling) {
         return Err(TermFault::Profile);
     }
@@ -81,6 +82,7 @@ pub(crate) fn from_octet<D: Door, T: Tap>(
     receiver: &mut Receiver,
     inside: &mut Inside,
     door: &mut D,
+    reply: &mut Reply,
     octet: Option<u8>,
     tap: &mut T,
 ) -> Result<Turned, SetFault>
@@ -93,9 +95,9 @@ pub(crate) fn from_octet<D: Door, T: Tap>(
     ensures number { D.number door.new ≡ D.number door.old }
     ensures door { D.is_same door.old door.new }
 {
-    let marks = hear_octet(receiver, inside, door, octet)?;
+    let marks = hear_octet(receiver, inside, door, reply, octet)?;
     end_timers(inside, door)?;
-    let filling = fill(inside, door, tap)?;
+    let filling = fill(inside, door, reply, tap)?;
     Ok(Turned { marks, filling })
 }
 
@@ -104,6 +106,7 @@ fn hear_octet<D: Door>(
     receiver: &mut Receiver,
     inside: &mut Inside,
     door: &mut D,
+    reply: &mut Reply,
     octet: Option<u8>,
 ) -> Result<MarkCounts, SetFault>
     requires { D.number door.old ≡ inside.old.link }
@@ -115,7 +118,7 @@ fn hear_octet<D: Door>(
     ensures door { D.is_same door.old door.new }
 {
     match octet {
-        Some(octet) => receiver.hear(octet, inside, door),
+        Some(octet) => receiver.hear(octet, inside, door, reply),
         None => Ok(MarkCounts::NONE),
     }
 }

@@ -16,6 +16,7 @@ use l2_align::State as Alignment;
 use l2_state::State;
 use l2_units::Cause;
 use line_ring::Line;
+use set_events::Reply;
 use term_core::Inside;
 use term_model::{Command, Timers};
 
@@ -37,11 +38,13 @@ pub enum TermState {
 }
 
 /// What a terminal is made of, but for its door and its line, which are lent to it turn by turn: the machines, timers
-/// and bits of its inside, and the receiver of its line (Q.703 2 to 12). Less than 1,000 octets; it takes no memory.
+/// and bits of its inside, and the receiver of its line (Q.703 2 to 12). Some 1,000 octets; it takes no memory.
 #[derive(Drop)]
 pub struct Works {
     pub(crate) inside: Inside,
     pub(crate) receiver: Receiver,
+    /// Where the door's answers are put: it's made once, so that a turn clears no room for one.
+    reply: Reply,
     /// A turn was broken off.
     pub(crate) failed: bool,
 }
@@ -57,6 +60,7 @@ impl Works {
         Works {
             inside: Inside::new(link, lengths),
             receiver: Receiver::new(),
+            reply: Reply::new(),
             failed: false,
         }
     }
@@ -136,7 +140,14 @@ impl Works {
         if self.failed {
             return Err(TermFault::Failed);
         }
-        match take_turn(&mut self.receiver, &mut self.inside, door, line, tap) {
+        match take_turn(
+            &mut self.receiver,
+            &mut self.inside,
+            door,
+            &mut self.reply,
+            line,
+            tap,
+        ) {
             Ok(turned) => Ok(turned),
             Err(fault) => {
                 self.failed = true;
