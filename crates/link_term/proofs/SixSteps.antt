@@ -21,6 +21,7 @@ use Rattle.link_term.specs.declared.counts.Filling.{Filling}
 use Rattle.link_term.specs.declared.fault.TermFault.{TermFault}
 use Rattle.link_term.specs.Faults.{fault_of}
 use Rattle.link_term.specs.Filling.{FillsBits, Taps, filling_of, with_unit}
+use Rattle.link_term.specs.Standing.{Standing}
 use Rattle.link_term.specs.Talking.{Gains, Breaks}
 use Rattle.link_term.specs.Turning.{HearsMarks, BreaksMarks, from_marks, Steps, BrokenSteps, StepsTo, PutsOut, TurnsOnce, TurnBreaks, TurnFails, by_fault, by_profile}
 use Rattle.link_term.proofs.Talking.{gains_joined, breaks_at_first, breaks_at_last}
@@ -86,13 +87,12 @@ module _ (past : List Bool) (octet : Option ℕ) (t u : Terminal) (counts : Mark
 
 -- STEPS 1 AND 6.
 
-pub turn_broken : {R T : Type 0} (result : Result R TermFault) (told : SetFault) (taken taken' : List ℕ) (t after : Terminal)
-    (made made' : List Entry) (given given' put put' : List ℕ) (faults faults' : List SetFault) (tap tap' : T)
-    → IsErrAnd result (λ e. e ≡ fault_of told) → TurnBreaks taken taken' t made made' given given' put put'
-    → faults' ≡ faults ++ told ∷ [] → tap' ≡ tap
-    → IfErr result (λ e. TurnFails e faults faults' taken taken' t made made' given given' put put' after × (tap' ≡ tap))
-turn_broken (Ok turned) told taken taken' t after made made' given given' put put' faults faults' tap tap' is broke noted none = absurd is
-turn_broken (Err fault) told taken taken' t after made made' given given' put put' faults faults' tap tap' is broke noted none =
+pub turn_broken : {R T : Type 0} (result : Result R TermFault) (told : SetFault) (before after : Standing) (tap tap' : T)
+    → IsErrAnd result (λ e. e ≡ fault_of told) → TurnBreaks before after
+    → after.faults ≡ before.faults ++ told ∷ [] → tap' ≡ tap
+    → IfErr result (λ e. TurnFails e before after × (tap' ≡ tap))
+turn_broken (Ok turned) told before after tap tap' is broke noted none = absurd is
+turn_broken (Err fault) told before after tap tap' is broke noted none =
     (by_fault (record { told = told; fault_is = is; faults_are = noted }) broke, none)
 
 -- a unit of the wide profile is told apart by what came of the choice
@@ -114,27 +114,28 @@ wide_of f filling is wide = go f.narrow f.unit refl refl
         let no : Filling.Chosen ≡ Filling.Wide = sym (is ∙ ap (λ b. if b then with_unit f.unit else Filling.Wide) e ∙ ap with_unit u) ∙ wide in cc
 
 -- a fault at a command: no octet was taken
-pub breaks_at_command : (taken : List ℕ) (t : Terminal) (made made' : List Entry) (given put : List ℕ)
-    → Breaks (commanded t) made made' → TurnBreaks taken taken t made made' given given put put
-breaks_at_command taken t made made' given put broke =
-    let all = breaks_at_first (commanded t) (λ v. from_marks [] v) made made' broke in record {
+pub breaks_at_command : (before after : Standing) → Breaks (commanded before.inside) before.made after.made
+    → after.taken ≡ before.taken → after.line.given ≡ before.line.given → after.line.put ≡ before.line.put
+    → TurnBreaks before after
+breaks_at_command before after broke took gave same =
+    let all = breaks_at_first (commanded before.inside) (λ v. from_marks [] v) before.made after.made broke in record {
       octet = None;
       entries = all.entries;
       last = all.last;
       turn = record { marks = []; gives = refl; broke_off = all.broke_off };
-      taken_is = sym (append-nil taken);
+      taken_is = took ∙ sym (append-nil before.taken);
       made_is = all.made_is;
-      given_is = sym (append-nil given);
-      put_is = refl;
+      given_is = gave ∙ sym (append-nil before.line.given);
+      put_is = same;
     }
 
 -- a fault later on
-pub breaks_after : (taken taken' : List ℕ) (octet : Option ℕ) (t u : Terminal) (made mid made' : List Entry)
-    (given given' put put' : List ℕ) → Gains (commanded t) made mid u → BrokenSteps (line_bits taken) octet u mid made'
-    → taken' ≡ taken ++ option_to_list octet → given' ≡ given ++ option_to_list octet → put' ≡ put
-    → TurnBreaks taken taken' t made made' given given' put put'
-breaks_after taken taken' octet t u made mid made' given given' put put' obeyed broke took gave same =
-    let all = breaks_at_last (commanded t) (λ v. from_marks broke.marks v) made mid made' u obeyed broke.breaks in record {
+pub breaks_after : (before after : Standing) (octet : Option ℕ) (u : Terminal) (mid : List Entry)
+    → Gains (commanded before.inside) before.made mid u → BrokenSteps (line_bits before.taken) octet u mid after.made
+    → after.taken ≡ before.taken ++ option_to_list octet → after.line.given ≡ before.line.given ++ option_to_list octet
+    → after.line.put ≡ before.line.put → TurnBreaks before after
+breaks_after before after octet u mid obeyed broke took gave same =
+    let all = breaks_at_last (commanded before.inside) (λ v. from_marks broke.marks v) before.made mid after.made u obeyed broke.breaks in record {
       octet = octet;
       entries = all.entries;
       last = all.last;
@@ -146,16 +147,16 @@ breaks_after taken taken' octet t u made mid made' given given' put put' obeyed 
     }
 
 -- none
-pub turn_went : (taken taken' : List ℕ) (octet : Option ℕ) (t u v after : Terminal) (turned : Turned)
-    (made mid made' : List Entry) (given given' waiting put put_mid put' : List ℕ) (free : ℕ)
-    {T : Type 0} (tells : T → SignalUnit → T → Type 0) (tap tap' : T)
-    → Gains (commanded t) made mid u → Steps (line_bits taken) octet u turned mid made' v tells tap tap'
-    → PutsOut v after put_mid put' free → put_mid ≡ put → taken' ≡ taken ++ option_to_list octet → given' ≡ given ++ option_to_list octet
-    → (octet ≡ None → waiting ≡ []) → (turned.filling ≡ Filling.Wide → ⊥)
-    → (turns : TurnsOnce taken taken' t turned made made' given given' waiting put put' free after)
-    × Taps tells turns.turn.chosen.unit tap tap'
-turn_went taken taken' octet t u v after turned made mid made' given given' waiting put put_mid put' free tells tap tap' obeyed steps puts same took gave none not =
-    let all = gains_joined (commanded t) (λ w. from_marks steps.marks w) made mid made' u steps.chosen obeyed steps.gains in (
+pub turn_went : (before after : Standing) (octet : Option ℕ) (u v : Terminal) (turned : Turned) (mid : List Entry)
+    (put_mid : List ℕ) {T : Type 0} (tells : T → SignalUnit → T → Type 0) (tap tap' : T)
+    → Gains (commanded before.inside) before.made mid u
+    → Steps (line_bits before.taken) octet u turned mid after.made v tells tap tap'
+    → PutsOut v after.inside put_mid after.line.put after.line.free → put_mid ≡ before.line.put
+    → after.taken ≡ before.taken ++ option_to_list octet → after.line.given ≡ before.line.given ++ option_to_list octet
+    → (octet ≡ None → before.line.waiting ≡ []) → (turned.filling ≡ Filling.Wide → ⊥) → after.faults ≡ before.faults
+    → (turns : TurnsOnce before turned after) × Taps tells turns.turn.chosen.unit tap tap'
+turn_went before after octet u v turned mid put_mid tells tap tap' obeyed steps puts same took gave none not quiet =
+    let all = gains_joined (commanded before.inside) (λ w. from_marks steps.marks w) before.made mid after.made u steps.chosen obeyed steps.gains in (
       record {
         octet = octet;
         entries = all.entries;
@@ -176,6 +177,7 @@ turn_went taken taken' octet t u v after turned made mid made' given given' wait
         };
         taken_is = took;
         made_is = all.made_is;
+        no_fault = quiet;
         given_is = gave;
         put_is = puts.put_is ∙ ap (λ (p : List ℕ). p ++ put_of puts.has_room v.bits) same;
         none_waited = none;
@@ -187,15 +189,15 @@ turn_went taken taken' octet t u v after turned made mid made' given given' wait
     )
 
 -- a unit of the wide profile was given
-pub turn_wide : (taken taken' : List ℕ) (octet : Option ℕ) (t u after : Terminal) (turned : Turned)
-    (made mid made' : List Entry) (given given' put put' : List ℕ) (faults faults' : List SetFault)
-    {T : Type 0} (tells : T → SignalUnit → T → Type 0) (tap tap' : T)
-    → Gains (commanded t) made mid u → Steps (line_bits taken) octet u turned mid made' after tells tap tap'
-    → put' ≡ put → taken' ≡ taken ++ option_to_list octet → given' ≡ given ++ option_to_list octet
-    → turned.filling ≡ Filling.Wide → faults' ≡ faults
-    → TurnFails TermFault.Profile faults faults' taken taken' t made made' given given' put put' after × (tap' ≡ tap)
-turn_wide taken taken' octet t u after turned made mid made' given given' put put' faults faults' tells tap tap' obeyed steps same took gave is none =
-    let all = gains_joined (commanded t) (λ w. from_marks steps.marks w) made mid made' u steps.chosen obeyed steps.gains in
+pub turn_wide : (before after : Standing) (octet : Option ℕ) (u : Terminal) (turned : Turned) (mid : List Entry)
+    {T : Type 0} (tells : T → SignalUnit → T → Type 0) (tap tap' : T) → Gains (commanded before.inside) before.made mid u
+    → Steps (line_bits before.taken) octet u turned mid after.made after.inside tells tap tap'
+    → after.line.put ≡ before.line.put → after.taken ≡ before.taken ++ option_to_list octet
+    → after.line.given ≡ before.line.given ++ option_to_list octet
+    → turned.filling ≡ Filling.Wide → after.faults ≡ before.faults
+    → TurnFails TermFault.Profile before after × (tap' ≡ tap)
+turn_wide before after octet u turned mid tells tap tap' obeyed steps same took gave is none =
+    let all = gains_joined (commanded before.inside) (λ w. from_marks steps.marks w) before.made mid after.made u steps.chosen obeyed steps.gains in
     let wide = wide_of steps.chosen turned.filling steps.filling_is is in (
       by_profile refl none (record {
         octet = octet;

@@ -7,7 +7,6 @@ use Rattle.std.specs.Option.{option_to_list}
 use Rattle.l2_bits.specs.declared.marks.Mark.{Mark}
 use Rattle.l2_bits.specs.LineBits.{bits_of, line_bits}
 use Rattle.l2_units.specs.declared.unit.Unit.{Unit as SignalUnit}
-use Rattle.set_events.specs.declared.history.Entry.{Entry}
 use Rattle.term_model.specs.declared.report.TermReport.{TermReport}
 use Rattle.term_model.specs.Runs.{Doing, Did, AreTurns, octets_in, octets_out, entries_of, units_of, marks_of, counted, is_good, is_bad, is_sixteen, report_of, cause_or_0}
 use Rattle.term_model.specs.Terminal.{Terminal}
@@ -19,21 +18,21 @@ use Rattle.link_term.specs.declared.fault.TermFault.{TermFault}
 use Rattle.link_term.specs.Filling.{filling_of, with_unit}
 use Rattle.link_term.specs.Looking.{Seen, Looks, AllLook}
 use Rattle.term_model.specs.OctetOut.{put_of}
-use Rattle.set_events.specs.declared.fault.SetFault.{SetFault}
 use Rattle.term_model.specs.Choosing.{Filled}
 use Rattle.link_term.specs.Running.{Runs, RunFails}
+use Rattle.link_term.specs.Standing.{Standing}
 use Rattle.link_term.specs.Turning.{TurnsOnce, TurnFails, one_if_chosen}
 
 -- what the turns so far did, but for the cause
-pub record RanSo (taken taken' : List ℕ) (before : Terminal) (made made' : List Entry)
-    (line line' : Seen) (report : TermReport) (after : Terminal) : Type 0 where
+pub record RanSo (before : Standing) (report : TermReport) (after : Standing) : Type 0 where
   pub doings : List Doing
-  pub are_turns : AreTurns doings (line_bits taken) before after
-  pub taken_is : taken' ≡ taken ++ octets_in doings
-  pub made_is : made' ≡ made ++ entries_of doings
-  pub given_is : line'.given ≡ line.given ++ octets_in doings
-  pub put_is : line'.put ≡ line.put ++ octets_out doings
-  pub looks : AllLook doings line line'
+  pub are_turns : AreTurns doings (line_bits before.taken) before.inside after.inside
+  pub taken_is : after.taken ≡ before.taken ++ octets_in doings
+  pub made_is : after.made ≡ before.made ++ entries_of doings
+  pub no_fault : after.faults ≡ before.faults
+  pub given_is : after.line.given ≡ before.line.given ++ octets_in doings
+  pub put_is : after.line.put ≡ before.line.put ++ octets_out doings
+  pub looks : AllLook doings before.line after.line
   pub turns_are : report.turns ≡ length doings
   pub sent_are : report.sent ≡ length (units_of doings)
   pub good_are : report.good ≡ counted is_good (marks_of doings)
@@ -41,16 +40,17 @@ pub record RanSo (taken taken' : List ℕ) (before : Terminal) (made made' : Lis
   pub sixteen_are : report.sixteen ≡ counted is_sixteen (marks_of doings)
 
 -- none so far
-pub ran_none : (taken : List ℕ) (t : Terminal) (made : List Entry) (line : Seen) (report : TermReport)
+pub ran_none : (before : Standing) (report : TermReport)
     → report ≡ record { turns = 0; sent = 0; good = 0; bad = 0; sixteen = 0; cause = 0 }
-    → RanSo taken taken t made made line line report t
-ran_none taken t made line report is = record {
+    → RanSo before report before
+ran_none before report is = record {
   doings = [];
   are_turns = refl;
-  taken_is = sym (append-nil taken);
-  made_is = sym (append-nil made);
-  given_is = sym (append-nil line.given);
-  put_is = sym (append-nil line.put);
+  taken_is = sym (append-nil before.taken);
+  made_is = sym (append-nil before.made);
+  no_fault = refl;
+  given_is = sym (append-nil before.line.given);
+  put_is = sym (append-nil before.line.put);
   looks = refl;
   turns_are = ap (λ (r : TermReport). r.turns) is;
   sent_are = ap (λ (r : TermReport). r.sent) is;
@@ -94,11 +94,8 @@ looks_then [] doing a b c all one = (c, subst (λ x. Looks doing x c) all one, r
 looks_then (d ∷ rest) doing a b c (mid, first, all) one = (mid, first, looks_then rest doing mid b c all one)
 
 -- ONE TURN MORE.
-module _ (taken taken_mid taken' : List ℕ) (before mid after : Terminal) (made made_mid made' : List Entry)
-    (line line_mid line' : Seen) (report report' : TermReport) (turned : Turned)
-    (so : RanSo taken taken_mid before made made_mid line line_mid report mid)
-    (once : TurnsOnce taken_mid taken' mid turned made_mid made' line_mid.given line'.given line_mid.waiting line_mid.put line'.put
-    line'.free after) where
+module _ (before mid after : Standing) (report report' : TermReport) (turned : Turned) (so : RanSo before report mid)
+    (once : TurnsOnce mid turned after) where
   did : Doing
   did = record {
     octet = once.octet;
@@ -108,13 +105,13 @@ module _ (taken taken_mid taken' : List ℕ) (before mid after : Terminal) (made
     unit = once.turn.chosen.unit;
   }
 
-  bits_so : line_bits taken_mid ≡ line_bits taken ++ line_bits (octets_in so.doings)
-  bits_so = ap line_bits so.taken_is ∙ flat_map-append (bits_of 8) taken (octets_in so.doings)
+  bits_so : line_bits mid.taken ≡ line_bits before.taken ++ line_bits (octets_in so.doings)
+  bits_so = ap line_bits so.taken_is ∙ flat_map-append (bits_of 8) before.taken (octets_in so.doings)
 
-  more_turns : AreTurns (so.doings ++ did ∷ []) (line_bits taken) before after
+  more_turns : AreTurns (so.doings ++ did ∷ []) (line_bits before.taken) before.inside after.inside
   unfolding did
-  more_turns = runs_join so.doings (did ∷ []) (line_bits taken) before mid after so.are_turns
-      (after, subst (λ b. Did b mid did after) bits_so (record { turn = once.turn; unit_is = refl }), refl)
+  more_turns = runs_join so.doings (did ∷ []) (line_bits before.taken) before.inside mid.inside after.inside so.are_turns
+      (after.inside, subst (λ b. Did b mid.inside did after.inside) bits_so (record { turn = once.turn; unit_is = refl }), refl)
 
   more_marks : (such : Mark → Bool) (old now one : ℕ) → old ≡ counted such (marks_of so.doings) → one ≡ counted such once.marks
       → now ≡ old + one → now ≡ counted such (marks_of (so.doings ++ did ∷ []))
@@ -128,20 +125,21 @@ module _ (taken taken_mid taken' : List ℕ) (before mid after : Terminal) (made
   pub ran_more : report'.turns ≡ report.turns + 1 → report'.sent ≡ report.sent + one_if_chosen turned.filling
       → report'.good ≡ report.good + turned.marks.good → report'.bad ≡ report.bad + turned.marks.bad
       → report'.sixteen ≡ report.sixteen + turned.marks.sixteen
-      → RanSo taken taken' before made made' line line' report' after
+      → RanSo before report' after
   unfolding did
   ran_more turns sent good bad sixteen = record {
     doings = so.doings ++ did ∷ [];
     are_turns = more_turns;
-    taken_is = grown (λ (d : Doing). option_to_list d.octet) so.doings did taken taken_mid taken' so.taken_is once.taken_is;
-    made_is = grown (λ (d : Doing). d.entries) so.doings did made made_mid made' so.made_is once.made_is;
-    given_is = grown (λ (d : Doing). option_to_list d.octet) so.doings did line.given line_mid.given line'.given so.given_is once.given_is;
-    put_is = grown (λ (d : Doing). d.put) so.doings did line.put line_mid.put line'.put so.put_is once.put_is;
-    looks = looks_then so.doings did line line_mid line' so.looks (record {
+    taken_is = grown (λ (d : Doing). option_to_list d.octet) so.doings did before.taken mid.taken after.taken so.taken_is once.taken_is;
+    made_is = grown (λ (d : Doing). d.entries) so.doings did before.made mid.made after.made so.made_is once.made_is;
+    no_fault = once.no_fault ∙ so.no_fault;
+    given_is = grown (λ (d : Doing). option_to_list d.octet) so.doings did before.line.given mid.line.given after.line.given so.given_is once.given_is;
+    put_is = grown (λ (d : Doing). d.put) so.doings did before.line.put mid.line.put after.line.put so.put_is once.put_is;
+    looks = looks_then so.doings did before.line mid.line after.line so.looks (record {
       given_is = once.given_is;
       put_is = once.put_is;
       none_waited = once.none_waited;
-      was_full = full_where_none_put once.turn.puts.has_room once.turn.puts.bits once.out line'.free once.turn.puts.put_is once.was_full;
+      was_full = full_where_none_put once.turn.puts.has_room once.turn.puts.bits once.out after.line.free once.turn.puts.put_is once.was_full;
     });
     turns_are = omega (arith, turns, so.turns_are, length-append so.doings (did ∷ []));
     sent_are =
@@ -172,12 +170,10 @@ told_so report doings after a b c d e f is_a is_b is_c is_d is_e is_f =
     ∙ ap (λ x. record { turns = length doings; sent = length (units_of doings); good = counted is_good (marks_of doings); bad = counted is_bad (marks_of doings); sixteen = x; cause = f }) is_e
     ∙ ap (λ x. record { turns = length doings; sent = length (units_of doings); good = counted is_good (marks_of doings); bad = counted is_bad (marks_of doings); sixteen = counted is_sixteen (marks_of doings); cause = x }) is_f
 
-pub ran_all : (turns : ℕ) (taken taken' : List ℕ) (before : Terminal) (made made' : List Entry)
-    (line line' : Seen) (report last : TermReport) (after : Terminal)
-    → RanSo taken taken' before made made' line line' report after → report.turns ≡ turns
-    → last ≡ record report { cause = cause_or_0 after.cause }
-    → Runs turns taken taken' before made made' line line' last after
-ran_all turns taken taken' before made made' line line' report last after so are is = record {
+pub ran_all : (turns : ℕ) (before : Standing) (report last : TermReport) (after : Standing)
+    → RanSo before report after → report.turns ≡ turns
+    → last ≡ record report { cause = cause_or_0 after.inside.cause } → Runs turns before last after
+ran_all turns before report last after so are is = record {
   octets = octets_in so.doings;
   entries = entries_of so.doings;
   out = octets_out so.doings;
@@ -188,11 +184,12 @@ ran_all turns taken taken' before made made' line line' report last after so are
     given_is = refl;
     entries_are = refl;
     put_is = refl;
-    report_is = is ∙ told_so report so.doings after report.turns report.sent report.good report.bad report.sixteen
-        (cause_or_0 after.cause) so.turns_are so.sent_are so.good_are so.bad_are so.sixteen_are refl;
+    report_is = is ∙ told_so report so.doings after.inside report.turns report.sent report.good report.bad report.sixteen
+        (cause_or_0 after.inside.cause) so.turns_are so.sent_are so.good_are so.bad_are so.sixteen_are refl;
   };
   taken_is = so.taken_is;
   made_is = so.made_is;
+  no_fault = so.no_fault;
   given_is = so.given_is;
   put_is = so.put_is;
   looks = so.looks;
@@ -204,24 +201,16 @@ at_most_one Filling.Chosen = omega arith
 at_most_one Filling.Wide = omega arith
 
 -- A TURN THAT FAILED, behind those that went whole
-pub run_failed : (result : Result TermReport TermFault) (told : TermFault) (faults faults_mid faults' : List SetFault)
-    (turns whole : ℕ) (taken mid taken' : List ℕ) (before between after : Terminal) (made made_mid made' : List Entry)
-    (line line_mid line' : Seen) (report : TermReport)
-    → IsErrAnd result (λ e. e ≡ told)
-    → RanSo taken mid before made made_mid line line_mid report between → report.turns ≡ whole → whole < turns
-    → faults_mid ≡ faults
-    → TurnFails told faults_mid faults' mid taken' between made_mid made' line_mid.given line'.given line_mid.put line'.put after
-    → IfErr result (λ fault. RunFails fault faults faults' turns taken taken' before made made' line line' after)
-run_failed (Ok done) told faults faults_mid faults' turns whole taken mid taken' before between after made made_mid made' line line_mid line' report is so are few same fails = absurd is
-run_failed (Err fault) told faults faults_mid faults' turns whole taken mid taken' before between after made made_mid made' line line_mid line' report is so are few same fails = record {
+pub run_failed : (result : Result TermReport TermFault) (told : TermFault) (turns whole : ℕ) (before between after : Standing)
+    (report : TermReport) → IsErrAnd result (λ e. e ≡ told)
+    → RanSo before report between → report.turns ≡ whole → whole < turns → TurnFails told between after
+    → IfErr result (λ fault. RunFails fault turns before after)
+run_failed (Ok done) told turns whole before between after report is so are few fails = absurd is
+run_failed (Err fault) told turns whole before between after report is so are few fails = record {
   whole = whole;
   fewer = few;
-  taken_by_then = mid;
-  made_by_then = made_mid;
-  line_by_then = line_mid;
-  report = record report { cause = cause_or_0 between.cause };
+  report = record report { cause = cause_or_0 between.inside.cause };
   between = between;
-  runs = ran_all whole taken mid before made made_mid line line_mid report _ between so are refl;
-  fails = subst (λ f. TurnFails f faults faults' mid taken' between made_mid made' line_mid.given line'.given line_mid.put line'.put after) (sym is)
-      (subst (λ (fs : List SetFault). TurnFails told fs faults' mid taken' between made_mid made' line_mid.given line'.given line_mid.put line'.put after) same fails);
+  runs = ran_all whole before report _ between so are refl;
+  fails = subst (λ f. TurnFails f between after) (sym is) fails;
 }

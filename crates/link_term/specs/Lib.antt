@@ -4,6 +4,7 @@ pub mod Reading
 pub mod Orders
 pub mod Filling
 pub mod Octets
+pub mod Standing
 pub mod Turning
 pub mod Failing
 pub mod Looking

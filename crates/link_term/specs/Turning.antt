@@ -23,6 +23,7 @@ use Rattle.link_term.specs.declared.fault.TermFault.{TermFault}
 use Rattle.link_term.specs.Failing.{HasBroken}
 use Rattle.link_term.specs.Filling.{filling_of, Taps}
 use Rattle.link_term.specs.Octets.{counts_of}
+use Rattle.link_term.specs.Standing.{Standing}
 use Rattle.link_term.specs.Talking.{Gains, Breaks}
 
 -- the marks of these bits were heard, in order, or up to a fault
@@ -87,53 +88,48 @@ abbrev pub one_if_chosen : Filling → ℕ
 one_if_chosen Filling.Chosen = 1
 one_if_chosen _ = 0
 
--- A TURN WENT: the octets taken, what the door made, what the line gave and took, the terminal then, and what the turn
--- tells. Where no octet was taken none waited; where none was put the line is full.
-pub record TurnsOnce (taken taken' : List ℕ) (before : Terminal) (turned : Turned) (made made' : List Entry)
-    (given given' waiting put put' : List ℕ) (free : ℕ) (after : Terminal) : Type 0 where
+-- A TURN WENT: what it took of the line and put there, what the door made, and what the turn tells. Where no octet was taken
+-- none waited; where none was put the line is full.
+pub record TurnsOnce (before : Standing) (turned : Turned) (after : Standing) : Type 0 where
   pub octet : Option ℕ
   pub entries : List Entry
   pub out : List ℕ
   pub marks : List Mark
-  pub turn : IsTurn (line_bits taken) before octet entries out marks after
-  pub taken_is : taken' ≡ taken ++ option_to_list octet
-  pub made_is : made' ≡ made ++ entries
-  pub given_is : given' ≡ given ++ option_to_list octet
-  pub put_is : put' ≡ put ++ out
-  pub none_waited : octet ≡ None → waiting ≡ []
-  pub was_full : turn.puts.has_room ≡ false → free ≡ 0
+  pub turn : IsTurn (line_bits before.taken) before.inside octet entries out marks after.inside
+  pub taken_is : after.taken ≡ before.taken ++ option_to_list octet
+  pub made_is : after.made ≡ before.made ++ entries
+  pub no_fault : after.faults ≡ before.faults
+  pub given_is : after.line.given ≡ before.line.given ++ option_to_list octet
+  pub put_is : after.line.put ≡ before.line.put ++ out
+  pub none_waited : octet ≡ None → before.line.waiting ≡ []
+  pub was_full : turn.puts.has_room ≡ false → after.line.free ≡ 0
   pub counts_are : turned.marks ≡ counts_of marks
   pub filling_is : turned.filling ≡ filling_of turn.chosen
 
 -- a fault broke it off: what the line gave by then; it took nothing
-pub record TurnBreaks (taken taken' : List ℕ) (before : Terminal) (made made' : List Entry)
-    (given given' put put' : List ℕ) : Type 0 where
+pub record TurnBreaks (before after : Standing) : Type 0 where
   pub octet : Option ℕ
   pub entries : List Entry
   pub last : Event
-  pub turn : IsBrokenTurn (line_bits taken) before octet entries last
-  pub taken_is : taken' ≡ taken ++ option_to_list octet
-  pub made_is : made' ≡ made ++ entries
-  pub given_is : given' ≡ given ++ option_to_list octet
-  pub put_is : put' ≡ put
+  pub turn : IsBrokenTurn (line_bits before.taken) before.inside octet entries last
+  pub taken_is : after.taken ≡ before.taken ++ option_to_list octet
+  pub made_is : after.made ≡ before.made ++ entries
+  pub given_is : after.line.given ≡ before.line.given ++ option_to_list octet
+  pub put_is : after.line.put ≡ before.line.put
 
 -- a unit of the wide profile ended it: what the line gave by then; it took nothing, and nothing of what's sent changed
-pub record TurnIsWide (taken taken' : List ℕ) (before : Terminal) (made made' : List Entry)
-    (given given' put put' : List ℕ) (after : Terminal) : Type 0 where
+pub record TurnIsWide (before after : Standing) : Type 0 where
   pub octet : Option ℕ
   pub entries : List Entry
-  pub turn : IsWideTurn (line_bits taken) before octet entries
-  pub taken_is : taken' ≡ taken ++ option_to_list octet
-  pub made_is : made' ≡ made ++ entries
-  pub given_is : given' ≡ given ++ option_to_list octet
-  pub put_is : put' ≡ put
-  pub after_is : after ≡ turn.chosen.after
+  pub turn : IsWideTurn (line_bits before.taken) before.inside octet entries
+  pub taken_is : after.taken ≡ before.taken ++ option_to_list octet
+  pub made_is : after.made ≡ before.made ++ entries
+  pub given_is : after.line.given ≡ before.line.given ++ option_to_list octet
+  pub put_is : after.line.put ≡ before.line.put
+  pub after_is : after.inside ≡ turn.chosen.after
 
 -- A TURN FAILED: the door answered a fault, which is told, or gave a unit of the wide profile, whose entry stays there
-pub data TurnFails (fault : TermFault) (faults faults' : List SetFault) (taken taken' : List ℕ) (before : Terminal)
-    (made made' : List Entry) (given given' put put' : List ℕ) (after : Terminal) : Type 0 where
-  by_fault : HasBroken fault faults faults' → TurnBreaks taken taken' before made made' given given' put put'
-      → TurnFails fault faults faults' taken taken' before made made' given given' put put' after
-  by_profile : fault ≡ TermFault.Profile → faults' ≡ faults
-      → TurnIsWide taken taken' before made made' given given' put put' after
-      → TurnFails fault faults faults' taken taken' before made made' given given' put put' after
+pub data TurnFails (fault : TermFault) (before after : Standing) : Type 0 where
+  by_fault : HasBroken fault before.faults after.faults → TurnBreaks before after → TurnFails fault before after
+  by_profile : fault ≡ TermFault.Profile → after.faults ≡ before.faults → TurnIsWide before after
+      → TurnFails fault before after

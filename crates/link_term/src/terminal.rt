@@ -2,6 +2,7 @@
 ghost use Rattle.std.specs.Prelude.{◌≡◌, ◌+◌, ◌^◌, ◌<◌, ◌≤◌, [], true, false, IfOk, IfErr, OnOk, OnErr};
 ghost use Rattle.link_term.specs.Turning.{TurnsOnce, TurnFails, one_if_chosen};
 ghost use Rattle.link_term.specs.Looking.{seen};
+ghost use Rattle.link_term.specs.Standing.{standing};
 ghost use Rattle.link_term.specs.Running.{Runs, RunFails};
 ghost use Rattle.term_model.specs.Runs.{cause_or_0};
 ghost use Rattle.link_term.specs.declared.counts.Turned.{Turned as WasTurned};
@@ -65,19 +66,21 @@ impl<D: Door, L: Line, G: Gate> Terminal<D, L, G> {
     /// where it gave a unit that has a number of more than seven bits, whose entry stays with the door. The turn was broken off
     /// there, and nothing was put. After one, 2 [`TermFault::Failed`], and nothing is done.
     pub fn turn(&mut self) -> Result<(), TermFault>
-        ensures turns { IfOk result (λ done. (turned : WasTurned) × (self.old.works.failed ≡ false)
-            × TurnsOnce self.old.works.receiver self.new.works.receiver self.old.works.inside turned
-            (D.made self.old.door) (D.made self.new.door)
-            (L.taken_so_far self.old.line) (L.taken_so_far self.new.line) (L.waiting self.old.line)
-            (L.put_so_far self.old.line) (L.put_so_far self.new.line) (L.free self.new.line)
-            self.new.works.inside
-            × (D.faults self.new.door ≡ D.faults self.old.door)) }
+        ensures turns { IfOk result (λ done. (turned : WasTurned) × (self.old.works.failed ≡ false) × TurnsOnce
+            (standing self.old.works.receiver self.old.works.inside (D.made self.old.door) (D.faults self.old.door)
+            (seen (L.taken_so_far self.old.line) (L.waiting self.old.line) (L.put_so_far self.old.line)
+            (L.free self.old.line)))
+            turned
+            (standing self.new.works.receiver self.new.works.inside (D.made self.new.door) (D.faults self.new.door)
+            (seen (L.taken_so_far self.new.line) (L.waiting self.new.line) (L.put_so_far self.new.line)
+            (L.free self.new.line)))) }
         ensures breaks { self.old.works.failed ≡ false → IfErr result (λ fault. TurnFails fault
-            (D.faults self.old.door) (D.faults self.new.door)
-            self.old.works.receiver self.new.works.receiver self.old.works.inside (D.made self.old.door)
-            (D.made self.new.door)
-            (L.taken_so_far self.old.line) (L.taken_so_far self.new.line)
-            (L.put_so_far self.old.line) (L.put_so_far self.new.line) self.new.works.inside) }
+            (standing self.old.works.receiver self.old.works.inside (D.made self.old.door) (D.faults self.old.door)
+            (seen (L.taken_so_far self.old.line) (L.waiting self.old.line) (L.put_so_far self.old.line)
+            (L.free self.old.line)))
+            (standing self.new.works.receiver self.new.works.inside (D.made self.new.door) (D.faults self.new.door)
+            (seen (L.taken_so_far self.new.line) (L.waiting self.new.line) (L.put_so_far self.new.line)
+            (L.free self.new.line)))) }
         ensures failed { self.old.works.failed ≡ true → (result ≡ Err Failed)
             × (self.new.door ≡ self.old.door)
             × (self.new.line ≡ self.old.line) × (self.new.works.inside ≡ self.old.works.inside)
@@ -98,24 +101,21 @@ impl<D: Door, L: Line, G: Gate> Terminal<D, L, G> {
     /// Faults as of [`Terminal::turn`]: the turns before the one that was broken off went whole, and it's the last.
     pub fn run(&mut self, turns: u64) -> Result<TermReport, TermFault>
         requires { turns ≤ 2 ^ 32 }
-        ensures runs { IfOk result (λ report. (self.old.works.failed ≡ false)
-            × Runs turns self.old.works.receiver self.new.works.receiver self.old.works.inside (D.made self.old.door)
-            (D.made self.new.door)
+        ensures runs { IfOk result (λ report. (self.old.works.failed ≡ false) × Runs turns
+            (standing self.old.works.receiver self.old.works.inside (D.made self.old.door) (D.faults self.old.door)
             (seen (L.taken_so_far self.old.line) (L.waiting self.old.line) (L.put_so_far self.old.line)
-            (L.free self.old.line))
+            (L.free self.old.line)))
+            report
+            (standing self.new.works.receiver self.new.works.inside (D.made self.new.door) (D.faults self.new.door)
             (seen (L.taken_so_far self.new.line) (L.waiting self.new.line) (L.put_so_far self.new.line)
-            (L.free self.new.line))
-            report self.new.works.inside
-            × (D.faults self.new.door ≡ D.faults self.old.door)) }
-        ensures breaks { self.old.works.failed ≡ false → IfErr result (λ fault. RunFails fault
-            (D.faults self.old.door) (D.faults self.new.door) turns
-            self.old.works.receiver self.new.works.receiver self.old.works.inside
-            (D.made self.old.door) (D.made self.new.door)
+            (L.free self.new.line)))) }
+        ensures breaks { self.old.works.failed ≡ false → IfErr result (λ fault. RunFails fault turns
+            (standing self.old.works.receiver self.old.works.inside (D.made self.old.door) (D.faults self.old.door)
             (seen (L.taken_so_far self.old.line) (L.waiting self.old.line) (L.put_so_far self.old.line)
-            (L.free self.old.line))
+            (L.free self.old.line)))
+            (standing self.new.works.receiver self.new.works.inside (D.made self.new.door) (D.faults self.new.door)
             (seen (L.taken_so_far self.new.line) (L.waiting self.new.line) (L.put_so_far self.new.line)
-            (L.free self.new.line))
-            self.new.works.inside) }
+            (L.free self.new.line)))) }
         ensures failed { self.old.works.failed ≡ true → (result ≡ Err Failed)
             × (self.new.door ≡ self.old.door)
             × (self.new.line ≡ self.old.line) × (self.new.works.inside ≡ self.old.works.inside)
@@ -149,19 +149,21 @@ impl<D: Door, L: Line, G: Gate> Terminal<D, L, G> {
 
     /// [`Terminal::turn`], which tells what it did.
     fn take_turn(&mut self) -> Result<Turned, TermFault>
-        ensures turns { IfOk result (λ turned. (self.old.works.failed ≡ false)
-            × TurnsOnce self.old.works.receiver self.new.works.receiver self.old.works.inside turned
-            (D.made self.old.door) (D.made self.new.door)
-            (L.taken_so_far self.old.line) (L.taken_so_far self.new.line) (L.waiting self.old.line)
-            (L.put_so_far self.old.line) (L.put_so_far self.new.line) (L.free self.new.line)
-            self.new.works.inside
-            × (D.faults self.new.door ≡ D.faults self.old.door)) }
+        ensures turns { IfOk result (λ turned. (self.old.works.failed ≡ false) × TurnsOnce
+            (standing self.old.works.receiver self.old.works.inside (D.made self.old.door) (D.faults self.old.door)
+            (seen (L.taken_so_far self.old.line) (L.waiting self.old.line) (L.put_so_far self.old.line)
+            (L.free self.old.line)))
+            turned
+            (standing self.new.works.receiver self.new.works.inside (D.made self.new.door) (D.faults self.new.door)
+            (seen (L.taken_so_far self.new.line) (L.waiting self.new.line) (L.put_so_far self.new.line)
+            (L.free self.new.line)))) }
         ensures breaks { self.old.works.failed ≡ false → IfErr result (λ fault. TurnFails fault
-            (D.faults self.old.door) (D.faults self.new.door)
-            self.old.works.receiver self.new.works.receiver self.old.works.inside (D.made self.old.door)
-            (D.made self.new.door)
-            (L.taken_so_far self.old.line) (L.taken_so_far self.new.line)
-            (L.put_so_far self.old.line) (L.put_so_far self.new.line) self.new.works.inside) }
+            (standing self.old.works.receiver self.old.works.inside (D.made self.old.door) (D.faults self.old.door)
+            (seen (L.taken_so_far self.old.line) (L.waiting self.old.line) (L.put_so_far self.old.line)
+            (L.free self.old.line)))
+            (standing self.new.works.receiver self.new.works.inside (D.made self.new.door) (D.faults self.new.door)
+            (seen (L.taken_so_far self.new.line) (L.waiting self.new.line) (L.put_so_far self.new.line)
+            (L.free self.new.line)))) }
         ensures failed { self.old.works.failed ≡ true → (result ≡ Err Failed)
             × (self.new.door ≡ self.old.door)
             × (self.new.line ≡ self.old.line) × (self.new.works.inside ≡ self.old.works.inside)

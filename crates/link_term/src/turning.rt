@@ -4,6 +4,8 @@ ghost use Rattle.std.specs.Option.{option_to_list};
 ghost use Rattle.l2_bits.specs.LineBits.{line_bits};
 ghost use Rattle.link_term.specs.declared.counts.Filling.TheVariants.{Wide};
 ghost use Rattle.link_term.specs.Filling.{Taps};
+ghost use Rattle.link_term.specs.Looking.{seen};
+ghost use Rattle.link_term.specs.Standing.{standing};
 ghost use Rattle.link_term.specs.Turning.{HearsOctet, StepsTo, PutsOut, TurnsOnce, TurnFails};
 ghost use Rattle.term_model.specs.OctetIn.{bits_in};
 
@@ -32,16 +34,23 @@ pub(crate) fn take_turn<D: Door, L: Line, T: Tap>(
     tap: &mut T,
 ) -> Result<Turned, TermFault>
     requires { D.number door.old ≡ inside.old.link }
-    ensures turns { IfOk result (λ turned. (turns : TurnsOnce receiver.old receiver.new inside.old turned
-        (D.made door.old) (D.made door.new) (L.taken_so_far line.old) (L.taken_so_far line.new)
-        (L.waiting line.old)
-        (L.put_so_far line.old) (L.put_so_far line.new) (L.free line.new) inside.new)
-        × Taps T.told turns.turn.chosen.unit tap.old tap.new
-        × (D.faults door.new ≡ D.faults door.old)) }
-    ensures fails { IfErr result (λ fault. TurnFails fault (D.faults door.old) (D.faults door.new)
-        receiver.old receiver.new inside.old
-        (D.made door.old) (D.made door.new) (L.taken_so_far line.old) (L.taken_so_far line.new)
-        (L.put_so_far line.old) (L.put_so_far line.new) inside.new × (tap.new ≡ tap.old)) }
+    ensures turns { IfOk result (λ turned. (turns : TurnsOnce
+        (standing receiver.old inside.old (D.made door.old) (D.faults door.old)
+        (seen (L.taken_so_far line.old) (L.waiting line.old) (L.put_so_far line.old)
+        (L.free line.old)))
+        turned
+        (standing receiver.new inside.new (D.made door.new) (D.faults door.new)
+        (seen (L.taken_so_far line.new) (L.waiting line.new) (L.put_so_far line.new)
+        (L.free line.new))))
+        × Taps T.told turns.turn.chosen.unit tap.old tap.new) }
+    ensures fails { IfErr result (λ fault. TurnFails fault
+        (standing receiver.old inside.old (D.made door.old) (D.faults door.old)
+        (seen (L.taken_so_far line.old) (L.waiting line.old) (L.put_so_far line.old)
+        (L.free line.old)))
+        (standing receiver.new inside.new (D.made door.new) (D.faults door.new)
+        (seen (L.taken_so_far line.new) (L.waiting line.new) (L.put_so_far line.new)
+        (L.free line.new)))
+        × (tap.new ≡ tap.old)) }
     ensures at { D.number door.new ≡ inside.new.link }
     ensures number { D.number door.new ≡ D.number door.old }
     ensures door { D.is_same door.old door.new }

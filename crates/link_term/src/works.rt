@@ -2,6 +2,8 @@
 ghost use Rattle.std.specs.Prelude.{◌≡◌, [], true, false, IfOk, IfErr, OnOk, OnErr};
 ghost use Rattle.link_term.specs.declared.fault.TermFault.TheVariants.{Failed};
 ghost use Rattle.link_term.specs.Filling.{Taps};
+ghost use Rattle.link_term.specs.Looking.{seen};
+ghost use Rattle.link_term.specs.Standing.{standing};
 ghost use Rattle.link_term.specs.States.{aligning_as, is_paused, state_of};
 ghost use Rattle.link_term.specs.Turning.{TurnsOnce, TurnFails};
 ghost use Rattle.term_model.specs.Terminal.{opened, told};
@@ -86,16 +88,21 @@ impl Works {
         line: &mut L,
     ) -> Result<Turned, TermFault>
         requires { D.number door.old ≡ self.old.inside.link }
-        ensures turns { IfOk result (λ turned. (self.old.failed ≡ false)
-            × TurnsOnce self.old.receiver self.new.receiver self.old.inside turned
-            (D.made door.old) (D.made door.new) (L.taken_so_far line.old) (L.taken_so_far line.new)
-            (L.waiting line.old) (L.put_so_far line.old) (L.put_so_far line.new) (L.free line.new)
-            self.new.inside
-            × (D.faults door.new ≡ D.faults door.old)) }
+        ensures turns { IfOk result (λ turned. (self.old.failed ≡ false) × TurnsOnce
+            (standing self.old.receiver self.old.inside (D.made door.old) (D.faults door.old)
+            (seen (L.taken_so_far line.old) (L.waiting line.old) (L.put_so_far line.old)
+            (L.free line.old)))
+            turned
+            (standing self.new.receiver self.new.inside (D.made door.new) (D.faults door.new)
+            (seen (L.taken_so_far line.new) (L.waiting line.new) (L.put_so_far line.new)
+            (L.free line.new)))) }
         ensures breaks { self.old.failed ≡ false → IfErr result (λ fault. TurnFails fault
-            (D.faults door.old) (D.faults door.new) self.old.receiver self.new.receiver self.old.inside
-            (D.made door.old) (D.made door.new) (L.taken_so_far line.old) (L.taken_so_far line.new)
-            (L.put_so_far line.old) (L.put_so_far line.new) self.new.inside) }
+            (standing self.old.receiver self.old.inside (D.made door.old) (D.faults door.old)
+            (seen (L.taken_so_far line.old) (L.waiting line.old) (L.put_so_far line.old)
+            (L.free line.old)))
+            (standing self.new.receiver self.new.inside (D.made door.new) (D.faults door.new)
+            (seen (L.taken_so_far line.new) (L.waiting line.new) (L.put_so_far line.new)
+            (L.free line.new)))) }
         ensures failed { self.old.failed ≡ true → (result ≡ Err Failed)
             × (door.new ≡ door.old) × (line.new ≡ line.old) × (self.new ≡ self.old) }
         ensures fails { OnErr result (self.new.failed ≡ true) }
@@ -116,17 +123,22 @@ impl Works {
         tap: &mut T,
     ) -> Result<Turned, TermFault>
         requires { D.number door.old ≡ self.old.inside.link }
-        ensures turns { IfOk result (λ turned. (self.old.failed ≡ false)
-            × (turns : TurnsOnce self.old.receiver self.new.receiver self.old.inside turned
-            (D.made door.old) (D.made door.new) (L.taken_so_far line.old) (L.taken_so_far line.new)
-            (L.waiting line.old) (L.put_so_far line.old) (L.put_so_far line.new) (L.free line.new)
-            self.new.inside)
-            × Taps T.told turns.turn.chosen.unit tap.old tap.new
-            × (D.faults door.new ≡ D.faults door.old)) }
+        ensures turns { IfOk result (λ turned. (self.old.failed ≡ false) × (turns : TurnsOnce
+            (standing self.old.receiver self.old.inside (D.made door.old) (D.faults door.old)
+            (seen (L.taken_so_far line.old) (L.waiting line.old) (L.put_so_far line.old)
+            (L.free line.old)))
+            turned
+            (standing self.new.receiver self.new.inside (D.made door.new) (D.faults door.new)
+            (seen (L.taken_so_far line.new) (L.waiting line.new) (L.put_so_far line.new)
+            (L.free line.new))))
+            × Taps T.told turns.turn.chosen.unit tap.old tap.new) }
         ensures breaks { self.old.failed ≡ false → IfErr result (λ fault. TurnFails fault
-            (D.faults door.old) (D.faults door.new) self.old.receiver self.new.receiver self.old.inside
-            (D.made door.old) (D.made door.new) (L.taken_so_far line.old) (L.taken_so_far line.new)
-            (L.put_so_far line.old) (L.put_so_far line.new) self.new.inside) }
+            (standing self.old.receiver self.old.inside (D.made door.old) (D.faults door.old)
+            (seen (L.taken_so_far line.old) (L.waiting line.old) (L.put_so_far line.old)
+            (L.free line.old)))
+            (standing self.new.receiver self.new.inside (D.made door.new) (D.faults door.new)
+            (seen (L.taken_so_far line.new) (L.waiting line.new) (L.put_so_far line.new)
+            (L.free line.new)))) }
         ensures failed { self.old.failed ≡ true → (result ≡ Err Failed)
             × (door.new ≡ door.old) × (line.new ≡ line.old) × (self.new ≡ self.old) }
         ensures untold { OnErr result (tap.new ≡ tap.old) }

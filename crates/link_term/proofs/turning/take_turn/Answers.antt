@@ -6,15 +6,15 @@ use Rattle.link_term.proofs.turning.take_turn.Goals as goal
 pub returns-in_err-obey-clause-fails : goal.returns-in_err-obey-clause-fails
 returns-in_err-obey-clause-fails g c =
     let broke = c.in_err-obey.ensures.talks in
-    turn_broken _ _ _ _ _ _ _ _ _ _ _ _ _ _ _ _ c.from_residual.ensures.1 (breaks_at_command _ _ _ _ _ _ broke.0) broke.1 refl
+    turn_broken _ _ _ _ _ _ c.from_residual.ensures.1 (breaks_at_command _ _ broke.0 refl refl refl) broke.1 refl
 
 pub returns-in_err-turned-clause-fails : goal.returns-in_err-turned-clause-fails
 returns-in_err-turned-clause-fails g c =
     let obeyed = c.in_ok-obey.ensures.talks in
     let broke = c.in_err-turned.ensures.steps in
     let take = c.take-octet.ensures in
-    turn_broken _ _ _ _ _ _ _ _ _ _ _ _ _ _ _ _ c.from_residual-in_err-turned.ensures.1
-    (breaks_after _ _ c.take-octet.result _ _ _ _ _ _ _ _ _ obeyed.0 broke.0 c.in_err-turned.ensures.taken
+    turn_broken _ _ _ _ _ _ c.from_residual-in_err-turned.ensures.1
+    (breaks_after _ _ c.take-octet.result _ _ obeyed.0 broke.0 c.in_err-turned.ensures.taken
     (took c.take-octet.result _ _ _ _ take.some take.none) take.put)
     (broke.1 ∙ ap (λ (fs : List SetFault). fs ++ c.in_err-turned.field-0.0 ∷ []) obeyed.1) broke.2
 
@@ -23,15 +23,15 @@ returns-clause-turns g c =
     let obeyed = c.in_ok-obey.ensures.talks in
     let steps = c.in_ok-turned.ensures.steps in
     let take = c.take-octet.ensures in
-    let went = turn_went _ _ c.take-octet.result _ _ _ _ _ _ _ _ _ _ _ _ _ _ _ _ _ _ obeyed.0 steps.0 c.put_octet.ensures.puts take.put
+    turn_went _ _ c.take-octet.result _ _ _ _ _ _ _ _ obeyed.0 steps.0 c.put_octet.ensures.puts take.put
     c.in_ok-turned.ensures.taken (c.put_octet.ensures.taken ∙ took c.take-octet.result _ _ _ _ take.some take.none)
-    (none_waited c.take-octet.result _ _ _ _ take.none) (λ wide. let is = c.is_wide.ensures.1 wide in let not = c.if-is_wide.false in cc) in
-    (went.0, went.1, steps.1 ∙ obeyed.1)
+    (none_waited c.take-octet.result _ _ _ _ take.none) (λ wide. let is = c.is_wide.ensures.1 wide in let not = c.if-is_wide.false in cc)
+    (steps.1 ∙ obeyed.1)
 
 pub returns-then-is_wide-clause-fails : goal.returns-then-is_wide-clause-fails
 returns-then-is_wide-clause-fails g c =
     let obeyed = c.in_ok-obey.ensures.talks in
     let steps = c.in_ok-turned.ensures.steps in
     let take = c.take-octet.ensures in
-    turn_wide _ _ c.take-octet.result _ _ _ _ _ _ _ _ _ _ _ _ _ _ _ _ obeyed.0 steps.0 take.put c.in_ok-turned.ensures.taken
+    turn_wide _ _ c.take-octet.result _ _ _ _ _ _ obeyed.0 steps.0 take.put c.in_ok-turned.ensures.taken
     (took c.take-octet.result _ _ _ _ take.some take.none) (c.is_wide.ensures.0 c.if-is_wide.true) (steps.1 ∙ obeyed.1)
