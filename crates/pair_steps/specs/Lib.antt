@@ -1,2 +1,5 @@
+pub mod Lending
+pub mod Lent
 pub mod Lines
+pub mod Showing
 pub mod UnderWay

@@ -1,5 +1,5 @@
-//! The words of a world of two ends: what can happen in it, a [`Step`], what it shows, [`Shown`], and the units under way
-//! to one end, [`Lines`].
+//! The words of a world of two ends: what can happen in it, a [`Step`], what it shows, [`Shown`] (or [`Showing`], the place
+//! of what is shown), and the units under way to one end, [`Lines`].
 //!
 //! ```text
 //! link 0   unit unit unit          oldest first: place 0 is the next to arrive
@@ -17,10 +17,12 @@
 
 mod line;
 mod lines;
+mod showing;
 mod step;
 mod under_way;
 
 pub use line::Line;
 pub use lines::Lines;
+pub use showing::{Showing, ShownRef};
 pub use step::{End, Shown, Step};
 pub use under_way::UnderWay;

@@ -1,9 +1,11 @@
 //! Units under way on one link.
-ghost use Rattle.std.specs.Prelude.{◌≡◌, ◌==◌, [], ◌∷◌, ◌++◌, OnOk, OnErr, length, slice_get};
+ghost use Rattle.std.specs.Prelude.{◌≡◌, ◌==◌, ◌≤◌, [], ◌∷◌, ◌++◌, IfSome, OnOk, OnErr, length, slice_get};
+ghost use Rattle.l2_units.specs.Lent.{body_in, unit_in};
 ghost use Rattle.pair_steps.specs.Lines.{IsTakenFrom};
+ghost use Rattle.pair_steps.specs.Lent.{IsUnitAt};
 
 use super::under_way::UnderWay;
-use l2_units::Unit;
+use l2_units::{Unit, UnitRef};
 use std::alloc::{AllocError, Allocator, Global};
 use std::collections::VecDeque;
 use std::marker::Model;
@@ -37,9 +39,10 @@ impl<A: Allocator + Copy> Line<A> {
         }
     }
 
-    /// A unit joins the line; where memory is wanted, nothing has changed.
-    pub(crate) fn join(&mut self, unit: &Unit) -> Result<(), AllocError>
-        ensures ok { OnOk result (self.new ≡ self.old ++ unit.now ∷ []) }
+    /// A unit joins the line; where memory is wanted, nothing has changed. Condition: a body of at most 273 octets.
+    pub(crate) fn join(&mut self, unit: &UnitRef<'_>) -> Result<(), AllocError>
+        requires { length (body_in unit.now) ≤ 273 }
+        ensures ok { OnOk result (self.new ≡ self.old ++ unit_in unit.now ∷ []) }
         ensures err { OnErr result (self.new ≡ self.old) }
     {
         let under_way = UnderWay::of(self.alloc, unit)?;
@@ -61,12 +64,23 @@ impl<A: Allocator + Copy> Line<A> {
         self.units.is_empty()
     }
 
+    /// The unit at this place, the oldest at 0, with its body left in the line.
+    pub fn unit_ref(&self, place: u64) -> Option<UnitRef<'_>>
+        ensures value { IsUnitAt self.now place result }
+        ensures few { IfSome result (λ unit. length (body_in unit) ≤ 273) }
+    {
+        match self.units.get(place as usize) {
+            Some(under_way) => Some(under_way.unit_ref()),
+            None => None,
+        }
+    }
+
     /// The unit at this place, the oldest at 0.
     pub fn unit(&self, place: u64) -> Option<Unit>
         ensures { result ≡ slice_get self.now place }
     {
-        match self.units.get(place as usize) {
-            Some(under_way) => Some(under_way.unit()),
+        match self.unit_ref(place) {
+            Some(unit) => Some(unit.unit()),
             None => None,
         }
     }

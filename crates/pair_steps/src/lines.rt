@@ -1,7 +1,7 @@
 //! A line for each link.
 use super::line::Line;
 use super::under_way::UnderWay;
-use l2_units::Unit;
+use l2_units::UnitRef;
 use std::alloc::{AllocError, Allocator, Global};
 use std::marker::Model;
 
@@ -29,6 +29,7 @@ impl<A: Allocator> Model for Lines<A> {
 
 impl<A: Allocator + Copy> Lines<A> {
     ghost use Rattle.std.specs.Prelude.{◌≡◌, ◌<◌, ◌≤◌, [], length, IfOk, OnOk, OnErr};
+    ghost use Rattle.l2_units.specs.Lent.{body_in, unit_in};
     ghost use Rattle.pair_steps.specs.Lines.{no_units, units_on, joined_on, with_units, IsTakenOut};
 
     /// A line for each of so many links, with nothing under way; it fails only where memory is wanted.
@@ -47,10 +48,11 @@ impl<A: Allocator + Copy> Lines<A> {
 
     /// The unit joins the line of this link; where memory is wanted, no line has changed.
     ///
-    /// Condition: there is such a link.
-    pub fn join(&mut self, link: u8, unit: &Unit) -> Result<(), AllocError>
-        requires { link < length self.old }
-        ensures ok { OnOk result (self.new ≡ joined_on link unit.now self.old) }
+    /// Conditions: there is such a link; the unit has a body of at most 273 octets.
+    pub fn join(&mut self, link: u8, unit: &UnitRef<'_>) -> Result<(), AllocError>
+        requires link { link < length self.old }
+        requires few { length (body_in unit.now) ≤ 273 }
+        ensures ok { OnOk result (self.new ≡ joined_on link (unit_in unit.now) self.old) }
         ensures err { OnErr result (self.new ≡ self.old) }
     {
         self.lines[link as usize].join(unit)

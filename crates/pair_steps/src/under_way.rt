@@ -1,7 +1,8 @@
 //! A unit under way, in as much memory as it has octets.
-ghost use Rattle.std.specs.Prelude.{◌≡◌, IfOk};
+ghost use Rattle.std.specs.Prelude.{◌≡◌, ◌≤◌, IfOk, length};
+ghost use Rattle.l2_units.specs.Lent.{body_in, unit_in};
 
-use l2_units::{Header, Status, Unit, body_of};
+use l2_units::{Header, Status, Unit, UnitRef};
 use std::alloc::{AllocError, Allocator, Global};
 use std::marker::Model;
 
@@ -35,16 +36,17 @@ impl<A: Allocator> Model for UnderWay<A> {
 }
 
 impl<A: Allocator> UnderWay<A> {
-    /// This unit, under way; it fails only where memory is wanted.
-    pub(crate) fn of(alloc: A, unit: &Unit) -> Result<UnderWay<A>, AllocError>
-        ensures { IfOk result (λ under. under ≡ unit.now) }
+    /// This unit, under way; it fails only where memory is wanted. Condition: a body of at most 273 octets.
+    pub(crate) fn of(alloc: A, unit: &UnitRef<'_>) -> Result<UnderWay<A>, AllocError>
+        requires { length (body_in unit.now) ≤ 273 }
+        ensures { IfOk result (λ under. under ≡ unit_in unit.now) }
     {
         let mut octets = Vec::new(alloc);
         let (head, kind) = match unit {
-            Unit::Fisu { head } => (*head, Kind::Fisu),
-            Unit::Lssu { head, status } => (*head, Kind::Lssu(*status)),
-            Unit::Msu { head, body } => {
-                octets.extend_from_slice(body.as_slice())?;
+            UnitRef::Fisu { head } => (*head, Kind::Fisu),
+            UnitRef::Lssu { head, status } => (*head, Kind::Lssu(*status)),
+            UnitRef::Msu { head, body } => {
+                octets.extend_from_slice(body)?;
                 (*head, Kind::Msu)
             }
         };
@@ -55,20 +57,28 @@ impl<A: Allocator> UnderWay<A> {
         })
     }
 
+    /// The unit, with its body left in it.
+    pub fn unit_ref(&self) -> UnitRef<'_>
+        ensures value { unit_in result ≡ self.now }
+        ensures few { length (body_in result) ≤ 273 }
+    {
+        match self.kind {
+            Kind::Fisu => UnitRef::Fisu { head: self.head },
+            Kind::Lssu(status) => UnitRef::Lssu {
+                head: self.head,
+                status,
+            },
+            Kind::Msu => UnitRef::Msu {
+                head: self.head,
+                body: self.body.as_slice(),
+            },
+        }
+    }
+
     /// The unit.
     pub fn unit(&self) -> Unit
         ensures { result ≡ self.now }
     {
-        match self.kind {
-            Kind::Fisu => Unit::Fisu { head: self.head },
-            Kind::Lssu(status) => Unit::Lssu {
-                head: self.head,
-                status,
-            },
-            Kind::Msu => Unit::Msu {
-                head: self.head,
-                body: body_of(self.body.as_slice()),
-            },
-        }
+        self.unit_ref().unit()
     }
 }
