@@ -46,6 +46,14 @@ sealed_by_number octets check fits bits =
     let high : check / 2 ^ 8 % 2 ^ 8 ≡ check / 256 = omega arith in
     rw (check_octets_of octets check (check / 2 ^ 8) (sym (bits_of-add 8 8 check) ∙ bits), high) refl
 
+-- the check octets by themselves
+pub check_by_number : (octets : List ℕ) (check : ℕ) → check < 2 ^ 16
+    → bits_of 16 check ≡ check_bits (line_bits octets)
+    → check % 256 ∷ check / 256 ∷ [] ≡ check_octets octets
+check_by_number octets check fits bits =
+    let high : check / 2 ^ 8 % 2 ^ 8 ≡ check / 256 = omega arith in
+    rw (check_octets_of octets check (check / 2 ^ 8) (sym (bits_of-add 8 8 check) ∙ bits), high) refl
+
 -- eight bits packed into an octet
 packed : (bits : List Bool) → length bits ≡ 8 → bits_of 8 (number_of bits) ≡ bits
 packed bits eight = ap (λ (k : ℕ). bits_of k (number_of bits)) (sym eight) ∙ bits_of-number_of bits

@@ -79,15 +79,30 @@ const ALL_ONES: u16 = 0xFFFF;
 pub fn check_of(octets: &[u8]) -> u16
     ensures { bits_of 16 result ≡ check_bits (line_bits octets.now) }
 {
-    let mut register = ALL_ONES;
+    !after_all(ALL_ONES, octets)
+}
+
+/// The same of octets that stand in two places, those of `front` first.
+pub(crate) fn check_of_both(front: &[u8], rest: &[u8]) -> u16
+    ensures { bits_of 16 result ≡ check_bits (line_bits (front.now ++ rest.now)) }
+{
+    !after_all(after_all(ALL_ONES, front), rest)
+}
+
+/// The register after these octets.
+#[inline(always)]
+fn after_all(register: u16, octets: &[u8]) -> u16
+    ensures { DividesTo register (line_bits octets.now) result }
+{
+    let mut register = register;
     let mut left = octets;
     while let [first, second, more @ ..] = left {
         register = after_pair(register, *first, *second);
         left = more;
     }
     match left {
-        [last, ..] => !after_octet(register, *last),
-        [] => !register,
+        [last, ..] => after_octet(register, *last),
+        [] => register,
     }
 }
 

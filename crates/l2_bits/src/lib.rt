@@ -4,7 +4,7 @@
 //! The crate is pure: no time, no IO, no lock, and it takes no memory.
 //!
 //! To the line: `seal` gives the octets of a signal unit with their two check octets behind them
-//! (`check_of` gives those alone), `stuff_into` appends their text to the bits of the line, and
+//! (`check_of` gives those alone, and `check_octets_of` those of octets in two places), `stuff_into` appends their text to the bits of the line, and
 //! `flag_into` a flag. From the line: a `Deframer` takes its bits one by one (`feed`) or its octets (`feed_octet`), and
 //! gives a mark where a signal unit ends, a good one or a damaged one, or where octet counting tells an error. `step`,
 //! `pass`, `feed_rest` and `feed_octets` do so without a copy of a unit's octets, which `unit` lends.
@@ -35,5 +35,5 @@ pub use deframing::Deframer;
 pub use flags::flag_into;
 pub use marks::{Mark, MarkKind, octet_counting, one_mark};
 pub use rest::{Octets, Rest};
-pub use sealed_text::{one_sealed_text, seal};
+pub use sealed_text::{check_octets_of, one_sealed_text, seal};
 pub use stuffing::{one_text, stuff_into};
