@@ -1,6 +1,7 @@
 pub mod Fault
+pub mod Front
 pub mod Grammar
-pub mod Profile
+pub mod Lent
 pub mod Numbers
 pub mod Orders
-pub mod Lent
+pub mod Profile

@@ -38,6 +38,7 @@
 #![tactic(auto)]
 
 mod cause;
+mod front;
 mod grammar;
 mod lent;
 mod profile;
@@ -48,6 +49,7 @@ mod unit;
 mod writing;
 
 pub use cause::{Cause, ControlFault};
+pub use front::front_of;
 pub use grammar::{copy_of_unit, header_in, one_text, same_unit};
 pub use lent::UnitRef;
 pub use profile::Profile;

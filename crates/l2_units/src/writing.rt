@@ -82,7 +82,7 @@ fn with_wide_body(head: &Header, body: &[u8]) -> ArrayVec<u8, LONGEST_UNIT>
 }
 
 /// A header and a length indicator in 32 bits.
-fn word_of(head: Header, indicator: u32) -> u32
+pub(crate) fn word_of(head: Header, indicator: u32) -> u32
     requires { indicator < 64 }
     ensures { result ≡ wide_number head indicator }
 {
@@ -92,7 +92,7 @@ fn word_of(head: Header, indicator: u32) -> u32
 }
 
 /// A sequence number with its indicator bit above it.
-fn sequence_octet(number: u16, indicator: bool) -> u8
+pub(crate) fn sequence_octet(number: u16, indicator: bool) -> u8
     requires { number < 2 ^ 7 }
     ensures { result ≡ octet_of number indicator }
 {
