@@ -2,8 +2,8 @@
 //!
 //! | what | its text |
 //! |---|---|
-//! | [`pair_steps::Shown`], what a step showed: an answer of a set, an up, a loss | [`write_shown`], [`push_shown`] |
-//! | [`set_events::Answer`] of a set alone | [`push_answer`] |
+//! | [`pair_steps::Showing`], what a step showed: an answer of a set, an up, a loss | [`write_shown`], [`push_shown`] |
+//! | [`set_events::AnswerRef`], the answer of a set alone | [`push_answer`] |
 //! | [`set_events::Counts`] of an end | [`write_end`] |
 //!
 //! Each text is a line, ended by LF, and fails only where memory is wanted. Numbers are decimal, octets are
@@ -13,5 +13,7 @@
 #![tactic(auto)]
 
 mod texts;
+mod units;
 
-pub use texts::{code_of, push_answer, push_shown, unit_octets, write_end, write_shown};
+pub use texts::{code_of, push_answer, push_shown, write_end, write_shown};
+pub use units::{UnitOctets, unit_octets};

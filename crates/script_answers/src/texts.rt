@@ -1,24 +1,22 @@
 //! The printed texts.
 ghost use Rattle.std.specs.Prelude.{◌≡◌, ◌++◌, ◌+◌, ◌<◌, ◌^◌, IfOk, MatchResult, codes, decimal, length};
-ghost use Rattle.l2_units.specs.Grammar.{body_of};
-ghost use Rattle.l2_units.specs.declared.profile.Profile.TheVariants.{Narrow, Wide};
+ghost use Rattle.l2_bits.specs.SealedText.{sealed_text};
+ghost use Rattle.l2_units.specs.Lent.{unit_in};
+ghost use Rattle.set_events.specs.Lent.{answer_in};
 ghost use Rattle.set_model.specs.Rows.{total_of};
 ghost use Rattle.text_base.specs.Figures.{hex_text};
 ghost use Rattle.script_answers.specs.Texts.{Appends, unit_octets, fate_text, took_text, fault_code, flags_text, report_text, sent_line, answer_text, shown_line, shown_text, end_name, end_text, link_counts, other_counts};
 
-use arrayvec::ArrayVec;
-use l2_bits::seal;
-use l2_units::{LONGEST_UNIT, Profile, Unit, header_in, write, write_wide};
-use pair_steps::{End, Shown};
-use set_events::{Answer, ControlFault, Counts, Fate, Report, Took};
+use super::units::unit_octets;
+use l2_bits::check_octets_of;
+use l2_units::{Profile, UnitRef};
+use pair_steps::{End, Showing, ShownRef};
+use set_events::{AnswerRef, ControlFault, Counts, Fate, Report, Took};
 use std::alloc::{AllocError, Global};
 use text_base::{bit_of, decimal_digit, push_hex, push_number};
 
-/// The most octets of a body in the wide profile.
-const LONGEST_WIDE_BODY: usize = 272;
-
 /// The text of what a step of two sets of this profile shows.
-pub fn write_shown(alloc: Global, profile: Profile, shown: &Shown) -> Result<Vec<u8>, AllocError>
+pub fn write_shown(alloc: Global, profile: Profile, shown: &Showing) -> Result<Vec<u8>, AllocError>
     ensures { IfOk result (λ text. text.items ≡ shown_text profile shown.now) }
 {
     let mut text = Vec::new(alloc);
@@ -29,7 +27,7 @@ pub fn write_shown(alloc: Global, profile: Profile, shown: &Shown) -> Result<Vec
 /// Appends the text of what a step of two sets of this profile shows.
 ///
 /// Where memory is wanted `out` holds what it held before.
-pub fn push_shown(out: &mut Vec<u8>, profile: Profile, shown: &Shown) -> Result<(), AllocError>
+pub fn push_shown(out: &mut Vec<u8>, profile: Profile, shown: &Showing) -> Result<(), AllocError>
     ensures { MatchResult result
         (λ done. out.new.items ≡ out.old.items ++ shown_text profile shown.now)
         (λ want. out.new.items ≡ out.old.items) }
@@ -46,30 +44,34 @@ pub fn push_shown(out: &mut Vec<u8>, profile: Profile, shown: &Shown) -> Result<
 }
 
 /// Appends the line of what was shown, case by case.
-fn push_line(out: &mut Vec<u8>, profile: Profile, shown: &Shown) -> Result<(), AllocError>
+fn push_line(out: &mut Vec<u8>, profile: Profile, shown: &Showing) -> Result<(), AllocError>
     ensures { Appends result out.old.items (shown_line profile shown.now) out.new.items }
 {
-    match shown {
-        Shown::Up => push_piece(out, b"up\n"),
-        Shown::Lost => push_piece(out, b"lost\n"),
-        Shown::Answered(answer) => push_answer(out, profile, answer),
+    match shown.get() {
+        ShownRef::Up => push_piece(out, b"up\n"),
+        ShownRef::Lost => push_piece(out, b"lost\n"),
+        ShownRef::Answered(answer) => push_answer(out, profile, &answer),
     }
 }
 
 /// Appends the text of what a set of this profile answered.
 ///
 /// Where memory is wanted `out` begins with what it held before.
-pub fn push_answer(out: &mut Vec<u8>, profile: Profile, answer: &Answer) -> Result<(), AllocError>
-    ensures { Appends result out.old.items (answer_text profile answer.now) out.new.items }
+pub fn push_answer(
+    out: &mut Vec<u8>,
+    profile: Profile,
+    answer: &AnswerRef<'_>,
+) -> Result<(), AllocError>
+    ensures { Appends result out.old.items (answer_text profile (answer_in answer.now)) out.new.items }
 {
     match answer {
-        Answer::Accepted { number } => push_number_line(out, b"accepted ", *number),
-        Answer::Taken { body } => push_hex_line(out, b"taken ", body.as_slice()),
-        Answer::Found { fate } => push_fate(out, *fate),
-        Answer::Sent { unit } => push_sent(out, profile, unit),
-        Answer::Heard { report } => push_report(out, report),
-        Answer::Done => push_piece(out, b"done\n"),
-        Answer::Refused { why } => push_number_line(out, b"refused ", why.number() as u64),
+        AnswerRef::Accepted { number } => push_number_line(out, b"accepted ", *number),
+        AnswerRef::Taken { body } => push_hex_line(out, b"taken ", body),
+        AnswerRef::Found { fate } => push_fate(out, *fate),
+        AnswerRef::Sent { unit } => push_sent(out, profile, unit),
+        AnswerRef::Heard { report } => push_report(out, report),
+        AnswerRef::Done => push_piece(out, b"done\n"),
+        AnswerRef::Refused { why } => push_number_line(out, b"refused ", why.number() as u64),
     }
 }
 
@@ -91,62 +93,22 @@ fn push_fate(out: &mut Vec<u8>, fate: Fate) -> Result<(), AllocError>
 }
 
 /// Appends the text of a sent unit, with its check octets.
-// on its own: whoever has the unit's octets in its frame fills them each time, whatever it's called for
-#[inline(never)]
-fn push_sent(out: &mut Vec<u8>, profile: Profile, unit: &Unit) -> Result<(), AllocError>
-    ensures { Appends result out.old.items (sent_line (unit_octets profile unit.now)) out.new.items }
+fn push_sent(out: &mut Vec<u8>, profile: Profile, unit: &UnitRef<'_>) -> Result<(), AllocError>
+    ensures { Appends result out.old.items (sent_line (unit_octets profile (unit_in unit.now))) out.new.items }
 {
-    push_hex_line(
-        out,
-        b"sent ",
-        seal(unit_octets(profile, unit).as_slice()).as_slice(),
-    )
+    let octets = unit_octets(profile, unit);
+    push_piece(out, b"sent ")?;
+    push_sealed(out, octets.front.as_slice(), octets.body)?;
+    push_piece(out, b"\n")
 }
 
-/// A unit's octets in this profile, without check octets. Of one that has no form in it, for a number of more than seven
-/// bits in the narrow or a body of more than 272 octets in the wide profile, as no set of the profile sends, there are
-/// none (own).
-pub fn unit_octets(profile: Profile, unit: &Unit) -> ArrayVec<u8, LONGEST_UNIT>
-    ensures { result.items ≡ unit_octets profile unit.now }
+/// Appends octets that stand in two places, and their check octets.
+fn push_sealed(out: &mut Vec<u8>, front: &[u8], rest: &[u8]) -> Result<(), AllocError>
+    ensures { Appends result out.old.items (hex_text (sealed_text (front.now ++ rest.now))) out.new.items }
 {
-    match profile {
-        Profile::Narrow => narrow_octets(unit),
-        Profile::Wide => wide_octets(unit),
-    }
-}
-
-/// A unit's octets in the wide profile.
-fn wide_octets(unit: &Unit) -> ArrayVec<u8, LONGEST_UNIT>
-    ensures { result.items ≡ unit_octets Wide unit.now }
-{
-    if body_size(unit) <= LONGEST_WIDE_BODY {
-        write_wide(unit)
-    } else {
-        ArrayVec::new()
-    }
-}
-
-/// How many octets stand behind a unit's length indicator.
-fn body_size(unit: &Unit) -> usize
-    ensures { result ≡ length (body_of unit.now) }
-{
-    match unit {
-        Unit::Fisu { .. } => 0,
-        Unit::Lssu { .. } => 1,
-        Unit::Msu { body, .. } => body.len(),
-    }
-}
-
-/// A unit's octets in the narrow profile.
-fn narrow_octets(unit: &Unit) -> ArrayVec<u8, LONGEST_UNIT>
-    ensures { result.items ≡ unit_octets Narrow unit.now }
-{
-    let head = header_in(unit);
-    if head.bsn < 128 && head.fsn < 128 {
-        write(unit)
-    } else {
-        ArrayVec::new()
-    }
+    push_hex(out, front)?;
+    push_hex(out, rest)?;
+    push_hex(out, &check_octets_of(front, rest))
 }
 
 /// Appends the text of what a heard unit did.
