@@ -9,7 +9,7 @@ use super::script::{Ask, SCRIPT, config, who_of};
 use super::sets::{answered, are_alike, bases, made, opened};
 use super::{MOST_GROWTHS, TRIES, holds};
 use set_core::{SetCore, SetFault};
-use set_events::{Actor, Answer, Event, SetConfig};
+use set_events::{Actor, Answer, Event, EventRef, Reply, SetConfig};
 use set_ledger::{
     Blanks, CreateFault, Held, Opened, Opening, Seat, TermSeat, UserSeat, forget, step_in,
 };
@@ -122,7 +122,7 @@ fn is_asked<C: Opening, M: Ledger, O: Ledger, A: Ledger, G: Allocator + Copy>(
             return false;
         }
     }
-    is_based(&mut held, twin) && all_forget(alloc, &held, &mut users, &mut terminals)
+    is_based(&mut held, twin) && all_forget(&held, &mut users, &mut terminals)
 }
 
 /// The seat whose the event is makes the step, and the twin answers the same.
@@ -174,9 +174,10 @@ fn steps<C: Opening, M: Ledger, O: Ledger, A: Ledger, G: Allocator + Copy, S: Se
         if !is_own(seat.actor(), event) {
             return false;
         }
-        match step_in(held, seat, event) {
-            Ok(given) => {
-                *answer = given;
+        let mut reply = Reply::new();
+        match step_in(held, seat, &EventRef::of(event), &mut reply) {
+            Ok(()) => {
+                *answer = reply.answer();
                 return seat.receipts().len() == receipts.saturating_add(1);
             }
             Err(SetFault::NoMemory) => {
@@ -250,18 +251,17 @@ fn makes_base<C: Opening, M: Ledger, O: Ledger, A: Ledger, G: Allocator + Copy>(
 }
 
 fn all_forget<C: Opening, M: Ledger, O: Ledger, A: Ledger, G: Allocator + Copy>(
-    alloc: Global,
     held: &Held<C, M, O, A, G>,
     users: &mut [UserSeat<C, M, O, A, G>],
     terminals: &mut [TermSeat<C, M, O, A, G>],
 ) -> bool {
     for seat in users.iter_mut() {
-        if !forgets(alloc, held, seat) {
+        if !forgets(held, seat) {
             return false;
         }
     }
     for seat in terminals.iter_mut() {
-        if !forgets(alloc, held, seat) {
+        if !forgets(held, seat) {
             return false;
         }
     }
@@ -270,13 +270,12 @@ fn all_forget<C: Opening, M: Ledger, O: Ledger, A: Ledger, G: Allocator + Copy>(
 
 /// The seat forgets all its receipts, and nothing of its share; while that is refused, it is as it was.
 fn forgets<C: Opening, M: Ledger, O: Ledger, A: Ledger, G: Allocator + Copy, S: Seat<C, M, O, A>>(
-    alloc: Global,
     held: &Held<C, M, O, A, G>,
     seat: &mut S,
 ) -> bool {
     let (share, receipts) = (seat.share(), seat.receipts().len());
     for _ in 0..TRIES {
-        match forget(alloc, held, seat) {
+        match forget(held, seat) {
             Ok(()) => {
                 let gone = seat.receipts().len() == 0 && seat.forgotten().calls == receipts as u64;
                 return gone && seat.share() == share;

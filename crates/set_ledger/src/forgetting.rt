@@ -1,7 +1,5 @@
 //! What a seat forgets: receipts that lie in its set's base, where nobody holds them against the history any more.
 ghost use Rattle.std.specs.Prelude.{◌≡◌, ◌<◌, ◌+◌, ◌-◌, ◌^◌, ◌↔◌, drop, IfErr, IfOk, OnErr, OnOk};
-ghost use Rattle.set_history.specs.Told.{event_in};
-ghost use Rattle.set_model.specs.Step.{messages_in, octets_of};
 ghost use Rattle.set_ledger.specs.Ending.{IsFaithful, calls_at};
 ghost use Rattle.set_ledger.specs.Seats.{Forgets, IsCountable, with_entries, with_entry};
 
@@ -9,17 +7,15 @@ use super::checking::count_calls;
 use super::held::Held;
 use super::opening::Opening;
 use super::seat::Seat;
-use super::share::{Forgotten, count_messages};
+use super::share::{Forgotten, count_messages, count_octets};
 use set_core::SetFault;
-use set_events::Answer;
-use set_history::{Asked, History, Reader, Told};
-use std::alloc::{AllocError, Allocator, Global};
+use set_history::{History, Reader, Told};
+use std::alloc::{AllocError, Allocator};
 use std::sync::ledger::Ledger;
 
 /// A seat forgets the receipts of its calls before the set's base, and keeps what they added up to: a set's history has
 /// no entry of them any more, and [`Held::end`] holds the others against it, as before. The share stays. Where there are
-/// such calls it takes time by how many receipts there are, and meanwhile memory by how many stay: the seat's own, and
-/// that of `alloc` for one event at a time.
+/// such calls it takes time by how many receipts there are, and meanwhile memory by how many stay.
 ///
 /// Fault: 1 [`SetFault::NoMemory`], only where memory was refused; the seat is then as it was.
 pub fn forget<
@@ -29,7 +25,7 @@ pub fn forget<
     A: Ledger,
     G: Allocator + Copy,
     S: Seat<C, M, O, A>,
->(alloc: Global, held: &Held<C, M, O, A, G>, seat: &mut S) -> Result<(), SetFault>
+>(held: &Held<C, M, O, A, G>, seat: &mut S) -> Result<(), SetFault>
     ensures forgets { OnOk result (Forgets
         (calls_at (S.state seat.old).who held.now.set.base.books - (S.state seat.old).forgotten.calls)
         (S.state seat.old) (S.state seat.new)) }
@@ -40,13 +36,12 @@ pub fn forget<
 {
     let calls = count_calls(&held.core().base().books(), seat.actor());
     let many = calls.saturating_sub(seat.forgotten().calls);
-    seat.forget(alloc, many)?;
+    seat.forget(many)?;
     Ok(())
 }
 
 /// The first so many receipts are forgotten, or all, where there are fewer. What they added up to is kept.
 pub(crate) fn forget_first<G: Allocator + Copy>(
-    alloc: Global,
     room: G,
     receipts: &mut History<G>,
     forgotten: &mut Forgotten,
@@ -62,7 +57,7 @@ pub(crate) fn forget_first<G: Allocator + Copy>(
     }
     let mut left = receipts.reader();
     let counted = count_first(*forgotten, &mut left, many);
-    let kept = copy_of(alloc, room, left)?;
+    let kept = copy_of(room, left)?;
     *receipts = kept;
     *forgotten = counted;
     Ok(())
@@ -92,38 +87,24 @@ fn count(before: Forgotten, told: &Told<'_>) -> Forgotten
     requires { IsCountable (with_entry before told.now) }
     ensures { result ≡ with_entry before told.now }
 {
-    let answer = told.answer();
+    let answer = told.answered();
     Forgotten {
         calls: before.calls + 1,
         messages: before.messages + count_messages(&answer),
-        octets: before.octets + count_asked(&told.asked(), &answer),
-    }
-}
-
-/// The octets of the body that this answer to what was asked accepts.
-fn count_asked(asked: &Asked<'_>, answer: &Answer) -> u64
-    ensures { result ≡ octets_of (event_in asked.now) answer.now }
-{
-    match (asked, answer) {
-        (Asked::Offer { body }, Answer::Accepted { .. }) => body.len() as u64,
-        _ => 0,
+        octets: before.octets + count_octets(&told.asked(), &answer),
     }
 }
 
 /// A history of these entries.
-fn copy_of<G: Allocator + Copy>(
-    alloc: Global,
-    room: G,
-    entries: Reader<'_>,
-) -> Result<History<G>, AllocError>
+fn copy_of<G: Allocator + Copy>(room: G, entries: Reader<'_>) -> Result<History<G>, AllocError>
     ensures { IfOk result (λ copy. copy.items ≡ entries.entry) }
 {
     let mut copy = History::new(room);
     let mut left = entries;
     while let Some(told) = left.next() {
-        let event = told.event(alloc)?;
+        let event = told.asked();
         copy.reserve(&event)?;
-        copy.push(told.who(), &event, &told.answer());
+        copy.push(told.who(), &event, &told.answered());
     }
     Ok(copy)
 }

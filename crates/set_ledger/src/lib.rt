@@ -41,6 +41,6 @@ pub use ending::{Back, Closed, EndFault};
 pub use forgetting::forget;
 pub use held::{CreateFault, Held, MOST_USERS, Opened};
 pub use opening::Opening;
-pub use seat::{Seat, TermSeat, UserSeat, step_in};
+pub use seat::{Seat, TermSeat, UserSeat, reserve_receipt, step_in};
 pub use set_core::{Base, SetCore, SetFault};
 pub use share::{Blanks, Forgotten, SeatShare};

@@ -1,6 +1,7 @@
 //! Seats of users and of terminals.
-ghost use Rattle.std.specs.Prelude.{◌≡◌, ◌<◌, ◌≤◌, ◌+◌, length, IfOk, OnOk, OnErr};
+ghost use Rattle.std.specs.Prelude.{◌≡◌, ◌<◌, ◌≤◌, ◌+◌, length, OnOk, OnErr};
 ghost use Rattle.set_events.specs.declared.event.Actor.TheVariants.{User, Terminal};
+ghost use Rattle.set_events.specs.Lent.{HasFitUnit, event_in};
 ghost use Rattle.set_events.specs.Owners.{IsOwn};
 ghost use Rattle.set_model.specs.History.{IsStep, entries_in, longest_history};
 ghost use Rattle.set_ledger.specs.Seats.{Receives, AcknowledgesAs, AddsUp, Returns, new_seats};
@@ -13,7 +14,7 @@ use super::opening::Opening;
 use super::share::{Forgotten, NOTHING_FORGOTTEN, Part, SeatShare};
 use super::stepping::Step;
 use set_core::SetFault;
-use set_events::{Actor, Answer, Event};
+use set_events::{Actor, EventRef, Reply};
 use set_history::{History, Reader};
 use std::alloc::{AllocError, Allocator, Global};
 use std::marker::{Model, PhantomData};
@@ -100,26 +101,30 @@ impl<C: Opening, M: Ledger, O: Ledger, A: Ledger, G: Allocator + Copy> Step<C, M
     for UserSeat<C, M, O, A, G> {
     ghost state = { λ s. s };
 
+    fn reserve(&mut self, event: &EventRef<'_>) -> Result<(), AllocError> {
+        self.receipts.reserve(event)
+    }
+
     fn step<H: Allocator + Copy>(
         &mut self,
         held: &mut Held<C, M, O, A, H>,
-        event: &Event,
-    ) -> Result<Answer, SetFault> {
+        event: &EventRef<'_>,
+        reply: &mut Reply,
+    ) -> Result<(), SetFault> {
         let who = Actor::User(self.number);
-        match make(&mut held.core, who, &mut self.receipts, event) {
-            Ok(made) => {
-                self.calls.gain(&mut held.calls, made.gained.calls);
-                self.messages.gain(&mut held.messages, made.gained.messages);
-                self.octets.gain(&mut held.octets, made.gained.octets);
-                Ok(made.answer)
+        match make(&mut held.core, who, &mut self.receipts, event, reply) {
+            Ok(gained) => {
+                self.calls.gain(&mut held.calls, gained.calls);
+                self.messages.gain(&mut held.messages, gained.messages);
+                self.octets.gain(&mut held.octets, gained.octets);
+                Ok(())
             }
             Err(fault) => Err(fault),
         }
     }
 
-    fn forget(&mut self, alloc: Global, many: u64) -> Result<(), AllocError> {
+    fn forget(&mut self, many: u64) -> Result<(), AllocError> {
         forget_first(
-            alloc,
             self.alloc,
             &mut self.receipts,
             &mut self.forgotten,
@@ -156,26 +161,30 @@ impl<C: Opening, M: Ledger, O: Ledger, A: Ledger, G: Allocator + Copy> Step<C, M
     for TermSeat<C, M, O, A, G> {
     ghost state = { λ s. s };
 
+    fn reserve(&mut self, event: &EventRef<'_>) -> Result<(), AllocError> {
+        self.receipts.reserve(event)
+    }
+
     fn step<H: Allocator + Copy>(
         &mut self,
         held: &mut Held<C, M, O, A, H>,
-        event: &Event,
-    ) -> Result<Answer, SetFault> {
+        event: &EventRef<'_>,
+        reply: &mut Reply,
+    ) -> Result<(), SetFault> {
         let who = Actor::Terminal(self.link);
-        match make(&mut held.core, who, &mut self.receipts, event) {
-            Ok(made) => {
-                self.calls.gain(&mut held.calls, made.gained.calls);
+        match make(&mut held.core, who, &mut self.receipts, event, reply) {
+            Ok(gained) => {
+                self.calls.gain(&mut held.calls, gained.calls);
                 self.acknowledged
-                    .gain(&mut held.acknowledged, made.gained.acknowledged);
-                Ok(made.answer)
+                    .gain(&mut held.acknowledged, gained.acknowledged);
+                Ok(())
             }
             Err(fault) => Err(fault),
         }
     }
 
-    fn forget(&mut self, alloc: Global, many: u64) -> Result<(), AllocError> {
+    fn forget(&mut self, many: u64) -> Result<(), AllocError> {
         forget_first(
-            alloc,
             self.alloc,
             &mut self.receipts,
             &mut self.forgotten,
@@ -258,8 +267,19 @@ impl<C: Opening, M: Ledger, O: Ledger, A: Ledger, G: Allocator + Copy> TermSeat<
     }
 }
 
-/// One step of a seat at the set that is lent: what the set answers to this event of the seat's actor. The set's
-/// history grows by the one entry, the seat's receipts by the same, and the seat's share by what that entry brought.
+/// Makes room for the receipt of a step by this event: done before the set is lent, the step takes none for it. The seat
+/// stays as it is. It fails only where memory was refused.
+pub fn reserve_receipt<C: Opening, M: Ledger, O: Ledger, A: Ledger, S: Seat<C, M, O, A>>(
+    seat: &mut S,
+    event: &EventRef<'_>,
+) -> Result<(), AllocError>
+    ensures { S.state seat.new ≡ S.state seat.old }
+{
+    seat.reserve(event)
+}
+
+/// One step of a seat at the set that is lent: what the set answers to this event of the seat's actor is put into the
+/// reply. The set's history grows by the one entry, the seat's receipts by the same, and the seat's share by what that entry brought.
 /// A user's own events are Offer, Take and Find; a terminal's those on its own link.
 ///
 /// Faults: 2 [`SetFault::Exhausted`] only where the history has 2^48 entries; 1 [`SetFault::NoMemory`] only
@@ -271,12 +291,18 @@ pub fn step_in<
     A: Ledger,
     G: Allocator + Copy,
     S: Seat<C, M, O, A>,
->(held: &mut Held<C, M, O, A, G>, seat: &mut S, event: &Event) -> Result<Answer, SetFault>
-    requires { IsOwn (S.state seat.old).who event.now }
-    ensures step { IfOk result
-        (λ answer. IsStep held.old.set (S.state seat.old).who event.now answer held.new.set) }
-    ensures receipt { IfOk result
-        (λ answer. Receives (S.state seat.old) event.now answer (S.state seat.new)) }
+>(
+    held: &mut Held<C, M, O, A, G>,
+    seat: &mut S,
+    event: &EventRef<'_>,
+    reply: &mut Reply,
+) -> Result<(), SetFault>
+    requires own { IsOwn (S.state seat.old).who (event_in event.now) }
+    requires fits { HasFitUnit event.now }
+    ensures step { OnOk result
+        (IsStep held.old.set (S.state seat.old).who (event_in event.now) reply.new held.new.set) }
+    ensures receipt { OnOk result
+        (Receives (S.state seat.old) (event_in event.now) reply.new (S.state seat.new)) }
     ensures acknowledged { OnOk result
         (AcknowledgesAs held.old.set held.new.set (S.state seat.old).share
         (S.state seat.new).share) }
@@ -285,7 +311,7 @@ pub fn step_in<
         → longest_history ≤ entries_in held.old.set }
     ensures err { OnErr result ((held.new ≡ held.old) × (S.state seat.new ≡ S.state seat.old)) }
 {
-    seat.step(held, event)
+    seat.step(held, event, reply)
 }
 
 /// Puts the seats of the users 0, 1, .. into this room, each with one part of each ledger that it moves.

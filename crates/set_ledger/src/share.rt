@@ -1,9 +1,10 @@
 //! What a seat has of the totals: plain numbers, and the tokens of the ledgers that say the same.
 ghost use Rattle.std.specs.Prelude.{◌≡◌, ◌<◌, ◌+◌, ◌^◌};
+ghost use Rattle.set_events.specs.Lent.{answer_in, event_in};
 ghost use Rattle.set_ledger.specs.Seats.{Returns};
 ghost use Rattle.set_model.specs.Step.{messages_in, octets_of};
 
-use set_events::{Answer, Event};
+use set_events::{AnswerRef, EventRef};
 use std::sync::ledger::{Blank, Book, Ledger, Share};
 
 /// What a seat's steps added to the totals of its set.
@@ -88,21 +89,21 @@ impl<L: Ledger> Part<L> {
 }
 
 /// How many messages this answer accepts: 1 or none.
-pub(crate) fn count_messages(answer: &Answer) -> u64
-    ensures { result ≡ messages_in answer.now }
+pub(crate) fn count_messages(answer: &AnswerRef<'_>) -> u64
+    ensures { result ≡ messages_in (answer_in answer.now) }
 {
     match answer {
-        Answer::Accepted { .. } => 1,
+        AnswerRef::Accepted { .. } => 1,
         _ => 0,
     }
 }
 
 /// The octets of the body that this answer to this event accepts.
-pub(crate) fn count_octets(event: &Event, answer: &Answer) -> u64
-    ensures { result ≡ octets_of event.now answer.now }
+pub(crate) fn count_octets(event: &EventRef<'_>, answer: &AnswerRef<'_>) -> u64
+    ensures { result ≡ octets_of (event_in event.now) (answer_in answer.now) }
 {
     match (event, answer) {
-        (Event::Offer { body }, Answer::Accepted { .. }) => body.len() as u64,
+        (EventRef::Offer { body }, AnswerRef::Accepted { .. }) => body.len() as u64,
         _ => 0,
     }
 }

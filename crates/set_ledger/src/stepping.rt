@@ -1,5 +1,6 @@
 //! How a seat makes a step, and forgets some. This module is private, so no other crate has a seat of its own.
-ghost use Rattle.std.specs.Prelude.{◌≡◌, ◌≤◌, IfOk, OnOk, OnErr};
+ghost use Rattle.std.specs.Prelude.{◌≡◌, ◌≤◌, OnOk, OnErr};
+ghost use Rattle.set_events.specs.Lent.{HasFitUnit, event_in};
 ghost use Rattle.set_events.specs.Owners.{IsOwn};
 ghost use Rattle.set_model.specs.History.{IsStep, entries_in, longest_history};
 ghost use Rattle.set_ledger.specs.Seats.{Receives, AcknowledgesAs, Forgets};
@@ -7,8 +8,8 @@ ghost use Rattle.set_ledger.specs.Seats.{Receives, AcknowledgesAs, Forgets};
 use super::held::Held;
 use super::opening::Opening;
 use set_core::SetFault;
-use set_events::{Answer, Event};
-use std::alloc::{AllocError, Allocator, Global};
+use set_events::{EventRef, Reply};
+use std::alloc::{AllocError, Allocator};
 use std::sync::ledger::Ledger;
 
 /// What makes steps at a set, and has a receipt for each, but for the first ones, which it forgot.
@@ -18,17 +19,23 @@ pub trait Step<C: Opening, M: Ledger, O: Ledger, A: Ledger> {
     /// What contracts see of it.
     ghost state: { Self → SeatState };
 
+    /// Makes room for the receipt of a step by this event.
+    fn reserve(&mut self, event: &EventRef<'_>) -> Result<(), AllocError>
+        ensures { state self.new ≡ state self.old };
+
     /// `step_in`.
     fn step<G: Allocator + Copy>(
         &mut self,
         held: &mut Held<C, M, O, A, G>,
-        event: &Event,
-    ) -> Result<Answer, SetFault>
-        requires { IsOwn (state self.old).who event.now }
-        ensures step { IfOk result
-            (λ answer. IsStep held.old.set (state self.old).who event.now answer held.new.set) }
-        ensures receipt { IfOk result
-            (λ answer. Receives (state self.old) event.now answer (state self.new)) }
+        event: &EventRef<'_>,
+        reply: &mut Reply,
+    ) -> Result<(), SetFault>
+        requires own { IsOwn (state self.old).who (event_in event.now) }
+        requires fits { HasFitUnit event.now }
+        ensures step { OnOk result
+            (IsStep held.old.set (state self.old).who (event_in event.now) reply.new held.new.set) }
+        ensures receipt { OnOk result
+            (Receives (state self.old) (event_in event.now) reply.new (state self.new)) }
         ensures acknowledged { OnOk result
             (AcknowledgesAs held.old.set held.new.set (state self.old).share
             (state self.new).share) }
@@ -38,7 +45,7 @@ pub trait Step<C: Opening, M: Ledger, O: Ledger, A: Ledger> {
         ensures err { OnErr result ((held.new ≡ held.old) × (state self.new ≡ state self.old)) };
 
     /// The first so many receipts are forgotten, or all, where there are fewer. It fails only where memory is wanted.
-    fn forget(&mut self, alloc: Global, many: u64) -> Result<(), AllocError>
+    fn forget(&mut self, many: u64) -> Result<(), AllocError>
         ensures forgets { OnOk result (Forgets many (state self.old) (state self.new)) }
         ensures err { OnErr result (state self.new ≡ state self.old) };
 }

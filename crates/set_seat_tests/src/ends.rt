@@ -4,7 +4,7 @@ ghost use Rattle.set_ledger.specs.Totals.{AreParts};
 ghost use Rattle.set_model.specs.State.{settings_of};
 
 use super::openings::{blanks_of, closed, config_of, holds, offers};
-use set_events::{Answer, Event, SetConfig};
+use set_events::{AnswerRef, EventRef, Reply, SetConfig};
 use set_shared::{
     Back, Blanks, Closed, CreateFault, EndFault, LinkSet, Opened, Opening, Seat, TermSeat, UserSeat,
 };
@@ -22,9 +22,10 @@ fn rises<C: Opening, M: Ledger, O: Ledger, A: Ledger, R: Wait>(
     seat: &mut TermSeat<C, M, O, A>,
 ) -> bool {
     let called = Cell::new(false);
-    let event = Event::Up { link: seat.link() };
-    match set.term_step_held(rt, seat, &event, || called.set(true)) {
-        Ok(answer) => called.get() && answer.same(&Answer::Done),
+    let event = EventRef::Up { link: seat.link() };
+    let mut reply = Reply::new();
+    match set.term_step_held(rt, seat, &event, &mut reply, || called.set(true)) {
+        Ok(()) => called.get() && reply.get().same(&AnswerRef::Done),
         Err(_) => false,
     }
 }
@@ -51,7 +52,6 @@ fn comes_back<C: Opening, M: Ledger, O: Ledger, A: Ledger>(
 
 /// With the seat that was kept beside the one that came back, the set ends.
 fn ends_with<C: Opening, M: Ledger, O: Ledger, A: Ledger>(
-    alloc: Global,
     back: Back<C, M, O, A>,
     kept: UserSeat<C, M, O, A>,
 ) -> bool {
@@ -62,13 +62,12 @@ fn ends_with<C: Opening, M: Ledger, O: Ledger, A: Ledger>(
     } = back;
     let came = users.len() == 1 && terminals.len() == 1;
     let whole = users.push(kept).is_ok();
-    let ended = is_whole(closed(LinkSet::of(alloc, held), users, terminals));
+    let ended = is_whole(closed(LinkSet::of(held), users, terminals));
     came && whole && ended
 }
 
 /// A seat is kept back: the set comes back with the others, and ends once all are there.
 fn ends_once_complete<C: Opening, M: Ledger, O: Ledger, A: Ledger>(
-    alloc: Global,
     set: LinkSet<C, M, O, A>,
     users: Vec<UserSeat<C, M, O, A>>,
     terminals: Vec<TermSeat<C, M, O, A>>,
@@ -78,7 +77,7 @@ fn ends_once_complete<C: Opening, M: Ledger, O: Ledger, A: Ledger>(
         return false;
     };
     match comes_back(set, users, terminals) {
-        Some(back) => ends_with(alloc, back, kept),
+        Some(back) => ends_with(back, kept),
         None => false,
     }
 }
@@ -126,7 +125,7 @@ fn two_users<C: Opening, M: Ledger, O: Ledger, A: Ledger, R: Wait>(
         mut terminals,
     } = opened;
     let called = all_call(rt, &set, &mut users, &mut terminals);
-    let ended = ends_once_complete(alloc, set, users, terminals);
+    let ended = ends_once_complete(set, users, terminals);
     holds(called && ended)
 }
 

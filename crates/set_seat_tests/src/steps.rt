@@ -4,7 +4,7 @@ ghost use Rattle.set_ledger.specs.Totals.{AreParts};
 ghost use Rattle.set_model.specs.State.{settings_of};
 
 use super::openings::{MESSAGE, blanks_of, config_of, holds};
-use set_events::{Actor, Answer, Body, Event, SetConfig};
+use set_events::{Actor, AnswerRef, Body, EventRef, Reply, SetConfig};
 use set_ledger::{Blanks, Closed, Held, Opened, Opening, Seat, TermSeat, UserSeat, step_in};
 use std::alloc::Global;
 use std::marker::Brand;
@@ -18,8 +18,16 @@ fn is_accepted<C: Opening, M: Ledger, O: Ledger, A: Ledger>(
     body: Body,
 ) -> bool {
     let _ = seat.number();
-    match step_in(held, seat, &Event::Offer { body }) {
-        Ok(answer) => answer.same(&Answer::Accepted { number: 0 }),
+    let mut reply = Reply::new();
+    match step_in(
+        held,
+        seat,
+        &EventRef::Offer {
+            body: body.octets(),
+        },
+        &mut reply,
+    ) {
+        Ok(()) => reply.get().same(&AnswerRef::Accepted { number: 0 }),
         Err(_) => false,
     }
 }

@@ -1,4 +1,5 @@
 use Rattle.std.proofs.Common.{◌∙◌, ap, refl, subst, sym, List}
+use Rattle.set_events.specs.Lent.{event_in}
 use Rattle.set_events.specs.declared.history.Entry.{Entry}
 use Rattle.set_model.specs.History.{LinkSet}
 use Rattle.set_ledger.specs.Seats.{term_state}
@@ -17,13 +18,13 @@ gain-requires-in-Ok g c = let gains = c.in-Ok.ensures.gains in room_for _ _ _ _ 
 pub invariant_of-self : goal.invariant_of-self
 invariant_of-self g c = (
   c.self.invariant.0,
-  term_adds_up c.self.inside.link c.self.inside.calls.told c.self.inside.acknowledged.told c.gain.new.self.told c.gain-in-Ok.new.self.told c.self.inside.forgotten c.self.inside.receipts.items c.make.new.receipts.items c.args.event.now
-      c.in-Ok.made.answer c.in-Ok.made.gained c.held.inside.core c.make.new.core c.self.invariant.1 c.in-Ok.ensures.gains c.gain.ensures.told c.in-Ok.ensures.receipt,
+  term_adds_up c.self.inside.link c.self.inside.calls.told c.self.inside.acknowledged.told c.gain.new.self.told c.gain-in-Ok.new.self.told c.self.inside.forgotten c.self.inside.receipts.items c.make.new.receipts.items (event_in c.args.event.now)
+      c.make.new.reply c.in-Ok.gained c.held.inside.core c.make.new.core c.self.invariant.1 c.in-Ok.ensures.gains c.gain.ensures.told c.in-Ok.ensures.receipt,
 )
 
 pub invariant_of-held : goal.invariant_of-held
 invariant_of-held g c = (
-  term_totals c.self.inside.link _ _ _ _ _ _ c.args.event.now c.in-Ok.made.answer c.in-Ok.made.gained c.held.inside.core c.make.new.core c.held.invariant.0 c.in-Ok.ensures.gains c.gain.ensures.total c.gain-in-Ok.ensures.total,
+  term_totals c.self.inside.link _ _ _ _ _ _ (event_in c.args.event.now) c.make.new.reply c.in-Ok.gained c.held.inside.core c.make.new.core c.held.invariant.0 c.in-Ok.ensures.gains c.gain.ensures.total c.gain-in-Ok.ensures.total,
   c.held.invariant.1,
   subst (IsBaseOf g.C.Opening.settings) (sym c.in-Ok.ensures.step.base_is) c.held.invariant.2,
 )
@@ -36,11 +37,11 @@ returns-in-Ok-clause-receipt g c = rw (← c.self.view_is) (record {
   who_same = refl;
   forgotten_same = refl;
   receipt = c.in-Ok.ensures.receipt;
-  grows = term_grows c.self.inside.link _ _ _ _ c.args.event.now c.in-Ok.made.answer c.in-Ok.made.gained c.held.inside.core c.make.new.core c.in-Ok.ensures.gains c.gain.ensures.told;
+  grows = term_grows c.self.inside.link _ _ _ _ (event_in c.args.event.now) c.make.new.reply c.in-Ok.gained c.held.inside.core c.make.new.core c.in-Ok.ensures.gains c.gain.ensures.told;
 })
 
 pub returns-in-Ok-clause-acknowledged : goal.returns-in-Ok-clause-acknowledged
-returns-in-Ok-clause-acknowledged g c = rw (← c.held.view_is, ← c.self.view_is) (term_acknowledges c.self.inside.link _ _ c.args.event.now c.in-Ok.made.answer c.in-Ok.made.gained c.held.inside.core c.make.new.core c.in-Ok.ensures.gains c.gain-in-Ok.ensures.told)
+returns-in-Ok-clause-acknowledged g c = rw (← c.held.view_is, ← c.self.view_is) (term_acknowledges c.self.inside.link _ _ (event_in c.args.event.now) c.make.new.reply c.in-Ok.gained c.held.inside.core c.make.new.core c.in-Ok.ensures.gains c.gain-in-Ok.ensures.told)
 
 pub returns-in-Ok-clause-seats : goal.returns-in-Ok-clause-seats
 returns-in-Ok-clause-seats g c = (ap (λ (h : HeldState). h.users) c.held.view_is, ap (λ (h : HeldState). h.links) c.held.view_is)
