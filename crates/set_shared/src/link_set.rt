@@ -2,6 +2,7 @@
 ghost use Rattle.std.specs.Prelude.{◌≡◌, ◌<◌, ◌≤◌, ◌↔◌, ◌⊎◌, ℕ, true, IfOk, IfErr, OnOk, OnErr, if◌then◌else◌};
 ghost use Rattle.set_events.specs.declared.event.Actor.TheVariants.{User, Terminal};
 ghost use Rattle.set_events.specs.declared.event.Event.TheVariants.{Offer, Take, Find};
+ghost use Rattle.set_events.specs.Lent.{HasFitUnit, event_in};
 ghost use Rattle.set_events.specs.Owners.{IsOwn};
 ghost use Rattle.set_ledger.specs.Openings.{IsBaseOf};
 ghost use Rattle.set_ledger.specs.Seats.{Forgets, Receives, new_seats};
@@ -10,10 +11,10 @@ ghost use Rattle.set_ledger.specs.Ending.{is_complete, AreFaithful, IsClosed};
 ghost use Rattle.set_model.specs.State.{settings_of};
 ghost use Rattle.set_shared.specs.Asking.{IsAnswered, IsFull};
 
-use set_events::{Answer, Body, Counts, Event, SetConfig};
+use set_events::{Answer, Counts, Event, EventRef, Reply, SetConfig};
 use set_ledger::{
     Blanks, Closed, CreateFault, EndFault, Held, Opening, Seat, SetFault, TermSeat, UserSeat,
-    forget, step_in,
+    forget, reserve_receipt, step_in,
 };
 use std::alloc::Global;
 use std::marker::Model;
@@ -27,7 +28,6 @@ pub struct LinkSet<C: Opening, M: Ledger, O: Ledger, A: Ledger> {
     held: Mutex<Held<C, M, O, A>>,
     users: u16,
     links: u8,
-    alloc: Global,
 }
 
 impl<C: Opening, M: Ledger, O: Ledger, A: Ledger> Model for LinkSet<C, M, O, A> {
@@ -80,7 +80,7 @@ impl<C: Opening, M: Ledger, O: Ledger, A: Ledger> LinkSet<C, M, O, A> {
     {
         match Held::open(alloc, config, users, blanks) {
             Ok(opened) => Ok(Opened {
-                set: LinkSet::of(alloc, opened.held),
+                set: LinkSet::of(opened.held),
                 users: opened.users,
                 terminals: opened.terminals,
             }),
@@ -89,7 +89,7 @@ impl<C: Opening, M: Ledger, O: Ledger, A: Ledger> LinkSet<C, M, O, A> {
     }
 
     /// A set that threads share, of one that isn't under a lock: as [`LinkSet::close`] hands it back.
-    pub fn of(alloc: Global, held: Held<C, M, O, A>) -> LinkSet<C, M, O, A>
+    pub fn of(held: Held<C, M, O, A>) -> LinkSet<C, M, O, A>
         ensures { result ≡ record { users = held.users; links = held.links } }
     {
         let users = held.users();
@@ -98,7 +98,6 @@ impl<C: Opening, M: Ledger, O: Ledger, A: Ledger> LinkSet<C, M, O, A> {
             held: Mutex::new(held),
             users,
             links,
-            alloc,
         }
     }
 
@@ -119,8 +118,7 @@ impl<C: Opening, M: Ledger, O: Ledger, A: Ledger> LinkSet<C, M, O, A> {
     {
         // a user's number is below 64
         seat.number();
-        let body = Body::from_slice(self.alloc, octets)?;
-        ask(&mut *self.held.lock(rt), seat, &Event::Offer { body })
+        self.answer_to(rt, seat, &EventRef::Offer { body: octets })
     }
 
     /// A user takes the oldest message that was heard for users: what the set answers. The seat has a receipt of it.
@@ -135,7 +133,7 @@ impl<C: Opening, M: Ledger, O: Ledger, A: Ledger> LinkSet<C, M, O, A> {
     {
         // a user's number is below 64
         seat.number();
-        ask(&mut *self.held.lock(rt), seat, &Event::Take)
+        self.answer_to(rt, seat, &EventRef::Take)
     }
 
     /// A user asks where the message of this number stands: what the set answers. The seat has a receipt of it.
@@ -155,7 +153,7 @@ impl<C: Opening, M: Ledger, O: Ledger, A: Ledger> LinkSet<C, M, O, A> {
     {
         // a user's number is below 64
         seat.number();
-        ask(&mut *self.held.lock(rt), seat, &Event::Find { number })
+        self.answer_to(rt, seat, &EventRef::Find { number })
     }
 
     /// One step of a terminal on its own link: what the set answers. The seat has a receipt of it.
@@ -174,27 +172,31 @@ impl<C: Opening, M: Ledger, O: Ledger, A: Ledger> LinkSet<C, M, O, A> {
         ensures exhausted { result ≡ Err SetFault.Exhausted → IsFull C.settings }
         ensures err { OnErr result (seat.new ≡ seat.old) }
     {
-        ask(&mut *self.held.lock(rt), seat, event)
+        self.answer_to(rt, seat, &EventRef::of(event))
     }
 
-    /// [`LinkSet::term_step`] that calls `held` once it has the lock.
+    /// [`LinkSet::term_step`] whose answer is put into the reply, and that calls `held` once it has the lock. A heard unit
+    /// has a body of at most 273 octets.
     pub fn term_step_held<R: Wait, F: FnOnce()>(
         &self,
         rt: &R,
         seat: &mut TermSeat<C, M, O, A>,
-        event: &Event,
+        event: &EventRef<'_>,
+        reply: &mut Reply,
         held: F,
-    ) -> Result<Answer, SetFault>
-        requires own { IsOwn seat.old.who event.now }
+    ) -> Result<(), SetFault>
+        requires own { IsOwn seat.old.who (event_in event.now) }
+        requires fits { HasFitUnit event.now }
         requires callable { F.IsAlwaysCallable held }
-        ensures receipt { IfOk result (λ answer. Receives seat.old event.now answer seat.new) }
-        ensures answer { IfOk result (IsAnswered C.settings event.now) }
+        ensures receipt { OnOk result (Receives seat.old (event_in event.now) reply.new seat.new) }
+        ensures answer { OnOk result (IsAnswered C.settings (event_in event.now) reply.new) }
         ensures exhausted { result ≡ Err SetFault.Exhausted → IsFull C.settings }
         ensures err { OnErr result (seat.new ≡ seat.old) }
     {
+        reserve_receipt(seat, event)?;
         let mut guard = self.held.lock(rt);
         held();
-        ask(&mut *guard, seat, event)
+        ask(&mut *guard, seat, event, reply)
     }
 
     /// A checkpoint: what stands under the lock goes on from what it holds, with a history that begins anew. No seat
@@ -213,6 +215,26 @@ impl<C: Opening, M: Ledger, O: Ledger, A: Ledger> LinkSet<C, M, O, A> {
         self.held.lock(rt).core().counts()
     }
 
+    /// One step, and its answer by itself. The seat has room for its receipt before the lock is taken.
+    fn answer_to<R: Wait, S: Seat<C, M, O, A>>(
+        &self,
+        rt: &R,
+        seat: &mut S,
+        event: &EventRef<'_>,
+    ) -> Result<Answer, SetFault>
+        requires own { IsOwn (S.state seat.old).who (event_in event.now) }
+        requires fits { HasFitUnit event.now }
+        ensures receipt { IfOk result (λ answer. Receives (S.state seat.old) (event_in event.now) answer (S.state seat.new)) }
+        ensures answer { IfOk result (IsAnswered C.settings (event_in event.now)) }
+        ensures exhausted { result ≡ Err SetFault.Exhausted → IsFull C.settings }
+        ensures err { OnErr result (S.state seat.new ≡ S.state seat.old) }
+    {
+        reserve_receipt(seat, event)?;
+        let mut reply = Reply::new();
+        ask(&mut *self.held.lock(rt), seat, event, &mut reply)?;
+        Ok(reply.answer())
+    }
+
     /// A seat forgets the receipts of its calls before the last checkpoint, and keeps what they added up to, as of
     /// [`set_ledger::forget`]: those that are gone are its first. Which checkpoint was the last isn't said here.
     ///
@@ -222,7 +244,7 @@ impl<C: Opening, M: Ledger, O: Ledger, A: Ledger> LinkSet<C, M, O, A> {
         ensures fault { IfErr result (λ fault. fault ≡ SetFault.NoMemory) }
         ensures err { OnErr result (S.state seat.new ≡ S.state seat.old) }
     {
-        forget(self.alloc, &*self.held.lock(rt), seat)
+        forget(&*self.held.lock(rt), seat)
     }
 
     /// Ends a set with all its seats, under no lock: the history is legal from its base, each seat's receipts end with its
@@ -263,14 +285,16 @@ impl<C: Opening, M: Ledger, O: Ledger, A: Ledger> LinkSet<C, M, O, A> {
 fn ask<C: Opening, M: Ledger, O: Ledger, A: Ledger, S: Seat<C, M, O, A>>(
     held: &mut Held<C, M, O, A>,
     seat: &mut S,
-    event: &Event,
-) -> Result<Answer, SetFault>
-    requires { IsOwn (S.state seat.old).who event.now }
-    ensures receipt { IfOk result (λ answer. Receives (S.state seat.old) event.now answer (S.state seat.new)) }
-    ensures answer { IfOk result (IsAnswered C.settings event.now) }
+    event: &EventRef<'_>,
+    reply: &mut Reply,
+) -> Result<(), SetFault>
+    requires own { IsOwn (S.state seat.old).who (event_in event.now) }
+    requires fits { HasFitUnit event.now }
+    ensures receipt { OnOk result (Receives (S.state seat.old) (event_in event.now) reply.new (S.state seat.new)) }
+    ensures answer { OnOk result (IsAnswered C.settings (event_in event.now) reply.new) }
     ensures exhausted { result ≡ Err SetFault.Exhausted → IsFull C.settings }
     ensures err { OnErr result (S.state seat.new ≡ S.state seat.old) }
 {
     held.replays();
-    step_in(held, seat, event)
+    step_in(held, seat, event, reply)
 }

@@ -4,7 +4,7 @@ ghost use Rattle.set_ledger.specs.Totals.{AreParts};
 ghost use Rattle.set_model.specs.State.{settings_of};
 
 use super::{Came, holds, is_right};
-use set_events::{Answer, Event, Method, SetConfig};
+use set_events::{Answer, Event, EventRef, Method, Reply, SetConfig};
 use set_shared::{
     Blanks, CreateFault, LinkSet, Opened, Opening, Seat, SeatShare, SetFault, TermSeat, UserSeat,
 };
@@ -102,7 +102,10 @@ fn calls<C: Opening, M: Ledger, O: Ledger, A: Ledger, R: Wait>(
         Call::Take => is_done(set.take(rt, user)),
         Call::Find => is_done(set.find(rt, user, 0)),
         Call::Up => is_done(set.term_step(rt, terminal, &Event::Up { link })),
-        Call::NextHeld => is_done(set.term_step_held(rt, terminal, &Event::Next { link }, || ())),
+        Call::NextHeld => {
+            let mut reply = Reply::new();
+            set.term_step_held(rt, terminal, &EventRef::Next { link }, &mut reply, || ())
+        }
         Call::Checkpoint => set.checkpoint(rt),
         Call::ForgetUser => set.forget(rt, user),
         Call::ForgetTerminal => set.forget(rt, terminal),
