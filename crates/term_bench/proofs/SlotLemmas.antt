@@ -3,9 +3,12 @@ use Rattle.std.proofs.Common.{refl, sym, ap, subst, arith, ◌≡◌, ◌∙◌,
 use Rattle.std.specs.Option.{option_to_list}
 use Rattle.std.proofs.lemmas.List.{append_cancel_left}
 use Rattle.link_term.specs.Filling.{filling_of, with_unit}
+use Rattle.link_term.specs.Looking.{seen}
+use Rattle.link_term.specs.Standing.{standing}
 use Rattle.link_term.specs.Turning.{TurnsOnce}
 use Rattle.link_term.specs.declared.counts.Turned.{Turned}
 use Rattle.set_events.specs.declared.event.Actor.TheVariants.{Terminal as TerminalOf}
+use Rattle.set_events.specs.declared.fault.SetFault.{SetFault}
 use Rattle.set_events.specs.declared.history.Entry.{Entry}
 use Rattle.set_model.specs.History.{LinkSet, IsLegal, after}
 use Rattle.set_model.specs.State.{State}
@@ -77,8 +80,10 @@ narrow_unit f narrow = ap (λ (n : Bool). filling_of (record f { narrow = n })) 
 -- A TURN IN A TIMESLOT takes its octet and puts one, and the set's step answers it
 pub takes : (link link' octet : ℕ) (set set' : LinkSet) (heard heard' : ℕ) (taken taken' : List ℕ) (before after : Terminal)
     (turned : Turned) (there : ℕ) (is_taken : Bool) (slot : Option ℕ) (put : ℕ) (given waiting old : List ℕ)
-    (turns : TurnsOnce taken taken' before turned set.history set'.history given (if is_taken then there ∷ [] else []) waiting
-    old (option_to_list slot) (places_in slot) after)
+    {faults faults' : List SetFault} {free : ℕ} {waiting' : List ℕ}
+    (turns : TurnsOnce (standing taken before set.history faults (seen given waiting old free)) turned
+    (standing taken' after set'.history faults'
+    (seen (if is_taken then there ∷ [] else []) waiting' (option_to_list slot) (places_in slot))))
     → GoesOn link link' set set' heard heard' → Replays set → Replays set' → heard ≡ 0
     → given ≡ [] → waiting ≡ octet ∷ [] → there ≡ octet → old ≡ [] → slot ≡ Some put
     → Takes link octet set set' heard' taken taken' before after put turned turns.turn.chosen.unit

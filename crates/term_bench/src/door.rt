@@ -1,12 +1,13 @@
 //! The door of a bench's set.
 ghost use Rattle.std.specs.Prelude.{◌≡◌, ◌<◌, ◌≤◌, ◌+◌, [], length, if◌then◌else◌, IfOk, IfErr, OnOk, OnErr};
 ghost use Rattle.term_bench.specs.Turns.{brings_message, is_message};
+ghost use Rattle.set_events.specs.Lent.{answer_in};
 ghost use Rattle.set_events.specs.declared.fault.SetFault.TheVariants.{NoMemory};
 ghost use Rattle.set_model.specs.History.{IsActor, IsStep, based};
 
 use link_term::{Door, Faults};
 use set_core::SetCore;
-use set_events::{Actor, Answer, Event, SetFault, Took};
+use set_events::{Actor, Answer, AnswerRef, Event, EventRef, Reply, SetFault, Took};
 
 /// The set, and its door for the terminal of the link whose turn it is.
 #[derive(Drop)]
@@ -80,12 +81,12 @@ impl SetDoor {
 }
 
 /// How many messages for users this answer tells of: one, or none.
-fn messages_in(answer: &Answer) -> u64
-    ensures value { result ≡ (if brings_message answer.now then 1 else 0) }
+fn messages_in(answer: &AnswerRef<'_>) -> u64
+    ensures value { result ≡ (if brings_message (answer_in answer.now) then 1 else 0) }
     ensures few { result ≤ 1 }
 {
     match answer {
-        Answer::Heard { report } => messages_by(report.took),
+        AnswerRef::Heard { report } => messages_by(report.took),
         _ => 0,
     }
 }
@@ -120,12 +121,15 @@ impl Door for SetDoor {
         self.link
     }
 
-    fn step(&mut self, event: &Event) -> Result<Answer, SetFault> {
-        match self.set.apply(Actor::Terminal(self.link), event) {
-            Ok(answer) => {
+    fn step(&mut self, event: &EventRef<'_>, reply: &mut Reply) -> Result<(), SetFault> {
+        match self
+            .set
+            .apply_into(Actor::Terminal(self.link), event, reply)
+        {
+            Ok(()) => {
                 self.set.replays();
-                self.heard += messages_in(&answer);
-                Ok(answer)
+                self.heard += messages_in(&reply.get());
+                Ok(())
             }
             Err(fault) => {
                 self.faults.note(fault);

@@ -6,7 +6,7 @@ use super::core_door::{
 use super::test_lines::{FadingLine, FullLine};
 use line_ring::{Line, LossyLine};
 use link_term::{Command, Door, Gate, Terminal, Timers};
-use set_events::Event;
+use set_events::{EventRef, Reply};
 use std::alloc::Global;
 use std::test::Fail;
 
@@ -116,7 +116,9 @@ fn goes_on<D: Door, L: Line, G: Gate>(terminal: &mut Terminal<D, L, G>) -> bool 
 fn comes_up_again(alloc: Global, door: CoreDoor, line: FadingLine) -> bool {
     let mut door = door;
     let link = door.link();
-    let settled = door.step(&Event::NoAnswer { link }).is_ok();
+    let settled = door
+        .step(&EventRef::NoAnswer { link }, &mut Reply::new())
+        .is_ok();
     let mut terminal = started_at(door, line, LONG);
     let well = terminal.run(20_000).is_ok();
     let (door, _line, _gate) = terminal.into_parts();

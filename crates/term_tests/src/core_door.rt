@@ -4,8 +4,8 @@ ghost use Rattle.std.specs.Prelude.{◌≡◌, ◌<◌, [], IfSome};
 use line_ring::Line;
 use link_term::{Command, Door, Faults, OpenGate, SetFault, Terminal, Timers};
 use set_core::{SetCore, audit_history};
-use set_events::{Actor, Answer, Body, Event, Method, SetConfig};
-use set_history::{Asked, Reader, Told};
+use set_events::{Actor, Answer, Body, Event, EventRef, Method, Reply, SetConfig};
+use set_history::{Reader, Told};
 use std::alloc::Global;
 use std::test::Fail;
 
@@ -37,9 +37,12 @@ impl Door for CoreDoor {
         self.link
     }
 
-    fn step(&mut self, event: &Event) -> Result<Answer, SetFault> {
-        match self.core.apply(Actor::Terminal(self.link), event) {
-            Ok(answer) => Ok(answer),
+    fn step(&mut self, event: &EventRef<'_>, reply: &mut Reply) -> Result<(), SetFault> {
+        match self
+            .core
+            .apply_into(Actor::Terminal(self.link), event, reply)
+        {
+            Ok(()) => Ok(()),
             Err(fault) => {
                 self.faults.note(fault);
                 Err(fault)
@@ -206,9 +209,9 @@ enum Counted {
 /// Whether this entry is counted.
 fn is_counted(told: &Told<'_>, what: Counted) -> bool {
     match (told.asked(), what) {
-        (Asked::Up { .. }, Counted::AskedUp) => true,
-        (Asked::Up { .. }, Counted::Up) => matches!(told.answer(), Answer::Done),
-        (Asked::Down { .. }, Counted::Down) => true,
+        (EventRef::Up { .. }, Counted::AskedUp) => true,
+        (EventRef::Up { .. }, Counted::Up) => matches!(told.answer(), Answer::Done),
+        (EventRef::Down { .. }, Counted::Down) => true,
         _ => false,
     }
 }

@@ -4,7 +4,7 @@ ghost use Rattle.std.specs.Prelude.{◌≡◌, [], ◌∷◌, ◌++◌, ◌<◌}
 use super::core_door::{CoreDoor, LONG, door_of, holds, started_at};
 use line_ring::{Line, LossyLine};
 use link_term::{Command, Door, Faults, Gate, OpenGate, SetFault, TermFault, Terminal};
-use set_events::{Answer, Event};
+use set_events::{EventRef, Reply};
 use std::alloc::Global;
 use std::test::Fail;
 
@@ -36,14 +36,14 @@ impl Door for FailingDoor {
         self.door.link()
     }
 
-    fn step(&mut self, event: &Event) -> Result<Answer, SetFault> {
+    fn step(&mut self, event: &EventRef<'_>, reply: &mut Reply) -> Result<(), SetFault> {
         if self.left == 0 {
             self.faults.note(self.fault);
             return Err(self.fault);
         }
         self.left -= 1;
-        match self.door.step(event) {
-            Ok(answer) => Ok(answer),
+        match self.door.step(event, reply) {
+            Ok(()) => Ok(()),
             Err(fault) => {
                 self.faults.note(fault);
                 Err(fault)

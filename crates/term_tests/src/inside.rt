@@ -9,8 +9,8 @@ use l2_align::{AlignIn, End};
 use l2_bits::{Deframer, Mark};
 use l2_flow::FlowIn;
 use l2_state::{State, StateIn, Told};
-use l2_units::{Cause, Header, Status, Unit, body_of, header_in, write};
-use set_events::{Answer, Refusal};
+use l2_units::{Cause, Header, Status, Unit, UnitRef, body_of, header_in, write};
+use set_events::{AnswerRef, Refusal};
 use std::test::Fail;
 use term_core::{Inside, Timer, Verdict};
 use term_model::{Command, Commands, Timers};
@@ -51,7 +51,7 @@ fn serving() -> Inside {
     inside.align(AlignIn::T4);
     inside.state(StateIn::Complete);
     inside.state(StateIn::Fisu);
-    inside.rise(&Answer::Done);
+    inside.rise(&AnswerRef::Done);
     inside
 }
 
@@ -77,7 +77,7 @@ const LONGEST_LEFT: u16 = 336;
 
 fn append(inside: &mut Inside, unit: &Unit) {
     if inside.is_short() && is_narrow(unit) {
-        inside.append(unit);
+        inside.append(&UnitRef::of(unit));
     }
 }
 
@@ -239,13 +239,13 @@ fn comes_into_service(inside: &mut Inside) -> bool {
 
 /// It's up, and may be blind, once the set has said so.
 fn waits_for_the_set(inside: &mut Inside) -> bool {
-    let refused = Answer::Refused {
+    let refused = AnswerRef::Refused {
         why: Refusal::Unsettled,
     };
     inside.rise(&refused);
     inside.blind();
     let early = inside.is_up() || inside.is_blind();
-    inside.rise(&Answer::Done);
+    inside.rise(&AnswerRef::Done);
     inside.blind();
     !early && inside.is_up() && inside.is_blind() && inside.top() == 127
 }
@@ -321,11 +321,12 @@ fn fisu(bsn: u16, bib: bool, fsn: u16, fib: bool) -> Unit
 fn goes_out_with(inside: &mut Inside, unit: &Unit) -> Header {
     for _octet in 0..LONGEST_LEFT {
         if inside.is_short() && is_narrow(unit) {
+            let lent = UnitRef::of(unit);
             if inside.is_busy() {
-                let held = inside.withholding(unit);
+                let held = inside.withholding(&lent);
                 inside.append(&held);
             } else {
-                inside.append(unit);
+                inside.append(&lent);
             }
             return inside.last_head();
         }

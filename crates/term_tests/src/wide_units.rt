@@ -3,11 +3,11 @@ ghost use Rattle.std.specs.Prelude.{◌≡◌, [], ◌∷◌, ◌++◌, ◌<◌,
 
 use super::core_door::{LONG, holds, started_at};
 use super::failing_doors::{first_fault, stays_failed};
-use l2_units::{Header, Unit};
+use l2_units::Header;
 use line_ring::LossyLine;
 use link_term::{Door, Faults, OpenGate, SetFault, TermFault, Terminal};
-use set_events::{Actor, Answer, Event};
-use set_history::{Asked, History};
+use set_events::{Actor, AnswerRef, EventRef, Reply};
+use set_history::History;
 use std::alloc::Global;
 use std::test::Fail;
 
@@ -24,19 +24,15 @@ struct GivingDoor {
 
 impl GivingDoor {
     /// What it answers to this event.
-    fn answer_to(&self, event: &Event) -> Answer {
+    fn answer_to(&self, event: &EventRef<'_>, reply: &mut Reply) {
         match event {
-            Event::Next { .. } => Answer::Sent {
-                unit: Unit::Fisu {
-                    head: Header {
-                        bsn: self.bsn,
-                        bib: true,
-                        fsn: self.fsn,
-                        fib: true,
-                    },
-                },
-            },
-            _ => Answer::Done,
+            EventRef::Next { .. } => reply.set_fill_in(Header {
+                bsn: self.bsn,
+                bib: true,
+                fsn: self.fsn,
+                fib: true,
+            }),
+            _ => reply.set_done(),
         }
     }
 }
@@ -60,12 +56,12 @@ impl Door for GivingDoor {
         0
     }
 
-    fn step(&mut self, event: &Event) -> Result<Answer, SetFault> {
-        let answer = self.answer_to(event);
+    fn step(&mut self, event: &EventRef<'_>, reply: &mut Reply) -> Result<(), SetFault> {
         match self.entries.reserve(event) {
             Ok(()) => {
-                self.entries.push(Actor::Terminal(0), event, &answer);
-                Ok(answer)
+                self.answer_to(event, reply);
+                self.entries.push(Actor::Terminal(0), event, &reply.get());
+                Ok(())
             }
             Err(_) => {
                 self.faults.note(SetFault::NoMemory);
@@ -94,8 +90,8 @@ fn keeps_its_entry(door: &GivingDoor) -> bool {
     let mut is_kept = false;
     for _entry in 0..left.len() {
         if let Some(told) = left.next() {
-            let asked = matches!(told.asked(), Asked::Next { .. });
-            is_kept = asked && matches!(told.answer(), Answer::Sent { .. });
+            let asked = matches!(told.asked(), EventRef::Next { .. });
+            is_kept = asked && matches!(told.answered(), AnswerRef::Sent { .. });
         }
     }
     is_kept
