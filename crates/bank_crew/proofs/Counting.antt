@@ -1,13 +1,11 @@
 -- One answer more is counted.
-use Rattle.std.proofs.Common.{refl, arith, ◌≡◌, ◌∙◌, ap, ap₂, sym, subst, Result, Ok, ◌+◌, ◌<◌, ◌≤◌, ◌^◌, ℕ, Bool, true, false, List, [], ◌∷◌, ◌++◌, length}
+use Rattle.std.proofs.Common.{refl, arith, ◌≡◌, ◌∙◌, ap, ap₂, sym, ◌+◌, ◌<◌, ◌≤◌, ◌^◌, ℕ, Bool, true, false, List, [], ◌∷◌, ◌++◌, length}
 use Rattle.std.specs.Prelude.{if◌then◌else◌}
 use Rattle.std.proofs.lemmas.List.{length-append}
 use Rattle.set_events.specs.declared.answer.Answer.{Answer}
 use Rattle.set_events.specs.declared.event.Actor.{Actor}
 use Rattle.set_events.specs.declared.event.Actor.TheVariants.{Terminal}
 use Rattle.set_events.specs.declared.event.Event.{Event}
-use Rattle.set_events.specs.declared.fault.SetFault.{SetFault}
-use Rattle.bank_crew.specs.Jobs.{Calls}
 use Rattle.bank_crew.specs.Seats.{link_in}
 use Rattle.set_events.specs.declared.history.Entry.{Entry}
 use Rattle.std.specs.Prelude.{Option}
@@ -69,10 +67,7 @@ fits link entries more entry old calls is e many few =
     omega (arith, messages, few_taken link entries, ap length e, length-append entries (entry ∷ []), many, few)
 
 -- A STEP of a terminal is counted.
-module _ (who : Actor) (event : Event) (result : Result Answer SetFault) (answer : Answer) (old new : List Entry) (counts : Answered) (calls : Calls who event result old new) (is : result ≡ Ok answer) (before : counts ≡ answered_in (link_in who) old) where
-  made : new ≡ old ++ record { who = who; event = event; answer = answer } ∷ []
-  made = subst (λ (r : Result Answer SetFault). Calls who event r old new) is calls
-
+module _ (who : Actor) (event : Event) (answer : Answer) (old new : List Entry) (counts : Answered) (made : new ≡ old ++ record { who = who; event = event; answer = answer } ∷ []) (before : counts ≡ answered_in (link_in who) old) where
   pub step_fits : (many : ℕ) → many ≡ length new → many < 2 ^ 64 → counts.messages + 1 < 2 ^ 64
   step_fits many all few = fits (link_in who) old new (record { who = who; event = event; answer = answer }) counts many before made all few
 

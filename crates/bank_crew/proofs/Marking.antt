@@ -1,6 +1,6 @@
 -- One entry more has its mark.
-use Rattle.std.proofs.Common.{refl, ◌≡◌, ◌∙◌, ap, IfOk, Result, Ok, Err, ◌==◌, ◌&&◌, ℕ, Bool, true, false, List, [], ◌∷◌, ◌++◌, Option, None, Some}
-use Rattle.std.specs.Prelude.{if◌then◌else◌}
+use Rattle.std.proofs.Common.{refl, ◌≡◌, ◌∙◌, ap, ◌==◌, ◌&&◌, ℕ, Bool, true, false, List, [], ◌∷◌, ◌++◌, Option, None, Some}
+use Rattle.std.specs.Prelude.{IsSome, if◌then◌else◌}
 use Rattle.set_events.specs.declared.answer.Answer.{Answer}
 use Rattle.set_events.specs.declared.event.Actor.{Actor}
 use Rattle.set_events.specs.declared.event.Actor.TheVariants.{Terminal}
@@ -67,31 +67,30 @@ pub turn_more : (managed : Option Managed) (link : ℕ) (entries : List Entry) (
 turn_more None link entries marks entry all = refl
 turn_more (Some managed) link entries marks entry all = turn_marked link entries marks entry all
 
-pub question_more : (managed : Option Managed) (it : Managed) (link : ℕ) (entries : List Entry) (marks : List ℕ) (entry : Entry) → managed ≡ Some it → are_marks link entries marks ≡ true
+pub question_more : (managed : Option Managed) (link : ℕ) (entries : List Entry) (marks : List ℕ) (entry : Entry) → IsSome managed → are_marks link entries marks ≡ true
     → of_turns managed (marks ++ 0 ∷ []) (entries ++ entry ∷ []) ≡ of_turns managed marks entries
-question_more None it link entries marks entry is all = absurd (cc is)
-question_more (Some managed) it link entries marks entry is all = question_marked link entries marks entry all
+question_more None link entries marks entry is all = absurd is
+question_more (Some managed) link entries marks entry is all = question_marked link entries marks entry all
 
 -- A STEP with what level 3 asked behind it
-pub stepped : (result : Result Answer SetFault) (who : Actor) (event : Event) (managed managed' managed'' : Option Managed) (old mid new : List Entry) (marks marks' marks'' : List ℕ) (faults faults'' : List SetFault)
-    → IfOk result (λ answer. (mid ≡ old ++ record { who = who; event = event; answer = answer } ∷ []) × (marks' ≡ marks ++ 1 ∷ [])) → managed' ≡ managed
+pub stepped : (who : Actor) (event : Event) (answer : Answer) (managed managed' managed'' : Option Managed) (old mid new : List Entry) (marks marks' marks'' : List ℕ) (faults faults'' : List SetFault)
+    → (mid ≡ old ++ record { who = who; event = event; answer = answer } ∷ []) × (marks' ≡ marks ++ 1 ∷ []) → managed' ≡ managed
     → of_turns managed'' marks'' new ≡ of_turns managed' marks' mid → are_marks (link_in who) old marks ≡ true → who ≡ Terminal (link_in who) → faults'' ≡ faults
-    → IfOk result (λ answer. (of_turns managed'' marks'' new ≡ of_turns managed marks old ++ record { who = Terminal (link_in who); event = event; answer = answer } ∷ []) × (faults'' ≡ faults))
-stepped (Ok answer) who event managed managed' managed'' old mid new marks marks' marks'' faults faults'' step same after all is_link quiet = (
+    → (of_turns managed'' marks'' new ≡ of_turns managed marks old ++ record { who = Terminal (link_in who); event = event; answer = answer } ∷ []) × (faults'' ≡ faults)
+stepped who event answer managed managed' managed'' old mid new marks marks' marks'' faults faults'' step same after all is_link quiet = (
   after ∙ ap (λ (m : Option Managed). of_turns m marks' mid) same ∙ ap (λ (ms : List ℕ). of_turns managed ms mid) step.1 ∙ ap (λ (es : List Entry). of_turns managed (marks ++ 1 ∷ []) es) step.0
       ∙ turn_more managed (link_in who) old marks (record { who = who; event = event; answer = answer }) all
       ∙ ap (λ (w : Actor). of_turns managed marks old ++ record { who = w; event = event; answer = answer } ∷ []) is_link,
   quiet,
 )
-stepped (Err fault) who event managed managed' managed'' old mid new marks marks' marks'' faults faults'' step same after all is_link quiet = tt
 
 -- and a question of level 3
-pub questioned : (who : Actor) (event : Event) (answer : Answer) (it : Managed) (managed managed' : Option Managed) (old new : List Entry) (marks marks' : List ℕ)
-    → (new ≡ old ++ record { who = who; event = event; answer = answer } ∷ []) × (marks' ≡ marks ++ 0 ∷ []) → managed' ≡ managed → managed ≡ Some it → are_marks (link_in who) old marks ≡ true
+pub questioned : (who : Actor) (event : Event) (answer : Answer) (managed managed' : Option Managed) (old new : List Entry) (marks marks' : List ℕ)
+    → (new ≡ old ++ record { who = who; event = event; answer = answer } ∷ []) × (marks' ≡ marks ++ 0 ∷ []) → managed' ≡ managed → IsSome managed → are_marks (link_in who) old marks ≡ true
     → of_turns managed' marks' new ≡ of_turns managed marks old
-questioned who event answer it managed managed' old new marks marks' step same some all =
+questioned who event answer managed managed' old new marks marks' step same some all =
     ap (λ (m : Option Managed). of_turns m marks' new) same ∙ ap (λ (ms : List ℕ). of_turns managed ms new) step.1 ∙ ap (λ (es : List Entry). of_turns managed (marks ++ 0 ∷ []) es) step.0
-    ∙ question_more managed it (link_in who) old marks (record { who = who; event = event; answer = answer }) some all
+    ∙ question_more managed (link_in who) old marks (record { who = who; event = event; answer = answer }) some all
 
 -- no entries, none of turns
 pub none_of_turns : (managed : Option Managed) (entries : List Entry) (marks : List ℕ) → entries ≡ [] → marks ≡ [] → of_turns managed marks entries ≡ []

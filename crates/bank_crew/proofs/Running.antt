@@ -16,12 +16,13 @@ use Rattle.bank_crew.specs.Carrying.{carried_in}
 use Rattle.bank_crew.specs.Counts.{answered_in, reported}
 use Rattle.bank_crew.specs.Managing.{are_marks, of_turns}
 use Rattle.line_tape.specs.Taping.{IsTape}
-use Rattle.bank_crew.specs.Shifts.{AfterHalf, DoesShift, Halves, Standing, Turns, Slices, SlicesFrom, one_more, TurnsOf, TurnsWhere, both, fresh, standing, Slice}
+use Rattle.link_term.specs.Standing.{Standing, standing}
+use Rattle.bank_crew.specs.Shifts.{AfterHalf, DoesShift, Halves, Turns, Slices, SlicesFrom, one_more, TurnsOf, TurnsWhere, both, fresh, Slice}
 
 -- it went, or it failed
-pub either_way : (A B : Type 0) (P : TermReport → Type 0) (Q : TermFault → Type 0) (result : Result TermReport TermFault) → IfOk result (λ report. A × P report × B) → IfErr result Q → MatchResult result P Q
-either_way A B P Q (Ok report) went failed = went.1
-either_way A B P Q (Err fault) went failed = failed
+pub either_way : (A : Type 0) (P : TermReport → Type 0) (Q : TermFault → Type 0) (result : Result TermReport TermFault) → IfOk result (λ report. A × P report) → IfErr result Q → MatchResult result P Q
+either_way A P Q (Ok report) went failed = went.1
+either_way A P Q (Err fault) went failed = failed
 
 pub turned_from : (turns : ℕ) (told : Result TermReport TermFault) (before before' after : Standing) → Turns turns told before' after → before' ≡ before → Turns turns told before after
 turned_from turns told before before' after is same = subst (λ (it : Standing). Turns turns told it after) same is

@@ -2,7 +2,6 @@
 use Rattle.std.specs.Prelude.{◌≡◌, ◌==◌, ◌<◌, ◌≤◌, ◌+◌, ◌-◌, ◌/◌, ◌^◌, ℕ, suc, min, Bool, true, false, List, [], ◌∷◌, Option, None, Some, Result, Ok, Err, MatchResult}
 use Rattle.set_events.specs.declared.books.Books.{Books}
 use Rattle.set_events.specs.declared.event.Actor.{Actor}
-use Rattle.set_events.specs.declared.fault.SetFault.{SetFault}
 use Rattle.set_events.specs.declared.history.Entry.{Entry}
 use Rattle.term_model.specs.declared.command.Command.TheVariants.{Emergency, Start, Stop}
 use Rattle.term_model.specs.declared.report.TermReport.{TermReport}
@@ -11,6 +10,7 @@ use Rattle.term_model.specs.Terminal.{Terminal, opened, told}
 use Rattle.link_term.specs.declared.fault.TermFault.{TermFault}
 use Rattle.link_term.specs.Looking.{Seen}
 use Rattle.link_term.specs.Running.{Runs, RunFails}
+use Rattle.link_term.specs.Standing.{Standing, standing}
 use Rattle.bank_crew.specs.declared.manager.LinkOrder.{LinkOrder}
 use Rattle.bank_crew.specs.declared.plan.Managed.{Managed}
 use Rattle.bank_crew.specs.declared.plan.Plan.{Plan}
@@ -21,25 +21,10 @@ use Rattle.bank_crew.specs.Managing.{are_marks, of_turns}
 use Rattle.line_tape.specs.Taping.{IsTape}
 use Rattle.bank_crew.specs.Seats.{AreCalls}
 
--- how a terminal stands: the octets that it took, its inside, its entries, its set's faults, and what it saw of its line
-pub record Standing : Type 0 where
-  pub taken : List ℕ
-  pub inside : Terminal
-  pub made : List Entry
-  pub faults : List SetFault
-  pub line : Seen
-
-abbrev pub standing : List ℕ → Terminal → List Entry → List SetFault → Seen → Standing
-standing taken inside made faults line =
-    record { taken = taken; inside = inside; made = made; faults = faults; line = line }
-
 -- SO MANY TURNS, or fewer, where a fault broke them off
 abbrev pub Turns : ℕ → Result TermReport TermFault → Standing → Standing → Type 0
 Turns turns told before after = MatchResult told
-    (λ report. Runs turns before.taken after.taken before.inside before.made after.made before.line after.line
-    report after.inside)
-    (λ fault. RunFails fault before.faults after.faults turns before.taken after.taken before.inside before.made
-    after.made before.line after.line after.inside)
+    (λ report. Runs turns before report after) (λ fault. RunFails fault turns before after)
 
 -- what two runs counted together; the second one knows why the link failed last
 abbrev pub added : ℕ → ℕ → ℕ

@@ -1,12 +1,13 @@
 //! A seat with all that was asked at it, of which it may forget some.
-ghost use Rattle.std.specs.Prelude.{◌≡◌, ◌<◌, ◌^◌, [], length};
+ghost use Rattle.std.specs.Prelude.{◌≡◌, ◌<◌, ◌^◌, [], ◌∷◌, ◌++◌, length, OnOk, OnErr};
+ghost use Rattle.set_events.specs.Lent.{HasFitUnit, event_in};
 ghost use Rattle.set_events.specs.Owners.{IsOwn};
 ghost use Rattle.set_events.specs.declared.event.Actor.TheVariants.{User, Terminal};
 ghost use Rattle.set_events.specs.declared.event.Event.TheVariants.{Offer, Take, Find};
 ghost use Rattle.bank_crew.specs.Jobs.{Calls};
 ghost use Rattle.bank_crew.specs.Seats.{AreAll};
 
-use set_events::{Answer, Event, SetFault};
+use set_events::{Answer, EventRef, Reply, SetFault};
 use set_shared::{LinkSet, Opening, Seat, SeatShare, TermSeat, UserSeat};
 use std::alloc::Global;
 use std::marker::{Model, PhantomData};
@@ -182,20 +183,24 @@ impl<C: Opening, M: Ledger, O: Ledger, A: Ledger> Caller<C, M, O, A, TermSeat<C,
         self.seat.link()
     }
 
-    /// One step on the terminal's own link; `held` is called once the lock is had.
+    /// One step on the terminal's own link, whose answer is put into the reply; `held` is called once the lock is had.
     pub(crate) fn step<R: Wait, F: FnOnce()>(
         &mut self,
         rt: &R,
         set: &LinkSet<C, M, O, A>,
-        event: &Event,
+        event: &EventRef<'_>,
+        reply: &mut Reply,
         held: F,
-    ) -> Result<Answer, SetFault>
-        requires own { IsOwn self.old.seat.who event.now }
+    ) -> Result<(), SetFault>
+        requires own { IsOwn self.old.seat.who (event_in event.now) }
+        requires fits { HasFitUnit event.now }
         requires callable { F.IsAlwaysCallable held }
         ensures who { self.new.seat.who ≡ self.old.seat.who }
-        ensures calls { Calls self.old.seat.who event.now result self.old.all self.new.all }
+        ensures ok { OnOk result (self.new.all ≡ self.old.all
+            ++ record { who = self.old.seat.who; event = event_in event.now; answer = reply.new } ∷ []) }
+        ensures err { OnErr result (self.new.all ≡ self.old.all) }
     {
-        let answered = set.term_step_held(rt, &mut self.seat, event, held);
+        let answered = set.term_step_held(rt, &mut self.seat, event, reply, held);
         self.forget(rt, set);
         answered
     }

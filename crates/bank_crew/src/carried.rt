@@ -1,11 +1,13 @@
 //! What a link carried, as its terminal's questions and their answers tell.
 ghost use Rattle.std.specs.Prelude.{◌≡◌};
+ghost use Rattle.l2_units.specs.Lent.{unit_in};
+ghost use Rattle.set_events.specs.Lent.{answer_in, event_in};
 ghost use Rattle.bank_crew.specs.Carrying.{carried_more, due_after, heard_octets, is_away, is_users, message_octets, one_if, sends_again, sends_away, sends_message, sends_new, sent_octets, told_away, told_octets, unit_is_away, unit_is_message, unit_is_new, users_octets};
 
 use super::plan::Managed;
 use super::report::{counts_message, counts_up};
-use l2_units::Unit;
-use set_events::{Answer, Event};
+use l2_units::UnitRef;
+use set_events::{AnswerRef, EventRef};
 use set_model::{service_indicator, stream_of_body};
 
 /// What a link carried, counted as it happens, so that no checkpoint takes it away. Messages are those of users: the
@@ -45,10 +47,10 @@ impl Carried {
         self,
         managed: Option<Managed>,
         link: u8,
-        event: &Event,
-        answer: &Answer,
+        event: &EventRef<'_>,
+        answer: &AnswerRef<'_>,
     ) -> Carried
-        ensures { result ≡ carried_more managed link event.now answer.now self }
+        ensures { result ≡ carried_more managed link (event_in event.now) (answer_in answer.now) self }
     {
         Carried {
             ups: self
@@ -94,93 +96,93 @@ fn is_away(managed: Option<Managed>, link: u8, stream: u8) -> bool
 }
 
 /// Whether the set gave a message to send.
-fn sends_message(answer: &Answer) -> bool
-    ensures { result ≡ sends_message answer.now }
+fn sends_message(answer: &AnswerRef<'_>) -> bool
+    ensures { result ≡ sends_message (answer_in answer.now) }
 {
     match answer {
-        Answer::Sent { unit } => unit_is_message(unit),
+        AnswerRef::Sent { unit } => unit_is_message(unit),
         _ => false,
     }
 }
 
-fn unit_is_message(unit: &Unit) -> bool
-    ensures { result ≡ unit_is_message unit.now }
+fn unit_is_message(unit: &UnitRef<'_>) -> bool
+    ensures { result ≡ unit_is_message (unit_in unit.now) }
 {
     match unit {
-        Unit::Msu { body, .. } => is_users(body.as_slice()),
-        Unit::Fisu { .. } | Unit::Lssu { .. } => false,
+        UnitRef::Msu { body, .. } => is_users(body),
+        UnitRef::Fisu { .. } | UnitRef::Lssu { .. } => false,
     }
 }
 
 /// Whether the set gave an MSU of this FSN.
-fn sends_new(due: u16, answer: &Answer) -> bool
-    ensures { result ≡ sends_new due answer.now }
+fn sends_new(due: u16, answer: &AnswerRef<'_>) -> bool
+    ensures { result ≡ sends_new due (answer_in answer.now) }
 {
     match answer {
-        Answer::Sent { unit } => unit_is_new(due, unit),
+        AnswerRef::Sent { unit } => unit_is_new(due, unit),
         _ => false,
     }
 }
 
-fn unit_is_new(due: u16, unit: &Unit) -> bool
-    ensures { result ≡ unit_is_new due unit.now }
+fn unit_is_new(due: u16, unit: &UnitRef<'_>) -> bool
+    ensures { result ≡ unit_is_new due (unit_in unit.now) }
 {
     match unit {
-        Unit::Msu { head, .. } => head.fsn == due,
-        Unit::Fisu { .. } | Unit::Lssu { .. } => false,
+        UnitRef::Msu { head, .. } => head.fsn == due,
+        UnitRef::Fisu { .. } | UnitRef::Lssu { .. } => false,
     }
 }
 
 /// Whether the set gave a message that was sent on the link before.
-fn sends_again(due: u16, answer: &Answer) -> bool
-    ensures { result ≡ sends_again due answer.now }
+fn sends_again(due: u16, answer: &AnswerRef<'_>) -> bool
+    ensures { result ≡ sends_again due (answer_in answer.now) }
 {
     sends_message(answer) && !sends_new(due, answer)
 }
 
 /// Whether the set gave a message that is new to the link, whose stream has another home.
-fn sends_away(managed: Option<Managed>, link: u8, due: u16, answer: &Answer) -> bool
-    ensures { result ≡ sends_away managed link due answer.now }
+fn sends_away(managed: Option<Managed>, link: u8, due: u16, answer: &AnswerRef<'_>) -> bool
+    ensures { result ≡ sends_away managed link due (answer_in answer.now) }
 {
     sends_message(answer) && sends_new(due, answer) && answer_is_away(managed, link, answer)
 }
 
 /// Whether the set gave an MSU whose stream has another home.
-fn answer_is_away(managed: Option<Managed>, link: u8, answer: &Answer) -> bool
-    ensures { result ≡ told_away managed link answer.now }
+fn answer_is_away(managed: Option<Managed>, link: u8, answer: &AnswerRef<'_>) -> bool
+    ensures { result ≡ told_away managed link (answer_in answer.now) }
 {
     match answer {
-        Answer::Sent { unit } => unit_is_away(managed, link, unit),
+        AnswerRef::Sent { unit } => unit_is_away(managed, link, unit),
         _ => false,
     }
 }
 
-fn unit_is_away(managed: Option<Managed>, link: u8, unit: &Unit) -> bool
-    ensures { result ≡ unit_is_away managed link unit.now }
+fn unit_is_away(managed: Option<Managed>, link: u8, unit: &UnitRef<'_>) -> bool
+    ensures { result ≡ unit_is_away managed link (unit_in unit.now) }
 {
     match unit {
-        Unit::Msu { body, .. } => is_away(managed, link, stream_of_body(body.as_slice())),
-        Unit::Fisu { .. } | Unit::Lssu { .. } => false,
+        UnitRef::Msu { body, .. } => is_away(managed, link, stream_of_body(body)),
+        UnitRef::Fisu { .. } | UnitRef::Lssu { .. } => false,
     }
 }
 
 /// The octets of the message that the set gave to send, if it gave one.
-fn sent_octets(answer: &Answer) -> u64
-    ensures { result ≡ sent_octets answer.now }
+fn sent_octets(answer: &AnswerRef<'_>) -> u64
+    ensures { result ≡ sent_octets (answer_in answer.now) }
 {
     match answer {
-        Answer::Sent { unit } => message_octets(unit),
+        AnswerRef::Sent { unit } => message_octets(unit),
         _ => 0,
     }
 }
 
 /// The octets of the message that a unit carries, if it carries one.
-fn message_octets(unit: &Unit) -> u64
-    ensures { result ≡ message_octets unit.now }
+fn message_octets(unit: &UnitRef<'_>) -> u64
+    ensures { result ≡ message_octets (unit_in unit.now) }
 {
     match unit {
-        Unit::Msu { body, .. } => users_octets(body.as_slice()),
-        Unit::Fisu { .. } | Unit::Lssu { .. } => 0,
+        UnitRef::Msu { body, .. } => users_octets(body),
+        UnitRef::Fisu { .. } | UnitRef::Lssu { .. } => 0,
     }
 }
 
@@ -191,8 +193,8 @@ fn users_octets(body: &[u8]) -> u64
 }
 
 /// The octets of the message that was heard on the link and accepted, if one was.
-fn heard_octets(link: u8, event: &Event, answer: &Answer) -> u64
-    ensures { result ≡ heard_octets link event.now answer.now }
+fn heard_octets(link: u8, event: &EventRef<'_>, answer: &AnswerRef<'_>) -> u64
+    ensures { result ≡ heard_octets link (event_in event.now) (answer_in answer.now) }
 {
     if counts_message(link, event, answer) {
         told_octets(event)
@@ -201,18 +203,18 @@ fn heard_octets(link: u8, event: &Event, answer: &Answer) -> u64
     }
 }
 
-fn told_octets(event: &Event) -> u64
-    ensures { result ≡ told_octets event.now }
+fn told_octets(event: &EventRef<'_>) -> u64
+    ensures { result ≡ told_octets (event_in event.now) }
 {
     match event {
-        Event::Heard { unit, .. } => message_octets(unit),
+        EventRef::Heard { unit, .. } => message_octets(unit),
         _ => 0,
     }
 }
 
 /// The FSN of the next message that is new to the link: 0 once it came up, and else one more than that of the last one.
-fn due_after(link: u8, due: u16, event: &Event, answer: &Answer) -> u16
-    ensures { result ≡ due_after link due event.now answer.now }
+fn due_after(link: u8, due: u16, event: &EventRef<'_>, answer: &AnswerRef<'_>) -> u16
+    ensures { result ≡ due_after link due (event_in event.now) (answer_in answer.now) }
 {
     if counts_up(link, event, answer) {
         0

@@ -1,7 +1,7 @@
 //! Who manages the links of sets, and holds their users up.
 
 use link_term::{Gate, OpenGate};
-use set_events::{Answer, Counts, Event};
+use set_events::{AnswerRef, Counts, EventRef};
 
 /// What a link's terminal is told before its next turns.
 #[derive(Clone, Copy, Debug, PartialEq, Eq)]
@@ -23,7 +23,7 @@ pub trait LinkManager: Gate {
     fn holds_up(&self, set: u16, user: u16) -> bool;
 
     /// The set gave this answer to the terminal of this link.
-    fn answered(&self, set: u16, link: u8, event: &Event, answer: &Answer);
+    fn answered(&self, set: u16, link: u8, event: &EventRef<'_>, answer: &AnswerRef<'_>);
 
     /// What the terminal of this link is told now, when so many of its set's messages stand in each place.
     fn order(&self, set: u16, link: u8, counts: &Counts) -> LinkOrder;
@@ -38,7 +38,7 @@ impl LinkManager for OpenGate {
         false
     }
 
-    fn answered(&self, _set: u16, _link: u8, _event: &Event, _answer: &Answer) {}
+    fn answered(&self, _set: u16, _link: u8, _event: &EventRef<'_>, _answer: &AnswerRef<'_>) {}
 
     fn order(&self, _set: u16, _link: u8, _counts: &Counts) -> LinkOrder {
         LinkOrder::Run

@@ -1,9 +1,10 @@
 //! What level 3 asks of a set when time has passed, counted by what a link's terminal asks (Q.704 5.7, 6.4).
 ghost use Rattle.std.specs.Prelude.{◌≡◌, true, IfSome};
+ghost use Rattle.set_events.specs.Lent.{HasFitUnit, event_in};
 ghost use Rattle.bank_crew.specs.Managing.{is_question};
 
 use super::report::{tells_up, was_done};
-use set_events::{Answer, Event, Refusal};
+use set_events::{AnswerRef, EventRef, Refusal};
 
 /// After so many units of a link the answer to an order about it is waited for no more. At 64 kbit/s that's 3 s or more
 /// of FISUs.
@@ -27,8 +28,13 @@ impl Awaited {
 
     /// What is asked behind this answer to an event of the terminal: streams are asked back to a link that came up
     /// (Q.704 6.2); that no answer came to its changeover (5.7.2), or to its changeback (6.4), after a while.
-    pub(crate) fn question(&mut self, link: u8, event: &Event, answer: &Answer) -> Option<Event>
-        ensures { IfSome result (λ question. is_question link question ≡ true) }
+    pub(crate) fn question(
+        &mut self,
+        link: u8,
+        event: &EventRef<'_>,
+        answer: &AnswerRef<'_>,
+    ) -> Option<EventRef<'static>>
+        ensures { IfSome result (λ question. (is_question link (event_in question) ≡ true) × HasFitUnit question) }
     {
         if tells_up(link, event) {
             return self.behind_up(link, answer);
@@ -39,15 +45,15 @@ impl Awaited {
             return None;
         }
         self.units = None;
-        Some(Event::BackTimeout { link })
+        Some(EventRef::BackTimeout { link })
     }
 
-    fn behind_up(&mut self, link: u8, answer: &Answer) -> Option<Event>
-        ensures { IfSome result (λ question. is_question link question ≡ true) }
+    fn behind_up(&mut self, link: u8, answer: &AnswerRef<'_>) -> Option<EventRef<'static>>
+        ensures { IfSome result (λ question. (is_question link (event_in question) ≡ true) × HasFitUnit question) }
     {
         if was_done(answer) {
             *self = Awaited::NOTHING;
-            return Some(Event::Restore { link });
+            return Some(EventRef::Restore { link });
         }
         if !is_unsettled(answer) {
             return None;
@@ -57,22 +63,22 @@ impl Awaited {
             return None;
         }
         self.refused = 0;
-        Some(Event::NoAnswer { link })
+        Some(EventRef::NoAnswer { link })
     }
 
     /// The set gave this answer to a question.
-    pub(crate) fn hear(&mut self, question: &Event, answer: &Answer) {
-        if let (Event::Restore { .. }, Answer::Done) = (question, answer) {
+    pub(crate) fn hear(&mut self, question: &EventRef<'_>, answer: &AnswerRef<'_>) {
+        if let (EventRef::Restore { .. }, AnswerRef::Done) = (question, answer) {
             self.units = Some(0);
         }
     }
 }
 
 /// Whether the set refused, since it isn't settled what the far end has.
-fn is_unsettled(answer: &Answer) -> bool {
+fn is_unsettled(answer: &AnswerRef<'_>) -> bool {
     matches!(
         answer,
-        Answer::Refused {
+        AnswerRef::Refused {
             why: Refusal::Unsettled
         }
     )

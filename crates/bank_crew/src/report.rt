@@ -1,12 +1,13 @@
 //! What a terminal's turns came to.
 ghost use Rattle.std.specs.Prelude.{◌≡◌, ◌+◌, ◌<◌, ◌^◌};
+ghost use Rattle.set_events.specs.Lent.{answer_in, event_in};
 ghost use Rattle.bank_crew.specs.Counts.{counted, counts_up, counts_message, is_done, is_heard, is_up, reported, took_message};
 
 use super::carried::Carried;
 use arrayvec::ArrayVec;
 use line_tape::Tape;
 use link_term::{TermFault, TermReport};
-use set_events::{Answer, Event, Took};
+use set_events::{AnswerRef, EventRef, Took};
 
 /// What the turns of a link's terminal came to.
 #[derive(Debug, Drop)]
@@ -45,9 +46,9 @@ pub(crate) const NOTHING: Answered = Answered {
 
 impl Answered {
     /// With this answer to this event of the terminal of the link.
-    pub(crate) fn with(self, link: u8, event: &Event, answer: &Answer) -> Answered
+    pub(crate) fn with(self, link: u8, event: &EventRef<'_>, answer: &AnswerRef<'_>) -> Answered
         requires { self.messages + 1 < 2 ^ 64 }
-        ensures { result ≡ counted link event.now answer.now self }
+        ensures { result ≡ counted link (event_in event.now) (answer_in answer.now) self }
     {
         Answered {
             came_up: self.came_up || counts_up(link, event, answer),
@@ -81,52 +82,52 @@ pub(crate) fn reported(
 }
 
 /// Whether the link came up: Done was answered to its Up.
-pub(crate) fn counts_up(link: u8, event: &Event, answer: &Answer) -> bool
-    ensures { result ≡ counts_up link event.now answer.now }
+pub(crate) fn counts_up(link: u8, event: &EventRef<'_>, answer: &AnswerRef<'_>) -> bool
+    ensures { result ≡ counts_up link (event_in event.now) (answer_in answer.now) }
 {
     tells_up(link, event) && was_done(answer)
 }
 
 /// Whether a message was heard on the link and accepted.
-pub(crate) fn counts_message(link: u8, event: &Event, answer: &Answer) -> bool
-    ensures { result ≡ counts_message link event.now answer.now }
+pub(crate) fn counts_message(link: u8, event: &EventRef<'_>, answer: &AnswerRef<'_>) -> bool
+    ensures { result ≡ counts_message link (event_in event.now) (answer_in answer.now) }
 {
     was_heard(link, event) && accepted_message(answer)
 }
 
 /// Whether the terminal of this link tells that it's in service.
-pub(crate) fn tells_up(link: u8, event: &Event) -> bool
-    ensures { result ≡ is_up link event.now }
+pub(crate) fn tells_up(link: u8, event: &EventRef<'_>) -> bool
+    ensures { result ≡ is_up link (event_in event.now) }
 {
     match event {
-        Event::Up { link: up } => *up == link,
+        EventRef::Up { link: up } => *up == link,
         _ => false,
     }
 }
 
 /// Whether a unit was heard on this link.
-fn was_heard(link: u8, event: &Event) -> bool
-    ensures { result ≡ is_heard link event.now }
+fn was_heard(link: u8, event: &EventRef<'_>) -> bool
+    ensures { result ≡ is_heard link (event_in event.now) }
 {
     match event {
-        Event::Heard { link: on, .. } => *on == link,
+        EventRef::Heard { link: on, .. } => *on == link,
         _ => false,
     }
 }
 
 /// Whether it was done.
-pub(crate) fn was_done(answer: &Answer) -> bool
-    ensures { result ≡ is_done answer.now }
+pub(crate) fn was_done(answer: &AnswerRef<'_>) -> bool
+    ensures { result ≡ is_done (answer_in answer.now) }
 {
-    matches!(answer, Answer::Done)
+    matches!(answer, AnswerRef::Done)
 }
 
 /// Whether the unit was a message that was accepted.
-fn accepted_message(answer: &Answer) -> bool
-    ensures { result ≡ took_message answer.now }
+fn accepted_message(answer: &AnswerRef<'_>) -> bool
+    ensures { result ≡ took_message (answer_in answer.now) }
 {
     match answer {
-        Answer::Heard { report } => matches!(report.took, Took::Message),
+        AnswerRef::Heard { report } => matches!(report.took, Took::Message),
         _ => false,
     }
 }

@@ -1,9 +1,10 @@
 //! The door of a set that threads share.
-ghost use Rattle.std.specs.Prelude.{◌≡◌, true, [], ◌∷◌, ◌++◌, IfOk, IfErr};
+ghost use Rattle.std.specs.Prelude.{◌≡◌, true, [], ◌∷◌, ◌++◌, IsSome, OnOk, OnErr};
+ghost use Rattle.set_events.specs.Lent.{HasFitUnit, event_in};
 ghost use Rattle.set_events.specs.Owners.{IsOwn};
 ghost use Rattle.bank_crew.specs.Carrying.{carried_in};
 ghost use Rattle.bank_crew.specs.Counts.{answered_in};
-ghost use Rattle.bank_crew.specs.Managing.{are_marks, is_mark, of_turns};
+ghost use Rattle.bank_crew.specs.Managing.{are_marks, is_mark, is_question, of_turns};
 ghost use Rattle.bank_crew.specs.Seats.{AreAll, link_in};
 
 use super::caller::Caller;
@@ -15,7 +16,7 @@ use super::questions::Awaited;
 use super::report::{Answered, NOTHING};
 use line_ring::Past;
 use link_term::{Door, Faults};
-use set_events::{Answer, Event, SetFault};
+use set_events::{AnswerRef, EventRef, Reply, SetFault};
 use set_shared::{LinkSet, Opening, TermSeat};
 use std::alloc::Global;
 use std::sync::Wait;
@@ -114,14 +115,15 @@ impl<'a, C: Opening, M: Ledger, O: Ledger, A: Ledger, R: Wait, G: LinkManager> S
         self.caller.into_seat()
     }
 
-    /// One step, which this mark tells.
-    fn ask(&mut self, event: &Event, mark: u8) -> Result<Answer, SetFault>
-        requires own { IsOwn self.old.caller.seat.who event.now }
-        requires mark { is_mark (link_in self.old.caller.seat.who) event.now mark ≡ true }
-        ensures ok { IfOk result (λ answer. (self.new.caller.all ≡ self.old.caller.all
-            ++ record { who = self.old.caller.seat.who; event = event.now; answer = answer } ∷ [])
+    /// One step, which this mark tells: its answer is put into the reply.
+    fn ask(&mut self, event: &EventRef<'_>, reply: &mut Reply, mark: u8) -> Result<(), SetFault>
+        requires own { IsOwn self.old.caller.seat.who (event_in event.now) }
+        requires fits { HasFitUnit event.now }
+        requires mark { is_mark (link_in self.old.caller.seat.who) (event_in event.now) mark ≡ true }
+        ensures ok { OnOk result ((self.new.caller.all ≡ self.old.caller.all
+            ++ record { who = self.old.caller.seat.who; event = event_in event.now; answer = reply.new } ∷ [])
             × (self.new.marks ≡ self.old.marks ++ mark ∷ [])) }
-        ensures err { IfErr result (λ fault. (self.new.caller.all ≡ self.old.caller.all)
+        ensures err { OnErr result ((self.new.caller.all ≡ self.old.caller.all)
             × (self.new.marks ≡ self.old.marks)) }
         ensures who { self.new.caller.seat.who ≡ self.old.caller.seat.who }
         ensures faults { self.new.faults ≡ self.old.faults }
@@ -130,19 +132,18 @@ impl<'a, C: Opening, M: Ledger, O: Ledger, A: Ledger, R: Wait, G: LinkManager> S
         let link = self.caller.link();
         let (set, gate) = (self.number, self.gate);
         let inside = || gate.inside(set, link);
-        let answered = self.caller.step(self.rt, self.set, event, inside);
-        if let Ok(answer) = &answered {
-            // each that is counted is a call
-            self.caller.count();
-            self.marks.note(mark);
-            self.answered = self.answered.with(link, event, answer);
-            self.carried = self.carried.with(self.managed, link, event, answer);
-        }
-        answered
+        self.caller.step(self.rt, self.set, event, reply, inside)?;
+        let answer = reply.get();
+        // each that is counted is a call
+        self.caller.count();
+        self.marks.note(mark);
+        self.answered = self.answered.with(link, event, &answer);
+        self.carried = self.carried.with(self.managed, link, event, &answer);
+        Ok(())
     }
 
     /// Level 3 hears this answer, and may ask something of its own; it's no matter that memory is refused to that.
-    fn follow(&mut self, event: &Event, answer: &Answer)
+    fn follow(&mut self, event: &EventRef<'_>, answer: &AnswerRef<'_>)
         ensures made { of_turns self.new.managed self.new.marks self.new.caller.all
             ≡ of_turns self.old.managed self.old.marks self.old.caller.all }
         ensures who { self.new.caller.seat.who ≡ self.old.caller.seat.who }
@@ -157,9 +158,31 @@ impl<'a, C: Opening, M: Ledger, O: Ledger, A: Ledger, R: Wait, G: LinkManager> S
         let Some(question) = self.awaited.question(link, event, answer) else {
             return;
         };
-        if let Ok(answer) = self.ask(&question, 0) {
-            self.gate.answered(self.number, link, &question, &answer);
-            self.awaited.hear(&question, &answer);
+        self.ask_more(&question);
+    }
+
+    /// Asks what level 3 asks of its own. That is seldom, so the answer's place is made for it, in this function's own
+    /// frame.
+    #[inline(never)]
+    fn ask_more(&mut self, question: &EventRef<'_>)
+        requires managed { IsSome self.old.managed }
+        requires question { is_question (link_in self.old.caller.seat.who) (event_in question.now) ≡ true }
+        requires fits { HasFitUnit question.now }
+        ensures made { of_turns self.new.managed self.new.marks self.new.caller.all
+            ≡ of_turns self.old.managed self.old.marks self.old.caller.all }
+        ensures who { self.new.caller.seat.who ≡ self.old.caller.seat.who }
+        ensures faults { self.new.faults ≡ self.old.faults }
+        ensures managed { self.new.managed ≡ self.old.managed }
+    {
+        let link = self.caller.link();
+        let mut reply = Reply::new();
+        match self.ask(question, &mut reply, 0) {
+            Ok(()) => {
+                let answer = reply.get();
+                self.gate.answered(self.number, link, question, &answer);
+                self.awaited.hear(question, &answer);
+            }
+            Err(_) => {}
         }
     }
 }
@@ -187,18 +210,20 @@ impl<'a, C: Opening, M: Ledger, O: Ledger, A: Ledger, R: Wait, G: LinkManager> D
         self.caller.link()
     }
 
-    fn step(&mut self, event: &Event) -> Result<Answer, SetFault> {
+    fn step(&mut self, event: &EventRef<'_>, reply: &mut Reply) -> Result<(), SetFault> {
         // it's the seat of that link still
         self.caller.link();
-        let answered = self.ask(event, 1);
-        match &answered {
-            Ok(answer) => {
-                self.follow(event, answer);
+        match self.ask(event, reply, 1) {
+            Ok(()) => {
+                self.follow(event, &reply.get());
                 self.pauses
                     .pause(self.rt, self.set, self.caller.share().calls);
+                Ok(())
             }
-            Err(fault) => self.faults.note(*fault),
+            Err(fault) => {
+                self.faults.note(fault);
+                Err(fault)
+            }
         }
-        answered
     }
 }

@@ -1,7 +1,8 @@
 //! A terminal's turns where its link is managed.
 ghost use Rattle.std.specs.Prelude.{◌≡◌, ◌≤◌, ◌^◌, false, OnOk};
 ghost use Rattle.link_term.specs.Looking.{seen};
-ghost use Rattle.bank_crew.specs.Shifts.{Slice, Slices, standing};
+ghost use Rattle.link_term.specs.Standing.{standing};
+ghost use Rattle.bank_crew.specs.Shifts.{Slice, Slices};
 
 use super::manager::{LinkManager, LinkOrder};
 use super::orders::Orders;

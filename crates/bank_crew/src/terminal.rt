@@ -3,7 +3,8 @@ ghost use Rattle.std.specs.Prelude.{◌≡◌, ◌≤◌, ◌^◌, false, List, 
 ghost use Rattle.link_term.specs.Looking.{seen};
 ghost use Rattle.set_events.specs.declared.history.Entry.{Entry};
 ghost use Rattle.bank_crew.specs.Seats.{AreAll, link_in};
-ghost use Rattle.bank_crew.specs.Shifts.{AfterHalf, DoesShift, Halves, Turns, TurnsBy, TurnsOf, both, is_to_fail, standing, with_first};
+ghost use Rattle.link_term.specs.Standing.{standing};
+ghost use Rattle.bank_crew.specs.Shifts.{AfterHalf, DoesShift, Halves, Turns, TurnsBy, TurnsOf, both, is_to_fail, with_first};
 
 use super::crew::{Ended, TermEnd};
 use super::manager::LinkManager;

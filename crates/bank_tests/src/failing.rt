@@ -6,8 +6,8 @@ use super::traffic::came_through;
 use bank_core::{Running, SetEnd};
 use bank_traffic::TrafficEnds;
 use line_ring::RingLine;
-use set_events::{Answer, Method, Took};
-use set_history::{Asked, Told};
+use set_events::{AnswerRef, EventRef, Method, Took};
+use set_history::Told;
 use std::alloc::Global;
 use std::sync::Wait;
 use std::test::Fail;
@@ -79,8 +79,8 @@ fn joined<R: Threads + Wait>(
 
 /// The link on which a unit was heard, and what it brought, if this entry is one.
 fn took(told: &Told<'_>) -> Option<(u8, Took)> {
-    match (told.asked(), told.answer()) {
-        (Asked::Heard { link, .. }, Answer::Heard { report }) => Some((link, report.took)),
+    match (told.asked(), told.answered()) {
+        (EventRef::Heard { link, .. }, AnswerRef::Heard { report }) => Some((link, report.took)),
         _ => None,
     }
 }

@@ -6,7 +6,7 @@ use super::openings::{
 };
 use bank_crew::{LinkManager, LinkOrder};
 use link_term::Gate;
-use set_events::{Answer, Counts, Event, Method};
+use set_events::{AnswerRef, Counts, EventRef, Method};
 use std::alloc::{AllocError, Global};
 use std::sync::atomic::{AtomicU64, Ordering};
 use std::sync::{Arc, Wait};
@@ -181,7 +181,7 @@ impl LinkManager for MeetingGate {
         false
     }
 
-    fn answered(&self, _set: u16, _link: u8, _event: &Event, _answer: &Answer) {}
+    fn answered(&self, _set: u16, _link: u8, _event: &EventRef<'_>, _answer: &AnswerRef<'_>) {}
 
     fn order(&self, _set: u16, _link: u8, _counts: &Counts) -> LinkOrder {
         LinkOrder::Run

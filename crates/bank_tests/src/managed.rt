@@ -3,7 +3,7 @@ use super::openings::holds;
 use bank_crew::{LinkManager, LinkOrder};
 use bank_traffic::{PaceGate, Traffic, gates_of};
 use link_term::Gate;
-use set_events::{Answer, Counts, Event, Refusal};
+use set_events::{AnswerRef, Counts, EventRef, Refusal};
 use std::test::Fail;
 
 /// A rest before a link is started again, T17.
@@ -46,8 +46,13 @@ fn pass(near: &PaceGate, far: &PaceGate, turns: u32) {
 }
 
 /// Whether a link at an end b that was up, and of which that was answered to this event, runs on and is started behind a rest.
-fn is_started_again(near: &PaceGate, far: &PaceGate, event: &Event, answer: &Answer) -> bool {
-    far.answered(0, 0, &Event::Up { link: 0 }, &Answer::Done);
+fn is_started_again(
+    near: &PaceGate,
+    far: &PaceGate,
+    event: &EventRef<'_>,
+    answer: &AnswerRef<'_>,
+) -> bool {
+    far.answered(0, 0, &EventRef::Up { link: 0 }, &AnswerRef::Done);
     pass(near, far, REST);
     let runs = far.order(0, 0, &NOTHING) == LinkOrder::Run;
     far.answered(0, 0, event, answer);
@@ -59,7 +64,7 @@ fn is_started_again(near: &PaceGate, far: &PaceGate, event: &Event, answer: &Ans
 #[test]
 fn a_link_that_failed_is_started_again(rt: HostRuntime) -> Result<(), Fail> {
     let (near, far) = gates_of(rt.alloc(), &traffic())?;
-    holds(is_started_again(&near, &far, &Event::Down { link: 0 }, &Answer::Done))
+    holds(is_started_again(&near, &far, &EventRef::Down { link: 0 }, &AnswerRef::Done))
 }
 
 #[test]
@@ -69,7 +74,7 @@ fn a_link_that_its_set_left_is_started_again(rt: HostRuntime) -> Result<(), Fail
     holds(is_started_again(
         &near,
         &far,
-        &Event::Next { link: 0 },
-        &Answer::Refused { why },
+        &EventRef::Next { link: 0 },
+        &AnswerRef::Refused { why },
     ))
 }

@@ -2,13 +2,12 @@
 ghost use Rattle.std.specs.Prelude.{◌≤◌};
 
 use super::openings::{holds, message_of, placed};
-use arrayvec::ArrayVec;
 use bank_core::SetEnd;
 use bank_traffic::{Traffic, TrafficEnds, run_traffic};
-use l2_units::{LONGEST_BODY, Unit};
+use l2_units::UnitRef;
 use set_core::audit_history_from;
-use set_events::{Answer, Took};
-use set_history::{Asked, Told};
+use set_events::{AnswerRef, EventRef, Took};
+use set_history::Told;
 use std::alloc::Global;
 use std::sync::Wait;
 use std::test::Fail;
@@ -36,14 +35,14 @@ impl Next {
 }
 
 /// The body of a message that was accepted from the line, if this entry is one.
-fn heard(told: &Told<'_>) -> Option<ArrayVec<u8, LONGEST_BODY>> {
-    match (told.asked(), told.answer()) {
+fn heard<'a>(told: &Told<'a>) -> Option<&'a [u8]> {
+    match (told.asked(), told.answered()) {
         (
-            Asked::Heard {
-                unit: Unit::Msu { body, .. },
+            EventRef::Heard {
+                unit: UnitRef::Msu { body, .. },
                 ..
             },
-            Answer::Heard { report },
+            AnswerRef::Heard { report },
         ) => {
             if report.took == Took::Message {
                 Some(body)
@@ -56,9 +55,9 @@ fn heard(told: &Told<'_>) -> Option<ArrayVec<u8, LONGEST_BODY>> {
 }
 
 /// The body of a message that was taken by a user, if this entry is one.
-fn taken(told: &Told<'_>) -> Option<ArrayVec<u8, LONGEST_BODY>> {
-    match told.answer() {
-        Answer::Taken { body } => Some(body),
+fn taken<'a>(told: &Told<'a>) -> Option<&'a [u8]> {
+    match told.answered() {
+        AnswerRef::Taken { body } => Some(body),
         _ => None,
     }
 }
@@ -66,10 +65,10 @@ fn taken(told: &Told<'_>) -> Option<ArrayVec<u8, LONGEST_BODY>> {
 /// Where this entry is a message that was heard or taken, it's its user's next one.
 fn is_next(told: &Told<'_>, next_heard: &mut Next, next_taken: &mut Next) -> bool {
     if let Some(body) = heard(told) {
-        return next_heard.is(body.as_slice());
+        return next_heard.is(body);
     }
     match taken(told) {
-        Some(body) => next_taken.is(body.as_slice()),
+        Some(body) => next_taken.is(body),
         None => true,
     }
 }

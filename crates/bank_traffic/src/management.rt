@@ -4,8 +4,8 @@ use super::asked::Traffic;
 use super::pace::{PaceGate, pace_gates};
 use super::watch::SetWatch;
 use bank_core::{LinkManager, LinkOrder};
-use l2_units::Unit;
-use set_events::{Answer, Counts, Event, Took};
+use l2_units::UnitRef;
+use set_events::{AnswerRef, Counts, EventRef, Took};
 use std::alloc::{AllocError, Global};
 use std::sync::Arc;
 
@@ -76,11 +76,11 @@ impl LinkManager for PaceGate {
         }
     }
 
-    fn answered(&self, set: u16, link: u8, event: &Event, answer: &Answer) {
+    fn answered(&self, set: u16, link: u8, event: &EventRef<'_>, answer: &AnswerRef<'_>) {
         let Some(watch) = self.watch(set) else {
             return;
         };
-        if let (Event::Heard { unit, .. }, Answer::Heard { report }) = (event, answer) {
+        if let (EventRef::Heard { unit, .. }, AnswerRef::Heard { report }) = (event, answer) {
             if report.took == Took::Message && !self.is_near() {
                 watch.hear(stream_of(unit));
             }
@@ -90,12 +90,13 @@ impl LinkManager for PaceGate {
             return;
         };
         match (event, answer) {
-            (Event::Up { .. }, Answer::Done) => at.rise(),
-            (Event::Down { .. } | Event::DownBlind { .. }, Answer::Done) => {
+            (EventRef::Up { .. }, AnswerRef::Done) => at.rise(),
+            (EventRef::Down { .. } | EventRef::DownBlind { .. }, AnswerRef::Done) => {
                 at.fall(self.turn(set, link));
             }
             // the far end's order about the link came first, and the set left it
-            (Event::Next { .. } | Event::Down { .. }, Answer::Refused { .. }) if at.is_up() => {
+            (EventRef::Next { .. } | EventRef::Down { .. }, AnswerRef::Refused { .. })
+                if at.is_up() => {
                 at.fall(self.turn(set, link));
             }
             _ => {}
@@ -177,12 +178,12 @@ fn open_in(counts: &Counts) -> u64 {
 }
 
 /// The stream of the message that a unit brings.
-fn stream_of(unit: &Unit) -> u8 {
+fn stream_of(unit: &UnitRef<'_>) -> u8 {
     match unit {
-        Unit::Msu { body, .. } => match body.as_slice().get(4) {
+        UnitRef::Msu { body, .. } => match body.get(4) {
             Some(octet) => *octet / 16,
             None => 0,
         },
-        Unit::Fisu { .. } | Unit::Lssu { .. } => 0,
+        UnitRef::Fisu { .. } | UnitRef::Lssu { .. } => 0,
     }
 }

@@ -2,7 +2,8 @@ use Rattle.std.proofs.Common.{◌≡◌, ◌≤◌, false, Result}
 use Rattle.link_term.specs.Looking.{seen}
 use Rattle.link_term.specs.declared.fault.TermFault.{TermFault}
 use Rattle.term_model.specs.declared.report.TermReport.{TermReport}
-use Rattle.bank_crew.specs.Shifts.{Slices, SlicesFrom, Standing, standing}
+use Rattle.link_term.specs.Standing.{Standing, standing}
+use Rattle.bank_crew.specs.Shifts.{Slices, SlicesFrom}
 use Rattle.bank_crew.proofs.slices.managed_turns.Given as goal
 
 -- what is left completes it

@@ -1,4 +1,5 @@
 use Rattle.std.proofs.Common.{◌∙◌, ap, subst, sym}
+use Rattle.set_events.specs.Lent.{event_in}
 use Rattle.set_events.specs.Owners.{IsOwn}
 use Rattle.set_events.specs.declared.event.Actor.{Actor}
 use Rattle.set_events.specs.declared.event.Actor.TheVariants.{Terminal}
@@ -7,12 +8,12 @@ use Rattle.bank_crew.proofs.Marking.{stepped}
 use Rattle.bank_crew.proofs.seat_door.SeatDoorDoor.step.Goals as goal
 
 -- src/seat_door.rt
-pub ask-answered-requires-clause-own : goal.ask-answered-requires-clause-own
-ask-answered-requires-clause-own g c =
-    subst (λ (who : Actor). IsOwn who c.args.event.now) (sym (c.link.ensures ∙ ap Terminal (sym (ap link_in c.link.ensures)))) c.requires
+pub ask-requires-clause-own : goal.ask-requires-clause-own
+ask-requires-clause-own g c =
+    subst (λ (who : Actor). IsOwn who (event_in c.args.event.now)) (sym (c.link.ensures ∙ ap Terminal (sym (ap link_in c.link.ensures)))) c.requires.own
 
 pub returns-in-Ok-clause-ok : goal.returns-in-Ok-clause-ok
 returns-in-Ok-clause-ok g c =
-    stepped c.ask-answered.result c.args.self.now.caller.seat.who c.args.event.now c.args.self.now.managed c.ask-answered.new.self.managed c.follow.new.self.managed c.args.self.now.caller.all c.ask-answered.new.self.caller.all c.follow.new.self.caller.all
-    c.args.self.now.marks c.ask-answered.new.self.marks c.follow.new.self.marks c.args.self.now.faults c.follow.new.self.faults
-    c.ask-answered.ensures.ok c.ask-answered.ensures.managed c.follow.ensures.made c.args.self.now.is_marked (c.link.ensures ∙ ap Terminal (sym (ap link_in c.link.ensures))) (c.follow.ensures.faults ∙ c.ask-answered.ensures.faults)
+    stepped c.args.self.now.caller.seat.who (event_in c.args.event.now) c.ask.new.reply c.args.self.now.managed c.ask.new.self.managed c.follow.new.self.managed c.args.self.now.caller.all c.ask.new.self.caller.all c.follow.new.self.caller.all
+    c.args.self.now.marks c.ask.new.self.marks c.follow.new.self.marks c.args.self.now.faults c.follow.new.self.faults
+    c.in-Ok.ensures.ok c.ask.ensures.managed c.follow.ensures.made c.args.self.now.is_marked (c.link.ensures ∙ ap Terminal (sym (ap link_in c.link.ensures))) (c.follow.ensures.faults ∙ c.ask.ensures.faults)
