@@ -4,19 +4,18 @@
 //! It goes the same ways: digits are read in pairs, up to 56 bits of which none comes after five
 //! ones are taken at once, check bits are reckoned by a table, and a line goes straight into the
 //! buffer that is written. A fault of the input ends the program with status 1.
+mod deframer;
+#[allow(dead_code)] // a part of it
+mod text;
+
+use deframer::{Deframer, Mark};
 use std::io::{Read, Write};
 use std::process::ExitCode;
+use text::{put_number, DIGITS};
 
-const FLAG: u8 = 0x7E;
-const LONGEST_WAIT: u32 = 2677;
-const SIXTEEN_OCTETS: u32 = 128;
-/// Where no good unit can end at the next flag.
-const TOO_MANY: usize = 279;
 const NO_DIGIT: u8 = 255;
 
 static VALUES: [u8; 256] = values();
-static CHECKS: [u16; 256] = checks();
-static DIGITS: [[u8; 2]; 256] = digits();
 
 const fn values() -> [u8; 256] {
     let mut table = [NO_DIGIT; 256];
@@ -28,172 +27,6 @@ const fn values() -> [u8; 256] {
         value += 1;
     }
     table
-}
-
-const fn checks() -> [u16; 256] {
-    let mut table = [0; 256];
-    let mut octet = 0;
-    while octet < 256 {
-        let mut register = octet as u16;
-        let mut bit = 0;
-        while bit < 8 {
-            register = register >> 1 ^ if register & 1 == 1 { 0x8408 } else { 0 };
-            bit += 1;
-        }
-        table[octet] = register;
-        octet += 1;
-    }
-    table
-}
-
-const fn digits() -> [[u8; 2]; 256] {
-    let mut table = [[0; 2]; 256];
-    let mut octet = 0;
-    while octet < 256 {
-        table[octet] = [
-            b"0123456789abcdef"[octet >> 4],
-            b"0123456789abcdef"[octet & 15],
-        ];
-        octet += 1;
-    }
-    table
-}
-
-enum Mark {
-    Good,
-    Bad,
-    Sixteen,
-}
-
-/// What is kept of a line: the last eight bits, and the content since the last flag without inserted zeros.
-struct Deframer {
-    last: u8,
-    /// The content's whole octets, and behind a mark `Good` the unit's.
-    octets: [u8; TOO_MANY + 8],
-    len: usize,
-    unit: usize,
-    part: u64,
-    more: u32,
-    counting: bool,
-    room: u32,
-}
-
-impl Deframer {
-    fn new() -> Self {
-        Deframer {
-            last: FLAG,
-            octets: [0; TOO_MANY + 8],
-            len: 0,
-            unit: 0,
-            part: 0,
-            more: 0,
-            counting: false,
-            room: LONGEST_WAIT,
-        }
-    }
-
-    /// Takes up to 56 bits; eight octets are put behind those that are there, though only some of them are whole.
-    fn add(&mut self, bits: u64, count: u32) {
-        let whole = self.part | bits << self.more;
-        let more = self.more + count;
-        self.octets[self.len..self.len + 8].copy_from_slice(&whole.to_le_bytes());
-        self.len = (self.len + (more / 8) as usize).min(TOO_MANY);
-        self.part = whole >> (more & 0x38);
-        self.more = more & 7;
-    }
-
-    /// Takes the first of up to 56 bits, up to one that comes after five ones or may be counted; gives how many.
-    fn pass(&mut self, bits: u64, left: u32) -> u32 {
-        let window = (bits << 8 | u64::from(self.last)) >> 3;
-        let pairs = window & window >> 1;
-        let fives = pairs & pairs >> 2 & window >> 4;
-        let plain = fives.trailing_zeros().min(left).min(self.room - 1);
-        self.add(bits & ((1 << plain) - 1), plain);
-        self.last = ((bits << 8 | u64::from(self.last)) >> plain) as u8;
-        self.room -= plain;
-        plain
-    }
-
-    fn feed(&mut self, bit: u8) -> Option<Mark> {
-        let before = self.last;
-        self.last = before >> 1 | bit << 7;
-        if self.last == FLAG {
-            return self.flag();
-        }
-        if before >= 0xFC {
-            self.len = TOO_MANY;
-        } else if before < 0xF8 {
-            self.add(u64::from(bit), 1);
-        }
-        if self.room > 1 && self.last >> 1 != 0x7F {
-            self.room -= 1;
-            return None;
-        }
-        if self.counting {
-            return self.count();
-        }
-        self.counting = true;
-        self.room = SIXTEEN_OCTETS;
-        None
-    }
-
-    fn count(&mut self) -> Option<Mark> {
-        if self.room > 1 {
-            self.room -= 1;
-            return None;
-        }
-        self.room = SIXTEEN_OCTETS;
-        Some(Mark::Sixteen)
-    }
-
-    fn flag(&mut self) -> Option<Mark> {
-        let good = self.is_good();
-        let len = std::mem::take(&mut self.len);
-        (self.part, self.more) = (0, 0);
-        if good {
-            self.counting = false;
-            self.room = LONGEST_WAIT;
-            self.unit = len - 2;
-            return Some(Mark::Good);
-        }
-        if self.counting {
-            return self.count();
-        }
-        let empty = self.room > LONGEST_WAIT - 8;
-        self.room = LONGEST_WAIT;
-        if empty {
-            None
-        } else {
-            Some(Mark::Bad)
-        }
-    }
-
-    /// Whether the content is whole octets, few enough, whose last two are the check octets of the others; the flag
-    /// that closes it leaves a zero and five ones.
-    fn is_good(&self) -> bool {
-        if self.more != 6 || self.part != 0x3E || !(5..TOO_MANY).contains(&self.len) {
-            return false;
-        }
-        let (text, check) = self.octets[..self.len].split_at(self.len - 2);
-        let register = text.iter().fold(0xFFFF, |register: u16, octet| {
-            register >> 8 ^ CHECKS[(register as u8 ^ octet) as usize]
-        });
-        check == (!register).to_le_bytes()
-    }
-}
-
-fn put_number(out: &mut Vec<u8>, mut value: u64) {
-    let mut digits = [0; 20];
-    let mut at = digits.len();
-    loop {
-        at -= 1;
-        digits[at] = b'0' + (value % 10) as u8;
-        value /= 10;
-        if value == 0 {
-            break;
-        }
-    }
-    out.extend_from_slice(&digits[at..]);
 }
 
 fn put_head(out: &mut Vec<u8>, kind: &[u8], unit: &[u8]) {
@@ -247,7 +80,7 @@ struct Line {
 impl Line {
     fn mark(&mut self, mark: Mark, out: &mut Vec<u8>) {
         match mark {
-            Mark::Good => put_good(out, &self.deframer.octets[..self.deframer.unit]),
+            Mark::Good => put_good(out, self.deframer.unit()),
             Mark::Bad => out.extend_from_slice(b"bad\n"),
             Mark::Sixteen => out.extend_from_slice(b"sixteen\n"),
         }
