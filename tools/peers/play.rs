@@ -139,11 +139,7 @@ impl End {
                 self.inbox.push_back(body.clone());
                 took = "message";
             }
-            Unit::Msu(..) => {
-                took = "ignored";
-                asked = head.fib == self.bib && head.fsn != self.accepted;
-            }
-            Unit::Fisu(_) => asked = head.fib == self.bib && head.fsn != self.accepted,
+            _ => asked = head.fib == self.bib && head.fsn != self.accepted,
         }
         if asked {
             self.bib = !self.bib;
