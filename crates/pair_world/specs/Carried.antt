@@ -11,7 +11,7 @@ use Rattle.pair_world.specs.declared.fault.PlayFault.{PlayFault}
 use Rattle.pair_world.specs.declared.fault.PlayFault.TheVariants.{NoMemory, Impossible, Exhausted, Links, Profile}
 use Rattle.pair_steps.specs.declared.step.End.{End}
 use Rattle.pair_steps.specs.declared.step.Shown.{Shown}
-use Rattle.pair_steps.specs.declared.step.Shown.TheVariants.{Answered, Up, Lost}
+use Rattle.pair_steps.specs.declared.step.Shown.TheVariants.{Answered}
 use Rattle.pair_steps.specs.declared.step.Step.{Step}
 use Rattle.pair_model.specs.Run.{Played, leads_to, stops_at, is_full_at, played_from, begun}
 use Rattle.pair_model.specs.World.{World, Outcome, world_of, shows, impossible, exhausted, is_full, answer_to, after, line_to, with_line}
@@ -121,11 +121,6 @@ pub record IsAnswered (old : LinkSet) (event : Event) (shown : Shown) (new : Lin
 abbrev pub Applies : Result (Unit {0}) SetFault → LinkSet → Event → Shown → LinkSet → Type 0
 Applies result old event shown new =
     MatchResult result (λ done. IsAnswered old event shown new) (λ fault. FailsAt fault old)
-
-abbrev pub IsAnAnswer : Shown → Type 0
-IsAnAnswer (Answered answer) = Unit {0}
-IsAnAnswer Up = ⊥
-IsAnAnswer Lost = ⊥
 
 -- a unit that is taken out of the line to an end on a link
 pub record LeavesTo (old : World) (end : End) (link place : ℕ) (unit : SignalUnit) (new : World) : Type 0 where

@@ -21,5 +21,5 @@ mod fault;
 mod world;
 
 pub use fault::PlayFault;
-pub use pair_steps::{End, Line, Shown, Step};
+pub use pair_steps::{End, Line, Showing, Shown, ShownRef, Step};
 pub use world::World;

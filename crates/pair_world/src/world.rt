@@ -5,14 +5,15 @@ ghost use Rattle.set_model.specs.State.{link_count};
 ghost use Rattle.set_events.specs.declared.fault.SetFault.TheVariants.{NoMemory};
 ghost use Rattle.pair_model.specs.World.{actor_of, has_own_step};
 ghost use Rattle.pair_model.specs.Promises.{AreSteps, IsAskedStep};
-ghost use Rattle.pair_world.specs.Carried.{Applies, IsAnAnswer};
+ghost use Rattle.set_events.specs.Lent.{HasFitUnit, event_in};
+ghost use Rattle.pair_world.specs.Carried.{Applies};
 ghost use Rattle.pair_streams.specs.Arrived.{AreDone};
 
 use super::fault::PlayFault;
-use l2_units::{Unit, copy_of_unit};
-use pair_steps::{End, Line, Lines, Shown, Step, UnderWay};
+use l2_units::{Unit, UnitRef};
+use pair_steps::{End, Line, Lines, Showing, Shown, ShownRef, Step, UnderWay};
 use set_core::{SetCore, SetFault};
-use set_events::{Actor, Answer, Counts, Event, SetConfig};
+use set_events::{Actor, AnswerRef, Counts, EventRef, SetConfig};
 use set_step::is_asked;
 use std::alloc::{Allocator, Global};
 use std::marker::Model;
@@ -51,6 +52,8 @@ impl<G: Allocator + Copy> World<G> {
     ghost use Rattle.pair_changeover.specs.Diverted.{ChangesOver};
     ghost use Rattle.pair_streams.specs.Streams.{AckedAreTaken, NumbersTell, PartsArrive, StreamsArrive};
     ghost use Rattle.pair_streams.specs.Arrived.{IsIdle, AllArrived, AllTaken, AllAccounted};
+    ghost use Rattle.set_events.specs.Lent.{HasFitUnit, event_in};
+    ghost use Rattle.set_events.specs.declared.event.Event.{Event};
     ghost use Rattle.pair_world.specs.Carried.{IsBegun, FailsToBegin, IsCarriedOut, StaysIfImpossible, IsStepped, AreCarriedOut, IsPlayed, IsTakenFrom};
 
     /// The world of these configurations: no messages, no link up, nothing under way.
@@ -92,18 +95,17 @@ impl<G: Allocator + Copy> World<G> {
     pub fn step(mut self, step: &Step) -> Result<(World<G>, Shown), PlayFault>
         ensures { IsStepped result (carried_out self step.now) }
     {
-        let mut shown = Shown::Answered(Answer::Done);
+        let mut shown = Showing::new();
         self.carry_out(step, &mut shown)?;
-        Ok((self, shown))
+        Ok((self, shown.shown()))
     }
 
-    /// Carries out a step in place, and puts what it shows into `shown`, whatever stood there: what is shown has room for a
-    /// unit, and what is handed on by value is copied each time. A step that's impossible leaves the world as it was; after any
-    /// other fault neither is to be used again.
+    /// Carries out a step in place, and puts what it shows into `shown`, whatever stood there. A step that's impossible leaves
+    /// the world as it was; after any other fault neither is to be used again.
     ///
     /// Faults: as of [`World::step`].
     #[tactic(auto, unfolding(pair_model::specs::World::carried_out))]
-    pub fn carry_out(&mut self, step: &Step, shown: &mut Shown) -> Result<(), PlayFault>
+    pub fn carry_out(&mut self, step: &Step, shown: &mut Showing) -> Result<(), PlayFault>
         ensures carried { IsCarriedOut result (carried_out self.old step.now) shown.new self.new }
         ensures impossible { StaysIfImpossible result self.old self.new }
     {
@@ -201,7 +203,7 @@ impl<G: Allocator + Copy> World<G> {
     fn carry_out_all(&mut self, steps: &[Step]) -> Result<(), PlayFault>
         ensures { AreCarriedOut result (played_from 0 self.old steps.now) self.new }
     {
-        let mut shown = Shown::Answered(Answer::Done);
+        let mut shown = Showing::new();
         for (place, step) in steps.iter().enumerate() {
             match self.carry_out(step, &mut shown) {
                 Ok(()) => (),
@@ -212,12 +214,12 @@ impl<G: Allocator + Copy> World<G> {
     }
 
     /// Carries out a step, case by case.
-    fn dispatch(&mut self, step: &Step, shown: &mut Shown) -> Result<(), PlayFault>
+    fn dispatch(&mut self, step: &Step, shown: &mut Showing) -> Result<(), PlayFault>
         ensures carried { IsCarriedOut result (done_by self.old step.now) shown.new self.new }
         ensures impossible { StaysIfImpossible result self.old self.new }
     {
         match step {
-            Step::Act { end, event } => self.ask(*end, event, shown),
+            Step::Act { end, event } => self.ask(*end, &EventRef::of(event), shown),
             Step::Emit { end, link } => self.emit(*end, *link, shown),
             Step::Arrive { end, link } => self.arrive(*end, *link, shown),
             Step::Lose { end, link, place } => self.lose(*end, *link, *place, shown),
@@ -238,8 +240,9 @@ impl<G: Allocator + Copy> World<G> {
     }
 
     /// One event at an end, if it has no step of its own.
-    fn ask(&mut self, end: End, event: &Event, shown: &mut Shown) -> Result<(), PlayFault>
-        ensures carried { IsCarriedOut result (asks self.old end event.now) shown.new self.new }
+    fn ask(&mut self, end: End, event: &EventRef<'_>, shown: &mut Showing) -> Result<(), PlayFault>
+        requires { HasFitUnit event.now }
+        ensures carried { IsCarriedOut result (asks self.old end (event_in event.now)) shown.new self.new }
         ensures impossible { StaysIfImpossible result self.old self.new }
     {
         if takes_own_step(event) {
@@ -249,10 +252,11 @@ impl<G: Allocator + Copy> World<G> {
     }
 
     /// One event at an end.
-    fn act(&mut self, end: End, event: &Event, shown: &mut Shown) -> Result<(), PlayFault>
-        ensures acts { IsCarriedOut result (acts self.old end event.now) shown.new self.new }
+    fn act(&mut self, end: End, event: &EventRef<'_>, shown: &mut Showing) -> Result<(), PlayFault>
+        requires { HasFitUnit event.now }
+        ensures acts { IsCarriedOut result (acts self.old end (event_in event.now)) shown.new self.new }
         ensures impossible { StaysIfImpossible result self.old self.new }
-        ensures known { OnOk result (has_actor self.old (actor_of event.now) ≡ true) }
+        ensures known { OnOk result (has_actor self.old (actor_of (event_in event.now)) ≡ true) }
         ensures links { link_count self.new.a.state ≡ link_count self.old.a.state }
     {
         let Some(who) = self.actor_of(event) else {
@@ -266,21 +270,21 @@ impl<G: Allocator + Copy> World<G> {
     }
 
     /// Who makes this event; `None`: the terminal of a link that the world hasn't.
-    fn actor_of(&self, event: &Event) -> Option<Actor>
-        ensures known { is_some result ≡ has_actor self.now (actor_of event.now) }
-        ensures who { IfSome result (λ who. who ≡ actor_of event.now) }
+    fn actor_of(&self, event: &EventRef<'_>) -> Option<Actor>
+        ensures known { is_some result ≡ has_actor self.now (actor_of (event_in event.now)) }
+        ensures who { IfSome result (λ who. who ≡ actor_of (event_in event.now)) }
         ensures in_range { IfSome result IsActor }
     {
         match event {
-            Event::Offer { .. } | Event::Take | Event::Find { .. } => Some(Actor::User(0)),
-            Event::Next { link }
-            | Event::Heard { link, .. }
-            | Event::Up { link }
-            | Event::Down { link }
-            | Event::DownBlind { link }
-            | Event::NoAnswer { link }
-            | Event::Restore { link }
-            | Event::BackTimeout { link } => self.terminal_of(*link),
+            EventRef::Offer { .. } | EventRef::Take | EventRef::Find { .. } => Some(Actor::User(0)),
+            EventRef::Next { link }
+            | EventRef::Heard { link, .. }
+            | EventRef::Up { link }
+            | EventRef::Down { link }
+            | EventRef::DownBlind { link }
+            | EventRef::NoAnswer { link }
+            | EventRef::Restore { link }
+            | EventRef::BackTimeout { link } => self.terminal_of(*link),
         }
     }
 
@@ -306,26 +310,26 @@ impl<G: Allocator + Copy> World<G> {
     }
 
     /// The end sends its next unit on the link, which joins the link's line to the other end.
-    fn emit(&mut self, end: End, link: u8, shown: &mut Shown) -> Result<(), PlayFault>
+    fn emit(&mut self, end: End, link: u8, shown: &mut Showing) -> Result<(), PlayFault>
         ensures carried { IsCarriedOut result (emits self.old end link) shown.new self.new }
         ensures impossible { StaysIfImpossible result self.old self.new }
     {
-        self.act(end, &Event::Next { link }, shown)?;
+        self.act(end, &EventRef::Next { link }, shown)?;
         self.join(end, link, shown)
     }
 
     /// A unit that an end sent on the link joins the link's line to the other end.
-    fn join(&mut self, end: End, link: u8, shown: &Shown) -> Result<(), PlayFault>
+    fn join(&mut self, end: End, link: u8, shown: &Showing) -> Result<(), PlayFault>
         requires { has_link self.old link ≡ true }
         ensures ok { OnOk result (self.new ≡ with_sent self.old end link shown.now) }
         ensures err { IfErr result (λ fault. fault ≡ PlayFault.NoMemory) }
     {
-        let Shown::Answered(Answer::Sent { unit }) = shown else {
+        let ShownRef::Answered(AnswerRef::Sent { unit }) = shown.get() else {
             return Ok(());
         };
         match end {
-            End::A => self.to_b.join(link, unit)?,
-            End::B => self.to_a.join(link, unit)?,
+            End::A => self.to_b.join(link, &unit)?,
+            End::B => self.to_a.join(link, &unit)?,
         }
         Ok(())
     }
@@ -336,20 +340,20 @@ impl<G: Allocator + Copy> World<G> {
         end: End,
         link: u8,
         unit: &Unit,
-        shown: &mut Shown,
+        shown: &mut Showing,
     ) -> Result<(), PlayFault>
         ensures carried { IsCarriedOut result (acts self.old end (Event.Heard link unit.now)) shown.new self.new }
         ensures impossible { StaysIfImpossible result self.old self.new }
     {
-        let event = Event::Heard {
+        let event = EventRef::Heard {
             link,
-            unit: copy_of_unit(unit),
+            unit: UnitRef::of(unit),
         };
         self.act(end, &event, shown)
     }
 
     /// The front of the link's line to the end arrives: it's heard where the link is up there, else lost.
-    fn arrive(&mut self, end: End, link: u8, shown: &mut Shown) -> Result<(), PlayFault>
+    fn arrive(&mut self, end: End, link: u8, shown: &mut Showing) -> Result<(), PlayFault>
         ensures carried { IsCarriedOut result (arrives self.old end link) shown.new self.new }
         ensures impossible { StaysIfImpossible result self.old self.new }
     {
@@ -360,18 +364,18 @@ impl<G: Allocator + Copy> World<G> {
             return Err(PlayFault::Impossible { place: 0 });
         };
         if !self.is_link_up(end, link) {
-            *shown = Shown::Lost;
+            shown.set_lost();
             return Ok(());
         }
-        let event = Event::Heard {
+        let event = EventRef::Heard {
             link,
-            unit: under_way.unit(),
+            unit: under_way.unit_ref(),
         };
         self.act(end, &event, shown)
     }
 
     /// The unit at this place of the link's line to the end is lost.
-    fn lose(&mut self, end: End, link: u8, place: u64, shown: &mut Shown) -> Result<(), PlayFault>
+    fn lose(&mut self, end: End, link: u8, place: u64, shown: &mut Showing) -> Result<(), PlayFault>
         ensures carried { IsCarriedOut result (loses self.old end link place) shown.new self.new }
         ensures impossible { StaysIfImpossible result self.old self.new }
     {
@@ -380,7 +384,7 @@ impl<G: Allocator + Copy> World<G> {
         }
         match self.take_out(end, link, place) {
             Some(_) => {
-                *shown = Shown::Lost;
+                shown.set_lost();
                 Ok(())
             }
             None => Err(PlayFault::Impossible { place: 0 }),
@@ -409,7 +413,7 @@ impl<G: Allocator + Copy> World<G> {
     }
 
     /// The link comes up at both ends, and nothing is under way on it.
-    fn raise(&mut self, link: u8, shown: &mut Shown) -> Result<(), PlayFault>
+    fn raise(&mut self, link: u8, shown: &mut Showing) -> Result<(), PlayFault>
         ensures carried { IsCarriedOut result (rises self.old link) shown.new self.new }
         ensures impossible { StaysIfImpossible result self.old self.new }
     {
@@ -417,12 +421,12 @@ impl<G: Allocator + Copy> World<G> {
             return Err(PlayFault::Impossible { place: 0 });
         }
         let who = Actor::Terminal(link);
-        let up = Event::Up { link };
+        let up = EventRef::Up { link };
         apply(&mut *self.a, who, &up, shown)?;
         apply(&mut *self.b, who, &up, shown)?;
         self.to_a.clear(link);
         self.to_b.clear(link);
-        *shown = Shown::Up;
+        shown.set_up();
         Ok(())
     }
 }
@@ -439,12 +443,12 @@ fn are_done(counts: Counts) -> bool
 }
 
 /// Whether an event is asked by a step of its own: a unit is sent, a unit is heard, a link comes up.
-fn takes_own_step(event: &Event) -> bool
-    ensures { result ≡ has_own_step event.now }
+fn takes_own_step(event: &EventRef<'_>) -> bool
+    ensures { result ≡ has_own_step (event_in event.now) }
 {
     matches!(
         event,
-        Event::Next { .. } | Event::Heard { .. } | Event::Up { .. }
+        EventRef::Next { .. } | EventRef::Heard { .. } | EventRef::Up { .. }
     )
 }
 
@@ -453,7 +457,7 @@ fn is_asked_step(step: &Step)
     ensures { IsAskedStep step.now }
 {
     if let Step::Act { event, .. } = step {
-        is_asked(event);
+        is_asked(&EventRef::of(event));
     }
 }
 
@@ -478,34 +482,14 @@ fn new_end<G: Allocator + Copy>(alloc: G, config: &SetConfig) -> Result<SetCore<
 fn apply<G: Allocator + Copy>(
     set: &mut SetCore<G>,
     who: Actor,
-    event: &Event,
-    shown: &mut Shown,
+    event: &EventRef<'_>,
+    shown: &mut Showing,
 ) -> Result<(), SetFault>
     requires in_range { IsActor who }
-    requires who { who ≡ actor_of event.now }
-    ensures applies { Applies result set.old event.now shown.new set.new }
+    requires fits { HasFitUnit event.now }
+    requires who { who ≡ actor_of (event_in event.now) }
+    ensures applies { Applies result set.old (event_in event.now) shown.new set.new }
     ensures links { link_count set.new.state ≡ link_count set.old.state }
 {
-    make_answered(shown);
-    let Shown::Answered(answer) = shown else {
-        unreachable!();
-    };
-    set.apply_into(who, event, answer)
-}
-
-/// An answer is shown from now on, where none was. As a function of its own it costs only where none was.
-#[inline(never)]
-fn show_done(shown: &mut Shown)
-    ensures { shown.new ≡ Shown.Answered Answer.Done }
-{
-    *shown = Shown::Answered(Answer::Done);
-}
-
-/// Some answer is shown from now on.
-fn make_answered(shown: &mut Shown)
-    ensures { IsAnAnswer shown.new }
-{
-    if !matches!(shown, Shown::Answered(_)) {
-        show_done(shown);
-    }
+    set.apply_into(who, event, shown.reply())
 }

@@ -1,7 +1,6 @@
-use Rattle.std.proofs.Common.{arith, ◌≡◌, ◌∙◌, ap, sym, length, replicate}
+use Rattle.std.proofs.Common.{arith, ◌≡◌, ◌∙◌}
 use Rattle.std.proofs.lemmas.List.{length-replicate}
-use Rattle.set_model.specs.History.{LinkSet, new_set}
-use Rattle.set_model.specs.State.{link_count}
+use Rattle.set_model.specs.History.{new_set}
 use Rattle.pair_world.proofs.world.World.of_pair.Goals as goal
 
 -- both ends are new, and have as many links
