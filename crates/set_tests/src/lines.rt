@@ -2,7 +2,7 @@
 ghost use Rattle.std.specs.Prelude.{◌≡◌, ◌<◌, length};
 
 use super::bench::holds;
-use l2_units::{Header, Unit, body_of, same_unit};
+use l2_units::{Header, Unit, UnitRef, body_of, same_unit};
 use pair_steps::{Lines, UnderWay};
 use std::test::Fail;
 
@@ -34,7 +34,8 @@ fn is_joined(lines: &mut Lines, link: u8, fsn: u16) -> bool
     requires fsn { fsn < 128 }
     ensures { length lines.new ≡ length lines.old }
 {
-    lines.join(link, &fill_in(fsn)).is_ok()
+    let unit = fill_in(fsn);
+    lines.join(link, &UnitRef::of(&unit)).is_ok()
 }
 
 #[test]
@@ -83,6 +84,7 @@ fn leaves_as_it_came(lines: &mut Lines) -> bool
 #[test]
 fn a_message_leaves_with_its_octets(rt: HostRuntime) -> Result<(), Fail> {
     let mut lines = Lines::new(rt.alloc(), 1)?;
-    let joined = lines.join(0, &message()).is_ok();
+    let sent = message();
+    let joined = lines.join(0, &UnitRef::of(&sent)).is_ok();
     holds(joined && leaves_as_it_came(&mut lines) && lines.line(0).is_empty())
 }
