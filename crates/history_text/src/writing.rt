@@ -1,12 +1,14 @@
 //! An entry to its text.
 ghost use Rattle.std.specs.Prelude.{◌≡◌, ◌++◌, IfOk, OnOk, codes};
+ghost use Rattle.l2_units.specs.Lent.{unit_in};
+ghost use Rattle.set_events.specs.Lent.{answer_in, event_in};
 ghost use Rattle.text_base.specs.Figures.{hex_text};
 ghost use Rattle.script_answers.specs.Texts.{answer_text, unit_octets};
 ghost use Rattle.history_text.specs.Entries.{numbered, actor_text, body_text, event_text, entry_text, entries_text};
 
-use l2_units::{Profile, Unit};
+use l2_units::{Profile, UnitRef};
 use script_answers::{push_answer, unit_octets};
-use set_events::{Actor, Answer, Entry, Event};
+use set_events::{Actor, Answer, AnswerRef, Entry, EventRef};
 use set_history::Reader;
 use std::alloc::{AllocError, Global};
 use text_base::{push_hex, push_number};
@@ -31,7 +33,13 @@ pub fn write_entries(
     let mut lines = Vec::new(alloc);
     let mut left = entries;
     while let Some(told) = left.next() {
-        push_entry(&mut lines, profile, &told.entry(alloc)?)?;
+        push_parts(
+            &mut lines,
+            profile,
+            told.who(),
+            &told.asked(),
+            &told.answered(),
+        )?;
     }
     Ok(lines)
 }
@@ -44,10 +52,31 @@ pub(crate) fn push_entry(
 ) -> Result<(), AllocError>
     ensures { OnOk result (text.new.items ≡ text.old.items ++ entry_text profile entry.now) }
 {
-    push_actor(text, entry.who)?;
-    push_event(text, profile, &entry.event)?;
+    push_parts(
+        text,
+        profile,
+        entry.who,
+        &EventRef::of(&entry.event),
+        &AnswerRef::of(&entry.answer),
+    )
+}
+
+/// Appends who asked, what was asked, and the answer, of a set of this profile.
+fn push_parts(
+    text: &mut Vec<u8>,
+    profile: Profile,
+    who: Actor,
+    event: &EventRef<'_>,
+    answer: &AnswerRef<'_>,
+) -> Result<(), AllocError>
+    ensures { OnOk result (text.new.items ≡ text.old.items
+        ++ (actor_text who ++ (event_text profile (event_in event.now)
+        ++ (codes "-> " ++ answer_text profile (answer_in answer.now))))) }
+{
+    push_actor(text, who)?;
+    push_event(text, profile, event)?;
     text.extend_from_slice(b"-> ")?;
-    push_answer(text, profile, &entry.answer)
+    push_answer(text, profile, answer)
 }
 
 /// Appends words, and a number behind them.
@@ -71,21 +100,21 @@ fn push_actor(text: &mut Vec<u8>, who: Actor) -> Result<(), AllocError>
 }
 
 /// Appends what was asked.
-fn push_event(text: &mut Vec<u8>, profile: Profile, event: &Event) -> Result<(), AllocError>
-    ensures { OnOk result (text.new.items ≡ text.old.items ++ event_text profile event.now) }
+fn push_event(text: &mut Vec<u8>, profile: Profile, event: &EventRef<'_>) -> Result<(), AllocError>
+    ensures { OnOk result (text.new.items ≡ text.old.items ++ event_text profile (event_in event.now)) }
 {
     match event {
-        Event::Offer { body } => push_offer(text, body.octets()),
-        Event::Take => text.extend_from_slice(b"take "),
-        Event::Find { number } => push_numbered(text, b"find ", *number),
-        Event::Next { link } => push_numbered(text, b"next ", *link as u64),
-        Event::Heard { link, unit } => push_heard(text, profile, *link, unit),
-        Event::Up { link } => push_numbered(text, b"up ", *link as u64),
-        Event::Down { link } => push_numbered(text, b"down ", *link as u64),
-        Event::DownBlind { link } => push_numbered(text, b"blind ", *link as u64),
-        Event::NoAnswer { link } => push_numbered(text, b"noanswer ", *link as u64),
-        Event::Restore { link } => push_numbered(text, b"restore ", *link as u64),
-        Event::BackTimeout { link } => push_numbered(text, b"backtimeout ", *link as u64),
+        EventRef::Offer { body } => push_offer(text, body),
+        EventRef::Take => text.extend_from_slice(b"take "),
+        EventRef::Find { number } => push_numbered(text, b"find ", *number),
+        EventRef::Next { link } => push_numbered(text, b"next ", *link as u64),
+        EventRef::Heard { link, unit } => push_heard(text, profile, *link, unit),
+        EventRef::Up { link } => push_numbered(text, b"up ", *link as u64),
+        EventRef::Down { link } => push_numbered(text, b"down ", *link as u64),
+        EventRef::DownBlind { link } => push_numbered(text, b"blind ", *link as u64),
+        EventRef::NoAnswer { link } => push_numbered(text, b"noanswer ", *link as u64),
+        EventRef::Restore { link } => push_numbered(text, b"restore ", *link as u64),
+        EventRef::BackTimeout { link } => push_numbered(text, b"backtimeout ", *link as u64),
     }
 }
 
@@ -103,14 +132,19 @@ fn push_offer(text: &mut Vec<u8>, body: &[u8]) -> Result<(), AllocError>
 }
 
 /// Appends a unit that was heard, without its check octets.
-// on its own: whoever has the unit's octets in its frame fills them each time, whatever it's called for
-#[inline(never)]
-fn push_heard(text: &mut Vec<u8>, profile: Profile, link: u8, unit: &Unit) -> Result<(), AllocError>
+fn push_heard(
+    text: &mut Vec<u8>,
+    profile: Profile,
+    link: u8,
+    unit: &UnitRef<'_>,
+) -> Result<(), AllocError>
     ensures { OnOk result (text.new.items ≡ text.old.items
-        ++ (numbered (codes "hear ") link ++ (hex_text (unit_octets profile unit.now) ++ codes " "))) }
+        ++ (numbered (codes "hear ") link ++ (hex_text (unit_octets profile (unit_in unit.now)) ++ codes " "))) }
 {
     push_numbered(text, b"hear ", link as u64)?;
-    push_hex(text, unit_octets(profile, unit).as_slice())?;
+    let octets = unit_octets(profile, unit);
+    push_hex(text, octets.front.as_slice())?;
+    push_hex(text, octets.body)?;
     text.push(b' ')?;
     Ok(())
 }
@@ -120,6 +154,6 @@ pub fn write_answer(alloc: Global, profile: Profile, answer: &Answer) -> Result<
     ensures { IfOk result (λ text. text.items ≡ answer_text profile answer.now) }
 {
     let mut text = Vec::new(alloc);
-    push_answer(&mut text, profile, answer)?;
+    push_answer(&mut text, profile, &AnswerRef::of(answer))?;
     Ok(text)
 }
