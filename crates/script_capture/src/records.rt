@@ -1,11 +1,12 @@
 //! The parts of a pcap file.
 ghost use Rattle.std.specs.Prelude.{◌≡◌, ◌++◌, IfOk};
-ghost use Rattle.l2_units.specs.declared.profile.Profile.TheVariants.{Wide};
+ghost use Rattle.l2_units.specs.Lent.{unit_in};
+ghost use Rattle.l2_units.specs.declared.profile.Profile.TheVariants.{Narrow, Wide};
 ghost use Rattle.script_capture.specs.Capture.{annex_a, annex_a_octets, captured, direction, file_head, four, pseudo_header, record_of, two, with_bit};
 
-use l2_units::{Header, Profile, Unit};
+use l2_units::{Header, Profile, UnitRef};
 use pair_steps::End;
-use script_answers::unit_octets;
+use script_answers::{UnitOctets, unit_octets};
 use std::alloc::{AllocError, Global};
 
 /// What the file begins with, in its low octet first: the magic number of microseconds, version 2.4, no offset and no
@@ -68,23 +69,37 @@ fn form_of(profile: Profile) -> u8
 }
 
 /// A unit as analysers read it: a wide one is translated into the form of Annex A of Q.703.
-fn write_captured(alloc: Global, profile: Profile, unit: &Unit) -> Result<Vec<u8>, AllocError>
-    ensures { IfOk result (λ octets. octets.items ≡ captured profile unit.now) }
+fn write_captured(
+    alloc: Global,
+    profile: Profile,
+    unit: &UnitRef<'_>,
+) -> Result<Vec<u8>, AllocError>
+    ensures { IfOk result (λ octets. octets.items ≡ captured profile (unit_in unit.now)) }
 {
     match profile {
-        Profile::Narrow => Vec::from_slice(alloc, unit_octets(profile, unit).as_slice()),
+        Profile::Narrow => write_narrow(alloc, unit),
         Profile::Wide => write_translated(alloc, unit),
     }
 }
 
+/// A unit's octets in the narrow profile.
+fn write_narrow(alloc: Global, unit: &UnitRef<'_>) -> Result<Vec<u8>, AllocError>
+    ensures { IfOk result (λ octets. octets.items ≡ captured Narrow (unit_in unit.now)) }
+{
+    let UnitOctets { front, body } = unit_octets(Profile::Narrow, unit);
+    let mut octets = Vec::from_slice(alloc, front.as_slice())?;
+    octets.extend_from_slice(body)?;
+    Ok(octets)
+}
+
 /// A unit in the form of Annex A.
-fn write_translated(alloc: Global, unit: &Unit) -> Result<Vec<u8>, AllocError>
-    ensures { IfOk result (λ octets. octets.items ≡ captured Wide unit.now) }
+fn write_translated(alloc: Global, unit: &UnitRef<'_>) -> Result<Vec<u8>, AllocError>
+    ensures { IfOk result (λ octets. octets.items ≡ captured Wide (unit_in unit.now)) }
 {
     match unit {
-        Unit::Fisu { head } => write_annex_a(alloc, *head, &[]),
-        Unit::Lssu { head, status } => write_annex_a(alloc, *head, &[status.number()]),
-        Unit::Msu { head, body } => write_annex_a(alloc, *head, body.as_slice()),
+        UnitRef::Fisu { head } => write_annex_a(alloc, *head, &[]),
+        UnitRef::Lssu { head, status } => write_annex_a(alloc, *head, &[status.number()]),
+        UnitRef::Msu { head, body } => write_annex_a(alloc, *head, body),
     }
 }
 
@@ -113,10 +128,10 @@ pub(crate) fn write_record(
     number: u64,
     end: End,
     link: u8,
-    unit: &Unit,
+    unit: &UnitRef<'_>,
 ) -> Result<Vec<u8>, AllocError>
     ensures { IfOk result (λ made. made.items
-        ≡ record_of number (pseudo_header profile end link ++ captured profile unit.now)) }
+        ≡ record_of number (pseudo_header profile end link ++ captured profile (unit_in unit.now))) }
 {
     let mut octets = Vec::from_slice(alloc, &[direction_of(end), form_of(profile), 0, link])?;
     octets.extend_from_slice(&write_captured(alloc, profile, unit)?)?;

@@ -5,10 +5,10 @@ ghost use Rattle.script_capture.specs.Capture.{IsCapture, pseudo_header, shown_r
 
 use super::records::{head_of_file, write_record};
 use l2_units::Profile;
-use pair_steps::{End, Shown, Step};
+use pair_steps::{End, Showing, ShownRef, Step};
 use pair_world::World;
 use script_walk::{Account, ScriptFault, tell_script, world_profile};
-use set_events::Answer;
+use set_events::AnswerRef;
 use std::alloc::{AllocError, Global};
 use text_printing::{Fault, Sink, Source};
 
@@ -35,7 +35,7 @@ impl Account for Units {
         number: u64,
         _note: (),
         step: &Step,
-        shown: &Shown,
+        shown: &Showing,
         world: &World,
         out: &mut Vec<u8>,
     ) -> Result<(), AllocError> {
@@ -66,7 +66,7 @@ fn tell_sent(
     number: u64,
     end: End,
     link: u8,
-    shown: &Shown,
+    shown: &Showing,
     out: &mut Vec<u8>,
 ) -> Result<(), AllocError>
     ensures { MatchResult result
@@ -74,9 +74,9 @@ fn tell_sent(
         ≡ out.old.items ++ shown_record profile number (pseudo_header profile end link) shown.now)
         (λ want. out.new.items ≡ out.old.items) }
 {
-    match shown {
-        Shown::Answered(Answer::Sent { unit }) => {
-            out.extend_from_slice(&write_record(alloc, profile, number, end, link, unit)?)
+    match shown.get() {
+        ShownRef::Answered(AnswerRef::Sent { unit }) => {
+            out.extend_from_slice(&write_record(alloc, profile, number, end, link, &unit)?)
         }
         _ => Ok(()),
     }

@@ -4,7 +4,7 @@ ghost use Rattle.pair_steps.specs.declared.step.End.{End};
 ghost use Rattle.script_history.specs.Histories.{set_text, at_the_end};
 
 use history_text::write_history;
-use pair_steps::{Shown, Step};
+use pair_steps::{Showing, Step};
 use pair_world::{End, World};
 use script_walk::Account;
 use set_core::SetCore;
@@ -72,7 +72,7 @@ impl<E: NamesEnd> Account for History<E> {
         _number: u64,
         _note: (),
         _step: &Step,
-        _shown: &Shown,
+        _shown: &Showing,
         _world: &World,
         _out: &mut Vec<u8>,
     ) -> Result<(), AllocError> {

@@ -11,9 +11,9 @@ use super::isup::isup_name;
 use super::rows::CELL;
 use super::units::{message_name, write_number};
 use l2_units::Profile;
-use pair_steps::Shown;
+use pair_steps::{Showing, ShownRef};
 use script_answers::write_shown;
-use set_events::{Answer, Event, Report};
+use set_events::{AnswerRef, Event, Report};
 use std::alloc::{AllocError, Global};
 use text_base::push_hex;
 use text_decode::write_both;
@@ -22,18 +22,18 @@ use text_decode::write_both;
 pub(crate) fn write_plain(
     alloc: Global,
     profile: Profile,
-    shown: &Shown,
+    shown: &Showing,
 ) -> Result<Vec<u8>, AllocError>
     ensures { IfOk result (λ words. words.items ≡ plain profile shown.now) }
 {
-    match shown {
-        Shown::Answered(Answer::Taken { body }) => write_taken(alloc, body.as_slice()),
+    match shown.get() {
+        ShownRef::Answered(AnswerRef::Taken { body }) => write_taken(alloc, body),
         _ => write_printed(alloc, profile, shown),
     }
 }
 
 /// The answer as `play` prints it, without its line end.
-fn write_printed(alloc: Global, profile: Profile, shown: &Shown) -> Result<Vec<u8>, AllocError>
+fn write_printed(alloc: Global, profile: Profile, shown: &Showing) -> Result<Vec<u8>, AllocError>
     ensures { IfOk result (λ words. words.items ≡ without_end (shown_text profile shown.now)) }
 {
     let mut words = write_shown(alloc, profile, shown)?;
@@ -71,18 +71,18 @@ fn cut_end(text: &mut Vec<u8>)
 }
 
 /// Whether it was answered that it's done.
-fn was_done(shown: &Shown) -> bool
+fn was_done(shown: &Showing) -> bool
     ensures { result ≡ is_done shown.now }
 {
-    matches!(shown, Shown::Answered(Answer::Done))
+    matches!(shown.get(), ShownRef::Answered(AnswerRef::Done))
 }
 
 /// What a heard unit did, if one was heard.
-pub(crate) fn find_report(shown: &Shown) -> Option<Report>
+pub(crate) fn find_report(shown: &Showing) -> Option<Report>
     ensures { result ≡ report_in shown.now }
 {
-    match shown {
-        Shown::Answered(Answer::Heard { report }) => Some(*report),
+    match shown.get() {
+        ShownRef::Answered(AnswerRef::Heard { report }) => Some(report),
         _ => None,
     }
 }
@@ -92,7 +92,7 @@ pub(crate) fn write_event(
     alloc: Global,
     profile: Profile,
     event: &Event,
-    shown: &Shown,
+    shown: &Showing,
 ) -> Result<Vec<u8>, AllocError>
     ensures { IfOk result (λ words. words.items ≡ event_words profile event.now shown.now) }
 {
@@ -108,7 +108,7 @@ fn write_answer(
     alloc: Global,
     profile: Profile,
     event: &Event,
-    shown: &Shown,
+    shown: &Showing,
 ) -> Result<Vec<u8>, AllocError>
     ensures { IfOk result (λ words. words.items ≡ answer_words profile event.now shown.now) }
 {
@@ -126,7 +126,7 @@ fn write_offered(
     alloc: Global,
     profile: Profile,
     body: &[u8],
-    shown: &Shown,
+    shown: &Showing,
     number: Option<u64>,
 ) -> Result<Vec<u8>, AllocError>
     ensures { IfOk result (λ words. words.items ≡ offered_words profile body.now shown.now number) }
@@ -140,11 +140,11 @@ fn write_offered(
 }
 
 /// The number of the message that was accepted, if one was.
-fn find_accepted(shown: &Shown) -> Option<u64>
+fn find_accepted(shown: &Showing) -> Option<u64>
     ensures { result ≡ accepted_in shown.now }
 {
-    match shown {
-        Shown::Answered(Answer::Accepted { number }) => Some(*number),
+    match shown.get() {
+        ShownRef::Answered(AnswerRef::Accepted { number }) => Some(number),
         _ => None,
     }
 }

@@ -14,12 +14,12 @@ use super::rows::{draw_arriving, draw_forged, draw_going, draw_losing, write_row
 use super::under_way::write_under_way;
 use super::units::{find_carried, write_any, write_sent_unit, write_unit};
 use arrayvec::ArrayVec;
-use l2_units::{Profile, Unit, copy_of_unit};
-use pair_steps::{Shown, Step};
+use l2_units::{Profile, Unit, UnitRef, copy_of_unit};
+use pair_steps::{Showing, ShownRef, Step};
 use pair_world::{End, Line, World};
 use script_walk::{Account, ScriptFault, tell_script, world_profile};
 use set_core::SetCore;
-use set_events::{Answer, Counts, Event, Report};
+use set_events::{AnswerRef, Counts, Event, Report};
 use std::alloc::{AllocError, Global};
 use text_decode::write_both;
 use text_printing::{Fault, Sink, Source};
@@ -74,7 +74,7 @@ impl Account for Chart {
         number: u64,
         note: Before,
         step: &Step,
-        shown: &Shown,
+        shown: &Showing,
         world: &World,
         out: &mut Vec<u8>,
     ) -> Result<(), AllocError> {
@@ -167,7 +167,7 @@ fn write_step(
     number: u64,
     note: &Before,
     step: &Step,
-    shown: &Shown,
+    shown: &Showing,
     world: &World,
 ) -> Result<Vec<u8>, AllocError>
     ensures { (before : ModelWorld) → IsBefore before step.now note.now
@@ -192,7 +192,7 @@ fn write_rows(
     number: &[u8],
     note: &Before,
     step: &Step,
-    shown: &Shown,
+    shown: &Showing,
     world: &World,
 ) -> Result<Vec<u8>, AllocError>
     ensures { (before : ModelWorld) → IsBefore before step.now note.now
@@ -296,7 +296,7 @@ fn write_first(
     under_way: &[u8],
     unit: &Option<Unit>,
     step: &Step,
-    shown: &Shown,
+    shown: &Showing,
     world: &World,
 ) -> Result<Vec<u8>, AllocError>
     ensures { (before : ModelWorld) → unit.now ≡ affected before step.now
@@ -370,20 +370,20 @@ fn write_sent(
     world: &World,
     end: End,
     link: u8,
-    shown: &Shown,
+    shown: &Showing,
 ) -> Result<Vec<u8>, AllocError>
     ensures { IfOk result (λ row. row.items
         ≡ sent_row number.now under_way.now world.now end link shown.now (sent_in shown.now)) }
 {
-    match shown {
-        Shown::Answered(Answer::Sent { unit }) => {
+    match shown.get() {
+        ShownRef::Answered(AnswerRef::Sent { unit }) => {
             write_row_at(
                 alloc,
                 end,
                 number,
                 under_way,
                 &draw_going(alloc, end, link)?,
-                &write_sent_unit(alloc, world_profile(world), world.core(end), link, unit)?,
+                &write_sent_unit(alloc, world_profile(world), world.core(end), link, &unit)?,
             )
         }
         _ => write_row_at(
@@ -425,7 +425,7 @@ fn write_forged(
     under_way: &[u8],
     end: End,
     link: u8,
-    shown: &Shown,
+    shown: &Showing,
     unit: &Unit,
 ) -> Result<Vec<u8>, AllocError>
     ensures { IfOk result (λ row. row.items
@@ -433,7 +433,7 @@ fn write_forged(
         (unit_words profile None unit.now)) }
 {
     let words = match find_report(shown) {
-        Some(_) => write_unit(alloc, profile, None, unit)?,
+        Some(_) => write_unit(alloc, profile, None, &UnitRef::of(unit))?,
         None => write_plain(alloc, profile, shown)?,
     };
     write_row_at(

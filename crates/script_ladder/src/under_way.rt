@@ -1,10 +1,11 @@
 //! What is under way between the ends.
 ghost use Rattle.std.specs.Prelude.{◌≡◌, IfOk, take};
+ghost use Rattle.l2_units.specs.Lent.{unit_in};
 ghost use Rattle.script_ladder.specs.Ladder.{marks, marks_below, marks_on, mark, under_way};
 
 use super::fitting::fit;
 use super::rows::UNDER_WAY;
-use l2_units::Unit;
+use l2_units::UnitRef;
 use pair_world::{End, Line, World};
 use std::alloc::{AllocError, Global};
 
@@ -46,7 +47,7 @@ fn write_marks(alloc: Global, link: u8, way: &str, line: &Line) -> Result<Vec<u8
 {
     let mut text: Vec<u8> = Vec::new(alloc);
     for place in 0..MOST {
-        let Some(unit) = line.unit(place) else {
+        let Some(unit) = line.unit_ref(place) else {
             continue;
         };
         text.extend_from_slice(&write_mark(alloc, link, way, &unit)?)?;
@@ -55,13 +56,13 @@ fn write_marks(alloc: Global, link: u8, way: &str, line: &Line) -> Result<Vec<u8
 }
 
 /// A unit with its link and its way.
-fn write_mark(alloc: Global, link: u8, way: &str, unit: &Unit) -> Result<Vec<u8>, AllocError>
-    ensures { IfOk result (λ text. text.items ≡ mark link way.now unit.now) }
+fn write_mark(alloc: Global, link: u8, way: &str, unit: &UnitRef<'_>) -> Result<Vec<u8>, AllocError>
+    ensures { IfOk result (λ text. text.items ≡ mark link way.now (unit_in unit.now)) }
 {
     match unit {
-        Unit::Fisu { .. } => Ok(format!(in alloc; "{link}{way}f ")?.into_bytes()),
-        Unit::Lssu { .. } => Ok(format!(in alloc; "{link}{way}s ")?.into_bytes()),
-        Unit::Msu { head, .. } => {
+        UnitRef::Fisu { .. } => Ok(format!(in alloc; "{link}{way}f ")?.into_bytes()),
+        UnitRef::Lssu { .. } => Ok(format!(in alloc; "{link}{way}s ")?.into_bytes()),
+        UnitRef::Msu { head, .. } => {
             let fsn = head.fsn;
             Ok(format!(in alloc; "{link}{way}{fsn} ")?.into_bytes())
         }

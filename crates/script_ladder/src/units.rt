@@ -1,13 +1,14 @@
 //! A unit in the words of the trade.
 ghost use Rattle.std.specs.Prelude.{◌≡◌, ◌++◌, IfOk, drop, slice_get};
 ghost use Rattle.text_decode.specs.Decoding.{order_words};
+ghost use Rattle.l2_units.specs.Lent.{unit_in};
 ghost use Rattle.l3_orders.specs.Grammar.{order_of};
 ghost use Rattle.script_ladder.specs.Ladder.{message_name, message_words, number_on, number_words, numbered_order, numbers_of, or_msu};
 ghost use Rattle.script_ladder.specs.Ladder.{order_in, sent_words, stream_words, unit_number, unit_words, words_of};
 
 use super::fitting::front_of;
 use super::isup::isup_name;
-use l2_units::{Header, Profile, Unit};
+use l2_units::{Header, Profile, Unit, UnitRef};
 use l3_orders::Order;
 use set_core::SetCore;
 use std::alloc::{AllocError, Global};
@@ -22,9 +23,9 @@ pub(crate) fn write_sent_unit(
     profile: Profile,
     sender: &SetCore,
     link: u8,
-    unit: &Unit,
+    unit: &UnitRef<'_>,
 ) -> Result<Vec<u8>, AllocError>
-    ensures { IfOk result (λ words. words.items ≡ sent_words profile sender.now.state link unit.now) }
+    ensures { IfOk result (λ words. words.items ≡ sent_words profile sender.now.state link (unit_in unit.now)) }
 {
     write_unit(
         alloc,
@@ -45,17 +46,17 @@ pub(crate) fn write_any(
     ensures { IfOk result (λ words. words.items ≡ words_of profile sender.now.state link unit.now) }
 {
     match unit {
-        Some(unit) => write_sent_unit(alloc, profile, sender, link, unit),
+        Some(unit) => write_sent_unit(alloc, profile, sender, link, &UnitRef::of(unit)),
         None => Ok(Vec::new(alloc)),
     }
 }
 
 /// The number of the message that a unit carries, where its sender has it unacknowledged on the link.
-fn find_number(profile: Profile, sender: &SetCore, link: u8, unit: &Unit) -> Option<u64>
-    ensures { result ≡ unit_number profile sender.now.state link unit.now }
+fn find_number(profile: Profile, sender: &SetCore, link: u8, unit: &UnitRef<'_>) -> Option<u64>
+    ensures { result ≡ unit_number profile sender.now.state link (unit_in unit.now) }
 {
     match unit {
-        Unit::Msu { head, .. } => find_by_fsn(profile, sender, link, head.fsn),
+        UnitRef::Msu { head, .. } => find_by_fsn(profile, sender, link, head.fsn),
         _ => None,
     }
 }
@@ -76,14 +77,14 @@ pub(crate) fn write_unit(
     alloc: Global,
     profile: Profile,
     number: Option<u64>,
-    unit: &Unit,
+    unit: &UnitRef<'_>,
 ) -> Result<Vec<u8>, AllocError>
-    ensures { IfOk result (λ words. words.items ≡ unit_words profile number unit.now) }
+    ensures { IfOk result (λ words. words.items ≡ unit_words profile number (unit_in unit.now)) }
 {
     match unit {
-        Unit::Fisu { head } => write_kind(alloc, "FISU", *head),
-        Unit::Lssu { head, .. } => write_kind(alloc, "LSSU", *head),
-        Unit::Msu { head, body } => write_message(alloc, profile, number, *head, body.as_slice()),
+        UnitRef::Fisu { head } => write_kind(alloc, "FISU", *head),
+        UnitRef::Lssu { head, .. } => write_kind(alloc, "LSSU", *head),
+        UnitRef::Msu { head, body } => write_message(alloc, profile, number, *head, body),
     }
 }
 

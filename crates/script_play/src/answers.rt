@@ -2,7 +2,7 @@
 ghost use Rattle.std.specs.Prelude.{◌≡◌, IfOk};
 ghost use Rattle.script_play.specs.PlayText.{ends_text};
 
-use pair_steps::{Shown, Step};
+use pair_steps::{Showing, Step};
 use pair_world::{End, World};
 use script_answers::{push_shown, write_end};
 use script_walk::{Account, world_profile};
@@ -31,7 +31,7 @@ impl Account for Answers {
         _number: u64,
         _note: (),
         _step: &Step,
-        shown: &Shown,
+        shown: &Showing,
         world: &World,
         out: &mut Vec<u8>,
     ) -> Result<(), AllocError> {

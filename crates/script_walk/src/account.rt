@@ -4,7 +4,7 @@ ghost use Rattle.pair_model.specs.World.{World as ModelWorld};
 ghost use Rattle.pair_steps.specs.declared.step.Step.{Step};
 ghost use Rattle.script_walk.specs.Scripts.{Told};
 
-use pair_steps::{Shown, Step};
+use pair_steps::{Showing, Step};
 use pair_world::World;
 use std::alloc::{AllocError, Global};
 
@@ -36,7 +36,7 @@ pub trait Account {
         number: u64,
         note: Self::Note,
         step: &Step,
-        shown: &Shown,
+        shown: &Showing,
         world: &World,
         out: &mut Vec<u8>,
     ) -> Result<(), AllocError>

@@ -14,7 +14,7 @@ ghost use Rattle.pair_steps.specs.declared.step.Step.{Step as ModelStep};
 use super::account::Account;
 use super::fault::ScriptFault;
 use l2_units::Profile;
-use pair_steps::{Shown, Step};
+use pair_steps::{Showing, Step};
 use pair_world::{End, PlayFault, World};
 use script_grammar::{read_opening, read_step_into};
 use std::alloc::Global;
@@ -29,7 +29,7 @@ pub struct Script<A> {
     world: Option<World>,
     /// The last line's step, and what it showed: both have room for a unit, and are filled where they stand.
     step: Step,
-    shown: Shown,
+    shown: Showing,
     account: PhantomData<A>,
 }
 
@@ -55,7 +55,7 @@ impl<A: Account> Script<A> {
         Script {
             world: None,
             step: Step::Together { link: 0 },
-            shown: Shown::Up,
+            shown: Showing::new(),
             account: PhantomData,
         }
     }
@@ -178,7 +178,7 @@ fn carry_out<A: Account>(
     alloc: Global,
     world: &mut Option<World>,
     step: &mut Step,
-    shown: &mut Shown,
+    shown: &mut Showing,
     number: u64,
     text: &[u8],
     out: &mut Vec<u8>,
@@ -203,7 +203,7 @@ fn carry_out_step<A: Account>(
     world: &mut World,
     number: u64,
     step: &Step,
-    shown: &mut Shown,
+    shown: &mut Showing,
     out: &mut Vec<u8>,
 ) -> Result<(), Stop<ScriptFault>>
     ensures { IsDone result
