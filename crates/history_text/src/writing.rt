@@ -142,11 +142,19 @@ fn push_heard(
         ++ (numbered (codes "hear ") link ++ (hex_text (unit_octets profile (unit_in unit.now)) ++ codes " "))) }
 {
     push_numbered(text, b"hear ", link as u64)?;
-    let octets = unit_octets(profile, unit);
-    push_hex(text, octets.front.as_slice())?;
-    push_hex(text, octets.body)?;
+    push_unit(text, profile, unit)?;
     text.push(b' ')?;
     Ok(())
+}
+
+/// Appends the octets of a unit, without its check octets.
+fn push_unit(text: &mut Vec<u8>, profile: Profile, unit: &UnitRef<'_>) -> Result<(), AllocError>
+    ensures { OnOk result (text.new.items
+        ≡ text.old.items ++ hex_text (unit_octets profile (unit_in unit.now))) }
+{
+    let octets = unit_octets(profile, unit);
+    push_hex(text, octets.front.as_slice())?;
+    push_hex(text, octets.body)
 }
 
 /// What a set of this profile answered, as `play` prints it, ended by LF; it fails only where memory is wanted.

@@ -14,6 +14,6 @@ mod report;
 mod texts;
 mod verdict;
 
+pub use figures::{LinkFigures, SetFigures};
 pub use report::{Report, report_of};
-pub use text_base::{LinkFigures, SetFigures};
 pub use verdict::{Missing, find_missing};
