@@ -7,8 +7,8 @@ use Rattle.history_audit.proofs.course.hear.Goals as goal
 pub returns-in-Ok-WrongAnswer : goal.returns-in-Ok-WrongAnswer
 returns-in-Ok-WrongAnswer c = λ told is.
     let item = c.args.item.now in
-    is_wrong told c.args.number item c.args.course.now is c.requires c.hear.new.self (Some c.copy.result) c.entries-entries.result
-    (λ opening items h. wrong_found opening items item c.in-Ok-WrongAnswer.field-0 c.hear.new.self c.copy.result c.in-Ok-WrongAnswer.field-0-is (c.in-Ok-WrongAnswer.ensures.found opening items h) (c.copy.ensures ∙ c.answer.ensures))
+    is_wrong told c.args.number item c.args.course.now is c.requires c.hear.new.self (Some c.answer.result) c.entries-entries.result
+    (λ opening items h. wrong_found opening items item c.in-Ok-WrongAnswer.field-0 c.hear.new.self c.answer.result c.in-Ok-WrongAnswer.field-0-is (c.in-Ok-WrongAnswer.ensures.found opening items h) c.answer.ensures)
     c.entries-entries.ensures.heard (has_room c.hear.result _ _ (IsEntry item) _ c.in-Ok-WrongAnswer.is c.hear.ensures.exhausted.1)
 
 pub returns-in-Ok-NoSuchActor : goal.returns-in-Ok-NoSuchActor

@@ -10,22 +10,22 @@ returns-then-not-can_ask-clause-found c = λ opening items heard.
 pub count-requires-clause-body : goal.count-requires-clause-body
 count-requires-clause-body c =
     let k = c.self.invariant in
-    few_octets k.state c.args.entry.now.event c.self.inside.core c.apply.new.answer k.agrees (c.in_ok-apply.ensures.ok k.state k.agrees).answer_is
+    rw (c.of-asked.ensures.value, c.get-answer.ensures.value) (few_octets k.state c.args.entry.now.event c.self.inside.core c.apply.new.reply k.agrees (rw c.of-asked.ensures.value at (c.in_ok-apply.ensures.ok k.state k.agrees)).answer_is)
 
 pub invariant_of-self-then-not-same : goal.invariant_of-self-then-not-same
 invariant_of-self-then-not-same c =
-    can_hear _ _ c.args.entry.now.who c.args.entry.now.event c.apply.new.answer c.self.invariant c.in_ok-apply.ensures.ok c.if-self-ge-LONGEST_HISTORY.false c.count.ensures refl
+    can_hear _ _ c.args.entry.now.who c.args.entry.now.event c.apply.new.reply c.self.invariant (rw c.of-asked.ensures.value at c.in_ok-apply.ensures.ok) c.if-self-ge-LONGEST_HISTORY.false (rw (c.of-asked.ensures.value, c.get-answer.ensures.value) at c.count.ensures) refl
 
 pub returns-then-not-same-clause-found : goal.returns-then-not-same-clause-found
 returns-then-not-same-clause-found c = λ opening items heard.
-    wrong_found opening items c.args.self.now c.self.inside.core c.apply.new.self c.self.inside.books c.self.inside.entries c.self.inside.answer c.apply.new.answer c.args.entry.now c.self.view_is heard c.in_ok-apply.ensures.ok
-    (sym c.if-not-can_ask.false ∙ c.can_ask.ensures.value) (λ e. let yes = c.same.ensures.1 e in let no = c.if-not-same.true in cc)
+    wrong_found opening items c.args.self.now c.self.inside.core c.apply.new.self c.self.inside.books c.self.inside.entries c.self.inside.reply c.apply.new.reply c.args.entry.now c.self.view_is heard (rw c.of-asked.ensures.value at c.in_ok-apply.ensures.ok)
+    (sym c.if-not-can_ask.false ∙ c.can_ask.ensures.value) (λ e. let yes = c.same.ensures.1 (c.get-answer.ensures.value ∙ e ∙ sym c.of.ensures.value) in let no = c.if-not-same.true in cc)
 
 pub returns-clause-found : goal.returns-clause-found
 returns-clause-found c = λ opening items heard.
-    right_found opening items c.args.self.now c.self.inside.core c.apply.new.self c.self.inside.books c.self.inside.entries c.self.inside.answer c.apply.new.answer c.args.entry.now c.self.view_is heard c.in_ok-apply.ensures.ok
-    c.count.new.books (c.can_ask.ensures.can.0 c.if-not-can_ask.false) (c.same.ensures.0 c.if-not-same.false) c.count.ensures
+    right_found opening items c.args.self.now c.self.inside.core c.apply.new.self c.self.inside.books c.self.inside.entries c.self.inside.reply c.apply.new.reply c.args.entry.now c.self.view_is heard (rw c.of-asked.ensures.value at c.in_ok-apply.ensures.ok)
+    c.count.new.books (c.can_ask.ensures.can.0 c.if-not-can_ask.false) (sym c.get-answer.ensures.value ∙ c.same.ensures.0 c.if-not-same.false ∙ c.of.ensures.value) (rw (c.of-asked.ensures.value, c.get-answer.ensures.value) at c.count.ensures)
 
 pub invariant_of-self-2 : goal.invariant_of-self-2
 invariant_of-self-2 c =
-    can_hear _ _ c.args.entry.now.who c.args.entry.now.event c.apply.new.answer c.self.invariant c.in_ok-apply.ensures.ok c.if-self-ge-LONGEST_HISTORY.false c.count.ensures refl
+    can_hear _ _ c.args.entry.now.who c.args.entry.now.event c.apply.new.reply c.self.invariant (rw c.of-asked.ensures.value at c.in_ok-apply.ensures.ok) c.if-self-ge-LONGEST_HISTORY.false (rw (c.of-asked.ensures.value, c.get-answer.ensures.value) at c.count.ensures) refl
