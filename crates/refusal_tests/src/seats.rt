@@ -9,7 +9,7 @@ use super::script::{Ask, SCRIPT, config, who_of};
 use super::sets::{answered, are_alike, bases, made, opened};
 use super::{MOST_GROWTHS, TRIES, holds};
 use set_core::{SetCore, SetFault};
-use set_events::{Actor, Answer, Event, EventRef, Reply, SetConfig};
+use set_events::{Actor, Event, EventRef, Reply, SetConfig};
 use set_ledger::{
     Blanks, CreateFault, Held, Opened, Opening, Seat, TermSeat, UserSeat, forget, step_in,
 };
@@ -137,27 +137,27 @@ fn goes_alike<C: Opening, M: Ledger, O: Ledger, A: Ledger, G: Allocator + Copy>(
     let Some(event) = made(alloc, ask) else {
         return false;
     };
-    let mut answer = Answer::Done;
+    let mut reply = Reply::new();
     let who = who_of(ask);
     let goes = match who {
         Actor::User(number) => match users.get_mut(usize::from(number)) {
-            Some(seat) => steps(held, seat, twin, &event, &mut answer),
+            Some(seat) => steps(held, seat, twin, &event, &mut reply),
             None => false,
         },
         Actor::Terminal(link) => match terminals.get_mut(usize::from(link)) {
-            Some(seat) => steps(held, seat, twin, &event, &mut answer),
+            Some(seat) => steps(held, seat, twin, &event, &mut reply),
             None => false,
         },
     };
-    goes && answers(twin, who, &event, &answer) && are_held_alike(held, twin)
+    goes && answers(twin, who, &event, &reply) && are_held_alike(held, twin)
 }
 
 /// The twin gives this answer.
-fn answers(twin: &mut SetCore, who: Actor, event: &Event, answer: &Answer) -> bool
+fn answers(twin: &mut SetCore, who: Actor, event: &Event, reply: &Reply) -> bool
     requires { IsActor who }
 {
-    let mut other = Answer::Done;
-    answered(twin, who, event, &mut other) && answer.same(&other)
+    let mut other = Reply::new();
+    answered(twin, who, &EventRef::of(event), &mut other) && reply.get().same(&other.get())
 }
 
 /// The seat makes the step, and has a receipt more; while that is refused, the set is as its twin, of which nothing was
@@ -167,19 +167,15 @@ fn steps<C: Opening, M: Ledger, O: Ledger, A: Ledger, G: Allocator + Copy, S: Se
     seat: &mut S,
     twin: &SetCore,
     event: &Event,
-    answer: &mut Answer,
+    reply: &mut Reply,
 ) -> bool {
     let (share, receipts) = (seat.share(), seat.receipts().len());
     for _ in 0..TRIES {
         if !is_own(seat.actor(), event) {
             return false;
         }
-        let mut reply = Reply::new();
-        match step_in(held, seat, &EventRef::of(event), &mut reply) {
-            Ok(()) => {
-                *answer = reply.answer();
-                return seat.receipts().len() == receipts.saturating_add(1);
-            }
+        match step_in(held, seat, &EventRef::of(event), reply) {
+            Ok(()) => return seat.receipts().len() == receipts.saturating_add(1),
             Err(SetFault::NoMemory) => {
                 let stays = seat.share() == share && seat.receipts().len() == receipts;
                 if !(stays && are_held_alike(held, twin)) {

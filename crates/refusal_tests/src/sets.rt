@@ -1,10 +1,11 @@
 //! A set: its opening, each event, and the audit of a history.
+ghost use Rattle.set_events.specs.Lent.{HasFitUnit};
 ghost use Rattle.set_model.specs.History.{IsActor};
 
 use super::script::{Ask, SCRIPT, config, event_of, who_of};
 use super::{MOST_GROWTHS, TRIES, holds};
 use set_core::{SetCore, SetFault, audit};
-use set_events::{Actor, Answer, Entry, Event};
+use set_events::{Actor, Answer, Entry, Event, EventRef, Reply};
 use std::alloc::{Allocator, Global};
 use std::slice::from_ref;
 use std::test::Fail;
@@ -211,10 +212,11 @@ fn answer_alike<A: Allocator + Copy>(
 ) -> bool
     requires { IsActor who }
 {
-    let (mut answer, mut other) = (Answer::Done, Answer::Done);
-    asked(set, twin, who, event, &mut answer)
-        && answered(twin, who, event, &mut other)
-        && answer.same(&other)
+    let lent = EventRef::of(event);
+    let (mut reply, mut other) = (Reply::new(), Reply::new());
+    asked(set, twin, who, &lent, &mut reply)
+        && answered(twin, who, &lent, &mut other)
+        && reply.get().same(&other.get())
 }
 
 /// The set answers; while that is refused, it is as its twin, of which nothing was asked yet.
@@ -222,13 +224,14 @@ fn asked<A: Allocator + Copy>(
     set: &mut SetCore<A>,
     twin: &SetCore,
     who: Actor,
-    event: &Event,
-    answer: &mut Answer,
+    event: &EventRef<'_>,
+    reply: &mut Reply,
 ) -> bool
-    requires { IsActor who }
+    requires actor { IsActor who }
+    requires fits { HasFitUnit event.now }
 {
     for _ in 0..TRIES {
-        match set.apply_into(who, event, answer) {
+        match set.apply_into(who, event, reply) {
             Ok(()) => return true,
             Err(SetFault::NoMemory) if are_alike(set, twin) => {}
             Err(_) => return false,
@@ -241,13 +244,14 @@ fn asked<A: Allocator + Copy>(
 pub(crate) fn answered<A: Allocator + Copy>(
     set: &mut SetCore<A>,
     who: Actor,
-    event: &Event,
-    answer: &mut Answer,
+    event: &EventRef<'_>,
+    reply: &mut Reply,
 ) -> bool
-    requires { IsActor who }
+    requires actor { IsActor who }
+    requires fits { HasFitUnit event.now }
 {
     for _ in 0..TRIES {
-        if set.apply_into(who, event, answer).is_ok() {
+        if set.apply_into(who, event, reply).is_ok() {
             return true;
         }
     }
@@ -358,9 +362,9 @@ fn is_accepted(refusing: &Refusing<Global>, number: u64, event: &Event) -> bool 
 }
 
 fn is_accepted_first<A: Allocator + Copy>(set: &mut SetCore<A>, event: &Event) -> bool {
-    let mut answer = Answer::Done;
-    answered(set, Actor::User(0), event, &mut answer)
-        && is_first_answer(&answer)
+    let mut reply = Reply::new();
+    answered(set, Actor::User(0), &EventRef::of(event), &mut reply)
+        && is_first_answer(&reply.answer())
         && set.history().len() == 1
 }
 
