@@ -69,7 +69,7 @@ turn_more (Some managed) link entries marks entry all = turn_marked link entries
 
 pub question_more : (managed : Option Managed) (link : ℕ) (entries : List Entry) (marks : List ℕ) (entry : Entry) → IsSome managed → are_marks link entries marks ≡ true
     → of_turns managed (marks ++ 0 ∷ []) (entries ++ entry ∷ []) ≡ of_turns managed marks entries
-question_more None link entries marks entry is all = absurd is
+question_more None link entries marks entry is all = absurd (cc is)
 question_more (Some managed) link entries marks entry is all = question_marked link entries marks entry all
 
 -- A STEP with what level 3 asked behind it
