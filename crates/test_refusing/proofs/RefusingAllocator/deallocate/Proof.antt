@@ -159,6 +159,6 @@ deallocate_spec 𝓤 𝓛 𝓜 𝓡 wired Y L g d drops met _ =
     (λ κs qs bounds a τ are.
     walk Z 𝓛 𝓜.mem 𝓡.returns 𝓣 (met.deallocate drops)
     (cited 𝓤 𝓛.H _ 𝓜 𝓡 𝓡.env count_symbol.name (𝓡.env count_symbol.name) refl
-    (count_met.met 𝓤 𝓛 𝓜 𝓡 (code.calls-refusing::count 𝓡.env wired)))
+    (count_met.met 𝓤 𝓛 𝓜 𝓡 (code.calls-test_refusing::count 𝓡.env wired)))
     κs.0 κs.1.0 qs.0 qs.1.0 bounds.0 a.0 a.1.1.0 a.1.1.1.0 τ
     are.1.1.0.1 are.1.1.1.0.1 a.1.0)))
