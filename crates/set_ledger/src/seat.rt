@@ -124,12 +124,7 @@ impl<C: Opening, M: Ledger, O: Ledger, A: Ledger, G: Allocator + Copy> Step<C, M
     }
 
     fn forget(&mut self, many: u64) -> Result<(), AllocError> {
-        forget_first(
-            self.alloc,
-            &mut self.receipts,
-            &mut self.forgotten,
-            many,
-        )
+        forget_first(self.alloc, &mut self.receipts, &mut self.forgotten, many)
     }
 }
 
@@ -184,12 +179,7 @@ impl<C: Opening, M: Ledger, O: Ledger, A: Ledger, G: Allocator + Copy> Step<C, M
     }
 
     fn forget(&mut self, many: u64) -> Result<(), AllocError> {
-        forget_first(
-            self.alloc,
-            &mut self.receipts,
-            &mut self.forgotten,
-            many,
-        )
+        forget_first(self.alloc, &mut self.receipts, &mut self.forgotten, many)
     }
 }
 
