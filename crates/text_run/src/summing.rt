@@ -19,14 +19,14 @@ pub(crate) fn totals_of_ends(alloc: Global, ends: &[SetEnd]) -> Result<Vec<SetTo
     let mut totals = Vec::new(alloc);
     for end in ends {
         totals.reserve(1)?;
-        let of_end = add_up_end(alloc, end)?;
+        let of_end = add_up_end(end)?;
         totals.push_reserved(of_end);
     }
     Ok(totals)
 }
 
 /// What a set came to at this end. Its history is legal, as the audit tells anew.
-fn add_up_end(alloc: Global, end: &SetEnd) -> Result<SetTotals, AllocError>
+fn add_up_end(end: &SetEnd) -> Result<SetTotals, AllocError>
     requires end { IsAnEnd end.now }
     ensures totals { IfOk result (λ totals. totals ≡ end_totals end.now) }
     ensures small { IfOk result IsInRange }
