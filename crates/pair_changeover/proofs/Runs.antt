@@ -22,7 +22,7 @@ use Rattle.pair_steps.specs.declared.step.Step.{Step}
 use Rattle.pair_steps.specs.declared.step.Step.TheVariants.{Act, Emit, Arrive, Lose, Together, Inject}
 use Rattle.pair_model.specs.World.{Outcome, shows, impossible, exhausted, at_end, with_end, line_to, with_line, actor_of, answer_to, after, is_full, has_link, has_actor, acts, with_sent, sends_on, emits, front_arrives, arrives, loses, risen, is_settled_at_both, rises, has_own_step, done_by, carried_out}
 use Rattle.pair_model.specs.Run.{Message, messages, Stage, begun, no_past, with_past, past_arrived, passed, OnShows, HoldsAlong, HoldsAtEach}
-use Rattle.pair_model.specs.Promises.{IsOneMethod, IsSoundStep, IsAskedStep, AreSteps, IsSoundRun}
+use Rattle.pair_model.specs.Promises.{IsOneMethod, IsSoundStep, AreSteps, IsSoundRun}
 use Rattle.pair_model.proofs.Controls.{one_back}
 use Rattle.pair_model.proofs.Kept.{at_first}
 use Rattle.pair_model.proofs.Moving as moving
@@ -229,10 +229,10 @@ module _ (ma mb : Method) (one : IsOneMethod ma mb) where
   onward g step steps next impossible goes went = (tt, tt)
   onward g step steps next exhausted goes went = (tt, tt)
 
-  pub along : (g : Stage) → Holds ma mb one g → Whole (seen A g) → (steps : List Step) → AreSteps IsSoundStep steps → AreSteps IsAskedStep steps → ChangesOver g steps
-  along g h w [] sound asked = record { lost_nothing = lost_nothing g h w; diverted = tt }
-  along g h w (step ∷ steps) sound asked =
-      let rest = onward g step steps (λ later holds whole. along later holds whole steps sound.1 asked.1) (carried_out g.world step) (step_goes ma mb one g h step (is_honest step sound.0) asked.0) (step_went g h w step sound.0) in
+  pub along : (g : Stage) → Holds ma mb one g → Whole (seen A g) → (steps : List Step) → AreSteps IsSoundStep steps → ChangesOver g steps
+  along g h w [] sound = record { lost_nothing = lost_nothing g h w; diverted = tt }
+  along g h w (step ∷ steps) sound =
+      let rest = onward g step steps (λ later holds whole. along later holds whole steps sound.1) (carried_out g.world step) (step_goes ma mb one g h step (is_honest step sound.0)) (step_went g h w step sound.0) in
       record { lost_nothing = (lost_nothing g h w, rest.0); diverted = rest.1 }
 
 -- AT FIRST
@@ -278,5 +278,5 @@ whole_at_first a b = record {
   far = first_half b a;
 }
 
-pub every_sound_run : (a b : SetConfig) (steps : List Step) → AreSteps IsAskedStep steps → IsSoundRun a b steps → ChangesOver (begun a b) steps
-every_sound_run a b steps asked sound = along a.method b.method sound.one_method (begun a b) (at_first a b sound.links sound.profiles) (whole_at_first a b) steps sound.steps asked
+pub every_sound_run : (a b : SetConfig) (steps : List Step) → IsSoundRun a b steps → ChangesOver (begun a b) steps
+every_sound_run a b steps sound = along a.method b.method sound.one_method (begun a b) (at_first a b sound.links sound.profiles) (whole_at_first a b) steps sound.steps

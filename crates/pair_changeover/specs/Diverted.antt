@@ -19,7 +19,7 @@ use Rattle.pair_steps.specs.declared.step.Step.{Step}
 use Rattle.pair_steps.specs.declared.step.Step.TheVariants.{Arrive}
 use Rattle.pair_steps.specs.declared.step.Shown.{Shown}
 use Rattle.pair_steps.specs.declared.step.Shown.TheVariants.{Answered}
-use Rattle.pair_model.specs.Promises.{IsAskedStep, AreSteps, IsSoundRun}
+use Rattle.pair_model.specs.Promises.{AreSteps, IsSoundRun}
 use Rattle.pair_model.specs.Run.{Message, Past, Stage, messages, body_in, begun, past_at, HoldsAlong, HoldsAtEach}
 use Rattle.pair_model.specs.World.{at_end, other, line_to}
 
@@ -118,5 +118,5 @@ pub record ChangesOver (g : Stage) (steps : List Step) : Type 0 where
 -- LAW
 abbrev pub EverySoundRunDivertsTheRest : Type 0
 EverySoundRunDivertsTheRest =
-    (a b : SetConfig) (steps : List Step) → AreSteps IsAskedStep steps → IsSoundRun a b steps
+    (a b : SetConfig) (steps : List Step) → IsSoundRun a b steps
     → ChangesOver (begun a b) steps

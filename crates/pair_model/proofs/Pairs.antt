@@ -5,7 +5,7 @@ use Rattle.pair_steps.specs.Lines.{units_of, units_on, with_units}
 use Rattle.set_events.specs.declared.config.Method.{Method}
 use Rattle.set_events.specs.declared.event.Event.{Event}
 use Rattle.set_events.specs.declared.event.Event.TheVariants.{Offer, Take, Find, Next, Heard, Up as UpEvent, Down as DownEvent, DownBlind, NoAnswer, Restore, BackTimeout}
-use Rattle.set_model.specs.Sound.{IsSound, IsAsked}
+use Rattle.set_model.specs.Sound.{IsSound}
 use Rattle.set_model.specs.State.{State, Settings}
 use Rattle.set_model.specs.Step.{step}
 use Rattle.set_model.proofs.Walk.{link_count_stays, KeptBy, step_walks}
@@ -116,13 +116,13 @@ module _ (mx my : Method) (p : Two) (h : HoldsOf mx my p) where
     goes_on l apart f = follows l mx my (side l p.near p.near_past) (side l p.far p.far_past) (units_on l p.out) (units_on l p.back) then_near keeps (count_stays l p.near event apart) f (h.ties l)
 
     -- all but the ties
-    pub event_holds : IsAsked event → (past : Past) (out back : List (List SignalUnit)) → length out ≡ length p.out → length back ≡ length p.back
+    pub event_holds : (past : Past) (out back : List (List SignalUnit)) → length out ≡ length p.out → length back ≡ length p.back
         → ((l : ℕ) → Tied l mx my (side l then_near past) (side l p.far p.far_past) (units_on l out) (units_on l back))
         → HoldsOf mx my (record { near = then_near; far = p.far; near_past = past; far_past = p.far_past; out = out; back = back })
-    event_holds asked past out back lo lb ties =
+    event_holds past out back lo lb ties =
         let count = link_count_stays p.near event in
         record {
-          near_sound = step_sound p.near event asked h.near_sound;
+          near_sound = step_sound p.near event h.near_sound;
           far_sound = h.far_sound;
           near_method = ap (λ (s : Settings). s.method) (settings_stay p.near event) ∙ h.near_method;
           far_method = h.far_method;
@@ -133,22 +133,22 @@ module _ (mx my : Method) (p : Two) (h : HoldsOf mx my p) where
           ties = ties;
         }
 
-    pub follows_all : IsAsked event → ((l : ℕ) → IsApart l event) → ((l : ℕ) → Follows l p.near then_near) → HoldsOf mx my (record p { near = then_near })
-    follows_all asked apart f = event_holds asked p.near_past p.out p.back refl refl (λ l. goes_on l (apart l) (f l))
+    pub follows_all : ((l : ℕ) → IsApart l event) → ((l : ℕ) → Follows l p.near then_near) → HoldsOf mx my (record p { near = then_near })
+    follows_all apart f = event_holds p.near_past p.out p.back refl refl (λ l. goes_on l (apart l) (f l))
 
   -- one that has no step of its own
   abbrev pub asked_then : Event → Shown → Two
   asked_then event shown = record p { near = (step p.near event).state; near_past = past_asked event shown p.near_past }
 
-  pub asks : (event : Event) (shown : Shown) → IsAsked event → has_own_step event ≡ false → HoldsOf mx my (asked_then event shown)
-  asks (Offer body) shown asked own = event_holds (Offer body) asked _ p.out p.back refl refl (λ l. goes_on (Offer body) l tt (offer_follows l p.near body))
-  asks Take shown asked own = follows_all Take asked (λ l. tt) (λ l. take_follows l p.near)
-  asks (Find number) shown asked own = follows_all (Find number) asked (λ l. tt) (λ l. find_follows l p.near number)
-  asks (Next k) shown asked own = absurd cc
-  asks (Heard k unit) shown asked own = absurd cc
-  asks (UpEvent k) shown asked own = absurd cc
-  asks (DownEvent k) shown asked own = follows_all (DownEvent k) asked (λ l. tt) (λ l. down_follows l k p.near)
-  asks (DownBlind k) shown asked own = follows_all (DownBlind k) asked (λ l. tt) (λ l. blind_follows l k p.near)
-  asks (NoAnswer k) shown asked own = follows_all (NoAnswer k) asked (λ l. tt) (λ l. unanswered_follows l k p.near)
-  asks (Restore k) shown asked own = follows_all (Restore k) asked (λ l. tt) (λ l. restore_follows l k p.near)
-  asks (BackTimeout k) shown asked own = follows_all (BackTimeout k) asked (λ l. tt) (λ l. timeout_follows l k p.near)
+  pub asks : (event : Event) (shown : Shown) → has_own_step event ≡ false → HoldsOf mx my (asked_then event shown)
+  asks (Offer body) shown own = event_holds (Offer body) _ p.out p.back refl refl (λ l. goes_on (Offer body) l tt (offer_follows l p.near body))
+  asks Take shown own = follows_all Take (λ l. tt) (λ l. take_follows l p.near)
+  asks (Find number) shown own = follows_all (Find number) (λ l. tt) (λ l. find_follows l p.near number)
+  asks (Next k) shown own = absurd cc
+  asks (Heard k unit) shown own = absurd cc
+  asks (UpEvent k) shown own = absurd cc
+  asks (DownEvent k) shown own = follows_all (DownEvent k) (λ l. tt) (λ l. down_follows l k p.near)
+  asks (DownBlind k) shown own = follows_all (DownBlind k) (λ l. tt) (λ l. blind_follows l k p.near)
+  asks (NoAnswer k) shown own = follows_all (NoAnswer k) (λ l. tt) (λ l. unanswered_follows l k p.near)
+  asks (Restore k) shown own = follows_all (Restore k) (λ l. tt) (λ l. restore_follows l k p.near)
+  asks (BackTimeout k) shown own = follows_all (BackTimeout k) (λ l. tt) (λ l. timeout_follows l k p.near)

@@ -13,7 +13,6 @@ use Rattle.set_events.specs.declared.event.Event.TheVariants.{Offer, Take, Find,
 use Rattle.set_model.specs.declared.phase.Phase.{Phase}
 use Rattle.set_model.specs.declared.phase.Phase.TheVariants.{Up, Down, Settled}
 use Rattle.set_model.specs.Rows.{place}
-use Rattle.set_model.specs.Sound.{IsAsked}
 use Rattle.set_model.specs.State.{LinkState, State, has_phase_up, is_up, is_settled, link_is_up, link_count}
 use Rattle.set_model.specs.Step.{Outcome as SetOutcome, refused, offer_refusal, offered, taken, found, with_known, in_service, falls, gives_up, comes_back, runs_out, step}
 use Rattle.set_model.specs.Changeover.{declared_from, some_declare, released_from, some_in_use}
@@ -28,7 +27,7 @@ use Rattle.pair_steps.specs.declared.step.Step.{Step}
 use Rattle.pair_steps.specs.declared.step.Step.TheVariants.{Act, Emit, Arrive, Lose, Together, Inject}
 use Rattle.pair_model.specs.World.{Outcome, shows, impossible, exhausted, at_end, with_end, line_to, with_line, actor_of, answer_to, after, is_full, has_link, has_actor, acts, with_sent, sends_on, emits, front_arrives, arrives, loses, risen, is_settled_at_both, rises, has_own_step, done_by, carried_out}
 use Rattle.pair_model.specs.Run.{Stage, begun, with_past, past_arrived, passed, OnShows, HoldsAlong, HoldsAtEach}
-use Rattle.pair_model.specs.Promises.{IsOneMethod, IsHonestStep, IsSoundStep, IsAskedStep, AreSteps, IsHonestRun, LinksKeep, TellsNoFault, KeepsLinks}
+use Rattle.pair_model.specs.Promises.{IsOneMethod, IsHonestStep, IsSoundStep, AreSteps, IsHonestRun, LinksKeep, TellsNoFault, KeepsLinks}
 use Rattle.pair_model.proofs.Controls.{one_back}
 use Rattle.pair_model.proofs.Kept.{kept_on, at_first}
 use Rattle.pair_model.proofs.Moving as moving
@@ -150,12 +149,12 @@ module _ (ma mb : Method) (one : IsOneMethod ma mb) where
     back_b p k = swap mb ma p k
 
     -- ACT
-    act_goes : (end : End) (event : Event) → IsAsked event → has_own_step event ≡ false → Goes g (Act end event) (acts g.world end event)
-    act_goes end event asked own = go (has_actor g.world (actor_of event)) (is_full (at_end g.world end))
+    act_goes : (end : End) (event : Event) → has_own_step event ≡ false → Goes g (Act end event) (acts g.world end event)
+    act_goes end event own = go (has_actor g.world (actor_of event)) (is_full (at_end g.world end))
       where
         shown : (end : End) → Goes g (Act end event) (shows (Answered (answer_to (at_end g.world end) event)) (with_end g.world end (after (at_end g.world end) event)))
-        shown A = (answer_tells g.world.a.state event own, asks ma mb (seen A g) h event _ asked own)
-        shown B = (answer_tells g.world.b.state event own, back_b _ (asks mb ma (seen B g) h_b event _ asked own))
+        shown A = (answer_tells g.world.a.state event own, asks ma mb (seen A g) h event _ own)
+        shown B = (answer_tells g.world.b.state event own, back_b _ (asks mb ma (seen B g) h_b event _ own))
 
         go : (known full : Bool) → Goes g (Act end event) (cond known (cond full exhausted (shows (Answered (answer_to (at_end g.world end) event)) (with_end g.world end (after (at_end g.world end) event)))) impossible)
         go true true = tt
@@ -293,21 +292,21 @@ module _ (ma mb : Method) (one : IsOneMethod ma mb) where
         go false e settled f full = tt
 
     -- EACH STEP
-    own_goes : (end : End) (event : Event) → IsAsked event → (own : Bool) → has_own_step event ≡ own → Goes g (Act end event) (cond own impossible (acts g.world end event))
-    own_goes end event asked true e = tt
-    own_goes end event asked false e = act_goes end event asked e
+    own_goes : (end : End) (event : Event) → (own : Bool) → has_own_step event ≡ own → Goes g (Act end event) (cond own impossible (acts g.world end event))
+    own_goes end event true e = tt
+    own_goes end event false e = act_goes end event e
 
-    done_goes : (step : Step) → IsHonestStep step → IsAskedStep step → Goes g step (done_by g.world step)
-    done_goes (Act end event) sound asked = own_goes end event asked (has_own_step event) refl
-    done_goes (Emit end k) sound asked = emit_goes end k
-    done_goes (Arrive end k) sound asked = arrive_goes end k
-    done_goes (Lose end k place) sound asked = lose_goes end k place
-    done_goes (Together k) sound asked = together_goes k
-    done_goes (Inject end k unit) sound asked = absurd sound
+    done_goes : (step : Step) → IsHonestStep step → Goes g step (done_by g.world step)
+    done_goes (Act end event) sound = own_goes end event (has_own_step event) refl
+    done_goes (Emit end k) sound = emit_goes end k
+    done_goes (Arrive end k) sound = arrive_goes end k
+    done_goes (Lose end k place) sound = lose_goes end k place
+    done_goes (Together k) sound = together_goes k
+    done_goes (Inject end k unit) sound = absurd sound
 
-  pub step_goes : (g : Stage) → Holds g → (step : Step) → IsHonestStep step → IsAskedStep step → Goes g step (carried_out g.world step)
+  pub step_goes : (g : Stage) → Holds g → (step : Step) → IsHonestStep step → Goes g step (carried_out g.world step)
   unfolding carried_out
-  step_goes g h step sound asked = done_goes g h step sound asked
+  step_goes g h step sound = done_goes g h step sound
 
   pub links_keep : (g : Stage) → Holds g → LinksKeep g
   links_keep g h link = (kept_on ma mb one (seen A g) h link, kept_on mb ma (one_back ma mb one) (seen B g) (swap ma mb (seen A g) h) link)
@@ -322,11 +321,11 @@ module _ (ma mb : Method) (one : IsOneMethod ma mb) where
   onward g step steps next impossible goes = (tt, tt)
   onward g step steps next exhausted goes = (tt, tt)
 
-  pub along : (g : Stage) → Holds g → (steps : List Step) → AreSteps IsHonestStep steps → AreSteps IsAskedStep steps → KeepsLinks g steps
-  along g h [] sound asked = record { links = links_keep g h; no_fault = tt }
-  along g h (step ∷ steps) sound asked =
-      let rest = onward g step steps (λ later holds. along later holds steps sound.1 asked.1) (carried_out g.world step) (step_goes g h step sound.0 asked.0) in
+  pub along : (g : Stage) → Holds g → (steps : List Step) → AreSteps IsHonestStep steps → KeepsLinks g steps
+  along g h [] sound = record { links = links_keep g h; no_fault = tt }
+  along g h (step ∷ steps) sound =
+      let rest = onward g step steps (λ later holds. along later holds steps sound.1) (carried_out g.world step) (step_goes g h step sound.0) in
       record { links = (links_keep g h, rest.0); no_fault = rest.1 }
 
-pub every_honest_run : (a b : SetConfig) (steps : List Step) → AreSteps IsAskedStep steps → IsHonestRun a b steps → KeepsLinks (begun a b) steps
-every_honest_run a b steps asked sound = along a.method b.method sound.one_method (begun a b) (at_first a b sound.links sound.profiles) steps sound.steps asked
+pub every_honest_run : (a b : SetConfig) (steps : List Step) → IsHonestRun a b steps → KeepsLinks (begun a b) steps
+every_honest_run a b steps sound = along a.method b.method sound.one_method (begun a b) (at_first a b sound.links sound.profiles) steps sound.steps

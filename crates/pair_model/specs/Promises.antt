@@ -6,7 +6,6 @@ use Rattle.set_events.specs.declared.config.Method.TheVariants.{Basic, Cyclic}
 use Rattle.set_events.specs.declared.config.SetConfig.{SetConfig}
 use Rattle.set_events.specs.declared.event.Event.TheVariants.{DownBlind, NoAnswer, BackTimeout}
 use Rattle.set_model.specs.Rows.{Row, unack}
-use Rattle.set_model.specs.Sound.{IsAsked}
 use Rattle.set_model.specs.State.{LinkState, State, has_phase_settled}
 use Rattle.pair_steps.specs.declared.step.Step.{Step}
 use Rattle.pair_steps.specs.declared.step.Step.TheVariants.{Act, Inject}
@@ -42,11 +41,6 @@ IsQuietStep (Act end (NoAnswer link)) = ⊥
 IsQuietStep (Act end (BackTimeout link)) = ⊥
 IsQuietStep (Inject end link unit) = ⊥
 IsQuietStep _ = Unit {0}
-
--- what can be asked: of an offered body, the octets of its label tell one of 16 streams
-abbrev pub IsAskedStep : Step → Type 0
-IsAskedStep (Act end event) = IsAsked event
-IsAskedStep _ = Unit {0}
 
 abbrev pub AreSteps : (Step → Type 0) → List Step → Type 0
 AreSteps P [] = Unit {0}
@@ -108,5 +102,5 @@ pub record KeepsLinks (g : Stage) (steps : List Step) : Type 0 where
 -- LAW
 abbrev pub EveryHonestRunKeepsLinks : Type 0
 EveryHonestRunKeepsLinks =
-    (a b : SetConfig) (steps : List Step) → AreSteps IsAskedStep steps → IsHonestRun a b steps
+    (a b : SetConfig) (steps : List Step) → IsHonestRun a b steps
     → KeepsLinks (begun a b) steps

@@ -1,4 +1,4 @@
--- EACH STREAM, WHEN AN END ACTS: it's asked, it sends, or a link comes up.
+-- EACH STREAM, WHEN AN END ACTS: it's, it sends, or a link comes up.
 use Rattle.std.proofs.Common.{refl, ◌≡◌, ◌∙◌, ap, sym, subst, ℕ, ◌<◌, ◌==◌, Bool, true, false, List, [], ◌∷◌, ◌++◌, length, slice_get, Option, Some, None, cond, inl, inr}
 use Rattle.std.proofs.lemmas.List.{append-nil}
 use Rattle.l2_units.specs.declared.unit.Unit.{Unit as SignalUnit}
@@ -16,11 +16,11 @@ use Rattle.set_model.specs.declared.phase.Phase.TheVariants.{Up, Down, Settled}
 use Rattle.set_model.specs.Changeover.{leaving_order, left_by, left_link}
 use Rattle.set_model.specs.Control.{Choice, again, first, fill, choice_of}
 use Rattle.set_model.specs.Rows.{unack, place, stream_of, standing, is_waiting, is_parked, is_back, octets_in, all_with}
-use Rattle.set_model.specs.Sound.{IsSound, IsAsked}
+use Rattle.set_model.specs.Sound.{IsSound}
 use Rattle.set_model.specs.State.{given, LinkState, State, is_up, is_settled, link_is_up, has_phase_up, window_of}
 use Rattle.set_model.specs.Step.{Outcome, refused, offer_refusal, offered, taken, found, falls, comes_back, with_known, in_service, next, rows_sent, step}
 use Rattle.set_model.proofs.Rows.{turned_same, moved_same}
-use Rattle.set_model.proofs.Places.{itself}
+use Rattle.set_model.proofs.Places.{itself, stream_below_16}
 use Rattle.set_model.proofs.SoundBack.{leaves}
 use Rattle.set_model.proofs.Walk.{IsAt}
 use Rattle.pair_steps.specs.declared.step.End.{End}
@@ -268,15 +268,15 @@ module _ {emergencies : Bool} (p : Two) (sound : IsSound p.near) (w : Streams em
         back_whole = w.back_whole;
       }
 
-  pub asked_streams : (end : End) (event : Event) → IsAsked event → has_own_step event ≡ false → IsSafe emergencies (Act end event) → Streams emergencies (asked_then event)
-  asked_streams end (Offer body) asked own safe =
+  pub asked_streams : (end : End) (event : Event) → has_own_step event ≡ false → IsSafe emergencies (Act end event) → Streams emergencies (asked_then event)
+  asked_streams end (Offer body) own safe =
       let keeps = offer_kept p.near p.far body sound in
       record {
         ordered = asked_ordered p (Offer body) _ w.ordered keeps refl refl;
         out_lost = w.out_lost;
         back_lost = w.back_lost;
-        out = offers_out p.near p.far sound p.near_past.offered p.far_past.got w.out_lost w.out body asked;
-        back = far_carried p.near (step p.near (Offer body)).state p.far keeps.accepted p.far_past.offered p.near_past.got w.back_lost (offers_back p.near p.far sound p.near_past.offered p.far_past.got w.out_lost w.out body asked) w.back;
+        out = offers_out p.near p.far sound p.near_past.offered p.far_past.got w.out_lost w.out body (stream_below_16 body);
+        back = far_carried p.near (step p.near (Offer body)).state p.far keeps.accepted p.far_past.offered p.near_past.got w.back_lost (offers_back p.near p.far sound p.near_past.offered p.far_past.got w.out_lost w.out body (stream_below_16 body)) w.back;
         near_covers = offers_cover p.near p.near_past w.out_lost body w.near_covers;
         far_covers = w.far_covers;
         near_rises = offers_rise p.near_past p.near body w.near_rises;
@@ -284,16 +284,16 @@ module _ {emergencies : Bool} (p : Two) (sound : IsSound p.near) (w : Streams em
         out_whole = w.out_whole;
         back_whole = w.back_whole;
       }
-  asked_streams end Take asked own safe = event_streams end Take refl safe (λ body e. absurd cc) (take_kept p.near p.far)
-  asked_streams end (Find number) asked own safe = event_streams end (Find number) refl safe (λ body e. absurd cc) (find_kept p.near p.far number)
-  asked_streams end (Next k) asked own safe = absurd cc
-  asked_streams end (HeardEvent k unit) asked own safe = absurd cc
-  asked_streams end (UpEvent k) asked own safe = absurd cc
-  asked_streams end (DownEvent k) asked own safe = event_streams end (DownEvent k) refl safe (λ body e. absurd cc) (down_kept k p.near p.far sound w.ordered.near_codes)
-  asked_streams end (DownBlind k) asked own safe = event_streams end (DownBlind k) refl safe (λ body e. absurd cc) (blind_kept k p.near p.far (may_be_blind emergencies end k safe) sound w.ordered.near_codes)
-  asked_streams end (NoAnswer k) asked own safe = absurd (never_unanswered emergencies end k safe)
-  asked_streams end (Restore k) asked own safe = event_streams end (Restore k) refl safe (λ body e. absurd cc) (restore_kept k p.near p.far sound)
-  asked_streams end (BackTimeout k) asked own safe = absurd (never_timed_out emergencies end k safe)
+  asked_streams end Take own safe = event_streams end Take refl safe (λ body e. absurd cc) (take_kept p.near p.far)
+  asked_streams end (Find number) own safe = event_streams end (Find number) refl safe (λ body e. absurd cc) (find_kept p.near p.far number)
+  asked_streams end (Next k) own safe = absurd cc
+  asked_streams end (HeardEvent k unit) own safe = absurd cc
+  asked_streams end (UpEvent k) own safe = absurd cc
+  asked_streams end (DownEvent k) own safe = event_streams end (DownEvent k) refl safe (λ body e. absurd cc) (down_kept k p.near p.far sound w.ordered.near_codes)
+  asked_streams end (DownBlind k) own safe = event_streams end (DownBlind k) refl safe (λ body e. absurd cc) (blind_kept k p.near p.far (may_be_blind emergencies end k safe) sound w.ordered.near_codes)
+  asked_streams end (NoAnswer k) own safe = absurd (never_unanswered emergencies end k safe)
+  asked_streams end (Restore k) own safe = event_streams end (Restore k) refl safe (λ body e. absurd cc) (restore_kept k p.near p.far sound)
+  asked_streams end (BackTimeout k) own safe = absurd (never_timed_out emergencies end k safe)
 
 -- IT SENDS
 waiting_not_back : (k c : ℕ) (fate : Fate) → is_waiting k fate ≡ true → is_back c fate ≡ false

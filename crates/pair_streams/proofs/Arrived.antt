@@ -110,11 +110,11 @@ module _ (Arrive Say : Stage → Type 0) (says : (g : Stage) → IsIdle g.world 
 
 module _ (w : World) (idle : IsIdle w) where
   pub all_arrived : AllArrived w
-  all_arrived a b steps asked sound = at_end StreamsArrive AllGot all_got w idle (begun a b) steps (every_sound_run a b steps asked sound)
+  all_arrived a b steps sound = at_end StreamsArrive AllGot all_got w idle (begun a b) steps (every_sound_run a b steps sound)
 
   pub all_accounted : AllAccounted w
-  all_accounted a b steps asked quiet = at_end PartsArrive AllToldOf all_told_of w idle (begun a b) steps (every_quiet_run a b steps asked quiet)
+  all_accounted a b steps quiet = at_end PartsArrive AllToldOf all_told_of w idle (begun a b) steps (every_quiet_run a b steps quiet)
 
   pub all_taken : AllTaken w
   unfolding HasPassed
-  all_taken a b steps asked sound = at_end HasPassed AllHanded all_handed w idle (begun a b) steps (sound_says HasPassed (λ g all arrive. (all, arrive)) a b steps asked sound)
+  all_taken a b steps sound = at_end HasPassed AllHanded all_handed w idle (begun a b) steps (sound_says HasPassed (λ g all arrive. (all, arrive)) a b steps sound)

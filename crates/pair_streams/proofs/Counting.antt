@@ -20,7 +20,7 @@ use Rattle.pair_steps.specs.declared.step.Step.{Step}
 use Rattle.pair_steps.specs.declared.step.Step.TheVariants.{Act, Emit, Arrive, Lose, Together, Inject}
 use Rattle.pair_model.specs.World.{World, Outcome, shows, impossible, exhausted, at_end, with_end, line_to, with_line, actor_of, answer_to, after, is_full, has_link, has_actor, acts, with_sent, sends_on, emits, front_arrives, arrives, loses, risen, is_settled_at_both, rises, has_own_step, done_by, carried_out}
 use Rattle.pair_model.specs.Run.{Stage, begun, passed, OnShows, HoldsAlong}
-use Rattle.pair_model.specs.Promises.{IsOneMethod, IsAskedStep, AreSteps, IsQuietRun}
+use Rattle.pair_model.specs.Promises.{IsOneMethod, AreSteps, IsQuietRun}
 use Rattle.pair_model.proofs.Controls.{one_back}
 use Rattle.pair_model.proofs.Kept.{at_first, kept_on}
 use Rattle.pair_model.proofs.Moving as moving
@@ -243,11 +243,11 @@ module _ (ma mb : Method) (one : IsOneMethod ma mb) where
   onward g step steps next impossible goes keeps c = tt
   onward g step steps next exhausted goes keeps c = tt
 
-  along : (g : Stage) → Holds ma mb one g → Streams true (seen A g) → CountsIn g.world → (steps : List Step) → AreSteps (IsSafe true) steps → AreSteps IsAskedStep steps → HoldsAlong AckedAreTaken g steps
-  along g h v c [] safe asked = says g h c
-  along g h v c (step ∷ steps) safe asked = (
+  along : (g : Stage) → Holds ma mb one g → Streams true (seen A g) → CountsIn g.world → (steps : List Step) → AreSteps (IsSafe true) steps → HoldsAlong AckedAreTaken g steps
+  along g h v c [] safe = says g h c
+  along g h v c (step ∷ steps) safe = (
     says g h c,
-    onward g step steps (λ later holds streams counts. along later holds streams counts steps safe.1 asked.1) (carried_out g.world step) (step_goes ma mb one g h step (is_safe_honest true step safe.0) asked.0) (step_keeps true ma mb one g h v step safe.0 asked.0) (moved g step (carried_out g.world step) (step_counts g h v c step safe.0)),
+    onward g step steps (λ later holds streams counts. along later holds streams counts steps safe.1) (carried_out g.world step) (step_goes ma mb one g h step (is_safe_honest true step safe.0)) (step_keeps true ma mb one g h v step safe.0) (moved g step (carried_out g.world step) (step_counts g h v c step safe.0)),
   )
 
 -- AT FIRST
@@ -257,5 +257,5 @@ first_counts a b = record { near = λ l e. none a l; far = λ l e. none b l }
     none : (s : Settings) (l : ℕ) {n : ℕ} → acked_on l (opened_with s) ≤ n
     none s l = let zero_is = none_counted s.links l s.profile s.method acked_of refl refl in omega (arith, zero_is)
 
-pub every_quiet_run_counts : (a b : SetConfig) (steps : List Step) → AreSteps IsAskedStep steps → IsQuietRun a b steps → HoldsAlong AckedAreTaken (begun a b) steps
-every_quiet_run_counts a b steps asked quiet = along a.method b.method quiet.one_method (begun a b) (at_first a b quiet.links quiet.profiles) (first_streams true a b) (first_counts (settings_of a) (settings_of b)) steps quiet.steps asked
+pub every_quiet_run_counts : (a b : SetConfig) (steps : List Step) → IsQuietRun a b steps → HoldsAlong AckedAreTaken (begun a b) steps
+every_quiet_run_counts a b steps quiet = along a.method b.method quiet.one_method (begun a b) (at_first a b quiet.links quiet.profiles) (first_streams true a b) (first_counts (settings_of a) (settings_of b)) steps quiet.steps

@@ -26,7 +26,7 @@ use Rattle.pair_steps.specs.declared.step.Step.{Step}
 use Rattle.pair_steps.specs.declared.step.Step.TheVariants.{Act, Emit, Arrive, Lose, Together, Inject}
 use Rattle.pair_model.specs.World.{Outcome, shows, impossible, exhausted, at_end, with_end, line_to, with_line, actor_of, answer_to, after, is_full, has_link, has_actor, acts, with_sent, sends_on, emits, reaches, front_arrives, arrives, loses, risen, is_settled_at_both, rises, has_own_step, done_by, carried_out}
 use Rattle.pair_model.specs.Run.{Message, Past, Stage, bodies, begun, body_in, added_at, past_asked, past_sent, past_risen, past_heard, past_arrived, with_past, passed, OnShows, HoldsAlong}
-use Rattle.pair_model.specs.Promises.{IsAskedStep, IsHonestStep, IsSoundStep, IsQuietStep, IsSoundRun, AreSteps, LinksKeep}
+use Rattle.pair_model.specs.Promises.{IsHonestStep, IsSoundStep, IsQuietStep, IsSoundRun, AreSteps, LinksKeep}
 use Rattle.pair_model.proofs.Runs.{is_honest, every_honest_run}
 use Rattle.pair_streams.specs.Handed.{handed_by, delivered_by, handed_in, bodies_of, taken_of, UsersTakeAll, UsersTakeFirst, UsersTakePart, EveryHonestRunHandsOutAll, EverySoundRunHandsOutInOrder, EveryQuietRunHandsOutAPart}
 use Rattle.pair_streams.specs.Streams.{IsPart, StreamsArrive, PartsArrive}
@@ -285,7 +285,7 @@ unfolding passes
 first_take a b = (λ stream. refl, λ stream. refl)
 
 pub every_honest_run_hands_out : EveryHonestRunHandsOutAll
-every_honest_run_hands_out a b steps asked honest = along (begun a b) (first_take a b) steps honest.steps (every_honest_run a b steps asked honest).links
+every_honest_run_hands_out a b steps honest = along (begun a b) (first_take a b) steps honest.steps (every_honest_run a b steps honest).links
 
 -- IN EVERY SOUND RUN what is got is the first of what was offered, so what was taken of it is
 prefix_of : (some more all : List (List ℕ)) (n : ℕ) → some ++ more ≡ take n all → some ≡ take (length some) all
@@ -363,13 +363,13 @@ quiet_honest (Inject end k unit ∷ steps) quiet = absurd quiet.0
 
 -- what is said of a stage of a sound run
 module _ (Say : Stage → Type 0) (says : (g : Stage) → UsersTakeAll g → StreamsArrive g → Say g) where
-  pub sound_says : (a b : SetConfig) (steps : List Step) → AreSteps IsAskedStep steps → IsSoundRun a b steps → HoldsAlong Say (begun a b) steps
-  sound_says a b steps asked sound =
-      both_along StreamsArrive Say says (begun a b) steps (every_honest_run_hands_out a b steps asked (record { links = sound.links; profiles = sound.profiles; one_method = sound.one_method; steps = sound_honest steps sound.steps })) (every_sound_run a b steps asked sound)
+  pub sound_says : (a b : SetConfig) (steps : List Step) → IsSoundRun a b steps → HoldsAlong Say (begun a b) steps
+  sound_says a b steps sound =
+      both_along StreamsArrive Say says (begun a b) steps (every_honest_run_hands_out a b steps (record { links = sound.links; profiles = sound.profiles; one_method = sound.one_method; steps = sound_honest steps sound.steps })) (every_sound_run a b steps sound)
 
 pub every_sound_run_hands_out : EverySoundRunHandsOutInOrder
 every_sound_run_hands_out = sound_says UsersTakeFirst take_first
 
 pub every_quiet_run_hands_out : EveryQuietRunHandsOutAPart
-every_quiet_run_hands_out a b steps asked quiet =
-    both_along PartsArrive UsersTakePart take_part (begun a b) steps (every_honest_run_hands_out a b steps asked (record { links = quiet.links; profiles = quiet.profiles; one_method = quiet.one_method; steps = quiet_honest steps quiet.steps })) (every_quiet_run a b steps asked quiet)
+every_quiet_run_hands_out a b steps quiet =
+    both_along PartsArrive UsersTakePart take_part (begun a b) steps (every_honest_run_hands_out a b steps (record { links = quiet.links; profiles = quiet.profiles; one_method = quiet.one_method; steps = quiet_honest steps quiet.steps })) (every_quiet_run a b steps quiet)

@@ -21,7 +21,6 @@ use Rattle.set_route.specs.declared.place.Place.TheVariants.{On, Changing, Nowhe
 use Rattle.set_route.specs.Routing.{place_of}
 use Rattle.set_model.specs.declared.phase.Phase.TheVariants.{Up}
 use Rattle.set_model.specs.Rows.{Row, is_unacked, is_waiting, is_held, is_parked, standing, unack, wait, held, parked, place, body_at, row_of, service_indicator, stream_of, is_back, stands_back}
-use Rattle.set_model.specs.Sound.{IsAsked}
 use Rattle.set_model.specs.State.{given, LinkState, State, Settings, is_up, is_settled, link_count, opened_with, settings_of}
 use Rattle.set_model.specs.Step.{Outcome as SetOutcome, step}
 use Rattle.set_model.proofs.Rows.{row_in_filter}
@@ -34,7 +33,7 @@ use Rattle.pair_steps.specs.declared.step.Step.{Step}
 use Rattle.pair_steps.specs.declared.step.Step.TheVariants.{Act, Emit, Arrive, Lose, Together, Inject}
 use Rattle.pair_model.specs.World.{Outcome, shows, impossible, exhausted, at_end, with_end, line_to, with_line, actor_of, answer_to, after, is_full, has_link, has_actor, acts, with_sent, sends_on, emits, front_arrives, arrives, loses, risen, is_settled_at_both, rises, has_own_step, done_by, carried_out}
 use Rattle.pair_model.specs.Run.{Message, messages, Past, Stage, begun, no_past, with_past, past_arrived, passed, OnShows, HoldsAlong}
-use Rattle.pair_model.specs.Promises.{IsOneMethod, IsHonestStep, IsAskedStep, AreSteps, IsSoundRun, IsQuietRun}
+use Rattle.pair_model.specs.Promises.{IsOneMethod, IsHonestStep, AreSteps, IsSoundRun, IsQuietRun}
 use Rattle.pair_model.proofs.Controls.{one_back}
 use Rattle.pair_model.proofs.Kept.{at_first, settings_sound}
 use Rattle.pair_model.proofs.Moving as moving
@@ -217,21 +216,21 @@ module _ (emergencies : Bool) (ma mb : Method) (one : IsOneMethod ma mb) where
     v_b = streams_back (seen A g) v
 
     -- ACT
-    act_keeps : (end : End) (event : Event) → IsSafe emergencies (Act end event) → IsAsked event → has_own_step event ≡ false → Keeps g (Act end event) (acts g.world end event)
-    act_keeps end event sound asked own = go (has_actor g.world (actor_of event)) (is_full (at_end g.world end))
+    act_keeps : (end : End) (event : Event) → IsSafe emergencies (Act end event) → has_own_step event ≡ false → Keeps g (Act end event) (acts g.world end event)
+    act_keeps end event sound own = go (has_actor g.world (actor_of event)) (is_full (at_end g.world end))
       where
         shown : (end : End) → IsSafe emergencies (Act end event) → Keeps g (Act end event) (shows (Answered (answer_to (at_end g.world end) event)) (with_end g.world end (after (at_end g.world end) event)))
-        shown A sound = asked_streams (seen A g) h.near_sound v A event asked own sound
-        shown B sound = streams_back _ (asked_streams (seen B g) h_b.near_sound v_b B event asked own sound)
+        shown A sound = asked_streams (seen A g) h.near_sound v A event own sound
+        shown B sound = streams_back _ (asked_streams (seen B g) h_b.near_sound v_b B event own sound)
 
         go : (known full : Bool) → Keeps g (Act end event) (cond known (cond full exhausted (shows (Answered (answer_to (at_end g.world end) event)) (with_end g.world end (after (at_end g.world end) event)))) impossible)
         go true true = tt
         go true false = shown end sound
         go false full = tt
 
-    own_keeps : (end : End) (event : Event) → IsSafe emergencies (Act end event) → IsAsked event → (own : Bool) → has_own_step event ≡ own → Keeps g (Act end event) (cond own impossible (acts g.world end event))
-    own_keeps end event sound asked true e = tt
-    own_keeps end event sound asked false e = act_keeps end event sound asked e
+    own_keeps : (end : End) (event : Event) → IsSafe emergencies (Act end event) → (own : Bool) → has_own_step event ≡ own → Keeps g (Act end event) (cond own impossible (acts g.world end event))
+    own_keeps end event sound true e = tt
+    own_keeps end event sound false e = act_keeps end event sound e
 
     -- EMIT
     abbrev EmitKeeps : (end : End) (k : ℕ) → Answer → Type 0
@@ -343,17 +342,17 @@ module _ (emergencies : Bool) (ma mb : Method) (one : IsOneMethod ma mb) where
         go false e settled f full = tt
 
     -- EACH STEP
-    done_keeps : (step : Step) → IsSafe emergencies step → IsAskedStep step → Keeps g step (done_by g.world step)
-    done_keeps (Act end event) safe asked = own_keeps end event safe asked (has_own_step event) refl
-    done_keeps (Emit end k) safe asked = emit_keeps end k
-    done_keeps (Arrive end k) safe asked = arrive_keeps end k
-    done_keeps (Lose end k place) safe asked = lose_keeps end k place
-    done_keeps (Together k) safe asked = together_keeps k
-    done_keeps (Inject end k unit) safe asked = absurd (no_injection emergencies end k unit safe)
+    done_keeps : (step : Step) → IsSafe emergencies step → Keeps g step (done_by g.world step)
+    done_keeps (Act end event) safe = own_keeps end event safe (has_own_step event) refl
+    done_keeps (Emit end k) safe = emit_keeps end k
+    done_keeps (Arrive end k) safe = arrive_keeps end k
+    done_keeps (Lose end k place) safe = lose_keeps end k place
+    done_keeps (Together k) safe = together_keeps k
+    done_keeps (Inject end k unit) safe = absurd (no_injection emergencies end k unit safe)
 
-  pub step_keeps : (g : Stage) → Holds ma mb one g → Streams emergencies (seen A g) → (step : Step) → IsSafe emergencies step → IsAskedStep step → Keeps g step (carried_out g.world step)
+  pub step_keeps : (g : Stage) → Holds ma mb one g → Streams emergencies (seen A g) → (step : Step) → IsSafe emergencies step → Keeps g step (carried_out g.world step)
   unfolding carried_out
-  step_keeps g h v step safe asked = done_keeps g h v step safe asked
+  step_keeps g h v step safe = done_keeps g h v step safe
 
   -- ALL ALONG, of what it says at each stage
   module _ (Says : Stage → Type 0) (says : (g : Stage) → Streams emergencies (seen A g) → Says g) where
@@ -363,11 +362,11 @@ module _ (emergencies : Bool) (ma mb : Method) (one : IsOneMethod ma mb) where
     onward g step steps next impossible goes keeps = tt
     onward g step steps next exhausted goes keeps = tt
 
-    along : (g : Stage) → Holds ma mb one g → Streams emergencies (seen A g) → (steps : List Step) → AreSteps (IsSafe emergencies) steps → AreSteps IsAskedStep steps → HoldsAlong Says g steps
-    along g h v [] safe asked = says g v
-    along g h v (step ∷ steps) safe asked = (
+    along : (g : Stage) → Holds ma mb one g → Streams emergencies (seen A g) → (steps : List Step) → AreSteps (IsSafe emergencies) steps → HoldsAlong Says g steps
+    along g h v [] safe = says g v
+    along g h v (step ∷ steps) safe = (
       says g v,
-      onward g step steps (λ later holds streams. along later holds streams steps safe.1 asked.1) (carried_out g.world step) (step_goes ma mb one g h step (is_safe_honest emergencies step safe.0) asked.0) (step_keeps g h v step safe.0 asked.0),
+      onward g step steps (λ later holds streams. along later holds streams steps safe.1) (carried_out g.world step) (step_goes ma mb one g h step (is_safe_honest emergencies step safe.0)) (step_keeps g h v step safe.0),
     )
 
 streams_arrive : (g : Stage) → Streams false (seen A g) → StreamsArrive g
@@ -445,8 +444,8 @@ first_streams emergencies a b = record {
   back_whole = λ e stream. refl;
 }
 
-pub every_sound_run : (a b : SetConfig) (steps : List Step) → AreSteps IsAskedStep steps → IsSoundRun a b steps → HoldsAlong StreamsArrive (begun a b) steps
-every_sound_run a b steps asked sound = along false a.method b.method sound.one_method StreamsArrive streams_arrive (begun a b) (at_first a b sound.links sound.profiles) (first_streams false a b) steps sound.steps asked
+pub every_sound_run : (a b : SetConfig) (steps : List Step) → IsSoundRun a b steps → HoldsAlong StreamsArrive (begun a b) steps
+every_sound_run a b steps sound = along false a.method b.method sound.one_method StreamsArrive streams_arrive (begun a b) (at_first a b sound.links sound.profiles) (first_streams false a b) steps sound.steps
 
-pub every_quiet_run : (a b : SetConfig) (steps : List Step) → AreSteps IsAskedStep steps → IsQuietRun a b steps → HoldsAlong PartsArrive (begun a b) steps
-every_quiet_run a b steps asked quiet = along true a.method b.method quiet.one_method PartsArrive parts_arrive (begun a b) (at_first a b quiet.links quiet.profiles) (first_streams true a b) steps quiet.steps asked
+pub every_quiet_run : (a b : SetConfig) (steps : List Step) → IsQuietRun a b steps → HoldsAlong PartsArrive (begun a b) steps
+every_quiet_run a b steps quiet = along true a.method b.method quiet.one_method PartsArrive parts_arrive (begun a b) (at_first a b quiet.links quiet.profiles) (first_streams true a b) steps quiet.steps

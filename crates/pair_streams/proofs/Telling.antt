@@ -18,7 +18,7 @@ use Rattle.pair_steps.specs.declared.step.Step.{Step}
 use Rattle.pair_steps.specs.declared.step.Step.TheVariants.{Act, Emit, Arrive, Lose, Together, Inject}
 use Rattle.pair_model.specs.World.{World, Outcome, shows, impossible, exhausted, with_end, line_to, with_line, answer_to, after, is_full, has_link, front_arrives, arrives, carried_out}
 use Rattle.pair_model.specs.Run.{Stage, begun, passed, OnShows, HoldsAtEach}
-use Rattle.pair_model.specs.Promises.{IsOneMethod, IsAskedStep, AreSteps, IsQuietRun}
+use Rattle.pair_model.specs.Promises.{IsOneMethod, AreSteps, IsQuietRun}
 use Rattle.pair_model.proofs.Controls.{one_back}
 use Rattle.pair_model.proofs.Kept.{at_first}
 use Rattle.pair_model.proofs.Moving as moving
@@ -114,9 +114,9 @@ module _ (emergencies : Bool) (ma mb : Method) (one : IsOneMethod ma mb) where
   onward g step steps next impossible goes keeps tells = tt
   onward g step steps next exhausted goes keeps tells = tt
 
-  along : (g : Stage) → Holds ma mb one g → Streams emergencies (seen A g) → (steps : List Step) → AreSteps (IsSafe emergencies) steps → AreSteps IsAskedStep steps → AllTell g steps
-  along g h v [] safe asked = tt
-  along g h v (step ∷ steps) safe asked = onward g step steps (λ later holds streams. along later holds streams steps safe.1 asked.1) (carried_out g.world step) (step_goes ma mb one g h step (is_safe_honest emergencies step safe.0) asked.0) (step_keeps emergencies ma mb one g h v step safe.0 asked.0) (step_tells g h v step)
+  along : (g : Stage) → Holds ma mb one g → Streams emergencies (seen A g) → (steps : List Step) → AreSteps (IsSafe emergencies) steps → AllTell g steps
+  along g h v [] safe = tt
+  along g h v (step ∷ steps) safe = onward g step steps (λ later holds streams. along later holds streams steps safe.1) (carried_out g.world step) (step_goes ma mb one g h step (is_safe_honest emergencies step safe.0)) (step_keeps emergencies ma mb one g h v step safe.0) (step_tells g h v step)
 
-pub every_quiet_run_tells : (a b : SetConfig) (steps : List Step) → AreSteps IsAskedStep steps → IsQuietRun a b steps → HoldsAtEach (λ before step shown later. OrdersTell before step shown) (begun a b) steps
-every_quiet_run_tells a b steps asked quiet = along true a.method b.method quiet.one_method (begun a b) (at_first a b quiet.links quiet.profiles) (first_streams true a b) steps quiet.steps asked
+pub every_quiet_run_tells : (a b : SetConfig) (steps : List Step) → IsQuietRun a b steps → HoldsAtEach (λ before step shown later. OrdersTell before step shown) (begun a b) steps
+every_quiet_run_tells a b steps quiet = along true a.method b.method quiet.one_method (begun a b) (at_first a b quiet.links quiet.profiles) (first_streams true a b) steps quiet.steps

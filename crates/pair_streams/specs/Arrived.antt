@@ -9,7 +9,7 @@ use Rattle.set_model.specs.Rows.{place}
 use Rattle.set_model.specs.State.{State}
 use Rattle.pair_steps.specs.declared.step.End.TheVariants.{A, B}
 use Rattle.pair_steps.specs.declared.step.Step.{Step}
-use Rattle.pair_model.specs.Promises.{IsAskedStep, AreSteps, IsSoundRun, IsQuietRun}
+use Rattle.pair_model.specs.Promises.{AreSteps, IsSoundRun, IsQuietRun}
 use Rattle.pair_model.specs.Run.{Message, Past, Stage, begun, bodies, passed, OnShows}
 use Rattle.pair_model.specs.World.{World, counts_at, carried_out}
 use Rattle.pair_streams.specs.Handed.{bodies_of, taken_of}
@@ -40,7 +40,7 @@ AllGot g = (stream : ℕ) → stream < 16 → (g.b.got stream ≡ g.a.offered st
 -- whichever sound run led to this world
 abbrev pub AllArrived : World → Type 0
 AllArrived w =
-    (a b : SetConfig) (steps : List Step) → AreSteps IsAskedStep steps → IsSoundRun a b steps
+    (a b : SetConfig) (steps : List Step) → IsSoundRun a b steps
     → HoldsAtEnd (λ g. g.world ≡ w → AllGot g) (begun a b) steps
 
 -- the bodies that the users of an end took of a stream, and then those that wait in its inbox for them, are all that the
@@ -54,7 +54,7 @@ AllHanded g = (stream : ℕ) → stream < 16 → HandsOutAll stream g.b g.world.
 -- whichever sound run led to this world
 abbrev pub AllTaken : World → Type 0
 AllTaken w =
-    (a b : SetConfig) (steps : List Step) → AreSteps IsAskedStep steps → IsSoundRun a b steps
+    (a b : SetConfig) (steps : List Step) → IsSoundRun a b steps
     → HoldsAtEnd (λ g. g.world ≡ w → AllHanded g) (begun a b) steps
 
 -- each message that was offered at an end was got at the other, or discarded in an emergency
@@ -69,5 +69,5 @@ AllToldOf g = IsToldOf g.a g.b g.world.a.state × IsToldOf g.b g.a g.world.b.sta
 -- whichever quiet run led to this world
 abbrev pub AllAccounted : World → Type 0
 AllAccounted w =
-    (a b : SetConfig) (steps : List Step) → AreSteps IsAskedStep steps → IsQuietRun a b steps
+    (a b : SetConfig) (steps : List Step) → IsQuietRun a b steps
     → HoldsAtEnd (λ g. g.world ≡ w → AllToldOf g) (begun a b) steps

@@ -12,7 +12,7 @@ use Rattle.set_model.specs.History.{LinkSet, IsLegal, after}
 use Rattle.set_model.specs.Rows.{stream_of}
 use Rattle.set_model.specs.State.{State}
 use Rattle.pair_steps.specs.declared.step.Step.{Step}
-use Rattle.pair_model.specs.Promises.{IsAskedStep, AreSteps, IsHonestRun, IsSoundRun, IsQuietRun}
+use Rattle.pair_model.specs.Promises.{AreSteps, IsHonestRun, IsSoundRun, IsQuietRun}
 use Rattle.pair_model.specs.Run.{Message, Past, Stage, begun, bodies, body_in, HoldsAlong}
 use Rattle.pair_streams.specs.Streams.{IsPart}
 
@@ -80,15 +80,15 @@ UsersTakePart g = (stream : ℕ) → stream < 16 → TakesPart stream g.b g.worl
 -- LAWS
 abbrev pub EveryHonestRunHandsOutAll : Type 0
 EveryHonestRunHandsOutAll =
-    (a b : SetConfig) (steps : List Step) → AreSteps IsAskedStep steps → IsHonestRun a b steps
+    (a b : SetConfig) (steps : List Step) → IsHonestRun a b steps
     → HoldsAlong UsersTakeAll (begun a b) steps
 
 abbrev pub EverySoundRunHandsOutInOrder : Type 0
 EverySoundRunHandsOutInOrder =
-    (a b : SetConfig) (steps : List Step) → AreSteps IsAskedStep steps → IsSoundRun a b steps
+    (a b : SetConfig) (steps : List Step) → IsSoundRun a b steps
     → HoldsAlong UsersTakeFirst (begun a b) steps
 
 abbrev pub EveryQuietRunHandsOutAPart : Type 0
 EveryQuietRunHandsOutAPart =
-    (a b : SetConfig) (steps : List Step) → AreSteps IsAskedStep steps → IsQuietRun a b steps
+    (a b : SetConfig) (steps : List Step) → IsQuietRun a b steps
     → HoldsAlong UsersTakePart (begun a b) steps

@@ -6,7 +6,7 @@ use Rattle.set_events.specs.declared.config.SetConfig.{SetConfig}
 use Rattle.set_model.specs.Rows.{stream_of, service_indicator, place, body_at}
 use Rattle.set_model.specs.State.{LinkState, State}
 use Rattle.pair_steps.specs.declared.step.Step.{Step}
-use Rattle.pair_model.specs.Promises.{IsAskedStep, AreSteps, IsSoundRun, IsQuietRun}
+use Rattle.pair_model.specs.Promises.{AreSteps, IsSoundRun, IsQuietRun}
 use Rattle.pair_model.specs.Run.{Message, Past, Stage, begun, HoldsAlong, HoldsAtEach}
 use Rattle.pair_changeover.specs.Diverted.{OrdersTell}
 use Rattle.pair_changeover.specs.Pending.{pending, aside, kept_back}
@@ -77,12 +77,12 @@ PartsArrive g =
 -- LAW
 abbrev pub EverySoundRunKeepsStreams : Type 0
 EverySoundRunKeepsStreams =
-    (a b : SetConfig) (steps : List Step) → AreSteps IsAskedStep steps → IsSoundRun a b steps
+    (a b : SetConfig) (steps : List Step) → IsSoundRun a b steps
     → HoldsAlong StreamsArrive (begun a b) steps
 
 abbrev pub EveryQuietRunKeepsOrder : Type 0
 EveryQuietRunKeepsOrder =
-    (a b : SetConfig) (steps : List Step) → AreSteps IsAskedStep steps → IsQuietRun a b steps
+    (a b : SetConfig) (steps : List Step) → IsQuietRun a b steps
     → HoldsAlong PartsArrive (begun a b) steps
 
 -- in emergencies too the number of an order that is heard about a link that hasn't settled isn't unreasonable: it's that
@@ -92,7 +92,7 @@ NumbersTell g steps = HoldsAtEach (λ before step shown after. OrdersTell before
 
 abbrev pub EveryQuietRunTellsNumbers : Type 0
 EveryQuietRunTellsNumbers =
-    (a b : SetConfig) (steps : List Step) → AreSteps IsAskedStep steps → IsQuietRun a b steps
+    (a b : SetConfig) (steps : List Step) → IsQuietRun a b steps
     → NumbersTell (begun a b) steps
 
 -- and of each link, settled or not, what counts as acknowledged was accepted
@@ -105,5 +105,5 @@ AckedAreTaken g = AreTaken g.world.a.state g.b × AreTaken g.world.b.state g.a
 
 abbrev pub EveryQuietRunAcksTheTaken : Type 0
 EveryQuietRunAcksTheTaken =
-    (a b : SetConfig) (steps : List Step) → AreSteps IsAskedStep steps → IsQuietRun a b steps
+    (a b : SetConfig) (steps : List Step) → IsQuietRun a b steps
     → HoldsAlong AckedAreTaken (begun a b) steps

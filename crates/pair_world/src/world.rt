@@ -4,7 +4,6 @@ ghost use Rattle.set_model.specs.History.{IsActor, new_set};
 ghost use Rattle.set_model.specs.State.{link_count};
 ghost use Rattle.set_events.specs.declared.fault.SetFault.TheVariants.{NoMemory};
 ghost use Rattle.pair_model.specs.World.{actor_of, has_own_step};
-ghost use Rattle.pair_model.specs.Promises.{AreSteps, IsAskedStep};
 ghost use Rattle.set_events.specs.Lent.{HasFitUnit, event_in};
 ghost use Rattle.pair_world.specs.Carried.{Applies};
 ghost use Rattle.pair_streams.specs.Arrived.{AreDone};
@@ -14,7 +13,6 @@ use l2_units::{Unit, UnitRef};
 use pair_steps::{End, Line, Lines, Showing, Shown, ShownRef, Step, UnderWay};
 use set_core::{SetCore, SetFault};
 use set_events::{Actor, AnswerRef, Counts, EventRef, SetConfig};
-use set_step::is_asked;
 use std::alloc::{Allocator, Global};
 use std::marker::Model;
 
@@ -155,7 +153,6 @@ impl<G: Allocator + Copy> World<G> {
         ensures acks { IsQuietRun a.now b.now steps.now
             → HoldsAlong AckedAreTaken (begun a.now b.now) steps.now }
     {
-        are_asked(steps);
         let mut world = World::new(alloc, a, b)?;
         match world.carry_out_all(steps) {
             Ok(()) => Ok(world),
@@ -450,24 +447,6 @@ fn takes_own_step(event: &EventRef<'_>) -> bool
         event,
         EventRef::Next { .. } | EventRef::Heard { .. } | EventRef::Up { .. }
     )
-}
-
-/// A law: the octets of a label tell one of 16 streams.
-fn is_asked_step(step: &Step)
-    ensures { IsAskedStep step.now }
-{
-    if let Step::Act { event, .. } = step {
-        is_asked(&EventRef::of(event));
-    }
-}
-
-/// A law of all these steps: whatever octets are offered.
-fn are_asked(steps: &[Step])
-    ensures { AreSteps IsAskedStep steps.now }
-{
-    for step in steps {
-        is_asked_step(step);
-    }
 }
 
 /// A set of this configuration. It has no history that could be full.

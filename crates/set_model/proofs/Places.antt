@@ -1,8 +1,12 @@
--- Fates and links: what stands in one place stands in no other.
-use Rattle.std.proofs.Common.{arith, refl, ◌≡◌, ◌∙◌, sym, ℕ, Bool, true, false, ◌==◌}
+-- Fates and links: what stands in one place stands in no other; and streams, of which there are 16.
+use Rattle.std.proofs.Common.{arith, refl, ◌≡◌, ◌<◌, ◌∙◌, sym, ℕ, Bool, true, false, ◌==◌, List}
 pub use Rattle.std.proofs.lemmas.Bool.{ne_eqb as apart}
 use Rattle.std.proofs.lemmas.Bool.{eq-eqb, eqb-false}
-use Rattle.set_model.specs.Rows.{Fate, is_back, is_back_to, is_held, is_on, is_parked, is_unacked, is_waiting, stands_back}
+use Rattle.set_model.specs.Rows.{Fate, is_back, is_back_to, is_held, is_on, is_parked, is_unacked, is_waiting, stands_back, stream_of}
+
+-- the octets of a label tell one of 16 streams
+pub stream_below_16 : (body : List ℕ) → stream_of body < 16
+stream_below_16 body = omega arith
 
 pub false_true : {P : Type 0} (b : Bool) → b ≡ false → b ≡ true → P
 false_true b f t = let no : true ≡ false = sym t ∙ f in absurd cc

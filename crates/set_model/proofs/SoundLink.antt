@@ -5,7 +5,7 @@ use Rattle.std.proofs.lemmas.Bool.Decides.{nat_tests}
 use Rattle.l2_window.specs.Window.{WindowState, fsn_count, most_unacked}
 use Rattle.l2_units.specs.Profile.{longest_body}
 use Rattle.set_model.specs.Control.{Header, Choice, Control, acked_by, choice_of, control_heard, first, expected_of, part_of, Basic, Cyclic}
-use Rattle.set_model.specs.Sound.{IsAsked, IsInRange, IsOf, IsPlaced, IsSound, IsSoundLink, AreBack, IsBackOf}
+use Rattle.set_model.specs.Sound.{IsInRange, IsOf, IsPlaced, IsSound, IsSoundLink, AreBack, IsBackOf}
 use Rattle.std.proofs.lemmas.List.Elements.{filter-append}
 use Rattle.l2_units.specs.Grammar.{head_of as header_in}
 use Rattle.set_route.specs.Routing.{IsRouting, Routing, accepted, code_of, home_of, place_of}
@@ -17,7 +17,7 @@ use Rattle.set_model.proofs.Order.{backs_of, stood, before_append, before_none, 
 use Rattle.set_model.proofs.Events.{Untouched, sent, acknowledged, ChangesOn, sent_by, untouched, appended_out, withdrawn_unack}
 use Rattle.set_model.proofs.Rows.{each_append, each_filter, each_so, turned_there, others_stay, new_row, numbered_appended, numbered_on}
 use Rattle.set_model.proofs.Lists.{at_set, each_set, get_set_same, get_set_other, set_same, within, target_up, none_up}
-use Rattle.set_model.proofs.Places.{false_true}
+use Rattle.set_model.proofs.Places.{false_true, stream_below_16}
 use Rattle.set_model.proofs.Walk.{IsAt}
 use Rattle.l2_window.proofs.Numbers.{after_next}
 use Rattle.l2_units.specs.declared.profile.Profile.{Profile}
@@ -196,10 +196,10 @@ queues order s t =
     (λ k few. record { placed = t.placed k few; runs = λ n link there up. t.all_run n link there up k few; stays = λ code via e is. (via, is) }) t.homes_up
 
 -- AN OFFER goes where its stream runs.
-pub offers : (s : State) (event : Event) (body : List ℕ) → IsAsked event → event ≡ Offer body → offer_refusal s.settings.profile s.rows body ≡ None → IsSound s → IsSound (offered None s body).state
-offers s event body asked e free t =
+pub offers : (s : State) (event : Event) (body : List ℕ) → event ≡ Offer body → offer_refusal s.settings.profile s.rows body ≡ None → IsSound s → IsSound (offered None s body).state
+offers s event body e free t =
     let stream = stream_of body in
-    let low : stream < 16 = subst IsAsked e asked in
+    let low = stream_below_16 body in
     let fits : (length body ≤ longest_body s.settings.profile) × ((service_indicator body == 0) ≡ false) = grind (arith, free) in
     let placed = t.placed stream low in
     let same = λ (k : ℕ) (few : k < 16). (alone s.routing k t.routing few).accepted_place stream in

@@ -8,7 +8,7 @@ use Rattle.set_route.specs.declared.stream.Stream.{Stream}
 use Rattle.set_model.specs.Step.{Event, Gains, choice_in, next, step, stepped, offered, rows_sent}
 use Rattle.set_model.specs.Laws.{IsNew, KeepsMessages, RunsStraight}
 use Rattle.set_model.specs.Rows.{numbers, stream_of, Fate, Unacked, Waiting, IsNumbered, Row, all_with, appended, fated, is_back, is_back_to, is_on, is_parked, is_waiting, moved, standing, stands_back, turned}
-use Rattle.set_model.specs.Sound.{IsAsked, IsManaged, IsPlaced, IsSettings, IsSound, AreAbove, AreTogether, BeginsNone, IsAscending, IsBackOf, IsSoundStream, astray, is_astray, is_live, is_unfinished, live, stands_at}
+use Rattle.set_model.specs.Sound.{IsManaged, IsPlaced, IsSettings, IsSound, AreAbove, AreTogether, BeginsNone, IsAscending, IsBackOf, IsSoundStream, astray, is_astray, is_live, is_unfinished, live, stands_at}
 use Rattle.set_model.specs.State.{Asked, Free, Nowhere, Up, LinkState, Settings, State, given, new_link, opened_with, Place, Changing, On, fate_at, target}
 use Rattle.set_route.proofs.Places.{new_sound}
 use Rattle.set_route.proofs.Codes.{all_free}
@@ -35,8 +35,8 @@ pub ruleset sounds = (with_inbox, queues, leaves, acknowledges, gives_up, moves_
 small : (Known : ℕ → Type 0) (May : Type 0) → KeptBy Known May (λ s u. IsSound s → IsSound u)
 small Known May = search sounds
 
-pub step_sound : (s : State) (event : Event) → IsAsked event → IsSound s → IsSound (step s event).state
-step_sound s event asked t =
+pub step_sound : (s : State) (event : Event) → IsSound s → IsSound (step s event).state
+step_sound s event t =
     let sends = λ (n : ℕ) (link : LinkState) (u : State) (keeps : IsSound s → IsSound u) (at : IsAt n link Up u). sends_sound n link u at (keeps t) in
     step_walks s (λ a b. IsSound a → IsSound b) IsSound event (search (small, sounds, sends, t))
 
@@ -160,8 +160,8 @@ rises_straight n s t none r k low =
 abbrev StaysStraight : State → State → Type 0
 StaysStraight s t = IsSound s → NoneOpen s.routing → AreTogether s → IsSound t × RunsStraight t
 
-pub step_straight : (s : State) (event : Event) → IsAsked event → BeginsNone event → IsSound s → RunsStraight s → RunsStraight (step s event).state
-step_straight s event asked begins t r =
+pub step_straight : (s : State) (event : Event) → BeginsNone event → IsSound s → RunsStraight s → RunsStraight (step s event).state
+step_straight s event begins t r =
     let stood = r.together in
     let leaves_straight = λ (blind : Bool) (n : ℕ) (link : LinkState) (s : State) (t : IsSound s) (r : RunsStraight s). none_turns (is_back_to n) _ s (left_by blind n link s) (home_back n) refl (left_quiet n s.routing t.routing r.none_open) t r in
     let releases_straight = λ (code : ℕ) (s : State) (t : IsSound s) (r : RunsStraight s). none_turns (is_back code) (all_with (Waiting (home_of code))) s (released code s) (code_back code) refl (back_quiet code s.routing t.routing r.none_open) t r in
@@ -178,7 +178,7 @@ step_straight s event asked begins t r =
     (step_walks s StaysStraight (λ u. IsSound u × RunsStraight u) event (search (sounds, leaves_straight, releases_straight, queues_straight, stream_finishes, moves_off_straight, offers_straight, sends_straight, rises_straight, then_straight, rests, sends, begins_none, stood))).1
 
 -- WHAT EVERY STEP DOES. The first of it tells where the rest holds: of each step that is named.
-pub step_laws : (s : State) (event : Event) → (step s event ≡ stepped s event) × (IsAsked event → IsSound s → IsSound (step s event).state) × (IsManaged s.settings → Gains s event (step s event).answer (step s event).state) × (IsNumbered (given s) s.rows → KeepsMessages s (step s event).state) × ((n : ℕ) → (Concerns event n s → ⊥) → LeavesAlone n s (step s event).state)
+pub step_laws : (s : State) (event : Event) → (step s event ≡ stepped s event) × (IsSound s → IsSound (step s event).state) × (IsManaged s.settings → Gains s event (step s event).answer (step s event).state) × (IsNumbered (given s) s.rows → KeepsMessages s (step s event).state) × ((n : ℕ) → (Concerns event n s → ⊥) → LeavesAlone n s (step s event).state)
 step_laws s event = (step_is s event, step_sound s event, step_gains s event, keeps_messages s event, λ n. leaves_alone n s event)
 
 pub ruleset laws = (step_laws, step_straight, settled_empty, diverts_the_rest, opened_new)

@@ -77,9 +77,9 @@ abbrev pub octets_in : List Row → ℕ
 octets_in [] = 0
 octets_in (row ∷ rows) = length row.body + octets_in rows
 
--- the SLS, which is the message's stream: the high four bits of the last octet of the label (Q.704 15.2)
+-- the SLS, which is the message's stream: the high four bits of the last octet of the label (Q.704 15.2), so one of 16
 abbrev pub stream_of : List ℕ → ℕ
-stream_of body = slice_index body 4 / 16
+stream_of body = slice_index body 4 / 16 % 16
 
 -- the service indicator: the low four bits of the SIO (Q.704 14.2.1)
 abbrev pub service_indicator : List ℕ → ℕ

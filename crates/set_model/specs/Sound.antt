@@ -140,11 +140,6 @@ abbrev pub BeginsNone : Event → Type 0
 BeginsNone (Restore link) = ⊥
 BeginsNone _ = Unit {0}
 
--- what can be asked: the octets of a label tell one of 16 streams
-abbrev pub IsAsked : Event → Type 0
-IsAsked (Offer body) = stream_of body < 16
-IsAsked _ = Unit {0}
-
 -- THE WHOLE NUMBERS of a link's life: the messages that were sent on it, and the bodies that it accepted
 pub record WholeNumbers : Type 0 where
   pub sent : ℕ

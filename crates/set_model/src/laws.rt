@@ -6,7 +6,7 @@ ghost use Rattle.set_model.specs.Rows.{Fate, Row, IsNumbered};
 ghost use Rattle.set_model.specs.State.{Up, Down, Settled, LinkState, State, Settings, given, opened_with, target};
 ghost use Rattle.set_model.specs.Changeover.{Upto, is_reasonable, reached_by, settled};
 ghost use Rattle.set_model.specs.Step.{Event, Gains, step};
-ghost use Rattle.set_model.specs.Sound.{AreAtMost, BeginsNone, IsAsked, IsManaged, IsSettings, IsSound, WholeNumbers, one_more};
+ghost use Rattle.set_model.specs.Sound.{AreAtMost, BeginsNone, IsManaged, IsSettings, IsSound, WholeNumbers, one_more};
 ghost use Rattle.set_model.specs.Frame.{Concerns, LeavesAlone, MovesAsItsControl};
 ghost use Rattle.set_model.specs.Checkpoint.{Checkpoints};
 ghost use Rattle.set_model.specs.Laws.{DivertsTo, IsEmptyLink, IsNew, KeepsMessages, MessagesStay, MovesTheLinksRows, MovesTheRest, RunsStraight, rest_of};
@@ -79,7 +79,7 @@ pub fn a_new_set_is_sound()
 /// Every event keeps what holds of every set's state: of its numbers, of each link's window and the order of its
 /// rows, of where streams run, of what is parked, and of what waits for a changeback.
 pub fn every_step_keeps_a_set_sound()
-    ensures { (s : State) (event : Event) → IsAsked event → IsSound s → IsSound (step s event).state }
+    ensures { (s : State) (event : Event) → IsSound s → IsSound (step s event).state }
 {}
 
 /// An event leaves all links alone that it doesn't concern: its own link, that of an order which its unit
@@ -101,7 +101,7 @@ pub fn a_window_moves_as_its_control()
 /// While no changeback is under way, and none begins, the messages of each stream that aren't finished
 /// stand together where the stream runs, in the order of their numbers.
 pub fn streams_stay_together()
-    ensures { (s : State) (event : Event) → IsAsked event → BeginsNone event → IsSound s → RunsStraight s
+    ensures { (s : State) (event : Event) → BeginsNone event → IsSound s → RunsStraight s
         → RunsStraight (step s event).state }
 {}
 

@@ -17,7 +17,6 @@ use Rattle.std.proofs.lemmas.List.{length-replicate}
 use Rattle.set_events.specs.declared.config.SetConfig.{SetConfig}
 use Rattle.set_queues.specs.Queues.{AreGiven, AreSound}
 use Rattle.set_route.specs.Routing.{new_routing}
-use Rattle.set_model.specs.Sound.{IsAsked}
 use Rattle.set_model.specs.Step.{Event, Answer, step, stepped}
 use Rattle.set_model.proofs.Soundness.{opened_sound, step_sound}
 use Rattle.set_model.proofs.Walk.{step_is}
@@ -99,11 +98,11 @@ is_empty old parts n holds h same =
 pub may_want : {E : Type 0} (result : Result (Unit {0}) E) (event known : Event) → event ≡ known → wants_none known ≡ false → wants_none event ≡ true → IsOk result
 may_want result event known is wants none = cc
 
-pub answers_for : {A : Type 0} (old new : Parts A) (event : Event) (answer : Answer) → IsAsked event → Answers old new answer (λ s. stepped s event) → (s : State) → Agrees (kept_of old) s → AnswersFor (step s event) answer (kept_of new)
-answers_for old new event answer asked ok s a = grind (arith, nat_tests, step_is, step_sound, a.sound)
+pub answers_for : {A : Type 0} (old new : Parts A) (event : Event) (answer : Answer) → Answers old new answer (λ s. stepped s event) → (s : State) → Agrees (kept_of old) s → AnswersFor (step s event) answer (kept_of new)
+answers_for old new event answer ok s a = grind (arith, nat_tests, step_is, step_sound, a.sound)
 
-pub holds_after : {A : Type 0} (old new : Parts A) (event : Event) (answer : Answer) → IsAsked event → Answers old new answer (λ s. stepped s event) → Holds (kept_of old) → Holds (kept_of new)
-holds_after old new event answer asked answers h = ((step h.0 event).state, (answers_for old new event answer asked answers h.0 h.1).agrees)
+pub holds_after : {A : Type 0} (old new : Parts A) (event : Event) (answer : Answer) → Answers old new answer (λ s. stepped s event) → Holds (kept_of old) → Holds (kept_of new)
+holds_after old new event answer answers h = ((step h.0 event).state, (answers_for old new event answer answers h.0 h.1).agrees)
 
 -- whole numbers of a set are far from the end of their range
 pub counted_of : {A : Type 0} (parts : Parts A) → HoldsFew (2 ^ 48) (kept_of parts) → AreCounted (2 ^ 60) parts.links.items

@@ -20,7 +20,6 @@ use set_events::{Counts, EventRef, Fate, Finished, Reply, SetConfig, SetFault};
 use set_model::{Numbered, Phase};
 use set_queues::{Bodies, Queues};
 use set_route::Routes;
-use set_traffic::is_asked;
 use std::alloc::{AllocError, Allocator, Global};
 use std::collections::VecDeque;
 use std::marker::Model;
@@ -95,7 +94,6 @@ impl<A: Allocator + Copy> Core<A> {
         ensures fault { IfErr result (λ fault. fault ≡ SetFault.NoMemory) }
         ensures none { wants_none (event_in event.now) ≡ true → IsOk result }
     {
-        is_asked(event);
         Ok(carry_out(&mut self.parts, event, reply)?)
     }
 

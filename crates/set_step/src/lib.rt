@@ -15,8 +15,7 @@
 //! An event costs what it moves, however many messages there ever were (`tools/set-bench`).
 //!
 //! What is kept, and the moves of changeover and changeback, stand in `set_changeover`; what is offered, sent and heard in
-//! `set_traffic`, whose law [`is_asked`] says that whatever is offered is of one of the 16 streams, as the model asks
-//! of an event.
+//! `set_traffic`.
 //!
 //! The files: `step` the case of each event; `forgetting` what a checkpoint keeps; `contents` the whole.
 //!
@@ -31,4 +30,3 @@ mod step;
 pub use contents::Core;
 pub use set_events::SetFault;
 pub use set_model::Numbered;
-pub use set_traffic::is_asked;

@@ -23,5 +23,5 @@ mod offering;
 mod sending;
 
 pub use hearing::hear;
-pub use offering::{is_asked, offer};
+pub use offering::offer;
 pub use sending::send_next;

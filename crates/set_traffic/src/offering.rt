@@ -1,17 +1,15 @@
 //! A message that a user offers.
 ghost use Rattle.std.specs.Prelude.{◌≡◌, OnOk, OnErr};
 ghost use Rattle.l2_units.specs.Profile.{longest_body};
-ghost use Rattle.set_events.specs.Lent.{event_in};
 ghost use Rattle.set_queues.specs.Messages.{unsent_of};
 ghost use Rattle.set_model.specs.Rows.{stream_of};
-ghost use Rattle.set_model.specs.Sound.{IsAsked};
 ghost use Rattle.set_model.specs.Step.{refusal_by, offer_refusal, offered};
 ghost use Rattle.set_changeover.specs.Agreement.{Holds};
 ghost use Rattle.set_changeover.specs.Parts.{Answers, kept_of};
 
 use l2_units::{LONGEST_BODY, Profile};
 use set_changeover::{Parts, fate_of_new, make_room, stand_last};
-use set_events::{EventRef, Refusal, Reply};
+use set_events::{Refusal, Reply};
 use set_model::{service_indicator, stream_of_body};
 use set_queues::Queues;
 use std::alloc::{AllocError, Allocator};
@@ -78,14 +76,4 @@ fn refusal_of<A: Allocator + Copy>(
         return Some(Refusal::StreamFull);
     }
     None
-}
-
-/// A law: the octets of a label tell one of 16 streams.
-pub fn is_asked(event: &EventRef<'_>)
-    ensures { IsAsked (event_in event.now) }
-{
-    if let EventRef::Offer { body } = event {
-        // a stream is below 16
-        stream_of_body(body);
-    }
 }
