@@ -61,7 +61,9 @@ all_then P Q f [] all = All-nil Q
 all_then P Q f (x ∷ xs) all = All-cons Q x xs (f x (All-head P x xs all)) (all_then P Q f xs (All-tail P x xs all))
 
 still : (l : ℕ) (rows new : List Row) → Stays (Acked l) rows new → (sent : List Message) → AreAcked l rows sent → AreAcked l new sent
-still l rows new stay sent are = all_then (λ m. place m.number rows ≡ Some (Acked l)) (λ m. place m.number new ≡ Some (Acked l)) (λ m e. stay m.number e) sent are
+still l rows new stay sent are =
+    all_then (λ m. place m.number rows ≡ Some (Acked l)) (λ m. place m.number new ≡ Some (Acked l))
+    (λ m e. stay m.number e) sent are
 
 -- THE FIRST OF THE UNACKNOWLEDGED stand acknowledged once they turned, since no other row has their numbers.
 AreApart : List Row → Type 0
@@ -79,11 +81,14 @@ has_row : (number : ℕ) (rows : List Row) (fate : Fate) → place number rows �
 has_row number [] fate e = absurd cc
 has_row number (x ∷ rows) fate e = go (x.number == number) refl (has_row number rows fate)
   where
-    go : (b : Bool) → (x.number == number) ≡ b → (place number rows ≡ Some fate → 1 ≤ length (with_number number rows)) → 1 ≤ length (with_number number (x ∷ rows))
+    go : (b : Bool) → (x.number == number) ≡ b → (place number rows ≡ Some fate → 1 ≤ length (with_number number rows))
+        → 1 ≤ length (with_number number (x ∷ rows))
     go true h later = rw h (omega arith)
     go false h later = rw h (later (rw h at e))
 
-found_behind : (x y : Row) (xs ys : List Row) → AreApart (x ∷ xs) → y.number ≡ x.number → ((number : ℕ) → length (with_number number ys) ≡ length (with_number number xs)) → (number : ℕ) (fate : Fate) → place number ys ≡ Some fate → place number (y ∷ ys) ≡ Some fate
+found_behind : (x y : Row) (xs ys : List Row) → AreApart (x ∷ xs) → y.number ≡ x.number
+    → ((number : ℕ) → length (with_number number ys) ≡ length (with_number number xs)) → (number : ℕ) (fate : Fate)
+    → place number ys ≡ Some fate → place number (y ∷ ys) ≡ Some fate
 unfolding AreApart
 found_behind x y xs ys apart same many number fate e = go (y.number == number) refl
   where
@@ -98,12 +103,18 @@ found_behind x y xs ys apart same many number fate e = go (y.number == number) r
 first_turned : (l count : ℕ) (rows : List Row) → AreApart rows → AreAcked l (turned (is_unacked l) (Acked l) count rows) (take count (messages (unack l rows)))
 first_turned l zero rows apart = All-nil _
 first_turned l (suc n) [] apart = All-nil _
-first_turned l (suc n) (x ∷ rows) apart = go (is_unacked l x.fate) refl (first_turned l n rows (apart_behind x rows apart)) (first_turned l (suc n) rows (apart_behind x rows apart))
+first_turned l (suc n) (x ∷ rows) apart =
+    go (is_unacked l x.fate) refl (first_turned l n rows (apart_behind x rows apart))
+    (first_turned l (suc n) rows (apart_behind x rows apart))
   where
-    behind : (y : Row) (count : ℕ) → y.number ≡ x.number → (sent : List Message) → AreAcked l (turned (is_unacked l) (Acked l) count rows) sent → AreAcked l (y ∷ turned (is_unacked l) (Acked l) count rows) sent
+    behind : (y : Row) (count : ℕ) → y.number ≡ x.number → (sent : List Message)
+        → AreAcked l (turned (is_unacked l) (Acked l) count rows) sent
+        → AreAcked l (y ∷ turned (is_unacked l) (Acked l) count rows) sent
     behind y count same sent are =
         let new = turned (is_unacked l) (Acked l) count rows in
-        let many : (number : ℕ) → length (with_number number new) ≡ length (with_number number rows) = λ number. (turned_there (is_unacked l) (Acked l) count rows).as_many (λ row. row.number == number) (λ f r. refl) in
+        let many : (number : ℕ) → length (with_number number new) ≡ length (with_number number rows) =
+            λ number. (turned_there (is_unacked l) (Acked l) count rows).as_many (λ row. row.number == number)
+            (λ f r. refl) in
         still l new (y ∷ new) (λ number e. found_behind x y rows new apart same many number (Acked l) e) sent are
 
     at_front : place x.number (with_fate (Acked l) x ∷ turned (is_unacked l) (Acked l) n rows) ≡ Some (Acked l)
@@ -113,7 +124,9 @@ first_turned l (suc n) (x ∷ rows) apart = go (is_unacked l x.fate) refl (first
         → AreAcked l (turned (is_unacked l) (Acked l) n rows) (take n (messages (unack l rows)))
         → AreAcked l (turned (is_unacked l) (Acked l) (suc n) rows) (take (suc n) (messages (unack l rows)))
         → AreAcked l (turned (is_unacked l) (Acked l) (suc n) (x ∷ rows)) (take (suc n) (messages (unack l (x ∷ rows))))
-    go true h p q = rw h (All-cons (λ m. place m.number (with_fate (Acked l) x ∷ turned (is_unacked l) (Acked l) n rows) ≡ Some (Acked l)) (message_of x) (take n (messages (unack l rows))) at_front
+    go true h p q = rw h (All-cons
+          (λ m. place m.number (with_fate (Acked l) x ∷ turned (is_unacked l) (Acked l) n rows) ≡ Some (Acked l))
+        (message_of x) (take n (messages (unack l rows))) at_front
         (behind (with_fate (Acked l) x) n refl (take n (messages (unack l rows))) p))
     go false h p q = rw h (behind x (suc n) refl (take (suc n) (messages (unack l rows))) q)
 
@@ -123,7 +136,9 @@ pub record Grown (l acked : ℕ) (sent : List Message) (rows : List Row) : Type 
   pub first : AreAcked l rows (take acked sent)
   pub rest : messages (unack l rows) ≡ drop acked sent
 
-grown : (given l acked count : ℕ) (sent : List Message) (rows : List Row) → IsNumbered given rows → acked ≤ length sent → AreAcked l rows (take acked sent) → messages (unack l rows) ≡ drop acked sent → count ≤ length (unack l rows) → Grown l (acked + count) sent (turned (is_unacked l) (Acked l) count rows)
+grown : (given l acked count : ℕ) (sent : List Message) (rows : List Row) → IsNumbered given rows → acked ≤ length sent
+    → AreAcked l rows (take acked sent) → messages (unack l rows) ≡ drop acked sent → count ≤ length (unack l rows)
+    → Grown l (acked + count) sent (turned (is_unacked l) (Acked l) count rows)
 unfolding AreApart
 grown given l acked count sent rows numbered few are rest enough =
     let new = turned (is_unacked l) (Acked l) count rows in
@@ -132,31 +147,46 @@ grown given l acked count sent rows numbered few are rest enough =
     let many : length (unack l rows) ≡ length sent - acked = sym (length-map (unack l rows) message_of) ∙ ap length rest ∙ length-drop acked sent in
     record {
       few = omega (arith, few, enough, many);
-      first = subst (AreAcked l new) (sym (take-add acked count sent ∙ ap (λ (ms : List Message). take acked sent ++ take count ms) (sym rest))) (All-append (λ m. place m.number new ≡ Some (Acked l)) (take acked sent) (take count (messages (unack l rows))) one_part other_part);
-      rest = ap messages (turned_left (is_unacked l) (Acked l) refl count rows) ∙ sym (drop-map message_of count (unack l rows)) ∙ ap (drop count) rest ∙ drop-drop count acked sent;
+      first = subst (AreAcked l new)
+          (sym (take-add acked count sent ∙ ap (λ (ms : List Message). take acked sent ++ take count ms) (sym rest)))
+          (All-append (λ m. place m.number new ≡ Some (Acked l)) (take acked sent)
+            (take count (messages (unack l rows))) one_part other_part);
+      rest = ap messages (turned_left (is_unacked l) (Acked l) refl count rows)
+          ∙ sym (drop-map message_of count (unack l rows)) ∙ ap (drop count) rest ∙ drop-drop count acked sent;
     }
 
 -- ONE END.
 -- numbers given out, where as many rows are there
 pub numbered_on : (s t : State) → t.finished ≡ s.finished → length t.rows ≡ length s.rows → IsNumbered (given s) t.rows → IsNumbered (given t) t.rows
-numbered_on s t gone long numbered = subst (λ (n : ℕ). IsNumbered n t.rows) (sym (ap (λ (f : FinishedCounts). all_finished f + length t.rows) gone ∙ ap (λ (n : ℕ). all_finished s.finished + n) long)) numbered
+numbered_on s t gone long numbered =
+    subst (λ (n : ℕ). IsNumbered n t.rows)
+    (sym (ap (λ (f : FinishedCounts). all_finished f + length t.rows) gone
+        ∙ ap (λ (n : ℕ). all_finished s.finished + n) long)) numbered
 
 module _ (l : ℕ) (sent : List Message) where
   -- nothing that is told of the link changed
-  goes_on : (s t : State) → IsNumbered (given t) t.rows → Stays (Acked l) s.rows t.rows → slice_get t.links l ≡ slice_get s.links l → unack l t.rows ≡ unack l s.rows → AckedFirst l sent s → AckedFirst l sent t
+  goes_on : (s t : State) → IsNumbered (given t) t.rows → Stays (Acked l) s.rows t.rows
+      → slice_get t.links l ≡ slice_get s.links l → unack l t.rows ≡ unack l s.rows → AckedFirst l sent s
+      → AckedFirst l sent t
   goes_on s t numbered stay same unacked a =
       let count : acked_on l t ≡ acked_on l s = ap acked_of same in
       record {
         numbered = numbered;
         few = omega (arith, count, a.few);
         first = subst (λ (n : ℕ). AreAcked l t.rows (take n sent)) (sym count) (still l s.rows t.rows stay (take (acked_on l s) sent) a.first);
-        going = λ link there unsettled. subst (λ (rows : List Row). (messages rows ≡ drop link.acked sent) ⊎ ((link.phase ≡ Down) × (rows ≡ []))) (sym unacked) (a.going link (sym same ∙ there) unsettled);
+        going = λ link there unsettled. subst
+            (λ (rows : List Row). (messages rows ≡ drop link.acked sent) ⊎ ((link.phase ≡ Down) × (rows ≡ [])))
+            (sym unacked) (a.going link (sym same ∙ there) unsettled);
       }
 
   -- the link itself is set
-  own_set : (s t : State) (link after : LinkState) → slice_get s.links l ≡ Some link → t.links ≡ slice_set s.links l after → IsNumbered (given t) t.rows → after.acked ≤ length sent → AreAcked l t.rows (take after.acked sent) → (has_phase_settled after.phase ≡ false → IsRest l after t.rows sent) → AckedFirst l sent t
+  own_set : (s t : State) (link after : LinkState) → slice_get s.links l ≡ Some link
+      → t.links ≡ slice_set s.links l after → IsNumbered (given t) t.rows → after.acked ≤ length sent
+      → AreAcked l t.rows (take after.acked sent) → (has_phase_settled after.phase ≡ false → IsRest l after t.rows sent)
+      → AckedFirst l sent t
   own_set s t link after there links numbered few are rest =
-      let found : slice_get t.links l ≡ Some after = ap (λ (ls : List LinkState). slice_get ls l) links ∙ get_set_same s.links l after (within s.links l link there) in
+      let found : slice_get t.links l ≡ Some after = ap (λ (ls : List LinkState). slice_get ls l) links
+          ∙ get_set_same s.links l after (within s.links l link there) in
       let count : acked_on l t ≡ after.acked = ap acked_of found in
       record {
         numbered = numbered;
@@ -167,21 +197,27 @@ module _ (l : ℕ) (sent : List Message) where
             subst (λ (k : LinkState). IsRest l k t.rows sent) same (rest (ap (λ (k : LinkState). has_phase_settled k.phase) same ∙ unsettled));
       }
 
-  at_link : (s : State) (link : LinkState) → slice_get s.links l ≡ Some link → AckedFirst l sent s → (link.acked ≤ length sent) × AreAcked l s.rows (take link.acked sent)
+  at_link : (s : State) (link : LinkState) → slice_get s.links l ≡ Some link → AckedFirst l sent s
+      → (link.acked ≤ length sent) × AreAcked l s.rows (take link.acked sent)
   at_link s link there a =
       let count : acked_on l s ≡ link.acked = ap acked_of there in
       let few = a.few in
       (omega (arith, count, few), subst (λ (n : ℕ). AreAcked l s.rows (take n sent)) count a.first)
 
   -- so many of its unacknowledged messages are acknowledged
-  own_acked : (count : ℕ) (link after : LinkState) (s t : State) → t.finished ≡ s.finished → slice_get s.links l ≡ Some link → t.links ≡ slice_set s.links l after → t.rows ≡ turned (is_unacked l) (Acked l) count s.rows → after.acked ≡ link.acked + count → after.phase ≡ link.phase → has_phase_settled link.phase ≡ false → count ≤ length (unack l s.rows) → AckedFirst l sent s → AckedFirst l sent t
+  own_acked : (count : ℕ) (link after : LinkState) (s t : State) → t.finished ≡ s.finished
+      → slice_get s.links l ≡ Some link → t.links ≡ slice_set s.links l after
+      → t.rows ≡ turned (is_unacked l) (Acked l) count s.rows → after.acked ≡ link.acked + count
+      → after.phase ≡ link.phase → has_phase_settled link.phase ≡ false → count ≤ length (unack l s.rows)
+      → AckedFirst l sent s → AckedFirst l sent t
   own_acked count link after s t gone there links rows acked phase unsettled enough a = go (a.going link there unsettled)
     where
       new : List Row
       new = turned (is_unacked l) (Acked l) count s.rows
 
       numbered : IsNumbered (given t) t.rows
-      numbered = numbered_on s t gone (rw rows (acknowledged l count s.rows).kept.count) (rw rows ((acknowledged l count s.rows).kept.numbered (given s) a.numbered))
+      numbered = numbered_on s t gone (rw rows (acknowledged l count s.rows).kept.count)
+          (rw rows ((acknowledged l count s.rows).kept.numbered (given s) a.numbered))
 
       go : IsRest l link s.rows sent → AckedFirst l sent t
       go (inl rest) =
@@ -192,8 +228,12 @@ module _ (l : ℕ) (sent : List Message) where
           let now = at_link s link there a in
           let few = ap length none.1 in
           let same : after.acked ≡ link.acked = omega (arith, acked, enough, few) in
-          let are : AreAcked l t.rows (take link.acked sent) = rw rows (still l s.rows new (turned_stay (Acked l) (is_unacked l) refl (Acked l) count s.rows) (take link.acked sent) now.1) in
-          own_set s t link after there links numbered (rw same now.0) (rw same are) (λ e. inr (phase ∙ none.0, ap (unack l) rows ∙ turned_left (is_unacked l) (Acked l) refl count s.rows ∙ ap (drop count) none.1 ∙ drop-nil count))
+          let are : AreAcked l t.rows (take link.acked sent) =
+              rw rows (still l s.rows new (turned_stay (Acked l) (is_unacked l) refl (Acked l) count s.rows)
+                (take link.acked sent) now.1) in
+          own_set s t link after there links numbered (rw same now.0) (rw same are)
+              (λ e. inr (phase ∙ none.0, ap (unack l) rows ∙ turned_left (is_unacked l) (Acked l) refl count s.rows
+                  ∙ ap (drop count) none.1 ∙ drop-nil count))
 
   -- another link is set
   other_set : (n : ℕ) (after : LinkState) (links : List LinkState) → (n == l) ≡ false → slice_get (slice_set links n after) l ≡ slice_get links l
@@ -208,21 +248,32 @@ module _ (l : ℕ) (sent : List Message) where
       go false e = others e
 
   -- THE SMALL CHANGES
-  appends : (s t : State) (body : List ℕ) (fate : Fate) → t.finished ≡ s.finished → is_unacked l fate ≡ false → t.rows ≡ appended (given s) s.rows body fate → slice_get t.links l ≡ slice_get s.links l → AckedFirst l sent s → AckedFirst l sent t
+  appends : (s t : State) (body : List ℕ) (fate : Fate) → t.finished ≡ s.finished → is_unacked l fate ≡ false
+      → t.rows ≡ appended (given s) s.rows body fate → slice_get t.links l ≡ slice_get s.links l → AckedFirst l sent s
+      → AckedFirst l sent t
   appends s t body fate gone unsent rows links a =
       let long : length t.rows ≡ length s.rows + 1 = ap length rows ∙ length-append s.rows (new_row (given s) body fate ∷ []) in
       let more : given t ≡ given s + 1 = omega (arith, long, ap all_finished gone) in
       let numbered : IsNumbered (given s + 1) t.rows = rw rows (numbered_appended (given s) s.rows body fate a.numbered) in
-      goes_on s t (subst (λ (n : ℕ). IsNumbered n t.rows) (sym more) numbered) (rw rows (joined_stay (Acked l) s.rows _)) links (ap (unack l) rows ∙ appended_out (given s) s.rows body fate (is_unacked l) unsent) a
+      goes_on s t (subst (λ (n : ℕ). IsNumbered n t.rows) (sym more) numbered)
+          (rw rows (joined_stay (Acked l) s.rows _)) links
+          (ap (unack l) rows ∙ appended_out (given s) s.rows body fate (is_unacked l) unsent) a
 
   -- what stood back goes elsewhere
-  turns : (test : Fate → Bool) (fate : Row → Fate) (s t : State) → t.finished ≡ s.finished → test (Acked l) ≡ false → ((f : Fate) → test f ≡ true → stands_back f ≡ true) → ((row : Row) → is_unacked l (fate row) ≡ false) → t.rows ≡ moved test fate s.rows → t.links ≡ s.links → AckedFirst l sent s → AckedFirst l sent t
+  turns : (test : Fate → Bool) (fate : Row → Fate) (s t : State) → t.finished ≡ s.finished → test (Acked l) ≡ false
+      → ((f : Fate) → test f ≡ true → stands_back f ≡ true) → ((row : Row) → is_unacked l (fate row) ≡ false)
+      → t.rows ≡ moved test fate s.rows → t.links ≡ s.links → AckedFirst l sent s → AckedFirst l sent t
   turns test fate s t gone w back unsent rows links a =
-      goes_on s t (numbered_on s t gone (rw rows (moved_length test fate s.rows)) (rw rows (moved_numbered test fate (given s) s.rows a.numbered))) (rw rows (moved_stay (Acked l) test w (given s) fate s.rows a.numbered)) (ap (λ (ks : List LinkState). slice_get ks l) links)
+      goes_on s t (numbered_on s t gone (rw rows (moved_length test fate s.rows))
+            (rw rows (moved_numbered test fate (given s) s.rows a.numbered)))
+          (rw rows (moved_stay (Acked l) test w (given s) fate s.rows a.numbered))
+          (ap (λ (ks : List LinkState). slice_get ks l) links)
       (ap (unack l) rows ∙ moved_same test (is_unacked l) fate s.rows unsent (λ f e. not_on_unacked l f (back_not_on l f (back f e)))) a
 
   leaves_own : (blind : Bool) (link : LinkState) (s : State) → IsAt l link Up s → AckedFirst l sent s → AckedFirst l sent (out_of_service blind l link s)
-  leaves_own blind link s at a = let now = at_link s link at.there a in own_set s (out_of_service blind l link s) link (left_link blind link) at.there refl a.numbered now.0 now.1 (λ e. go (a.going link at.there (ap has_phase_settled at.phase_is)))
+  leaves_own blind link s at a = let now =
+      at_link s link at.there a in own_set s (out_of_service blind l link s) link (left_link blind link) at.there refl
+      a.numbered now.0 now.1 (λ e. go (a.going link at.there (ap has_phase_settled at.phase_is)))
     where
       go : IsRest l link s.rows sent → IsRest l (left_link blind link) s.rows sent
       go (inl rest) = inl rest
@@ -232,32 +283,58 @@ module _ (l : ℕ) (sent : List Message) where
   leaves_any blind n link s at a =
       let out = out_of_service blind n link s in
       turns (is_back_to n) _ out (left_by blind n link s) refl refl (home_back n) (λ row. offered_out l _ out) refl refl
-      (by_link n (λ m. IsAt m link Up s → AckedFirst l sent (out_of_service blind m link s)) (λ here. leaves_own blind link s here a) (λ d here. goes_on s out a.numbered (λ number e. e) (other_set n (left_link blind link) s.links d) refl a) at)
+      (by_link n (λ m. IsAt m link Up s → AckedFirst l sent (out_of_service blind m link s))
+            (λ here. leaves_own blind link s here a)
+          (λ d here. goes_on s out a.numbered (λ number e. e) (other_set n (left_link blind link) s.links d) refl a) at)
 
-  acknowledges_any : (count n : ℕ) (link after : LinkState) (s t : State) → t.finished ≡ s.finished → slice_get s.links n ≡ Some link → t.links ≡ slice_set s.links n after → t.rows ≡ turned (is_unacked n) (Acked n) count s.rows → after.acked ≡ link.acked + count → after.phase ≡ link.phase → has_phase_settled link.phase ≡ false → count ≤ length (unack n s.rows) → AckedFirst l sent s → AckedFirst l sent t
+  acknowledges_any : (count n : ℕ) (link after : LinkState) (s t : State) → t.finished ≡ s.finished
+      → slice_get s.links n ≡ Some link → t.links ≡ slice_set s.links n after
+      → t.rows ≡ turned (is_unacked n) (Acked n) count s.rows → after.acked ≡ link.acked + count
+      → after.phase ≡ link.phase → has_phase_settled link.phase ≡ false → count ≤ length (unack n s.rows)
+      → AckedFirst l sent s → AckedFirst l sent t
   acknowledges_any count n link after s t gone there links rows acked phase unsettled enough a =
-      by_link n (λ m. slice_get s.links m ≡ Some link → t.links ≡ slice_set s.links m after → t.rows ≡ turned (is_unacked m) (Acked m) count s.rows → count ≤ length (unack m s.rows) → AckedFirst l sent t)
+      by_link n (λ m. slice_get s.links m ≡ Some link → t.links ≡ slice_set s.links m after
+            → t.rows ≡ turned (is_unacked m) (Acked m) count s.rows → count ≤ length (unack m s.rows)
+          → AckedFirst l sent t)
       (λ at ls rs few. own_acked count link after s t gone at ls rs acked phase unsettled few a)
-      (λ d at ls rs few. goes_on s t (numbered_on s t gone (rw rs (acknowledged n count s.rows).kept.count) (rw rs ((acknowledged n count s.rows).kept.numbered (given s) a.numbered))) (rw rs (turned_stay (Acked l) (is_unacked n) refl (Acked n) count s.rows)) (ap (λ (ks : List LinkState). slice_get ks l) ls ∙ other_set n after s.links d) (ap (unack l) rs ∙ ((acknowledged n count s.rows).others l d).unack_same) a)
+      (λ d at ls rs few. goes_on s t
+            (numbered_on s t gone (rw rs (acknowledged n count s.rows).kept.count)
+            (rw rs ((acknowledged n count s.rows).kept.numbered (given s) a.numbered)))
+          (rw rs (turned_stay (Acked l) (is_unacked n) refl (Acked n) count s.rows))
+          (ap (λ (ks : List LinkState). slice_get ks l) ls ∙ other_set n after s.links d)
+          (ap (unack l) rs ∙ ((acknowledged n count s.rows).others l d).unack_same) a)
       there links rows enough
 
-  gives_up_own : (cause : DiscardCause) (link : LinkState) (s : State) → IsAt l link Down s → AckedFirst l sent s → AckedFirst l sent (record s { rows = changed (is_unacked l) (Discarded cause) s.rows })
+  gives_up_own : (cause : DiscardCause) (link : LinkState) (s : State) → IsAt l link Down s → AckedFirst l sent s
+      → AckedFirst l sent (record s { rows = changed (is_unacked l) (Discarded cause) s.rows })
   gives_up_own cause link s at a = record {
-    numbered = numbered_on s (record s { rows = changed (is_unacked l) (Discarded cause) s.rows }) refl (events.given_up l true cause s.rows).kept.count ((events.given_up l true cause s.rows).kept.numbered (given s) a.numbered);
+    numbered = numbered_on s (record s { rows = changed (is_unacked l) (Discarded cause) s.rows }) refl
+        (events.given_up l true cause s.rows).kept.count
+        ((events.given_up l true cause s.rows).kept.numbered (given s) a.numbered);
     few = a.few;
-    first = still l s.rows (changed (is_unacked l) (Discarded cause) s.rows) (changed_stay (Acked l) (is_unacked l) refl (Discarded cause) s.rows) (take (acked_on l s) sent) a.first;
-    going = λ other there unsettled. inr (ap (λ (k : LinkState). k.phase) (same_at s.links l link other at.there there) ∙ at.phase_is, changed_left (is_unacked l) (Discarded cause) refl s.rows);
+    first = still l s.rows (changed (is_unacked l) (Discarded cause) s.rows)
+        (changed_stay (Acked l) (is_unacked l) refl (Discarded cause) s.rows) (take (acked_on l s) sent) a.first;
+    going = λ other there unsettled. inr
+        (ap (λ (k : LinkState). k.phase) (same_at s.links l link other at.there there)
+          ∙ at.phase_is, changed_left (is_unacked l) (Discarded cause) refl s.rows);
   }
 
   moves_off_any : (told : Bool) (n : ℕ) (link : LinkState) (s : State) → IsAt n link Down s → AckedFirst l sent s → AckedFirst l sent (moved_over told n link s)
   moves_off_any told n link s at a =
       by_link n (λ m. IsAt m link Down s → AckedFirst l sent (moved_over told m link s))
-      (λ here. let now = at_link s link here.there a in own_set s (moved_over told l link s) link (settled_link told link) here.there refl (numbered l) now.0 (still l s.rows (moved_over told l link s).rows (stay l) (take link.acked sent) now.1) (λ e. absurd cc))
-      (λ d there. goes_on s (moved_over told n link s) (numbered n) (stay n) (other_set n (settled_link told link) s.links d) (moved_same (is_on n) (is_unacked l) (all_with (fate_on (target s.links))) s.rows (λ x. not_sent l (target s.links)) (λ f e. not_on_unacked l f (on_other l n (apart_back n l d) f e))) a)
+      (λ here. let now = at_link s link here.there a in own_set s (moved_over told l link s) link
+            (settled_link told link) here.there refl (numbered l) now.0
+          (still l s.rows (moved_over told l link s).rows (stay l) (take link.acked sent) now.1) (λ e. absurd cc))
+      (λ d there. goes_on s (moved_over told n link s) (numbered n) (stay n)
+            (other_set n (settled_link told link) s.links d)
+          (moved_same (is_on n) (is_unacked l) (all_with (fate_on (target s.links))) s.rows
+            (λ x. not_sent l (target s.links)) (λ f e. not_on_unacked l f (on_other l n (apart_back n l d) f e))) a)
       at
     where
       numbered : (m : ℕ) → IsNumbered (given (moved_over told m link s)) (moved (is_on m) (all_with (fate_on (target s.links))) s.rows)
-      numbered m = numbered_on s (moved_over told m link s) refl (moved_length (is_on m) (all_with (fate_on (target s.links))) s.rows) (moved_numbered (is_on m) (all_with (fate_on (target s.links))) (given s) s.rows a.numbered)
+      numbered m = numbered_on s (moved_over told m link s) refl
+          (moved_length (is_on m) (all_with (fate_on (target s.links))) s.rows)
+          (moved_numbered (is_on m) (all_with (fate_on (target s.links))) (given s) s.rows a.numbered)
 
       stay : (m : ℕ) → Stays (Acked l) s.rows (moved (is_on m) (all_with (fate_on (target s.links))) s.rows)
       stay m = moved_stay (Acked l) (is_on m) refl (given s) (all_with (fate_on (target s.links))) s.rows a.numbered
@@ -266,7 +343,8 @@ module _ (l : ℕ) (sent : List Message) where
   answers_any : (n : ℕ) (link : LinkState) (s : State) → IsAt n link Settled s → AckedFirst l sent s → AckedFirst l sent (with_link n (answered_link link) s)
   answers_any n link s at a =
       by_link n (λ m. IsAt m link Settled s → AckedFirst l sent (with_link m (answered_link link) s))
-      (λ here. let now = at_link s link here.there a in own_set s (with_link l (answered_link link) s) link (answered_link link) here.there refl a.numbered now.0 now.1
+      (λ here. let now = at_link s link here.there a in own_set s (with_link l (answered_link link) s) link
+            (answered_link link) here.there refl a.numbered now.0 now.1
       (λ e. absurd (let no : true ≡ false = sym (ap has_phase_settled here.phase_is) ∙ e in cc)))
       (λ d there. goes_on s (with_link n (answered_link link) s) a.numbered (λ number e. e) (other_set n (answered_link link) s.links d) refl a)
       at
@@ -275,7 +353,10 @@ module _ (l : ℕ) (sent : List Message) where
   pub withdraws_any : (count n : ℕ) (s : State) → AckedFirst l sent s → AckedFirst l sent (withdrawn count n s)
   withdraws_any count n s a =
       let g = withdrawn_rows count n s.rows in
-      goes_on s (withdrawn count n s) (numbered_on s (withdrawn count n s) refl g.kept.count (g.kept.numbered (given s) a.numbered)) (turned_stay (Acked l) (is_waiting n) refl (Discarded NoAnswerCame) count s.rows) refl (turned_same (is_waiting n) (is_unacked l) (Discarded NoAnswerCame) refl (λ f e. grind arith) count s.rows) a
+      goes_on s (withdrawn count n s)
+          (numbered_on s (withdrawn count n s) refl g.kept.count (g.kept.numbered (given s) a.numbered))
+          (turned_stay (Acked l) (is_waiting n) refl (Discarded NoAnswerCame) count s.rows) refl
+          (turned_same (is_waiting n) (is_unacked l) (Discarded NoAnswerCame) refl (λ f e. grind arith) count s.rows) a
 
   -- whatever small change is made
   pub small : (Known : ℕ → Type 0) (May : Type 0) → KeptBy Known May (λ s t. AckedFirst l sent s → AckedFirst l sent t)
@@ -283,12 +364,29 @@ module _ (l : ℕ) (sent : List Message) where
     same = λ s a. a;
     after = λ s t u p q a. q (p a);
     delivers = λ body s a. record { numbered = a.numbered; few = a.few; first = a.first; going = a.going };
-    queues = λ order s a. appends s (queued order s) (text s.settings.profile order s.settings.sio s.settings.dpc s.settings.opc) (fate_on (target s.links)) refl (not_sent l (target s.links)) refl refl a;
+    queues = λ order s a. appends s (queued order s)
+        (text s.settings.profile order s.settings.sio s.settings.dpc s.settings.opc) (fate_on (target s.links)) refl
+        (not_sent l (target s.links)) refl refl a;
     leaves = λ blind n link s known at a. leaves_any blind n link s at a;
-    acknowledges = λ count n link s known at enough g a. acknowledges_any count n link (acknowledged_link count link) s (acknowledged_by count n link s) refl at.there refl refl refl refl (ap has_phase_settled at.phase_is) enough a;
-    gives_up = λ was_sent cause n link s known at g. cond_both was_sent (is_unacked n) (is_waiting n) (λ test. ChangesOn n s.rows (changed test (Discarded cause) s.rows) → AckedFirst l sent s → AckedFirst l sent (record s { rows = changed test (Discarded cause) s.rows })) (λ e g a. by_link n (λ m. IsAt m link Down s → AckedFirst l sent (record s { rows = changed (is_unacked m) (Discarded cause) s.rows })) (λ here. gives_up_own cause link s here a)
-        (λ d here. goes_on s (record s { rows = changed (is_unacked n) (Discarded cause) s.rows }) (numbered_on s (record s { rows = changed (is_unacked n) (Discarded cause) s.rows }) refl g.kept.count (g.kept.numbered (given s) a.numbered)) (changed_stay (Acked l) (is_unacked n) refl (Discarded cause) s.rows) refl ((g.others l d).unack_same) a) at)
-        (λ e g a. goes_on s (record s { rows = changed (is_waiting n) (Discarded cause) s.rows }) (numbered_on s (record s { rows = changed (is_waiting n) (Discarded cause) s.rows }) refl g.kept.count (g.kept.numbered (given s) a.numbered)) (changed_stay (Acked l) (is_waiting n) refl (Discarded cause) s.rows) refl (turned_same (is_waiting n) (is_unacked l) (Discarded cause) refl (λ f e. grind arith) (length s.rows) s.rows) a) g;
+    acknowledges = λ count n link s known at enough g a. acknowledges_any count n link (acknowledged_link count link) s
+        (acknowledged_by count n link s) refl at.there refl refl refl refl (ap has_phase_settled at.phase_is) enough a;
+    gives_up = λ was_sent cause n link s known at g. cond_both was_sent (is_unacked n) (is_waiting n)
+        (λ test. ChangesOn n s.rows (changed test (Discarded cause) s.rows) → AckedFirst l sent s
+          → AckedFirst l sent (record s { rows = changed test (Discarded cause) s.rows }))
+        (λ e g a. by_link n (λ m. IsAt m link Down s
+            → AckedFirst l sent (record s { rows = changed (is_unacked m) (Discarded cause) s.rows }))
+        (λ here. gives_up_own cause link s here a)
+        (λ d here. goes_on s (record s { rows = changed (is_unacked n) (Discarded cause) s.rows })
+              (numbered_on s (record s { rows = changed (is_unacked n) (Discarded cause) s.rows }) refl g.kept.count
+              (g.kept.numbered (given s) a.numbered))
+            (changed_stay (Acked l) (is_unacked n) refl (Discarded cause) s.rows) refl ((g.others l d).unack_same) a)
+            at)
+        (λ e g a. goes_on s (record s { rows = changed (is_waiting n) (Discarded cause) s.rows })
+              (numbered_on s (record s { rows = changed (is_waiting n) (Discarded cause) s.rows }) refl g.kept.count
+              (g.kept.numbered (given s) a.numbered))
+            (changed_stay (Acked l) (is_waiting n) refl (Discarded cause) s.rows) refl
+            (turned_same (is_waiting n) (is_unacked l) (Discarded cause) refl (λ f e. grind arith) (length s.rows)
+              s.rows) a) g;
     moves_off = λ told n link s known at a. moves_off_any told n link s at a;
     answers = λ n link s known at a. answers_any n link s at a;
     withdraws = λ count n link s known at g a. withdraws_any count n s a;
@@ -296,8 +394,11 @@ module _ (l : ℕ) (sent : List Message) where
     releases = λ code s known a. turns (is_back code) (all_with (Waiting _)) s (released code s) refl refl (code_back code) (λ row. refl) refl refl a;
   }
 
-  pub settles_kept : (reached : Reached) (n : ℕ) (link : LinkState) (s : State) → IsAt n link Down s → AckedFirst l sent s → AckedFirst l sent (settled reached n link s)
-  settles_kept reached n link s at a = settle_walks (λ m. Unit {0}) ⊥ (λ t u. AckedFirst l sent t → AckedFirst l sent u) (small (λ m. Unit {0}) ⊥) reached n link s tt at a
+  pub settles_kept : (reached : Reached) (n : ℕ) (link : LinkState) (s : State) → IsAt n link Down s
+      → AckedFirst l sent s → AckedFirst l sent (settled reached n link s)
+  settles_kept reached n link s at a =
+      settle_walks (λ m. Unit {0}) ⊥ (λ t u. AckedFirst l sent t → AckedFirst l sent u) (small (λ m. Unit {0}) ⊥)
+      reached n link s tt at a
 
   pub takes_kept : (body : Option (List ℕ)) (s : State) → AckedFirst l sent s → AckedFirst l sent (takes body s).state
   takes_kept body s a = takes_walks (λ m. Unit {0}) ⊥ (λ t u. AckedFirst l sent t → AckedFirst l sent u) (small (λ m. Unit {0}) ⊥) body s (λ b e o f n g. tt) a
@@ -311,10 +412,13 @@ module _ (l : ℕ) (sent : List Message) where
       go (inr none) = absurd (let no : Up ≡ Down = sym at.phase_is ∙ none.0 in cc)
 
   -- A UNIT IS HEARD: its own part
-  pub hears_part : (n : ℕ) (unit : SignalUnit) (link : LinkState) (s : State) → IsAt n link Up s → AckedFirst l sent s → AckedFirst l sent (after_control (part_of link.control (window_of n link s.rows) (header_in unit) (is_msu unit)) (header_in unit) unit n s link)
+  pub hears_part : (n : ℕ) (unit : SignalUnit) (link : LinkState) (s : State) → IsAt n link Up s → AckedFirst l sent s
+      → AckedFirst l sent (after_control (part_of link.control (window_of n link s.rows) (header_in unit) (is_msu unit))
+        (header_in unit) unit n s link)
   hears_part n unit link s at a =
       let part = part_of link.control (window_of n link s.rows) (header_in unit) (is_msu unit) in
-      acknowledges_any part.acked n link _ s (after_control part (header_in unit) unit n s link) refl at.there refl refl refl refl (ap has_phase_settled at.phase_is) (acked_few n link s.rows (header_in unit) (is_msu unit)) a
+      acknowledges_any part.acked n link _ s (after_control part (header_in unit) unit n s link) refl at.there refl refl
+          refl refl (ap has_phase_settled at.phase_is) (acked_few n link s.rows (header_in unit) (is_msu unit)) a
 
 -- A UNIT IS SENT. What the link's unacknowledged messages gain stands behind them.
 sent_more : (choice : Choice) (l : ℕ) (rows : List Row) → IsInOrder l rows → (more : List Row) × (unack l (rows_sent choice l rows) ≡ unack l rows ++ more)
@@ -334,27 +438,42 @@ sent_apart fill l n rows d = refl
 
 module _ (l : ℕ) (sent : List Message) (s : State) where
   -- of the link itself
-  sends_own : (link : LinkState) → IsSound s → IsAt l link Up s → AckedFirst l sent s → AckedFirst l (sent ++ first_sent l s (next l s link).state) (next l s link).state
+  sends_own : (link : LinkState) → IsSound s → IsAt l link Up s → AckedFirst l sent s
+      → AckedFirst l (sent ++ first_sent l s (next l s link).state) (next l s link).state
   sends_own link sound at a =
       let t = (next l s link).state in
       let choice = choice_of (octets_in (unack l s.rows)) link.control (window_of l link s.rows) in
       let more = sent_more choice l s.rows (sound.links l link at.there).in_order in
       let now = at_link l sent s link at.there a in
-      let gained : first_sent l s t ≡ messages more.0 = ap (λ (rows : List Row). messages (drop (length (unack l s.rows)) rows)) more.1 ∙ ap messages (drop-append_seam (unack l s.rows) more.0) in
+      let gained : first_sent l s t ≡ messages more.0 =
+          ap (λ (rows : List Row). messages (drop (length (unack l s.rows)) rows)) more.1
+          ∙ ap messages (drop-append_seam (unack l s.rows) more.0) in
       let longer = length-append sent (first_sent l s t) in
-      own_set l (sent ++ first_sent l s t) s t link _ at.there refl (numbered_on s (next l s link).state refl (sent_by choice l s.rows).kept.count ((sent_by choice l s.rows).kept.numbered (given s) a.numbered)) (omega (arith, now.0, longer))
-      (subst (AreAcked l t.rows) (sym (take-append-le link.acked sent (first_sent l s t) now.0)) (still l s.rows t.rows (sent_stay choice l l s.rows) (take link.acked sent) now.1))
-      (λ e. inl (ap messages more.1 ∙ map-append message_of (unack l s.rows) more.0 ∙ ap (λ (ms : List Message). ms ++ messages more.0) (rest_up l sent link s at a) ∙ ap (λ (ms : List Message). drop link.acked sent ++ ms) (sym gained) ∙ sym (drop-append-le link.acked sent (first_sent l s t) now.0)))
+      own_set l (sent ++ first_sent l s t) s t link _ at.there refl
+          (numbered_on s (next l s link).state refl (sent_by choice l s.rows).kept.count
+            ((sent_by choice l s.rows).kept.numbered (given s) a.numbered)) (omega (arith, now.0, longer))
+      (subst (AreAcked l t.rows) (sym (take-append-le link.acked sent (first_sent l s t) now.0))
+            (still l s.rows t.rows (sent_stay choice l l s.rows) (take link.acked sent) now.1))
+      (λ e. inl (ap messages more.1 ∙ map-append message_of (unack l s.rows) more.0
+              ∙ ap (λ (ms : List Message). ms ++ messages more.0) (rest_up l sent link s at a)
+          ∙ ap (λ (ms : List Message). drop link.acked sent ++ ms) (sym gained)
+          ∙ sym (drop-append-le link.acked sent (first_sent l s t) now.0)))
 
-  pub sends_any : (n : ℕ) (link : LinkState) → IsSound s → IsAt n link Up s → AckedFirst l sent s → AckedFirst l (if l == n then sent ++ first_sent n s (next n s link).state else sent) (next n s link).state
+  pub sends_any : (n : ℕ) (link : LinkState) → IsSound s → IsAt n link Up s → AckedFirst l sent s
+      → AckedFirst l (if l == n then sent ++ first_sent n s (next n s link).state else sent) (next n s link).state
   sends_any n link sound at a = go (l == n) refl
     where
       go : (b : Bool) → (l == n) ≡ b → AckedFirst l (if b then sent ++ first_sent n s (next n s link).state else sent) (next n s link).state
-      go true e = subst (λ (m : ℕ). IsAt m link Up s → AckedFirst l (sent ++ first_sent m s (next m s link).state) (next m s link).state) (eqb-true l n e) (λ here. sends_own link sound here a) at
+      go true e = subst (λ (m : ℕ). IsAt m link Up s
+            → AckedFirst l (sent ++ first_sent m s (next m s link).state) (next m s link).state) (eqb-true l n e)
+          (λ here. sends_own link sound here a) at
       go false e =
           let choice = choice_of (octets_in (unack n s.rows)) link.control (window_of n link s.rows) in
           let d = apart_back l n e in
-          goes_on l sent s (next n s link).state (numbered_on s (next n s link).state refl (sent_by choice n s.rows).kept.count ((sent_by choice n s.rows).kept.numbered (given s) a.numbered)) (sent_stay choice l n s.rows) (other_set l sent n _ s.links d) (sent_apart choice l n s.rows d) a
+          goes_on l sent s (next n s link).state
+              (numbered_on s (next n s link).state refl (sent_by choice n s.rows).kept.count
+                ((sent_by choice n s.rows).kept.numbered (given s) a.numbered)) (sent_stay choice l n s.rows)
+              (other_set l sent n _ s.links d) (sent_apart choice l n s.rows d) a
 
   -- one that isn't in service sends nothing
   sends_none : (n : ℕ) → AckedFirst l sent s → AckedFirst l (if l == n then sent ++ first_sent n s s else sent) s
@@ -368,7 +487,8 @@ module _ (l : ℕ) (sent : List Message) (s : State) where
       go false = a
 
 module _ (l : ℕ) (sent : List Message) (s : State) where
-  next_kept : (n : ℕ) → IsSound s → AckedFirst l sent s → AckedFirst l (if l == n then sent ++ first_sent n s (step s (Next n)).state else sent) (step s (Next n)).state
+  next_kept : (n : ℕ) → IsSound s → AckedFirst l sent s
+      → AckedFirst l (if l == n then sent ++ first_sent n s (step s (Next n)).state else sent) (step s (Next n)).state
   next_kept n sound a = go (is_up n s) refl
     where
       go : (b : Bool) → is_up n s ≡ b → AckedFirst l (if l == n then sent ++ first_sent n s (step s (Next n)).state else sent) (step s (Next n)).state
@@ -377,11 +497,13 @@ module _ (l : ℕ) (sent : List Message) (s : State) where
           let clear = cleared n s in
           let more : first_sent n clear (next n clear at.0).state ≡ first_sent n s (next n clear at.0).state = cleared_sends n s (next n clear at.0).state in
           rw (next_is n at.0 s at.1)
-          (rw more at (sends_any l sent clear n at.0 (cleared_sound n at.0 s at.1 sound) (cleared_at n at.0 s at.1) (withdraws_any l sent (overtaken n s) n s a)))
+          (rw more at (sends_any l sent clear n at.0 (cleared_sound n at.0 s at.1 sound) (cleared_at n at.0 s at.1)
+                  (withdraws_any l sent (overtaken n s) n s a)))
       go false e = rw ((next_refused n s e).1) (sends_none l sent s n a)
 
   -- A LINK COMES UP: what it sends is told anew.
-  pub rises_any : (n : ℕ) (link : LinkState) → IsSound s → IsAt n link Settled s → AckedFirst l sent s → AckedFirst l (if l == n then [] else sent) (rises n s Settled).state
+  pub rises_any : (n : ℕ) (link : LinkState) → IsSound s → IsAt n link Settled s → AckedFirst l sent s
+      → AckedFirst l (if l == n then [] else sent) (rises n s Settled).state
   rises_any n link sound at a = go (l == n) refl
     where
       t : State
@@ -389,35 +511,50 @@ module _ (l : ℕ) (sent : List Message) (s : State) where
 
       own : IsAt l link Settled s → AckedFirst l [] (rises l s Settled).state
       own here =
-          let none : unack l (rises l s Settled).state.rows ≡ [] = (unparked l s.rows).unack_same ∙ (settled_empty s l link sound here.there here.phase_is).unack_none in
-          own_set l [] s (rises l s Settled).state link _ here.there refl (numbered_on s (rises l s Settled).state refl (unparked l s.rows).kept.count ((unparked l s.rows).kept.numbered (given s) a.numbered)) (omega arith) (All-nil _) (λ e. inl (ap messages none))
+          let none : unack l (rises l s Settled).state.rows ≡ [] = (unparked l s.rows).unack_same
+              ∙ (settled_empty s l link sound here.there here.phase_is).unack_none in
+          own_set l [] s (rises l s Settled).state link _ here.there refl
+              (numbered_on s (rises l s Settled).state refl (unparked l s.rows).kept.count
+                ((unparked l s.rows).kept.numbered (given s) a.numbered)) (omega arith) (All-nil _)
+              (λ e. inl (ap messages none))
 
       go : (b : Bool) → (l == n) ≡ b → AckedFirst l (if b then [] else sent) (rises n s Settled).state
       go true e = subst (λ (m : ℕ). IsAt m link Settled s → AckedFirst l [] (rises m s Settled).state) (eqb-true l n e) own at
       go false e =
           let d = apart_back l n e in
-          goes_on l sent s (rises n s Settled).state (numbered_on s (rises n s Settled).state refl (unparked n s.rows).kept.count ((unparked n s.rows).kept.numbered (given s) a.numbered)) (moved_stay (Acked l) is_parked refl (given s) (all_with (Waiting n)) s.rows a.numbered) (other_set l sent n _ s.links d) (((unparked n s.rows).others l d).unack_same) a
+          goes_on l sent s (rises n s Settled).state
+              (numbered_on s (rises n s Settled).state refl (unparked n s.rows).kept.count
+                ((unparked n s.rows).kept.numbered (given s) a.numbered))
+              (moved_stay (Acked l) is_parked refl (given s) (all_with (Waiting n)) s.rows a.numbered)
+              (other_set l sent n _ s.links d) (((unparked n s.rows).others l d).unack_same) a
 
   up_kept : (n : ℕ) → IsSound s → AckedFirst l sent s → AckedFirst l (if is_settled n s then (if l == n then [] else sent) else sent) (step s (UpEvent n)).state
   unfolding step
   up_kept n sound a = go (slice_get s.links n) refl
     where
-      at : (link : LinkState) → slice_get s.links n ≡ Some link → (phase : Phase) → link.phase ≡ phase → AckedFirst l (if has_phase_settled phase then (if l == n then [] else sent) else sent) (rises n s phase).state
+      at : (link : LinkState) → slice_get s.links n ≡ Some link → (phase : Phase) → link.phase ≡ phase
+          → AckedFirst l (if has_phase_settled phase then (if l == n then [] else sent) else sent)
+          (rises n s phase).state
       at link e Up p = a
       at link e Down p = a
       at link e Settled p = rises_any n link sound (record { there = e; phase_is = p }) a
 
-      go : (o : Option LinkState) → slice_get s.links n ≡ o → AckedFirst l (if link_is_settled o then (if l == n then [] else sent) else sent) (with_known o s (λ link. rises n s link.phase)).state
+      go : (o : Option LinkState) → slice_get s.links n ≡ o
+          → AckedFirst l (if link_is_settled o then (if l == n then [] else sent) else sent)
+          (with_known o s (λ link. rises n s link.phase)).state
       go None e = a
       go (Some link) e = at link e link.phase refl
 
   -- ANY OTHER EVENT
-  other_kept : (event : Event) → ((n : ℕ) → event ≡ Next n → ⊥) → ((n : ℕ) → event ≡ UpEvent n → ⊥) → AckedFirst l sent s → AckedFirst l sent (step s event).state
+  other_kept : (event : Event) → ((n : ℕ) → event ≡ Next n → ⊥) → ((n : ℕ) → event ≡ UpEvent n → ⊥)
+      → AckedFirst l sent s → AckedFirst l sent (step s event).state
   other_kept event not_next not_up a = step_walks s (λ t u. AckedFirst l sent t → AckedFirst l sent u) (λ t. AckedFirst l sent t) event (record {
     small = small l sent _ _;
     unmoved = a;
     rests = λ t u b keeps. keeps b;
-    offers = λ body e none. appends l sent s (offered None s body).state body (fate_at (place_of (stream_of body) s.routing) s) refl (offered_out l (place_of (stream_of body) s.routing) s) refl refl a;
+    offers = λ body e none. appends l sent s (offered None s body).state body
+        (fate_at (place_of (stream_of body) s.routing) s) refl (offered_out l (place_of (stream_of body) s.routing) s)
+        refl refl a;
     takes = λ body rest e there. record { numbered = a.numbered; few = a.few; first = a.first; going = a.going };
     sends = λ n link t e keeps at g. absurd (not_next n e);
     hears = λ n unit link e fits at g. hears_part l sent n unit link s at a;
@@ -431,7 +568,8 @@ sent_then l (UpEvent n) s sent = if is_settled n s then (if l == n then [] else 
 sent_then l _ s sent = sent
 
 -- EVERY EVENT of a sound set keeps it.
-pub acked_first : (l : ℕ) (s : State) (event : Event) (sent : List Message) → IsSound s → AckedFirst l sent s → AckedFirst l (sent_then l event s sent) (step s event).state
+pub acked_first : (l : ℕ) (s : State) (event : Event) (sent : List Message) → IsSound s → AckedFirst l sent s
+    → AckedFirst l (sent_then l event s sent) (step s event).state
 acked_first l s (Next n) sent sound a = next_kept l sent s n sound a
 acked_first l s (UpEvent n) sent sound a = up_kept l sent s n sound a
 acked_first l s (Offer body) sent sound a = other_kept l sent s (Offer body) (λ n e. absurd cc) (λ n e. absurd cc) a
@@ -461,8 +599,12 @@ new_acked_first l settings =
     }
 
 -- THE PAST of an end goes on so.
-pub emits_first : (l n : ℕ) (s : State) (past : Past) → IsSound s → AckedFirst l (past.sent l) s → AckedFirst l ((past_sent n s (step s (Next n)).state past).sent l) (step s (Next n)).state
+pub emits_first : (l n : ℕ) (s : State) (past : Past) → IsSound s → AckedFirst l (past.sent l) s
+    → AckedFirst l ((past_sent n s (step s (Next n)).state past).sent l) (step s (Next n)).state
 emits_first l n s past sound a = next_kept l (past.sent l) s n sound a
 
-pub rises_first : (l n : ℕ) (s : State) (past : Past) → IsSound s → is_settled n s ≡ true → AckedFirst l (past.sent l) s → AckedFirst l ((past_risen n past).sent l) (step s (UpEvent n)).state
-rises_first l n s past sound settled a = subst (λ (b : Bool). AckedFirst l (if b then (if l == n then [] else past.sent l) else past.sent l) (step s (UpEvent n)).state) settled (up_kept l (past.sent l) s n sound a)
+pub rises_first : (l n : ℕ) (s : State) (past : Past) → IsSound s → is_settled n s ≡ true → AckedFirst l (past.sent l) s
+    → AckedFirst l ((past_risen n past).sent l) (step s (UpEvent n)).state
+rises_first l n s past sound settled a =
+    subst (λ (b : Bool). AckedFirst l (if b then (if l == n then [] else past.sent l) else past.sent l)
+      (step s (UpEvent n)).state) settled (up_kept l (past.sent l) s n sound a)

@@ -25,7 +25,10 @@ module _ (l : ℕ) (state : LinkState) (s : State) where
   left_unack = go (has_phase_up state.phase) refl
     where
       go : (b : Bool) → has_phase_up state.phase ≡ b → unack l (as_left l (Some state) s).rows ≡ unack l s.rows
-      go true e = rw e (unack_same (is_back_to l) (λ row. fate_at (place_of (stream_of row.body) (out_of_service false l state s).routing) (out_of_service false l state s)) (home_back l) s.rows (λ m row. offered_out m _ (out_of_service false l state s)) l)
+      go true e = rw e (unack_same (is_back_to l)
+            (λ row. fate_at (place_of (stream_of row.body) (out_of_service false l state s).routing)
+            (out_of_service false l state s)) (home_back l) s.rows
+          (λ m row. offered_out m _ (out_of_service false l state s)) l)
       go false e = rw e refl
 
   pub left_acked : slice_get s.links l ≡ Some state → acked_on l (as_left l (Some state) s) ≡ state.acked
@@ -51,7 +54,11 @@ fated_alike f g same (row ∷ rows) =
     ∙ ap (λ (xs : List Row). fated g row ∷ xs) (fated_alike f g same rows)
 
 -- a unit was heard on link k, and link l is left
-module _ (k l count : ℕ) (link link' state : LinkState) (s mid : State) (apart : (k == l) ≡ false) (there : slice_get s.links k ≡ Some link) (links : mid.links ≡ slice_set s.links k link') (same_up : has_phase_up link'.phase ≡ has_phase_up link.phase) (rows : mid.rows ≡ turned (is_unacked k) (Acked k) count s.rows) (routing : mid.routing ≡ s.routing) (state_there : slice_get s.links l ≡ Some state) where
+module _ (k l count : ℕ) (link link' state : LinkState) (s mid : State) (apart : (k == l) ≡ false)
+    (there : slice_get s.links k ≡ Some link) (links : mid.links ≡ slice_set s.links k link')
+    (same_up : has_phase_up link'.phase ≡ has_phase_up link.phase)
+    (rows : mid.rows ≡ turned (is_unacked k) (Acked k) count s.rows) (routing : mid.routing ≡ s.routing)
+    (state_there : slice_get s.links l ≡ Some state) where
   abbrev out : State
   out = out_of_service false l state s
 
@@ -65,7 +72,8 @@ module _ (k l count : ℕ) (link link' state : LinkState) (s mid : State) (apart
   mid_up n = go (k == n) refl
     where
       go : (b : Bool) → (k == n) ≡ b → is_up n mid ≡ is_up n s
-      go true e = subst (λ (m : ℕ). is_up m mid ≡ is_up m s) (eqb-true k n e) (ap link_is_up (own_then k link link' s mid there links) ∙ same_up ∙ ap link_is_up (sym there))
+      go true e = subst (λ (m : ℕ). is_up m mid ≡ is_up m s) (eqb-true k n e)
+          (ap link_is_up (own_then k link link' s mid there links) ∙ same_up ∙ ap link_is_up (sym there))
       go false e = ap link_is_up (other_then k link link' s mid there links n e)
 
   out_up : (n : ℕ) → is_up n out_mid ≡ is_up n out
@@ -73,7 +81,8 @@ module _ (k l count : ℕ) (link link' state : LinkState) (s mid : State) (apart
     where
       go : (b : Bool) → (l == n) ≡ b → is_up n out_mid ≡ is_up n out
       go true e = subst (λ (m : ℕ). is_up m out_mid ≡ is_up m out) (eqb-true l n e)
-          (ap link_is_up (own_then l state (left_link false state) mid out_mid mid_there refl) ∙ sym (ap link_is_up (own_then l state (left_link false state) s out state_there refl)))
+          (ap link_is_up (own_then l state (left_link false state) mid out_mid mid_there refl)
+                ∙ sym (ap link_is_up (own_then l state (left_link false state) s out state_there refl)))
       go false e =
           ap link_is_up (other_then l state (left_link false state) mid out_mid mid_there refl n e) ∙ mid_up n
           ∙ sym (ap link_is_up (other_then l state (left_link false state) s out state_there refl n e))
@@ -89,10 +98,12 @@ module _ (k l count : ℕ) (link link' state : LinkState) (s mid : State) (apart
       ∙ ap (λ (r : routes.Routing). fate_at (place_of (stream_of row.body) (routes.left l r)) out) routing
 
   -- so each place in which nothing stands back holds the same
-  module _ (other : Fate → Bool) (never_back : (f : Fate) → stands_back f ≡ true → other f ≡ false) (same : standing other mid.rows ≡ standing other s.rows) where
+  module _ (other : Fate → Bool) (never_back : (f : Fate) → stands_back f ≡ true → other f ≡ false)
+      (same : standing other mid.rows ≡ standing other s.rows) where
     turned_alike : standing other (left_by false l state mid).rows ≡ standing other (left_by false l state s).rows
     turned_alike =
-        let back : standing (is_back_to l) mid.rows ≡ standing (is_back_to l) s.rows = ap (standing (is_back_to l)) rows ∙ turned_same (is_unacked k) (is_back_to l) (Acked k) refl (λ f e. sent_not_back k l f e) count s.rows in
+        let back : standing (is_back_to l) mid.rows ≡ standing (is_back_to l) s.rows = ap (standing (is_back_to l)) rows
+            ∙ turned_same (is_unacked k) (is_back_to l) (Acked k) refl (λ f e. sent_not_back k l f e) count s.rows in
         let f : Row → Fate = λ row. fate_at (place_of (stream_of row.body) out_mid.routing) out_mid in
         let g : Row → Fate = λ row. fate_at (place_of (stream_of row.body) out.routing) out in
         moved_more (is_back_to l) other f mid.rows (λ x e. never_back x (home_back l x e))

@@ -57,9 +57,13 @@ told_apart q a d w h = sym (append_assoc (q ++ a) (d ++ w) h) ∙ ap (λ (x : Li
 queue_parts : (count l : ℕ) (rows : List Row) → queue count l rows ≡ drop count (messages (unack l rows)) ++ messages (wait l rows) ++ messages (held l rows)
 queue_parts count l rows =
     joined (drop count (unack l rows) ++ wait l rows) (held l rows)
-    ∙ ap (λ (x : List Message). x ++ messages (held l rows)) (joined (drop count (unack l rows)) (wait l rows) ∙ ap (λ (x : List Message). x ++ messages (wait l rows)) (messages_dropped count (unack l rows)))
+    ∙ ap (λ (x : List Message). x ++ messages (held l rows))
+        (joined (drop count (unack l rows)) (wait l rows)
+          ∙ ap (λ (x : List Message). x ++ messages (wait l rows)) (messages_dropped count (unack l rows)))
 
-module _ (mx my : Method) (one : IsOneMethod mx my) (p : Two) (h : HoldsOf mx my p) (w : Whole p) (k : ℕ) (few : k < length p.near.links) (unit : SignalUnit) (rest : List SignalUnit) (front : units_on k p.back ≡ unit ∷ rest) (link : LinkState) (at : IsAt k link Up p.near) where
+module _ (mx my : Method) (one : IsOneMethod mx my) (p : Two) (h : HoldsOf mx my p) (w : Whole p) (k : ℕ)
+    (few : k < length p.near.links) (unit : SignalUnit) (rest : List SignalUnit)
+    (front : units_on k p.back ≡ unit ∷ rest) (link : LinkState) (at : IsAt k link Up p.near) where
   abbrev mid : State
   mid = hearing.mid mx my one p h w.both k few unit rest front link at
 
@@ -84,35 +88,44 @@ module _ (mx my : Method) (one : IsOneMethod mx my) (p : Two) (h : HoldsOf mx my
   abbrev body : List ℕ
   body = orders.body mx my one p h (ordered p w) k few unit rest front link at
 
-  mid_all : (P : ℕ → Option LinkState → Option LinkState → Type 0) → P k (Some link) (Some (hearing.mid_link mx my one p h w.both k few unit rest front link at)) → ((l : ℕ) (o : Option LinkState) → (k == l) ≡ false → P l o o) → (l : ℕ) → P l (slice_get p.near.links l) (slice_get mid.links l)
+  mid_all : (P : ℕ → Option LinkState → Option LinkState → Type 0)
+      → P k (Some link) (Some (hearing.mid_link mx my one p h w.both k few unit rest front link at))
+      → ((l : ℕ) (o : Option LinkState) → (k == l) ≡ false → P l o o) → (l : ℕ)
+      → P l (slice_get p.near.links l) (slice_get mid.links l)
   mid_all = by_link k link (hearing.mid_link mx my one p h w.both k few unit rest front link at) p.near mid at.there refl
 
   mid_settled : (l : ℕ) → is_settled l mid ≡ is_settled l p.near
   mid_settled = mid_all (λ l old new. link_is_settled new ≡ link_is_settled old) refl (λ l o d. refl)
 
   mid_equal : (l : ℕ) → is_settled l mid ≡ true → acked_on l mid ≡ accepted_on l p.far
-  mid_equal l = mid_all (λ n old new. (link_is_settled old ≡ true → acked_of old ≡ accepted_on n p.far) → link_is_settled new ≡ true → acked_of new ≡ accepted_on n p.far)
+  mid_equal l = mid_all (λ n old new. (link_is_settled old ≡ true → acked_of old ≡ accepted_on n p.far)
+        → link_is_settled new ≡ true → acked_of new ≡ accepted_on n p.far)
       (λ before e. absurd (let no : false ≡ true = sym (ap has_phase_settled at.phase_is) ∙ e in cc)) (λ n o d before. before) l (w.near.equal l)
 
   mid_discards : standing was_discarded mid.rows ≡ standing was_discarded p.near.rows
-  mid_discards = turned_same (is_unacked k) was_discarded (Acked k) refl (λ fate e. sent_not_discarded k fate e) (hearing.part mx my one p h w.both k few unit rest front link at).acked p.near.rows
+  mid_discards = turned_same (is_unacked k) was_discarded (Acked k) refl (λ fate e. sent_not_discarded k fate e)
+      (hearing.part mx my one p h w.both k few unit rest front link at).acked p.near.rows
 
   equal_then : (l : ℕ) → is_settled l then_near ≡ true → acked_on l then_near ≡ accepted_on l p.far
-  equal_then = subst (λ (s : State). (l : ℕ) → is_settled l s ≡ true → acked_on l s ≡ accepted_on l p.far) (sym state_is) (obeys_equal k body mid p.far mid_sound w.near.codes mid_equal _ does.obeys)
+  equal_then = subst (λ (s : State). (l : ℕ) → is_settled l s ≡ true → acked_on l s ≡ accepted_on l p.far)
+      (sym state_is) (obeys_equal k body mid p.far mid_sound w.near.codes mid_equal _ does.obeys)
 
   discards_then : standing was_discarded then_near.rows ≡ []
-  discards_then = ap (λ (s : State). standing was_discarded s.rows) state_is ∙ obeys_discards k body mid p.far mid_sound w.near.codes _ does.obeys ∙ mid_discards ∙ w.near.none_discarded
+  discards_then = ap (λ (s : State). standing was_discarded s.rows) state_is
+      ∙ obeys_discards k body mid p.far mid_sound w.near.codes _ does.obeys ∙ mid_discards ∙ w.near.none_discarded
 
   first_then : (l : ℕ) → AckedFirst l (p.near_past.sent l) then_near
   first_then l = acked_first l p.near (HeardEvent k unit) (p.near_past.sent l) h.near_sound (w.near.acked l)
 
   mid_accepted : (l : ℕ) → is_up l p.near ≡ false → accepted_on l mid ≡ accepted_on l p.near
-  mid_accepted = mid_all (λ l old new. link_is_up old ≡ false → accepted_of new ≡ accepted_of old) (λ e. absurd (let no : true ≡ false = sym (ap has_phase_up at.phase_is) ∙ e in cc)) (λ l o d e. refl)
+  mid_accepted = mid_all (λ l old new. link_is_up old ≡ false → accepted_of new ≡ accepted_of old)
+      (λ e. absurd (let no : true ≡ false = sym (ap has_phase_up at.phase_is) ∙ e in cc)) (λ l o d e. refl)
 
   -- the far end of a link that settled there counts as before, since this end isn't up on it
   far_equal : (l : ℕ) → is_settled l p.far ≡ true → acked_on l p.far ≡ accepted_on l then_near
   far_equal l e =
-      let same : accepted_on l then_near ≡ accepted_on l mid = ap (accepted_on l) state_is ∙ obeys_accepted k body mid p.far mid_sound w.near.codes does.both _ does.obeys l in
+      let same : accepted_on l then_near ≡ accepted_on l mid = ap (accepted_on l) state_is
+          ∙ obeys_accepted k body mid p.far mid_sound w.near.codes does.both _ does.obeys l in
       w.far.equal l e ∙ sym (same ∙ mid_accepted l (w.both.far.apart l e))
 
   -- WHAT SETTLES
@@ -140,7 +153,8 @@ module _ (mx my : Method) (one : IsOneMethod mx my) (p : Two) (h : HoldsOf mx my
     counted = ap accepted_of far_there.1 ∙ (kept_on mx my one p h l).accepted far_there.0 far_there.1
 
     reach : Reaches l link_there.0 p.near p.far (p.near_past.sent l)
-    reach = reaches l p.near_past p.far_past p.near p.far (kept_on mx my one p h l) link_there.0 link_there.1 (ap link_is_settled (sym link_there.1) ∙ before) far_there.0 far_there.1
+    reach = reaches l p.near_past p.far_past p.near p.far (kept_on mx my one p h l) link_there.0 link_there.1
+        (ap link_is_settled (sym link_there.1) ∙ before) far_there.0 far_there.1
 
     -- as it's left
     abbrev state : LinkState
@@ -155,8 +169,11 @@ module _ (mx my : Method) (one : IsOneMethod mx my) (p : Two) (h : HoldsOf mx my
     there_mid : slice_get mid.links l ≡ Some state
     there_mid = same_link ∙ link_there.1
 
-    alike : (other : Fate → Bool) → ((f : Fate) → stands_back f ≡ true → other f ≡ false) → standing other mid.rows ≡ standing other p.near.rows → standing other left_mid.rows ≡ standing other left.rows
-    alike = left_alike k l (hearing.part mx my one p h w.both k few unit rest front link at).acked link (hearing.mid_link mx my one p h w.both k few unit rest front link at) state p.near mid moved_so.other at.there refl refl refl refl link_there.1
+    alike : (other : Fate → Bool) → ((f : Fate) → stands_back f ≡ true → other f ≡ false)
+        → standing other mid.rows ≡ standing other p.near.rows → standing other left_mid.rows ≡ standing other left.rows
+    alike = left_alike k l (hearing.part mx my one p h w.both k few unit rest front link at).acked link
+        (hearing.mid_link mx my one p h w.both k few unit rest front link at) state p.near mid moved_so.other at.there
+        refl refl refl refl link_there.1
 
     same_queue : (to : Option ℕ) → messages (queue_for to left_mid.rows) ≡ messages (queue_for to left.rows)
     same_queue None = ap messages (alike is_parked back_not_parked acks.parked_same)
@@ -167,7 +184,8 @@ module _ (mx my : Method) (one : IsOneMethod mx my) (p : Two) (h : HoldsOf mx my
         go false e = (acks.others to e).wait_same
 
     same_answer : answer_on l (slice_get mid.links l) mid ≡ answer_on l (slice_get p.near.links l) p.near
-    same_answer = ap (λ (o : Option LinkState). answer_on l o mid) there_mid ∙ rw (acks.kept.count) refl ∙ ap (λ (o : Option LinkState). answer_on l o p.near) (sym link_there.1)
+    same_answer = ap (λ (o : Option LinkState). answer_on l o mid) there_mid ∙ rw (acks.kept.count) refl
+        ∙ ap (λ (o : Option LinkState). answer_on l o p.near) (sym link_there.1)
 
     queue_alike : (count : ℕ) → queue count l left_mid.rows ≡ queue count l left.rows
     queue_alike count = rw (
@@ -189,33 +207,45 @@ module _ (mx my : Method) (one : IsOneMethod mx my) (p : Two) (h : HoldsOf mx my
         ∙ queue_parts (t - a) l left.rows
         ∙ ap (λ (u : List Row). drop (t - a) (messages u) ++ messages (wait l left.rows) ++ messages (held l left.rows)) (left_unack l state p.near)
         ∙ ap (λ (x : List Message). drop (t - a) x ++ messages (wait l left.rows) ++ messages (held l left.rows)) reach.unacked
-        ∙ ap (λ (x : List Message). x ++ messages (wait l left.rows) ++ messages (held l left.rows)) (drop_twice (t - a) a (p.near_past.sent l) ∙ ap (λ (n : ℕ). drop n (p.near_past.sent l)) many)
+        ∙ ap (λ (x : List Message). x ++ messages (wait l left.rows) ++ messages (held l left.rows))
+            (drop_twice (t - a) a (p.near_past.sent l) ∙ ap (λ (n : ℕ). drop n (p.near_past.sent l)) many)
 
     abbrev moved_state : State
     moved_state = (hearing.taken mx my one p h w.both k few unit rest front link at).state
 
     -- as the move tells it, of the link that is left there
-    moved_there : (to : Option ℕ) (new : List Message) → new ≡ messages (queue_for to (as_left l (slice_get mid.links l) mid).rows) ++ answer_on l (slice_get mid.links l) mid ++ pending l (as_left l (slice_get mid.links l) mid) p.far
+    moved_there : (to : Option ℕ) (new : List Message)
+        → new ≡ messages (queue_for to (as_left l (slice_get mid.links l) mid).rows)
+        ++ answer_on l (slice_get mid.links l) mid ++ pending l (as_left l (slice_get mid.links l) mid) p.far
         → new ≡ messages (queue_for to left_mid.rows) ++ answer_on l (slice_get mid.links l) mid ++ pending l left_mid p.far
-    moved_there to new e = subst (λ (o : Option LinkState). new ≡ messages (queue_for to (as_left l o mid).rows) ++ answer_on l (slice_get mid.links l) mid ++ pending l (as_left l o mid) p.far) there_mid e
+    moved_there to new e = subst (λ (o : Option LinkState). new ≡ messages (queue_for to (as_left l o mid).rows)
+          ++ answer_on l (slice_get mid.links l) mid ++ pending l (as_left l o mid) p.far) there_mid e
 
-    moved_from : (to : Option ℕ) (new : List Message) → new ≡ messages (queue_for to left_mid.rows) ++ answer_on l (slice_get mid.links l) mid ++ pending l left_mid p.far
-        → new ≡ messages (queue_for to left.rows) ++ answer_on l (slice_get p.near.links l) p.near ++ drop (length (p.far_past.taken l)) (p.near_past.sent l) ++ messages (wait l left.rows) ++ messages (held l left.rows)
+    moved_from : (to : Option ℕ) (new : List Message)
+        → new ≡ messages (queue_for to left_mid.rows) ++ answer_on l (slice_get mid.links l) mid
+        ++ pending l left_mid p.far
+        → new ≡ messages (queue_for to left.rows) ++ answer_on l (slice_get p.near.links l) p.near
+            ++ drop (length (p.far_past.taken l)) (p.near_past.sent l) ++ messages (wait l left.rows)
+            ++ messages (held l left.rows)
     moved_from to new e =
         e
         ∙ ap (λ (x : List Message). x ++ answer_on l (slice_get mid.links l) mid ++ pending l left_mid p.far) (same_queue to)
         ∙ ap (λ (x : List Message). messages (queue_for to left.rows) ++ x ++ pending l left_mid p.far) same_answer
         ∙ ap (λ (x : List Message). messages (queue_for to left.rows) ++ answer_on l (slice_get p.near.links l) p.near ++ x) rest_is
-        ∙ told_apart (messages (queue_for to left.rows)) (answer_on l (slice_get p.near.links l) p.near) (drop (length (p.far_past.taken l)) (p.near_past.sent l)) (messages (wait l left.rows)) (messages (held l left.rows))
+        ∙ told_apart (messages (queue_for to left.rows)) (answer_on l (slice_get p.near.links l) p.near)
+            (drop (length (p.far_past.taken l)) (p.near_past.sent l)) (messages (wait l left.rows))
+            (messages (held l left.rows))
 
     diverts_from : DivertsFrom l (p.near_past.sent l) (p.far_past.taken l) p.near left then_near
     diverts_from = record {
-      acked = subst (λ (n : ℕ). All (λ message. place message.number then_near.rows ≡ Some (Acked l)) (take n (p.near_past.sent l))) (equal_then l now ∙ counted) (first_then l).first;
+      acked = subst (λ (n : ℕ). All (λ message. place message.number then_near.rows ≡ Some (Acked l))
+            (take n (p.near_past.sent l))) (equal_then l now ∙ counted) (first_then l).first;
       moved = rw state_is (moved_from (target moved_state.links) _ (moved_there (target moved_state.links) _ moved_so.moved));
     }
 
     diverts : Diverts l (p.near_past.sent l) (p.far_past.taken l) p.near then_near
-    diverts = subst (λ (o : Option LinkState). DivertsFrom l (p.near_past.sent l) (p.far_past.taken l) p.near (as_left l o p.near) then_near) (sym link_there.1) diverts_from
+    diverts = subst (λ (o : Option LinkState). DivertsFrom l (p.near_past.sent l) (p.far_past.taken l) p.near
+          (as_left l o p.near) then_near) (sym link_there.1) diverts_from
 
   pub hears_did : Did p heard
   hears_did = record {
@@ -256,13 +286,20 @@ module _ (mx my : Method) (one : IsOneMethod mx my) (p : Two) (h : HoldsOf mx my
   is_over fsn (Eco l) e = absurd e
   is_over fsn (Eca l) e = absurd e
 
-  some_tells : (body : List ℕ) → brought (hearing.part mx my one p h w.both k few unit rest front link at).accept unit ≡ Some body → IsToldBy unit p.near p.far_past
+  some_tells : (body : List ℕ) → brought (hearing.part mx my one p h w.both k few unit rest front link at).accept unit
+      ≡ Some body → IsToldBy unit p.near p.far_past
   some_tells body e order fsn state is fsn_in there going =
-      let is_order : order_of p.near.settings.profile body ≡ Some order = ap (order_of p.near.settings.profile) (sym (hearing.is_body mx my one p h w.both k few unit rest front link at body e)) ∙ is in
-      let fsn_is = number_is fsn order (view p.far p.near) fsn_in (hearing.tells mx my one p h w.both k few unit rest front link at body e order is_order (is_over fsn order fsn_in)) in
-      let t = hearing.told_before mx my one p h w.both k few unit rest front link at body e order is_order (is_over fsn order fsn_in) fsn fsn_is state there going in
+      let is_order : order_of p.near.settings.profile body ≡ Some order =
+          ap (order_of p.near.settings.profile)
+          (sym (hearing.is_body mx my one p h w.both k few unit rest front link at body e)) ∙ is in
+      let fsn_is = number_is fsn order (view p.far p.near) fsn_in
+          (hearing.tells mx my one p h w.both k few unit rest front link at body e order is_order
+            (is_over fsn order fsn_in)) in
+      let t = hearing.told_before mx my one p h w.both k few unit rest front link at body e order is_order
+          (is_over fsn order fsn_in) fsn fsn_is state there going in
       let other = present p.far.links (link_of order) (omega (arith, within p.near.links (link_of order) state there, h.far_links)) in
-      let counted : accepted_on (link_of order) p.far ≡ length (p.far_past.taken (link_of order)) = ap accepted_of other.1 ∙ (kept_on mx my one p h (link_of order)).accepted other.0 other.1 in
+      let counted : accepted_on (link_of order) p.far ≡ length (p.far_past.taken (link_of order)) =
+          ap accepted_of other.1 ∙ (kept_on mx my one p h (link_of order)).accepted other.0 other.1 in
       record {
         last = t.last ∙ ap (λ (n : ℕ). (n + fsn_before_first state.profile) % fsn_count state.profile) counted;
         reasonable = told_reasonable fsn (link_of order) state p.near p.far ((h.near_sound.links (link_of order) state there).window) t;
@@ -271,7 +308,9 @@ module _ (mx my : Method) (one : IsOneMethod mx my) (p : Two) (h : HoldsOf mx my
   pub hears_tells : FrontTells (unit ∷ rest) (moving.report mx my one p h k few unit rest front link at).took p.near p.far_past
   hears_tells = go (brought (hearing.part mx my one p h w.both k few unit rest front link at).accept unit) refl
     where
-      go : (body : Option (List ℕ)) → brought (hearing.part mx my one p h w.both k few unit rest front link at).accept unit ≡ body → FrontTells (unit ∷ rest) (moving.report mx my one p h k few unit rest front link at).took p.near p.far_past
+      go : (body : Option (List ℕ)) → brought (hearing.part mx my one p h w.both k few unit rest front link at).accept
+          unit ≡ body → FrontTells (unit ∷ rest) (moving.report mx my one p h k few unit rest front link at).took p.near
+          p.far_past
       go None e = rw e tt
       go (Some body) e = any_tells (moving.report mx my one p h k few unit rest front link at).took (some_tells body e)
 
@@ -296,7 +335,9 @@ module _ (k : ℕ) (s : State) (sound : IsSound s) (link : LinkState) (at : IsAt
         up_then = ap link_is_up risen_there;
         accepted_then = ap accepted_of risen_there;
         unsettled_then = ap link_is_settled risen_there;
-        own = λ count. let empty : queue count k s.rows ≡ [] = rw (none.unack_none, none.wait_none, none.held_none, drop_none {X = Row} count) refl in queue_rises count k s.rows none.held_none ∙ ap (λ (x : List Message). x ++ messages (parked s.rows)) empty;
+        own = λ count. let empty : queue count k s.rows ≡ [] =
+            rw (none.unack_none, none.wait_none, none.held_none, drop_none {X = Row} count) refl in queue_rises count k
+            s.rows none.held_none ∙ ap (λ (x : List Message). x ++ messages (parked s.rows)) empty;
         others = u.others;
         none_aside = u.parked_none;
         links = λ l d. get_set_other s.links k l (risen_link s.settings.profile s.settings.method) (λ same. false_true (k == l) d (rw same (itself l)));
@@ -315,10 +356,13 @@ module _ (k : ℕ) (s : State) (sound : IsSound s) (link : LinkState) (at : IsAt
   parked_not_discarded (Discarded cause) e = absurd cc
 
   pub rises_discards : standing was_discarded (step s (UpEvent k)).state.rows ≡ standing was_discarded s.rows
-  rises_discards = ap (λ (o : Outcome). standing was_discarded o.state.rows) rises_is ∙ moved_same is_parked was_discarded (all_with (Waiting k)) s.rows (λ row. refl) (λ fate e. parked_not_discarded fate e)
+  rises_discards = ap (λ (o : Outcome). standing was_discarded o.state.rows) rises_is
+      ∙ moved_same is_parked was_discarded (all_with (Waiting k)) s.rows (λ row. refl)
+      (λ fate e. parked_not_discarded fate e)
 
 -- at one end, while it does at the other
-half_rises : (k : ℕ) (s t f g : State) (past : Past) → IsSound s → t ≡ (step s (UpEvent k)).state → Rises k s t → Rises k f g → Half s f past → Half t g (past_risen k past)
+half_rises : (k : ℕ) (s t f g : State) (past : Past) → IsSound s → t ≡ (step s (UpEvent k)).state → Rises k s t
+    → Rises k f g → Half s f past → Half t g (past_risen k past)
 half_rises k s t f g past sound is a b w = record {
   equal = λ l e. go l e (k == l) refl;
   acked = λ l. rw is (rises_first l k s past sound a.settled_was (w.acked l));
@@ -327,17 +371,22 @@ half_rises k s t f g past sound is a b w = record {
 }
   where
     go : (l : ℕ) → is_settled l t ≡ true → (c : Bool) → (k == l) ≡ c → acked_on l t ≡ accepted_on l g
-    go l e true d = absurd (let here : is_settled k t ≡ true = subst (λ (n : ℕ). is_settled n t ≡ true) (sym (eqb-true k l d)) e in let no : false ≡ true = sym a.unsettled_then ∙ here in cc)
+    go l e true d = absurd (let here : is_settled k t ≡ true =
+          subst (λ (n : ℕ). is_settled n t ≡ true) (sym (eqb-true k l d)) e in let no : false ≡ true =
+        sym a.unsettled_then ∙ here in cc)
     go l e false d = ap acked_of (a.links l d) ∙ w.equal l (ap link_is_settled (sym (a.links l d)) ∙ e) ∙ sym (ap accepted_of (b.links l d))
 
 settles_none : (k : ℕ) (s t : State) (near far : Past) → Rises k s t → SettlesSo near far s t
 settles_none k s t near far a l e now = go (k == l) refl
   where
     go : (c : Bool) → (k == l) ≡ c → Diverts l (near.sent l) (far.taken l) s t
-    go true d = absurd (let here : is_settled k t ≡ true = subst (λ (n : ℕ). is_settled n t ≡ true) (sym (eqb-true k l d)) now in let no : false ≡ true = sym a.unsettled_then ∙ here in cc)
+    go true d = absurd (let here : is_settled k t ≡ true =
+          subst (λ (n : ℕ). is_settled n t ≡ true) (sym (eqb-true k l d)) now in let no : false ≡ true =
+        sym a.unsettled_then ∙ here in cc)
     go false d = absurd (let no : false ≡ true = sym e ∙ ap link_is_settled (sym (a.links l d)) ∙ now in cc)
 
-module _ (mx my : Method) (p : Two) (h : HoldsOf mx my p) (w : Whole p) (k : ℕ) (few : k < length p.near.links) (near_settled : is_settled k p.near ≡ true) (far_settled : is_settled k p.far ≡ true) where
+module _ (mx my : Method) (p : Two) (h : HoldsOf mx my p) (w : Whole p) (k : ℕ) (few : k < length p.near.links)
+    (near_settled : is_settled k p.near ≡ true) (far_settled : is_settled k p.far ≡ true) where
   pub rises_did : Did p (moving.risen mx my p h k few near_settled far_settled)
   rises_did =
       let near_at = settled_at k p.near near_settled in

@@ -76,7 +76,8 @@ module _ {emergencies : Bool} (s t f : State) (a : Acts s t f) (o : Both emergen
   }
 
 -- where it accepts nothing the other's queues are the same
-pub far_same : (s t f : State) → ((link : ℕ) → accepted_on link t ≡ accepted_on link s) → (link : ℕ) (m : Message) → Among m (pending link f t) → Among m (pending link f s)
+pub far_same : (s t f : State) → ((link : ℕ) → accepted_on link t ≡ accepted_on link s) → (link : ℕ) (m : Message)
+    → Among m (pending link f t) → Among m (pending link f s)
 far_same s t f same link m among = subst (λ (k : ℕ). Among m (queue (k - acked_on link f) link f.rows)) (same link) among
 
 -- the same rows and links
@@ -96,11 +97,15 @@ pub data Grows (z : Message) (is_there : Bool) (old new : List Message) : Type 0
   ungrown : is_there ≡ false → new ≡ old → Grows z is_there old new
 
 module _ (count link number : ℕ) (rows : List Row) (body : List ℕ) where
-  waits_so : (k : ℕ) (b : Bool) → (k == link) ≡ b → (b ≡ true → held link rows ≡ []) → Grows (new_message number body) b (queue count link rows) (queue count link (appended number rows body (Waiting k)))
+  waits_so : (k : ℕ) (b : Bool) → (k == link) ≡ b → (b ≡ true → held link rows ≡ [])
+      → Grows (new_message number body) b (queue count link rows)
+      (queue count link (appended number rows body (Waiting k)))
   waits_so k true e none = grown refl (queue_waits count link number rows body (Waiting k) e refl refl (none refl))
   waits_so k false e none = ungrown refl (queue_apart count link number rows body (Waiting k) e)
 
-  holds_so : (k : ℕ) (b : Bool) → (k == link) ≡ b → Grows (new_message number body) b (queue count link rows) (queue count link (appended number rows body (Held k)))
+  holds_so : (k : ℕ) (b : Bool) → (k == link) ≡ b
+      → Grows (new_message number body) b (queue count link rows)
+      (queue count link (appended number rows body (Held k)))
   holds_so k true e = grown refl (queue_holds count link number rows body (Held k) refl refl e)
   holds_so k false e = ungrown refl (queue_apart count link number rows body (Held k) e)
 
@@ -111,7 +116,9 @@ module _ (count link number : ℕ) (rows : List Row) (body : List ℕ) where
     to_park : IsNew Parked
     to_back : (code : ℕ) → IsNew (Back code)
 
-  pub grows : (fate : Fate) → IsNew fate → Grows (new_message number body) (is_on link fate) (queue count link rows) (queue count link (appended number rows body fate))
+  pub grows : (fate : Fate) → IsNew fate
+      → Grows (new_message number body) (is_on link fate) (queue count link rows)
+      (queue count link (appended number rows body fate))
   grows (Waiting l) (to_wait k none) = waits_so k (k == link) refl none
   grows (Held l) (to_hold k) = holds_so k (k == link) refl
   grows Parked to_park = ungrown refl (queue_apart count link number rows body Parked refl)
@@ -129,22 +136,33 @@ held_none s link sound up = go (slice_get s.links link) refl
     go (Some state) e = (sound.links link state e).none_held (sym (ap link_is_up e) ∙ up)
 
 -- A NEW MESSAGE that is no order
-module _ (s f : State) (body : List ℕ) (fate : Fate) (t : State) (rows : t.rows ≡ appended (given s) s.rows body fate) (links : t.links ≡ s.links) (new : (link : ℕ) → IsNew 0 link (given s) s.rows body fate) (no_order : IsNoOrder body) where
+module _ (s f : State) (body : List ℕ) (fate : Fate) (t : State) (rows : t.rows ≡ appended (given s) s.rows body fate)
+    (links : t.links ≡ s.links) (new : (link : ℕ) → IsNew 0 link (given s) s.rows body fate) (no_order : IsNoOrder body)
+    where
   abbrev count_at : ℕ → ℕ
   count_at link = accepted_on link f - acked_on link s
 
-  offer_came : (link : ℕ) (m : Message) → Grows (new_message (given s) body) (is_on link fate) (pending link s f) (queue (count_at link) link (appended (given s) s.rows body fate)) → Among m (queue (count_at link) link (appended (given s) s.rows body fate)) → Came (view s f) link m
+  offer_came : (link : ℕ) (m : Message)
+      → Grows (new_message (given s) body) (is_on link fate) (pending link s f)
+      (queue (count_at link) link (appended (given s) s.rows body fate))
+      → Among m (queue (count_at link) link (appended (given s) s.rows body fate)) → Came (view s f) link m
   offer_came link m (ungrown e q) among = stayed (subst (λ (x : List Message). Among m x) q among)
-  offer_came link m (grown e q) among = go (among_joined m (pending link s f) (new_message (given s) body ∷ []) (subst (λ (x : List Message). Among m x) q among))
+  offer_came link m (grown e q) among =
+      go (among_joined m (pending link s f) (new_message (given s) body ∷ [])
+        (subst (λ (x : List Message). Among m x) q among))
     where
       go : Among m (pending link s f) ⊎ Among m (new_message (given s) body ∷ []) → Came (view s f) link m
       go (inl a) = stayed a
       go (inr (inl e)) = plain (λ order is over. no_order order (ap (λ (x : Message). order_any x.body) (sym e) ∙ is) over)
       go (inr (inr a)) = absurd a
 
-  offer_aside : (m : Message) (b : Bool) → is_parked fate ≡ b → Among m (messages (Rattle.set_model.specs.Rows.parked (appended (given s) s.rows body fate))) → CameAside (view s f) m
+  offer_aside : (m : Message) (b : Bool) → is_parked fate ≡ b
+      → Among m (messages (Rattle.set_model.specs.Rows.parked (appended (given s) s.rows body fate)))
+      → CameAside (view s f) m
   offer_aside m false e among = was_in (stands_aside (subst (λ (x : List Message). Among m x) (aside_apart 0 0 (given s) s.rows body fate e) among))
-  offer_aside m true e among = go (among_joined m (aside s) (new_message (given s) body ∷ []) (subst (λ (x : List Message). Among m x) (aside_joins 0 0 (given s) s.rows body fate e) among))
+  offer_aside m true e among = go
+      (among_joined m (aside s) (new_message (given s) body ∷ [])
+        (subst (λ (x : List Message). Among m x) (aside_joins 0 0 (given s) s.rows body fate e) among))
     where
       go : Among m (aside s) ⊎ Among m (new_message (given s) body ∷ []) → CameAside (view s f) m
       go (inl a) = was_in (stands_aside a)
@@ -161,7 +179,8 @@ module _ (s f : State) (body : List ℕ) (fate : Fate) (t : State) (rows : t.row
     far_came = far_same s t f (λ link. ap (λ (ls : List LinkState). accepted_of (slice_get ls link)) links);
   }
     where
-      grows_at : (link : ℕ) → Grows (new_message (given s) body) (is_on link fate) (pending link s f) (queue (count_at link) link (appended (given s) s.rows body fate))
+      grows_at : (link : ℕ) → Grows (new_message (given s) body) (is_on link fate) (pending link s f)
+          (queue (count_at link) link (appended (given s) s.rows body fate))
       grows_at link = grows (count_at link) link (given s) s.rows body fate (again fate (new link))
         where
           again : (fate : Fate) → IsNew 0 link (given s) s.rows body fate → IsNew (count_at link) link (given s) s.rows body fate
@@ -174,7 +193,10 @@ module _ (s f : State) (body : List ℕ) (fate : Fate) (t : State) (rows : t.row
           again (Discarded cause) new = elim new [ ]
 
 -- AN ORDER IS QUEUED
-module _ {emergencies : Bool} (s f : State) (order : Order) (sound : IsSound s) (o : Both emergencies s f) (is : order_any (text s.settings.profile order s.settings.sio s.settings.dpc s.settings.opc) ≡ Some order) (tells : Tells emergencies (view s f) order) (fresh : NoneAbout (link_of order) (view s f)) (down : is_up (link_of order) s ≡ false) (unsettled : is_settled (link_of order) f ≡ false) where
+module _ {emergencies : Bool} (s f : State) (order : Order) (sound : IsSound s) (o : Both emergencies s f)
+    (is : order_any (text s.settings.profile order s.settings.sio s.settings.dpc s.settings.opc) ≡ Some order)
+    (tells : Tells emergencies (view s f) order) (fresh : NoneAbout (link_of order) (view s f))
+    (down : is_up (link_of order) s ≡ false) (unsettled : is_settled (link_of order) f ≡ false) where
   abbrev body : List ℕ
   body = text s.settings.profile order s.settings.sio s.settings.dpc s.settings.opc
 
@@ -196,7 +218,9 @@ module _ {emergencies : Bool} (s f : State) (order : Order) (sound : IsSound s) 
       let no : false ≡ true = sym down ∙ ap (λ (k : ℕ). is_up k s) (sym same) ∙ up in
       cc
 
-  queue_came : (link : ℕ) (m : Message) → Grows z (is_on link (fate_on (target s.links))) (pending link s f) (pending link (queued order s) f) → Among m (pending link (queued order s) f) → ((m ≡ z) × (link ≢ link_of order)) ⊎ Among m (pending link s f)
+  queue_came : (link : ℕ) (m : Message)
+      → Grows z (is_on link (fate_on (target s.links))) (pending link s f) (pending link (queued order s) f)
+      → Among m (pending link (queued order s) f) → ((m ≡ z) × (link ≢ link_of order)) ⊎ Among m (pending link s f)
   queue_came link m (ungrown e q) among = inr (subst (λ (x : List Message). Among m x) q among)
   queue_came link m (grown e q) among = go (among_joined m (pending link s f) (z ∷ []) (subst (λ (x : List Message). Among m x) q among))
     where
@@ -207,7 +231,10 @@ module _ {emergencies : Bool} (s f : State) (order : Order) (sound : IsSound s) 
 
   queue_aside : (m : Message) (b : Bool) → is_parked (fate_on (target s.links)) ≡ b → Among m (aside (queued order s)) → (m ≡ z) ⊎ Among m (aside s)
   queue_aside m false e among = inr (subst (λ (x : List Message). Among m x) (aside_apart 0 0 (given s) s.rows body (fate_on (target s.links)) e) among)
-  queue_aside m true e among = go (among_joined m (aside s) (z ∷ []) (subst (λ (x : List Message). Among m x) (aside_joins 0 0 (given s) s.rows body (fate_on (target s.links)) e) among))
+  queue_aside m true e among = go
+      (among_joined m (aside s) (z ∷ [])
+        (subst (λ (x : List Message). Among m x) (aside_joins 0 0 (given s) s.rows body (fate_on (target s.links)) e)
+        among))
     where
       go : Among m (aside s) ⊎ Among m (z ∷ []) → (m ≡ z) ⊎ Among m (aside s)
       go (inl a) = inr a
@@ -221,7 +248,9 @@ module _ {emergencies : Bool} (s f : State) (order : Order) (sound : IsSound s) 
     fresh = fresh;
     down = down;
     unsettled = unsettled;
-    came = λ link m among. queue_came link m (grows (accepted_on link f - acked_on link s) link (given s) s.rows body (fate_on (target s.links)) (new_at link (target s.links) refl)) among;
+    came = λ link m among. queue_came link m
+        (grows (accepted_on link f - acked_on link s) link (given s) s.rows body (fate_on (target s.links))
+          (new_at link (target s.links) refl)) among;
     came_aside = λ m among. queue_aside m (is_parked (fate_on (target s.links))) refl among;
     up_same = λ link. refl;
     settled_same = λ link. refl;
@@ -242,11 +271,15 @@ module _ (k : ℕ) (link link' : LinkState) (s t : State) (there : slice_get s.l
   pub other_then : (l : ℕ) → (k == l) ≡ false → slice_get t.links l ≡ slice_get s.links l
   other_then l d = ap (λ (ls : List LinkState). slice_get ls l) links_are ∙ get_set_other s.links k l link' (λ same. false_true (k == l) d (rw same (itself l)))
 
-  pub by_link : (P : ℕ → Option LinkState → Option LinkState → Type 0) → P k (Some link) (Some link') → ((l : ℕ) (o : Option LinkState) → (k == l) ≡ false → P l o o) → (l : ℕ) → P l (slice_get s.links l) (slice_get t.links l)
+  pub by_link : (P : ℕ → Option LinkState → Option LinkState → Type 0) → P k (Some link) (Some link')
+      → ((l : ℕ) (o : Option LinkState) → (k == l) ≡ false → P l o o) → (l : ℕ)
+      → P l (slice_get s.links l) (slice_get t.links l)
   by_link P own other l = go (k == l) refl
     where
       go : (b : Bool) → (k == l) ≡ b → P l (slice_get s.links l) (slice_get t.links l)
-      go true e = subst (λ (n : ℕ). P n (slice_get s.links n) (slice_get t.links n)) (eqb-true k l e) (subst (λ (o : Option LinkState). P k o (slice_get t.links k)) (sym there) (subst (λ (o : Option LinkState). P k (Some link) o) (sym own_then) own))
+      go true e = subst (λ (n : ℕ). P n (slice_get s.links n) (slice_get t.links n)) (eqb-true k l e)
+          (subst (λ (o : Option LinkState). P k o (slice_get t.links k)) (sym there)
+            (subst (λ (o : Option LinkState). P k (Some link) o) (sym own_then) own))
       go false e = subst (λ (o : Option LinkState). P l (slice_get s.links l) o) (sym (other_then l e)) (other l (slice_get s.links l) e)
 
 -- what stood at neither end about a link doesn't then

@@ -49,7 +49,10 @@ unsettled_up true b w e = absurd (let no : true ≡ false = sym e ∙ w refl in 
 up_unsettled : (phase : Phase) → phase ≡ Up → has_phase_settled phase ≡ false
 up_unsettled phase e = ap has_phase_settled e
 
-module _ {emergencies : Bool} (mx my : Method) (one : IsOneMethod mx my) (p : Two) (h : HoldsOf mx my p) (o : Both emergencies p.near p.far) (k : ℕ) (few : k < length p.near.links) (unit : SignalUnit) (rest : List SignalUnit) (front : units_on k p.back ≡ unit ∷ rest) (link : LinkState) (at : IsAt k link Up p.near) where
+module _ {emergencies : Bool} (mx my : Method) (one : IsOneMethod mx my) (p : Two) (h : HoldsOf mx my p)
+    (o : Both emergencies p.near p.far) (k : ℕ) (few : k < length p.near.links) (unit : SignalUnit)
+    (rest : List SignalUnit) (front : units_on k p.back ≡ unit ∷ rest) (link : LinkState) (at : IsAt k link Up p.near)
+    where
   abbrev x : Side
   x = side k p.near p.near_past
 
@@ -87,7 +90,8 @@ module _ {emergencies : Bool} (mx my : Method) (one : IsOneMethod mx my) (p : Tw
   kept_out = kept_tied k mx my one heard_side y (units_on k p.out) rest mid_numbered mid_tied
 
   kept_back : IsKeptOn k (past_of y) (past_of heard_side) p.far mid
-  kept_back = kept_tied k my mx (one_back mx my one) y heard_side rest (units_on k p.out) h.far_sound.numbered (turned k mx my heard_side y (units_on k p.out) rest mid_tied)
+  kept_back = kept_tied k my mx (one_back mx my one) y heard_side rest (units_on k p.out) h.far_sound.numbered
+      (turned k mx my heard_side y (units_on k p.out) rest mid_tied)
 
   -- the link at the far end
   far_at : (other : LinkState) × (slice_get p.far.links k ≡ Some other)
@@ -103,10 +107,13 @@ module _ {emergencies : Bool} (mx my : Method) (one : IsOneMethod mx my) (p : Tw
   out_reaches = reaches k p.near_past p.far_past p.near p.far (kept_on mx my one p h k) link at.there (up_unsettled link.phase at.phase_is) far_at.0 far_at.1
 
   back_reaches : Reaches k far_at.0 p.far p.near (p.far_past.sent k)
-  back_reaches = reaches k (past_of y) (past_of x) p.far p.near (kept_tied k my mx (one_back mx my one) y x (unit ∷ rest) (units_on k p.out) h.far_sound.numbered (turned k mx my x y (units_on k p.out) (unit ∷ rest) tied)) far_at.0 far_at.1 far_unsettled link at.there
+  back_reaches = reaches k (past_of y) (past_of x) p.far p.near
+      (kept_tied k my mx (one_back mx my one) y x (unit ∷ rest) (units_on k p.out) h.far_sound.numbered
+        (turned k mx my x y (units_on k p.out) (unit ∷ rest) tied)) far_at.0 far_at.1 far_unsettled link at.there
 
   pub counted : link.accepted ≡ length x.taken
-  counted = (kept_tied k my mx (one_back mx my one) y x (unit ∷ rest) (units_on k p.out) h.far_sound.numbered (turned k mx my x y (units_on k p.out) (unit ∷ rest) tied)).accepted link at.there
+  counted = (kept_tied k my mx (one_back mx my one) y x (unit ∷ rest) (units_on k p.out) h.far_sound.numbered
+        (turned k mx my x y (units_on k p.out) (unit ∷ rest) tied)).accepted link at.there
 
   mid_at : IsAt k mid_link Up mid
   mid_at = record { there = get_set_same p.near.links k mid_link (within p.near.links k link at.there); phase_is = at.phase_is }
@@ -119,10 +126,14 @@ module _ {emergencies : Bool} (mx my : Method) (one : IsOneMethod mx my) (p : Tw
       omega (arith, g.acked, same)
 
   heard_acts : ((l : ℕ) (m : Message) → Among m (pending l p.far mid) → Among m (pending l p.far p.near)) → Acts p.near mid p.far
-  heard_acts far_came = passing k link mid_link p.near mid p.far at refl at.phase_is (queue_acked (accepted_on k p.far) link.acked part.acked k p.near.rows acked_due) (acknowledged k part.acked p.near.rows).others (acknowledged k part.acked p.near.rows).parked_same far_came
+  heard_acts far_came = passing k link mid_link p.near mid p.far at refl at.phase_is
+      (queue_acked (accepted_on k p.far) link.acked part.acked k p.near.rows acked_due)
+      (acknowledged k part.acked p.near.rows).others (acknowledged k part.acked p.near.rows).parked_same far_came
 
   pub heard_queues : (l : ℕ) → pending l mid p.far ≡ pending l p.near p.far
-  heard_queues = by_link k link mid_link p.near mid at.there refl (λ n old new. queue (accepted_on n p.far - acked_of new) n mid.rows ≡ queue (accepted_on n p.far - acked_of old) n p.near.rows)
+  heard_queues = by_link k link mid_link p.near mid at.there refl
+      (λ n old new. queue (accepted_on n p.far - acked_of new) n mid.rows
+        ≡ queue (accepted_on n p.far - acked_of old) n p.near.rows)
       (queue_acked (accepted_on k p.far) link.acked part.acked k p.near.rows acked_due)
       (λ n old d. queue_untouched (accepted_on n p.far - acked_of old) n p.near.rows mid.rows ((acknowledged k part.acked p.near.rows).others n d))
 
@@ -174,17 +185,21 @@ module _ {emergencies : Bool} (mx my : Method) (one : IsOneMethod mx my) (p : Tw
     pub next_due : Due k (link.accepted - acked_on k p.far) body p.far.rows
     next_due =
         let prefix : x.taken ++ body ∷ [] ≡ take (length (x.taken ++ body ∷ [])) (bodies y.sent) = rw took_it at (kept_back.prefix) in
-        subst (λ (n : ℕ). Due k (n - acked_on k p.far) body p.far.rows) (sym counted) (due k (acked_on k p.far) p.far.rows y.sent x.taken body far_unacked far_few prefix)
+        subst (λ (n : ℕ). Due k (n - acked_on k p.far) body p.far.rows) (sym counted)
+            (due k (acked_on k p.far) p.far.rows y.sent x.taken body far_unacked far_few prefix)
 
     far_due : acked_on k p.far ≤ link.accepted
-    far_due = let d = back_reaches.due in let c : accepted_on k p.near ≡ link.accepted = ap accepted_of at.there in let a : acked_on k p.far ≡ far_at.0.acked = ap acked_of far_at.1 in omega (arith, d, c, a)
+    far_due = let d = back_reaches.due in let c : accepted_on k p.near ≡ link.accepted =
+        ap accepted_of at.there in let a : acked_on k p.far ≡ far_at.0.acked =
+        ap acked_of far_at.1 in omega (arith, d, c, a)
 
     abbrev pub first : Message
     first = record { number = next_due.row.number; body = next_due.row.body }
 
     -- the message at its place among those that were sent
     pub first_sent : slice_get y.sent (length x.taken) ≡ Some first
-    first_sent = due_message k (acked_on k p.far) p.far.rows y.sent (length x.taken) next_due.row far_unacked far_few (ap (λ (n : ℕ). slice_get (unack k p.far.rows) (n - acked_on k p.far)) (sym counted) ∙ next_due.there)
+    first_sent = due_message k (acked_on k p.far) p.far.rows y.sent (length x.taken) next_due.row far_unacked far_few
+        (ap (λ (n : ℕ). slice_get (unack k p.far.rows) (n - acked_on k p.far)) (sym counted) ∙ next_due.there)
 
     pub first_is : pending k p.far p.near ≡ first ∷ pending k p.far mid
     first_is = was_first k link mid_link p.near mid p.far at.there refl one_more next_due.row far_due next_due.there
@@ -203,7 +218,9 @@ module _ {emergencies : Bool} (mx my : Method) (one : IsOneMethod mx my) (p : Tw
 
     -- it stands nowhere at the far end then
     pub gone : (m : Message) → In m (view p.far mid) → m.number ≢ first.number
-    gone m (stands_on l a) = not_queued (given p.far) k (link.accepted - acked_on k p.far) p.far.rows h.far_sound.numbered next_due.row next_due.there (accepted_on l mid - acked_on l p.far) l (λ same. behind l same) m a
+    gone m (stands_on l a) = not_queued (given p.far) k (link.accepted - acked_on k p.far) p.far.rows
+        h.far_sound.numbered next_due.row next_due.there (accepted_on l mid - acked_on l p.far) l
+        (λ same. behind l same) m a
       where
         behind : (l : ℕ) → (k == l) ≡ true → link.accepted - acked_on k p.far < accepted_on l mid - acked_on l p.far
         behind l same = subst (λ (n : ℕ). link.accepted - acked_on k p.far < accepted_on n mid - acked_on n p.far) (eqb-true k l same)
@@ -253,20 +270,27 @@ module _ {emergencies : Bool} (mx my : Method) (one : IsOneMethod mx my) (p : Tw
       same_link : slice_get mid.links (link_of order) ≡ slice_get p.near.links (link_of order)
       same_link = other_then k link mid_link p.near mid at.there refl (link_of order) other
 
-      module _ (fsn : ℕ) (fsn_is : fsn ≡ last_on (link_of order) p.far) (state : LinkState) (there : slice_get p.near.links (link_of order) ≡ Some state) (going : has_phase_settled state.phase ≡ false) where
+      module _ (fsn : ℕ) (fsn_is : fsn ≡ last_on (link_of order) p.far) (state : LinkState)
+          (there : slice_get p.near.links (link_of order) ≡ Some state) (going : has_phase_settled state.phase ≡ false)
+          where
         far_there : (far : LinkState) × (slice_get p.far.links (link_of order) ≡ Some far)
         far_there = present p.far.links (link_of order) (omega (arith, within p.near.links (link_of order) state there, h.far_links))
 
         pub told_before : Told fsn (link_of order) state p.near p.far
         told_before =
-            let r = reaches (link_of order) p.near_past p.far_past p.near p.far (kept_on mx my one p h (link_of order)) state there going far_there.0 far_there.1 in
-            let other_profile : far_there.0.profile ≡ state.profile = (h.far_sound.links (link_of order) far_there.0 far_there.1).profile ∙ h.profiles ∙ sym ((h.near_sound.links (link_of order) state there).profile) in
+            let r = reaches (link_of order) p.near_past p.far_past p.near p.far (kept_on mx my one p h (link_of order))
+                state there going far_there.0 far_there.1 in
+            let other_profile : far_there.0.profile ≡ state.profile =
+                (h.far_sound.links (link_of order) far_there.0 far_there.1).profile ∙ h.profiles
+                ∙ sym ((h.near_sound.links (link_of order) state there).profile) in
             let told : last_on (link_of order) p.far ≡ last_accepted far_there.0 = ap last_of far_there.1 in
             let count : accepted_on (link_of order) p.far ≡ far_there.0.accepted = ap accepted_of far_there.1 in
             record { last = fsn_is ∙ told ∙ rw (other_profile, count) refl; due = r.due; within = r.within }
 
         told_then : Told fsn (link_of order) state mid p.far
-        told_then = record { last = told_before.last; due = told_before.due; within = rw (((acknowledged k part.acked p.near.rows).others (link_of order) other).unack_same) (told_before.within) }
+        told_then = record { last = told_before.last; due = told_before.due;
+              within = rw (((acknowledged k part.acked p.near.rows).others (link_of order) other).unack_same)
+            (told_before.within) }
 
       going_at : (state : LinkState) → slice_get mid.links (link_of order) ≡ Some state → has_phase_settled state.phase ≡ false
       going_at state there = ap link_is_settled (sym there ∙ same_link) ∙ unsettled
@@ -289,33 +313,49 @@ module _ {emergencies : Bool} (mx my : Method) (one : IsOneMethod mx my) (p : Tw
 
     module _ (l fsn : ℕ) (is : order_of p.near.settings.profile body ≡ Some (Coo l fsn)) where
       coo_told : (state : LinkState) → slice_get mid.links l ≡ Some state → Told fsn l state mid p.far
-      coo_told state there = told_then (Coo l fsn) is tt fsn (tells (Coo l fsn) is tt) state (sym (same_link (Coo l fsn) is tt) ∙ there) (going_at (Coo l fsn) is tt state there)
+      coo_told state there = told_then (Coo l fsn) is tt fsn (tells (Coo l fsn) is tt) state
+          (sym (same_link (Coo l fsn) is tt) ∙ there) (going_at (Coo l fsn) is tt state there)
 
-      coo_obeyed : (state : LinkState) → slice_get mid.links l ≡ Some state → (phase : Phase) → state.phase ≡ phase → Obeys emergencies k body mid p.far (changed_over (Upto fsn) l state phase mid).state
-      coo_obeyed state there Up e = answers fsn l state (other (Coo l fsn) is tt) (record { there = there; phase_is = e }) (coo_told state there) (heard (Coo l fsn) is tt) (over_is (Coo l fsn) is tt)
-      coo_obeyed state there Down e = settles fsn l state (other (Coo l fsn) is tt) (record { there = there; phase_is = e }) (coo_told state there) (heard (Coo l fsn) is tt) (over_is (Coo l fsn) is tt)
+      coo_obeyed : (state : LinkState) → slice_get mid.links l ≡ Some state → (phase : Phase) → state.phase ≡ phase
+          → Obeys emergencies k body mid p.far (changed_over (Upto fsn) l state phase mid).state
+      coo_obeyed state there Up e = answers fsn l state (other (Coo l fsn) is tt)
+          (record { there = there; phase_is = e }) (coo_told state there) (heard (Coo l fsn) is tt)
+          (over_is (Coo l fsn) is tt)
+      coo_obeyed state there Down e =
+          settles fsn l state (other (Coo l fsn) is tt) (record { there = there; phase_is = e }) (coo_told state there)
+          (heard (Coo l fsn) is tt) (over_is (Coo l fsn) is tt)
       coo_obeyed state there Settled e = absurd (let no : true ≡ false = sym (ap has_phase_settled e) ∙ going_at (Coo l fsn) is tt state there in cc)
 
     module _ (l fsn : ℕ) (is : order_of p.near.settings.profile body ≡ Some (Coa l fsn)) where
       coa_told : (state : LinkState) → slice_get mid.links l ≡ Some state → Told fsn l state mid p.far
-      coa_told state there = told_then (Coa l fsn) is tt fsn (tells (Coa l fsn) is tt) state (sym (same_link (Coa l fsn) is tt) ∙ there) (going_at (Coa l fsn) is tt state there)
+      coa_told state there = told_then (Coa l fsn) is tt fsn (tells (Coa l fsn) is tt) state
+          (sym (same_link (Coa l fsn) is tt) ∙ there) (going_at (Coa l fsn) is tt state there)
 
-      coa_obeyed : (state : LinkState) → slice_get mid.links l ≡ Some state → (phase : Phase) → state.phase ≡ phase → Obeys emergencies k body mid p.far (answered (Upto fsn) l state phase mid).state
+      coa_obeyed : (state : LinkState) → slice_get mid.links l ≡ Some state → (phase : Phase) → state.phase ≡ phase
+          → Obeys emergencies k body mid p.far (answered (Upto fsn) l state phase mid).state
       coa_obeyed state there Up e = keeps mid refl refl refl (no_back (Coa l fsn) is tt)
-      coa_obeyed state there Down e = settles fsn l state (other (Coa l fsn) is tt) (record { there = there; phase_is = e }) (coa_told state there) (heard (Coa l fsn) is tt) (over_is (Coa l fsn) is tt)
+      coa_obeyed state there Down e =
+          settles fsn l state (other (Coa l fsn) is tt) (record { there = there; phase_is = e }) (coa_told state there)
+          (heard (Coa l fsn) is tt) (over_is (Coa l fsn) is tt)
       coa_obeyed state there Settled e = keeps mid refl refl refl (no_back (Coa l fsn) is tt)
 
     -- an emergency, in which no number is told
     module _ (l : ℕ) (is : order_of p.near.settings.profile body ≡ Some (Eco l)) where
-      eco_obeyed : (state : LinkState) → slice_get mid.links l ≡ Some state → (phase : Phase) → state.phase ≡ phase → Obeys emergencies k body mid p.far (changed_over Unknown l state phase mid).state
-      eco_obeyed state there Up e = answers_blind l state (tells (Eco l) is tt) (other (Eco l) is tt) (record { there = there; phase_is = e }) (heard (Eco l) is tt) (over_is (Eco l) is tt)
-      eco_obeyed state there Down e = settles_blind l state (tells (Eco l) is tt) (other (Eco l) is tt) (record { there = there; phase_is = e }) (heard (Eco l) is tt) (over_is (Eco l) is tt)
+      eco_obeyed : (state : LinkState) → slice_get mid.links l ≡ Some state → (phase : Phase) → state.phase ≡ phase
+          → Obeys emergencies k body mid p.far (changed_over Unknown l state phase mid).state
+      eco_obeyed state there Up e = answers_blind l state (tells (Eco l) is tt) (other (Eco l) is tt)
+          (record { there = there; phase_is = e }) (heard (Eco l) is tt) (over_is (Eco l) is tt)
+      eco_obeyed state there Down e =
+          settles_blind l state (tells (Eco l) is tt) (other (Eco l) is tt) (record { there = there; phase_is = e })
+          (heard (Eco l) is tt) (over_is (Eco l) is tt)
       eco_obeyed state there Settled e = absurd (let no : true ≡ false = sym (ap has_phase_settled e) ∙ going_at (Eco l) is tt state there in cc)
 
-    cba_obeyed : (l code : ℕ) → order_of p.near.settings.profile body ≡ Some (Cba l code) → (c : Code) → code_of code mid.routing ≡ c → Obeys emergencies k body mid p.far (acknowledged_back code c mid).state
+    cba_obeyed : (l code : ℕ) → order_of p.near.settings.profile body ≡ Some (Cba l code) → (c : Code)
+        → code_of code mid.routing ≡ c → Obeys emergencies k body mid p.far (acknowledged_back code c mid).state
     cba_obeyed l code is Free e = keeps mid refl refl refl (record {
       none_declared = λ m d f. let no : Some (Cba l code) ≡ Some (Cbd m d) = sym is ∙ f in absurd cc;
-      none_in_use = λ m d f. let same : Some (Cba l code) ≡ Some (Cba m d) = sym is ∙ f in let one : code ≡ d = cc in subst (λ (n : ℕ). code_of n mid.routing ≡ Free) one e;
+      none_in_use = λ m d f. let same : Some (Cba l code) ≡ Some (Cba m d) = sym is
+          ∙ f in let one : code ≡ d = cc in subst (λ (n : ℕ). code_of n mid.routing ≡ Free) one e;
     })
     cba_obeyed l code is Asked e = releases l code is
     cba_obeyed l code is Spent e = releases l code is
@@ -323,19 +363,25 @@ module _ {emergencies : Bool} (mx my : Method) (one : IsOneMethod mx my) (p : Tw
     order_is_obeyed : (order : Order) → order_of p.near.settings.profile body ≡ Some order → Obeys emergencies k body mid p.far (order_obeyed order mid).state
     order_is_obeyed (Coo l fsn) is = go (slice_get mid.links l) refl
       where
-        go : (there : Option LinkState) → slice_get mid.links l ≡ there → Obeys emergencies k body mid p.far (at_link l mid (λ state. changed_over (Upto fsn) l state state.phase mid) there).state
+        go : (there : Option LinkState) → slice_get mid.links l ≡ there
+            → Obeys emergencies k body mid p.far
+            (at_link l mid (λ state. changed_over (Upto fsn) l state state.phase mid) there).state
         go None e = keeps mid refl refl refl (no_back (Coo l fsn) is tt)
         go (Some state) e = coo_obeyed l fsn is state e state.phase refl
     order_is_obeyed (Coa l fsn) is = go (slice_get mid.links l) refl
       where
-        go : (there : Option LinkState) → slice_get mid.links l ≡ there → Obeys emergencies k body mid p.far (at_link l mid (λ state. answered (Upto fsn) l state state.phase mid) there).state
+        go : (there : Option LinkState) → slice_get mid.links l ≡ there
+            → Obeys emergencies k body mid p.far
+            (at_link l mid (λ state. answered (Upto fsn) l state state.phase mid) there).state
         go None e = keeps mid refl refl refl (no_back (Coa l fsn) is tt)
         go (Some state) e = coa_obeyed l fsn is state e state.phase refl
     order_is_obeyed (Cbd l code) is = acknowledges l code is
     order_is_obeyed (Cba l code) is = cba_obeyed l code is (code_of code mid.routing) refl
     order_is_obeyed (Eco l) is = go (slice_get mid.links l) refl
       where
-        go : (there : Option LinkState) → slice_get mid.links l ≡ there → Obeys emergencies k body mid p.far (at_link l mid (λ state. changed_over Unknown l state state.phase mid) there).state
+        go : (there : Option LinkState) → slice_get mid.links l ≡ there
+            → Obeys emergencies k body mid p.far
+            (at_link l mid (λ state. changed_over Unknown l state state.phase mid) there).state
         go None e = keeps mid refl refl refl (no_back (Eco l) is tt)
         go (Some state) e = eco_obeyed l is state e state.phase refl
     order_is_obeyed (Eca l) is = absurd (tells (Eca l) is tt)
@@ -371,5 +417,9 @@ module _ {emergencies : Bool} (mx my : Method) (one : IsOneMethod mx my) (p : Tw
   hears = go (brought part.accept unit) refl
     where
       go : (body : Option (List ℕ)) → brought part.accept unit ≡ body → Hears
-      go None e = record { both = none_both e; obeys = subst (λ (b : Option (List ℕ)). Obeys emergencies k (body_of b) mid p.far taken.state) (sym e) (subst (Obeys emergencies k [] mid p.far) (sym (none_taken e)) (keeps mid refl refl refl none_told)) }
-      go (Some body) e = record { both = some_both body e; obeys = subst (λ (b : Option (List ℕ)). Obeys emergencies k (body_of b) mid p.far taken.state) (sym e) (some_obeyed body e) }
+      go None e = record { both = none_both e;
+            obeys = subst (λ (b : Option (List ℕ)). Obeys emergencies k (body_of b) mid p.far taken.state) (sym e)
+          (subst (Obeys emergencies k [] mid p.far) (sym (none_taken e)) (keeps mid refl refl refl none_told)) }
+      go (Some body) e = record { both = some_both body e;
+            obeys = subst (λ (b : Option (List ℕ)). Obeys emergencies k (body_of b) mid p.far taken.state) (sym e)
+          (some_obeyed body e) }

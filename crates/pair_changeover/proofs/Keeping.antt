@@ -54,9 +54,12 @@ keeps_still s t f rows links = record {
 
 -- OFFER
 pub users_body : (p : Profile) (rows : List Row) (body : List ℕ) → offer_refusal p rows body ≡ None → (service_indicator body == 0) ≡ false
-users_body p rows body e = go (nat_lt (length body) 5) (nat_lt (longest_body p) (length body)) (service_indicator body == 0) (nat_le 1024 (length (unsent (stream_of body) rows))) e
+users_body p rows body e = go (nat_lt (length body) 5) (nat_lt (longest_body p) (length body))
+    (service_indicator body == 0) (nat_le 1024 (length (unsent (stream_of body) rows))) e
   where
-    go : (a b c d : Bool) → ◌≡◌ {A = Option SetRefusal} (cond a (Some TooShort) (cond b (Some TooLong) (cond c (Some Reserved) (cond d (Some StreamFull) None)))) None → c ≡ false
+    go : (a b c d : Bool) → ◌≡◌ {A = Option SetRefusal}
+        (cond a (Some TooShort) (cond b (Some TooLong) (cond c (Some Reserved) (cond d (Some StreamFull) None)))) None
+        → c ≡ false
     go true b c d e = absurd cc
     go false true c d e = absurd cc
     go false false true d e = absurd cc
@@ -71,12 +74,16 @@ fate_new s body link sound (On k) = go (is_up k s) refl
     go true e = to_wait k (λ same. held_none s link sound (subst (λ (n : ℕ). is_up n s ≡ true) (eqb-true k link same) e))
     go false e = to_hold k
 
-offer_keeps : {emergencies : Bool} (s f : State) (body : List ℕ) → IsSound s → (o : Option SetRefusal) → offer_refusal s.settings.profile s.rows body ≡ o → Keeps emergencies s (offered o s body).state f
+offer_keeps : {emergencies : Bool} (s f : State) (body : List ℕ) → IsSound s → (o : Option SetRefusal)
+    → offer_refusal s.settings.profile s.rows body ≡ o → Keeps emergencies s (offered o s body).state f
 offer_keeps s f body sound (Some why) e = keeps_still s s f refl refl
 offer_keeps s f body sound None e =
     let fate = fate_at (place_of (stream_of body) s.routing) s in
     record {
-      both = acts s (offered None s body).state f (offers_acts s f body fate (offered None s body).state refl refl (λ link. fate_new s body link sound (place_of (stream_of body) s.routing)) (users_no_order body (users_body s.settings.profile s.rows body e)));
+      both = acts s (offered None s body).state f
+          (offers_acts s f body fate (offered None s body).state refl refl
+            (λ link. fate_new s body link sound (place_of (stream_of body) s.routing))
+          (users_no_order body (users_body s.settings.profile s.rows body e)));
       settled = λ l. refl;
       acked = λ l g. refl;
       accepted = λ l. refl;
@@ -110,31 +117,44 @@ up_is Up e = refl
 up_is Down e = absurd cc
 up_is Settled e = absurd cc
 
-in_keeps : {emergencies : Bool} (k : ℕ) (s f : State) (act : LinkState → Outcome) → ((link : LinkState) → IsAt k link Up s → Keeps emergencies s (act link).state f) → Keeps emergencies s (in_service k s act).state f
+in_keeps : {emergencies : Bool} (k : ℕ) (s f : State) (act : LinkState → Outcome)
+    → ((link : LinkState) → IsAt k link Up s → Keeps emergencies s (act link).state f)
+    → Keeps emergencies s (in_service k s act).state f
 in_keeps {emergencies = emergencies} k s f act all = go (slice_get s.links k) refl
   where
-    at : (link : LinkState) → slice_get s.links k ≡ Some link → (b : Bool) → has_phase_up link.phase ≡ b → Keeps emergencies s (cond b (act link) (refused s NotUp)).state f
+    at : (link : LinkState) → slice_get s.links k ≡ Some link → (b : Bool) → has_phase_up link.phase ≡ b
+        → Keeps emergencies s (cond b (act link) (refused s NotUp)).state f
     at link there true e = all link (record { there = there; phase_is = up_is link.phase e })
     at link there false e = keeps_still s s f refl refl
 
-    go : (o : Option LinkState) → slice_get s.links k ≡ o → Keeps emergencies s (with_known o s (λ link. cond (has_phase_up link.phase) (act link) (refused s NotUp))).state f
+    go : (o : Option LinkState) → slice_get s.links k ≡ o
+        → Keeps emergencies s (with_known o s
+          (λ link. cond (has_phase_up link.phase) (act link) (refused s NotUp))).state f
     go None e = keeps_still s s f refl refl
     go (Some link) e = at link e (has_phase_up link.phase) refl
 
 -- DOWN, and blindly where there may be emergencies
-order_tells : (emergencies blind : Bool) (k : ℕ) (link : LinkState) (s f : State) → (blind ≡ true → emergencies ≡ true) → last_on k s ≡ last_accepted link → Tells emergencies (view s f) (leaving_order blind k link)
+order_tells : (emergencies blind : Bool) (k : ℕ) (link : LinkState) (s f : State) → (blind ≡ true → emergencies ≡ true)
+    → last_on k s ≡ last_accepted link → Tells emergencies (view s f) (leaving_order blind k link)
 order_tells emergencies false k link s f may same = sym same
 order_tells emergencies true k link s f may same = may refl
 
-order_is_read : (blind : Bool) (k : ℕ) (link : LinkState) (settings : Settings) → AreCodes settings → k < 16 → link.profile ≡ settings.profile → order_any (text settings.profile (leaving_order blind k link) settings.sio settings.dpc settings.opc) ≡ Some (leaving_order blind k link)
-order_is_read false k link settings codes few same = coo_read settings k (last_accepted link) codes few (rw (← same) (cycle link.profile (link.accepted + fsn_before_first link.profile)))
+order_is_read : (blind : Bool) (k : ℕ) (link : LinkState) (settings : Settings) → AreCodes settings → k < 16
+    → link.profile ≡ settings.profile
+    → order_any (text settings.profile (leaving_order blind k link) settings.sio settings.dpc settings.opc)
+    ≡ Some (leaving_order blind k link)
+order_is_read false k link settings codes few same =
+    coo_read settings k (last_accepted link) codes few
+    (rw (← same) (cycle link.profile (link.accepted + fsn_before_first link.profile)))
 order_is_read true k link settings codes few same = eco_read settings k codes few
 
 link_is_left : (blind : Bool) (k : ℕ) (link : LinkState) → link_of (leaving_order blind k link) ≡ k
 link_is_left false k link = refl
 link_is_left true k link = refl
 
-down_at : {emergencies : Bool} (blind : Bool) (k : ℕ) (link : LinkState) (s f : State) → (blind ≡ true → emergencies ≡ true) → IsSound s → AreCodes s.settings → IsAt k link Up s → Keeps emergencies s (queued (leaving_order blind k link) (left_by blind k link s)) f
+down_at : {emergencies : Bool} (blind : Bool) (k : ℕ) (link : LinkState) (s f : State)
+    → (blind ≡ true → emergencies ≡ true) → IsSound s → AreCodes s.settings → IsAt k link Up s
+    → Keeps emergencies s (queued (leaving_order blind k link) (left_by blind k link s)) f
 down_at {emergencies = emergencies} blind k link s f may sound codes at =
     let order = leaving_order blind k link in
     let left = left_by blind k link s in
@@ -154,14 +174,17 @@ down_at {emergencies = emergencies} blind k link s f may sound codes at =
       settled = all (λ n old new. link_is_settled new ≡ link_is_settled old) (sym was) (λ n old d. refl);
       acked = λ l e. all (λ n old new. acked_of new ≡ acked_of old) refl (λ n old d. refl) l;
       accepted = all (λ n old new. accepted_of new ≡ accepted_of old) refl (λ n old d. refl);
-      discards = appended_out (given left) left.rows (text s.settings.profile order s.settings.sio s.settings.dpc s.settings.opc) (fate_on (target left.links)) was_discarded (not_discarded (target left.links)) ∙ leaves_discards blind k link s f sound at;
+      discards = appended_out (given left) left.rows
+          (text s.settings.profile order s.settings.sio s.settings.dpc s.settings.opc) (fate_on (target left.links))
+          was_discarded (not_discarded (target left.links)) ∙ leaves_discards blind k link s f sound at;
     }
 
 pub down_kept : {emergencies : Bool} (k : ℕ) (s f : State) → IsSound s → AreCodes s.settings → Keeps emergencies s (step s (DownEvent k)).state f
 unfolding step
 down_kept k s f sound codes = in_keeps k s f (falls false k s) (λ link at. down_at false k link s f (λ e. absurd cc) sound codes at)
 
-pub blind_kept : {emergencies : Bool} (k : ℕ) (s f : State) → emergencies ≡ true → IsSound s → AreCodes s.settings → Keeps emergencies s (step s (DownBlind k)).state f
+pub blind_kept : {emergencies : Bool} (k : ℕ) (s f : State) → emergencies ≡ true → IsSound s → AreCodes s.settings
+    → Keeps emergencies s (step s (DownBlind k)).state f
 unfolding step
 blind_kept k s f may sound codes = in_keeps k s f (falls true k s) (λ link at. down_at true k link s f (λ e. may) sound codes at)
 
@@ -175,12 +198,15 @@ keeps_then s t u f p q = record {
   discards = q.discards ∙ p.discards;
 }
 
-declared_keeps : {emergencies : Bool} (home alternative : ℕ) (s f : State) → IsSound s → can_declare home alternative s ≡ true → Keeps emergencies s (declared home alternative s) f
+declared_keeps : {emergencies : Bool} (home alternative : ℕ) (s f : State) → IsSound s
+    → can_declare home alternative s ≡ true → Keeps emergencies s (declared home alternative s) f
 declared_keeps home alternative s f sound can =
     let body = text s.settings.profile (Cbd home (code_for home alternative)) s.settings.sio s.settings.dpc s.settings.opc in
     record {
       both = acts s (declared home alternative s) f (offers_acts s f body (Waiting alternative) (declared home alternative s) refl refl
-          (λ link. to_wait alternative (λ same. held_none s link sound (subst (λ (n : ℕ). is_up n s ≡ true) (eqb-true alternative link same) (alternative_up home alternative s can))))
+          (λ link. to_wait alternative (λ same. held_none s link sound
+                  (subst (λ (n : ℕ). is_up n s ≡ true) (eqb-true alternative link same)
+                (alternative_up home alternative s can))))
           (cbd_plain s.settings home (code_for home alternative)));
       settled = λ l. refl;
       acked = λ l g. refl;
@@ -188,12 +214,18 @@ declared_keeps home alternative s f sound can =
       discards = appended_out (given s) s.rows body (Waiting alternative) was_discarded refl;
     }
 
-declares_keep : {emergencies : Bool} (home alternative n : ℕ) (s f : State) → IsSound s → is_up home s ≡ true → Keeps emergencies s (declared_from home alternative n s) f
+declares_keep : {emergencies : Bool} (home alternative n : ℕ) (s f : State) → IsSound s → is_up home s ≡ true
+    → Keeps emergencies s (declared_from home alternative n s) f
 declares_keep {emergencies = emergencies} home alternative zero s f sound up = keeps_still s s f refl refl
-declares_keep {emergencies = emergencies} home alternative (suc n) s f sound up = go (can_declare home alternative s) refl (λ t still rising. declares_keep home (suc alternative) n t f still rising)
+declares_keep {emergencies = emergencies} home alternative (suc n) s f sound up =
+    go (can_declare home alternative s) refl (λ t still rising. declares_keep home (suc alternative) n t f still rising)
   where
-    go : (b : Bool) → can_declare home alternative s ≡ b → ((t : State) → IsSound t → is_up home t ≡ true → Keeps emergencies t (declared_from home (suc alternative) n t) f) → Keeps emergencies s (declared_from home alternative (suc n) s) f
-    go true e later = rw e (keeps_then s (declared home alternative s) _ f (declared_keeps home alternative s f sound e) (later (declared home alternative s) (declares home alternative s up e sound) up))
+    go : (b : Bool) → can_declare home alternative s ≡ b
+        → ((t : State) → IsSound t → is_up home t ≡ true
+          → Keeps emergencies t (declared_from home (suc alternative) n t) f)
+        → Keeps emergencies s (declared_from home alternative (suc n) s) f
+    go true e later = rw e (keeps_then s (declared home alternative s) _ f (declared_keeps home alternative s f sound e)
+          (later (declared home alternative s) (declares home alternative s up e sound) up))
     go false e later = rw e (later s sound up)
 
 comes_keep : {emergencies : Bool} (k : ℕ) (s f : State) → IsSound s → is_up k s ≡ true → Keeps emergencies s (comes_back k s).state f
@@ -226,7 +258,8 @@ waiting_not_discarded k (Discarded cause) e = absurd cc
 unmoved : (k count : ℕ) (rows : List Row) → Unmoved k count rows rows
 unmoved k count rows = record { own = refl; others = λ l d. untouched l rows rows refl; parked_same = refl; discards = refl }
 
-sent_unmoved : (k count : ℕ) (link : LinkState) (s : State) → IsSound s → IsAt k link Up s → count ≤ length (unack k s.rows) → (choice : Choice) → Unmoved k count s.rows (rows_sent choice k s.rows)
+sent_unmoved : (k count : ℕ) (link : LinkState) (s : State) → IsSound s → IsAt k link Up s
+    → count ≤ length (unack k s.rows) → (choice : Choice) → Unmoved k count s.rows (rows_sent choice k s.rows)
 sent_unmoved k count link s sound at few (again place) = unmoved k count s.rows
 sent_unmoved k count link s sound at few fill = unmoved k count s.rows
 sent_unmoved k count link s sound at few first =
@@ -240,7 +273,9 @@ sent_unmoved k count link s sound at few first =
     }
 
 -- no queue changes, nor what is aside
-pub next_queues : (k : ℕ) (link : LinkState) (s f : State) → IsSound s → IsAt k link Up s → accepted_on k f - link.acked ≤ length (unack k s.rows) → (l : ℕ) → pending l (next k s link).state f ≡ pending l s f
+pub next_queues : (k : ℕ) (link : LinkState) (s f : State) → IsSound s → IsAt k link Up s
+    → accepted_on k f - link.acked ≤ length (unack k s.rows) → (l : ℕ)
+    → pending l (next k s link).state f ≡ pending l s f
 next_queues k link s f sound at few =
     let choice = choice_of (octets_in (unack k s.rows)) link.control (window_of k link s.rows) in
     let link' : LinkState = record link { control = control_after choice (octets_in (unack k s.rows)) link.control (window_of k link s.rows) } in
@@ -256,7 +291,8 @@ next_aside k link s = go (choice_of (octets_in (unack k s.rows)) link.control (w
     go first = (sent k s.rows).parked_same
     go fill = refl
 
-pub next_keeps : {emergencies : Bool} (k : ℕ) (link : LinkState) (s f : State) → IsSound s → IsAt k link Up s → accepted_on k f - link.acked ≤ length (unack k s.rows) → Keeps emergencies s (next k s link).state f
+pub next_keeps : {emergencies : Bool} (k : ℕ) (link : LinkState) (s f : State) → IsSound s → IsAt k link Up s
+    → accepted_on k f - link.acked ≤ length (unack k s.rows) → Keeps emergencies s (next k s link).state f
 next_keeps k link s f sound at few =
     let choice = choice_of (octets_in (unack k s.rows)) link.control (window_of k link s.rows) in
     let link' : LinkState = record link { control = control_after choice (octets_in (unack k s.rows)) link.control (window_of k link s.rows) } in

@@ -59,7 +59,9 @@ module _ (blind : Bool) (k : ℕ) (link : LinkState) (s f : State) (sound : IsSo
   abbrev pub turns_to : ℕ → List Message
   turns_to l = gained (is_back_to k) goes_to (home_back k) s.rows unsent l
 
-  all : (P : ℕ → Option LinkState → Option LinkState → Type 0) → P k (Some link) (Some (left_link blind link)) → ((l : ℕ) (o : Option LinkState) → (k == l) ≡ false → P l o o) → (l : ℕ) → P l (slice_get s.links l) (slice_get left.links l)
+  all : (P : ℕ → Option LinkState → Option LinkState → Type 0) → P k (Some link) (Some (left_link blind link))
+      → ((l : ℕ) (o : Option LinkState) → (k == l) ≡ false → P l o o) → (l : ℕ)
+      → P l (slice_get s.links l) (slice_get left.links l)
   all = by_link k link (left_link blind link) s left at.there refl
 
   up_less : (l : ℕ) → is_up l left ≡ true → is_up l s ≡ true
@@ -88,7 +90,9 @@ module _ (blind : Bool) (k : ℕ) (link : LinkState) (s f : State) (sound : IsSo
       (all (λ n old new. last_of new ≡ last_of old) refl (λ n old d. refl))
 
   pub leaves_discards : standing was_discarded left.rows ≡ standing was_discarded s.rows
-  leaves_discards = moved_same (is_back_to k) was_discarded goes_to s.rows (λ row. place_not_discarded (place_of (stream_of row.body) out.routing) out) (back_kept (is_back_to k) (home_back k))
+  leaves_discards = moved_same (is_back_to k) was_discarded goes_to s.rows
+      (λ row. place_not_discarded (place_of (stream_of row.body) out.routing) out)
+      (back_kept (is_back_to k) (home_back k))
 
 -- GONE HOME
 module _ (code : ℕ) (s f : State) (sound : IsSound s) where
@@ -115,13 +119,16 @@ module _ (code : ℕ) (s f : State) (sound : IsSound s) where
   releases_queues up = turned_pending (is_back code) (all_with (Waiting home)) s gone f (code_back code) unsent_home refl (λ l. refl) (either_home up)
 
   pub releases_aside : aside gone ≡ aside s ++ messages (parked (turned_rows (is_back code) (all_with (Waiting home)) (code_back code) s.rows unsent_home))
-  releases_aside = ap messages (turned_parked (is_back code) (all_with (Waiting home)) (code_back code) s.rows unsent_home) ∙ joined (parked s.rows) (parked (turned_rows (is_back code) (all_with (Waiting home)) (code_back code) s.rows unsent_home))
+  releases_aside = ap messages (turned_parked (is_back code) (all_with (Waiting home)) (code_back code) s.rows
+        unsent_home) ∙ joined (parked s.rows)
+      (parked (turned_rows (is_back code) (all_with (Waiting home)) (code_back code) s.rows unsent_home))
 
   pub releases_acts : Acts s gone f
   releases_acts = go (is_up home s) refl
     where
       go : (b : Bool) → is_up home s ≡ b → Acts s gone f
-      go true up = turned_acts (is_back code) (all_with (Waiting home)) s gone f (code_back code) unsent_home refl (λ l. refl) (either_home up) sound.backs (λ l e. e) (λ l e. e) (λ l. refl) (λ l. refl)
+      go true up = turned_acts (is_back code) (all_with (Waiting home)) s gone f (code_back code) unsent_home refl
+          (λ l. refl) (either_home up) sound.backs (λ l e. e) (λ l e. e) (λ l. refl) (λ l. refl)
       go false down = stands_still s gone f (none_back code s sound down) refl
 
   pub releases_discards : standing was_discarded gone.rows ≡ standing was_discarded s.rows

@@ -49,7 +49,8 @@ pub record Told (fsn l : ℕ) (link : LinkState) (s f : State) : Type 0 where
 module _ (fsn l : ℕ) (link : LinkState) (s f : State) (few : length (unack l s.rows) ≤ most_unacked link.profile) (t : Told fsn l link s f) where
   pub told_reached : reached_by fsn l link s.rows ≡ accepted_on l f - link.acked
   told_reached =
-      let e = distance_is link.profile ((link.acked + fsn_before_first link.profile) % fsn_count link.profile) link.acked (accepted_on l f) (length (unack l s.rows)) refl t.due t.within few in
+      let e = distance_is link.profile ((link.acked + fsn_before_first link.profile) % fsn_count link.profile)
+          link.acked (accepted_on l f) (length (unack l s.rows)) refl t.due t.within few in
       rw (t.last) (omega (arith, e))
 
   pub told_reasonable : is_reasonable fsn l link s.rows ≡ true
@@ -82,10 +83,16 @@ pub record TellsOver (body : List ℕ) : Type 0 where
 -- what the body leads to, heard on a link; an empty one stands for none
 pub data Obeys (emergencies : Bool) (k : ℕ) (body : List ℕ) (s f : State) : State → Type 0 where
   keeps : (t : State) → t.rows ≡ s.rows → t.links ≡ s.links → t.routing ≡ s.routing → TellsNoBack body s → Obeys emergencies k body s f t
-  settles : (fsn l : ℕ) (link : LinkState) → (k == l) ≡ false → IsAt l link Down s → Told fsn l link s f → Heard l s f → TellsOver body → Obeys emergencies k body s f (settled (Upto fsn) l link s)
-  answers : (fsn l : ℕ) (link : LinkState) → (k == l) ≡ false → IsAt l link Up s → Told fsn l link s f → Heard l s f → TellsOver body → Obeys emergencies k body s f (settled (Upto fsn) l (left_link false link) (left_and_told l link s))
-  settles_blind : (l : ℕ) (link : LinkState) → emergencies ≡ true → (k == l) ≡ false → IsAt l link Down s → Heard l s f → TellsOver body → Obeys emergencies k body s f (settled Unknown l link s)
-  answers_blind : (l : ℕ) (link : LinkState) → emergencies ≡ true → (k == l) ≡ false → IsAt l link Up s → Heard l s f → TellsOver body → Obeys emergencies k body s f (settled Unknown l (left_link false link) (left_and_told l link s))
+  settles : (fsn l : ℕ) (link : LinkState) → (k == l) ≡ false → IsAt l link Down s → Told fsn l link s f → Heard l s f
+      → TellsOver body → Obeys emergencies k body s f (settled (Upto fsn) l link s)
+  answers : (fsn l : ℕ) (link : LinkState) → (k == l) ≡ false → IsAt l link Up s → Told fsn l link s f → Heard l s f
+      → TellsOver body → Obeys emergencies k body s f
+      (settled (Upto fsn) l (left_link false link) (left_and_told l link s))
+  settles_blind : (l : ℕ) (link : LinkState) → emergencies ≡ true → (k == l) ≡ false → IsAt l link Down s → Heard l s f
+      → TellsOver body → Obeys emergencies k body s f (settled Unknown l link s)
+  answers_blind : (l : ℕ) (link : LinkState) → emergencies ≡ true → (k == l) ≡ false → IsAt l link Up s → Heard l s f
+      → TellsOver body → Obeys emergencies k body s f
+      (settled Unknown l (left_link false link) (left_and_told l link s))
   acknowledges : (l code : ℕ) → order_of s.settings.profile body ≡ Some (Cbd l code) → Obeys emergencies k body s f (queued (Cba l code) s)
   releases : (l code : ℕ) → order_of s.settings.profile body ≡ Some (Cba l code) → Obeys emergencies k body s f (released code s)
 
@@ -130,14 +137,16 @@ module _ (fsn l : ℕ) (link : LinkState) (s f : State) (sound : IsSound s) (at 
   links_after : settled_then.links ≡ slice_set s.links l link_after
   links_after = links_then fsn l link s f sound at r
 
-  pub settles_equal : Told fsn l link s f → (n : ℕ) → (is_settled n s ≡ true → acked_on n s ≡ accepted_on n f) → is_settled n settled_then ≡ true → acked_on n settled_then ≡ accepted_on n f
+  pub settles_equal : Told fsn l link s f → (n : ℕ) → (is_settled n s ≡ true → acked_on n s ≡ accepted_on n f)
+      → is_settled n settled_then ≡ true → acked_on n settled_then ≡ accepted_on n f
   settles_equal t =
       let reached = told_reached fsn l link s f ((sound.links l link at.there).window) t in
       by_link l link link_after s settled_then at.there links_after
       (λ n old new. (link_is_settled old ≡ true → acked_of old ≡ accepted_on n f) → link_is_settled new ≡ true → acked_of new ≡ accepted_on n f)
       (λ before e. omega (arith, reached, t.due)) (λ n old d before e. before e)
 
-  pub settles_less : Told fsn l link s f → (n : ℕ) → (is_settled n s ≡ true → acked_on n s ≤ accepted_on n f) → is_settled n settled_then ≡ true → acked_on n settled_then ≤ accepted_on n f
+  pub settles_less : Told fsn l link s f → (n : ℕ) → (is_settled n s ≡ true → acked_on n s ≤ accepted_on n f)
+      → is_settled n settled_then ≡ true → acked_on n settled_then ≤ accepted_on n f
   settles_less t =
       let reached = told_reached fsn l link s f ((sound.links l link at.there).window) t in
       by_link l link link_after s settled_then at.there links_after
@@ -156,25 +165,39 @@ module _ (fsn l : ℕ) (link : LinkState) (s f : State) (sound : IsSound s) (at 
   pub settles_discards : standing was_discarded settled_then.rows ≡ standing was_discarded s.rows
   settles_discards =
       ap (standing was_discarded) (rows_then fsn l link s f sound at r)
-      ∙ moved_same (is_on l) was_discarded (all_with (fate_on (target s.links))) (turned (is_unacked l) (Acked l) (reached_by fsn l link s.rows) s.rows) (λ row. not_discarded (target s.links)) (λ fate e. on_not_discarded l fate e)
+      ∙ moved_same (is_on l) was_discarded (all_with (fate_on (target s.links)))
+          (turned (is_unacked l) (Acked l) (reached_by fsn l link s.rows) s.rows)
+          (λ row. not_discarded (target s.links)) (λ fate e. on_not_discarded l fate e)
       ∙ turned_same (is_unacked l) was_discarded (Acked l) refl (λ fate e. sent_not_discarded l fate e) (reached_by fsn l link s.rows) s.rows
 
   -- the target is what it was
   pub same_target : target settled_then.links ≡ target s.links
-  same_target = ap target links_after ∙ ap target_of (map_set_same (λ (k : LinkState). has_phase_up k.phase) s.links l link link_after at.there (ap has_phase_up (sym at.phase_is)))
+  same_target = ap target links_after
+      ∙ ap target_of (map_set_same (λ (k : LinkState). has_phase_up k.phase) s.links l link link_after at.there
+        (ap has_phase_up (sym at.phase_is)))
 
-  settles_moved : (to : Option ℕ) → target s.links ≡ to → messages (queue_for to settled_then.rows) ≡ messages (queue_for to s.rows) ++ queue (reached_by fsn l link s.rows) l s.rows
+  settles_moved : (to : Option ℕ) → target s.links ≡ to
+      → messages (queue_for to settled_then.rows) ≡ messages (queue_for to s.rows)
+      ++ queue (reached_by fsn l link s.rows) l s.rows
   settles_moved None e =
       let own = sound.links l link at.there in
-      ap (λ (rows : List Row). messages (parked rows)) (rows_then fsn l link s f sound at r ∙ ap (λ (to : Option ℕ). moved (is_on l) (all_with (fate_on to)) (turned (is_unacked l) (Acked l) (reached_by fsn l link s.rows) s.rows)) e)
+      ap (λ (rows : List Row). messages (parked rows))
+          (rows_then fsn l link s f sound at r
+            ∙ ap (λ (to : Option ℕ). moved (is_on l) (all_with (fate_on to))
+            (turned (is_unacked l) (Acked l) (reached_by fsn l link s.rows) s.rows)) e)
       ∙ aside_settled (reached_by fsn l link s.rows) l s.rows own.in_order own.held_last
   settles_moved (Some to) e =
       let own = sound.links l link at.there in
-      ap (λ (rows : List Row). messages (wait to rows)) (rows_then fsn l link s f sound at r ∙ ap (λ (to : Option ℕ). moved (is_on l) (all_with (fate_on to)) (turned (is_unacked l) (Acked l) (reached_by fsn l link s.rows) s.rows)) e)
-      ∙ wait_settled (reached_by fsn l link s.rows) l to s.rows (apart l to (no_target fsn l link s at.there r.reasonable at.phase_is to e)) own.in_order own.held_last
+      ap (λ (rows : List Row). messages (wait to rows))
+          (rows_then fsn l link s f sound at r
+            ∙ ap (λ (to : Option ℕ). moved (is_on l) (all_with (fate_on to))
+            (turned (is_unacked l) (Acked l) (reached_by fsn l link s.rows) s.rows)) e)
+      ∙ wait_settled (reached_by fsn l link s.rows) l to s.rows
+          (apart l to (no_target fsn l link s at.there r.reasonable at.phase_is to e)) own.in_order own.held_last
 
   -- what was pending on it stands behind what waited for the target
-  pub settles_moves : messages (queue_for (target settled_then.links) settled_then.rows) ≡ messages (queue_for (target settled_then.links) s.rows) ++ pending l s f
+  pub settles_moves : messages (queue_for (target settled_then.links) settled_then.rows)
+      ≡ messages (queue_for (target settled_then.links) s.rows) ++ pending l s f
   settles_moves =
       ap (λ (to : Option ℕ). messages (queue_for to settled_then.rows)) same_target
       ∙ settles_moved (target s.links) refl
@@ -205,7 +228,9 @@ module _ (l : ℕ) (link : LinkState) (s f : State) (sound : IsSound s) (codes :
   below = omega (arith, within s.links l link at.there, sound.count, sound.routed, sound.routing.at_most_16)
 
   pub coa_is : order_any (text s.settings.profile (Coa l (last_accepted link)) s.settings.sio s.settings.dpc s.settings.opc) ≡ Some (Coa l (last_accepted link))
-  coa_is = coa_read s.settings l (last_accepted link) codes below (rw (← (sound.links l link at.there).profile) (cycle link.profile (link.accepted + fsn_before_first link.profile)))
+  coa_is = coa_read s.settings l (last_accepted link) codes below
+      (rw (← (sound.links l link at.there).profile)
+        (cycle link.profile (link.accepted + fsn_before_first link.profile)))
 
   pub not_settled : (a b : Bool) → (a ≡ true → b ≡ false) → b ≡ true → a ≡ false
   not_settled false b w e = refl
@@ -231,7 +256,9 @@ module _ (l : ℕ) (link : LinkState) (s f : State) (sound : IsSound s) (codes :
   unack_left n = unack_same (is_back_to l) (goes_to false l link s f sound at) (home_back l) s.rows (λ m row. offered_out m _ (out_of_service false l link s)) n
 
   unack_told : unack l told.rows ≡ unack l s.rows
-  unack_told = appended_out (given left) left.rows (text s.settings.profile (Coa l (last_accepted link)) s.settings.sio s.settings.dpc s.settings.opc) (fate_on (target left.links)) (is_unacked l) (unsent (target left.links)) ∙ unack_left l
+  unack_told = appended_out (given left) left.rows
+      (text s.settings.profile (Coa l (last_accepted link)) s.settings.sio s.settings.dpc s.settings.opc)
+      (fate_on (target left.links)) (is_unacked l) (unsent (target left.links)) ∙ unack_left l
 
   same_number : given left ≡ given s
   same_number = ap (λ (n : ℕ). all_finished s.finished + n) (moved_length (is_back_to l) (goes_to false l link s f sound at) s.rows)
@@ -245,17 +272,28 @@ module _ (l : ℕ) (link : LinkState) (s f : State) (sound : IsSound s) (codes :
   pub told_accepted : (n : ℕ) → accepted_on n told ≡ accepted_on n s
   told_accepted = by_link l link (left_link false link) s left at.there refl (λ m old new. accepted_of new ≡ accepted_of old) refl (λ m old d. refl)
 
-  answer_is : (q : List Message) → q ++ record { number = given left; body = text s.settings.profile (Coa l (last_accepted link)) s.settings.sio s.settings.dpc s.settings.opc } ∷ [] ≡ q ++ answer_on l (Some link) s
+  answer_is : (q : List Message)
+      → q ++ record { number = given left;
+        body = text s.settings.profile (Coa l (last_accepted link)) s.settings.sio s.settings.dpc s.settings.opc } ∷ []
+      ≡ q ++ answer_on l (Some link) s
   answer_is q = rw (at.phase_is, same_number) refl
 
   told_target : (to : Option ℕ) → target left.links ≡ to → messages (queue_for to told.rows) ≡ messages (queue_for to left.rows) ++ answer_on l (Some link) s
   told_target None e =
-      ap (λ (to : Option ℕ). messages (parked (appended (given left) left.rows (text s.settings.profile (Coa l (last_accepted link)) s.settings.sio s.settings.dpc s.settings.opc) (fate_on to)))) e
+      ap (λ (to : Option ℕ). messages
+            (parked (appended (given left) left.rows
+              (text s.settings.profile (Coa l (last_accepted link)) s.settings.sio s.settings.dpc s.settings.opc)
+          (fate_on to)))) e
       ∙ aside_joins 0 0 (given left) left.rows (text s.settings.profile (Coa l (last_accepted link)) s.settings.sio s.settings.dpc s.settings.opc) Parked refl
       ∙ answer_is (messages (parked left.rows))
   told_target (Some to) e =
-      ap (λ (o : Option ℕ). messages (wait to (appended (given left) left.rows (text s.settings.profile (Coa l (last_accepted link)) s.settings.sio s.settings.dpc s.settings.opc) (fate_on o)))) e
-      ∙ ap messages (appended_in (given left) left.rows (text s.settings.profile (Coa l (last_accepted link)) s.settings.sio s.settings.dpc s.settings.opc) (Waiting to) (is_waiting to) (itself to))
+      ap (λ (o : Option ℕ). messages
+            (wait to (appended (given left) left.rows
+              (text s.settings.profile (Coa l (last_accepted link)) s.settings.sio s.settings.dpc s.settings.opc)
+          (fate_on o)))) e
+      ∙ ap messages (appended_in (given left) left.rows
+            (text s.settings.profile (Coa l (last_accepted link)) s.settings.sio s.settings.dpc s.settings.opc)
+          (Waiting to) (is_waiting to) (itself to))
       ∙ joined (wait to left.rows) _
       ∙ answer_is (messages (wait to left.rows))
 
@@ -272,10 +310,16 @@ module _ (l : ℕ) (link : LinkState) (s f : State) (sound : IsSound s) (codes :
 
   pub told_pending : pending l told f ≡ pending l left f
   told_pending =
-      queue_apart (accepted_on l f - acked_on l left) l (given left) left.rows (text s.settings.profile (Coa l (last_accepted link)) s.settings.sio s.settings.dpc s.settings.opc) (fate_on (target left.links)) (elsewhere (target left.links) refl (is_on l (fate_on (target left.links))) refl)
+      queue_apart (accepted_on l f - acked_on l left) l (given left) left.rows
+          (text s.settings.profile (Coa l (last_accepted link)) s.settings.sio s.settings.dpc s.settings.opc)
+          (fate_on (target left.links)) (elsewhere (target left.links) refl (is_on l (fate_on (target left.links)))
+            refl)
 
   pub told_discards : standing was_discarded told.rows ≡ standing was_discarded s.rows
-  told_discards = appended_out (given left) left.rows (text s.settings.profile (Coa l (last_accepted link)) s.settings.sio s.settings.dpc s.settings.opc) (fate_on (target left.links)) was_discarded (not_discarded (target left.links)) ∙ leaves_discards false l link s f sound at
+  told_discards = appended_out (given left) left.rows
+      (text s.settings.profile (Coa l (last_accepted link)) s.settings.sio s.settings.dpc s.settings.opc)
+      (fate_on (target left.links)) was_discarded (not_discarded (target left.links))
+      ∙ leaves_discards false l link s f sound at
 
 -- A DECLARATION IS HEARD, and acknowledged; the acknowledgement is no order of a changeover
 module _ (l code : ℕ) (s f : State) (sound : IsSound s) where
@@ -284,10 +328,14 @@ module _ (l code : ℕ) (s f : State) (sound : IsSound s) where
 
   new_back : (link : ℕ) (to : Option ℕ) → target s.links ≡ to → IsNew 0 link (given s) s.rows body_back (fate_on to)
   new_back link None e = to_park
-  new_back link (Some to) e = let up = target_up s.links to e in to_wait to (λ same. held_none s link sound (subst (λ (n : ℕ). is_up n s ≡ true) (eqb-true to link same) (ap link_is_up up.1 ∙ up.2)))
+  new_back link (Some to) e = let up =
+      target_up s.links to e in to_wait to
+      (λ same. held_none s link sound
+        (subst (λ (n : ℕ). is_up n s ≡ true) (eqb-true to link same) (ap link_is_up up.1 ∙ up.2)))
 
   pub acknowledges_acts : Acts s (queued (Cba l code) s) f
-  acknowledges_acts = offers_acts s f body_back (fate_on (target s.links)) (queued (Cba l code) s) refl refl (λ link. new_back link (target s.links) refl) (cba_plain s.settings l code)
+  acknowledges_acts = offers_acts s f body_back (fate_on (target s.links)) (queued (Cba l code) s) refl refl
+      (λ link. new_back link (target s.links) refl) (cba_plain s.settings l code)
 
   pub acknowledges_discards : standing was_discarded (queued (Cba l code) s).rows ≡ standing was_discarded s.rows
   acknowledges_discards = appended_out (given s) s.rows body_back (fate_on (target s.links)) was_discarded (not_discarded (target s.links))
@@ -295,17 +343,24 @@ module _ (l code : ℕ) (s f : State) (sound : IsSound s) where
 -- ALL OF IT
 pub record Moved (k n : ℕ) (s f t : State) : Type 0 where
   pub other : (k == n) ≡ false
-  pub moved : messages (queue_for (target t.links) t.rows) ≡ messages (queue_for (target t.links) (as_left n (slice_get s.links n) s).rows) ++ answer_on n (slice_get s.links n) s ++ pending n (as_left n (slice_get s.links n) s) f
+  pub moved : messages (queue_for (target t.links) t.rows)
+      ≡ messages (queue_for (target t.links) (as_left n (slice_get s.links n) s).rows)
+      ++ answer_on n (slice_get s.links n) s ++ pending n (as_left n (slice_get s.links n) s) f
 
 module _ {emergencies : Bool} (k : ℕ) (body : List ℕ) (s f : State) (sound : IsSound s) (codes : AreCodes s.settings) (o : Both emergencies s f) where
   pub obeys_both : (t : State) → Obeys emergencies k body s f t → Both emergencies t f
   obeys_both t (keeps _ rows links routing none) = acts s t f (stands_still s t f rows links) o
   obeys_both _ (settles fsn l link other at told_so heard over) = settles_both fsn l link s f sound at (is_reached fsn l link s f sound at told_so) o heard
   obeys_both _ (answers fsn l link other at told_so heard over) =
-      settles_both fsn l (left_link false link) (told l link s f sound codes at) f (told_sound l link s f sound codes at) (told_at l link s f sound codes at) (told_reached_so l link s f sound codes at fsn told_so) (told_both l link s f sound codes at o) (told_heard l link s f sound codes at heard)
+      settles_both fsn l (left_link false link) (told l link s f sound codes at) f
+          (told_sound l link s f sound codes at) (told_at l link s f sound codes at)
+          (told_reached_so l link s f sound codes at fsn told_so) (told_both l link s f sound codes at o)
+          (told_heard l link s f sound codes at heard)
   obeys_both _ (settles_blind l link may other at heard over) = blind_both l link s f sound at o heard.far_down heard.none
   obeys_both _ (answers_blind l link may other at heard over) =
-      blind_both l (left_link false link) (told l link s f sound codes at) f (told_sound l link s f sound codes at) (told_at l link s f sound codes at) (told_both l link s f sound codes at o) heard.far_down (told_heard l link s f sound codes at heard).none
+      blind_both l (left_link false link) (told l link s f sound codes at) f (told_sound l link s f sound codes at)
+          (told_at l link s f sound codes at) (told_both l link s f sound codes at o) heard.far_down
+          (told_heard l link s f sound codes at heard).none
   obeys_both _ (acknowledges l code is) = acts s (queued (Cba l code) s) f (acknowledges_acts l code s f sound) o
   obeys_both _ (releases l code is) = acts s (released code s) f (releases_acts code s f sound) o
 
@@ -315,7 +370,9 @@ module _ {emergencies : Bool} (k : ℕ) (body : List ℕ) (s f : State) (sound :
   obeys_accepted _ (settles fsn l link other at told_so heard over) n = settles_accepted fsn l link s f sound at (is_reached fsn l link s f sound at told_so) n
   obeys_accepted _ (settles_blind l link may other at heard over) n = blind_accepted l link s f sound at n
   obeys_accepted _ (answers fsn l link other at told_so heard over) n =
-      settles_accepted fsn l (left_link false link) (told l link s f sound codes at) f (told_sound l link s f sound codes at) (told_at l link s f sound codes at) (told_reached_so l link s f sound codes at fsn told_so) n
+      settles_accepted fsn l (left_link false link) (told l link s f sound codes at) f
+          (told_sound l link s f sound codes at) (told_at l link s f sound codes at)
+          (told_reached_so l link s f sound codes at fsn told_so) n
       ∙ told_accepted l link s f sound codes at n
   obeys_accepted _ (answers_blind l link may other at heard over) n =
       blind_accepted l (left_link false link) (told l link s f sound codes at) f (told_sound l link s f sound codes at) (told_at l link s f sound codes at) n
@@ -324,41 +381,63 @@ module _ {emergencies : Bool} (k : ℕ) (body : List ℕ) (s f : State) (sound :
   obeys_accepted _ (releases l code is) n = refl
 
 -- a link that settles without a number counts what it counted
-blind_less : (l : ℕ) (link : LinkState) (s f : State) → slice_get s.links l ≡ Some link → link.acked ≤ accepted_on l f → (n : ℕ) → (is_settled n s ≡ true → acked_on n s ≤ accepted_on n f) → is_settled n (settled Unknown l link s) ≡ true → acked_on n (settled Unknown l link s) ≤ accepted_on n f
+blind_less : (l : ℕ) (link : LinkState) (s f : State) → slice_get s.links l ≡ Some link → link.acked ≤ accepted_on l f
+    → (n : ℕ) → (is_settled n s ≡ true → acked_on n s ≤ accepted_on n f)
+    → is_settled n (settled Unknown l link s) ≡ true → acked_on n (settled Unknown l link s) ≤ accepted_on n f
 blind_less l link s f there due =
     by_link l link (settled_link true link) s (settled Unknown l link s) there refl
     (λ n old new. (link_is_settled old ≡ true → acked_of old ≤ accepted_on n f) → link_is_settled new ≡ true → acked_of new ≤ accepted_on n f)
     (λ before e. due) (λ n old d before e. before e)
 
 -- one that is left isn't settled
-still_less : (s f : State) (l : ℕ) (link : LinkState) → slice_get s.links l ≡ Some link → (n : ℕ) → (is_settled n s ≡ true → acked_on n s ≤ accepted_on n f) → is_settled n (left_by false l link s) ≡ true → acked_on n (left_by false l link s) ≤ accepted_on n f
+still_less : (s f : State) (l : ℕ) (link : LinkState) → slice_get s.links l ≡ Some link → (n : ℕ)
+    → (is_settled n s ≡ true → acked_on n s ≤ accepted_on n f) → is_settled n (left_by false l link s) ≡ true
+    → acked_on n (left_by false l link s) ≤ accepted_on n f
 still_less s f l link there =
     by_link l link (left_link false link) s (left_by false l link s) there refl
     (λ m old new. (link_is_settled old ≡ true → acked_of old ≤ accepted_on m f) → link_is_settled new ≡ true → acked_of new ≤ accepted_on m f)
     (λ before g. absurd cc) (λ m old d before g. before g)
 
 -- what a settled link counts as acknowledged was accepted, with emergencies or without
-module _ {emergencies : Bool} (k : ℕ) (body : List ℕ) (s f : State) (sound : IsSound s) (codes : AreCodes s.settings) (due : (n : ℕ) (link : LinkState) → (k == n) ≡ false → slice_get s.links n ≡ Some link → has_phase_settled link.phase ≡ false → link.acked ≤ accepted_on n f) where
-  pub obeys_less : ((n : ℕ) → is_settled n s ≡ true → acked_on n s ≤ accepted_on n f) → (t : State) → Obeys emergencies k body s f t → (n : ℕ) → is_settled n t ≡ true → acked_on n t ≤ accepted_on n f
-  obeys_less less t (keeps _ rows links routing none) n e = subst (λ (ls : List LinkState). acked_of (slice_get ls n) ≤ accepted_on n f) (sym links) (less n (ap (λ (ls : List LinkState). link_is_settled (slice_get ls n)) (sym links) ∙ e))
-  obeys_less less _ (settles fsn l link other at told_so heard over) n e = settles_less fsn l link s f sound at (is_reached fsn l link s f sound at told_so) told_so n (less n) e
+module _ {emergencies : Bool} (k : ℕ) (body : List ℕ) (s f : State) (sound : IsSound s) (codes : AreCodes s.settings)
+    (due : (n : ℕ) (link : LinkState) → (k == n) ≡ false → slice_get s.links n ≡ Some link
+      → has_phase_settled link.phase ≡ false → link.acked ≤ accepted_on n f) where
+  pub obeys_less : ((n : ℕ) → is_settled n s ≡ true → acked_on n s ≤ accepted_on n f) → (t : State)
+      → Obeys emergencies k body s f t → (n : ℕ) → is_settled n t ≡ true → acked_on n t ≤ accepted_on n f
+  obeys_less less t (keeps _ rows links routing none) n e =
+      subst (λ (ls : List LinkState). acked_of (slice_get ls n) ≤ accepted_on n f) (sym links)
+      (less n (ap (λ (ls : List LinkState). link_is_settled (slice_get ls n)) (sym links) ∙ e))
+  obeys_less less _ (settles fsn l link other at told_so heard over) n e =
+      settles_less fsn l link s f sound at (is_reached fsn l link s f sound at told_so) told_so n (less n) e
   obeys_less less _ (answers fsn l link other at told_so heard over) n e =
-      settles_less fsn l (left_link false link) (told l link s f sound codes at) f (told_sound l link s f sound codes at) (told_at l link s f sound codes at) (told_reached_so l link s f sound codes at fsn told_so) (told_still l link s f sound codes at fsn told_so) n
+      settles_less fsn l (left_link false link) (told l link s f sound codes at) f
+          (told_sound l link s f sound codes at) (told_at l link s f sound codes at)
+          (told_reached_so l link s f sound codes at fsn told_so) (told_still l link s f sound codes at fsn told_so) n
       (still_less s f l link at.there n (less n)) e
-  obeys_less less _ (settles_blind l link may other at heard over) n e = blind_less l link s f at.there (due l link other at.there (ap has_phase_settled at.phase_is)) n (less n) e
+  obeys_less less _ (settles_blind l link may other at heard over) n e =
+      blind_less l link s f at.there (due l link other at.there (ap has_phase_settled at.phase_is)) n (less n) e
   obeys_less less _ (answers_blind l link may other at heard over) n e =
-      blind_less l (left_link false link) (told l link s f sound codes at) f (told_at l link s f sound codes at).there (due l link other at.there (ap has_phase_settled at.phase_is)) n (still_less s f l link at.there n (less n)) e
+      blind_less l (left_link false link) (told l link s f sound codes at) f (told_at l link s f sound codes at).there
+          (due l link other at.there (ap has_phase_settled at.phase_is)) n (still_less s f l link at.there n (less n)) e
   obeys_less less _ (acknowledges l code is) n e = less n e
   obeys_less less _ (releases l code is) n e = less n e
 
 -- where there are no emergencies
 module _ (k : ℕ) (body : List ℕ) (s f : State) (sound : IsSound s) (codes : AreCodes s.settings) where
-  pub obeys_equal : ((n : ℕ) → is_settled n s ≡ true → acked_on n s ≡ accepted_on n f) → (t : State) → Obeys false k body s f t → (n : ℕ) → is_settled n t ≡ true → acked_on n t ≡ accepted_on n f
-  obeys_equal equal t (keeps _ rows links routing none) n e = ap (λ (ls : List LinkState). acked_of (slice_get ls n)) links ∙ equal n (ap (λ (ls : List LinkState). link_is_settled (slice_get ls n)) (sym links) ∙ e)
-  obeys_equal equal _ (settles fsn l link other at told_so heard over) n e = settles_equal fsn l link s f sound at (is_reached fsn l link s f sound at told_so) told_so n (equal n) e
+  pub obeys_equal : ((n : ℕ) → is_settled n s ≡ true → acked_on n s ≡ accepted_on n f) → (t : State)
+      → Obeys false k body s f t → (n : ℕ) → is_settled n t ≡ true → acked_on n t ≡ accepted_on n f
+  obeys_equal equal t (keeps _ rows links routing none) n e =
+      ap (λ (ls : List LinkState). acked_of (slice_get ls n)) links
+      ∙ equal n (ap (λ (ls : List LinkState). link_is_settled (slice_get ls n)) (sym links) ∙ e)
+  obeys_equal equal _ (settles fsn l link other at told_so heard over) n e =
+      settles_equal fsn l link s f sound at (is_reached fsn l link s f sound at told_so) told_so n (equal n) e
   obeys_equal equal _ (answers fsn l link other at told_so heard over) n e =
-      settles_equal fsn l (left_link false link) (told l link s f sound codes at) f (told_sound l link s f sound codes at) (told_at l link s f sound codes at) (told_reached_so l link s f sound codes at fsn told_so) (told_still l link s f sound codes at fsn told_so) n
-      (by_link l link (left_link false link) s (left_by false l link s) at.there refl (λ m old new. (link_is_settled old ≡ true → acked_of old ≡ accepted_on m f) → link_is_settled new ≡ true → acked_of new ≡ accepted_on m f) (λ before g. absurd cc) (λ m old d before g. before g) n (equal n)) e
+      settles_equal fsn l (left_link false link) (told l link s f sound codes at) f
+          (told_sound l link s f sound codes at) (told_at l link s f sound codes at)
+          (told_reached_so l link s f sound codes at fsn told_so) (told_still l link s f sound codes at fsn told_so) n
+      (by_link l link (left_link false link) s (left_by false l link s) at.there refl
+            (λ m old new. (link_is_settled old ≡ true → acked_of old ≡ accepted_on m f) → link_is_settled new ≡ true
+            → acked_of new ≡ accepted_on m f) (λ before g. absurd cc) (λ m old d before g. before g) n (equal n)) e
   obeys_equal equal _ (settles_blind l link may other at heard over) n e = absurd cc
   obeys_equal equal _ (answers_blind l link may other at heard over) n e = absurd cc
   obeys_equal equal _ (acknowledges l code is) n e = equal n e
@@ -368,7 +447,9 @@ module _ (k : ℕ) (body : List ℕ) (s f : State) (sound : IsSound s) (codes : 
   obeys_discards t (keeps _ rows links routing none) = ap (standing was_discarded) rows
   obeys_discards _ (settles fsn l link other at told_so heard over) = settles_discards fsn l link s f sound at (is_reached fsn l link s f sound at told_so)
   obeys_discards _ (answers fsn l link other at told_so heard over) =
-      settles_discards fsn l (left_link false link) (told l link s f sound codes at) f (told_sound l link s f sound codes at) (told_at l link s f sound codes at) (told_reached_so l link s f sound codes at fsn told_so)
+      settles_discards fsn l (left_link false link) (told l link s f sound codes at) f
+          (told_sound l link s f sound codes at) (told_at l link s f sound codes at)
+          (told_reached_so l link s f sound codes at fsn told_so)
       ∙ told_discards l link s f sound codes at
   obeys_discards _ (settles_blind l link may other at heard over) = absurd cc
   obeys_discards _ (answers_blind l link may other at heard over) = absurd cc
@@ -379,7 +460,9 @@ module _ (k : ℕ) (body : List ℕ) (s f : State) (sound : IsSound s) (codes : 
   MovedAt t n = is_settled n s ≡ false → is_settled n t ≡ true → Moved k n s f t
 
   pub obeys_moves : (t : State) → Obeys false k body s f t → (n : ℕ) → MovedAt t n
-  obeys_moves t (keeps _ rows links routing none) n e g = absurd (let no : false ≡ true = sym e ∙ ap (λ (ls : List LinkState). link_is_settled (slice_get ls n)) (sym links) ∙ g in cc)
+  obeys_moves t (keeps _ rows links routing none) n e g =
+      absurd (let no : false ≡ true = sym e ∙ ap (λ (ls : List LinkState). link_is_settled (slice_get ls n)) (sym links)
+        ∙ g in cc)
   obeys_moves _ (settles_blind l link may other at heard over) n e g = absurd cc
   obeys_moves _ (answers_blind l link may other at heard over) n e g = absurd cc
   obeys_moves _ (acknowledges l code is) n e g = absurd (let no : false ≡ true = sym e ∙ g in cc)
@@ -392,7 +475,9 @@ module _ (k : ℕ) (body : List ℕ) (s f : State) (sound : IsSound s) (codes : 
       subst (λ (m : ℕ). Moved k m s f t) same (record {
         other = other;
         moved = settles_moves fsn l link s f sound at (is_reached fsn l link s f sound at told_so)
-            ∙ ap (λ (q : List Message). q ++ pending l s f) (sym (append-nil (messages (queue_for (target t.links) s.rows))) ∙ ap (λ (a : List Message). messages (queue_for (target t.links) s.rows) ++ a) (sym none))
+            ∙ ap (λ (q : List Message). q ++ pending l s f)
+                (sym (append-nil (messages (queue_for (target t.links) s.rows)))
+                  ∙ ap (λ (a : List Message). messages (queue_for (target t.links) s.rows) ++ a) (sym none))
             ∙ ap (λ (u : State). messages (queue_for (target t.links) u.rows) ++ answer_on l (slice_get s.links l) s ++ pending l u f) (sym stays);
       })
   obeys_moves _ (answers fsn l link other at told_so heard over) n e g =
@@ -402,7 +487,9 @@ module _ (k : ℕ) (body : List ℕ) (s f : State) (sound : IsSound s) (codes : 
       let there_told = told_reached_so l link s f sound codes at fsn told_so in
       let before = left_by false l link s in
       let t = settled (Upto fsn) l (left_link false link) there in
-      let unsettled : is_settled n there ≡ false = by_link l link (left_link false link) s before at.there refl (λ m old new. link_is_settled old ≡ false → link_is_settled new ≡ false) (λ f. refl) (λ m old d f. f) n e in
+      let unsettled : is_settled n there ≡ false =
+          by_link l link (left_link false link) s before at.there refl
+          (λ m old new. link_is_settled old ≡ false → link_is_settled new ≡ false) (λ f. refl) (λ m old d f. f) n e in
       let same : l ≡ n = settles_alone fsn l (left_link false link) there f there_sound there_at there_told n unsettled g in
       let to_is : target t.links ≡ target there.links = same_target fsn l (left_link false link) there f there_sound there_at there_told in
       let left_so : as_left l (slice_get s.links l) s ≡ before = ap (λ (o : Option LinkState). as_left l o s) at.there ∙ rw (at.phase_is) refl in
@@ -411,7 +498,8 @@ module _ (k : ℕ) (body : List ℕ) (s f : State) (sound : IsSound s) (codes : 
         moved = settles_moves fsn l (left_link false link) there f there_sound there_at there_told
             ∙ ap (λ (to : Option ℕ). messages (queue_for to there.rows) ++ pending l there f) to_is
             ∙ ap (λ (q : List Message). q ++ pending l there f) (told_target l link s f sound codes at (target there.links) refl)
-            ∙ ap (λ (p : List Message). messages (queue_for (target there.links) before.rows) ++ answer_on l (Some link) s ++ p) (told_pending l link s f sound codes at)
+            ∙ ap (λ (p : List Message). messages (queue_for (target there.links) before.rows)
+                  ++ answer_on l (Some link) s ++ p) (told_pending l link s f sound codes at)
             ∙ ap (λ (to : Option ℕ). messages (queue_for to before.rows) ++ answer_on l (Some link) s ++ pending l before f) (sym to_is)
             ∙ ap (λ (o : Option LinkState). messages (queue_for (target t.links) before.rows) ++ answer_on l o s ++ pending l before f) (sym at.there)
             ∙ ap (λ (u : State). messages (queue_for (target t.links) u.rows) ++ answer_on l (slice_get s.links l) s ++ pending l u f) (sym left_so);

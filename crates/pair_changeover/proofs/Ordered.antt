@@ -38,7 +38,9 @@ pub ordered_back : {emergencies : Bool} (p : Two) → Ordered emergencies p → 
 ordered_back p o = record { both = both_back p.near p.far o.both; near_codes = o.far_codes; far_codes = o.near_codes }
 
 -- an event at the near end
-pub asked_ordered : {emergencies : Bool} (p : Two) (event : Event) (q : Two) → Ordered emergencies p → Keeps emergencies p.near (step p.near event).state p.far → q.near ≡ (step p.near event).state → q.far ≡ p.far → Ordered emergencies q
+pub asked_ordered : {emergencies : Bool} (p : Two) (event : Event) (q : Two) → Ordered emergencies p
+    → Keeps emergencies p.near (step p.near event).state p.far → q.near ≡ (step p.near event).state → q.far ≡ p.far
+    → Ordered emergencies q
 asked_ordered p event q o k near far = record {
   both = rw (near, far) (k.both o.both);
   near_codes = rw near (subst AreCodes (sym (settings_stay p.near event)) o.near_codes);
@@ -46,7 +48,9 @@ asked_ordered p event q o k near far = record {
 }
 
 -- IT HEARS
-module _ {emergencies : Bool} (mx my : Method) (one : IsOneMethod mx my) (p : Two) (h : HoldsOf mx my p) (o : Ordered emergencies p) (k : ℕ) (few : k < length p.near.links) (unit : SignalUnit) (rest : List SignalUnit) (front : units_on k p.back ≡ unit ∷ rest) (link : LinkState) (at : IsAt k link Up p.near) where
+module _ {emergencies : Bool} (mx my : Method) (one : IsOneMethod mx my) (p : Two) (h : HoldsOf mx my p)
+    (o : Ordered emergencies p) (k : ℕ) (few : k < length p.near.links) (unit : SignalUnit) (rest : List SignalUnit)
+    (front : units_on k p.back ≡ unit ∷ rest) (link : LinkState) (at : IsAt k link Up p.near) where
   abbrev mid : State
   mid = hearing.mid mx my one p h o.both k few unit rest front link at
 
@@ -81,7 +85,8 @@ module _ {emergencies : Bool} (mx my : Method) (one : IsOneMethod mx my) (p : Tw
   heard_ordered = record { both = both_then; near_codes = codes_then; far_codes = o.far_codes }
 
 -- IT SENDS
-module _ (mx my : Method) (one : IsOneMethod mx my) (p : Two) (h : HoldsOf mx my p) (k : ℕ) (few : k < length p.near.links) (link : LinkState) (at : IsAt k link Up p.near) where
+module _ (mx my : Method) (one : IsOneMethod mx my) (p : Two) (h : HoldsOf mx my p) (k : ℕ)
+    (few : k < length p.near.links) (link : LinkState) (at : IsAt k link Up p.near) where
   -- no more was accepted there than was sent
   pub sent_enough : accepted_on k p.far - link.acked ≤ length (unack k p.near.rows)
   sent_enough =

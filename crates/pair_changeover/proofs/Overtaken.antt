@@ -36,13 +36,19 @@ first_pending count k rows rest row e =
     let here : Among (message_of row) (messages (wait k rows)) = rw e (inl refl) in
     let sent = drop count (unack k rows) in
     rw (joined (sent ++ wait k rows) (held k rows), joined sent (wait k rows))
-    (among_front (message_of row) (messages sent ++ messages (wait k rows)) (messages (held k rows)) (among_behind (message_of row) (messages sent) (messages (wait k rows)) here))
+    (among_front (message_of row) (messages sent ++ messages (wait k rows)) (messages (held k rows))
+          (among_behind (message_of row) (messages sent) (messages (wait k rows)) here))
 
 module _ {emergencies : Bool} (k : ℕ) (s f : State) (o : Both emergencies s f) where
   -- an order about a link that is up stands nowhere
-  not_overtaken : (row : Row) → Among (message_of row) (pending k s f) → (told : Option Order) → order_of s.settings.profile row.body ≡ told → overtakes s told ≡ true → ⊥
-  not_overtaken row a (Some (Coo link fsn)) e up = o.near.none_up link up (message_of row) (stands_on k a) (record { order = Coo link fsn; is = any_of s.settings.profile row.body (Coo link fsn) e; over = tt; of = refl })
-  not_overtaken row a (Some (Eco link)) e up = o.near.none_up link up (message_of row) (stands_on k a) (record { order = Eco link; is = any_of s.settings.profile row.body (Eco link) e; over = tt; of = refl })
+  not_overtaken : (row : Row) → Among (message_of row) (pending k s f) → (told : Option Order)
+      → order_of s.settings.profile row.body ≡ told → overtakes s told ≡ true → ⊥
+  not_overtaken row a (Some (Coo link fsn)) e up =
+      o.near.none_up link up (message_of row) (stands_on k a)
+      (record { order = Coo link fsn; is = any_of s.settings.profile row.body (Coo link fsn) e; over = tt; of = refl })
+  not_overtaken row a (Some (Eco link)) e up =
+      o.near.none_up link up (message_of row) (stands_on k a)
+      (record { order = Eco link; is = any_of s.settings.profile row.body (Eco link) e; over = tt; of = refl })
   not_overtaken row a (Some (Coa link fsn)) e up = absurd cc
   not_overtaken row a (Some (Eca link)) e up = absurd cc
   not_overtaken row a (Some (Cbd link code)) e up = absurd cc

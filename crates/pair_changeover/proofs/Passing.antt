@@ -20,20 +20,29 @@ use Rattle.pair_changeover.proofs.Table.{drop_none, queue_untouched, queue_settl
 use Rattle.pair_changeover.proofs.Views.{view, pending, aside, queue, acked_of, acked_on, accepted_of, accepted_on, last_of, last_on, Among, among_joined, In, stands_on, stands_aside, NoneAbout, Orders, Came, stayed, moved, CameAside, was_in, Passes, carries}
 
 -- A CHANGE ON A LINK THAT IS UP, by which no queue of this end changes: it sends, or hears
-module _ (k : ℕ) (link link' : LinkState) (s t f : State) (at : IsAt k link Up s) (links : t.links ≡ slice_set s.links k link') (up : link'.phase ≡ Up) (own : queue (accepted_on k f - link'.acked) k t.rows ≡ queue (accepted_on k f - link.acked) k s.rows) (others : (l : ℕ) → (k == l) ≡ false → Untouched l s.rows t.rows) (parked_same : parked t.rows ≡ parked s.rows) (far_came : (l : ℕ) (m : Message) → Among m (pending l f t) → Among m (pending l f s)) where
-  all : (P : ℕ → Option LinkState → Option LinkState → Type 0) → P k (Some link) (Some link') → ((l : ℕ) (o : Option LinkState) → (k == l) ≡ false → P l o o) → (l : ℕ) → P l (slice_get s.links l) (slice_get t.links l)
+module _ (k : ℕ) (link link' : LinkState) (s t f : State) (at : IsAt k link Up s)
+    (links : t.links ≡ slice_set s.links k link') (up : link'.phase ≡ Up)
+    (own : queue (accepted_on k f - link'.acked) k t.rows ≡ queue (accepted_on k f - link.acked) k s.rows)
+    (others : (l : ℕ) → (k == l) ≡ false → Untouched l s.rows t.rows) (parked_same : parked t.rows ≡ parked s.rows)
+    (far_came : (l : ℕ) (m : Message) → Among m (pending l f t) → Among m (pending l f s)) where
+  all : (P : ℕ → Option LinkState → Option LinkState → Type 0) → P k (Some link) (Some link')
+      → ((l : ℕ) (o : Option LinkState) → (k == l) ≡ false → P l o o) → (l : ℕ)
+      → P l (slice_get s.links l) (slice_get t.links l)
   all = by_link k link link' s t at.there links
 
   -- no queue of this end changes
   pub passing_queues : (l : ℕ) → pending l t f ≡ pending l s f
-  passing_queues = all (λ n old new. queue (accepted_on n f - acked_of new) n t.rows ≡ queue (accepted_on n f - acked_of old) n s.rows) own (λ n old d. queue_untouched (accepted_on n f - acked_of old) n s.rows t.rows (others n d))
+  passing_queues = all (λ n old new. queue (accepted_on n f - acked_of new) n t.rows
+        ≡ queue (accepted_on n f - acked_of old) n s.rows) own
+      (λ n old d. queue_untouched (accepted_on n f - acked_of old) n s.rows t.rows (others n d))
 
   pub passing : Acts s t f
   passing = record {
     came = λ l m among. stayed (subst (λ (q : List Message). Among m q) (passing_queues l) among);
     came_aside = λ m among. was_in (stands_aside (subst (λ (q : List Message). Among m q) (ap messages parked_same) among));
     up_less = λ l e. all (λ n old new. link_is_up new ≡ true → link_is_up old ≡ true) (λ g. was_up) (λ n old d g. g) l e;
-    settled_more = λ l e. inl (all (λ n old new. link_is_settled new ≡ true → link_is_settled old ≡ true) (λ g. absurd (let no : false ≡ true = ap has_phase_settled (sym up) ∙ g in cc)) (λ n old d g. g) l e);
+    settled_more = λ l e. inl (all (λ n old new. link_is_settled new ≡ true → link_is_settled old ≡ true)
+          (λ g. absurd (let no : false ≡ true = ap has_phase_settled (sym up) ∙ g in cc)) (λ n old d g. g) l e);
     accepted = λ l. accepted_at l;
     far_came = far_came;
   }
@@ -50,7 +59,8 @@ module _ (k : ℕ) (link link' : LinkState) (s t f : State) (there : slice_get s
   pub far_stays : link'.accepted ≡ link.accepted → (l : ℕ) (m : Message) → Among m (pending l f t) → Among m (pending l f s)
   far_stays same = far_same s t f (by_link k link link' s t there links (λ n old new. accepted_of new ≡ accepted_of old) same (λ n old d. refl))
 
-  module _ (one : link'.accepted ≡ suc link.accepted) (row : Row) (due : acked_on k f ≤ link.accepted) (head : slice_get (unack k f.rows) (link.accepted - acked_on k f) ≡ Some row) where
+  module _ (one : link'.accepted ≡ suc link.accepted) (row : Row) (due : acked_on k f ≤ link.accepted)
+      (head : slice_get (unack k f.rows) (link.accepted - acked_on k f) ≡ Some row) where
     abbrev pub first : Message
     first = record { number = row.number; body = row.body }
 
@@ -68,8 +78,10 @@ module _ (k : ℕ) (link link' : LinkState) (s t f : State) (there : slice_get s
     far_loses l m among = go (k == l) refl
       where
         go : (b : Bool) → (k == l) ≡ b → Among m (pending l f s)
-        go true e = subst (λ (n : ℕ). Among m (pending n f t) → Among m (pending n f s)) (eqb-true k l e) (λ a. subst (λ (q : List Message). Among m q) (sym was_first) (inr a)) among
-        go false e = subst (λ (o : Option LinkState). Among m (queue (accepted_of o - acked_on l f) l f.rows)) (other_then k link link' s t there links l e) among
+        go true e = subst (λ (n : ℕ). Among m (pending n f t) → Among m (pending n f s)) (eqb-true k l e)
+            (λ a. subst (λ (q : List Message). Among m q) (sym was_first) (inr a)) among
+        go false e = subst (λ (o : Option LinkState). Among m (queue (accepted_of o - acked_on l f) l f.rows))
+            (other_then k link link' s t there links l e) among
 
 -- A LINK SETTLES by a number: it's reasonable, and what it leaves is just what was pending
 pub record IsReached (fsn n : ℕ) (link : LinkState) (s f : State) : Type 0 where
@@ -121,7 +133,8 @@ module _ (fsn n : ℕ) (link : LinkState) (s f : State) (sound : IsSound s) (at 
 
   others_stay : (k l : ℕ) (to : Option ℕ) → target s.links ≡ to → (n == l) ≡ false → is_on l (fate_on to) ≡ false → queue k l (there_then to) ≡ queue k l s.rows
   others_stay k l None e d f = queue_untouched k l mid _ ((left_by_rows n Parked mid refl refl).others l d f) ∙ queue_untouched k l s.rows mid (mid_others l d)
-  others_stay k l (Some to) e d f = queue_untouched k l mid _ ((moved_to n to mid (no_own to e)).left_is.others l d f) ∙ queue_untouched k l s.rows mid (mid_others l d)
+  others_stay k l (Some to) e d f = queue_untouched k l mid _ ((moved_to n to mid (no_own to e)).left_is.others l d f)
+      ∙ queue_untouched k l s.rows mid (mid_others l d)
 
   held_at : (to : ℕ) → target s.links ≡ Some to → held to s.rows ≡ []
   held_at to e = let up = target_up s.links to e in held_none s to sound (ap link_is_up up.1 ∙ up.2)
@@ -157,25 +170,33 @@ module _ (fsn n : ℕ) (link : LinkState) (s f : State) (sound : IsSound s) (at 
       ∙ others_stay (accepted_on l f - acked_on l s) l (target s.links) refl d off
 
   pub settles_aside : target s.links ≡ None → aside after ≡ aside s ++ pending n s f
-  settles_aside e = ap (λ (rows : List Row). messages (parked rows)) (rows_then ∙ ap (λ (t : Option ℕ). there_then t) e) ∙ joins_aside ∙ ap (λ (q : List Message). aside s ++ q) (sym own_pending)
+  settles_aside e = ap (λ (rows : List Row). messages (parked rows)) (rows_then ∙ ap (λ (t : Option ℕ). there_then t) e)
+      ∙ joins_aside ∙ ap (λ (q : List Message). aside s ++ q) (sym own_pending)
 
   pub settles_none_aside : (to : ℕ) → target s.links ≡ Some to → aside after ≡ aside s
-  settles_none_aside to e = ap (λ (rows : List Row). messages (parked rows)) (rows_then ∙ ap (λ (t : Option ℕ). there_then t) e) ∙ ap messages ((moved_to n to mid (no_own to e)).parked_same ∙ (acknowledged n count s.rows).parked_same)
+  settles_none_aside to e = ap (λ (rows : List Row). messages (parked rows))
+      (rows_then ∙ ap (λ (t : Option ℕ). there_then t) e)
+      ∙ ap messages ((moved_to n to mid (no_own to e)).parked_same ∙ (acknowledged n count s.rows).parked_same)
 
   -- where its end left it and no order about it is pending there any more
   module _ {emergencies : Bool} (o : Both emergencies s f) (far_down : is_up n f ≡ false) (none : NoneAbout n (view f s)) where
-    all_links : (P : ℕ → Option LinkState → Option LinkState → Type 0) → P n (Some link) (Some link_then) → ((l : ℕ) (old : Option LinkState) → (n == l) ≡ false → P l old old) → (l : ℕ) → P l (slice_get s.links l) (slice_get after.links l)
+    all_links : (P : ℕ → Option LinkState → Option LinkState → Type 0) → P n (Some link) (Some link_then)
+        → ((l : ℕ) (old : Option LinkState) → (n == l) ≡ false → P l old old) → (l : ℕ)
+        → P l (slice_get s.links l) (slice_get after.links l)
     all_links = by_link n link link_then s after at.there links_then
 
     abbrev At : ℕ → List Message → Type 0
     At l q = (m : Message) → Among m q → Came (view s f) l m
 
-    came_other : (l : ℕ) (to : Option ℕ) → target s.links ≡ to → (n == l) ≡ false → (b : Bool) → is_on l (fate_on to) ≡ b → At l (queue (accepted_on l f - acked_on l s) l (there_then to))
+    came_other : (l : ℕ) (to : Option ℕ) → target s.links ≡ to → (n == l) ≡ false → (b : Bool)
+        → is_on l (fate_on to) ≡ b → At l (queue (accepted_on l f - acked_on l s) l (there_then to))
     came_other l to e d false g m among = stayed (subst (λ (q : List Message). Among m q) (others_stay _ l to e d g) among)
     came_other l None e d true g m among = absurd cc
     came_other l (Some to) e d true g m among =
         subst (λ (i : ℕ). At i (queue (accepted_on i f - acked_on i s) i (there_then (Some to)))) (eqb-true to l g)
-        (λ x a. joined_case to e x (among_joined x (pending to s f) (queue count n s.rows) (subst (λ (q : List Message). Among x q) (joins_target (accepted_on to f - acked_on to s) to e) a))) m among
+        (λ x a. joined_case to e x (among_joined x (pending to s f) (queue count n s.rows)
+                (subst (λ (q : List Message). Among x q) (joins_target (accepted_on to f - acked_on to s) to e) a))) m
+            among
       where
         joined_case : (to : ℕ) → target s.links ≡ Some to → (x : Message) → Among x (pending to s f) ⊎ Among x (queue count n s.rows) → Came (view s f) to x
         joined_case to e x (inl a) = stayed a
@@ -188,16 +209,20 @@ module _ (fsn n : ℕ) (link : LinkState) (s f : State) (sound : IsSound s) (at 
     came_at l m among = go (n == l) refl
       where
         go : (b : Bool) → (n == l) ≡ b → Came (view s f) l m
-        go true e = absurd (subst (λ (q : List Message). Among m q) (gone (accepted_on n f - acked_on n after)) (subst (λ (i : ℕ). Among m (pending i after f)) (sym (eqb-true n l e)) among))
+        go true e = absurd (subst (λ (q : List Message). Among m q) (gone (accepted_on n f - acked_on n after))
+              (subst (λ (i : ℕ). Among m (pending i after f)) (sym (eqb-true n l e)) among))
         go false e =
             let counts : acked_on l after ≡ acked_on l s = ap acked_of (other_then n link link_then s after at.there links_then l e) in
             let same : pending l after f ≡ queue (accepted_on l f - acked_on l s) l (there_then (target s.links)) =
-            ap (λ (i : ℕ). queue (accepted_on l f - i) l after.rows) counts ∙ ap (λ (rows : List Row). queue (accepted_on l f - acked_on l s) l rows) rows_then in
+            ap (λ (i : ℕ). queue (accepted_on l f - i) l after.rows) counts
+                ∙ ap (λ (rows : List Row). queue (accepted_on l f - acked_on l s) l rows) rows_then in
             came_other l (target s.links) refl e (is_on l (fate_on (target s.links))) refl m (subst (λ (q : List Message). Among m q) same among)
 
     came_aside_at : (to : Option ℕ) → target s.links ≡ to → (m : Message) → Among m (messages (parked (there_then to))) → CameAside (view s f) m
     came_aside_at (Some to) e m among =
-        was_in (stands_aside (subst (λ (q : List Message). Among m q) (ap messages ((moved_to n to mid (no_own to e)).parked_same ∙ (acknowledged n count s.rows).parked_same)) among))
+        was_in (stands_aside (subst (λ (q : List Message). Among m q)
+                (ap messages ((moved_to n to mid (no_own to e)).parked_same
+                ∙ (acknowledged n count s.rows).parked_same)) among))
     came_aside_at None e m among = go (among_joined m (aside s) (queue count n s.rows) (subst (λ (q : List Message). Among m q) joins_aside among))
       where
         go : Among m (aside s) ⊎ Among m (queue count n s.rows) → CameAside (view s f) m
@@ -207,9 +232,12 @@ module _ (fsn n : ℕ) (link : LinkState) (s f : State) (sound : IsSound s) (at 
     pub settles_acts : Acts s after f
     settles_acts = record {
       came = came_at;
-      came_aside = λ m among. came_aside_at (target s.links) refl m (subst (λ (q : List Message). Among m q) (ap (λ (rows : List Row). messages (parked rows)) rows_then) among);
+      came_aside = λ m among. came_aside_at (target s.links) refl m
+          (subst (λ (q : List Message). Among m q) (ap (λ (rows : List Row). messages (parked rows)) rows_then) among);
       up_less = λ l up. all_links (λ i old new. link_is_up new ≡ true → link_is_up old ≡ true) (λ e. absurd cc) (λ i old d e. e) l up;
-      settled_more = λ l e. all_links (λ i old new. link_is_settled new ≡ true → (link_is_settled old ≡ true) ⊎ ((is_up i f ≡ false) × NoneAbout i (view f s))) (λ g. inr (far_down, none)) (λ i old d g. inl g) l e;
+      settled_more = λ l e. all_links
+          (λ i old new. link_is_settled new ≡ true → (link_is_settled old ≡ true)
+            ⊎ ((is_up i f ≡ false) × NoneAbout i (view f s))) (λ g. inr (far_down, none)) (λ i old d g. inl g) l e;
       accepted = λ l. inl (all_links (λ i old new. last_of new ≡ last_of old) refl (λ i old d. refl) l);
       far_came = far_same s after f (all_links (λ i old new. accepted_of new ≡ accepted_of old) refl (λ i old d. refl));
     }
@@ -237,13 +265,19 @@ module _ {emergencies : Bool} (k : ℕ) (s t f g : State) (a : Rises k s t) (b :
   rises_passes : Passes (view s f) (view t g) (view g t)
   rises_passes = record {
     came = split (λ l. (m : Message) → Among m (pending l t g) → Came (view s f) l m)
-        (λ m among. let stood : In m (view s f) = stands_aside (subst (λ (q : List Message). Among m q) (a.own (accepted_on k g - acked_on k t)) among) in moved stood (λ about. o.none_settled k b.settled_was m stood about))
+        (λ m among. let stood : In m (view s f) =
+              stands_aside (subst (λ (q : List Message). Among m q) (a.own (accepted_on k g - acked_on k t)) among)
+            in moved stood (λ about. o.none_settled k b.settled_was m stood about))
         (λ l d m among. stayed (subst (λ (q : List Message). Among m q) (same_at_other l d) among));
     came_aside = λ m among. absurd (subst (λ (q : List Message). Among m q) (ap messages a.none_aside) among);
-    none_up = split (λ l. is_up l t ≡ true → NoneAbout l (view s f)) (λ e. o.none_settled k b.settled_was) (λ l d e. o.none_up l (ap link_is_up (sym (a.links l d)) ∙ e));
-    none_settled = split (λ l. is_settled l g ≡ true → NoneAbout l (view s f)) (λ e. o.none_settled k b.settled_was) (λ l d e. o.none_settled l (ap link_is_settled (sym (b.links l d)) ∙ e));
+    none_up = split (λ l. is_up l t ≡ true → NoneAbout l (view s f)) (λ e. o.none_settled k b.settled_was)
+        (λ l d e. o.none_up l (ap link_is_up (sym (a.links l d)) ∙ e));
+    none_settled = split (λ l. is_settled l g ≡ true → NoneAbout l (view s f)) (λ e. o.none_settled k b.settled_was)
+        (λ l d e. o.none_settled l (ap link_is_settled (sym (b.links l d)) ∙ e));
     accepted = split (λ l. (last_on l t ≡ last_on l s) ⊎ NoneAbout l (view s f)) (inr (o.none_settled k b.settled_was)) (λ l d. inl (ap last_of (a.links l d)));
-    apart = split (λ l. is_settled l t ≡ true → is_up l g ≡ false) (λ e. absurd (let no : false ≡ true = sym a.unsettled_then ∙ e in cc)) (λ l d e. ap link_is_up (b.links l d) ∙ o.apart l (ap link_is_settled (sym (a.links l d)) ∙ e));
+    apart = split (λ l. is_settled l t ≡ true → is_up l g ≡ false)
+        (λ e. absurd (let no : false ≡ true = sym a.unsettled_then ∙ e in cc))
+        (λ l d e. ap link_is_up (b.links l d) ∙ o.apart l (ap link_is_settled (sym (a.links l d)) ∙ e));
   }
     where
       same_at_other : (l : ℕ) → (k == l) ≡ false → pending l t g ≡ pending l s f

@@ -29,14 +29,17 @@ taken_few zero xs = omega arith
 taken_few (suc n) [] = omega arith
 taken_few (suc n) (x ∷ xs) = omega (arith, taken_few n xs)
 
-pub reaches : (l : ℕ) (near far : Past) (s f : State) → IsKeptOn l near far s f → (link : LinkState) → slice_get s.links l ≡ Some link → has_phase_settled link.phase ≡ false → (other : LinkState) → slice_get f.links l ≡ Some other → Reaches l link s f (near.sent l)
+pub reaches : (l : ℕ) (near far : Past) (s f : State) → IsKeptOn l near far s f → (link : LinkState)
+    → slice_get s.links l ≡ Some link → has_phase_settled link.phase ≡ false → (other : LinkState)
+    → slice_get f.links l ≡ Some other → Reaches l link s f (near.sent l)
 reaches l near far s f k link there unsettled other far_there =
     let g = k.going link there unsettled in
     let counted : accepted_on l f ≡ length (far.taken l) = ap accepted_of far_there ∙ k.accepted other far_there in
     let few = few_of (length (far.taken l)) (bodies (near.sent l)) (far.taken l) k.prefix in
     let as_many = length-map (near.sent l) (λ (m : Message). m.body) in
     let more = dropped link.acked (near.sent l) in
-    let left : length (drop link.acked (near.sent l)) ≡ length (unack l s.rows) = ap length (sym g.unacked) ∙ length-map (unack l s.rows) (λ (row : Row). record { number = row.number; body = row.body }) in
+    let left : length (drop link.acked (near.sent l)) ≡ length (unack l s.rows) = ap length (sym g.unacked)
+        ∙ length-map (unack l s.rows) (λ (row : Row). record { number = row.number; body = row.body }) in
     record {
       due = omega (arith, counted, g.acked);
       within = omega (arith, counted, few, as_many, more, left);
@@ -60,7 +63,8 @@ get_drop (suc a) (suc n) [] few = none (suc n - suc a)
   where
     none : {X : Type 0} (i : ℕ) → ◌≡◌ {A = Option X} (slice_get [] i) None
     none i = refl
-get_drop (suc a) (suc n) (x ∷ xs) few = let same : suc n - suc a ≡ n - a = omega (arith, few) in ap (slice_get (drop a xs)) same ∙ get_drop a n xs (omega (arith, few))
+get_drop (suc a) (suc n) (x ∷ xs) few = let same : suc n - suc a ≡ n - a =
+    omega (arith, few) in ap (slice_get (drop a xs)) same ∙ get_drop a n xs (omega (arith, few))
 
 -- the row of the message that is accepted
 pub record Due (l count : ℕ) (body : List ℕ) (rows : List Row) : Type 0 where
@@ -68,12 +72,16 @@ pub record Due (l count : ℕ) (body : List ℕ) (rows : List Row) : Type 0 wher
   pub there : slice_get (unack l rows) count ≡ Some row
   pub body_is : row.body ≡ body
 
-pub due_message : (l acked : ℕ) (rows : List Row) (sent : List Message) (count : ℕ) (row : Row) → messages (unack l rows) ≡ drop acked sent → acked ≤ count → slice_get (unack l rows) (count - acked) ≡ Some row → slice_get sent count ≡ Some (record { number = row.number; body = row.body })
+pub due_message : (l acked : ℕ) (rows : List Row) (sent : List Message) (count : ℕ) (row : Row)
+    → messages (unack l rows) ≡ drop acked sent → acked ≤ count → slice_get (unack l rows) (count - acked) ≡ Some row
+    → slice_get sent count ≡ Some (record { number = row.number; body = row.body })
 due_message l acked rows sent count row unacked few there =
     sym (get_drop acked count sent few) ∙ ap (λ (ms : List Message). slice_get ms (count - acked)) (sym unacked)
     ∙ map_at (λ (r : Row). record { number = r.number; body = r.body }) (unack l rows) (count - acked) row there
 
-pub due : (l acked : ℕ) (rows : List Row) (sent : List Message) (taken : List (List ℕ)) (body : List ℕ) → messages (unack l rows) ≡ drop acked sent → acked ≤ length taken → taken ++ body ∷ [] ≡ take (length (taken ++ body ∷ [])) (bodies sent) → Due l (length taken - acked) body rows
+pub due : (l acked : ℕ) (rows : List Row) (sent : List Message) (taken : List (List ℕ)) (body : List ℕ)
+    → messages (unack l rows) ≡ drop acked sent → acked ≤ length taken
+    → taken ++ body ∷ [] ≡ take (length (taken ++ body ∷ [])) (bodies sent) → Due l (length taken - acked) body rows
 due l acked rows sent taken body unacked few prefix =
     let message = at_map (λ (m : Message). m.body) sent (length taken) body (prefix_next taken (bodies sent) body prefix) in
     let there : slice_get (messages (unack l rows)) (length taken - acked) ≡ Some message.0 =
@@ -82,11 +90,14 @@ due l acked rows sent taken body unacked few prefix =
     record { row = row.0; there = row.1; body_is = ap (λ (m : Message). m.body) row.2 ∙ message.2 }
 
 -- IT STANDS NOWHERE ELSE
-some_there : (p : Row → Bool) (number : ℕ) (rows : List Row) (i : ℕ) (x : Row) → slice_get (filter p rows) i ≡ Some x → x.number ≡ number → 1 ≤ length (with_number number rows)
+some_there : (p : Row → Bool) (number : ℕ) (rows : List Row) (i : ℕ) (x : Row) → slice_get (filter p rows) i ≡ Some x
+    → x.number ≡ number → 1 ≤ length (with_number number rows)
 some_there p number [] i x e n = absurd cc
 some_there p number (r ∷ rows) i x e n = go (p r) (r.number == number) refl refl i e (λ j f. some_there p number rows j x f n)
   where
-    go : (b c : Bool) → p r ≡ b → (r.number == number) ≡ c → (i : ℕ) → slice_get (filter p (r ∷ rows)) i ≡ Some x → ((j : ℕ) → slice_get (filter p rows) j ≡ Some x → 1 ≤ length (with_number number rows)) → 1 ≤ length (with_number number (r ∷ rows))
+    go : (b c : Bool) → p r ≡ b → (r.number == number) ≡ c → (i : ℕ) → slice_get (filter p (r ∷ rows)) i ≡ Some x
+        → ((j : ℕ) → slice_get (filter p rows) j ≡ Some x → 1 ≤ length (with_number number rows))
+        → 1 ≤ length (with_number number (r ∷ rows))
     go b true h k i e later = rw k (omega arith)
     go false false h k i e later = rw k (later i (rw h at e))
     go true false h k zero e later =
@@ -96,11 +107,16 @@ some_there p number (r ∷ rows) i x e n = go (p r) (r.number == number) refl re
         absurd cc
     go true false h k (suc i) e later = rw k (later i (rw h at e))
 
-two_there : (p : Row → Bool) (number : ℕ) (rows : List Row) (i j : ℕ) (x y : Row) → i < j → slice_get (filter p rows) i ≡ Some x → slice_get (filter p rows) j ≡ Some y → x.number ≡ number → y.number ≡ number → 2 ≤ length (with_number number rows)
+two_there : (p : Row → Bool) (number : ℕ) (rows : List Row) (i j : ℕ) (x y : Row) → i < j
+    → slice_get (filter p rows) i ≡ Some x → slice_get (filter p rows) j ≡ Some y → x.number ≡ number
+    → y.number ≡ number → 2 ≤ length (with_number number rows)
 two_there p number [] i j x y few e f n m = absurd cc
 two_there p number (r ∷ rows) i j x y few e f n m = go (p r) (r.number == number) refl refl i j few e f (λ a b w c d. two_there p number rows a b x y w c d n m)
   where
-    go : (b c : Bool) → p r ≡ b → (r.number == number) ≡ c → (i j : ℕ) → i < j → slice_get (filter p (r ∷ rows)) i ≡ Some x → slice_get (filter p (r ∷ rows)) j ≡ Some y → ((a b : ℕ) → a < b → slice_get (filter p rows) a ≡ Some x → slice_get (filter p rows) b ≡ Some y → 2 ≤ length (with_number number rows)) → 2 ≤ length (with_number number (r ∷ rows))
+    go : (b c : Bool) → p r ≡ b → (r.number == number) ≡ c → (i j : ℕ) → i < j
+        → slice_get (filter p (r ∷ rows)) i ≡ Some x → slice_get (filter p (r ∷ rows)) j ≡ Some y
+        → ((a b : ℕ) → a < b → slice_get (filter p rows) a ≡ Some x → slice_get (filter p rows) b ≡ Some y
+          → 2 ≤ length (with_number number rows)) → 2 ≤ length (with_number number (r ∷ rows))
     go false true h k i j few e f later = let two = later i j few (rw h at e) (rw h at f) in rw k (omega (arith, two))
     go false false h k i j few e f later = rw k (later i j few (rw h at e) (rw h at f))
     go true true h k i zero few e f later = absurd (omega (arith, few))
@@ -117,7 +133,8 @@ pub filtered : (p : Row → Bool) (rows : List Row) (i : ℕ) (x : Row) → slic
 filtered p [] i x e = absurd cc
 filtered p (r ∷ rows) i x e = go (p r) refl i e (λ j f. filtered p rows j x f)
   where
-    go : (b : Bool) → p r ≡ b → (i : ℕ) → slice_get (filter p (r ∷ rows)) i ≡ Some x → ((j : ℕ) → slice_get (filter p rows) j ≡ Some x → p x ≡ true) → p x ≡ true
+    go : (b : Bool) → p r ≡ b → (i : ℕ) → slice_get (filter p (r ∷ rows)) i ≡ Some x
+        → ((j : ℕ) → slice_get (filter p rows) j ≡ Some x → p x ≡ true) → p x ≡ true
     go false h i e later = later i (rw h at e)
     go true h zero e later = let same : Some r ≡ Some x = rw h at e in let is : r ≡ x = cc in subst (λ (y : Row). p y ≡ true) is h
     go true h (suc i) e later = later i (rw h at e)
@@ -215,8 +232,11 @@ module _ (given k count : ℕ) (rows : List Row) (numbered : IsNumbered given ro
       twice : (w : RowOf m (drop from (unack l rows))) → (k == l) ≡ true → ⊥
       twice w same =
           let one = at_most_one given row.number rows numbered in
-          let there_too : slice_get (unack k rows) (from + w.place) ≡ Some w.row = subst (λ (n : ℕ). slice_get (unack n rows) (from + w.place) ≡ Some w.row) (sym (eqb-true k l same)) (sent_there w) in
-          let two = two_there (λ (r : Row). is_unacked k r.fate) row.number rows count (from + w.place) row w.row (let more = behind same in omega (arith, more)) there there_too refl (sym w.number_is ∙ e) in
+          let there_too : slice_get (unack k rows) (from + w.place) ≡ Some w.row =
+              subst (λ (n : ℕ). slice_get (unack n rows) (from + w.place) ≡ Some w.row) (sym (eqb-true k l same))
+              (sent_there w) in
+          let two = two_there (λ (r : Row). is_unacked k r.fate) row.number rows count (from + w.place) row w.row
+              (let more = behind same in omega (arith, more)) there there_too refl (sym w.number_is ∙ e) in
           absurd (omega (arith, one, two))
 
       go : RowOf m (drop from (unack l rows)) ⊎ (RowOf m (wait l rows) ⊎ RowOf m (held l rows)) → ⊥

@@ -48,6 +48,8 @@ pub joined_stay : (kept : Fate) (rows more : List Row) → Stays kept rows (rows
 joined_stay kept [] more number e = absurd cc
 joined_stay kept (x ∷ rows) more number e = go (x.number == number) refl (joined_stay kept rows more number)
   where
-    go : (b : Bool) → (x.number == number) ≡ b → (place number rows ≡ Some kept → place number (rows ++ more) ≡ Some kept) → place number (x ∷ rows ++ more) ≡ Some kept
+    go : (b : Bool) → (x.number == number) ≡ b
+        → (place number rows ≡ Some kept → place number (rows ++ more) ≡ Some kept)
+        → place number (x ∷ rows ++ more) ≡ Some kept
     go true h later = let f : Some x.fate ≡ Some kept = rw h at e in rw h f
     go false h later = rw h (later (rw h at e))

@@ -48,18 +48,24 @@ abbrev pub new_message : ℕ → List ℕ → Message
 new_message number body = record { number = number; body = body }
 
 module _ (count link number : ℕ) (rows : List Row) (body : List ℕ) (fate : Fate) where
-  pub queue_waits : is_waiting link fate ≡ true → is_unacked link fate ≡ false → is_held link fate ≡ false → held link rows ≡ [] → queue count link (appended number rows body fate) ≡ queue count link rows ++ new_message number body ∷ []
+  pub queue_waits : is_waiting link fate ≡ true → is_unacked link fate ≡ false → is_held link fate ≡ false
+      → held link rows ≡ [] → queue count link (appended number rows body fate) ≡ queue count link rows
+      ++ new_message number body ∷ []
   queue_waits w u h none =
-      rw (appended_out number rows body fate (is_unacked link) u, appended_in number rows body fate (is_waiting link) w, appended_out number rows body fate (is_held link) h, none)
+      rw (appended_out number rows body fate (is_unacked link) u, appended_in number rows body fate (is_waiting link) w,
+            appended_out number rows body fate (is_held link) h, none)
       (joins_waiting (drop count (unack link rows)) (wait link rows) (new_row number body fate ∷ []))
 
-  pub queue_holds : is_waiting link fate ≡ false → is_unacked link fate ≡ false → is_held link fate ≡ true → queue count link (appended number rows body fate) ≡ queue count link rows ++ new_message number body ∷ []
+  pub queue_holds : is_waiting link fate ≡ false → is_unacked link fate ≡ false → is_held link fate ≡ true
+      → queue count link (appended number rows body fate) ≡ queue count link rows ++ new_message number body ∷ []
   queue_holds w u h =
-      rw (appended_out number rows body fate (is_unacked link) u, appended_out number rows body fate (is_waiting link) w, appended_in number rows body fate (is_held link) h)
+      rw (appended_out number rows body fate (is_unacked link) u,
+            appended_out number rows body fate (is_waiting link) w, appended_in number rows body fate (is_held link) h)
       (joins_held (drop count (unack link rows)) (wait link rows) (held link rows) (new_row number body fate ∷ []))
 
   pub queue_apart : is_on link fate ≡ false → queue count link (appended number rows body fate) ≡ queue count link rows
-  queue_apart o = queue_untouched count link rows (appended number rows body fate) (untouched link rows (appended number rows body fate) (appended_out number rows body fate (is_on link) o))
+  queue_apart o = queue_untouched count link rows (appended number rows body fate)
+      (untouched link rows (appended number rows body fate) (appended_out number rows body fate (is_on link) o))
 
   pub aside_joins : is_parked fate ≡ true → messages (parked (appended number rows body fate)) ≡ messages (parked rows) ++ new_message number body ∷ []
   aside_joins p = ap messages (appended_in number rows body fate is_parked p) ∙ joined (parked rows) (new_row number body fate ∷ [])
@@ -68,46 +74,62 @@ module _ (count link number : ℕ) (rows : List Row) (body : List ℕ) (fate : F
   aside_apart p = ap messages (appended_out number rows body fate is_parked p)
 
 -- A FIRST SENDING: the first that waits is the last that was sent
-sends_on : (count : ℕ) (sent waiting kept : List Row) (fate : Fate) → count ≤ length sent → messages (drop count (sent ++ map (with_fate fate) (take 1 waiting)) ++ drop 1 waiting ++ kept) ≡ messages (drop count sent ++ waiting ++ kept)
+sends_on : (count : ℕ) (sent waiting kept : List Row) (fate : Fate) → count ≤ length sent
+    → messages (drop count (sent ++ map (with_fate fate) (take 1 waiting)) ++ drop 1 waiting ++ kept)
+    ≡ messages (drop count sent ++ waiting ++ kept)
 sends_on count sent waiting kept fate few =
     let more = map (with_fate fate) (take 1 waiting) in
     let left : messages (drop count (sent ++ more) ++ drop 1 waiting) ≡ messages (drop count sent ++ waiting) =
     ap (λ (xs : List Row). messages (xs ++ drop 1 waiting)) (drop-append-le count sent more few)
     ∙ joined (drop count sent ++ more) (drop 1 waiting)
-    ∙ ap (λ (ms : List Message). ms ++ messages (drop 1 waiting)) (joined (drop count sent) more ∙ ap (λ (ms : List Message). messages (drop count sent) ++ ms) (same_messages fate (take 1 waiting)))
+    ∙ ap (λ (ms : List Message). ms ++ messages (drop 1 waiting))
+        (joined (drop count sent) more
+          ∙ ap (λ (ms : List Message). messages (drop count sent) ++ ms) (same_messages fate (take 1 waiting)))
     ∙ append_assoc (messages (drop count sent)) (messages (take 1 waiting)) (messages (drop 1 waiting))
     ∙ ap (λ (ms : List Message). messages (drop count sent) ++ ms) (sym (joined (take 1 waiting) (drop 1 waiting)) ∙ ap messages (take-append-drop 1 waiting))
     ∙ sym (joined (drop count sent) waiting) in
-    joined (drop count (sent ++ more) ++ drop 1 waiting) kept ∙ ap (λ (ms : List Message). ms ++ messages kept) left ∙ sym (joined (drop count sent ++ waiting) kept)
+    joined (drop count (sent ++ more) ++ drop 1 waiting) kept ∙ ap (λ (ms : List Message). ms ++ messages kept) left
+        ∙ sym (joined (drop count sent ++ waiting) kept)
 
-pub queue_sent : (count link : ℕ) (rows : List Row) → IsInOrder link rows → count ≤ length (unack link rows) → queue count link (turned (is_waiting link) (Unacked link) 1 rows) ≡ queue count link rows
+pub queue_sent : (count link : ℕ) (rows : List Row) → IsInOrder link rows → count ≤ length (unack link rows)
+    → queue count link (turned (is_waiting link) (Unacked link) 1 rows) ≡ queue count link rows
 queue_sent count link rows order few =
     let s = sent link rows in
     rw (s.unack_is order, s.wait_is, s.held_same) (sends_on count (unack link rows) (wait link rows) (held link rows) (Unacked link) few)
 
 -- ACKNOWLEDGED: the far end accepted them
-pub queue_acked : (accepted acked count link : ℕ) (rows : List Row) → acked + count ≤ accepted → queue (accepted - (acked + count)) link (turned (is_unacked link) (Acked link) count rows) ≡ queue (accepted - acked) link rows
+pub queue_acked : (accepted acked count link : ℕ) (rows : List Row) → acked + count ≤ accepted
+    → queue (accepted - (acked + count)) link (turned (is_unacked link) (Acked link) count rows)
+    ≡ queue (accepted - acked) link rows
 queue_acked accepted acked count link rows few =
     let a = acknowledged link count rows in
     let many : count + (accepted - (acked + count)) ≡ accepted - acked = omega (arith, few) in
     rw (a.unack_is, a.wait_same, a.held_same, drop_twice (accepted - (acked + count)) count (unack link rows), many) refl
 
 -- ACCEPTED by the far end: the first leaves
-pub queue_accepted : (count link : ℕ) (rows : List Row) (row : Row) → slice_get (unack link rows) count ≡ Some row → queue count link rows ≡ record { number = row.number; body = row.body } ∷ queue (suc count) link rows
+pub queue_accepted : (count link : ℕ) (rows : List Row) (row : Row) → slice_get (unack link rows) count ≡ Some row
+    → queue count link rows ≡ record { number = row.number; body = row.body } ∷ queue (suc count) link rows
 queue_accepted count link rows row there = rw (drop_at count (unack link rows) row there) refl
 
 -- A LINK SETTLES: its queue stands behind the target's, or aside
-pub queue_settled : (count to_count link to : ℕ) (rows : List Row) → (link == to) ≡ false → IsInOrder link rows → IsHeldLast link rows → held to rows ≡ [] → queue to_count to (moved (is_on link) (all_with (Waiting to)) (turned (is_unacked link) (Acked link) count rows)) ≡ queue to_count to rows ++ queue count link rows
+pub queue_settled : (count to_count link to : ℕ) (rows : List Row) → (link == to) ≡ false → IsInOrder link rows
+    → IsHeldLast link rows → held to rows ≡ []
+    → queue to_count to (moved (is_on link) (all_with (Waiting to)) (turned (is_unacked link) (Acked link) count rows))
+    ≡ queue to_count to rows ++ queue count link rows
 queue_settled count to_count link to rows other order last none =
     let a = acknowledged link count rows in
     let mid = turned (is_unacked link) (Acked link) count rows in
     let m = moved_to link to mid other in
     let u = a.others to other in
     rw (m.unack_same, m.wait_is, m.held_same, u.unack_same, u.wait_same, u.held_same, none, a.on_is order last)
-    (joins_waiting (drop to_count (unack to rows)) (wait to rows) (map (with_fate (Waiting to)) (drop count (unack link rows) ++ wait link rows ++ held link rows))
-    ∙ ap (λ (ms : List Message). messages (drop to_count (unack to rows) ++ wait to rows ++ []) ++ ms) (same_messages (Waiting to) (drop count (unack link rows) ++ wait link rows ++ held link rows)))
+    (joins_waiting (drop to_count (unack to rows)) (wait to rows)
+          (map (with_fate (Waiting to)) (drop count (unack link rows) ++ wait link rows ++ held link rows))
+    ∙ ap (λ (ms : List Message). messages (drop to_count (unack to rows) ++ wait to rows ++ []) ++ ms)
+        (same_messages (Waiting to) (drop count (unack link rows) ++ wait link rows ++ held link rows)))
 
-pub aside_settled : (count link : ℕ) (rows : List Row) → IsInOrder link rows → IsHeldLast link rows → messages (parked (moved (is_on link) (all_with Parked) (turned (is_unacked link) (Acked link) count rows))) ≡ messages (parked rows) ++ queue count link rows
+pub aside_settled : (count link : ℕ) (rows : List Row) → IsInOrder link rows → IsHeldLast link rows
+    → messages (parked (moved (is_on link) (all_with Parked) (turned (is_unacked link) (Acked link) count rows)))
+    ≡ messages (parked rows) ++ queue count link rows
 aside_settled count link rows order last =
     let a = acknowledged link count rows in
     let mid = turned (is_unacked link) (Acked link) count rows in
@@ -116,7 +138,9 @@ aside_settled count link rows order last =
     ∙ ap (λ (ms : List Message). messages (parked rows) ++ ms) (same_messages Parked (drop count (unack link rows) ++ wait link rows ++ held link rows))
 
 -- A LINK COMES UP: what stood aside waits for it
-pub queue_rises : (count link : ℕ) (rows : List Row) → held link rows ≡ [] → queue count link (moved is_parked (all_with (Waiting link)) rows) ≡ queue count link rows ++ messages (parked rows)
+pub queue_rises : (count link : ℕ) (rows : List Row) → held link rows ≡ []
+    → queue count link (moved is_parked (all_with (Waiting link)) rows) ≡ queue count link rows
+    ++ messages (parked rows)
 queue_rises count link rows none =
     let u = unparked link rows in
     rw (u.unack_same, u.wait_is, u.held_same, none)
@@ -124,7 +148,10 @@ queue_rises count link rows none =
     ∙ ap (λ (ms : List Message). messages (drop count (unack link rows) ++ wait link rows ++ []) ++ ms) (same_messages (Waiting link) (parked rows)))
 
 -- and the messages that wait for the target are those that did, and then its queue
-pub wait_settled : (count link to : ℕ) (rows : List Row) → (link == to) ≡ false → IsInOrder link rows → IsHeldLast link rows → messages (wait to (moved (is_on link) (all_with (Waiting to)) (turned (is_unacked link) (Acked link) count rows))) ≡ messages (wait to rows) ++ queue count link rows
+pub wait_settled : (count link to : ℕ) (rows : List Row) → (link == to) ≡ false → IsInOrder link rows
+    → IsHeldLast link rows → messages
+    (wait to (moved (is_on link) (all_with (Waiting to)) (turned (is_unacked link) (Acked link) count rows)))
+    ≡ messages (wait to rows) ++ queue count link rows
 wait_settled count link to rows other order last =
     let a = acknowledged link count rows in
     let mid = turned (is_unacked link) (Acked link) count rows in

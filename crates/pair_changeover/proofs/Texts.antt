@@ -28,40 +28,61 @@ field_is fsn few = omega (arith, few)
 wide_is : (fsn : ℕ) → fsn < 4096 → ((fsn + 4096 * 0) % 256 + 256 * ((fsn + 4096 * 0) / 256)) % 4096 ≡ fsn
 wide_is fsn few = omega (arith, few)
 
-coo_in : (p : Profile) (sio dpc opc link fsn : ℕ) → sio % 16 ≡ 0 → dpc < 16384 → opc < 16384 → link < 16 → fsn < fsn_count p → order_of p (text p (Coo link fsn) sio dpc opc) ≡ Some (Coo link fsn)
+coo_in : (p : Profile) (sio dpc opc link fsn : ℕ) → sio % 16 ≡ 0 → dpc < 16384 → opc < 16384 → link < 16
+    → fsn < fsn_count p → order_of p (text p (Coo link fsn) sio dpc opc) ≡ Some (Coo link fsn)
 coo_in Narrow sio dpc opc link fsn m d o few small = rw (eq-eqb (sio % 16) 0 m, slc_is dpc opc link d o few, field_is fsn small) refl
 coo_in Wide sio dpc opc link fsn m d o few small = rw (eq-eqb (sio % 16) 0 m, slc_is dpc opc link d o few, wide_is fsn small) refl
 
-pub coo_read : (settings : Settings) (link fsn : ℕ) → AreCodes settings → link < 16 → fsn < fsn_count settings.profile → order_any (text settings.profile (Coo link fsn) settings.sio settings.dpc settings.opc) ≡ Some (Coo link fsn)
-coo_read settings link fsn codes few small = any_of settings.profile (text settings.profile (Coo link fsn) settings.sio settings.dpc settings.opc) (Coo link fsn) (coo_in settings.profile settings.sio settings.dpc settings.opc link fsn codes.management codes.dpc codes.opc few small)
+pub coo_read : (settings : Settings) (link fsn : ℕ) → AreCodes settings → link < 16 → fsn < fsn_count settings.profile
+    → order_any (text settings.profile (Coo link fsn) settings.sio settings.dpc settings.opc) ≡ Some (Coo link fsn)
+coo_read settings link fsn codes few small =
+    any_of settings.profile (text settings.profile (Coo link fsn) settings.sio settings.dpc settings.opc) (Coo link fsn)
+    (coo_in settings.profile settings.sio settings.dpc settings.opc link fsn codes.management codes.dpc codes.opc few
+      small)
 
-coa_in : (p : Profile) (sio dpc opc link fsn : ℕ) → sio % 16 ≡ 0 → dpc < 16384 → opc < 16384 → link < 16 → fsn < fsn_count p → order_of p (text p (Coa link fsn) sio dpc opc) ≡ Some (Coa link fsn)
+coa_in : (p : Profile) (sio dpc opc link fsn : ℕ) → sio % 16 ≡ 0 → dpc < 16384 → opc < 16384 → link < 16
+    → fsn < fsn_count p → order_of p (text p (Coa link fsn) sio dpc opc) ≡ Some (Coa link fsn)
 coa_in Narrow sio dpc opc link fsn m d o few small = rw (eq-eqb (sio % 16) 0 m, slc_is dpc opc link d o few, field_is fsn small) refl
 coa_in Wide sio dpc opc link fsn m d o few small = rw (eq-eqb (sio % 16) 0 m, slc_is dpc opc link d o few, wide_is fsn small) refl
 
-pub coa_read : (settings : Settings) (link fsn : ℕ) → AreCodes settings → link < 16 → fsn < fsn_count settings.profile → order_any (text settings.profile (Coa link fsn) settings.sio settings.dpc settings.opc) ≡ Some (Coa link fsn)
-coa_read settings link fsn codes few small = any_of settings.profile (text settings.profile (Coa link fsn) settings.sio settings.dpc settings.opc) (Coa link fsn) (coa_in settings.profile settings.sio settings.dpc settings.opc link fsn codes.management codes.dpc codes.opc few small)
+pub coa_read : (settings : Settings) (link fsn : ℕ) → AreCodes settings → link < 16 → fsn < fsn_count settings.profile
+    → order_any (text settings.profile (Coa link fsn) settings.sio settings.dpc settings.opc) ≡ Some (Coa link fsn)
+coa_read settings link fsn codes few small =
+    any_of settings.profile (text settings.profile (Coa link fsn) settings.sio settings.dpc settings.opc) (Coa link fsn)
+    (coa_in settings.profile settings.sio settings.dpc settings.opc link fsn codes.management codes.dpc codes.opc few
+      small)
 
-eco_in : (p : Profile) (sio dpc opc link : ℕ) → sio % 16 ≡ 0 → dpc < 16384 → opc < 16384 → link < 16 → order_of p (text p (Eco link) sio dpc opc) ≡ Some (Eco link)
+eco_in : (p : Profile) (sio dpc opc link : ℕ) → sio % 16 ≡ 0 → dpc < 16384 → opc < 16384 → link < 16
+    → order_of p (text p (Eco link) sio dpc opc) ≡ Some (Eco link)
 eco_in p sio dpc opc link m d o few = rw (eq-eqb (sio % 16) 0 m, slc_is dpc opc link d o few) refl
 
-pub eco_read : (settings : Settings) (link : ℕ) → AreCodes settings → link < 16 → order_any (text settings.profile (Eco link) settings.sio settings.dpc settings.opc) ≡ Some (Eco link)
-eco_read settings link codes few = any_of settings.profile (text settings.profile (Eco link) settings.sio settings.dpc settings.opc) (Eco link) (eco_in settings.profile settings.sio settings.dpc settings.opc link codes.management codes.dpc codes.opc few)
+pub eco_read : (settings : Settings) (link : ℕ) → AreCodes settings → link < 16
+    → order_any (text settings.profile (Eco link) settings.sio settings.dpc settings.opc) ≡ Some (Eco link)
+eco_read settings link codes few =
+    any_of settings.profile (text settings.profile (Eco link) settings.sio settings.dpc settings.opc) (Eco link)
+    (eco_in settings.profile settings.sio settings.dpc settings.opc link codes.management codes.dpc codes.opc few)
 
 -- what the orders of a changeback are read as is no order of a changeover
-back_no_order : (told : Order) → (IsChangeover told → ⊥) → (b : Bool) (order : Order) → ◌≡◌ {A = Option Order} (cond b (Some told) None) (Some order) → IsChangeover order → ⊥
+back_no_order : (told : Order) → (IsChangeover told → ⊥) → (b : Bool) (order : Order)
+    → ◌≡◌ {A = Option Order} (cond b (Some told) None) (Some order) → IsChangeover order → ⊥
 back_no_order told not true order e over = not (subst IsChangeover (sym (same_Some told order e)) over)
 back_no_order told not false order e over = absurd cc
 
-back_any : (told : Order) → (IsChangeover told → ⊥) → (b : Bool) (order : Order) → ◌≡◌ {A = Option Order} (first_of (cond b (Some told) None) (cond b (Some told) None)) (Some order) → IsChangeover order → ⊥
+back_any : (told : Order) → (IsChangeover told → ⊥) → (b : Bool) (order : Order)
+    → ◌≡◌ {A = Option Order} (first_of (cond b (Some told) None) (cond b (Some told) None)) (Some order)
+    → IsChangeover order → ⊥
 back_any told not true order e over = back_no_order told not true order e over
 back_any told not false order e over = absurd cc
 
 pub cbd_plain : (settings : Settings) (link code : ℕ) → IsNoOrder (text settings.profile (Cbd link code) settings.sio settings.dpc settings.opc)
-cbd_plain settings link code order e over = back_any (Cbd (label_number settings.dpc settings.opc link / 0x1000000 % 256 / 16) code) (λ c. c) (settings.sio % 16 == 0) order e over
+cbd_plain settings link code order e over =
+    back_any (Cbd (label_number settings.dpc settings.opc link / 0x1000000 % 256 / 16) code) (λ c. c)
+    (settings.sio % 16 == 0) order e over
 
 pub cba_plain : (settings : Settings) (link code : ℕ) → IsNoOrder (text settings.profile (Cba link code) settings.sio settings.dpc settings.opc)
-cba_plain settings link code order e over = back_any (Cba (label_number settings.dpc settings.opc link / 0x1000000 % 256 / 16) code) (λ c. c) (settings.sio % 16 == 0) order e over
+cba_plain settings link code order e over =
+    back_any (Cba (label_number settings.dpc settings.opc link / 0x1000000 % 256 / 16) code) (λ c. c)
+    (settings.sio % 16 == 0) order e over
 
 -- nor is a message of the users an order
 pub plain_body : (body : List ℕ) → (service_indicator body == 0) ≡ false → order_any body ≡ None

@@ -31,16 +31,23 @@ module _ (test : Fate → Bool) (fate : Row → Fate) (back : (f : Fate) → tes
   plain_row routing row Parked e b = absurd (let no : false ≡ true = back Parked e in cc)
   plain_row routing row (Discarded cause) e b = absurd (let no : false ≡ true = back (Discarded cause) e in cc)
 
-  pub turned_users : (routing : Routing) (other : Fate → Bool) (rows : List Row) → AreBack routing rows → (m : Message) → Among m (messages (standing other (map (fated fate) (standing test rows)))) → order_any m.body ≡ None
+  pub turned_users : (routing : Routing) (other : Fate → Bool) (rows : List Row) → AreBack routing rows → (m : Message)
+      → Among m (messages (standing other (map (fated fate) (standing test rows)))) → order_any m.body ≡ None
   turned_users routing other [] b m among = absurd among
   turned_users routing other (row ∷ rows) b m among = go (λ a. turned_users routing other rows b.1 m a) (test row.fate) refl among
     where
-      kept : (Among m (messages (standing other (map (fated fate) (standing test rows)))) → order_any m.body ≡ None) → test row.fate ≡ true → (c : Bool) → Among m (messages (cond c (fated fate row ∷ standing other (map (fated fate) (standing test rows))) (standing other (map (fated fate) (standing test rows))))) → order_any m.body ≡ None
+      kept : (Among m (messages (standing other (map (fated fate) (standing test rows)))) → order_any m.body ≡ None)
+          → test row.fate ≡ true → (c : Bool)
+          → Among m (messages (cond c (fated fate row ∷ standing other (map (fated fate) (standing test rows)))
+              (standing other (map (fated fate) (standing test rows))))) → order_any m.body ≡ None
       kept rest e true (inl same) = ap (λ (x : Message). order_any x.body) same ∙ plain_row routing row row.fate e b.0
       kept rest e true (inr a) = rest a
       kept rest e false a = rest a
 
-      go : (Among m (messages (standing other (map (fated fate) (standing test rows)))) → order_any m.body ≡ None) → (c : Bool) → test row.fate ≡ c → Among m (messages (standing other (map (fated fate) (cond c (row ∷ standing test rows) (standing test rows))))) → order_any m.body ≡ None
+      go : (Among m (messages (standing other (map (fated fate) (standing test rows)))) → order_any m.body ≡ None)
+          → (c : Bool) → test row.fate ≡ c
+          → Among m (messages (standing other
+              (map (fated fate) (cond c (row ∷ standing test rows) (standing test rows))))) → order_any m.body ≡ None
       go rest true e a = kept rest e (other (fate row)) a
       go rest false e a = rest a
 
@@ -62,14 +69,16 @@ module _ (test : Fate → Bool) (fate : Row → Fate) (back : (f : Fate) → tes
     pub turned_queue : (count l : ℕ) → IsEither l → queue count l (moved test fate rows) ≡ queue count l rows ++ gained l
     turned_queue count l (inl p) =
         let none : held l turned_rows ≡ [] = fated_none (is_held l) fate p.1 (standing test rows) in
-        let same : held l (moved test fate rows) ≡ held l rows = moved_same test (is_held l) fate rows p.1 (λ f e. not_on_held l f (back_not_on l f (back f e))) in
+        let same : held l (moved test fate rows) ≡ held l rows =
+            moved_same test (is_held l) fate rows p.1 (λ f e. not_on_held l f (back_not_on l f (back f e))) in
         let more = moved_more test (is_waiting l) fate rows (λ f e. not_on_waiting l f (back_not_on l f (back f e))) in
         rw (unack_same l, more, same, p.0, none)
         (joins_waiting (drop count (unack l rows)) (wait l rows) (wait l turned_rows)
         ∙ ap (λ (xs : List Row). messages (drop count (unack l rows) ++ wait l rows ++ []) ++ messages xs) (sym (append-nil (wait l turned_rows))))
     turned_queue count l (inr w) =
         let none : wait l turned_rows ≡ [] = fated_none (is_waiting l) fate w (standing test rows) in
-        let same : wait l (moved test fate rows) ≡ wait l rows = moved_same test (is_waiting l) fate rows w (λ f e. not_on_waiting l f (back_not_on l f (back f e))) in
+        let same : wait l (moved test fate rows) ≡ wait l rows =
+            moved_same test (is_waiting l) fate rows w (λ f e. not_on_waiting l f (back_not_on l f (back f e))) in
         let more = moved_more test (is_held l) fate rows (λ f e. not_on_held l f (back_not_on l f (back f e))) in
         rw (unack_same l, same, more, none) (joins_held (drop count (unack l rows)) (wait l rows) (held l rows) (held l turned_rows))
 
@@ -77,7 +86,9 @@ module _ (test : Fate → Bool) (fate : Row → Fate) (back : (f : Fate) → tes
     turned_parked = moved_more test is_parked fate rows (λ f e. back_not_parked f (back f e))
 
     pub gained_users : (routing : Routing) → AreBack routing rows → (l : ℕ) (m : Message) → Among m (gained l) → order_any m.body ≡ None
-    gained_users routing b l m among = go (among_joined m (messages (wait l turned_rows)) (messages (held l turned_rows)) (subst (Among m) (joined (wait l turned_rows) (held l turned_rows)) among))
+    gained_users routing b l m among =
+        go (among_joined m (messages (wait l turned_rows)) (messages (held l turned_rows))
+          (subst (Among m) (joined (wait l turned_rows) (held l turned_rows)) among))
       where
         go : Among m (messages (wait l turned_rows)) ⊎ Among m (messages (held l turned_rows)) → order_any m.body ≡ None
         go (inl a) = turned_users routing (is_waiting l) rows b m a
@@ -87,7 +98,10 @@ no_plain : (m : Message) → order_any m.body ≡ None → IsPlain m
 no_plain m none order is over = let no : None ≡ Some order = sym none ∙ is in absurd cc
 
 -- AN END whose rows turn so
-module _ (test : Fate → Bool) (fate : Row → Fate) (s t f : State) (back : (g : Fate) → test g ≡ true → stands_back g ≡ true) (unsent : (l : ℕ) (row : Row) → is_unacked l (fate row) ≡ false) (rows : t.rows ≡ moved test fate s.rows) (acked : (l : ℕ) → acked_on l t ≡ acked_on l s) (either : (l : ℕ) → IsEither test fate back s.rows unsent l) where
+module _ (test : Fate → Bool) (fate : Row → Fate) (s t f : State)
+    (back : (g : Fate) → test g ≡ true → stands_back g ≡ true)
+    (unsent : (l : ℕ) (row : Row) → is_unacked l (fate row) ≡ false) (rows : t.rows ≡ moved test fate s.rows)
+    (acked : (l : ℕ) → acked_on l t ≡ acked_on l s) (either : (l : ℕ) → IsEither test fate back s.rows unsent l) where
   pub turned_pending : (l : ℕ) → pending l t f ≡ pending l s f ++ gained test fate back s.rows unsent l
   turned_pending l =
       ap (λ (n : ℕ). queue (accepted_on l f - n) l t.rows) (acked l)
@@ -95,13 +109,19 @@ module _ (test : Fate → Bool) (fate : Row → Fate) (s t f : State) (back : (g
       ∙ turned_queue test fate back s.rows unsent (accepted_on l f - acked_on l s) l (either l)
 
   pub turned_aside : aside t ≡ aside s ++ messages (parked (turned_rows test fate back s.rows unsent))
-  turned_aside = ap (λ (rs : List Row). messages (parked rs)) rows ∙ ap messages (turned_parked test fate back s.rows unsent) ∙ joined (parked s.rows) (parked (turned_rows test fate back s.rows unsent))
+  turned_aside = ap (λ (rs : List Row). messages (parked rs)) rows
+      ∙ ap messages (turned_parked test fate back s.rows unsent)
+      ∙ joined (parked s.rows) (parked (turned_rows test fate back s.rows unsent))
 
   -- in which no order is made
-  pub turned_acts : AreBack s.routing s.rows → ((l : ℕ) → is_up l t ≡ true → is_up l s ≡ true) → ((l : ℕ) → is_settled l t ≡ true → is_settled l s ≡ true) → ((l : ℕ) → accepted_on l t ≡ accepted_on l s) → ((l : ℕ) → last_on l t ≡ last_on l s) → Acts s t f
+  pub turned_acts : AreBack s.routing s.rows → ((l : ℕ) → is_up l t ≡ true → is_up l s ≡ true)
+      → ((l : ℕ) → is_settled l t ≡ true → is_settled l s ≡ true) → ((l : ℕ) → accepted_on l t ≡ accepted_on l s)
+      → ((l : ℕ) → last_on l t ≡ last_on l s) → Acts s t f
   turned_acts b up settled accepted last = record {
     came = λ l m among. came_case l m (among_joined m (pending l s f) (gained test fate back s.rows unsent l) (subst (Among m) (turned_pending l) among));
-    came_aside = λ m among. aside_case m (among_joined m (aside s) (messages (parked (turned_rows test fate back s.rows unsent))) (subst (Among m) turned_aside among));
+    came_aside = λ m among. aside_case m
+        (among_joined m (aside s) (messages (parked (turned_rows test fate back s.rows unsent)))
+          (subst (Among m) turned_aside among));
     up_less = up;
     settled_more = λ l e. inl (settled l e);
     accepted = λ l. inl (last l);

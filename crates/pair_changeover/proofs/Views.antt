@@ -121,7 +121,9 @@ module _ {emergencies : Bool} (x x' y y' : View) (p : Passes x x' y') (o : Order
   about_was link m about (plain_aside q) = absurd (plain_not link m q about)
   about_was link m about (was_in i) = i
 
-  still : (m : Message) (order : Order) → order_any m.body ≡ Some order → In m x → ((x'.accepted (link_of order) ≡ x.accepted (link_of order)) ⊎ NoneAbout (link_of order) x) → Tells emergencies x order → Tells emergencies x' order
+  still : (m : Message) (order : Order) → order_any m.body ≡ Some order → In m x
+      → ((x'.accepted (link_of order) ≡ x.accepted (link_of order)) ⊎ NoneAbout (link_of order) x)
+      → Tells emergencies x order → Tells emergencies x' order
   still m (Coo link fsn) e i (inl same) t = t ∙ sym same
   still m (Coa link fsn) e i (inl same) t = t ∙ sym same
   still m (Cbd link code) e i same t = absurd t
@@ -133,7 +135,9 @@ module _ {emergencies : Bool} (x x' y y' : View) (p : Passes x x' y') (o : Order
 
   pub carries : Orders emergencies x' y'
   carries = record {
-    tells = λ m i order e over. let j = about_was (link_of order) m (record { order = order; is = e; over = over; of = refl }) (was m i) in still m order e j (p.accepted (link_of order)) (o.tells m j order e over);
+    tells = λ m i order e over. let j =
+        about_was (link_of order) m (record { order = order; is = e; over = over; of = refl }) (was m i) in still m
+        order e j (p.accepted (link_of order)) (o.tells m j order e over);
     none_up = λ link up m i about. p.none_up link up m (about_was link m about (was m i)) about;
     none_settled = λ link settled m i about. p.none_settled link settled m (about_was link m about (was m i)) about;
     one = λ link m n i j a b. o.one link m n (about_was link m a (was m i)) (about_was link n b (was n j)) a b;
@@ -197,8 +201,10 @@ module _ {emergencies : Bool} (z : Message) (order : Order) (x x' y : View) (q :
   pub queued_in : Orders emergencies x' y
   queued_in = record {
     tells = λ m i other e over. tells_case m other e over (then_in m i);
-    none_up = λ link up. none_then link (o.none_up link (sym (q.up_same link) ∙ up)) (λ same. let no : false ≡ true = sym q.down ∙ ap x.up (sym same) ∙ sym (q.up_same link) ∙ up in absurd cc);
-    none_settled = λ link settled. none_then link (o.none_settled link settled) (λ same. let no : false ≡ true = sym q.unsettled ∙ ap y.settled (sym same) ∙ settled in absurd cc);
+    none_up = λ link up. none_then link (o.none_up link (sym (q.up_same link) ∙ up))
+        (λ same. let no : false ≡ true = sym q.down ∙ ap x.up (sym same) ∙ sym (q.up_same link) ∙ up in absurd cc);
+    none_settled = λ link settled. none_then link (o.none_settled link settled)
+        (λ same. let no : false ≡ true = sym q.unsettled ∙ ap y.settled (sym same) ∙ settled in absurd cc);
     one = λ link m n i j a b. one_case link m n a b (then_in m i) (then_in n j);
     own = λ link m a about. own_case link m about (q.came link m a);
     apart = λ link settled. o.apart link (sym (q.settled_same link) ∙ settled);

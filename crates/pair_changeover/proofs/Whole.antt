@@ -61,12 +61,15 @@ pub none_settles : (near far : Past) (s t : State) → ((l : ℕ) → is_settled
 none_settles near far s t same l e g = absurd (let no : false ≡ true = sym e ∙ sym (same l) ∙ g in cc)
 
 -- the states and what was sent stay
-pub stays : (p q : Two) → Whole p → q.near ≡ p.near → q.far ≡ p.far → ((l : ℕ) → q.near_past.sent l ≡ p.near_past.sent l) → ((l : ℕ) → q.far_past.sent l ≡ p.far_past.sent l) → Did p q
+pub stays : (p q : Two) → Whole p → q.near ≡ p.near → q.far ≡ p.far
+    → ((l : ℕ) → q.near_past.sent l ≡ p.near_past.sent l) → ((l : ℕ) → q.far_past.sent l ≡ p.far_past.sent l) → Did p q
 stays p q w near far near_sent far_sent = record {
   whole = record {
     both = rw (near, far) (w.both);
-    near = rw (near, far) (record { equal = w.near.equal; acked = λ l. rw (near_sent l) (w.near.acked l); none_discarded = w.near.none_discarded; codes = w.near.codes });
-    far = rw (near, far) (record { equal = w.far.equal; acked = λ l. rw (far_sent l) (w.far.acked l); none_discarded = w.far.none_discarded; codes = w.far.codes });
+    near = rw (near, far) (record { equal = w.near.equal; acked = λ l. rw (near_sent l) (w.near.acked l);
+            none_discarded = w.near.none_discarded; codes = w.near.codes });
+    far = rw (near, far) (record { equal = w.far.equal; acked = λ l. rw (far_sent l) (w.far.acked l);
+            none_discarded = w.far.none_discarded; codes = w.far.codes });
   };
   near = none_settles p.near_past p.far_past p.near q.near (λ l. ap (is_settled l) near);
   far = none_settles p.far_past p.near_past p.far q.far (λ l. ap (is_settled l) far);
@@ -80,7 +83,8 @@ module _ (p : Two) (w : Whole p) (event : Event) where
   codes_stay : AreCodes near_then.settings
   codes_stay = subst AreCodes (sym (settings_stay p.near event)) w.near.codes
 
-  module _ (past : Past) (out back : List (List SignalUnit)) (k : Keeps false p.near near_then p.far) (acked : (l : ℕ) → AckedFirst l (past.sent l) near_then) where
+  module _ (past : Past) (out back : List (List SignalUnit)) (k : Keeps false p.near near_then p.far)
+      (acked : (l : ℕ) → AckedFirst l (past.sent l) near_then) where
     abbrev pub keeping : Two
     keeping = record { near = near_then; far = p.far; near_past = past; far_past = p.far_past; out = out; back = back }
 
@@ -113,16 +117,22 @@ module _ (mx my : Method) (one : IsOneMethod mx my) (p : Two) (h : HoldsOf mx my
   first_at event l = acked_first l p.near event (p.near_past.sent l) h.near_sound (w.near.acked l)
 
   pub asks_did : (end : End) (event : Event) (shown : Shown) → has_own_step event ≡ false → IsSoundStep (Act end event) → Did p (after event shown)
-  asks_did end (Offer body) shown own sound = keeps_did p w (Offer body) (past_asked (Offer body) shown p.near_past) p.out p.back (offer_kept p.near p.far body h.near_sound) (first_at (Offer body))
+  asks_did end (Offer body) shown own sound =
+      keeps_did p w (Offer body) (past_asked (Offer body) shown p.near_past) p.out p.back
+      (offer_kept p.near p.far body h.near_sound) (first_at (Offer body))
   asks_did end Take shown own sound = keeps_did p w Take p.near_past p.out p.back (take_kept p.near p.far) (first_at Take)
   asks_did end (Find number) shown own sound = keeps_did p w (Find number) p.near_past p.out p.back (find_kept p.near p.far number) (first_at (Find number))
   asks_did end (Next k) shown own sound = absurd cc
   asks_did end (HeardEvent k unit) shown own sound = absurd cc
   asks_did end (UpEvent k) shown own sound = absurd cc
-  asks_did end (DownEvent k) shown own sound = keeps_did p w (DownEvent k) p.near_past p.out p.back (down_kept k p.near p.far h.near_sound w.near.codes) (first_at (DownEvent k))
+  asks_did end (DownEvent k) shown own sound =
+      keeps_did p w (DownEvent k) p.near_past p.out p.back (down_kept k p.near p.far h.near_sound w.near.codes)
+      (first_at (DownEvent k))
   asks_did end (DownBlind k) shown own sound = absurd sound
   asks_did end (NoAnswer k) shown own sound = absurd sound
-  asks_did end (Restore k) shown own sound = keeps_did p w (Restore k) p.near_past p.out p.back (restore_kept k p.near p.far h.near_sound) (first_at (Restore k))
+  asks_did end (Restore k) shown own sound =
+      keeps_did p w (Restore k) p.near_past p.out p.back (restore_kept k p.near p.far h.near_sound)
+      (first_at (Restore k))
   asks_did end (BackTimeout k) shown own sound = absurd sound
 
   -- IT SENDS
@@ -132,14 +142,16 @@ module _ (mx my : Method) (one : IsOneMethod mx my) (p : Two) (h : HoldsOf mx my
 
     pub sends_did : k < length p.near.links → (link : LinkState) → IsAt k link Up p.near → Did p sent_then
     sends_did few link at = keeps_did p w (Next k) (past_sent k p.near (step p.near (Next k)).state p.near_past) out p.back
-        (subst (λ (o : Outcome). Keeps false p.near o.state p.far) (sym (sends_next k p.near p.far w.both link at)) (next_keeps k link p.near p.far h.near_sound at (let r = near_reaches in omega (arith, r.due, r.within))))
+        (subst (λ (o : Outcome). Keeps false p.near o.state p.far) (sym (sends_next k p.near p.far w.both link at))
+              (next_keeps k link p.near p.far h.near_sound at (let r = near_reaches in omega (arith, r.due, r.within))))
         (λ l. emits_first l k p.near p.near_past h.near_sound (w.near.acked l))
       where
         far_at : (other : LinkState) × (slice_get p.far.links k ≡ Some other)
         far_at = present p.far.links k (omega (arith, few, h.far_links))
 
         near_reaches : Reaches k link p.near p.far (p.near_past.sent k)
-        near_reaches = reaches k p.near_past p.far_past p.near p.far (kept_on mx my one p h k) link at.there (ap has_phase_settled at.phase_is) far_at.0 far_at.1
+        near_reaches = reaches k p.near_past p.far_past p.near p.far (kept_on mx my one p h k) link at.there
+            (ap has_phase_settled at.phase_is) far_at.0 far_at.1
 
     pub sends_not : is_up k p.near ≡ false → Did p sent_then
     sends_not e =
@@ -152,11 +164,13 @@ module _ (mx my : Method) (one : IsOneMethod mx my) (p : Two) (h : HoldsOf mx my
   pub loses_nothing : LosesNothing p.near p.far_past
   loses_nothing = record { acked = λ link state there. go link state there (has_phase_settled state.phase) refl; none_discarded = w.near.none_discarded }
     where
-      go : (link : ℕ) (state : LinkState) → slice_get p.near.links link ≡ Some state → (b : Bool) → has_phase_settled state.phase ≡ b → state.acked ≤ length (p.far_past.taken link)
+      go : (link : ℕ) (state : LinkState) → slice_get p.near.links link ≡ Some state → (b : Bool)
+          → has_phase_settled state.phase ≡ b → state.acked ≤ length (p.far_past.taken link)
       go link state there false e = ((kept_on mx my one p h link).going state there e).acked
       go link state there true e =
           let other = present p.far.links link (omega (arith, within p.near.links link state there, h.far_links)) in
-          let counted : accepted_on link p.far ≡ length (p.far_past.taken link) = ap accepted_of other.1 ∙ (kept_on mx my one p h link).accepted other.0 other.1 in
+          let counted : accepted_on link p.far ≡ length (p.far_past.taken link) = ap accepted_of other.1
+              ∙ (kept_on mx my one p h link).accepted other.0 other.1 in
           let equal = w.near.equal link (ap link_is_settled there ∙ e) in
           let is : acked_on link p.near ≡ state.acked = ap acked_of there in
           omega (arith, counted, equal, is)

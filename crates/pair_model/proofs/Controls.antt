@@ -63,11 +63,14 @@ abbrev current : Control → Header → Bool
 current (Basic s) head = basic.kept.current s head
 current (Cyclic s) head = cyclic.kept.current s head
 
-accept : (s : Control) (w : WindowState) (head : Header) (msu : Bool) → is_processed s w head ≡ true → (part_of s w head msu).accept ≡ (current s head && (msu && (head.fsn == expected_of s)))
+accept : (s : Control) (w : WindowState) (head : Header) (msu : Bool) → is_processed s w head ≡ true
+    → (part_of s w head msu).accept ≡ (current s head && (msu && (head.fsn == expected_of s)))
 accept (Basic s) w head msu e = basic.kept.accept s w head msu e
 accept (Cyclic s) w head msu e = cyclic.kept.accept s w head msu e
 
-expected : (s : Control) (w : WindowState) (head : Header) (msu : Bool) → expected_of (control_heard s w head msu) ≡ (if (part_of s w head msu).accept then fsn_after head.fsn w else expected_of s)
+expected : (s : Control) (w : WindowState) (head : Header) (msu : Bool)
+    → expected_of (control_heard s w head msu)
+    ≡ (if (part_of s w head msu).accept then fsn_after head.fsn w else expected_of s)
 expected (Basic s) w head msu = refl
 expected (Cyclic s) w head msu = refl
 
@@ -75,43 +78,52 @@ fault : (s : Control) (w : WindowState) (head : Header) (msu : Bool) → is_proc
 fault (Basic s) w head msu e = basic.kept.fault s w head msu e
 fault (Cyclic s) w head msu e = cyclic.kept.fault s w head msu e
 
-processed : (x y : Control) (w : WindowState) (unit : Carried) (out back : List Carried) → InStep x y (unit ∷ out) back → nat_lt (length w.unacked) (distance_to w unit.head.bsn) ≡ false → is_processed y w unit.head ≡ true
+processed : (x y : Control) (w : WindowState) (unit : Carried) (out back : List Carried) → InStep x y (unit ∷ out) back
+    → nat_lt (length w.unacked) (distance_to w unit.head.bsn) ≡ false → is_processed y w unit.head ≡ true
 processed (Basic x) (Basic y) w unit out back h quiet = basic.kept.processed x y w unit out back h quiet
 processed (Basic x) (Cyclic y) w unit out back h quiet = absurd h
 processed (Cyclic x) (Basic y) w unit out back h quiet = absurd h
 processed (Cyclic x) (Cyclic y) w unit out back h quiet = cyclic.kept.processed x y w unit out back h quiet
 
-emit : (x y : Control) (out back : List Carried) (choice : Choice) (o fsn : ℕ) (w : WindowState) (message : Option ℕ) → InStep x y out back → InStep (control_after choice o x w) y (out ++ record { head = head_of x w fsn; message = message } ∷ []) back
+emit : (x y : Control) (out back : List Carried) (choice : Choice) (o fsn : ℕ) (w : WindowState) (message : Option ℕ)
+    → InStep x y out back → InStep (control_after choice o x w) y
+    (out ++ record { head = head_of x w fsn; message = message } ∷ []) back
 emit (Basic x) (Basic y) out back choice o fsn w message h = basic.kept.emit x y out back choice o fsn w message h
 emit (Basic x) (Cyclic y) out back choice o fsn w message h = absurd h
 emit (Cyclic x) (Basic y) out back choice o fsn w message h = absurd h
 emit (Cyclic x) (Cyclic y) out back choice o fsn w message h = tt
 
-emit_back : (x y : Control) (out back : List Carried) (choice : Choice) (o fsn : ℕ) (w : WindowState) (message : Option ℕ) → InStep x y out back → InStep x (control_after choice o y w) out (back ++ record { head = head_of y w fsn; message = message } ∷ [])
+emit_back : (x y : Control) (out back : List Carried) (choice : Choice) (o fsn : ℕ) (w : WindowState)
+    (message : Option ℕ) → InStep x y out back
+    → InStep x (control_after choice o y w) out (back ++ record { head = head_of y w fsn; message = message } ∷ [])
 emit_back (Basic x) (Basic y) out back choice o fsn w message h = basic.kept.emit_back x y out back choice o fsn w message h
 emit_back (Basic x) (Cyclic y) out back choice o fsn w message h = absurd h
 emit_back (Cyclic x) (Basic y) out back choice o fsn w message h = absurd h
 emit_back (Cyclic x) (Cyclic y) out back choice o fsn w message h = tt
 
-hear : (x y : Control) (unit : Carried) (out back : List Carried) (w : WindowState) → InStep x y (unit ∷ out) back → is_processed y w unit.head ≡ true → InStep x (control_heard y w unit.head (is_some unit.message)) out back
+hear : (x y : Control) (unit : Carried) (out back : List Carried) (w : WindowState) → InStep x y (unit ∷ out) back
+    → is_processed y w unit.head ≡ true → InStep x (control_heard y w unit.head (is_some unit.message)) out back
 hear (Basic x) (Basic y) unit out back w h well = basic.kept.hear x y unit out back w h well
 hear (Basic x) (Cyclic y) unit out back w h well = absurd h
 hear (Cyclic x) (Basic y) unit out back w h well = absurd h
 hear (Cyclic x) (Cyclic y) unit out back w h well = tt
 
-hear_back : (x y : Control) (unit : Carried) (out back : List Carried) (w : WindowState) → InStep x y out (unit ∷ back) → is_processed x w unit.head ≡ true → InStep (control_heard x w unit.head (is_some unit.message)) y out back
+hear_back : (x y : Control) (unit : Carried) (out back : List Carried) (w : WindowState) → InStep x y out (unit ∷ back)
+    → is_processed x w unit.head ≡ true → InStep (control_heard x w unit.head (is_some unit.message)) y out back
 hear_back (Basic x) (Basic y) unit out back w h well = basic.kept.hear_back x y unit out back w h well
 hear_back (Basic x) (Cyclic y) unit out back w h well = absurd h
 hear_back (Cyclic x) (Basic y) unit out back w h well = absurd h
 hear_back (Cyclic x) (Cyclic y) unit out back w h well = tt
 
-lose : (x y : Control) (before : List Carried) (unit : Carried) (after back : List Carried) → InStep x y (before ++ unit ∷ after) back → InStep x y (before ++ after) back
+lose : (x y : Control) (before : List Carried) (unit : Carried) (after back : List Carried)
+    → InStep x y (before ++ unit ∷ after) back → InStep x y (before ++ after) back
 lose (Basic x) (Basic y) before unit after back h = basic.kept.lose x y before unit after back h
 lose (Basic x) (Cyclic y) before unit after back h = absurd h
 lose (Cyclic x) (Basic y) before unit after back h = absurd h
 lose (Cyclic x) (Cyclic y) before unit after back h = tt
 
-lose_back : (x y : Control) (out before : List Carried) (unit : Carried) (after : List Carried) → InStep x y out (before ++ unit ∷ after) → InStep x y out (before ++ after)
+lose_back : (x y : Control) (out before : List Carried) (unit : Carried) (after : List Carried)
+    → InStep x y out (before ++ unit ∷ after) → InStep x y out (before ++ after)
 lose_back (Basic x) (Basic y) out before unit after h = basic.kept.lose_back x y out before unit after h
 lose_back (Basic x) (Cyclic y) out before unit after h = absurd h
 lose_back (Cyclic x) (Basic y) out before unit after h = absurd h
@@ -155,4 +167,5 @@ one_back (CyclicMethod n1 n2) BasicMethod one = absurd one
 one_back (CyclicMethod n1 n2) (CyclicMethod m1 m2) one = tt
 
 pub one_link : (near far : Method) → IsOneMethod near far → OneLink rules (start_of near) (start_of far)
-one_link near far one = runs.one_link rules InStep kept (start_of near) (start_of far) (start_0 near) (start_0 far) (start_in_step near far one) (start_in_step far near (one_back near far one))
+one_link near far one = runs.one_link rules InStep kept (start_of near) (start_of far) (start_0 near) (start_0 far)
+    (start_in_step near far one) (start_in_step far near (one_back near far one))

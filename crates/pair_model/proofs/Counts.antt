@@ -27,10 +27,12 @@ stays_then l a b c p q = λ after there.
     (x.0, x.1, y.2 ∙ x.2)
 
 -- a link changes, and counts as many
-set_links : (l m : ℕ) (link link' : LinkState) (links : List LinkState) → slice_get links m ≡ Some link → link'.accepted ≡ link.accepted → LinksCount l links (slice_set links m link')
+set_links : (l m : ℕ) (link link' : LinkState) (links : List LinkState) → slice_get links m ≡ Some link
+    → link'.accepted ≡ link.accepted → LinksCount l links (slice_set links m link')
 set_links l m link link' links there same = λ after found. go after (at_set links m l link' after found)
   where
-    go : (after : LinkState) → ((l ≡ m) × (after ≡ link')) ⊎ ((l ≢ m) × (slice_get links l ≡ Some after)) → (k : LinkState) × (slice_get links l ≡ Some k) × (after.accepted ≡ k.accepted)
+    go : (after : LinkState) → ((l ≡ m) × (after ≡ link')) ⊎ ((l ≢ m) × (slice_get links l ≡ Some after))
+        → (k : LinkState) × (slice_get links l ≡ Some k) × (after.accepted ≡ k.accepted)
     go after (inl p) = (link, ap (λ (k : ℕ). slice_get links k) p.0 ∙ there, ap (λ (k : LinkState). k.accepted) p.1 ∙ same)
     go after (inr p) = (after, p.1, refl)
 
@@ -72,9 +74,12 @@ count_stays l s event apart = step_walks s (CountStays l) (CountStays l s) event
   rises = λ m link e at u. other m (subst (IsApart l) e apart) _;
 })
   where
-    other : (m : ℕ) → (m == l) ≡ false → (link' : LinkState) (after : LinkState) → slice_get (slice_set s.links m link') l ≡ Some after → (k : LinkState) × (slice_get s.links l ≡ Some k) × (after.accepted ≡ k.accepted)
+    other : (m : ℕ) → (m == l) ≡ false → (link' : LinkState) (after : LinkState)
+        → slice_get (slice_set s.links m link') l ≡ Some after → (k : LinkState) × (slice_get s.links l ≡ Some k)
+        × (after.accepted ≡ k.accepted)
     other m d link' after found = go (at_set s.links m l link' after found)
       where
-        go : ((l ≡ m) × (after ≡ link')) ⊎ ((l ≢ m) × (slice_get s.links l ≡ Some after)) → (k : LinkState) × (slice_get s.links l ≡ Some k) × (after.accepted ≡ k.accepted)
+        go : ((l ≡ m) × (after ≡ link')) ⊎ ((l ≢ m) × (slice_get s.links l ≡ Some after)) → (k : LinkState)
+            × (slice_get s.links l ≡ Some k) × (after.accepted ≡ k.accepted)
         go (inl p) = absurd (false_true (m == l) d (rw (p.0) (itself m)))
         go (inr p) = (after, p.1, refl)

@@ -14,7 +14,9 @@ use Rattle.pair_model.specs.Run.{Stage, begun, passed, Message}
 
 -- an end with so many links
 end_with : (links : ℕ) → 1 ≤ links → links ≤ 16 → SetConfig
-end_with links some few = record { set = 0; links = links; opc = 2; dpc = 1; sio = 128; method = Basic; profile = Narrow; has_links = some; links_in_range = few; opc_in_range = omega arith; dpc_in_range = omega arith; management = refl; limits_in_range = refl }
+end_with links some few = record { set = 0; links = links; opc = 2; dpc = 1; sio = 128; method = Basic;
+      profile = Narrow; has_links = some; links_in_range = few; opc_in_range = omega arith; dpc_in_range = omega arith;
+    management = refl; limits_in_range = refl }
 
 one_link : Stage
 one_link = begun (end_with 1 (omega arith) (omega arith)) (end_with 1 (omega arith) (omega arith))
@@ -64,7 +66,8 @@ arrives_got = refl
 
 -- THE FIRST OF TWO IS LOST: it's asked for and sent again, which is no first sending, and both are taken in order.
 is_lost : List Step
-is_lost = Together 0 ∷ Act A (Offer first) ∷ Act A (Offer second) ∷ Emit A 0 ∷ Emit A 0 ∷ Lose B 0 0 ∷ Arrive B 0 ∷ Emit B 0 ∷ Arrive A 0 ∷ Emit A 0 ∷ Arrive B 0 ∷ Emit A 0 ∷ Arrive B 0 ∷ []
+is_lost = Together 0 ∷ Act A (Offer first) ∷ Act A (Offer second) ∷ Emit A 0 ∷ Emit A 0 ∷ Lose B 0 0 ∷ Arrive B 0 ∷ Emit
+    B 0 ∷ Arrive A 0 ∷ Emit A 0 ∷ Arrive B 0 ∷ Emit A 0 ∷ Arrive B 0 ∷ []
 
 lost_sent : (run one_link is_lost).a.sent 0 ≡ message 0 first ∷ message 1 second ∷ []
 unfolding carried_out step one_link end_with reached_by run first second message is_lost
@@ -76,7 +79,8 @@ lost_taken = refl
 
 -- THE FAR END LEAVES link 1 with one message under way: it's diverted to link 0, behind the answer to the order.
 leaves : List Step
-leaves = Together 0 ∷ Together 1 ∷ Act A (Offer first) ∷ Act A (Offer second) ∷ Emit A 1 ∷ Emit A 1 ∷ Arrive B 1 ∷ Act B (Down 1) ∷ Emit B 0 ∷ Arrive A 0 ∷ Emit A 0 ∷ Emit A 0 ∷ Arrive B 0 ∷ Arrive B 0 ∷ Arrive B 1 ∷ []
+leaves = Together 0 ∷ Together 1 ∷ Act A (Offer first) ∷ Act A (Offer second) ∷ Emit A 1 ∷ Emit A 1 ∷ Arrive B 1 ∷ Act B
+    (Down 1) ∷ Emit B 0 ∷ Arrive A 0 ∷ Emit A 0 ∷ Emit A 0 ∷ Arrive B 0 ∷ Arrive B 0 ∷ Arrive B 1 ∷ []
 
 leaves_sent : (run two_links leaves).a.sent 1 ≡ message 0 first ∷ message 1 second ∷ []
 unfolding carried_out step two_links end_with reached_by run first second message leaves

@@ -53,7 +53,8 @@ pub record GoesOn (l : ℕ) (s t : State) (after : LinkState) : Type 0 where
 abbrev pub Follows : ℕ → State → State → Type 0
 Follows l s t = (after : LinkState) → slice_get t.links l ≡ Some after → has_phase_settled after.phase ≡ false → GoesOn l s t after
 
-pub follows_by : (l : ℕ) (s t : State) (more : List Row) → slice_get t.links l ≡ slice_get s.links l → unack l t.rows ≡ unack l s.rows → wait l t.rows ≡ wait l s.rows ++ more → Follows l s t
+pub follows_by : (l : ℕ) (s t : State) (more : List Row) → slice_get t.links l ≡ slice_get s.links l
+    → unack l t.rows ≡ unack l s.rows → wait l t.rows ≡ wait l s.rows ++ more → Follows l s t
 follows_by l s t more same unacked waiting = λ link there unsettled. record {
   link = link;
   there = sym same ∙ there;
@@ -99,10 +100,13 @@ follows_settled l s t link there is = λ after at unsettled.
 
 -- another link changes, and rows that this one doesn't see
 follows_set : (l m : ℕ) (link : LinkState) (s t : State) → (m == l) ≡ false → t.links ≡ slice_set s.links m link → Untouched l s.rows t.rows → Follows l s t
-follows_set l m link s t d links u = follows_untouched l s t (ap (λ (ls : List LinkState). slice_get ls l) links ∙ get_set_other s.links m l link (λ same. false_true (m == l) d (rw same (itself l)))) u
+follows_set l m link s t d links u =
+    follows_untouched l s t (ap (λ (ls : List LinkState). slice_get ls l) links
+      ∙ get_set_other s.links m l link (λ same. false_true (m == l) d (rw same (itself l)))) u
 
 -- a new message that wasn't sent
-follows_new : (l : ℕ) (body : List ℕ) (fate : Fate) (s t : State) → is_unacked l fate ≡ false → slice_get t.links l ≡ slice_get s.links l → t.rows ≡ appended (given s) s.rows body fate → Follows l s t
+follows_new : (l : ℕ) (body : List ℕ) (fate : Fate) (s t : State) → is_unacked l fate ≡ false
+    → slice_get t.links l ≡ slice_get s.links l → t.rows ≡ appended (given s) s.rows body fate → Follows l s t
 follows_new l body fate s t unsent links rows = go (is_waiting l fate) refl
   where
     unacked : unack l t.rows ≡ unack l s.rows
@@ -110,17 +114,21 @@ follows_new l body fate s t unsent links rows = go (is_waiting l fate) refl
 
     go : (b : Bool) → is_waiting l fate ≡ b → Follows l s t
     go true e = follows_by l s t (new_row (given s) body fate ∷ []) links unacked (ap (wait l) rows ∙ appended_in (given s) s.rows body fate (is_waiting l) e)
-    go false e = follows_by l s t [] links unacked (ap (wait l) rows ∙ appended_out (given s) s.rows body fate (is_waiting l) e ∙ sym (append-nil (wait l s.rows)))
+    go false e = follows_by l s t [] links unacked
+        (ap (wait l) rows ∙ appended_out (given s) s.rows body fate (is_waiting l) e ∙ sym (append-nil (wait l s.rows)))
 
 waits_or_parked : (l : ℕ) (to : Option ℕ) → is_unacked l (fate_on to) ≡ false
 waits_or_parked l None = refl
 waits_or_parked l (Some to) = refl
 
 pub follows_queued : (l : ℕ) (order : Order) (s : State) → Follows l s (queued order s)
-follows_queued l order s = follows_new l (text s.settings.profile order s.settings.sio s.settings.dpc s.settings.opc) (fate_on (target s.links)) s (queued order s) (waits_or_parked l (target s.links)) refl refl
+follows_queued l order s = follows_new l (text s.settings.profile order s.settings.sio s.settings.dpc s.settings.opc)
+    (fate_on (target s.links)) s (queued order s) (waits_or_parked l (target s.links)) refl refl
 
 -- what stood back comes to wait for it, or for others
-follows_turned : (l : ℕ) (test : Fate → Bool) (fate : Row → Fate) (s t : State) → ((f : Fate) → test f ≡ true → stands_back f ≡ true) → ((row : Row) → is_unacked l (fate row) ≡ false) → t.links ≡ s.links → t.rows ≡ moved test fate s.rows → Follows l s t
+follows_turned : (l : ℕ) (test : Fate → Bool) (fate : Row → Fate) (s t : State)
+    → ((f : Fate) → test f ≡ true → stands_back f ≡ true) → ((row : Row) → is_unacked l (fate row) ≡ false)
+    → t.links ≡ s.links → t.rows ≡ moved test fate s.rows → Follows l s t
 follows_turned l test fate s t back unsent links rows =
     follows_by l s t (wait l (map (fated fate) (standing test s.rows))) (ap (λ (ls : List LinkState). slice_get ls l) links)
     (ap (unack l) rows ∙ moved_same test (is_unacked l) fate s.rows unsent (λ f e. not_on_unacked l f (back_not_on l f (back f e))))
@@ -137,7 +145,10 @@ out_follows l blind m link s at = go (m == l) refl
     go false d = follows_set l m (left_link blind link) s (out_of_service blind m link s) d refl (untouched l s.rows s.rows refl)
     go true d = λ after there unsettled.
         let same : m ≡ l = eqb-true m l d in
-        let is : after ≡ left_link blind link = same_at (slice_set s.links m (left_link blind link)) l (left_link blind link) after (subst (λ (k : ℕ). slice_get (slice_set s.links m (left_link blind link)) k ≡ Some (left_link blind link)) same (get_set_same s.links m (left_link blind link) (within s.links m link at.there))) there in
+        let is : after ≡ left_link blind link =
+            same_at (slice_set s.links m (left_link blind link)) l (left_link blind link) after
+            (subst (λ (k : ℕ). slice_get (slice_set s.links m (left_link blind link)) k ≡ Some (left_link blind link))
+              same (get_set_same s.links m (left_link blind link) (within s.links m link at.there))) there in
         record {
           link = link;
           there = subst (λ (k : ℕ). slice_get s.links k ≡ Some link) same at.there;
@@ -163,14 +174,19 @@ follows_off told l m link s d at = go (target s.links) refl
     apart_target : (to : ℕ) → target s.links ≡ Some to → (m == to) ≡ false
     apart_target to e =
         let up = target_up s.links to e in
-        apart m to (λ same. let it : up.0 ≡ link = same_at s.links m link up.0 at.there (ap (slice_get s.links) same ∙ up.1) in let no : true ≡ false = sym up.2 ∙ ap (λ (k : LinkState). has_phase_up k.phase) it ∙ ap has_phase_up at.phase_is in cc)
+        apart m to (λ same. let it : up.0 ≡ link =
+              same_at s.links m link up.0 at.there (ap (slice_get s.links) same ∙ up.1) in let no : true ≡ false =
+            sym up.2 ∙ ap (λ (k : LinkState). has_phase_up k.phase) it ∙ ap has_phase_up at.phase_is in cc)
 
     joins : (to : ℕ) → target s.links ≡ Some to → (b : Bool) → (to == l) ≡ b → Follows l s (moved_over told m link s)
-    joins to e false f = follows_set l m (settled_link told link) s (moved_over told m link s) d refl (rw e ((moved_to m to s.rows (apart_target to e)).left_is.others l d f))
+    joins to e false f = follows_set l m (settled_link told link) s (moved_over told m link s) d refl
+        (rw e ((moved_to m to s.rows (apart_target to e)).left_is.others l d f))
     joins to e true f =
         let same : l ≡ to = sym (eqb-true to l f) in
         let moved = moved_to m to s.rows (apart_target to e) in
-        follows_by l s (moved_over told m link s) (map (with_fate (Waiting to)) (on m s.rows)) (get_set_other s.links m l (settled_link told link) (λ eq. false_true (m == l) d (rw eq (itself l)))) (rw (e, same) moved.unack_same) (rw (e, same) moved.wait_is)
+        follows_by l s (moved_over told m link s) (map (with_fate (Waiting to)) (on m s.rows))
+            (get_set_other s.links m l (settled_link told link) (λ eq. false_true (m == l) d (rw eq (itself l))))
+            (rw (e, same) moved.unack_same) (rw (e, same) moved.wait_is)
 
     go : (to : Option ℕ) → target s.links ≡ to → Follows l s (moved_over told m link s)
     go None e = follows_set l m (settled_link told link) s (moved_over told m link s) d refl (rw e ((left_by_rows m Parked s.rows refl refl).others l d refl))
@@ -203,12 +219,16 @@ judged_count Unknown l link s = refl
 judged_count Unanswered l link s = refl
 
 settles : (reached : Reached) (l : ℕ) (link : LinkState) (s t : State) → l < length s.links → Follows l t (settled reached l link s)
-settles reached l link s t few = follows_settled l t (settled reached l link s) _ (get_set_same (judged reached l link s).links l _ (rw (judged_count reached l link s) few)) refl
+settles reached l link s t few =
+    follows_settled l t (settled reached l link s) _
+    (get_set_same (judged reached l link s).links l _ (rw (judged_count reached l link s) few)) refl
 
 -- and one that settled may be answered
 marks : (l : ℕ) (link : LinkState) (s : State) → slice_get s.links l ≡ Some link → Follows l s (with_link l (answered_link link) s)
 marks l link s there = λ after found unsettled.
-    let is : after ≡ answered_link link = same_at (slice_set s.links l (answered_link link)) l (answered_link link) after (get_set_same s.links l (answered_link link) (within s.links l link there)) found in
+    let is : after ≡ answered_link link =
+        same_at (slice_set s.links l (answered_link link)) l (answered_link link) after
+        (get_set_same s.links l (answered_link link) (within s.links l link there)) found in
     record {
       link = link;
       there = there;
@@ -221,19 +241,25 @@ marks l link s there = λ after found unsettled.
       wait_more = sym (append-nil (wait l s.rows));
     }
 
-over_own : (reached : Reached) (l : ℕ) (link : LinkState) (phase : Phase) (s : State) → slice_get s.links l ≡ Some link → Follows l s (changed_over reached l link phase s).state
-over_own reached l link Up s there = settles reached l (left_link false link) _ s (rw (length_set s.links l (left_link false link)) (within s.links l link there))
+over_own : (reached : Reached) (l : ℕ) (link : LinkState) (phase : Phase) (s : State) → slice_get s.links l ≡ Some link
+    → Follows l s (changed_over reached l link phase s).state
+over_own reached l link Up s there =
+    settles reached l (left_link false link) _ s
+    (rw (length_set s.links l (left_link false link)) (within s.links l link there))
 over_own reached l link Down s there = settles reached l link s s (within s.links l link there)
 over_own reached l link Settled s there =
     let told = queued (reply_of l link) s in
     follows_then l s told (with_link l (answered_link link) told) (follows_queued l (reply_of l link) s) (marks l link told there)
 
-answer_own : (reached : Reached) (l : ℕ) (link : LinkState) (phase : Phase) (s : State) → slice_get s.links l ≡ Some link → Follows l s (answered reached l link phase s).state
+answer_own : (reached : Reached) (l : ℕ) (link : LinkState) (phase : Phase) (s : State)
+    → slice_get s.links l ≡ Some link → Follows l s (answered reached l link phase s).state
 answer_own reached l link Up s there = follows_same l s
 answer_own reached l link Down s there = settles reached l link s s (within s.links l link there)
 answer_own reached l link Settled s there = follows_same l s
 
-at_own : (l : ℕ) (s : State) (f : LinkState → Obeyed) → ((link : LinkState) → slice_get s.links l ≡ Some link → Follows l s (f link).state) → (there : Option LinkState) → slice_get s.links l ≡ there → Follows l s (at_link l s f there).state
+at_own : (l : ℕ) (s : State) (f : LinkState → Obeyed)
+    → ((link : LinkState) → slice_get s.links l ≡ Some link → Follows l s (f link).state) → (there : Option LinkState)
+    → slice_get s.links l ≡ there → Follows l s (at_link l s f there).state
 at_own l s f all None e = follows_same l s
 at_own l s f all (Some link) e = all link e
 
@@ -260,7 +286,8 @@ other_follows : (l : ℕ) (order : Order) (s : State) → ((n code : ℕ) → or
 other_follows l order s none = go (link_of order == l) refl
   where
     go : (b : Bool) → (link_of order == l) ≡ b → Follows l s (order_obeyed order s).state
-    go false d = obeys_walks (λ m. (m == l) ≡ false) ⊥ (Follows l) (others l ⊥) order s (λ m e. subst (λ (k : ℕ). (k == l) ≡ false) (about_own order none m e) d)
+    go false d = obeys_walks (λ m. (m == l) ≡ false) ⊥ (Follows l) (others l ⊥) order s
+        (λ m e. subst (λ (k : ℕ). (k == l) ≡ false) (about_own order none m e) d)
     go true d = subst (λ (k : ℕ). Follows k s (order_obeyed order s).state) (eqb-true (link_of order) l d) (own order s)
 
 order_follows : (l : ℕ) (order : Order) (s : State) → Follows l s (order_obeyed order s).state
@@ -295,7 +322,8 @@ offered_unsent l (On m) s = go (is_up m s) refl
     go false e = rw e refl
 
 offer_goes : (l : ℕ) (s : State) (body : List ℕ) (refusal : Option SetRefusal) → Follows l s (offered refusal s body).state
-offer_goes l s body None = follows_new l body (fate_at (place_of (stream_of body) s.routing) s) s _ (offered_unsent l (place_of (stream_of body) s.routing) s) refl refl
+offer_goes l s body None = follows_new l body (fate_at (place_of (stream_of body) s.routing) s) s _
+    (offered_unsent l (place_of (stream_of body) s.routing) s) refl refl
 offer_goes l s body (Some why) = follows_same l s
 
 pub offer_follows : (l : ℕ) (s : State) (body : List ℕ) → Follows l s (step s (Offer body)).state
@@ -320,14 +348,16 @@ up_is Up e = refl
 up_is Down e = absurd cc
 up_is Settled e = absurd cc
 
-in_goes : (l m : ℕ) (s : State) (f : LinkState → Outcome) → ((link : LinkState) → IsAt m link Up s → Follows l s (f link).state) → Follows l s (in_service m s f).state
+in_goes : (l m : ℕ) (s : State) (f : LinkState → Outcome)
+    → ((link : LinkState) → IsAt m link Up s → Follows l s (f link).state) → Follows l s (in_service m s f).state
 in_goes l m s f all = go (slice_get s.links m) refl
   where
     at : (link : LinkState) → slice_get s.links m ≡ Some link → (b : Bool) → has_phase_up link.phase ≡ b → Follows l s (cond b (f link) (refused s NotUp)).state
     at link there true e = all link (record { there = there; phase_is = up_is link.phase e })
     at link there false e = follows_same l s
 
-    go : (o : Option LinkState) → slice_get s.links m ≡ o → Follows l s (with_known o s (λ link. cond (has_phase_up link.phase) (f link) (refused s NotUp))).state
+    go : (o : Option LinkState) → slice_get s.links m ≡ o
+        → Follows l s (with_known o s (λ link. cond (has_phase_up link.phase) (f link) (refused s NotUp))).state
     go None e = follows_same l s
     go (Some link) e = at link e (has_phase_up link.phase) refl
 
@@ -357,7 +387,9 @@ give_goes l m s link Up at = follows_same l s
 give_goes l m s link Settled at = follows_same l s
 give_goes l m s link Down at = given_up l m s link at
 
-on_goes : (l m : ℕ) (s : State) (f : LinkState → Outcome) → ((link : LinkState) → slice_get s.links m ≡ Some link → Follows l s (f link).state) → Follows l s (with_known (slice_get s.links m) s f).state
+on_goes : (l m : ℕ) (s : State) (f : LinkState → Outcome)
+    → ((link : LinkState) → slice_get s.links m ≡ Some link → Follows l s (f link).state)
+    → Follows l s (with_known (slice_get s.links m) s f).state
 on_goes l m s f all = go (slice_get s.links m) refl
   where
     go : (o : Option LinkState) → slice_get s.links m ≡ o → Follows l s (with_known o s f).state
@@ -366,7 +398,8 @@ on_goes l m s f all = go (slice_get s.links m) refl
 
 pub unanswered_follows : (l m : ℕ) (s : State) → Follows l s (step s (NoAnswer m)).state
 unfolding step
-unanswered_follows l m s = on_goes l m s (λ link. gives_up m s link link.phase) (λ link there. give_goes l m s link link.phase (record { there = there; phase_is = refl }))
+unanswered_follows l m s = on_goes l m s (λ link. gives_up m s link link.phase)
+    (λ link there. give_goes l m s link link.phase (record { there = there; phase_is = refl }))
 
 -- changeback: declarations come to wait, and what stood back comes to wait at home
 comes_goes : (l m : ℕ) (s : State) → is_up m s ≡ true → Follows l s (comes_back m s).state
@@ -400,7 +433,9 @@ controls_follow : (l m : ℕ) (unit : SignalUnit) (s : State) (link : LinkState)
 controls_follow l m unit s link d =
     let part = part_of link.control (window_of m link s.rows) (header_in unit) (is_msu unit) in
     let mid = after_control part (header_in unit) unit m s link in
-    follows_then l s mid (controls unit m s link).state (follows_set l m _ s mid d refl ((acknowledged m part.acked s.rows).others l d)) (takes_follows l (brought part.accept unit) mid)
+    follows_then l s mid (controls unit m s link).state
+        (follows_set l m _ s mid d refl ((acknowledged m part.acked s.rows).others l d))
+        (takes_follows l (brought part.accept unit) mid)
 
 heard_goes : (l m : ℕ) (unit : SignalUnit) (s : State) (link : LinkState) → (m == l) ≡ false → Follows l s (heard unit m s link).state
 heard_goes l m unit s link d = go (is_heard s.settings.profile unit) refl

@@ -51,17 +51,21 @@ use Rattle.pair_model.proofs.Sending.{standing_at, stands_so}
 use Rattle.pair_model.proofs.Tied.{AreBodies, IsUnitOf, AreUnits, KeepBodies, keep_bodies, stand_kept, bodies_kept, units_kept, bodies_joined, Side, IsGoing, Ties, Tied, follows}
 
 -- WHAT BECAME OF A BODY: of each that was accepted something did.
-over_took : (reached : Reached) (n : ℕ) (link : LinkState) (phase : Phase) (s : State) (body : List ℕ) → taken_by (changed_over reached n link phase s).took body ≡ body ∷ []
+over_took : (reached : Reached) (n : ℕ) (link : LinkState) (phase : Phase) (s : State) (body : List ℕ)
+    → taken_by (changed_over reached n link phase s).took body ≡ body ∷ []
 over_took reached n link Up s body = refl
 over_took reached n link Down s body = refl
 over_took reached n link Settled s body = refl
 
-answer_took : (reached : Reached) (n : ℕ) (link : LinkState) (phase : Phase) (s : State) (body : List ℕ) → taken_by (answered reached n link phase s).took body ≡ body ∷ []
+answer_took : (reached : Reached) (n : ℕ) (link : LinkState) (phase : Phase) (s : State) (body : List ℕ)
+    → taken_by (answered reached n link phase s).took body ≡ body ∷ []
 answer_took reached n link Up s body = refl
 answer_took reached n link Down s body = refl
 answer_took reached n link Settled s body = refl
 
-at_took : (n : ℕ) (s : State) (f : LinkState → Obeyed) (body : List ℕ) → ((link : LinkState) → taken_by (f link).took body ≡ body ∷ []) → (o : Option LinkState) → taken_by (at_link n s f o).took body ≡ body ∷ []
+at_took : (n : ℕ) (s : State) (f : LinkState → Obeyed) (body : List ℕ)
+    → ((link : LinkState) → taken_by (f link).took body ≡ body ∷ []) → (o : Option LinkState)
+    → taken_by (at_link n s f o).took body ≡ body ∷ []
 at_took n s f body all None = refl
 at_took n s f body all (Some link) = all link
 
@@ -89,7 +93,10 @@ took_some body s = go (service_indicator body == 0) refl
     go true e = rw e (obeyed_took (order_of s.settings.profile body) s body)
     go false e = rw e refl
 
-took_bodies : (rows : List Row) (unit : SignalUnit) (message : Option ℕ) (accept : Bool) (s : State) → IsUnitOf rows (record { head = header_in unit; message = message }) unit → AreBodies rows (if accept then option_to_list message else []) (taken_by (takes (brought accept unit) s).took (body_in unit))
+took_bodies : (rows : List Row) (unit : SignalUnit) (message : Option ℕ) (accept : Bool) (s : State)
+    → IsUnitOf rows (record { head = header_in unit; message = message }) unit
+    → AreBodies rows (if accept then option_to_list message else [])
+    (taken_by (takes (brought accept unit) s).took (body_in unit))
 took_bodies rows (Fisu head) message true s is = rw (is.1) tt
 took_bodies rows (Fisu head) message false s is = tt
 took_bodies rows (Lssu head status) message accept s is = absurd is
@@ -113,13 +120,16 @@ body_took : (body : List ℕ) (accept : Bool) (s : State) → length (taken_by (
 body_took body true s = rw (took_some body s) refl
 body_took body false s = refl
 
-pub took_many : (control : Control) (w : WindowState) (unit : SignalUnit) (s : State) → length (taken_by (takes (brought (part_of control w (header_in unit) (is_msu unit)).accept unit) s).took (body_in unit)) ≡ one_if (part_of control w (header_in unit) (is_msu unit)).accept
+pub took_many : (control : Control) (w : WindowState) (unit : SignalUnit) (s : State)
+    → length (taken_by (takes (brought (part_of control w (header_in unit) (is_msu unit)).accept unit) s).took
+      (body_in unit)) ≡ one_if (part_of control w (header_in unit) (is_msu unit)).accept
 took_many control w (Fisu head) s = rw (only_messages control w head) refl
 took_many control w (Lssu head status) s = rw (only_messages control w head) refl
 took_many control w (Msu head body) s = body_took body.items (part_of control w head true).accept s
 
 -- THE STEP
-pub heard_is : (l : ℕ) (unit : SignalUnit) (link : LinkState) (s : State) → is_heard s.settings.profile unit ≡ true → IsAt l link Up s → step s (Heard l unit) ≡ controls unit l s link
+pub heard_is : (l : ℕ) (unit : SignalUnit) (link : LinkState) (s : State) → is_heard s.settings.profile unit ≡ true
+    → IsAt l link Up s → step s (Heard l unit) ≡ controls unit l s link
 unfolding step
 heard_is l unit link s fits at = rw (at.there, at.phase_is, fits) refl
 
@@ -134,7 +144,8 @@ has_numbers_if p head h =
     let b : nat_lt head.fsn (fsn_count p) ≡ true = grind (arith, nat_tests, h.1) in
     rw (a, b) refl
 
-heard_so : (p : Profile) (rows : List Row) (c : Carried) (unit : SignalUnit) → IsUnitOf rows c unit → IsHeadOf p (header_in unit) → AreFit p rows → is_heard p unit ≡ true
+heard_so : (p : Profile) (rows : List Row) (c : Carried) (unit : SignalUnit) → IsUnitOf rows c unit
+    → IsHeadOf p (header_in unit) → AreFit p rows → is_heard p unit ≡ true
 heard_so p rows c (Fisu head) is h fit = has_numbers_if p head h
 heard_so p rows c (Lssu head status) is h fit = absurd is
 heard_so p rows c (Msu head body) is h fit =
@@ -153,7 +164,10 @@ same_msu rows c (Fisu head) is = rw (is.1) refl
 same_msu rows c (Lssu head status) is = absurd is
 same_msu rows c (Msu head body) is = rw (is.2) refl
 
-module _ (l : ℕ) (mx my : Method) (one : IsOneMethod mx my) (x y : Side) (out rest : List SignalUnit) (unit : SignalUnit) (link : LinkState) (sound : IsSound x.state) (at : IsAt l link Up x.state) (same : y.state.settings.profile ≡ x.state.settings.profile) (fit : AreFit y.state.settings.profile y.state.rows) where
+module _ (l : ℕ) (mx my : Method) (one : IsOneMethod mx my) (x y : Side) (out rest : List SignalUnit)
+    (unit : SignalUnit) (link : LinkState) (sound : IsSound x.state) (at : IsAt l link Up x.state)
+    (same : y.state.settings.profile ≡ x.state.settings.profile) (fit : AreFit y.state.settings.profile y.state.rows)
+    where
   abbrev rows : List Row
   rows = x.state.rows
 
@@ -173,7 +187,8 @@ module _ (l : ℕ) (mx my : Method) (one : IsOneMethod mx my) (x y : Side) (out 
   taken = takes (brought part.accept unit) mid
 
   abbrev pub mid_link : LinkState
-  mid_link = record link { acked = link.acked + part.acked; accepted = link.accepted + one_if part.accept; control = control_heard link.control window head (is_msu unit) }
+  mid_link = record link { acked = link.acked + part.acked; accepted = link.accepted + one_if part.accept;
+        control = control_heard link.control window head (is_msu unit) }
 
   mid_there : slice_get mid.links l ≡ Some mid_link
   mid_there = get_set_same x.state.links l mid_link (within x.state.links l link at.there)
@@ -200,7 +215,8 @@ module _ (l : ℕ) (mx my : Method) (one : IsOneMethod mx my) (x y : Side) (out 
   }
 
   -- with the unit that comes
-  module _ (w : LinkWorld Control) (message : Option ℕ) (behind : List Carried) (comes : w.back ≡ record { head = head; message = message } ∷ behind) (msu : is_some message ≡ is_msu unit) where
+  module _ (w : LinkWorld Control) (message : Option ℕ) (behind : List Carried)
+      (comes : w.back ≡ record { head = head; message = message } ∷ behind) (msu : is_some message ≡ is_msu unit) where
     arrival : Arrives rules (record { head = head; message = message }) (flip (standing_at l link rows w)) (flip (heard_at message behind w))
     arrival = record {
       control = rw msu refl;
@@ -213,8 +229,11 @@ module _ (l : ℕ) (mx my : Method) (one : IsOneMethod mx my) (x y : Side) (out 
       back = refl;
     }
 
-    hears_run : (p : Profile) → Run rules p (start_of mx) (start_of my) (standing_at l link rows w) → Run rules p (start_of mx) (start_of my) (heard_at message behind w)
-    hears_run p r = steps_far (standing_at l link rows w) (heard_at message behind w) r (arrives (flip (standing_at l link rows w)) (flip (heard_at message behind w)) (record { head = head; message = message }) arrival)
+    hears_run : (p : Profile) → Run rules p (start_of mx) (start_of my) (standing_at l link rows w)
+        → Run rules p (start_of mx) (start_of my) (heard_at message behind w)
+    hears_run p r = steps_far (standing_at l link rows w) (heard_at message behind w) r
+        (arrives (flip (standing_at l link rows w)) (flip (heard_at message behind w))
+          (record { head = head; message = message }) arrival)
 
     no_fault_at : (p : Profile) → Run rules p (start_of mx) (start_of my) (standing_at l link rows w) → part.fault ≡ None
     no_fault_at p r =
@@ -222,7 +241,9 @@ module _ (l : ℕ) (mx my : Method) (one : IsOneMethod mx my) (x y : Side) (out 
         rw msu at f
 
     -- the unit that comes is of the set's profile
-    unit_fits : (p : Profile) → Run rules p (start_of mx) (start_of my) (standing_at l link rows w) → IsUnitOf y.state.rows (record { head = head; message = message }) unit → is_heard x.state.settings.profile unit ≡ true
+    unit_fits : (p : Profile) → Run rules p (start_of mx) (start_of my) (standing_at l link rows w)
+        → IsUnitOf y.state.rows (record { head = head; message = message }) unit
+        → is_heard x.state.settings.profile unit ≡ true
     unit_fits p r is =
         let law = one_link mx my one p (standing_at l link rows w) r in
         let numbers = law.1.fits (record { head = head; message = message }) behind comes in
@@ -234,12 +255,15 @@ module _ (l : ℕ) (mx my : Method) (one : IsOneMethod mx my) (x y : Side) (out 
     abbrev mid_side : Side
     mid_side = record { state = mid; sent = x.sent; taken = x.taken ++ taken_by taken.took (body_in unit) }
 
-    mid_ties : is_heard x.state.settings.profile unit ≡ true → IsUnitOf y.state.rows (record { head = head; message = message }) unit → AreUnits y.state.rows behind rest → Ties l w x y out (unit ∷ rest) → Ties l (heard_at message behind w) mid_side y out rest
+    mid_ties : is_heard x.state.settings.profile unit ≡ true
+        → IsUnitOf y.state.rows (record { head = head; message = message }) unit → AreUnits y.state.rows behind rest
+        → Ties l w x y out (unit ∷ rest) → Ties l (heard_at message behind w) mid_side y out rest
     mid_ties fits is left t =
         let keep : KeepBodies rows mid.rows = λ number body e. mid_same number ∙ e in
         let many = took_many link.control window unit mid in
         let before = t.near_counts link at.there in
-        let counted : link.accepted + one_if part.accept ≡ length (x.taken ++ taken_by taken.took (body_in unit)) = omega (arith, before, many, length-append x.taken (taken_by taken.took (body_in unit))) in
+        let counted : link.accepted + one_if part.accept ≡ length (x.taken ++ taken_by taken.took (body_in unit)) =
+            omega (arith, before, many, length-append x.taken (taken_by taken.took (body_in unit))) in
         record {
           near = record {
             sent_is = t.near.sent_is;
@@ -249,7 +273,8 @@ module _ (l : ℕ) (mx my : Method) (one : IsOneMethod mx my) (x y : Side) (out 
           far = record { sent_is = t.far.sent_is; stand = t.far.stand; took_is = bodies_kept rows mid.rows keep w.far.took y.taken t.far.took_is };
           near_goes = λ other found unsettled.
               let same : mid_link ≡ other = sym (same_at mid.links l mid_link other mid_there found) in
-              subst (λ (k : LinkState). IsGoing l (heard_at message behind w).near k mid.rows) same (record { control = refl; window = sym (window_is fits); acked = refl });
+              subst (λ (k : LinkState). IsGoing l (heard_at message behind w).near k mid.rows) same
+                  (record { control = refl; window = sym (window_is fits); acked = refl });
           far_goes = t.far_goes;
           near_counts = λ other found. ap (λ (k : LinkState). k.accepted) (same_at mid.links l mid_link other mid_there found) ∙ counted;
           far_counts = t.far_counts;
@@ -281,7 +306,8 @@ module _ (l : ℕ) (mx my : Method) (one : IsOneMethod mx my) (x y : Side) (out 
       }
 
   runs_at : (t : Tied l mx my x y out (unit ∷ rest)) → Run rules t.profile (start_of mx) (start_of my) (standing_at l link rows t.world)
-  runs_at t = subst (λ (v : LinkWorld Control). Run rules t.profile (start_of mx) (start_of my) v) (stands_so l link rows t.world (t.ties.near_goes link at.there (ap has_phase_settled at.phase_is))) t.run
+  runs_at t = subst (λ (v : LinkWorld Control). Run rules t.profile (start_of mx) (start_of my) v)
+      (stands_so l link rows t.world (t.ties.near_goes link at.there (ap has_phase_settled at.phase_is))) t.run
 
   abbrev pub hearer : Side
   hearer = record { state = taken.state; sent = x.sent; taken = x.taken ++ taken_by taken.took (body_in unit) }
@@ -306,9 +332,14 @@ module _ (l : ℕ) (mx my : Method) (one : IsOneMethod mx my) (x y : Side) (out 
   hears t =
       let w = t.world in
       let c = comes_so w w.back refl t.ties.back in
-      let stepped = subst (λ (o : Outcome). KeepsMessages x.state o.state) (heard_is l unit link x.state (unit_fits w c.message c.behind c.comes c.msu t.profile (runs_at t) c.is) at) (keeps_messages x.state (Heard l unit) sound.numbered) in
-      let keep : KeepBodies mid.rows taken.state.rows = λ number body e. keep_bodies x.state taken.state sound.numbered stepped number body (sym (mid_same number) ∙ e) in
-      follows l mx my hearing y out rest taken.state keep (takes_count l (brought part.accept unit) mid) (takes_follows l (brought part.accept unit) mid) (mid_tied t)
+      let stepped = subst (λ (o : Outcome). KeepsMessages x.state o.state)
+          (heard_is l unit link x.state (unit_fits w c.message c.behind c.comes c.msu t.profile (runs_at t) c.is) at)
+          (keeps_messages x.state (Heard l unit) sound.numbered) in
+      let keep : KeepBodies mid.rows taken.state.rows =
+          λ number body e. keep_bodies x.state taken.state sound.numbered stepped number body
+          (sym (mid_same number) ∙ e) in
+      follows l mx my hearing y out rest taken.state keep (takes_count l (brought part.accept unit) mid)
+          (takes_follows l (brought part.accept unit) mid) (mid_tied t)
 
   pub no_fault : Tied l mx my x y out (unit ∷ rest) → part.fault ≡ None
   no_fault t =

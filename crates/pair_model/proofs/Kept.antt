@@ -19,7 +19,9 @@ use Rattle.pair_model.proofs.Sending.{body_there, stand_each, numbers_of_message
 use Rattle.pair_model.proofs.Tied.{StandIn, AreBodies, Side, Tied}
 
 -- bodies of the first of the numbers that were sent are the first of the bodies that were
-first_bodies : (rows : List Row) (took : List ℕ) (taken : List (List ℕ)) (sent : List Message) → AreBodies rows took taken → StandIn rows sent → took ≡ take (length took) (map (λ (m : Message). m.number) sent) → taken ≡ take (length taken) (bodies sent)
+first_bodies : (rows : List Row) (took : List ℕ) (taken : List (List ℕ)) (sent : List Message)
+    → AreBodies rows took taken → StandIn rows sent → took ≡ take (length took) (map (λ (m : Message). m.number) sent)
+    → taken ≡ take (length taken) (bodies sent)
 first_bodies rows [] [] sent are stand e = refl
 first_bodies rows [] (b ∷ taken) sent are stand e = absurd are
 first_bodies rows (n ∷ took) [] sent are stand e = absurd are
@@ -37,7 +39,8 @@ as_many rows (n ∷ took) [] are = absurd are
 as_many rows (n ∷ took) (b ∷ taken) are = ap suc (as_many rows took taken are.1)
 
 -- messages with the same numbers in the same rows are the same
-same_messages : (rows : List Row) (xs ys : List Message) → StandIn rows xs → StandIn rows ys → map (λ (m : Message). m.number) xs ≡ map (λ (m : Message). m.number) ys → xs ≡ ys
+same_messages : (rows : List Row) (xs ys : List Message) → StandIn rows xs → StandIn rows ys
+    → map (λ (m : Message). m.number) xs ≡ map (λ (m : Message). m.number) ys → xs ≡ ys
 same_messages rows [] [] a b e = refl
 same_messages rows [] (y ∷ ys) a b e = absurd cc
 same_messages rows (x ∷ xs) [] a b e = absurd cc
@@ -62,11 +65,14 @@ rest_numbers (suc n) (x ∷ xs) = rest_numbers n xs
 abbrev pub past_of : Side → Past
 past_of x = record { sent = λ link. x.sent; taken = λ link. x.taken; offered = λ stream. []; got = λ stream. [] }
 
-pub kept_tied : (l : ℕ) (mx my : Method) (one : IsOneMethod mx my) (x y : Side) (out back : List SignalUnit) → IsNumbered (given x.state) x.state.rows → Tied l mx my x y out back → IsKeptOn l (past_of x) (past_of y) x.state y.state
+pub kept_tied : (l : ℕ) (mx my : Method) (one : IsOneMethod mx my) (x y : Side) (out back : List SignalUnit)
+    → IsNumbered (given x.state) x.state.rows → Tied l mx my x y out back
+    → IsKeptOn l (past_of x) (past_of y) x.state y.state
 kept_tied l mx my one x y out back numbered t =
     let f = (one_link mx my one t.profile t.world t.run).0 in
     record {
-      prefix = first_bodies x.state.rows t.world.far.took y.taken x.sent t.ties.far.took_is t.ties.near.stand (f.prefix ∙ ap (take (length t.world.far.took)) t.ties.near.sent_is);
+      prefix = first_bodies x.state.rows t.world.far.took y.taken x.sent t.ties.far.took_is t.ties.near.stand
+          (f.prefix ∙ ap (take (length t.world.far.took)) t.ties.near.sent_is);
       accepted = t.ties.far_counts;
       going = λ link there unsettled.
           let g = t.ties.near_goes link there unsettled in
@@ -74,7 +80,8 @@ kept_tied l mx my one x y out back numbered t =
           record {
             acked = omega (arith, g.acked, f.acked, many);
             unacked = same_messages x.state.rows (messages (unack l x.state.rows)) (drop link.acked x.sent)
-                (stand_each x.state.rows (unack l x.state.rows) (λ i row e. body_there (given x.state) (λ r. is_unacked l r.fate) x.state.rows i row numbered e))
+                (stand_each x.state.rows (unack l x.state.rows)
+                      (λ i row e. body_there (given x.state) (λ r. is_unacked l r.fate) x.state.rows i row numbered e))
                 (stand_rest x.state.rows link.acked x.sent t.ties.near.stand)
                 (numbers_of_messages (unack l x.state.rows)
                 ∙ sym (ap (λ (v : WindowState). v.unacked) g.window)
@@ -87,7 +94,8 @@ kept_tied l mx my one x y out back numbered t =
 
 pub kept_on : (mx my : Method) (one : IsOneMethod mx my) (p : Two) → HoldsOf mx my p → (l : ℕ) → IsKeptOn l p.near_past p.far_past p.near p.far
 kept_on mx my one p h l =
-    let k = kept_tied l mx my one (side l p.near p.near_past) (side l p.far p.far_past) (units_on l p.out) (units_on l p.back) h.near_sound.numbered (h.ties l) in
+    let k = kept_tied l mx my one (side l p.near p.near_past) (side l p.far p.far_past) (units_on l p.out)
+        (units_on l p.back) h.near_sound.numbered (h.ties l) in
     record { prefix = k.prefix; accepted = k.accepted; going = k.going }
 
 -- AT FIRST
@@ -109,12 +117,17 @@ nothing_on (suc n) zero = refl
 nothing_on (suc n) (suc l) = nothing_on n l
 
 new_settled : (settings : Settings) (l : ℕ) (link : LinkState) → slice_get (opened_with settings).links l ≡ Some link → has_phase_settled link.phase ≡ true
-new_settled settings l link there = ap (λ (k : LinkState). has_phase_settled k.phase) (same_there settings.links l (new_link settings.profile settings.method) link there)
+new_settled settings l link there =
+    ap (λ (k : LinkState). has_phase_settled k.phase)
+    (same_there settings.links l (new_link settings.profile settings.method) link there)
 
 new_counts : (settings : Settings) (l : ℕ) (link : LinkState) → slice_get (opened_with settings).links l ≡ Some link → link.accepted ≡ 0
 new_counts settings l link there = ap (λ (k : LinkState). k.accepted) (same_there settings.links l (new_link settings.profile settings.method) link there)
 
-pub at_first : (a b : SetConfig) → a.links ≡ b.links → a.profile ≡ b.profile → HoldsOf a.method b.method (record { near = opened_with (settings_of a); far = opened_with (settings_of b); near_past = no_past; far_past = no_past; out = (begun a b).world.to_b; back = (begun a b).world.to_a })
+pub at_first : (a b : SetConfig) → a.links ≡ b.links → a.profile ≡ b.profile
+    → HoldsOf a.method b.method (record
+      { near = opened_with (settings_of a); far = opened_with (settings_of b); near_past = no_past; far_past = no_past;
+      out = (begun a b).world.to_b; back = (begun a b).world.to_a })
 at_first a b same profiles = record {
   near_sound = opened_sound (settings_of a) (settings_sound a);
   far_sound = opened_sound (settings_of b) (settings_sound b);
@@ -124,5 +137,8 @@ at_first a b same profiles = record {
   far_links = count_of b.links (new_link b.profile b.method) ∙ sym same ∙ sym (count_of a.links (new_link a.profile a.method));
   out_lines = count_of (length (opened_with (settings_of a)).links) [];
   back_lines = count_of (length (opened_with (settings_of a)).links) [];
-  ties = λ l. rw (nothing_on (length (opened_with (settings_of a)).links) l) (unborn l a.method b.method (opened_with (settings_of a)) (opened_with (settings_of b)) (new_settled (settings_of a) l) (new_settled (settings_of b) l) (new_counts (settings_of a) l) (new_counts (settings_of b) l));
+  ties = λ l. rw (nothing_on (length (opened_with (settings_of a)).links) l)
+      (unborn l a.method b.method (opened_with (settings_of a)) (opened_with (settings_of b))
+        (new_settled (settings_of a) l) (new_settled (settings_of b) l) (new_counts (settings_of a) l)
+      (new_counts (settings_of b) l));
 }

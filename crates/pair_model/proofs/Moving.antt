@@ -46,7 +46,9 @@ added_none k l f = go (l == k) refl
     go true e = rw e (append-nil (f l))
     go false e = rw e refl
 
-same_side : {s s' : State} {sent sent' : List Message} {taken taken' : List (List ℕ)} → s' ≡ s → sent' ≡ sent → taken' ≡ taken → ◌≡◌ {A = Side} (record { state = s'; sent = sent'; taken = taken' }) (record { state = s; sent = sent; taken = taken })
+same_side : {s s' : State} {sent sent' : List Message} {taken taken' : List (List ℕ)} → s' ≡ s → sent' ≡ sent
+    → taken' ≡ taken → ◌≡◌ {A = Side} (record { state = s'; sent = sent'; taken = taken' })
+    (record { state = s; sent = sent; taken = taken })
 same_side a b c = rw (a, b, c) refl
 
 -- AN END SENDS
@@ -55,11 +57,14 @@ pub next_refused : (k : ℕ) (s : State) → is_up k s ≡ false → (why : SetR
 unfolding step
 next_refused k s e = go (slice_get s.links k) refl
   where
-    at : (link : LinkState) → slice_get s.links k ≡ Some link → (b : Bool) → has_phase_up link.phase ≡ b → (why : SetRefusal) × (cond b (next k (cleared k s) link) (refused s NotUp) ≡ refused s why)
+    at : (link : LinkState) → slice_get s.links k ≡ Some link → (b : Bool) → has_phase_up link.phase ≡ b
+        → (why : SetRefusal) × (cond b (next k (cleared k s) link) (refused s NotUp) ≡ refused s why)
     at link f true g = absurd (let no : true ≡ false = sym g ∙ ap link_is_up (sym f) ∙ e in cc)
     at link f false g = (NotUp, refl)
 
-    go : (o : Option LinkState) → slice_get s.links k ≡ o → (why : SetRefusal) × (with_known o s (λ link. cond (has_phase_up link.phase) (next k (cleared k s) link) (refused s NotUp)) ≡ refused s why)
+    go : (o : Option LinkState) → slice_get s.links k ≡ o → (why : SetRefusal)
+        × (with_known o s (λ link. cond (has_phase_up link.phase) (next k (cleared k s) link) (refused s NotUp))
+          ≡ refused s why)
     go None f = (NoSuchLink, refl)
     go (Some link) f = at link f (has_phase_up link.phase) refl
 
@@ -89,24 +94,37 @@ module _ (mx my : Method) (p : Two) (h : HoldsOf mx my p) (k : ℕ) where
     clear_sound = sending.cleared_sound k link p.near at h.near_sound
 
     pub clear_tied : Tied k mx my clear_side (side k p.far p.far_past) (units_on k p.out) (units_on k p.back)
-    clear_tied = sending.cleared_tied k mx my (side k p.near p.near_past) (side k p.far p.far_past) (units_on k p.out) (units_on k p.back) h.near_sound.numbered (h.ties k)
+    clear_tied = sending.cleared_tied k mx my (side k p.near p.near_past) (side k p.far p.far_past) (units_on k p.out)
+        (units_on k p.back) h.near_sound.numbered (h.ties k)
 
     abbrev pub sent_unit : SignalUnit
     sent_unit = sending.unit k mx my clear_side (side k p.far p.far_past) (units_on k p.out) (units_on k p.back) link clear_sound clear_at
 
     here : Tied k mx my (side k after sent_past) (side k p.far p.far_past) (units_on k (joined_on k sent_unit p.out)) (units_on k p.back)
-    here = like k mx my _ (side k after sent_past) _ _ _ _ _ _ (same_side (ap (λ (o : Outcome). o.state) (sending.next_is k link p.near at)) (added_here k (first_sent k p.near after) p.near_past.sent ∙ ap (λ (o : Outcome). p.near_past.sent k ++ first_sent k p.near o.state) (sending.next_is k link p.near at) ∙ ap (λ (ms : List Message). p.near_past.sent k ++ ms) (sym (sending.cleared_sends k p.near (next k (cleared k p.near) link).state))) refl) refl
+    here = like k mx my _ (side k after sent_past) _ _ _ _ _ _
+        (same_side (ap (λ (o : Outcome). o.state) (sending.next_is k link p.near at))
+          (added_here k (first_sent k p.near after) p.near_past.sent
+          ∙ ap (λ (o : Outcome). p.near_past.sent k ++ first_sent k p.near o.state) (sending.next_is k link p.near at)
+        ∙ ap (λ (ms : List Message). p.near_past.sent k ++ ms)
+        (sym (sending.cleared_sends k p.near (next k (cleared k p.near) link).state))) refl) refl
         (on_set k _ p.out (omega (arith, few, h.out_lines))) refl
         (sending.sends k mx my clear_side (side k p.far p.far_past) (units_on k p.out) (units_on k p.back) link clear_sound clear_at clear_tied)
 
-    there : (l : ℕ) → (k == l) ≡ false → Tied l mx my (side l after sent_past) (side l p.far p.far_past) (units_on l (joined_on k sent_unit p.out)) (units_on l p.back)
-    there l d = like l mx my _ (side l after sent_past) _ _ _ _ _ _ (same_side refl (added_other k l _ p.near_past.sent d) refl) refl (on_other l k _ p.out d) refl (goes_on mx my p h (Next k) l tt (next_follows l k p.near (no_other k l d)))
+    there : (l : ℕ) → (k == l) ≡ false
+        → Tied l mx my (side l after sent_past) (side l p.far p.far_past) (units_on l (joined_on k sent_unit p.out))
+        (units_on l p.back)
+    there l d = like l mx my _ (side l after sent_past) _ _ _ _ _ _
+        (same_side refl (added_other k l _ p.near_past.sent d) refl) refl (on_other l k _ p.out d) refl
+        (goes_on mx my p h (Next k) l tt (next_follows l k p.near (no_other k l d)))
 
     pub emits_up : HoldsOf mx my (record p { near = after; near_past = sent_past; out = joined_on k sent_unit p.out })
     emits_up = event_holds mx my p h (Next k) tt sent_past (joined_on k sent_unit p.out) p.back (length_set p.out k _) refl (λ l. go l (k == l) refl)
       where
-        go : (l : ℕ) (b : Bool) → (k == l) ≡ b → Tied l mx my (side l after sent_past) (side l p.far p.far_past) (units_on l (joined_on k sent_unit p.out)) (units_on l p.back)
-        go l true d = subst (λ (m : ℕ). Tied m mx my (side m after sent_past) (side m p.far p.far_past) (units_on m (joined_on k sent_unit p.out)) (units_on m p.back)) (eqb-true k l d) here
+        go : (l : ℕ) (b : Bool) → (k == l) ≡ b
+            → Tied l mx my (side l after sent_past) (side l p.far p.far_past) (units_on l (joined_on k sent_unit p.out))
+            (units_on l p.back)
+        go l true d = subst (λ (m : ℕ). Tied m mx my (side m after sent_past) (side m p.far p.far_past)
+              (units_on m (joined_on k sent_unit p.out)) (units_on m p.back)) (eqb-true k l d) here
         go l false d = there l d
 
     pub answers_sent : (step p.near (Next k)).answer ≡ Sent sent_unit
@@ -116,10 +134,15 @@ module _ (mx my : Method) (p : Two) (h : HoldsOf mx my p) (k : ℕ) where
   pub emits_not : is_up k p.near ≡ false → HoldsOf mx my (record p { near = after; near_past = sent_past })
   emits_not e =
       let same : after ≡ p.near = ap (λ (o : Outcome). o.state) (next_refused k p.near e).1 in
-      event_holds mx my p h (Next k) tt sent_past p.out p.back refl refl (λ l. like l mx my _ (side l after sent_past) _ _ _ _ _ _ (same_side same (ap (λ (more : List Message). added_at k more p.near_past.sent l) (nothing_sent k p.near after same) ∙ added_none k l p.near_past.sent) refl) refl refl refl (h.ties l))
+      event_holds mx my p h (Next k) tt sent_past p.out p.back refl refl
+          (λ l. like l mx my _ (side l after sent_past) _ _ _ _ _ _
+            (same_side same (ap (λ (more : List Message). added_at k more p.near_past.sent l)
+              (nothing_sent k p.near after same) ∙ added_none k l p.near_past.sent) refl) refl refl refl (h.ties l))
 
 -- A UNIT IS LOST from the line out
-pub loses : (mx my : Method) (p : Two) → HoldsOf mx my p → (k place : ℕ) → k < length p.near.links → place < length (units_on k p.out) → HoldsOf mx my (record p { out = with_units k (without place (units_on k p.out)) p.out })
+pub loses : (mx my : Method) (p : Two) → HoldsOf mx my p → (k place : ℕ) → k < length p.near.links
+    → place < length (units_on k p.out)
+    → HoldsOf mx my (record p { out = with_units k (without place (units_on k p.out)) p.out })
 loses mx my p h k place few within = record {
   near_sound = h.near_sound;
   far_sound = h.far_sound;
@@ -132,17 +155,27 @@ loses mx my p h k place few within = record {
   ties = λ l. go l (k == l) refl;
 }
   where
-    go : (l : ℕ) (b : Bool) → (k == l) ≡ b → Tied l mx my (side l p.near p.near_past) (side l p.far p.far_past) (units_on l (with_units k (without place (units_on k p.out)) p.out)) (units_on l p.back)
-    go l true d = subst (λ (m : ℕ). Tied m mx my (side m p.near p.near_past) (side m p.far p.far_past) (units_on m (with_units k (without place (units_on k p.out)) p.out)) (units_on m p.back)) (eqb-true k l d) (like k mx my _ _ _ _ _ _ _ _ refl refl (on_set k _ p.out (omega (arith, few, h.out_lines))) refl (lost k mx my _ _ (units_on k p.out) (units_on k p.back) place within (h.ties k)))
+    go : (l : ℕ) (b : Bool) → (k == l) ≡ b
+        → Tied l mx my (side l p.near p.near_past) (side l p.far p.far_past)
+        (units_on l (with_units k (without place (units_on k p.out)) p.out)) (units_on l p.back)
+    go l true d = subst (λ (m : ℕ). Tied m mx my (side m p.near p.near_past) (side m p.far p.far_past)
+          (units_on m (with_units k (without place (units_on k p.out)) p.out)) (units_on m p.back)) (eqb-true k l d)
+        (like k mx my _ _ _ _ _ _ _ _ refl refl (on_set k _ p.out (omega (arith, few, h.out_lines))) refl
+          (lost k mx my _ _ (units_on k p.out) (units_on k p.back) place within (h.ties k)))
     go l false d = like l mx my _ _ _ _ _ _ _ _ refl refl (on_other l k _ p.out d) refl (h.ties l)
 
 -- AN END HEARS the unit in front of the line back
-module _ (mx my : Method) (one : IsOneMethod mx my) (p : Two) (h : HoldsOf mx my p) (k : ℕ) (few : k < length p.near.links) (unit : SignalUnit) (rest : List SignalUnit) (front : units_on k p.back ≡ unit ∷ rest) (link : LinkState) (at : IsAt k link Up p.near) where
+module _ (mx my : Method) (one : IsOneMethod mx my) (p : Two) (h : HoldsOf mx my p) (k : ℕ)
+    (few : k < length p.near.links) (unit : SignalUnit) (rest : List SignalUnit)
+    (front : units_on k p.back ≡ unit ∷ rest) (link : LinkState) (at : IsAt k link Up p.near) where
   abbrev hearer_then : State
   hearer_then = (step p.near (Heard k unit)).state
 
   abbrev pub report : Report
-  report = report_of (hearing.part k mx my one (side k p.near p.near_past) (side k p.far p.far_past) (units_on k p.out) rest unit link h.near_sound at h.profiles h.far_sound.fit) (hearing.taken k mx my one (side k p.near p.near_past) (side k p.far p.far_past) (units_on k p.out) rest unit link h.near_sound at h.profiles h.far_sound.fit).took
+  report = report_of (hearing.part k mx my one (side k p.near p.near_past) (side k p.far p.far_past) (units_on k p.out)
+        rest unit link h.near_sound at h.profiles h.far_sound.fit)
+      (hearing.taken k mx my one (side k p.near p.near_past) (side k p.far p.far_past) (units_on k p.out) rest unit link
+        h.near_sound at h.profiles h.far_sound.fit).took
 
   abbrev heard_past : Past
   heard_past = past_heard k unit (p.far_past.sent k) (Answered (HeardBack report)) p.near_past
@@ -151,31 +184,44 @@ module _ (mx my : Method) (one : IsOneMethod mx my) (p : Two) (h : HoldsOf mx my
   front_tied = subst (λ (us : List SignalUnit). Tied k mx my (side k p.near p.near_past) (side k p.far p.far_past) (units_on k p.out) us) front (h.ties k)
 
   pub event_is : step p.near (Heard k unit) ≡ controls unit k p.near link
-  event_is = hearing.step_is k mx my one (side k p.near p.near_past) (side k p.far p.far_past) (units_on k p.out) rest unit link h.near_sound at h.profiles h.far_sound.fit front_tied
+  event_is = hearing.step_is k mx my one (side k p.near p.near_past) (side k p.far p.far_past) (units_on k p.out) rest
+      unit link h.near_sound at h.profiles h.far_sound.fit front_tied
 
   heard_here : Tied k mx my (side k hearer_then heard_past) (side k p.far p.far_past) (units_on k p.out) (units_on k (with_units k rest p.back))
-  heard_here = like k mx my _ (side k hearer_then heard_past) _ _ _ _ _ _ (same_side (ap (λ (o : Outcome). o.state) event_is) refl (added_here k (taken_by report.took (body_in unit)) p.near_past.taken)) refl refl
+  heard_here = like k mx my _ (side k hearer_then heard_past) _ _ _ _ _ _
+      (same_side (ap (λ (o : Outcome). o.state) event_is) refl
+        (added_here k (taken_by report.took (body_in unit)) p.near_past.taken)) refl refl
       (on_set k rest p.back (omega (arith, few, h.back_lines)))
-      (hearing.hears k mx my one (side k p.near p.near_past) (side k p.far p.far_past) (units_on k p.out) rest unit link h.near_sound at h.profiles h.far_sound.fit front_tied)
+      (hearing.hears k mx my one (side k p.near p.near_past) (side k p.far p.far_past) (units_on k p.out) rest unit link
+            h.near_sound at h.profiles h.far_sound.fit front_tied)
 
-  heard_there : (l : ℕ) → (k == l) ≡ false → Tied l mx my (side l hearer_then heard_past) (side l p.far p.far_past) (units_on l p.out) (units_on l (with_units k rest p.back))
-  heard_there l d = like l mx my _ (side l hearer_then heard_past) _ _ _ _ _ _ (same_side refl refl (added_other k l _ p.near_past.taken d)) refl refl (on_other l k rest p.back d) (goes_on mx my p h (Heard k unit) l d (heard_follows l k unit p.near d))
+  heard_there : (l : ℕ) → (k == l) ≡ false
+      → Tied l mx my (side l hearer_then heard_past) (side l p.far p.far_past) (units_on l p.out)
+      (units_on l (with_units k rest p.back))
+  heard_there l d = like l mx my _ (side l hearer_then heard_past) _ _ _ _ _ _
+      (same_side refl refl (added_other k l _ p.near_past.taken d)) refl refl (on_other l k rest p.back d)
+      (goes_on mx my p h (Heard k unit) l d (heard_follows l k unit p.near d))
 
   pub hears_up : HoldsOf mx my (record p { near = hearer_then; near_past = heard_past; back = with_units k rest p.back })
   hears_up = event_holds mx my p h (Heard k unit) tt heard_past p.out (with_units k rest p.back) refl (length_set p.back k rest) (λ l. go l (k == l) refl)
     where
-      go : (l : ℕ) (b : Bool) → (k == l) ≡ b → Tied l mx my (side l hearer_then heard_past) (side l p.far p.far_past) (units_on l p.out) (units_on l (with_units k rest p.back))
-      go l true d = subst (λ (m : ℕ). Tied m mx my (side m hearer_then heard_past) (side m p.far p.far_past) (units_on m p.out) (units_on m (with_units k rest p.back))) (eqb-true k l d) heard_here
+      go : (l : ℕ) (b : Bool) → (k == l) ≡ b
+          → Tied l mx my (side l hearer_then heard_past) (side l p.far p.far_past) (units_on l p.out)
+          (units_on l (with_units k rest p.back))
+      go l true d = subst (λ (m : ℕ). Tied m mx my (side m hearer_then heard_past) (side m p.far p.far_past)
+            (units_on m p.out) (units_on m (with_units k rest p.back))) (eqb-true k l d) heard_here
       go l false d = heard_there l d
 
   pub answers_heard : (step p.near (Heard k unit)).answer ≡ HeardBack report
   answers_heard = ap (λ (o : Outcome). o.answer) event_is
 
   pub tells_none : report.fault ≡ None
-  tells_none = rw (hearing.no_fault k mx my one (side k p.near p.near_past) (side k p.far p.far_past) (units_on k p.out) rest unit link h.near_sound at h.profiles h.far_sound.fit front_tied) refl
+  tells_none = rw (hearing.no_fault k mx my one (side k p.near p.near_past) (side k p.far p.far_past) (units_on k p.out)
+        rest unit link h.near_sound at h.profiles h.far_sound.fit front_tied) refl
 
 -- A LINK COMES UP at both ends
-module _ (mx my : Method) (p : Two) (h : HoldsOf mx my p) (k : ℕ) (few : k < length p.near.links) (near_settled : is_settled k p.near ≡ true) (far_settled : is_settled k p.far ≡ true) where
+module _ (mx my : Method) (p : Two) (h : HoldsOf mx my p) (k : ℕ) (few : k < length p.near.links)
+    (near_settled : is_settled k p.near ≡ true) (far_settled : is_settled k p.far ≡ true) where
   abbrev near_then : State
   near_then = (step p.near (UpEvent k)).state
 
@@ -183,7 +229,8 @@ module _ (mx my : Method) (p : Two) (h : HoldsOf mx my p) (k : ℕ) (few : k < l
   far_then = (step p.far (UpEvent k)).state
 
   abbrev pub risen : Two
-  risen = record { near = near_then; far = far_then; near_past = past_risen k p.near_past; far_past = past_risen k p.far_past; out = with_units k [] p.out; back = with_units k [] p.back }
+  risen = record { near = near_then; far = far_then; near_past = past_risen k p.near_past;
+        far_past = past_risen k p.far_past; out = with_units k [] p.out; back = with_units k [] p.back }
 
   cleared_here : {X : Type 0} (f : ℕ → List X) → cleared_at k f k ≡ []
   cleared_here f = rw (itself k) refl
@@ -201,18 +248,26 @@ module _ (mx my : Method) (p : Two) (h : HoldsOf mx my p) (k : ℕ) (few : k < l
       (on_set k [] p.out (omega (arith, few, h.out_lines)))
       (on_set k [] p.back (omega (arith, few, h.back_lines)))
       (rises_tied p.near.settings.profile k mx my near_then far_then
-      (fresh k p.near.settings.profile mx p.near h.near_sound refl h.near_method a.0 a.1) (fresh k p.near.settings.profile my p.far h.far_sound h.profiles h.far_method b.0 b.1)
-      (fresh_begins k p.near.settings.profile mx p.near h.near_sound refl h.near_method a.0 a.1) (fresh_begins k p.near.settings.profile my p.far h.far_sound h.profiles h.far_method b.0 b.1)
+      (fresh k p.near.settings.profile mx p.near h.near_sound refl h.near_method a.0 a.1)
+          (fresh k p.near.settings.profile my p.far h.far_sound h.profiles h.far_method b.0 b.1)
+      (fresh_begins k p.near.settings.profile mx p.near h.near_sound refl h.near_method a.0 a.1)
+          (fresh_begins k p.near.settings.profile my p.far h.far_sound h.profiles h.far_method b.0 b.1)
       refl refl refl refl
-      (fresh_goes k p.near.settings.profile mx p.near h.near_sound refl h.near_method a.0 a.1) (fresh_goes k p.near.settings.profile my p.far h.far_sound h.profiles h.far_method b.0 b.1)
-      (fresh_counts k p.near.settings.profile mx p.near h.near_sound refl h.near_method a.0 a.1) (fresh_counts k p.near.settings.profile my p.far h.far_sound h.profiles h.far_method b.0 b.1))
+      (fresh_goes k p.near.settings.profile mx p.near h.near_sound refl h.near_method a.0 a.1)
+          (fresh_goes k p.near.settings.profile my p.far h.far_sound h.profiles h.far_method b.0 b.1)
+      (fresh_counts k p.near.settings.profile mx p.near h.near_sound refl h.near_method a.0 a.1)
+          (fresh_counts k p.near.settings.profile my p.far h.far_sound h.profiles h.far_method b.0 b.1))
 
   risen_there : (l : ℕ) → (k == l) ≡ false → TiedAt l mx my risen
   risen_there l d =
       let one = goes_on mx my p h (UpEvent k) l d (up_follows l k p.near (no_other k l d)) in
       let back = turned l mx my _ _ _ _ one in
-      let two = follows l my mx (side l p.far p.far_past) (side l near_then p.near_past) (units_on l p.back) (units_on l p.out) far_then (keeps my mx (swapped p) (swap mx my p h) (UpEvent k)) (count_stays l p.far (UpEvent k) d) (up_follows l k p.far (no_other k l d)) back in
-      like l mx my (side l near_then p.near_past) (side l near_then (past_risen k p.near_past)) (side l far_then p.far_past) (side l far_then (past_risen k p.far_past)) (units_on l p.out) _ (units_on l p.back) _
+      let two = follows l my mx (side l p.far p.far_past) (side l near_then p.near_past) (units_on l p.back)
+          (units_on l p.out) far_then (keeps my mx (swapped p) (swap mx my p h) (UpEvent k))
+          (count_stays l p.far (UpEvent k) d) (up_follows l k p.far (no_other k l d)) back in
+      like l mx my (side l near_then p.near_past) (side l near_then (past_risen k p.near_past))
+          (side l far_then p.far_past) (side l far_then (past_risen k p.far_past)) (units_on l p.out) _
+          (units_on l p.back) _
       (same_side refl (cleared_other l p.near_past.sent d) (cleared_other l p.near_past.taken d))
       (same_side refl (cleared_other l p.far_past.sent d) (cleared_other l p.far_past.taken d))
       (on_other l k [] p.out d)
@@ -228,7 +283,8 @@ module _ (mx my : Method) (p : Two) (h : HoldsOf mx my p) (k : ℕ) (few : k < l
         far_sound = step_sound p.far (UpEvent k) tt h.far_sound;
         near_method = ap (λ (s : Settings). s.method) (settings_stay p.near (UpEvent k)) ∙ h.near_method;
         far_method = ap (λ (s : Settings). s.method) (settings_stay p.far (UpEvent k)) ∙ h.far_method;
-        profiles = ap (λ (s : Settings). s.profile) (settings_stay p.far (UpEvent k)) ∙ h.profiles ∙ sym (ap (λ (s : Settings). s.profile) (settings_stay p.near (UpEvent k)));
+        profiles = ap (λ (s : Settings). s.profile) (settings_stay p.far (UpEvent k)) ∙ h.profiles
+            ∙ sym (ap (λ (s : Settings). s.profile) (settings_stay p.near (UpEvent k)));
         far_links = far_count ∙ h.far_links ∙ sym count;
         out_lines = length_set p.out k [] ∙ h.out_lines ∙ sym count;
         back_lines = length_set p.back k [] ∙ h.back_lines ∙ sym count;

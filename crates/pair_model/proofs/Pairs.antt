@@ -65,13 +65,15 @@ swap mx my p h = record {
 pub on_set : (k : ℕ) (units : List SignalUnit) (lines : List (List SignalUnit)) → k < length lines → units_on k (with_units k units lines) ≡ units
 on_set k units lines few = ap units_of (get_set_same lines k units few)
 
-pub on_other : (l k : ℕ) (units : List SignalUnit) (lines : List (List SignalUnit)) → (k == l) ≡ false → units_on l (with_units k units lines) ≡ units_on l lines
+pub on_other : (l k : ℕ) (units : List SignalUnit) (lines : List (List SignalUnit)) → (k == l) ≡ false
+    → units_on l (with_units k units lines) ≡ units_on l lines
 on_other l k units lines d = ap units_of (get_set_other lines k l units (λ same. false_true (k == l) d (rw same (itself l))))
 
 pub no_other : (k l : ℕ) → (k == l) ≡ false → k ≢ l
 no_other k l d = λ same. false_true (k == l) d (rw same (itself l))
 
-pub like : (l : ℕ) (mx my : Method) (x x' y y' : Side) (out out' back back' : List SignalUnit) → x' ≡ x → y' ≡ y → out' ≡ out → back' ≡ back → Tied l mx my x y out back → Tied l mx my x' y' out' back'
+pub like : (l : ℕ) (mx my : Method) (x x' y y' : Side) (out out' back back' : List SignalUnit) → x' ≡ x → y' ≡ y
+    → out' ≡ out → back' ≡ back → Tied l mx my x y out back → Tied l mx my x' y' out' back'
 like l mx my x x' y y' out out' back back' a b c d t = rw (a, b, c, d) t
 
 -- the settings stay
@@ -112,8 +114,10 @@ module _ (mx my : Method) (p : Two) (h : HoldsOf mx my p) where
     pub keeps : KeepBodies p.near.rows then_near.rows
     keeps = keep_bodies p.near then_near h.near_sound.numbered (keeps_messages p.near event h.near_sound.numbered)
 
-    pub goes_on : (l : ℕ) → IsApart l event → Follows l p.near then_near → Tied l mx my (side l then_near p.near_past) (side l p.far p.far_past) (units_on l p.out) (units_on l p.back)
-    goes_on l apart f = follows l mx my (side l p.near p.near_past) (side l p.far p.far_past) (units_on l p.out) (units_on l p.back) then_near keeps (count_stays l p.near event apart) f (h.ties l)
+    pub goes_on : (l : ℕ) → IsApart l event → Follows l p.near then_near
+        → Tied l mx my (side l then_near p.near_past) (side l p.far p.far_past) (units_on l p.out) (units_on l p.back)
+    goes_on l apart f = follows l mx my (side l p.near p.near_past) (side l p.far p.far_past) (units_on l p.out)
+        (units_on l p.back) then_near keeps (count_stays l p.near event apart) f (h.ties l)
 
     -- all but the ties
     pub event_holds : (past : Past) (out back : List (List SignalUnit)) → length out ≡ length p.out → length back ≡ length p.back

@@ -32,7 +32,8 @@ settled_at l s e = go (slice_get s.links l) refl
     go None f = absurd (let no : false ≡ true = ap link_is_settled (sym f) ∙ e in cc)
     go (Some link) f = (link, record { there = f; phase_is = settled_phase link.phase (ap link_is_settled (sym f) ∙ e) })
 
-module _ (l : ℕ) (q : Profile) (m : Method) (s : State) (sound : IsSound s) (profile_of : s.settings.profile ≡ q) (is_of : s.settings.method ≡ m) (link : LinkState) (at : IsAt l link Settled s) where
+module _ (l : ℕ) (q : Profile) (m : Method) (s : State) (sound : IsSound s) (profile_of : s.settings.profile ≡ q)
+    (is_of : s.settings.method ≡ m) (link : LinkState) (at : IsAt l link Settled s) where
   step_is : step s (UpEvent l) ≡ rises l s Settled
   unfolding step
   step_is = rw (at.there, at.phase_is) refl
@@ -64,7 +65,10 @@ module _ (l : ℕ) (q : Profile) (m : Method) (s : State) (sound : IsSound s) (p
 abbrev pub new_side : State → Side
 new_side s = record { state = s; sent = []; taken = [] }
 
-pub rises_tied : (q : Profile) (l : ℕ) (mx my : Method) (x y : State) (near far : LinkEnd Control) → Begins rules q (start_of mx) near → Begins rules q (start_of my) far → near.sent ≡ [] → near.took ≡ [] → far.sent ≡ [] → far.took ≡ [] → Goes l near x → Goes l far y → Counts l x [] → Counts l y [] → Tied l mx my (new_side x) (new_side y) [] []
+pub rises_tied : (q : Profile) (l : ℕ) (mx my : Method) (x y : State) (near far : LinkEnd Control)
+    → Begins rules q (start_of mx) near → Begins rules q (start_of my) far → near.sent ≡ [] → near.took ≡ []
+    → far.sent ≡ [] → far.took ≡ [] → Goes l near x → Goes l far y → Counts l x [] → Counts l y []
+    → Tied l mx my (new_side x) (new_side y) [] []
 rises_tied q l mx my x y near far a b ns nt fs ft goes far_goes counts far_counts =
     let w : LinkWorld Control = record { near = near; far = far; out = []; back = [] } in
     record {
@@ -84,8 +88,19 @@ rises_tied q l mx my x y near far a b ns nt fs ft goes far_goes counts far_count
     }
 
 -- a link that isn't up at either end, and has no past
-pub unborn : (l : ℕ) (mx my : Method) (x y : State) → ((link : LinkState) → slice_get x.links l ≡ Some link → has_phase_settled link.phase ≡ true) → ((link : LinkState) → slice_get y.links l ≡ Some link → has_phase_settled link.phase ≡ true) → Counts l x [] → Counts l y [] → Tied l mx my (new_side x) (new_side y) [] []
+pub unborn : (l : ℕ) (mx my : Method) (x y : State)
+    → ((link : LinkState) → slice_get x.links l ≡ Some link → has_phase_settled link.phase ≡ true)
+    → ((link : LinkState) → slice_get y.links l ≡ Some link → has_phase_settled link.phase ≡ true) → Counts l x []
+    → Counts l y [] → Tied l mx my (new_side x) (new_side y) [] []
 unborn l mx my x y a b counts far_counts =
-    let end : (m : Method) → LinkEnd Control = λ m. record { control = start_of m; window = record { profile = Narrow; last = 127; unacked = []; unsent = []; room = 0 }; sent = []; took = []; acked = 0 } in
-    let start : (m : Method) → Begins rules Narrow (start_of m) (end m) = λ m. record { control = refl; profile_is = refl; last = refl; unacked = refl; sent = refl; took = refl; acked = refl } in
-    rises_tied Narrow l mx my x y (end mx) (end my) (start mx) (start my) refl refl refl refl (λ link found unsettled. absurd (let no : true ≡ false = sym (a link found) ∙ unsettled in cc)) (λ link found unsettled. absurd (let no : true ≡ false = sym (b link found) ∙ unsettled in cc)) counts far_counts
+    let end : (m : Method) → LinkEnd Control =
+        λ m. record { control = start_of m;
+          window = record { profile = Narrow; last = 127; unacked = []; unsent = []; room = 0 }; sent = []; took = [];
+        acked = 0 } in
+    let start : (m : Method) → Begins rules Narrow (start_of m) (end m) =
+        λ m. record { control = refl; profile_is = refl; last = refl; unacked = refl; sent = refl; took = refl;
+          acked = refl } in
+    rises_tied Narrow l mx my x y (end mx) (end my) (start mx) (start my) refl refl refl refl
+        (λ link found unsettled. absurd (let no : true ≡ false = sym (a link found) ∙ unsettled in cc))
+        (λ link found unsettled. absurd (let no : true ≡ false = sym (b link found) ∙ unsettled in cc)) counts
+        far_counts

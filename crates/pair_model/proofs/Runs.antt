@@ -46,14 +46,19 @@ method_at ma mb B = mb
 no_report_of : (o : SetOutcome) → Type 0
 no_report_of o = TellsNoFault (Answered o.answer)
 
-in_tells : (k : ℕ) (s : State) (f : LinkState → SetOutcome) → ((link : LinkState) → TellsNoFault (Answered (f link).answer)) → TellsNoFault (Answered (in_service k s f).answer)
+in_tells : (k : ℕ) (s : State) (f : LinkState → SetOutcome)
+    → ((link : LinkState) → TellsNoFault (Answered (f link).answer)) → TellsNoFault (Answered (in_service k s f).answer)
 in_tells k s f all = go (slice_get s.links k)
   where
-    at : (link : LinkState) (b : Bool) → TellsNoFault (Answered (cond b (f link) (refused s Rattle.set_events.specs.declared.answer.Refusal.TheVariants.NotUp)).answer)
+    at : (link : LinkState) (b : Bool)
+        → TellsNoFault (Answered (cond b (f link)
+            (refused s Rattle.set_events.specs.declared.answer.Refusal.TheVariants.NotUp)).answer)
     at link true = all link
     at link false = tt
 
-    go : (o : Option LinkState) → TellsNoFault (Answered (with_known o s (λ link. cond (has_phase_up link.phase) (f link) (refused s Rattle.set_events.specs.declared.answer.Refusal.TheVariants.NotUp))).answer)
+    go : (o : Option LinkState) → TellsNoFault
+        (Answered (with_known o s (λ link. cond (has_phase_up link.phase) (f link)
+              (refused s Rattle.set_events.specs.declared.answer.Refusal.TheVariants.NotUp))).answer)
     go None = tt
     go (Some link) = at link (has_phase_up link.phase)
 
@@ -69,7 +74,9 @@ find_tells : (s : State) (number : ℕ) (o : Option Fate) → TellsNoFault (Answ
 find_tells s number None = tt
 find_tells s number (Some fate) = tt
 
-on_tells : (k : ℕ) (s : State) (f : LinkState → SetOutcome) → ((link : LinkState) → TellsNoFault (Answered (f link).answer)) → TellsNoFault (Answered (with_known (slice_get s.links k) s f).answer)
+on_tells : (k : ℕ) (s : State) (f : LinkState → SetOutcome)
+    → ((link : LinkState) → TellsNoFault (Answered (f link).answer))
+    → TellsNoFault (Answered (with_known (slice_get s.links k) s f).answer)
 on_tells k s f all = go (slice_get s.links k)
   where
     go : (o : Option LinkState) → TellsNoFault (Answered (with_known o s f).answer)
@@ -152,56 +159,87 @@ module _ (ma mb : Method) (one : IsOneMethod ma mb) where
     act_goes : (end : End) (event : Event) → has_own_step event ≡ false → Goes g (Act end event) (acts g.world end event)
     act_goes end event own = go (has_actor g.world (actor_of event)) (is_full (at_end g.world end))
       where
-        shown : (end : End) → Goes g (Act end event) (shows (Answered (answer_to (at_end g.world end) event)) (with_end g.world end (after (at_end g.world end) event)))
+        shown : (end : End) → Goes g (Act end event)
+            (shows (Answered (answer_to (at_end g.world end) event))
+              (with_end g.world end (after (at_end g.world end) event)))
         shown A = (answer_tells g.world.a.state event own, asks ma mb (seen A g) h event _ own)
         shown B = (answer_tells g.world.b.state event own, back_b _ (asks mb ma (seen B g) h_b event _ own))
 
-        go : (known full : Bool) → Goes g (Act end event) (cond known (cond full exhausted (shows (Answered (answer_to (at_end g.world end) event)) (with_end g.world end (after (at_end g.world end) event)))) impossible)
+        go : (known full : Bool) → Goes g (Act end event)
+            (cond known (cond full exhausted
+                (shows (Answered (answer_to (at_end g.world end) event))
+              (with_end g.world end (after (at_end g.world end) event)))) impossible)
         go true true = tt
         go true false = shown end
         go false full = tt
 
     -- EMIT
-    emit_a : (k : ℕ) → k < length g.world.a.state.links → (b : Bool) → is_up k g.world.a.state ≡ b → Goes g (Emit A k) (sends_on A k (shows (Answered (answer_to g.world.a (Next k))) (with_end g.world A (after g.world.a (Next k)))))
+    emit_a : (k : ℕ) → k < length g.world.a.state.links → (b : Bool) → is_up k g.world.a.state ≡ b
+        → Goes g (Emit A k) (sends_on A k
+          (shows (Answered (answer_to g.world.a (Next k))) (with_end g.world A (after g.world.a (Next k)))))
     emit_a k few true e =
         let at = is_at_up k g.world.a.state e in
-        subst (λ (answer : Answer). TellsNoFault (Answered answer) × Holds (passed g (Emit A k) (Answered answer) (with_sent (with_end g.world A (after g.world.a (Next k))) A k (Answered answer)))) (sym (moving.answers_sent ma mb (seen A g) h k few at.0 at.1))
+        subst (λ (answer : Answer). TellsNoFault (Answered answer)
+              × Holds (passed g (Emit A k) (Answered answer)
+              (with_sent (with_end g.world A (after g.world.a (Next k))) A k (Answered answer))))
+            (sym (moving.answers_sent ma mb (seen A g) h k few at.0 at.1))
         (tt, moving.emits_up ma mb (seen A g) h k few at.0 at.1)
     emit_a k few false e =
         let not = moving.next_refused k g.world.a.state e in
-        subst (λ (answer : Answer). TellsNoFault (Answered answer) × Holds (passed g (Emit A k) (Answered answer) (with_sent (with_end g.world A (after g.world.a (Next k))) A k (Answered answer)))) (sym (ap (λ (o : SetOutcome). o.answer) not.1))
+        subst (λ (answer : Answer). TellsNoFault (Answered answer)
+              × Holds (passed g (Emit A k) (Answered answer)
+              (with_sent (with_end g.world A (after g.world.a (Next k))) A k (Answered answer))))
+            (sym (ap (λ (o : SetOutcome). o.answer) not.1))
         (tt, moving.emits_not ma mb (seen A g) h k e)
 
-    emit_b : (k : ℕ) → k < length g.world.b.state.links → (b : Bool) → is_up k g.world.b.state ≡ b → Goes g (Emit B k) (sends_on B k (shows (Answered (answer_to g.world.b (Next k))) (with_end g.world B (after g.world.b (Next k)))))
+    emit_b : (k : ℕ) → k < length g.world.b.state.links → (b : Bool) → is_up k g.world.b.state ≡ b
+        → Goes g (Emit B k) (sends_on B k
+          (shows (Answered (answer_to g.world.b (Next k))) (with_end g.world B (after g.world.b (Next k)))))
     emit_b k few true e =
         let at = is_at_up k g.world.b.state e in
-        subst (λ (answer : Answer). TellsNoFault (Answered answer) × Holds (passed g (Emit B k) (Answered answer) (with_sent (with_end g.world B (after g.world.b (Next k))) B k (Answered answer)))) (sym (moving.answers_sent mb ma (seen B g) h_b k few at.0 at.1))
+        subst (λ (answer : Answer). TellsNoFault (Answered answer)
+              × Holds (passed g (Emit B k) (Answered answer)
+              (with_sent (with_end g.world B (after g.world.b (Next k))) B k (Answered answer))))
+            (sym (moving.answers_sent mb ma (seen B g) h_b k few at.0 at.1))
         (tt, back_b _ (moving.emits_up mb ma (seen B g) h_b k few at.0 at.1))
     emit_b k few false e =
         let not = moving.next_refused k g.world.b.state e in
-        subst (λ (answer : Answer). TellsNoFault (Answered answer) × Holds (passed g (Emit B k) (Answered answer) (with_sent (with_end g.world B (after g.world.b (Next k))) B k (Answered answer)))) (sym (ap (λ (o : SetOutcome). o.answer) not.1))
+        subst (λ (answer : Answer). TellsNoFault (Answered answer)
+              × Holds (passed g (Emit B k) (Answered answer)
+              (with_sent (with_end g.world B (after g.world.b (Next k))) B k (Answered answer))))
+            (sym (ap (λ (o : SetOutcome). o.answer) not.1))
         (tt, back_b _ (moving.emits_not mb ma (seen B g) h_b k e))
 
-    emit_at : (end : End) (k : ℕ) → k < length g.world.a.state.links → Goes g (Emit end k) (sends_on end k (shows (Answered (answer_to (at_end g.world end) (Next k))) (with_end g.world end (after (at_end g.world end) (Next k)))))
+    emit_at : (end : End) (k : ℕ) → k < length g.world.a.state.links
+        → Goes g (Emit end k) (sends_on end k
+          (shows (Answered (answer_to (at_end g.world end) (Next k)))
+          (with_end g.world end (after (at_end g.world end) (Next k)))))
     emit_at A k few = emit_a k few (is_up k g.world.a.state) refl
     emit_at B k few = emit_b k (omega (arith, few, h.far_links)) (is_up k g.world.b.state) refl
 
     emit_goes : (end : End) (k : ℕ) → Goes g (Emit end k) (emits g.world end k)
     emit_goes end k = go (has_link g.world k) refl (is_full (at_end g.world end))
       where
-        go : (known : Bool) → has_link g.world k ≡ known → (full : Bool) → Goes g (Emit end k) (sends_on end k (cond known (cond full exhausted (shows (Answered (answer_to (at_end g.world end) (Next k))) (with_end g.world end (after (at_end g.world end) (Next k))))) impossible))
+        go : (known : Bool) → has_link g.world k ≡ known → (full : Bool)
+            → Goes g (Emit end k) (sends_on end k
+              (cond known (cond full exhausted
+                (shows (Answered (answer_to (at_end g.world end) (Next k)))
+              (with_end g.world end (after (at_end g.world end) (Next k))))) impossible))
         go true e true = tt
         go true e false = emit_at end k (ltb-true k (link_count g.world.a.state) e)
         go false e full = tt
 
     -- LOSE: the unit leaves the line to this end, which is the other's line out
-    lost_a : (k place : ℕ) → k < length g.world.a.state.links → place < length (units_on k g.world.to_a) → Holds (record g { world = with_line g.world A k (without place (units_on k g.world.to_a)) })
+    lost_a : (k place : ℕ) → k < length g.world.a.state.links → place < length (units_on k g.world.to_a)
+        → Holds (record g { world = with_line g.world A k (without place (units_on k g.world.to_a)) })
     lost_a k place few within = back_b _ (moving.loses mb ma (seen B g) h_b k place (omega (arith, few, h.far_links)) within)
 
-    lost_b : (k place : ℕ) → k < length g.world.a.state.links → place < length (units_on k g.world.to_b) → Holds (record g { world = with_line g.world B k (without place (units_on k g.world.to_b)) })
+    lost_b : (k place : ℕ) → k < length g.world.a.state.links → place < length (units_on k g.world.to_b)
+        → Holds (record g { world = with_line g.world B k (without place (units_on k g.world.to_b)) })
     lost_b k place few within = moving.loses ma mb (seen A g) h k place few within
 
-    lost_at : (end : End) (k place : ℕ) → k < length g.world.a.state.links → place < length (line_to g.world end k) → Holds (record g { world = with_line g.world end k (without place (line_to g.world end k)) })
+    lost_at : (end : End) (k place : ℕ) → k < length g.world.a.state.links → place < length (line_to g.world end k)
+        → Holds (record g { world = with_line g.world end k (without place (line_to g.world end k)) })
     lost_at A k place few within = lost_a k place few within
     lost_at B k place few within = lost_b k place few within
 
@@ -209,7 +247,9 @@ module _ (ma mb : Method) (one : IsOneMethod ma mb) where
     lose_goes end k place = go (has_link g.world k) refl (nat_lt place (length (line_to g.world end k))) refl
       where
         go : (known : Bool) → has_link g.world k ≡ known → (within : Bool) → nat_lt place (length (line_to g.world end k)) ≡ within
-            → Goes g (Lose end k place) (cond known (cond within (shows Lost (with_line g.world end k (without place (line_to g.world end k)))) impossible) impossible)
+            → Goes g (Lose end k place) (cond known
+                  (cond within (shows Lost (with_line g.world end k (without place (line_to g.world end k))))
+                  impossible) impossible)
         go true e true f = (tt, lost_at end k place (ltb-true k (link_count g.world.a.state) e) (ltb-true place (length (line_to g.world end k)) f))
         go true e false f = tt
         go false e within f = tt
@@ -221,44 +261,67 @@ module _ (ma mb : Method) (one : IsOneMethod ma mb) where
 
     -- heard in service, else lost
     module _ (k : ℕ) (few : k < length g.world.a.state.links) (unit : SignalUnit) (rest : List SignalUnit) where
-      heard_a : units_on k g.world.to_a ≡ unit ∷ rest → (link : LinkState) → IsAt k link Up g.world.a.state → ArriveGoes A k (unit ∷ rest) (shows (Answered (answer_to g.world.a (Heard k unit))) (with_end (with_line g.world A k rest) A (after g.world.a (Heard k unit))))
+      heard_a : units_on k g.world.to_a ≡ unit ∷ rest → (link : LinkState) → IsAt k link Up g.world.a.state
+          → ArriveGoes A k (unit ∷ rest)
+          (shows (Answered (answer_to g.world.a (Heard k unit)))
+            (with_end (with_line g.world A k rest) A (after g.world.a (Heard k unit))))
       heard_a front link at =
-          subst (λ (answer : Answer). TellsNoFault (Answered answer) × Holds (with_past A (past_arrived k (unit ∷ rest) (g.b.sent k) (Answered answer) g.a) (with_end (with_line g.world A k rest) A (after g.world.a (Heard k unit))) g))
+          subst (λ (answer : Answer). TellsNoFault (Answered answer)
+                × Holds (with_past A (past_arrived k (unit ∷ rest) (g.b.sent k) (Answered answer) g.a)
+                (with_end (with_line g.world A k rest) A (after g.world.a (Heard k unit))) g))
           (sym (moving.answers_heard ma mb one (seen A g) h k few unit rest front link at))
           (moving.tells_none ma mb one (seen A g) h k few unit rest front link at, moving.hears_up ma mb one (seen A g) h k few unit rest front link at)
 
-      heard_b : units_on k g.world.to_b ≡ unit ∷ rest → (link : LinkState) → IsAt k link Up g.world.b.state → ArriveGoes B k (unit ∷ rest) (shows (Answered (answer_to g.world.b (Heard k unit))) (with_end (with_line g.world B k rest) B (after g.world.b (Heard k unit))))
+      heard_b : units_on k g.world.to_b ≡ unit ∷ rest → (link : LinkState) → IsAt k link Up g.world.b.state
+          → ArriveGoes B k (unit ∷ rest)
+          (shows (Answered (answer_to g.world.b (Heard k unit)))
+            (with_end (with_line g.world B k rest) B (after g.world.b (Heard k unit))))
       heard_b front link at =
           let few_b : k < length g.world.b.state.links = omega (arith, few, h.far_links) in
-          subst (λ (answer : Answer). TellsNoFault (Answered answer) × Holds (with_past B (past_arrived k (unit ∷ rest) (g.a.sent k) (Answered answer) g.b) (with_end (with_line g.world B k rest) B (after g.world.b (Heard k unit))) g))
+          subst (λ (answer : Answer). TellsNoFault (Answered answer)
+                × Holds (with_past B (past_arrived k (unit ∷ rest) (g.a.sent k) (Answered answer) g.b)
+                (with_end (with_line g.world B k rest) B (after g.world.b (Heard k unit))) g))
           (sym (moving.answers_heard mb ma one_b (seen B g) h_b k few_b unit rest front link at))
-          (moving.tells_none mb ma one_b (seen B g) h_b k few_b unit rest front link at, back_b _ (moving.hears_up mb ma one_b (seen B g) h_b k few_b unit rest front link at))
+          (moving.tells_none mb ma one_b (seen B g) h_b k few_b unit rest front link at,
+                back_b _ (moving.hears_up mb ma one_b (seen B g) h_b k few_b unit rest front link at))
 
       front_lost_a : units_on k g.world.to_a ≡ unit ∷ rest → Holds (record g { world = with_line g.world A k rest })
-      front_lost_a front = subst (λ (us : List SignalUnit). Holds (record g { world = with_line g.world A k us })) (ap (without 0) front) (lost_a k 0 few (rw front (omega arith)))
+      front_lost_a front = subst (λ (us : List SignalUnit). Holds (record g { world = with_line g.world A k us }))
+          (ap (without 0) front) (lost_a k 0 few (rw front (omega arith)))
 
       front_lost_b : units_on k g.world.to_b ≡ unit ∷ rest → Holds (record g { world = with_line g.world B k rest })
-      front_lost_b front = subst (λ (us : List SignalUnit). Holds (record g { world = with_line g.world B k us })) (ap (without 0) front) (lost_b k 0 few (rw front (omega arith)))
+      front_lost_b front = subst (λ (us : List SignalUnit). Holds (record g { world = with_line g.world B k us }))
+          (ap (without 0) front) (lost_b k 0 few (rw front (omega arith)))
 
       reach_a : units_on k g.world.to_a ≡ unit ∷ rest → (rising : Bool) → is_up k g.world.a.state ≡ rising → (known full : Bool)
-          → ArriveGoes A k (unit ∷ rest) (cond rising (cond known (cond full exhausted (shows (Answered (answer_to g.world.a (Heard k unit))) (with_end (with_line g.world A k rest) A (after g.world.a (Heard k unit))))) impossible) (shows Lost (with_line g.world A k rest)))
+          → ArriveGoes A k (unit ∷ rest)
+              (cond rising (cond known (cond full exhausted
+                    (shows (Answered (answer_to g.world.a (Heard k unit)))
+                (with_end (with_line g.world A k rest) A (after g.world.a (Heard k unit))))) impossible)
+              (shows Lost (with_line g.world A k rest)))
       reach_a front true e true true = tt
       reach_a front true e true false = let at = is_at_up k g.world.a.state e in heard_a front at.0 at.1
       reach_a front true e false full = tt
       reach_a front false e known full = (tt, front_lost_a front)
 
       reach_b : units_on k g.world.to_b ≡ unit ∷ rest → (rising : Bool) → is_up k g.world.b.state ≡ rising → (known full : Bool)
-          → ArriveGoes B k (unit ∷ rest) (cond rising (cond known (cond full exhausted (shows (Answered (answer_to g.world.b (Heard k unit))) (with_end (with_line g.world B k rest) B (after g.world.b (Heard k unit))))) impossible) (shows Lost (with_line g.world B k rest)))
+          → ArriveGoes B k (unit ∷ rest)
+              (cond rising (cond known (cond full exhausted
+                    (shows (Answered (answer_to g.world.b (Heard k unit)))
+                (with_end (with_line g.world B k rest) B (after g.world.b (Heard k unit))))) impossible)
+              (shows Lost (with_line g.world B k rest)))
       reach_b front true e true true = tt
       reach_b front true e true false = let at = is_at_up k g.world.b.state e in heard_b front at.0 at.1
       reach_b front true e false full = tt
       reach_b front false e known full = (tt, front_lost_b front)
 
-    front_a : (k : ℕ) → k < length g.world.a.state.links → (line : List SignalUnit) → units_on k g.world.to_a ≡ line → ArriveGoes A k line (front_arrives g.world A k line)
+    front_a : (k : ℕ) → k < length g.world.a.state.links → (line : List SignalUnit) → units_on k g.world.to_a ≡ line
+        → ArriveGoes A k line (front_arrives g.world A k line)
     front_a k few [] e = tt
     front_a k few (unit ∷ rest) e = reach_a k few unit rest e (is_up k g.world.a.state) refl (has_link g.world k) (is_full g.world.a)
 
-    front_b : (k : ℕ) → k < length g.world.a.state.links → (line : List SignalUnit) → units_on k g.world.to_b ≡ line → ArriveGoes B k line (front_arrives g.world B k line)
+    front_b : (k : ℕ) → k < length g.world.a.state.links → (line : List SignalUnit) → units_on k g.world.to_b ≡ line
+        → ArriveGoes B k line (front_arrives g.world B k line)
     front_b k few [] e = tt
     front_b k few (unit ∷ rest) e = reach_b k few unit rest e (is_up k g.world.b.state) refl (has_link g.world k) (is_full g.world.b)
 

@@ -29,7 +29,8 @@ use Rattle.pair_model.proofs.Controls.{rules}
 use Rattle.pair_model.proofs.Tied.{StandIn, IsUnitOf, KeepBodies, stand_kept, bodies_kept, units_kept, stand_joined, units_joined, Side, IsGoing, Ties, Tied, withdraws as withdraws_tied}
 
 -- Rows that are there stand there with their bodies.
-pub body_there : (given : ℕ) (p : Row → Bool) (rows : List Row) (i : ℕ) (row : Row) → IsNumbered given rows → slice_get (filter p rows) i ≡ Some row → body_at row.number rows ≡ Some row.body
+pub body_there : (given : ℕ) (p : Row → Bool) (rows : List Row) (i : ℕ) (row : Row) → IsNumbered given rows
+    → slice_get (filter p rows) i ≡ Some row → body_at row.number rows ≡ Some row.body
 body_there given p rows i row numbered e = ap (option_map (λ (r : Row). r.body)) (row_in_filter given p rows i row.number row numbered e refl)
 
 pub stand_each : (rows ys : List Row) → ((i : ℕ) (row : Row) → slice_get ys i ≡ Some row → body_at row.number rows ≡ Some row.body) → StandIn rows (messages ys)
@@ -56,14 +57,21 @@ moves_so first w some = first_moves w w.unsent refl (some refl)
 moves_so fill w some = refl
 
 -- the unit that tells the chosen row
-told_at : (given : ℕ) (p : Row → Bool) (rows new : List Row) (i : ℕ) (head : Header) → IsNumbered given rows → KeepBodies rows new → IsUnitOf new (record { head = head; message = slice_get (numbers (filter p rows)) i }) (unit_of (slice_get (filter p rows) i) head)
+told_at : (given : ℕ) (p : Row → Bool) (rows new : List Row) (i : ℕ) (head : Header) → IsNumbered given rows
+    → KeepBodies rows new → IsUnitOf new (record { head = head; message = slice_get (numbers (filter p rows)) i })
+    (unit_of (slice_get (filter p rows) i) head)
 told_at given p rows new i head numbered keep = go (slice_get (filter p rows) i) refl
   where
-    go : (o : Option Row) → slice_get (filter p rows) i ≡ o → IsUnitOf new (record { head = head; message = slice_get (numbers (filter p rows)) i }) (unit_of o head)
+    go : (o : Option Row) → slice_get (filter p rows) i ≡ o
+        → IsUnitOf new (record { head = head; message = slice_get (numbers (filter p rows)) i }) (unit_of o head)
     go None e = (refl, slice_get-map (λ (r : Row). r.number) (filter p rows) i ∙ ap (option_map (λ (r : Row). r.number)) e)
-    go (Some row) e = (row.number, refl, slice_get-map (λ (r : Row). r.number) (filter p rows) i ∙ ap (option_map (λ (r : Row). r.number)) e, keep row.number row.body (body_there given p rows i row numbered e))
+    go (Some row) e = (row.number, refl, slice_get-map (λ (r : Row). r.number) (filter p rows) i
+          ∙ ap (option_map (λ (r : Row). r.number)) e,
+        keep row.number row.body (body_there given p rows i row numbered e))
 
-told : (given l : ℕ) (link : LinkState) (rows new : List Row) (choice : Choice) (head : Header) → IsNumbered given rows → KeepBodies rows new → IsUnitOf new (record { head = head; message = message_of choice (window_of l link rows) }) (unit_of (chosen choice l rows) head)
+told : (given l : ℕ) (link : LinkState) (rows new : List Row) (choice : Choice) (head : Header) → IsNumbered given rows
+    → KeepBodies rows new → IsUnitOf new (record { head = head; message = message_of choice (window_of l link rows) })
+    (unit_of (chosen choice l rows) head)
 told given l link rows new (again place) head numbered keep = told_at given (λ row. is_unacked l row.fate) rows new place head numbered keep
 told given l link rows new first head numbered keep = told_at given (λ row. is_waiting l row.fate) rows new 0 head numbered keep
 told given l link rows new fill head numbered keep = (refl, refl)
@@ -90,7 +98,9 @@ cleared_keeps l s numbered number body there = (withdrawn_rows (overtaken l s) l
 pub cleared_sends : (l : ℕ) (s t : State) → first_sent l (cleared l s) t ≡ first_sent l s t
 cleared_sends l s t = ap (λ (sent : List Row). messages (drop (length sent) (unack l t.rows))) (withdrawn_unack (overtaken l s) l s.rows)
 
-pub cleared_tied : (l : ℕ) (mx my : Method) (x y : Side) (out back : List SignalUnit) → IsNumbered (given x.state) x.state.rows → Tied l mx my x y out back → Tied l mx my (record x { state = cleared l x.state }) y out back
+pub cleared_tied : (l : ℕ) (mx my : Method) (x y : Side) (out back : List SignalUnit)
+    → IsNumbered (given x.state) x.state.rows → Tied l mx my x y out back
+    → Tied l mx my (record x { state = cleared l x.state }) y out back
 cleared_tied l mx my x y out back numbered t =
     let n = overtaken l x.state in
     withdraws_tied l mx my x y out back (cleared l x.state) (cleared_keeps l x.state numbered) (λ link there. (link, there, refl)) n refl
@@ -129,7 +139,8 @@ module _ (l : ℕ) (mx my : Method) (x y : Side) (out back : List SignalUnit) (l
   kept = λ number body there. (sent_by choice l rows).kept.bodies (given x.state) sound.numbered number ∙ there
 
   numbered_after : IsNumbered (given after) after.rows
-  numbered_after = numbered_on (all_finished x.state.finished) rows after.rows (sent_by choice l rows).kept.count ((sent_by choice l rows).kept.numbered (given x.state) sound.numbered)
+  numbered_after = numbered_on (all_finished x.state.finished) rows after.rows (sent_by choice l rows).kept.count
+      ((sent_by choice l rows).kept.numbered (given x.state) sound.numbered)
 
   -- the link then
   sent_there : slice_get after.links l ≡ Some sent_link
@@ -182,7 +193,11 @@ module _ (l : ℕ) (mx my : Method) (x y : Side) (out back : List SignalUnit) (l
       sent_is = ap (λ (ns : List ℕ). ns ++ drop (length window.unacked) (window_after choice window).unacked) t.near.sent_is
           ∙ ap (λ (ns : List ℕ). map (λ (m : Message). m.number) x.sent ++ ns) gained
           ∙ sym (map-append (λ (m : Message). m.number) x.sent (first_sent l x.state after));
-      stand = stand_joined after.rows x.sent (first_sent l x.state after) (stand_kept rows after.rows kept x.sent t.near.stand) (stand_dropped after.rows (length (unack l rows)) (unack l after.rows) (stand_each after.rows (unack l after.rows) (λ i row e. body_there (given after) (λ r. is_unacked l r.fate) after.rows i row numbered_after e)));
+      stand = stand_joined after.rows x.sent (first_sent l x.state after)
+          (stand_kept rows after.rows kept x.sent t.near.stand)
+          (stand_dropped after.rows (length (unack l rows)) (unack l after.rows)
+            (stand_each after.rows (unack l after.rows)
+            (λ i row e. body_there (given after) (λ r. is_unacked l r.fate) after.rows i row numbered_after e)));
       took_is = t.near.took_is;
     };
     far = record { sent_is = t.far.sent_is; stand = t.far.stand; took_is = bodies_kept rows after.rows kept w.far.took y.taken t.far.took_is };
@@ -192,7 +207,8 @@ module _ (l : ℕ) (mx my : Method) (x y : Side) (out back : List SignalUnit) (l
     far_goes = t.far_goes;
     near_counts = λ other found. ap (λ (k : LinkState). k.accepted) (same_at after.links l sent_link other sent_there found) ∙ t.near_counts link at.there;
     far_counts = t.far_counts;
-    out = units_joined after.rows w.out _ out (unit ∷ []) (units_kept rows after.rows kept w.out out t.out) (told (given x.state) l link rows after.rows choice _ sound.numbered kept, tt);
+    out = units_joined after.rows w.out _ out (unit ∷ []) (units_kept rows after.rows kept w.out out t.out)
+        (told (given x.state) l link rows after.rows choice _ sound.numbered kept, tt);
     back = t.back;
   }
 
@@ -202,7 +218,9 @@ module _ (l : ℕ) (mx my : Method) (x y : Side) (out back : List SignalUnit) (l
       let w = t.world in
       let g = t.ties.near_goes link at.there (ap has_phase_settled at.phase_is) in
       let at_link = subst (λ (v : LinkWorld Control). Run rules t.profile (start_of mx) (start_of my) v) (stands_so l link rows w g) t.run in
-      record { profile = t.profile; world = emitted w; run = steps (standing_at l link rows w) (emitted w) at_link (emits (standing_at l link rows w) (emitted w) octets (emission w)); ties = emitted_ties w t.ties }
+      record { profile = t.profile; world = emitted w;
+            run = steps (standing_at l link rows w) (emitted w) at_link
+          (emits (standing_at l link rows w) (emitted w) octets (emission w)); ties = emitted_ties w t.ties }
 
 -- what a link in service answers
 pub sent_answer : (l : ℕ) (link : LinkState) (s : State) → IsAt l link Up s → (unit : SignalUnit) × ((step s (Next l)).answer ≡ Sent unit)

@@ -64,7 +64,9 @@ there_below given number rows body numbered there = go (nat_lt number given) ref
     go false e =
         let low = rw e at (numbered number) in
         let none = empty _ (omega (arith, low)) in
-        let no : None ≡ Some body = sym (ap (option_map (λ (row : Row). row.body)) (row_is_first number rows ∙ ap (λ (xs : List Row). slice_get xs 0) none)) ∙ there in
+        let no : None ≡ Some body = sym
+            (ap (option_map (λ (row : Row). row.body))
+              (row_is_first number rows ∙ ap (λ (xs : List Row). slice_get xs 0) none)) ∙ there in
         absurd cc
 
 pub keep_bodies : (s t : State) → IsNumbered (given s) s.rows → KeepsMessages s t → KeepBodies s.rows t.rows
@@ -178,14 +180,18 @@ turned l mx my x y out back t = record {
   profile = t.profile;
   world = flip t.world;
   run = run_back t.profile (start_of mx) (start_of my) t.world t.run;
-  ties = record { near = t.ties.far; far = t.ties.near; near_goes = t.ties.far_goes; far_goes = t.ties.near_goes; near_counts = t.ties.far_counts; far_counts = t.ties.near_counts; out = t.ties.back; back = t.ties.out };
+  ties = record { near = t.ties.far; far = t.ties.near; near_goes = t.ties.far_goes; far_goes = t.ties.near_goes;
+        near_counts = t.ties.far_counts; far_counts = t.ties.near_counts; out = t.ties.back; back = t.ties.out };
 }
 
 pub numbers_append : (xs ys : List Row) → numbers (xs ++ ys) ≡ numbers xs ++ numbers ys
 numbers_append [] ys = refl
 numbers_append (row ∷ xs) ys = ap (λ (ns : List ℕ). row.number ∷ ns) (numbers_append xs ys)
 
-pub same_window : {p p' : Profile} {last last' : ℕ} {unacked unacked' unsent unsent' : List ℕ} → p ≡ p' → last ≡ last' → unacked ≡ unacked' → unsent ≡ unsent' → ◌≡◌ {A = WindowState} (record { profile = p; last = last; unacked = unacked; unsent = unsent; room = 0 }) (record { profile = p'; last = last'; unacked = unacked'; unsent = unsent'; room = 0 })
+pub same_window : {p p' : Profile} {last last' : ℕ} {unacked unacked' unsent unsent' : List ℕ} → p ≡ p' → last ≡ last'
+    → unacked ≡ unacked' → unsent ≡ unsent'
+    → ◌≡◌ {A = WindowState} (record { profile = p; last = last; unacked = unacked; unsent = unsent; room = 0 })
+    (record { profile = p'; last = last'; unacked = unacked'; unsent = unsent'; room = 0 })
 same_window d a b c = rw (d, a, b, c) refl
 
 -- A LINK THAT GOES ON: each message that comes to wait is offered, and each that waits no longer is taken back.
@@ -199,18 +205,24 @@ push_all : (p : Profile) (near far : Control) (more : List ℕ) (w : LinkWorld C
 push_all p near far [] w r = rw (append-nil w.near.window.unsent) r
 push_all p near far (n ∷ more) w r =
     let one = pushed (n ∷ []) w in
-    let offer : Offers rules n w one = record { pushes = record { profile = refl; last = refl; unacked = refl; unsent = refl; room = omega arith }; near = refl; far = refl; out = refl; back = refl } in
+    let offer : Offers rules n w one =
+        record { pushes = record { profile = refl; last = refl; unacked = refl; unsent = refl; room = omega arith };
+          near = refl; far = refl; out = refl; back = refl } in
     rw (append_assoc w.near.window.unsent (n ∷ []) more) at (push_all p near far more one (steps w one r (offers w one n offer)))
 
-take_all_back : (p : Profile) (near far : Control) (n : ℕ) (unsent : List ℕ) (w : LinkWorld Control) → w.near.window.unsent ≡ unsent → Run rules p near far w → Run rules p near far (waiting (drop n unsent) w)
+take_all_back : (p : Profile) (near far : Control) (n : ℕ) (unsent : List ℕ) (w : LinkWorld Control)
+    → w.near.window.unsent ≡ unsent → Run rules p near far w → Run rules p near far (waiting (drop n unsent) w)
 take_all_back p near far zero unsent w e r = rw (← e) r
 take_all_back p near far (suc n) [] w e r = rw (← e) r
 take_all_back p near far (suc n) (m ∷ unsent) w e r =
     let one = waiting unsent w in
-    let back : TakesBack rules w one = record { withdraws = record { profile = refl; last = refl; unacked = refl; unsent = rw e refl; room = omega arith }; near = refl; far = refl; out = refl; back = refl } in
+    let back : TakesBack rules w one =
+        record { withdraws = record { profile = refl; last = refl; unacked = refl; unsent = rw e refl;
+            room = omega arith }; near = refl; far = refl; out = refl; back = refl } in
     take_all_back p near far n unsent one refl (steps w one r (takes_back w one back))
 
-module _ (l : ℕ) (mx my : Method) (x y : Side) (out back : List SignalUnit) (s : State) (keep : KeepBodies x.state.rows s.rows) (count : CountStays l x.state s) where
+module _ (l : ℕ) (mx my : Method) (x y : Side) (out back : List SignalUnit) (s : State)
+    (keep : KeepBodies x.state.rows s.rows) (count : CountStays l x.state s) where
   abbrev moved : Side
   moved = record x { state = s }
 
@@ -228,10 +240,13 @@ module _ (l : ℕ) (mx my : Method) (x y : Side) (out back : List SignalUnit) (s
   }
 
   ends : (t : Tied l mx my x y out back) → (more : List ℕ) → Goes l (pushed more t.world).near s → Tied l mx my moved y out back
-  ends t more goes = record { profile = t.profile; world = pushed more t.world; run = push_all t.profile (start_of mx) (start_of my) more t.world t.run; ties = tells_on (t.world.near.window.unsent ++ more) t.world t.ties goes }
+  ends t more goes = record { profile = t.profile; world = pushed more t.world;
+        run = push_all t.profile (start_of mx) (start_of my) more t.world t.run;
+      ties = tells_on (t.world.near.window.unsent ++ more) t.world t.ties goes }
 
   -- the first that waited wait no longer, and nothing else changes
-  pub withdraws : (n : ℕ) → s.links ≡ x.state.links → unack l s.rows ≡ unack l x.state.rows → wait l s.rows ≡ drop n (wait l x.state.rows) → Tied l mx my x y out back → Tied l mx my moved y out back
+  pub withdraws : (n : ℕ) → s.links ≡ x.state.links → unack l s.rows ≡ unack l x.state.rows
+      → wait l s.rows ≡ drop n (wait l x.state.rows) → Tied l mx my x y out back → Tied l mx my moved y out back
   withdraws n links unacked waits t =
       let left = drop n t.world.near.window.unsent in
       record {
@@ -277,7 +292,8 @@ module _ (l : ℕ) (mx my : Method) (x y : Side) (out back : List SignalUnit) (s
       go (Some link) e = at link e (has_phase_settled link.phase) refl
 
 -- A UNIT THAT IS LOST
-pub lost : (l : ℕ) (mx my : Method) (x y : Side) (out back : List SignalUnit) (place : ℕ) → place < length out → Tied l mx my x y out back → Tied l mx my x y (take place out ++ drop (suc place) out) back
+pub lost : (l : ℕ) (mx my : Method) (x y : Side) (out back : List SignalUnit) (place : ℕ) → place < length out
+    → Tied l mx my x y out back → Tied l mx my x y (take place out ++ drop (suc place) out) back
 lost l mx my x y out back place few t =
     let w = t.world in
     let s = split x.state.rows place w.out out few t.ties.out in
@@ -287,5 +303,6 @@ lost l mx my x y out back place few t =
       profile = t.profile;
       world = new;
       run = steps w new t.run (loses w new s.before s.one s.behind loss);
-      ties = record { near = t.ties.near; far = t.ties.far; near_goes = t.ties.near_goes; far_goes = t.ties.far_goes; near_counts = t.ties.near_counts; far_counts = t.ties.far_counts; out = s.rest; back = t.ties.back };
+      ties = record { near = t.ties.near; far = t.ties.far; near_goes = t.ties.near_goes; far_goes = t.ties.far_goes;
+            near_counts = t.ties.near_counts; far_counts = t.ties.far_counts; out = s.rest; back = t.ties.back };
     }

@@ -15,11 +15,14 @@ got [] link other there = absurd (omega (arith, there))
 got (line ∷ lines) zero other there = refl
 got (line ∷ lines) (suc link) other there = got lines link other (omega (arith, there))
 
-is_taken : (unit : Option SignalUnit) (lines : List (List SignalUnit)) (link place : ℕ) (old new : List SignalUnit) → old ≡ units_on link lines → IsTakenFrom unit old place new
+is_taken : (unit : Option SignalUnit) (lines : List (List SignalUnit)) (link place : ℕ) (old new : List SignalUnit)
+    → old ≡ units_on link lines → IsTakenFrom unit old place new
     → IsTakenOut unit link place lines (slice_set lines link new)
 is_taken None lines link place old new e (all, kept) = (rw (← e) all, rw (kept, e) (put_back lines link))
 is_taken (Some unit) lines link place old new e (there, rest) = (rw (← e) there, rw (rest, e) refl)
 
-pub taken : (unit : Option SignalUnit) (lines : List (List SignalUnit)) (link place : ℕ) (other old new : List SignalUnit) → link < length lines → old ≡ get_or lines link other → IsTakenFrom unit old place new
+pub taken : (unit : Option SignalUnit) (lines : List (List SignalUnit)) (link place : ℕ)
+    (other old new : List SignalUnit) → link < length lines → old ≡ get_or lines link other
+    → IsTakenFrom unit old place new
     → IsTakenOut unit link place lines (slice_set lines link new)
 taken unit lines link place other old new known e from = is_taken unit lines link place old new (e ∙ got lines link other known) from

@@ -163,7 +163,8 @@ module _ (s f : State) (sound : IsSound s) (offered_here got lost : ℕ → List
       at link there true e = each link (record { there = there; phase_is = up_is link.phase e })
       at link there false e = keeps_self
 
-      go : (o : Option LinkState) → slice_get s.links k ≡ o → Keeps' (with_known o s (λ link. cond (has_phase_up link.phase) (act link) (refused s NotUp))).state
+      go : (o : Option LinkState) → slice_get s.links k ≡ o
+          → Keeps' (with_known o s (λ link. cond (has_phase_up link.phase) (act link) (refused s NotUp))).state
       go None e = keeps_self
       go (Some link) e = at link e (has_phase_up link.phase) refl
 
@@ -173,7 +174,8 @@ module _ (s f : State) (sound : IsSound s) (offered_here got lost : ℕ → List
       let left = left_by blind k link s in
       let left_sound = leaves blind k link s at sound in
       record {
-        out = queues_flow (leaving_order blind k link) left f left_sound (λ c d. leaving_declares s.settings k blind link (given left) c d) offered_here got lost
+        out = queues_flow (leaving_order blind k link) left f left_sound
+            (λ c d. leaving_declares s.settings k blind link (given left) c d) offered_here got lost
             (leaves_flow blind k link s f sound at offered_here got lost w (λ c m i a. far_in s left f (left_accepted link at) m i));
         acks = λ c m i a. left_orders blind k link s f sound at (Cba a.link c) m
             (queues_acks (leaving_order blind k link) left f left_sound (λ d x. leaving_acknowledges s.settings k blind link (given left) d x) c m i a) a.is;
@@ -189,7 +191,8 @@ module _ (s f : State) (sound : IsSound s) (offered_here got lost : ℕ → List
       record { out = comes_flow k s f offered_here got lost sound up w; acks = comes_acks k s f sound up }
 
   -- any but an offer, that has no step of its own
-  event_keeps : (emergencies : Bool) (event : Event) (end : End) → has_own_step event ≡ false → IsSafe emergencies (Act end event) → ((body : List ℕ) → event ≡ Offer body → ⊥) → Keeps' (step s event).state
+  event_keeps : (emergencies : Bool) (event : Event) (end : End) → has_own_step event ≡ false
+      → IsSafe emergencies (Act end event) → ((body : List ℕ) → event ≡ Offer body → ⊥) → Keeps' (step s event).state
   unfolding step
   event_keeps emergencies (Offer body) end own safe other = absurd (other body refl)
   event_keeps emergencies Take end own safe other = take_keeps s.inbox
@@ -204,15 +207,23 @@ module _ (s f : State) (sound : IsSound s) (offered_here got lost : ℕ → List
   event_keeps emergencies (BackTimeout k) end own safe other = absurd (never_timed_out emergencies end k safe)
 
   -- OFFER
-  offer_out : (body : List ℕ) → stream_of body < 16 → (o : Option SetRefusal) → offer_refusal s.settings.profile s.rows body ≡ o → Flows (offered o s body).state f (past_asked (Offer body) (Answered (offered o s body).answer) (record { sent = λ l. []; taken = λ l. []; offered = offered_here; got = λ l. [] })).offered got lost
+  offer_out : (body : List ℕ) → stream_of body < 16 → (o : Option SetRefusal)
+      → offer_refusal s.settings.profile s.rows body ≡ o
+      → Flows (offered o s body).state f
+      (past_asked (Offer body) (Answered (offered o s body).answer)
+        (record { sent = λ l. []; taken = λ l. []; offered = offered_here; got = λ l. [] })).offered got lost
   offer_out body low None e = offers_flow s f sound body low (users_body s.settings.profile s.rows body e) offered_here got lost w
   offer_out body low (Some why) e = none_more (stream_of body) s f offered_here got lost w
 
-  offer_acks : (body : List ℕ) → stream_of body < 16 → (o : Option SetRefusal) → offer_refusal s.settings.profile s.rows body ≡ o → NewAcknowledges (view (offered o s body).state f) (view s f)
+  offer_acks : (body : List ℕ) → stream_of body < 16 → (o : Option SetRefusal)
+      → offer_refusal s.settings.profile s.rows body ≡ o → NewAcknowledges (view (offered o s body).state f) (view s f)
   offer_acks body low None e = offers_acks s f sound body low (users_body s.settings.profile s.rows body e)
   offer_acks body low (Some why) e = λ c m i a. i
 
-  pub offers_out : (body : List ℕ) → stream_of body < 16 → Flows (step s (Offer body)).state f (past_asked (Offer body) (Answered (step s (Offer body)).answer) (record { sent = λ l. []; taken = λ l. []; offered = offered_here; got = λ l. [] })).offered got lost
+  pub offers_out : (body : List ℕ) → stream_of body < 16
+      → Flows (step s (Offer body)).state f
+      (past_asked (Offer body) (Answered (step s (Offer body)).answer)
+        (record { sent = λ l. []; taken = λ l. []; offered = offered_here; got = λ l. [] })).offered got lost
   unfolding step
   offers_out body low = offer_out body low (offer_refusal s.settings.profile s.rows body) refl
 
@@ -230,19 +241,30 @@ among_more m [] ys a = absurd a
 among_more m (x ∷ xs) ys (inl e) = inl e
 among_more m (x ∷ xs) ys (inr a) = inr (among_more m xs ys a)
 
-covers_more : (stream : ℕ) (more : List Message) (past : Past) (lost : ℕ → List Message) (t : State) → Covered past lost t → Covered (record past { offered = added_at stream more past.offered }) lost t
-covers_more stream more past lost t c = record { managed = c.managed; numbered = c.numbered; gone = c.gone; known = λ number b e users. go number b (c.known number b e users) (stream_of b == stream) refl }
+covers_more : (stream : ℕ) (more : List Message) (past : Past) (lost : ℕ → List Message) (t : State)
+    → Covered past lost t → Covered (record past { offered = added_at stream more past.offered }) lost t
+covers_more stream more past lost t c =
+    record { managed = c.managed; numbered = c.numbered; gone = c.gone;
+      known = λ number b e users. go number b (c.known number b e users) (stream_of b == stream) refl }
   where
-    go : (number : ℕ) (b : List ℕ) → Among (record { number = number; body = b }) (past.offered (stream_of b)) → (c : Bool) → (stream_of b == stream) ≡ c → Among (record { number = number; body = b }) (cond c (past.offered (stream_of b) ++ more) (past.offered (stream_of b)))
+    go : (number : ℕ) (b : List ℕ) → Among (record { number = number; body = b }) (past.offered (stream_of b))
+        → (c : Bool) → (stream_of b == stream) ≡ c
+        → Among (record { number = number; body = b })
+        (cond c (past.offered (stream_of b) ++ more) (past.offered (stream_of b)))
     go number b a true e = among_more (record { number = number; body = b }) (past.offered (stream_of b)) more a
     go number b a false e = a
 
-offer_covers : (s : State) (past : Past) (lost : ℕ → List Message) (body : List ℕ) (o : Option SetRefusal) → Covered past lost s → Covered (past_asked (Offer body) (Answered (offered o s body).answer) past) lost (offered o s body).state
+offer_covers : (s : State) (past : Past) (lost : ℕ → List Message) (body : List ℕ) (o : Option SetRefusal)
+    → Covered past lost s → Covered (past_asked (Offer body) (Answered (offered o s body).answer) past) lost
+    (offered o s body).state
 offer_covers s past lost body None c =
-    covers_appended _ _ s (offered None s body).state body _ refl refl refl (λ e. rw (itself (stream_of body)) (among_last (new_message (given s) body) (past.offered (stream_of body)))) (covers_more (stream_of body) (new_message (given s) body ∷ []) past lost s c)
+    covers_appended _ _ s (offered None s body).state body _ refl refl refl
+        (λ e. rw (itself (stream_of body)) (among_last (new_message (given s) body) (past.offered (stream_of body))))
+        (covers_more (stream_of body) (new_message (given s) body ∷ []) past lost s c)
 offer_covers s past lost body (Some why) c = covers_more (stream_of body) [] past lost s c
 
-offers_cover : (s : State) (past : Past) (lost : ℕ → List Message) (body : List ℕ) → Covered past lost s → Covered (past_asked (Offer body) (Answered (step s (Offer body)).answer) past) lost (step s (Offer body)).state
+offers_cover : (s : State) (past : Past) (lost : ℕ → List Message) (body : List ℕ) → Covered past lost s
+    → Covered (past_asked (Offer body) (Answered (step s (Offer body)).answer) past) lost (step s (Offer body)).state
 unfolding step
 offers_cover s past lost body c = offer_covers s past lost body (offer_refusal s.settings.profile s.rows body) c
 
@@ -251,7 +273,9 @@ module _ {emergencies : Bool} (p : Two) (sound : IsSound p.near) (w : Streams em
   abbrev asked_then : Event → Two
   asked_then event = record p { near = (step p.near event).state; near_past = past_asked event (Answered (step p.near event).answer) p.near_past }
 
-  event_streams : (end : End) (event : Event) → has_own_step event ≡ false → IsSafe emergencies (Act end event) → ((body : List ℕ) → event ≡ Offer body → ⊥) → Keeps emergencies p.near (step p.near event).state p.far → Streams emergencies (record p { near = (step p.near event).state })
+  event_streams : (end : End) (event : Event) → has_own_step event ≡ false → IsSafe emergencies (Act end event)
+      → ((body : List ℕ) → event ≡ Offer body → ⊥) → Keeps emergencies p.near (step p.near event).state p.far
+      → Streams emergencies (record p { near = (step p.near event).state })
   event_streams end event own safe other k =
       let keeps = event_keeps p.near p.far sound p.near_past.offered p.far_past.got w.out_lost w.out emergencies event end own safe other in
       record {
@@ -276,7 +300,9 @@ module _ {emergencies : Bool} (p : Two) (sound : IsSound p.near) (w : Streams em
         out_lost = w.out_lost;
         back_lost = w.back_lost;
         out = offers_out p.near p.far sound p.near_past.offered p.far_past.got w.out_lost w.out body (stream_below_16 body);
-        back = far_carried p.near (step p.near (Offer body)).state p.far keeps.accepted p.far_past.offered p.near_past.got w.back_lost (offers_back p.near p.far sound p.near_past.offered p.far_past.got w.out_lost w.out body (stream_below_16 body)) w.back;
+        back = far_carried p.near (step p.near (Offer body)).state p.far keeps.accepted p.far_past.offered
+            p.near_past.got w.back_lost (offers_back p.near p.far sound p.near_past.offered p.far_past.got w.out_lost
+              w.out body (stream_below_16 body)) w.back;
         near_covers = offers_cover p.near p.near_past w.out_lost body w.near_covers;
         far_covers = w.far_covers;
         near_rises = offers_rise p.near_past p.near body w.near_rises;
@@ -289,8 +315,12 @@ module _ {emergencies : Bool} (p : Two) (sound : IsSound p.near) (w : Streams em
   asked_streams end (Next k) own safe = absurd cc
   asked_streams end (HeardEvent k unit) own safe = absurd cc
   asked_streams end (UpEvent k) own safe = absurd cc
-  asked_streams end (DownEvent k) own safe = event_streams end (DownEvent k) refl safe (λ body e. absurd cc) (down_kept k p.near p.far sound w.ordered.near_codes)
-  asked_streams end (DownBlind k) own safe = event_streams end (DownBlind k) refl safe (λ body e. absurd cc) (blind_kept k p.near p.far (may_be_blind emergencies end k safe) sound w.ordered.near_codes)
+  asked_streams end (DownEvent k) own safe =
+      event_streams end (DownEvent k) refl safe (λ body e. absurd cc)
+      (down_kept k p.near p.far sound w.ordered.near_codes)
+  asked_streams end (DownBlind k) own safe =
+      event_streams end (DownBlind k) refl safe (λ body e. absurd cc)
+      (blind_kept k p.near p.far (may_be_blind emergencies end k safe) sound w.ordered.near_codes)
   asked_streams end (NoAnswer k) own safe = absurd (never_unanswered emergencies end k safe)
   asked_streams end (Restore k) own safe = event_streams end (Restore k) refl safe (λ body e. absurd cc) (restore_kept k p.near p.far sound)
   asked_streams end (BackTimeout k) own safe = absurd (never_timed_out emergencies end k safe)
@@ -308,7 +338,8 @@ next_backs k c link s = ap messages (go (choice_of (octets_in (unack k s.rows)) 
     go first = turned_same (is_waiting k) (is_back c) (Unacked k) refl (λ fate e. waiting_not_back k c fate e) 1 s.rows
     go fill = refl
 
-module _ {emergencies : Bool} (mx my : Method) (one : IsOneMethod mx my) (p : Two) (h : HoldsOf mx my p) (w : Streams emergencies p) (k : ℕ) (out : List (List SignalUnit)) where
+module _ {emergencies : Bool} (mx my : Method) (one : IsOneMethod mx my) (p : Two) (h : HoldsOf mx my p)
+    (w : Streams emergencies p) (k : ℕ) (out : List (List SignalUnit)) where
   abbrev sent_then : Two
   sent_then = record p { near = (step p.near (Next k)).state; near_past = past_sent k p.near (step p.near (Next k)).state p.near_past; out = out }
 
@@ -346,7 +377,9 @@ module _ {emergencies : Bool} (mx my : Method) (one : IsOneMethod mx my) (p : Tw
 
       sent : After (next k p.near link).state
       sent = record {
-        flows = same_flow p.near (next k p.near link).state p.far queues aside_same (λ c. next_backs k c link p.near) refl p.near_past.offered p.far_past.got w.out_lost w.out (λ c m i a. far_in p.near (next k p.near link).state p.far keeps.accepted m i);
+        flows = same_flow p.near (next k p.near link).state p.far queues aside_same (λ c. next_backs k c link p.near)
+            refl p.near_past.offered p.far_past.got w.out_lost w.out
+            (λ c m i a. far_in p.near (next k p.near link).state p.far keeps.accepted m i);
         acks = λ c m i a. same_in p.near (next k p.near link).state p.far queues aside_same m i;
         keeps = keeps;
       }
@@ -367,9 +400,13 @@ parked_not_back c _ e = absurd cc
 
 rises_backs : (k c : ℕ) (s : State) (link : LinkState) → IsAt k link Settled s → back_by c (step s (UpEvent k)).state ≡ back_by c s
 unfolding step
-rises_backs k c s link at = rw (at.there, at.phase_is) (ap messages (moved_same is_parked (is_back c) (all_with (Waiting k)) s.rows (λ row. refl) (λ fate e. parked_not_back c fate e)))
+rises_backs k c s link at = rw (at.there, at.phase_is)
+    (ap messages (moved_same is_parked (is_back c) (all_with (Waiting k)) s.rows (λ row. refl)
+        (λ fate e. parked_not_back c fate e)))
 
-module _ {emergencies : Bool} (mx my : Method) (p : Two) (h : HoldsOf mx my p) (w : Streams emergencies p) (k : ℕ) (few : k < length p.near.links) (near_settled : is_settled k p.near ≡ true) (far_settled : is_settled k p.far ≡ true) where
+module _ {emergencies : Bool} (mx my : Method) (p : Two) (h : HoldsOf mx my p) (w : Streams emergencies p) (k : ℕ)
+    (few : k < length p.near.links) (near_settled : is_settled k p.near ≡ true)
+    (far_settled : is_settled k p.far ≡ true) where
   pub rises_streams : Streams emergencies (moving.risen mx my p h k few near_settled far_settled)
   rises_streams =
       let near_at = settled_at k p.near near_settled in
@@ -390,8 +427,12 @@ module _ {emergencies : Bool} (mx my : Method) (p : Two) (h : HoldsOf mx my p) (
         };
         out_lost = w.out_lost;
         back_lost = w.back_lost;
-        out = rises_flow k p.near near_then p.far far_then h.near_sound a b near_routing near_backs p.near_past.offered p.far_past.got w.out_lost w.out (λ c m i x. risen_in k p.far far_then p.near near_then h.far_sound b a far_routing far_backs m i);
-        back = rises_flow k p.far far_then p.near near_then h.far_sound b a far_routing far_backs p.far_past.offered p.near_past.got w.back_lost w.back (λ c m i x. risen_in k p.near near_then p.far far_then h.near_sound a b near_routing near_backs m i);
+        out = rises_flow k p.near near_then p.far far_then h.near_sound a b near_routing near_backs p.near_past.offered
+            p.far_past.got w.out_lost w.out
+            (λ c m i x. risen_in k p.far far_then p.near near_then h.far_sound b a far_routing far_backs m i);
+        back = rises_flow k p.far far_then p.near near_then h.far_sound b a far_routing far_backs p.far_past.offered
+            p.near_past.got w.back_lost w.back
+            (λ c m i x. risen_in k p.near near_then p.far far_then h.near_sound a b near_routing near_backs m i);
         near_covers = covers_on _ _ p.near (UpEvent k) (λ body e. absurd cc) w.near_covers;
         far_covers = covers_on _ _ p.far (UpEvent k) (λ body e. absurd cc) w.far_covers;
         near_rises = rising_on p.near_past p.near (UpEvent k) w.near_rises;

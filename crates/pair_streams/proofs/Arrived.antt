@@ -18,11 +18,16 @@ use Rattle.pair_streams.proofs.Handing.{sound_says}
 use Rattle.pair_streams.proofs.Runs.{every_sound_run, every_quiet_run}
 
 -- none of the users' messages stands in such a place
-none_of : (stream : ℕ) (all some : Fate → Bool) → ((fate : Fate) → some fate ≡ true → all fate ≡ true) → (rows : List Row) → length (standing all (users rows)) ≡ 0 → those_of stream (messages (standing some rows)) ≡ []
+none_of : (stream : ℕ) (all some : Fate → Bool) → ((fate : Fate) → some fate ≡ true → all fate ≡ true)
+    → (rows : List Row) → length (standing all (users rows)) ≡ 0 → those_of stream (messages (standing some rows)) ≡ []
 none_of stream all some within [] e = refl
-none_of stream all some within (row ∷ rows) e = go (some row.fate) (all row.fate) (is_users row) (stream_of row.body == stream) refl refl refl refl (λ f. none_of stream all some within rows f)
+none_of stream all some within (row ∷ rows) e =
+    go (some row.fate) (all row.fate) (is_users row) (stream_of row.body == stream) refl refl refl refl
+    (λ f. none_of stream all some within rows f)
   where
-    go : (b c u d : Bool) → some row.fate ≡ b → all row.fate ≡ c → is_users row ≡ u → (stream_of row.body == stream) ≡ d → (length (standing all (users rows)) ≡ 0 → those_of stream (messages (standing some rows)) ≡ []) → those_of stream (messages (standing some (row ∷ rows))) ≡ []
+    go : (b c u d : Bool) → some row.fate ≡ b → all row.fate ≡ c → is_users row ≡ u → (stream_of row.body == stream) ≡ d
+        → (length (standing all (users rows)) ≡ 0 → those_of stream (messages (standing some rows)) ≡ [])
+        → those_of stream (messages (standing some (row ∷ rows))) ≡ []
     go b true true d g h k m later = let no : suc (length (standing all (users rows))) ≡ 0 = rw (k, h) at e in absurd (omega (arith, no))
     go false false true d g h k m later = rw g (later (rw (k, h) at e))
     go true false true d g h k m later = absurd (let no : true ≡ false = sym (within row.fate g) ∙ h in cc)
@@ -63,9 +68,12 @@ module _ (stream : ℕ) (s f : State) (done : AreDone (counts_in s)) where
       let sent = none_dropped stream count (unack l s.rows) (none_of stream was_sent (is_unacked l) (sent_within l) s.rows done.none_unacked) in
       let waiting = none_of stream waits (is_waiting l) (waits_within l) s.rows done.none_waiting in
       let holding = none_of stream was_held (is_held l) (held_within l) s.rows done.none_held in
-      ap (those_of stream) (joined (drop count (unack l s.rows) ++ wait l s.rows) (held l s.rows) ∙ ap (λ (q : List Message). q ++ messages (held l s.rows)) (joined (drop count (unack l s.rows)) (wait l s.rows)))
+      ap (those_of stream) (joined (drop count (unack l s.rows) ++ wait l s.rows) (held l s.rows)
+            ∙ ap (λ (q : List Message). q ++ messages (held l s.rows))
+          (joined (drop count (unack l s.rows)) (wait l s.rows)))
       ∙ those_joined stream (messages (drop count (unack l s.rows)) ++ messages (wait l s.rows)) (messages (held l s.rows))
-      ∙ ap (λ (q : List Message). q ++ those_of stream (messages (held l s.rows))) (those_joined stream (messages (drop count (unack l s.rows))) (messages (wait l s.rows)))
+      ∙ ap (λ (q : List Message). q ++ those_of stream (messages (held l s.rows)))
+          (those_joined stream (messages (drop count (unack l s.rows))) (messages (wait l s.rows)))
       ∙ rw (sent, waiting, holding) refl
 
   none_aside : those_of stream (aside s) ≡ []
@@ -77,8 +85,12 @@ module _ (stream : ℕ) (s f : State) (done : AreDone (counts_in s)) where
 all_got : (g : Stage) → IsIdle g.world → StreamsArrive g → AllGot g
 all_got g idle arrive stream low =
     let both = arrive stream low in (
-      both.0.all (none_pending stream g.world.a.state g.world.b.state idle.at_a) (none_aside stream g.world.a.state g.world.b.state idle.at_a) (none_kept stream g.world.a.state g.world.b.state idle.at_a),
-      both.1.all (none_pending stream g.world.b.state g.world.a.state idle.at_b) (none_aside stream g.world.b.state g.world.a.state idle.at_b) (none_kept stream g.world.b.state g.world.a.state idle.at_b),
+      both.0.all (none_pending stream g.world.a.state g.world.b.state idle.at_a)
+          (none_aside stream g.world.a.state g.world.b.state idle.at_a)
+          (none_kept stream g.world.a.state g.world.b.state idle.at_a),
+      both.1.all (none_pending stream g.world.b.state g.world.a.state idle.at_b)
+          (none_aside stream g.world.b.state g.world.a.state idle.at_b)
+          (none_kept stream g.world.b.state g.world.a.state idle.at_b),
     )
 
 -- what was got is what was taken, and what waits
@@ -93,13 +105,20 @@ all_handed g idle both stream low =
 
 all_told_of : (g : Stage) → IsIdle g.world → PartsArrive g → AllToldOf g
 all_told_of g idle arrive = (
-  λ stream low. (arrive stream low).0.all (none_pending stream g.world.a.state g.world.b.state idle.at_a) (none_aside stream g.world.a.state g.world.b.state idle.at_a) (none_kept stream g.world.a.state g.world.b.state idle.at_a),
-  λ stream low. (arrive stream low).1.all (none_pending stream g.world.b.state g.world.a.state idle.at_b) (none_aside stream g.world.b.state g.world.a.state idle.at_b) (none_kept stream g.world.b.state g.world.a.state idle.at_b),
+  λ stream low. (arrive stream low).0.all (none_pending stream g.world.a.state g.world.b.state idle.at_a)
+      (none_aside stream g.world.a.state g.world.b.state idle.at_a)
+      (none_kept stream g.world.a.state g.world.b.state idle.at_a),
+  λ stream low. (arrive stream low).1.all (none_pending stream g.world.b.state g.world.a.state idle.at_b)
+      (none_aside stream g.world.b.state g.world.a.state idle.at_b)
+      (none_kept stream g.world.b.state g.world.a.state idle.at_b),
 )
 
 -- where a run ends in this world, what holds all along it
 module _ (Arrive Say : Stage → Type 0) (says : (g : Stage) → IsIdle g.world → Arrive g → Say g) (w : World) (idle : IsIdle w) where
-  on_shows : (outcome : Outcome) (step : Step) (g : Stage) (steps : List Step) → ((later : Stage) → HoldsAlong Arrive later steps → HoldsAtEnd (λ h. h.world ≡ w → Say h) later steps) → OnShows outcome (λ shown new. HoldsAlong Arrive (passed g step shown new) steps) → OnShows outcome (λ shown new. HoldsAtEnd (λ h. h.world ≡ w → Say h) (passed g step shown new) steps)
+  on_shows : (outcome : Outcome) (step : Step) (g : Stage) (steps : List Step)
+      → ((later : Stage) → HoldsAlong Arrive later steps → HoldsAtEnd (λ h. h.world ≡ w → Say h) later steps)
+      → OnShows outcome (λ shown new. HoldsAlong Arrive (passed g step shown new) steps)
+      → OnShows outcome (λ shown new. HoldsAtEnd (λ h. h.world ≡ w → Say h) (passed g step shown new) steps)
   on_shows (shows shown new) step g steps next along = next (passed g step shown new) along
   on_shows impossible step g steps next along = tt
   on_shows exhausted step g steps next along = tt
@@ -117,4 +136,5 @@ module _ (w : World) (idle : IsIdle w) where
 
   pub all_taken : AllTaken w
   unfolding HasPassed
-  all_taken a b steps sound = at_end HasPassed AllHanded all_handed w idle (begun a b) steps (sound_says HasPassed (λ g all arrive. (all, arrive)) a b steps sound)
+  all_taken a b steps sound = at_end HasPassed AllHanded all_handed w idle (begun a b) steps
+      (sound_says HasPassed (λ g all arrive. (all, arrive)) a b steps sound)

@@ -26,11 +26,13 @@ use Rattle.pair_streams.proofs.Known.{given_up}
 use Rattle.pair_streams.proofs.Settled.{was_in, settles_flow}
 
 -- a row that changes has the fate then
-placed_turned : (test : Fate → Bool) (fate : Fate) (number n : ℕ) (rows : List Row) (row : Row) → length rows ≤ n → row_of number rows ≡ Some row → test row.fate ≡ true → place number (turned test fate n rows) ≡ Some fate
+placed_turned : (test : Fate → Bool) (fate : Fate) (number n : ℕ) (rows : List Row) (row : Row) → length rows ≤ n
+    → row_of number rows ≡ Some row → test row.fate ≡ true → place number (turned test fate n rows) ≡ Some fate
 placed_turned test fate number zero [] row few e t = absurd cc
 placed_turned test fate number zero (x ∷ rows) row few e t = absurd (omega (arith, few))
 placed_turned test fate number (suc n) [] row few e t = absurd cc
-placed_turned test fate number (suc n) (x ∷ rows) row few e t = grind (arith, nat_tests, placed_turned test fate number n rows row, placed_turned test fate number (suc n) rows row)
+placed_turned test fate number (suc n) (x ∷ rows) row few e t =
+    grind (arith, nat_tests, placed_turned test fate number n rows row, placed_turned test fate number (suc n) rows row)
 
 module _ (l : ℕ) (link : LinkState) (s f : State) (sound : IsSound s) (at : IsAt l link Down s) where
   abbrev after : State
@@ -65,7 +67,8 @@ module _ (l : ℕ) (link : LinkState) (s f : State) (sound : IsSound s) (at : Is
       (placed_turned (is_unacked l) given_up m.number (length s.rows) s.rows w.row (le_refl (length s.rows)) row_is unacked)
 
   pub blind_was_in : (m : Message) → In m (view after f) → In m (view s f)
-  blind_was_in m i = given.was_in l link s f sound at m (was_in number l link mid f mid_sound mid_at mid_reached m (subst (λ (t : State). In m (view t f)) after_is i))
+  blind_was_in m i = given.was_in l link s f sound at m
+      (was_in number l link mid f mid_sound mid_at mid_reached m (subst (λ (t : State). In m (view t f)) after_is i))
 
   pub record LostThen (offered got lost : ℕ → List Message) : Type 0 where
     pub lost_then : ℕ → List Message
@@ -84,6 +87,7 @@ module _ (l : ℕ) (link : LinkState) (s f : State) (sound : IsSound s) (at : Is
       more : LostMore s mid f offered got lost (gone_then l link s f sound at)
       more = gives_up_flow l link s f sound at offered got lost w (λ c m i a. i)
 
-      go : (stream : ℕ) (m : Message) → Among m (lost stream) ⊎ Among m (gone_then l link s f sound at) → Among m (lost stream) ⊎ (place m.number after.rows ≡ Some given_up)
+      go : (stream : ℕ) (m : Message) → Among m (lost stream) ⊎ Among m (gone_then l link s f sound at)
+          → Among m (lost stream) ⊎ (place m.number after.rows ≡ Some given_up)
       go stream m (inl b) = inl b
       go stream m (inr b) = inr (stands_given_up (accepted_on l f - acked_on l s) m b)

@@ -30,7 +30,8 @@ pub record Backing (r : Routing) (x y : View) : Type 0 where
   pub one_acked : (c : ℕ) (m n : Message) → In m y → In n y → Acknowledges c m → Acknowledges c n → m.number ≡ n.number
   pub either : (c : ℕ) (m n : Message) → In m x → In n y → Declares c m → Acknowledges c n → ⊥
   pub clear : (stream : ℕ) → stream < 16 → (to code via : ℕ) → place_of stream r ≡ Changing to code via → Clear stream code via x
-  pub answered : (stream : ℕ) → stream < 16 → (to code via : ℕ) → place_of stream r ≡ Changing to code via → (n : Message) → In n y → Acknowledges code n → those_of stream (x.on via) ≡ []
+  pub answered : (stream : ℕ) → stream < 16 → (to code via : ℕ) → place_of stream r ≡ Changing to code via
+      → (n : Message) → In n y → Acknowledges code n → those_of stream (x.on via) ≡ []
 
 -- EACH STREAM, from an end to the far end: what was offered was got, stands here, or was lost in an emergency
 pub record Flows (s f : State) (offered got lost : ℕ → List Message) : Type 0 where
@@ -52,17 +53,21 @@ pub record Kept (stream : ℕ) (s t f g : State) : Type 0 where
   pub stands : Stands stream (place_of stream t.routing) t g
   pub used : has_messages stream t.routing ≡ has_messages stream s.routing
   pub clear : (to code via : ℕ) → place_of stream t.routing ≡ Changing to code via → Clear stream code via (view t g)
-  pub answered : (to code via : ℕ) → place_of stream t.routing ≡ Changing to code via → (n : Message) → In n (view f s) → Acknowledges code n → those_of stream (pending via t g) ≡ []
+  pub answered : (to code via : ℕ) → place_of stream t.routing ≡ Changing to code via → (n : Message) → In n (view f s)
+      → Acknowledges code n → those_of stream (pending via t g) ≡ []
 
 -- a code that is free then was free, or nothing of it is under way
 abbrev pub IsFreed : ℕ → State → State → State → Type 0
-IsFreed c s t g = (code_of c s.routing ≡ Free) ⊎ (((m : Message) → In m (view t g) → Declares c m → ⊥) × ((m : Message) → In m (view g t) → Acknowledges c m → ⊥))
+IsFreed c s t g = (code_of c s.routing ≡ Free)
+    ⊎ (((m : Message) → In m (view t g) → Declares c m → ⊥) × ((m : Message) → In m (view g t) → Acknowledges c m → ⊥))
 
 -- and so of the codes, where nothing is declared
 pub backed : (s t f g : State) → Backing s.routing (view s f) (view f s)
     → ((stream : ℕ) → stream < 16 → (to code via : ℕ) → place_of stream t.routing ≡ Changing to code via → Clear stream code via (view t g))
-    → ((stream : ℕ) → stream < 16 → (to code via : ℕ) → place_of stream t.routing ≡ Changing to code via → (n : Message) → In n (view f s) → Acknowledges code n → those_of stream (pending via t g) ≡ [])
-    → ((c : ℕ) → c < 256 → code_of c t.routing ≡ Free → IsFreed c s t g) → NewDeclares (view t g) (view s f) → NewAcknowledges (view g t) (view f s) → Backing t.routing (view t g) (view g t)
+    → ((stream : ℕ) → stream < 16 → (to code via : ℕ) → place_of stream t.routing ≡ Changing to code via → (n : Message)
+          → In n (view f s) → Acknowledges code n → those_of stream (pending via t g) ≡ [])
+    → ((c : ℕ) → c < 256 → code_of c t.routing ≡ Free → IsFreed c s t g) → NewDeclares (view t g) (view s f)
+        → NewAcknowledges (view g t) (view f s) → Backing t.routing (view t g) (view g t)
 backed s t f g b clear answered freed declares acknowledges = record {
   few_declared = λ c m i d. b.few_declared c m (declares c m i d) d;
   few_acked = λ c m i d. b.few_acked c m (acknowledges c m i d) d;
@@ -85,7 +90,8 @@ backed s t f g b clear answered freed declares acknowledges = record {
 
 -- and of all
 pub carried : (s t f g : State) (offered got lost : ℕ → List Message) → Flows s f offered got lost → ((stream : ℕ) → stream < 16 → Kept stream s t f g)
-    → ((c : ℕ) → c < 256 → code_of c t.routing ≡ Free → IsFreed c s t g) → NewDeclares (view t g) (view s f) → NewAcknowledges (view g t) (view f s) → Flows t g offered got lost
+    → ((c : ℕ) → c < 256 → code_of c t.routing ≡ Free → IsFreed c s t g) → NewDeclares (view t g) (view s f)
+        → NewAcknowledges (view g t) (view f s) → Flows t g offered got lost
 carried s t f g offered got lost w kept freed declares acknowledges = record {
   flow = λ stream low. subst (λ (x : List Message). Mixed (got stream ++ x) (lost stream) (offered stream)) (sym (kept stream low).here_is) (w.flow stream low);
   stands = λ stream low. (kept stream low).stands;
@@ -131,13 +137,18 @@ module _ (s t f : State) (accepted : (l : ℕ) → accepted_on l t ≡ accepted_
         none_aside = old.none_aside;
         behind = subst (ClearBehind stream code) (sym (far_queues via)) old.behind;
       };
-      answered = λ stream low to code via e n i a. ap (those_of stream) (far_queues via) ∙ w.backing.answered stream low to code via e n (acknowledges code n i a) a;
+      answered = λ stream low to code via e n i a. ap (those_of stream) (far_queues via)
+          ∙ w.backing.answered stream low to code via e n (acknowledges code n i a) a;
     };
   }
 
   -- it acknowledges a declaration that it heard
-  module _ (code : ℕ) (z : Message) (few : code < 256) (offered got lost : ℕ → List Message) (w : Flows f s offered got lost) (new : (m : Message) → In m (view t f) → In m (view s f) ⊎ (m ≡ z)) (tells : (c : ℕ) → Acknowledges c z → c ≡ code)
-      (none_declared : (m : Message) → In m (view f s) → Declares code m → ⊥) (none_acked : (m : Message) → In m (view s f) → Acknowledges code m → ⊥) (in_use : code_of code f.routing ≡ Free → ⊥)
+  module _ (code : ℕ) (z : Message) (few : code < 256) (offered got lost : ℕ → List Message)
+      (w : Flows f s offered got lost) (new : (m : Message) → In m (view t f) → In m (view s f) ⊎ (m ≡ z))
+      (tells : (c : ℕ) → Acknowledges c z → c ≡ code)
+      (none_declared : (m : Message) → In m (view f s) → Declares code m → ⊥)
+          (none_acked : (m : Message) → In m (view s f) → Acknowledges code m → ⊥)
+          (in_use : code_of code f.routing ≡ Free → ⊥)
       (empty : (stream : ℕ) → stream < 16 → (to via : ℕ) → place_of stream f.routing ≡ Changing to code via → those_of stream (pending via f s) ≡ []) where
     at_code : (P : ℕ → Type 0) → (c : ℕ) (m : Message) → m ≡ z → Acknowledges c m → P code → P c
     at_code P c m same a p = subst P (sym (tells c (subst (Acknowledges c) same a))) p
@@ -160,9 +171,12 @@ module _ (s t f : State) (accepted : (l : ℕ) → accepted_on l t ≡ accepted_
     either_case c m n i a b (inl j) = w.backing.either c m n i j a b
     either_case c m n i a b (inr e) = at_code (λ k. (x : Message) → In x (view f s) → Declares k x → ⊥) c n e b none_declared m i a
 
-    answered_case : (stream : ℕ) → stream < 16 → (to c via : ℕ) → place_of stream f.routing ≡ Changing to c via → (n : Message) → Acknowledges c n → In n (view s f) ⊎ (n ≡ z) → those_of stream (pending via f s) ≡ []
+    answered_case : (stream : ℕ) → stream < 16 → (to c via : ℕ) → place_of stream f.routing ≡ Changing to c via
+        → (n : Message) → Acknowledges c n → In n (view s f) ⊎ (n ≡ z) → those_of stream (pending via f s) ≡ []
     answered_case stream low to c via e n a (inl i) = w.backing.answered stream low to c via e n i a
-    answered_case stream low to c via e n a (inr same) = at_code (λ k. place_of stream f.routing ≡ Changing to k via → those_of stream (pending via f s) ≡ []) c n same a (empty stream low to via) e
+    answered_case stream low to c via e n a (inr same) =
+        at_code (λ k. place_of stream f.routing ≡ Changing to k via → those_of stream (pending via f s) ≡ []) c n same a
+        (empty stream low to via) e
 
     pub acked_flow : Flows f t offered got lost
     acked_flow = record {

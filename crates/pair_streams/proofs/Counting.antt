@@ -40,7 +40,8 @@ use Rattle.pair_streams.proofs.Acting.{IsSafe, Streams, streams_back}
 use Rattle.pair_streams.proofs.Runs.{Keeps, is_safe_honest, step_keeps, first_streams}
 
 -- AN EVENT that has no step of its own settles nothing and accepts nothing
-event_kept : (s f : State) (end : End) (event : Event) → IsSound s → AreCodes s.settings → has_own_step event ≡ false → IsSafe true (Act end event) → EventKeeps true s (step s event).state f
+event_kept : (s f : State) (end : End) (event : Event) → IsSound s → AreCodes s.settings → has_own_step event ≡ false
+    → IsSafe true (Act end event) → EventKeeps true s (step s event).state f
 event_kept s f end (Offer body) sound codes own safe = offer_kept s f body sound
 event_kept s f end Take sound codes own safe = take_kept s f
 event_kept s f end (Find number) sound codes own safe = find_kept s f number
@@ -89,43 +90,66 @@ module _ (ma mb : Method) (one : IsOneMethod ma mb) where
     act_counts end event safe own = go (has_actor g.world (actor_of event)) (is_full (at_end g.world end))
       where
         shown : (end : End) → IsSafe true (Act end event) → CountsIn (with_end g.world end (after (at_end g.world end) event))
-        shown A safe = counts_kept g.world.a.state (step g.world.a.state event).state g.world.b.state c (event_kept g.world.a.state g.world.b.state A event h.near_sound v.ordered.near_codes own safe)
-        shown B safe = counts_back (step g.world.b.state event).state g.world.a.state (counts_kept g.world.b.state (step g.world.b.state event).state g.world.a.state c_b (event_kept g.world.b.state g.world.a.state B event h.far_sound v.ordered.far_codes own safe))
+        shown A safe = counts_kept g.world.a.state (step g.world.a.state event).state g.world.b.state c
+            (event_kept g.world.a.state g.world.b.state A event h.near_sound v.ordered.near_codes own safe)
+        shown B safe = counts_back (step g.world.b.state event).state g.world.a.state
+            (counts_kept g.world.b.state (step g.world.b.state event).state g.world.a.state c_b
+              (event_kept g.world.b.state g.world.a.state B event h.far_sound v.ordered.far_codes own safe))
 
-        go : (known full : Bool) → CountsThen (cond known (cond full exhausted (shows (Answered (answer_to (at_end g.world end) event)) (with_end g.world end (after (at_end g.world end) event)))) impossible)
+        go : (known full : Bool) → CountsThen
+            (cond known (cond full exhausted
+                (shows (Answered (answer_to (at_end g.world end) event))
+              (with_end g.world end (after (at_end g.world end) event)))) impossible)
         go true true = tt
         go true false = shown end safe
         go false full = tt
 
-    own_counts : (end : End) (event : Event) → IsSafe true (Act end event) → (own : Bool) → has_own_step event ≡ own → CountsThen (cond own impossible (acts g.world end event))
+    own_counts : (end : End) (event : Event) → IsSafe true (Act end event) → (own : Bool) → has_own_step event ≡ own
+        → CountsThen (cond own impossible (acts g.world end event))
     own_counts end event safe true e = tt
     own_counts end event safe false e = act_counts end event safe e
 
     -- EMIT
-    next_a : (k : ℕ) → k < length g.world.a.state.links → (b : Bool) → is_up k g.world.a.state ≡ b → EventKeeps true g.world.a.state (step g.world.a.state (Next k)).state g.world.b.state
+    next_a : (k : ℕ) → k < length g.world.a.state.links → (b : Bool) → is_up k g.world.a.state ≡ b
+        → EventKeeps true g.world.a.state (step g.world.a.state (Next k)).state g.world.b.state
     next_a k few true e =
         let at = is_at_up k g.world.a.state e in
-        subst (λ (o : SetOutcome). EventKeeps true g.world.a.state o.state g.world.b.state) (sym (sends_next k g.world.a.state g.world.b.state v.ordered.both at.0 at.1)) (sends_keep ma mb one (seen A g) h k few at.0 at.1)
+        subst (λ (o : SetOutcome). EventKeeps true g.world.a.state o.state g.world.b.state)
+            (sym (sends_next k g.world.a.state g.world.b.state v.ordered.both at.0 at.1))
+            (sends_keep ma mb one (seen A g) h k few at.0 at.1)
     next_a k few false e =
-        subst (λ (s : State). EventKeeps true g.world.a.state s g.world.b.state) (sym (ap (λ (o : SetOutcome). o.state) (moving.next_refused k g.world.a.state e).1)) (keeps_still g.world.a.state g.world.a.state g.world.b.state refl refl)
+        subst (λ (s : State). EventKeeps true g.world.a.state s g.world.b.state)
+            (sym (ap (λ (o : SetOutcome). o.state) (moving.next_refused k g.world.a.state e).1))
+            (keeps_still g.world.a.state g.world.a.state g.world.b.state refl refl)
 
-    next_b : (k : ℕ) → k < length g.world.b.state.links → (b : Bool) → is_up k g.world.b.state ≡ b → EventKeeps true g.world.b.state (step g.world.b.state (Next k)).state g.world.a.state
+    next_b : (k : ℕ) → k < length g.world.b.state.links → (b : Bool) → is_up k g.world.b.state ≡ b
+        → EventKeeps true g.world.b.state (step g.world.b.state (Next k)).state g.world.a.state
     next_b k few true e =
         let at = is_at_up k g.world.b.state e in
-        subst (λ (o : SetOutcome). EventKeeps true g.world.b.state o.state g.world.a.state) (sym (sends_next k g.world.b.state g.world.a.state v_b.ordered.both at.0 at.1)) (sends_keep mb ma one_b (seen B g) h_b k few at.0 at.1)
+        subst (λ (o : SetOutcome). EventKeeps true g.world.b.state o.state g.world.a.state)
+            (sym (sends_next k g.world.b.state g.world.a.state v_b.ordered.both at.0 at.1))
+            (sends_keep mb ma one_b (seen B g) h_b k few at.0 at.1)
     next_b k few false e =
-        subst (λ (s : State). EventKeeps true g.world.b.state s g.world.a.state) (sym (ap (λ (o : SetOutcome). o.state) (moving.next_refused k g.world.b.state e).1)) (keeps_still g.world.b.state g.world.b.state g.world.a.state refl refl)
+        subst (λ (s : State). EventKeeps true g.world.b.state s g.world.a.state)
+            (sym (ap (λ (o : SetOutcome). o.state) (moving.next_refused k g.world.b.state e).1))
+            (keeps_still g.world.b.state g.world.b.state g.world.a.state refl refl)
 
     emit_at : (end : End) (k : ℕ) → k < length g.world.a.state.links → CountsIn (with_end g.world end (after (at_end g.world end) (Next k)))
     emit_at A k few = counts_kept g.world.a.state (step g.world.a.state (Next k)).state g.world.b.state c (next_a k few (is_up k g.world.a.state) refl)
-    emit_at B k few = counts_back (step g.world.b.state (Next k)).state g.world.a.state (counts_kept g.world.b.state (step g.world.b.state (Next k)).state g.world.a.state c_b (next_b k (omega (arith, few, h.far_links)) (is_up k g.world.b.state) refl))
+    emit_at B k few = counts_back (step g.world.b.state (Next k)).state g.world.a.state
+        (counts_kept g.world.b.state (step g.world.b.state (Next k)).state g.world.a.state c_b
+          (next_b k (omega (arith, few, h.far_links)) (is_up k g.world.b.state) refl))
 
     emit_counts : (end : End) (k : ℕ) → CountsThen (emits g.world end k)
     emit_counts end k = go (has_link g.world k) refl (is_full (at_end g.world end))
       where
-        go : (known : Bool) → has_link g.world k ≡ known → (full : Bool) → CountsThen (sends_on end k (cond known (cond full exhausted (shows (Answered (answer_to (at_end g.world end) (Next k))) (with_end g.world end (after (at_end g.world end) (Next k))))) impossible))
+        go : (known : Bool) → has_link g.world k ≡ known → (full : Bool)
+            → CountsThen (sends_on end k (cond known
+                (cond full exhausted (shows (Answered (answer_to (at_end g.world end) (Next k)))
+                (with_end g.world end (after (at_end g.world end) (Next k))))) impossible))
         go true e true = tt
-        go true e false = sent_counts (with_end g.world end (after (at_end g.world end) (Next k))) end k (answer_to (at_end g.world end) (Next k)) (emit_at end k (ltb-true k (link_count g.world.a.state) e))
+        go true e false = sent_counts (with_end g.world end (after (at_end g.world end) (Next k))) end k
+            (answer_to (at_end g.world end) (Next k)) (emit_at end k (ltb-true k (link_count g.world.a.state) e))
         go false e full = tt
 
     -- LOSE
@@ -136,7 +160,9 @@ module _ (ma mb : Method) (one : IsOneMethod ma mb) where
         lost A = c
         lost B = c
 
-        go : (known within : Bool) → CountsThen (cond known (cond within (shows Lost (with_line g.world end k (without place (line_to g.world end k)))) impossible) impossible)
+        go : (known within : Bool) → CountsThen
+            (cond known (cond within (shows Lost (with_line g.world end k (without place (line_to g.world end k))))
+                impossible) impossible)
         go true true = lost end
         go true false = tt
         go false within = tt
@@ -144,26 +170,36 @@ module _ (ma mb : Method) (one : IsOneMethod ma mb) where
     -- ARRIVE
     module _ (k : ℕ) (few : k < length g.world.a.state.links) (unit : SignalUnit) (rest : List SignalUnit) where
       reach_a : units_on k g.world.to_a ≡ unit ∷ rest → (rising : Bool) → is_up k g.world.a.state ≡ rising → (known full : Bool)
-          → CountsThen (cond rising (cond known (cond full exhausted (shows (Answered (answer_to g.world.a (Heard k unit))) (with_end (with_line g.world A k rest) A (after g.world.a (Heard k unit))))) impossible) (shows Lost (with_line g.world A k rest)))
+          → CountsThen (cond rising (cond known
+                  (cond full exhausted (shows (Answered (answer_to g.world.a (Heard k unit)))
+                  (with_end (with_line g.world A k rest) A (after g.world.a (Heard k unit))))) impossible)
+              (shows Lost (with_line g.world A k rest)))
       reach_a front true e true true = tt
       reach_a front true e true false = let at = is_at_up k g.world.a.state e in heard_counts ma mb one (seen A g) h v.ordered c k few unit rest front at.0 at.1
       reach_a front true e false full = tt
       reach_a front false e known full = c
 
       reach_b : units_on k g.world.to_b ≡ unit ∷ rest → (rising : Bool) → is_up k g.world.b.state ≡ rising → (known full : Bool)
-          → CountsThen (cond rising (cond known (cond full exhausted (shows (Answered (answer_to g.world.b (Heard k unit))) (with_end (with_line g.world B k rest) B (after g.world.b (Heard k unit))))) impossible) (shows Lost (with_line g.world B k rest)))
+          → CountsThen (cond rising (cond known
+                  (cond full exhausted (shows (Answered (answer_to g.world.b (Heard k unit)))
+                  (with_end (with_line g.world B k rest) B (after g.world.b (Heard k unit))))) impossible)
+              (shows Lost (with_line g.world B k rest)))
       reach_b front true e true true = tt
       reach_b front true e true false =
           let at = is_at_up k g.world.b.state e in
-          counts_back (step g.world.b.state (Heard k unit)).state g.world.a.state (heard_counts mb ma one_b (seen B g) h_b v_b.ordered c_b k (omega (arith, few, h.far_links)) unit rest front at.0 at.1)
+          counts_back (step g.world.b.state (Heard k unit)).state g.world.a.state
+              (heard_counts mb ma one_b (seen B g) h_b v_b.ordered c_b k (omega (arith, few, h.far_links)) unit rest
+                front at.0 at.1)
       reach_b front true e false full = tt
       reach_b front false e known full = c
 
-    front_a : (k : ℕ) → k < length g.world.a.state.links → (line : List SignalUnit) → units_on k g.world.to_a ≡ line → CountsThen (front_arrives g.world A k line)
+    front_a : (k : ℕ) → k < length g.world.a.state.links → (line : List SignalUnit) → units_on k g.world.to_a ≡ line
+        → CountsThen (front_arrives g.world A k line)
     front_a k few [] e = tt
     front_a k few (unit ∷ rest) e = reach_a k few unit rest e (is_up k g.world.a.state) refl (has_link g.world k) (is_full g.world.a)
 
-    front_b : (k : ℕ) → k < length g.world.a.state.links → (line : List SignalUnit) → units_on k g.world.to_b ≡ line → CountsThen (front_arrives g.world B k line)
+    front_b : (k : ℕ) → k < length g.world.a.state.links → (line : List SignalUnit) → units_on k g.world.to_b ≡ line
+        → CountsThen (front_arrives g.world B k line)
     front_b k few [] e = tt
     front_b k few (unit ∷ rest) e = reach_b k few unit rest e (is_up k g.world.b.state) refl (has_link g.world k) (is_full g.world.b)
 
@@ -203,19 +239,22 @@ module _ (ma mb : Method) (one : IsOneMethod ma mb) where
     done_counts (Together k) safe = together_counts k
     done_counts (Inject end k unit) safe = absurd safe
 
-  step_counts : (g : Stage) → Holds ma mb one g → Streams true (seen A g) → CountsIn g.world → (step : Step) → IsSafe true step → CountsThen (carried_out g.world step)
+  step_counts : (g : Stage) → Holds ma mb one g → Streams true (seen A g) → CountsIn g.world → (step : Step)
+      → IsSafe true step → CountsThen (carried_out g.world step)
   unfolding carried_out
   step_counts g h v c step safe = done_counts g h v c step safe
 
   -- WHAT IT SAYS
-  says_of : (mx my : Method) (one : IsOneMethod mx my) (p : Two) → HoldsOf mx my p → ((l : ℕ) → is_settled l p.near ≡ true → acked_on l p.near ≤ accepted_on l p.far) → AreTaken p.near p.far_past
+  says_of : (mx my : Method) (one : IsOneMethod mx my) (p : Two) → HoldsOf mx my p
+      → ((l : ℕ) → is_settled l p.near ≡ true → acked_on l p.near ≤ accepted_on l p.far) → AreTaken p.near p.far_past
   says_of mx my one p h less link state there = go (has_phase_settled state.phase) refl
     where
       go : (b : Bool) → has_phase_settled state.phase ≡ b → state.acked ≤ length (p.far_past.taken link)
       go false e = ((kept_on mx my one p h link).going state there e).acked
       go true e =
           let other = present p.far.links link (omega (arith, within p.near.links link state there, h.far_links)) in
-          let counted : accepted_on link p.far ≡ length (p.far_past.taken link) = ap accepted_of other.1 ∙ (kept_on mx my one p h link).accepted other.0 other.1 in
+          let counted : accepted_on link p.far ≡ length (p.far_past.taken link) = ap accepted_of other.1
+              ∙ (kept_on mx my one p h link).accepted other.0 other.1 in
           let few = less link (ap link_is_settled there ∙ e) in
           let is : acked_on link p.near ≡ state.acked = ap acked_of there in
           omega (arith, counted, few, is)
@@ -237,17 +276,24 @@ module _ (ma mb : Method) (one : IsOneMethod ma mb) where
   moved g step impossible c = tt
   moved g step exhausted c = tt
 
-  onward : (g : Stage) (step : Step) (steps : List Step) → ((later : Stage) → Holds ma mb one later → Streams true (seen A later) → CountsIn later.world → HoldsAlong AckedAreTaken later steps) → (outcome : Outcome) → Goes ma mb one g step outcome → Keeps true ma mb one g step outcome → OnShows outcome (λ shown new. CountsIn (passed g step shown new).world)
+  onward : (g : Stage) (step : Step) (steps : List Step)
+      → ((later : Stage) → Holds ma mb one later → Streams true (seen A later) → CountsIn later.world
+        → HoldsAlong AckedAreTaken later steps) → (outcome : Outcome) → Goes ma mb one g step outcome
+      → Keeps true ma mb one g step outcome → OnShows outcome (λ shown new. CountsIn (passed g step shown new).world)
       → OnShows outcome (λ shown new. HoldsAlong AckedAreTaken (passed g step shown new) steps)
   onward g step steps next (shows shown new) goes keeps c = next (passed g step shown new) goes.1 keeps c
   onward g step steps next impossible goes keeps c = tt
   onward g step steps next exhausted goes keeps c = tt
 
-  along : (g : Stage) → Holds ma mb one g → Streams true (seen A g) → CountsIn g.world → (steps : List Step) → AreSteps (IsSafe true) steps → HoldsAlong AckedAreTaken g steps
+  along : (g : Stage) → Holds ma mb one g → Streams true (seen A g) → CountsIn g.world → (steps : List Step)
+      → AreSteps (IsSafe true) steps → HoldsAlong AckedAreTaken g steps
   along g h v c [] safe = says g h c
   along g h v c (step ∷ steps) safe = (
     says g h c,
-    onward g step steps (λ later holds streams counts. along later holds streams counts steps safe.1) (carried_out g.world step) (step_goes ma mb one g h step (is_safe_honest true step safe.0)) (step_keeps true ma mb one g h v step safe.0) (moved g step (carried_out g.world step) (step_counts g h v c step safe.0)),
+    onward g step steps (λ later holds streams counts. along later holds streams counts steps safe.1)
+        (carried_out g.world step) (step_goes ma mb one g h step (is_safe_honest true step safe.0))
+        (step_keeps true ma mb one g h v step safe.0)
+        (moved g step (carried_out g.world step) (step_counts g h v c step safe.0)),
   )
 
 -- AT FIRST
@@ -258,4 +304,6 @@ first_counts a b = record { near = λ l e. none a l; far = λ l e. none b l }
     none s l = let zero_is = none_counted s.links l s.profile s.method acked_of refl refl in omega (arith, zero_is)
 
 pub every_quiet_run_counts : (a b : SetConfig) (steps : List Step) → IsQuietRun a b steps → HoldsAlong AckedAreTaken (begun a b) steps
-every_quiet_run_counts a b steps quiet = along a.method b.method quiet.one_method (begun a b) (at_first a b quiet.links quiet.profiles) (first_streams true a b) (first_counts (settings_of a) (settings_of b)) steps quiet.steps
+every_quiet_run_counts a b steps quiet =
+    along a.method b.method quiet.one_method (begun a b) (at_first a b quiet.links quiet.profiles)
+    (first_streams true a b) (first_counts (settings_of a) (settings_of b)) steps quiet.steps

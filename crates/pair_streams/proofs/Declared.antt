@@ -45,7 +45,8 @@ clear_none stream code [] none = tt
 clear_none stream code (m ∷ ms) none = ((λ d. absurd (none m (inl refl) d)), clear_none stream code ms (λ x a d. none x (inr a) d))
 
 -- more stands behind: nothing of the stream, or there was no declaration
-pub clear_joined : (stream code : ℕ) (xs ys : List Message) → ClearBehind stream code xs → those_of stream ys ≡ [] → ClearBehind stream code ys → ClearBehind stream code (xs ++ ys)
+pub clear_joined : (stream code : ℕ) (xs ys : List Message) → ClearBehind stream code xs → those_of stream ys ≡ []
+    → ClearBehind stream code ys → ClearBehind stream code (xs ++ ys)
 clear_joined stream code [] ys a none b = b
 clear_joined stream code (x ∷ xs) ys a none b = ((λ d. none_both stream xs ys (a.0 d) none), clear_joined stream code xs ys a.1 none b)
 
@@ -92,20 +93,36 @@ acknowledges_wide code told not true link e = not link cc
 acknowledges_wide code told not false link e = absurd cc
 
 coo_declares_in : (p : Profile) (sio dpc opc l fsn other link : ℕ) → order_any (text p (Coo l fsn) sio dpc opc) ≡ Some (Cbd link other) → ⊥
-coo_declares_in Narrow sio dpc opc l fsn other link e = declares_narrow other (Coo (label_number dpc opc l / 0x1000000 % 256 / 16) ((fsn + 128 * 0) % 128)) (λ n e. absurd cc) (sio % 16 == 0) link e
-coo_declares_in Wide sio dpc opc l fsn other link e = declares_wide other (Coo (label_number dpc opc l / 0x1000000 % 256 / 16) (((fsn + 4096 * 0) % 256 + 256 * ((fsn + 4096 * 0) / 256)) % 4096)) (λ n e. absurd cc) (sio % 16 == 0) link e
+coo_declares_in Narrow sio dpc opc l fsn other link e =
+    declares_narrow other (Coo (label_number dpc opc l / 0x1000000 % 256 / 16) ((fsn + 128 * 0) % 128))
+    (λ n e. absurd cc) (sio % 16 == 0) link e
+coo_declares_in Wide sio dpc opc l fsn other link e =
+    declares_wide other (Coo (label_number dpc opc l / 0x1000000 % 256 / 16)
+      (((fsn + 4096 * 0) % 256 + 256 * ((fsn + 4096 * 0) / 256)) % 4096)) (λ n e. absurd cc) (sio % 16 == 0) link e
 
 coo_acknowledges_in : (p : Profile) (sio dpc opc l fsn other link : ℕ) → order_any (text p (Coo l fsn) sio dpc opc) ≡ Some (Cba link other) → ⊥
-coo_acknowledges_in Narrow sio dpc opc l fsn other link e = acknowledges_narrow other (Coo (label_number dpc opc l / 0x1000000 % 256 / 16) ((fsn + 128 * 0) % 128)) (λ n e. absurd cc) (sio % 16 == 0) link e
-coo_acknowledges_in Wide sio dpc opc l fsn other link e = acknowledges_wide other (Coo (label_number dpc opc l / 0x1000000 % 256 / 16) (((fsn + 4096 * 0) % 256 + 256 * ((fsn + 4096 * 0) / 256)) % 4096)) (λ n e. absurd cc) (sio % 16 == 0) link e
+coo_acknowledges_in Narrow sio dpc opc l fsn other link e =
+    acknowledges_narrow other (Coo (label_number dpc opc l / 0x1000000 % 256 / 16) ((fsn + 128 * 0) % 128))
+    (λ n e. absurd cc) (sio % 16 == 0) link e
+coo_acknowledges_in Wide sio dpc opc l fsn other link e =
+    acknowledges_wide other (Coo (label_number dpc opc l / 0x1000000 % 256 / 16)
+      (((fsn + 4096 * 0) % 256 + 256 * ((fsn + 4096 * 0) / 256)) % 4096)) (λ n e. absurd cc) (sio % 16 == 0) link e
 
 coa_declares_in : (p : Profile) (sio dpc opc l fsn other link : ℕ) → order_any (text p (Coa l fsn) sio dpc opc) ≡ Some (Cbd link other) → ⊥
-coa_declares_in Narrow sio dpc opc l fsn other link e = declares_narrow other (Coa (label_number dpc opc l / 0x1000000 % 256 / 16) ((fsn + 128 * 0) % 128)) (λ n e. absurd cc) (sio % 16 == 0) link e
-coa_declares_in Wide sio dpc opc l fsn other link e = declares_wide other (Coa (label_number dpc opc l / 0x1000000 % 256 / 16) (((fsn + 4096 * 0) % 256 + 256 * ((fsn + 4096 * 0) / 256)) % 4096)) (λ n e. absurd cc) (sio % 16 == 0) link e
+coa_declares_in Narrow sio dpc opc l fsn other link e =
+    declares_narrow other (Coa (label_number dpc opc l / 0x1000000 % 256 / 16) ((fsn + 128 * 0) % 128))
+    (λ n e. absurd cc) (sio % 16 == 0) link e
+coa_declares_in Wide sio dpc opc l fsn other link e =
+    declares_wide other (Coa (label_number dpc opc l / 0x1000000 % 256 / 16)
+      (((fsn + 4096 * 0) % 256 + 256 * ((fsn + 4096 * 0) / 256)) % 4096)) (λ n e. absurd cc) (sio % 16 == 0) link e
 
 coa_acknowledges_in : (p : Profile) (sio dpc opc l fsn other link : ℕ) → order_any (text p (Coa l fsn) sio dpc opc) ≡ Some (Cba link other) → ⊥
-coa_acknowledges_in Narrow sio dpc opc l fsn other link e = acknowledges_narrow other (Coa (label_number dpc opc l / 0x1000000 % 256 / 16) ((fsn + 128 * 0) % 128)) (λ n e. absurd cc) (sio % 16 == 0) link e
-coa_acknowledges_in Wide sio dpc opc l fsn other link e = acknowledges_wide other (Coa (label_number dpc opc l / 0x1000000 % 256 / 16) (((fsn + 4096 * 0) % 256 + 256 * ((fsn + 4096 * 0) / 256)) % 4096)) (λ n e. absurd cc) (sio % 16 == 0) link e
+coa_acknowledges_in Narrow sio dpc opc l fsn other link e =
+    acknowledges_narrow other (Coa (label_number dpc opc l / 0x1000000 % 256 / 16) ((fsn + 128 * 0) % 128))
+    (λ n e. absurd cc) (sio % 16 == 0) link e
+coa_acknowledges_in Wide sio dpc opc l fsn other link e =
+    acknowledges_wide other (Coa (label_number dpc opc l / 0x1000000 % 256 / 16)
+      (((fsn + 4096 * 0) % 256 + 256 * ((fsn + 4096 * 0) / 256)) % 4096)) (λ n e. absurd cc) (sio % 16 == 0) link e
 
 module _ (s : Settings) (l : ℕ) where
   abbrev told_link : ℕ
@@ -154,10 +171,14 @@ module _ (s : Settings) (l : ℕ) where
   eco_acknowledges number other d = acknowledges_both other (Eco told_link) (λ n e. absurd cc) (s.sio % 16 == 0) d.link d.is
 
 -- nor does the order with which a link is left
-pub leaving_declares : (s : Settings) (l : ℕ) (blind : Bool) (link : LinkState) (number other : ℕ) → Declares other (record { number = number; body = text s.profile (leaving_order blind l link) s.sio s.dpc s.opc }) → ⊥
+pub leaving_declares : (s : Settings) (l : ℕ) (blind : Bool) (link : LinkState) (number other : ℕ)
+    → Declares other (record { number = number; body = text s.profile (leaving_order blind l link) s.sio s.dpc s.opc })
+    → ⊥
 leaving_declares s l false link number other d = coo_declares s l number (last_accepted link) other d
 leaving_declares s l true link number other d = eco_declares s l number other d
 
-pub leaving_acknowledges : (s : Settings) (l : ℕ) (blind : Bool) (link : LinkState) (number other : ℕ) → Acknowledges other (record { number = number; body = text s.profile (leaving_order blind l link) s.sio s.dpc s.opc }) → ⊥
+pub leaving_acknowledges : (s : Settings) (l : ℕ) (blind : Bool) (link : LinkState) (number other : ℕ)
+    → Acknowledges other (record { number = number;
+        body = text s.profile (leaving_order blind l link) s.sio s.dpc s.opc }) → ⊥
 leaving_acknowledges s l false link number other d = coo_acknowledges s l number (last_accepted link) other d
 leaving_acknowledges s l true link number other d = eco_acknowledges s l number other d

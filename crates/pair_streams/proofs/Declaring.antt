@@ -82,7 +82,9 @@ module _ (home alternative : ℕ) (s f : State) (sound : IsSound s) (home_up : i
   new_at l = to_wait alternative (λ same. held_none s l sound (subst (λ (n : ℕ). is_up n s ≡ true) (eqb-true alternative l same) alternative_is_up))
 
   of_none : (stream : ℕ) → is_of stream z ≡ false
-  of_none stream = no_stream stream s.settings.sio (given s) (label s.settings.dpc s.settings.opc home ++ heading_of (Cbd home code) ∷ content_with s.settings.profile 0 (Cbd home code)) sound.managed
+  of_none stream = no_stream stream s.settings.sio (given s)
+      (label s.settings.dpc s.settings.opc home
+        ++ heading_of (Cbd home code) ∷ content_with s.settings.profile 0 (Cbd home code)) sound.managed
 
   tells : (c : ℕ) → Declares c z → c ≡ code
   tells c d = cbd_other s.settings home (given s) code c d
@@ -103,7 +105,8 @@ module _ (home alternative : ℕ) (s f : State) (sound : IsSound s) (home_up : i
   more_on : pending alternative then_s f ≡ pending alternative s f ++ z ∷ []
   more_on = go (on_grows alternative)
     where
-      go : Grows z (alternative == alternative) (pending alternative s f) (pending alternative then_s f) → pending alternative then_s f ≡ pending alternative s f ++ z ∷ []
+      go : Grows z (alternative == alternative) (pending alternative s f) (pending alternative then_s f)
+          → pending alternative then_s f ≡ pending alternative s f ++ z ∷ []
       go (ungrown e q) = absurd (let never : true ≡ false = sym (itself alternative) ∙ e in cc)
       go (grown e q) = q
 
@@ -119,7 +122,9 @@ module _ (home alternative : ℕ) (s f : State) (sound : IsSound s) (home_up : i
     none_declared m a d = w.backing.free_declared code few code_free m (stands_on alternative a) d
 
     module _ (stream : ℕ) (low : stream < 16) where
-      place_then : place_of stream then_s.routing ≡ cond ((stream % s.routing.links == home) && runs_on alternative (place_of stream s.routing)) (Changing home code alternative) (place_of stream s.routing)
+      place_then : place_of stream then_s.routing
+          ≡ cond ((stream % s.routing.links == home) && runs_on alternative (place_of stream s.routing))
+          (Changing home code alternative) (place_of stream s.routing)
       place_then = (route.alone s.routing stream sound.routing low).asked_place home alternative
 
       used_then : has_messages stream then_s.routing ≡ has_messages stream s.routing
@@ -142,7 +147,8 @@ module _ (home alternative : ℕ) (s f : State) (sound : IsSound s) (home_up : i
 
         back_none : those_of stream (back_by code then_s) ≡ []
         back_none =
-            those_stay z stream (of_none stream) false (back_by code s) (back_by code then_s) (grows_back s then_s f body (Waiting alternative) refl refl new_at code)
+            those_stay z stream (of_none stream) false (back_by code s) (back_by code then_s)
+                (grows_back s then_s f body (Waiting alternative) refl refl new_at code)
             ∙ none_back_by stream code s sound (ap (λ (q : Place). waits_by q code) is)
 
         clear_new : Clear stream code alternative (view then_s f)
@@ -185,12 +191,18 @@ module _ (home alternative : ℕ) (s f : State) (sound : IsSound s) (home_up : i
           go : (b : Bool) → ((stream % s.routing.links == home) && runs_on alternative (place_of stream s.routing)) ≡ b → Kept stream s then_s f f
           go true e =
               let runs = both_true (stream % s.routing.links == home) (runs_on alternative (place_of stream s.routing)) e in
-              asked_kept (runs_on_so alternative (place_of stream s.routing) runs.1) (place_then ∙ ap (λ (b : Bool). cond b (Changing home code alternative) (place_of stream s.routing)) e)
-          go false e = apart_kept s then_s f body (Waiting alternative) refl refl new_at stream (of_none stream) offered got lost w low (place_then ∙ ap (λ (b : Bool). cond b (Changing home code alternative) (place_of stream s.routing)) e) used_then other_code
+              asked_kept (runs_on_so alternative (place_of stream s.routing) runs.1)
+                  (place_then ∙ ap (λ (b : Bool). cond b (Changing home code alternative) (place_of stream s.routing))
+                    e)
+          go false e = apart_kept s then_s f body (Waiting alternative) refl refl new_at stream (of_none stream) offered
+              got lost w low (place_then ∙ ap
+                (λ (b : Bool). cond b (Changing home code alternative) (place_of stream s.routing)) e) used_then
+              other_code
 
     -- THE CODE is in use then, and told by this message alone
     code_then : (c : ℕ) → c < 256 → code_of c then_s.routing ≡ cond (c == code) Asked (code_of c s.routing)
-    code_then c low = (route.codes_alone s.routing c sound.routing low).asked_code home alternative (up_below home s sound home_up) (up_below alternative s sound alternative_is_up)
+    code_then c low = (route.codes_alone s.routing c sound.routing low).asked_code home alternative
+        (up_below home s sound home_up) (up_below alternative s sound alternative_is_up)
 
     still_free : (c : ℕ) → c < 256 → code_of c then_s.routing ≡ Free → ((c == code) ≡ false) × (code_of c s.routing ≡ Free)
     still_free c low e = go (c == code) refl
@@ -215,7 +227,8 @@ module _ (home alternative : ℕ) (s f : State) (sound : IsSound s) (home_up : i
     free_case c low e m d (inl i) = w.backing.free_declared c low (still_free c low e).1 m i d
     free_case c low e m d (inr p) = false_true (c == code) (still_free c low e).0 (ap (λ (n : ℕ). n == code) p.1 ∙ itself code)
 
-    one_case : (c : ℕ) (m n : Message) → Declares c m → Declares c n → In m (view s f) ⊎ ((m ≡ z) × (c ≡ code)) → In n (view s f) ⊎ ((n ≡ z) × (c ≡ code)) → m.number ≡ n.number
+    one_case : (c : ℕ) (m n : Message) → Declares c m → Declares c n → In m (view s f) ⊎ ((m ≡ z) × (c ≡ code))
+        → In n (view s f) ⊎ ((n ≡ z) × (c ≡ code)) → m.number ≡ n.number
     one_case c m n a b (inl i) (inl j) = w.backing.one_declared c m n i j a b
     one_case c m n a b (inr p) (inr q) = ap (λ (x : Message). x.number) (p.0 ∙ sym q.0)
     one_case c m n a b (inl i) (inr q) = absurd (never_declared c m q.1 i a)
@@ -227,7 +240,8 @@ module _ (home alternative : ℕ) (s f : State) (sound : IsSound s) (home_up : i
 
     pub declares_flow : Flows then_s f offered got lost
     declares_flow = record {
-      flow = λ stream low. subst (λ (x : List Message). Mixed (got stream ++ x) (lost stream) (offered stream)) (sym (declared_kept stream low).here_is) (w.flow stream low);
+      flow = λ stream low. subst (λ (x : List Message). Mixed (got stream ++ x) (lost stream) (offered stream))
+          (sym (declared_kept stream low).here_is) (w.flow stream low);
       stands = λ stream low. (declared_kept stream low).stands;
       unused = λ stream low e. w.unused stream low (sym (declared_kept stream low).used ∙ e);
       backing = record {
@@ -244,23 +258,41 @@ module _ (home alternative : ℕ) (s f : State) (sound : IsSound s) (home_up : i
     }
 
 -- FROM ALL LINKS from which it can
-pub declares_from : (home alternative n : ℕ) (s f : State) (offered got lost : ℕ → List Message) → IsSound s → is_up home s ≡ true → Flows s f offered got lost → Flows (declared_from home alternative n s) f offered got lost
+pub declares_from : (home alternative n : ℕ) (s f : State) (offered got lost : ℕ → List Message) → IsSound s
+    → is_up home s ≡ true → Flows s f offered got lost → Flows (declared_from home alternative n s) f offered got lost
 declares_from home alternative zero s f offered got lost sound up w = w
-declares_from home alternative (suc n) s f offered got lost sound up w = go (can_declare home alternative s) refl (λ t sound_t up_t w_t. declares_from home (suc alternative) n t f offered got lost sound_t up_t w_t)
+declares_from home alternative (suc n) s f offered got lost sound up w =
+    go (can_declare home alternative s) refl
+    (λ t sound_t up_t w_t. declares_from home (suc alternative) n t f offered got lost sound_t up_t w_t)
   where
-    go : (b : Bool) → can_declare home alternative s ≡ b → ((t : State) → IsSound t → is_up home t ≡ true → Flows t f offered got lost → Flows (declared_from home (suc alternative) n t) f offered got lost) → Flows (declared_from home alternative (suc n) s) f offered got lost
-    go true e later = rw e (later (declared home alternative s) (declares home alternative s up e sound) up (declares_flow home alternative s f sound up e offered got lost w))
+    go : (b : Bool) → can_declare home alternative s ≡ b
+        → ((t : State) → IsSound t → is_up home t ≡ true → Flows t f offered got lost
+          → Flows (declared_from home (suc alternative) n t) f offered got lost)
+        → Flows (declared_from home alternative (suc n) s) f offered got lost
+    go true e later = rw e (later (declared home alternative s) (declares home alternative s up e sound) up
+          (declares_flow home alternative s f sound up e offered got lost w))
     go false e later = rw e (later s sound up w)
 
-pub acks_from : (home alternative n : ℕ) (s f : State) → IsSound s → is_up home s ≡ true → NewAcknowledges (view (declared_from home alternative n s) f) (view s f)
+pub acks_from : (home alternative n : ℕ) (s f : State) → IsSound s → is_up home s ≡ true
+    → NewAcknowledges (view (declared_from home alternative n s) f) (view s f)
 acks_from home alternative zero s f sound up = λ c m i a. i
-acks_from home alternative (suc n) s f sound up = go (can_declare home alternative s) refl (λ t sound_t up_t. acks_from home (suc alternative) n t f sound_t up_t)
+acks_from home alternative (suc n) s f sound up =
+    go (can_declare home alternative s) refl (λ t sound_t up_t. acks_from home (suc alternative) n t f sound_t up_t)
   where
-    go : (b : Bool) → can_declare home alternative s ≡ b → ((t : State) → IsSound t → is_up home t ≡ true → NewAcknowledges (view (declared_from home (suc alternative) n t) f) (view t f)) → NewAcknowledges (view (declared_from home alternative (suc n) s) f) (view s f)
-    go true e later = subst (λ (b : Bool). NewAcknowledges (view (declared_from home (suc alternative) n (cond b (declared home alternative s) s)) f) (view s f)) (sym e) (λ c m i a. declares_acks home alternative s f sound up e c m (later (declared home alternative s) (declares home alternative s up e sound) up c m i a) a)
-    go false e later = subst (λ (b : Bool). NewAcknowledges (view (declared_from home (suc alternative) n (cond b (declared home alternative s) s)) f) (view s f)) (sym e) (later s sound up)
+    go : (b : Bool) → can_declare home alternative s ≡ b
+        → ((t : State) → IsSound t → is_up home t ≡ true
+          → NewAcknowledges (view (declared_from home (suc alternative) n t) f) (view t f))
+        → NewAcknowledges (view (declared_from home alternative (suc n) s) f) (view s f)
+    go true e later = subst (λ (b : Bool). NewAcknowledges
+          (view (declared_from home (suc alternative) n (cond b (declared home alternative s) s)) f) (view s f)) (sym e)
+        (λ c m i a. declares_acks home alternative s f sound up e c m
+          (later (declared home alternative s) (declares home alternative s up e sound) up c m i a) a)
+    go false e later = subst (λ (b : Bool). NewAcknowledges
+          (view (declared_from home (suc alternative) n (cond b (declared home alternative s) s)) f) (view s f)) (sym e)
+        (later s sound up)
 
-pub comes_flow : (k : ℕ) (s f : State) (offered got lost : ℕ → List Message) → IsSound s → is_up k s ≡ true → Flows s f offered got lost → Flows (comes_back k s).state f offered got lost
+pub comes_flow : (k : ℕ) (s f : State) (offered got lost : ℕ → List Message) → IsSound s → is_up k s ≡ true
+    → Flows s f offered got lost → Flows (comes_back k s).state f offered got lost
 comes_flow k s f offered got lost sound up w = go (some_declare k 0 (link_count s) s) refl
   where
     go : (b : Bool) → some_declare k 0 (link_count s) s ≡ b → Flows (comes_back k s).state f offered got lost
@@ -271,5 +303,9 @@ pub comes_acks : (k : ℕ) (s f : State) → IsSound s → is_up k s ≡ true �
 comes_acks k s f sound up = go (some_declare k 0 (link_count s) s) refl
   where
     go : (b : Bool) → some_declare k 0 (link_count s) s ≡ b → NewAcknowledges (view (comes_back k s).state f) (view s f)
-    go true e = subst (λ (b : Bool). NewAcknowledges (view (cond b (record { answer = Done; state = declared_from k 0 (link_count s) s }) (refused s Nothing)).state f) (view s f)) (sym e) (acks_from k 0 (link_count s) s f sound up)
-    go false e = subst (λ (b : Bool). NewAcknowledges (view (cond b (record { answer = Done; state = declared_from k 0 (link_count s) s }) (refused s Nothing)).state f) (view s f)) (sym e) (λ c m i a. i)
+    go true e = subst (λ (b : Bool). NewAcknowledges
+          (view (cond b (record { answer = Done; state = declared_from k 0 (link_count s) s })
+            (refused s Nothing)).state f) (view s f)) (sym e) (acks_from k 0 (link_count s) s f sound up)
+    go false e = subst (λ (b : Bool). NewAcknowledges
+          (view (cond b (record { answer = Done; state = declared_from k 0 (link_count s) s })
+            (refused s Nothing)).state f) (view s f)) (sym e) (λ c m i a. i)

@@ -37,26 +37,41 @@ none_dropped stream (suc n) (row ∷ rows) e = none_dropped stream n rows (go (i
     go false h = rw h at e
 
 -- ROWS THAT TURN, as a filter of those that were there
-pub turned_filter : (test other : Fate → Bool) (fate : Row → Fate) (rows : List Row) → messages (standing other (map (fated fate) (standing test rows))) ≡ messages (filter (λ row. test row.fate && other (fate row)) rows)
+pub turned_filter : (test other : Fate → Bool) (fate : Row → Fate) (rows : List Row)
+    → messages (standing other (map (fated fate) (standing test rows)))
+    ≡ messages (filter (λ row. test row.fate && other (fate row)) rows)
 turned_filter test other fate [] = refl
 turned_filter test other fate (row ∷ rows) = go (test row.fate) (other (fate row)) refl refl (turned_filter test other fate rows)
   where
-    go : (b c : Bool) → test row.fate ≡ b → other (fate row) ≡ c → messages (standing other (map (fated fate) (standing test rows))) ≡ messages (filter (λ r. test r.fate && other (fate r)) rows)
+    go : (b c : Bool) → test row.fate ≡ b → other (fate row) ≡ c
+        → messages (standing other (map (fated fate) (standing test rows)))
+        ≡ messages (filter (λ r. test r.fate && other (fate r)) rows)
         → messages (standing other (map (fated fate) (standing test (row ∷ rows)))) ≡ messages (filter (λ r. test r.fate && other (fate r)) (row ∷ rows))
     go true true e g rest = rw (e, g) (ap (λ (q : List Message). record { number = row.number; body = row.body } ∷ q) rest)
     go true false e g rest = rw (e, g) rest
     go false c e g rest = rw e rest
 
 -- TWO TESTS that tell the same of a stream's rows
-pub picked : (stream : ℕ) (P Q : Row → Bool) (rows : List Row) → Each (λ row. is_of stream (record { number = row.number; body = row.body }) ≡ true → P row ≡ Q row) rows → those_of stream (messages (filter P rows)) ≡ those_of stream (messages (filter Q rows))
+pub picked : (stream : ℕ) (P Q : Row → Bool) (rows : List Row)
+    → Each (λ row. is_of stream (record { number = row.number; body = row.body }) ≡ true → P row ≡ Q row) rows
+    → those_of stream (messages (filter P rows)) ≡ those_of stream (messages (filter Q rows))
 picked stream P Q [] same = refl
-picked stream P Q (row ∷ rows) same = go (is_of stream (record { number = row.number; body = row.body })) refl (P row) (Q row) refl refl (picked stream P Q rows same.1)
+picked stream P Q (row ∷ rows) same =
+    go (is_of stream (record { number = row.number; body = row.body })) refl (P row) (Q row) refl refl
+    (picked stream P Q rows same.1)
   where
-    go : (own : Bool) → is_of stream (record { number = row.number; body = row.body }) ≡ own → (b c : Bool) → P row ≡ b → Q row ≡ c → those_of stream (messages (filter P rows)) ≡ those_of stream (messages (filter Q rows))
+    go : (own : Bool) → is_of stream (record { number = row.number; body = row.body }) ≡ own → (b c : Bool) → P row ≡ b
+        → Q row ≡ c → those_of stream (messages (filter P rows)) ≡ those_of stream (messages (filter Q rows))
         → those_of stream (messages (filter P (row ∷ rows))) ≡ those_of stream (messages (filter Q (row ∷ rows)))
     go own o true true e g rest = rw (e, g) (agrees own o)
       where
-        agrees : (own : Bool) → is_of stream (record { number = row.number; body = row.body }) ≡ own → cond (is_of stream (record { number = row.number; body = row.body })) (record { number = row.number; body = row.body } ∷ those_of stream (messages (filter P rows))) (those_of stream (messages (filter P rows))) ≡ cond (is_of stream (record { number = row.number; body = row.body })) (record { number = row.number; body = row.body } ∷ those_of stream (messages (filter Q rows))) (those_of stream (messages (filter Q rows)))
+        agrees : (own : Bool) → is_of stream (record { number = row.number; body = row.body }) ≡ own
+            → cond (is_of stream (record { number = row.number; body = row.body }))
+            (record { number = row.number; body = row.body } ∷ those_of stream (messages (filter P rows)))
+            (those_of stream (messages (filter P rows)))
+            ≡ cond (is_of stream (record { number = row.number; body = row.body }))
+            (record { number = row.number; body = row.body } ∷ those_of stream (messages (filter Q rows)))
+            (those_of stream (messages (filter Q rows)))
         agrees own o = rw rest refl
     go own o false false e g rest = rw (e, g) rest
     go true o true false e g rest = absurd (let no : true ≡ false = sym e ∙ same.0 o ∙ g in cc)
@@ -69,10 +84,15 @@ never_picked [] = refl
 never_picked (row ∷ rows) = never_picked rows
 
 -- the parts of a queue
-pub none_queued : (stream count l : ℕ) (rows : List Row) → those_of stream (messages (unack l rows)) ≡ [] → those_of stream (messages (wait l rows)) ≡ [] → those_of stream (messages (held l rows)) ≡ [] → those_of stream (queue count l rows) ≡ []
+pub none_queued : (stream count l : ℕ) (rows : List Row) → those_of stream (messages (unack l rows)) ≡ []
+    → those_of stream (messages (wait l rows)) ≡ [] → those_of stream (messages (held l rows)) ≡ []
+    → those_of stream (queue count l rows) ≡ []
 none_queued stream count l rows a b c =
-    ap (those_of stream) (joined (drop count (unack l rows) ++ wait l rows) (held l rows) ∙ ap (λ (q : List Message). q ++ messages (held l rows)) (joined (drop count (unack l rows)) (wait l rows)))
-    ∙ none_both stream (messages (drop count (unack l rows)) ++ messages (wait l rows)) (messages (held l rows)) (none_both stream (messages (drop count (unack l rows))) (messages (wait l rows)) (none_dropped stream count (unack l rows) a) b) c
+    ap (those_of stream) (joined (drop count (unack l rows) ++ wait l rows) (held l rows)
+          ∙ ap (λ (q : List Message). q ++ messages (held l rows)) (joined (drop count (unack l rows)) (wait l rows)))
+    ∙ none_both stream (messages (drop count (unack l rows)) ++ messages (wait l rows)) (messages (held l rows))
+        (none_both stream (messages (drop count (unack l rows))) (messages (wait l rows))
+          (none_dropped stream count (unack l rows) a) b) c
 
 pub each_so : (P Q : Row → Type 0) → ((row : Row) → P row → Q row) → (rows : List Row) → Each P rows → Each Q rows
 each_so P Q so [] each = tt
@@ -87,14 +107,18 @@ pub of_stream : (stream : ℕ) (m : Message) → is_of stream m ≡ true → str
 of_stream stream m own = eqb-true (stream_of m.body) stream (both_true (not (service_indicator m.body == 0)) (stream_of m.body == stream) own).1
 
 -- a test, and all of it or none
-pub and_so : (stream : ℕ) (test : Fate → Bool) (b : Bool) (rows : List Row) → those_of stream (messages (filter (λ row. test row.fate && b) rows)) ≡ cond b (those_of stream (messages (standing test rows))) []
+pub and_so : (stream : ℕ) (test : Fate → Bool) (b : Bool) (rows : List Row)
+    → those_of stream (messages (filter (λ row. test row.fate && b) rows))
+    ≡ cond b (those_of stream (messages (standing test rows))) []
 and_so stream test true rows = picked stream (λ row. test row.fate && true) (λ row. test row.fate) rows (always rows)
   where
     and_true : (c : Bool) → (c && true) ≡ c
     and_true true = refl
     and_true false = refl
 
-    always : (rows : List Row) → Each (λ row. is_of stream (record { number = row.number; body = row.body }) ≡ true → (test row.fate && true) ≡ test row.fate) rows
+    always : (rows : List Row) → Each
+        (λ row. is_of stream (record { number = row.number; body = row.body }) ≡ true
+          → (test row.fate && true) ≡ test row.fate) rows
     always [] = tt
     always (row ∷ rows) = ((λ own. and_true (test row.fate)), always rows)
 and_so stream test false rows = picked stream (λ row. test row.fate && false) (λ row. false) rows (always rows) ∙ ap (those_of stream) (never_picked rows)
@@ -108,12 +132,20 @@ and_so stream test false rows = picked stream (λ row. test row.fate && false) (
     always (row ∷ rows) = ((λ own. and_false (test row.fate)), always rows)
 
 -- fewer of a list of which nothing is of the stream
-pub none_within : (stream : ℕ) (some all : Fate → Bool) → ((fate : Fate) → some fate ≡ true → all fate ≡ true) → (rows : List Row) → those_of stream (messages (standing all rows)) ≡ [] → those_of stream (messages (standing some rows)) ≡ []
+pub none_within : (stream : ℕ) (some all : Fate → Bool) → ((fate : Fate) → some fate ≡ true → all fate ≡ true)
+    → (rows : List Row) → those_of stream (messages (standing all rows)) ≡ []
+    → those_of stream (messages (standing some rows)) ≡ []
 none_within stream some all within [] e = refl
-none_within stream some all within (row ∷ rows) e = go (some row.fate) (all row.fate) (is_of stream (record { number = row.number; body = row.body })) refl refl refl (λ f. none_within stream some all within rows f)
+none_within stream some all within (row ∷ rows) e =
+    go (some row.fate) (all row.fate) (is_of stream (record { number = row.number; body = row.body })) refl refl refl
+    (λ f. none_within stream some all within rows f)
   where
-    go : (b c d : Bool) → some row.fate ≡ b → all row.fate ≡ c → is_of stream (record { number = row.number; body = row.body }) ≡ d → (those_of stream (messages (standing all rows)) ≡ [] → those_of stream (messages (standing some rows)) ≡ []) → those_of stream (messages (standing some (row ∷ rows))) ≡ []
-    go b true true g h k later = let never : record { number = row.number; body = row.body } ∷ those_of stream (messages (standing all rows)) ≡ [] = rw (h, k) at e in absurd cc
+    go : (b c d : Bool) → some row.fate ≡ b → all row.fate ≡ c
+        → is_of stream (record { number = row.number; body = row.body }) ≡ d
+        → (those_of stream (messages (standing all rows)) ≡ [] → those_of stream (messages (standing some rows)) ≡ [])
+        → those_of stream (messages (standing some (row ∷ rows))) ≡ []
+    go b true true g h k later = let never : record { number = row.number; body = row.body } ∷ those_of stream
+        (messages (standing all rows)) ≡ [] = rw (h, k) at e in absurd cc
     go true true false g h k later = rw (g, k) (later (rw (h, k) at e))
     go false true false g h k later = rw g (later (rw (h, k) at e))
     go false false d g h k later = rw g (later (rw h at e))

@@ -53,7 +53,9 @@ module _ (n : ℕ) (link : LinkState) (s f : State) (sound : IsSound s) (at : Is
   rest = messages (wait n s.rows ++ held n s.rows)
 
   queue_is : pending n s f ≡ gone_then ++ rest
-  queue_is = ap messages (append_assoc (drop (accepted_on n f - acked_on n s) (unack n s.rows)) (wait n s.rows) (held n s.rows)) ∙ joined (drop (accepted_on n f - acked_on n s) (unack n s.rows)) (wait n s.rows ++ held n s.rows)
+  queue_is = ap messages (append_assoc (drop (accepted_on n f - acked_on n s) (unack n s.rows)) (wait n s.rows)
+        (held n s.rows)) ∙ joined (drop (accepted_on n f - acked_on n s) (unack n s.rows))
+      (wait n s.rows ++ held n s.rows)
 
   rest_is : pending n after f ≡ rest
   rest_is = own_rest n link s f sound at
@@ -68,11 +70,14 @@ module _ (n : ℕ) (link : LinkState) (s f : State) (sound : IsSound s) (at : Is
   backs c = ap messages (turned_same (is_unacked n) (is_back c) (Discarded Emergency) refl (λ fate e. sent_not_back n c fate e) (length s.rows) s.rows)
 
   -- on its queue, or another
-  by_queue : (P : List Message → List Message → Type 0) → P (gone_then ++ rest) rest → ((q : List Message) → P q q) → (l : ℕ) → P (pending l s f) (pending l after f)
+  by_queue : (P : List Message → List Message → Type 0) → P (gone_then ++ rest) rest → ((q : List Message) → P q q)
+      → (l : ℕ) → P (pending l s f) (pending l after f)
   by_queue P own same l = go (n == l) refl
     where
       go : (b : Bool) → (n == l) ≡ b → P (pending l s f) (pending l after f)
-      go true d = subst (λ (k : ℕ). P (pending k s f) (pending k after f)) (eqb-true n l d) (subst (λ (q : List Message). P q (pending n after f)) (sym queue_is) (subst (λ (q : List Message). P (gone_then ++ rest) q) (sym rest_is) own))
+      go true d = subst (λ (k : ℕ). P (pending k s f) (pending k after f)) (eqb-true n l d)
+          (subst (λ (q : List Message). P q (pending n after f)) (sym queue_is)
+            (subst (λ (q : List Message). P (gone_then ++ rest) q) (sym rest_is) own))
       go false d = subst (λ (q : List Message). P (pending l s f) q) (sym (others l d)) (same (pending l s f))
 
   pub was_in : (m : Message) → In m (view after f) → In m (view s f)
@@ -90,33 +95,47 @@ module _ (n : ℕ) (link : LinkState) (s f : State) (sound : IsSound s) (at : Is
 
   module _ (offered got lost : ℕ → List Message) (w : Flows s f offered got lost) where
     none_left : (stream l : ℕ) → those_of stream (pending l s f) ≡ [] → those_of stream (pending l after f) ≡ []
-    none_left stream = by_queue (λ old new. those_of stream old ≡ [] → those_of stream new ≡ []) (λ e. rest_empty (those_of stream gone_then) (those_of stream rest) (sym (those_joined stream gone_then rest) ∙ e)) (λ q e. e)
+    none_left stream = by_queue (λ old new. those_of stream old ≡ [] → those_of stream new ≡ [])
+        (λ e. rest_empty (those_of stream gone_then) (those_of stream rest)
+          (sym (those_joined stream gone_then rest) ∙ e)) (λ q e. e)
 
     loses_on : (stream l : ℕ) (more : List Message) → Loses stream (pending l s f ++ more) (pending l after f ++ more)
     loses_on stream l more = by_queue (λ old new. Loses stream (old ++ more) (new ++ more))
-        (some_lost (those_of stream (rest ++ more)) (ap (those_of stream) (append_assoc gone_then rest more) ∙ those_joined stream gone_then (rest ++ more)) refl)
+        (some_lost (those_of stream (rest ++ more))
+              (ap (those_of stream) (append_assoc gone_then rest more) ∙ those_joined stream gone_then (rest ++ more))
+            refl)
         (λ q. none_lost refl) l
 
     loses_at : (stream : ℕ) (q : Place) → Loses stream (queue_at q s f) (queue_at q after f)
     loses_at stream (On l) = by_queue (Loses stream) (some_lost (those_of stream rest) (those_joined stream gone_then rest) refl) (λ q. none_lost refl) l
-    loses_at stream (Changing to code via) = subst (λ (b : List Message). Loses stream (pending via s f ++ back_by code s) (pending via after f ++ b)) (sym (backs code)) (loses_on stream via (back_by code s))
+    loses_at stream (Changing to code via) =
+        subst (λ (b : List Message). Loses stream (pending via s f ++ back_by code s) (pending via after f ++ b))
+        (sym (backs code)) (loses_on stream via (back_by code s))
     loses_at stream Nowhere = none_lost aside_same
 
     -- so what is lost is in its order
-    lost_of : (stream : ℕ) → stream < 16 → (old new : List Message) → Loses stream old new → Mixed (got stream ++ those_of stream old) (lost stream) (offered stream) → Fewer (got stream) (those_of stream gone_then) (those_of stream new) (lost stream) (offered stream)
-    lost_of stream low old new (none_lost same) m = record { lost_then = lost stream; mixed = subst (λ (q : List Message). Mixed (got stream ++ those_of stream q) (lost stream) (offered stream)) (sym same) m; of = λ x a. inl a }
+    lost_of : (stream : ℕ) → stream < 16 → (old new : List Message) → Loses stream old new
+        → Mixed (got stream ++ those_of stream old) (lost stream) (offered stream)
+        → Fewer (got stream) (those_of stream gone_then) (those_of stream new) (lost stream) (offered stream)
+    lost_of stream low old new (none_lost same) m =
+        record { lost_then = lost stream;
+          mixed = subst (λ (q : List Message). Mixed (got stream ++ those_of stream q) (lost stream) (offered stream))
+        (sym same) m; of = λ x a. inl a }
     lost_of stream low old new (some_lost more was now) m =
         subst (λ (q : List Message). Fewer (got stream) (those_of stream gone_then) q (lost stream) (offered stream)) (sym now)
-        (fewer (got stream) (those_of stream gone_then) more (lost stream) (offered stream) (subst (λ (q : List Message). Mixed (got stream ++ q) (lost stream) (offered stream)) was m))
+        (fewer (got stream) (those_of stream gone_then) more (lost stream) (offered stream)
+              (subst (λ (q : List Message). Mixed (got stream ++ q) (lost stream) (offered stream)) was m))
 
     each : (stream : ℕ) → stream < 16 → Fewer (got stream) (those_of stream gone_then) (here stream after f) (lost stream) (offered stream)
-    each stream low = lost_of stream low (queue_at (place_of stream s.routing) s f) (queue_at (place_of stream s.routing) after f) (loses_at stream (place_of stream s.routing)) (w.flow stream low)
+    each stream low = lost_of stream low (queue_at (place_of stream s.routing) s f)
+        (queue_at (place_of stream s.routing) after f) (loses_at stream (place_of stream s.routing)) (w.flow stream low)
 
     lost_if : (stream : ℕ) (b : Bool) → nat_lt stream 16 ≡ b → List Message
     lost_if stream true e = (each stream (ltb-true stream 16 e)).lost_then
     lost_if stream false e = lost stream
 
-    mixed_if : (stream : ℕ) → stream < 16 → (b : Bool) (e : nat_lt stream 16 ≡ b) → Mixed (got stream ++ here stream after f) (lost_if stream b e) (offered stream)
+    mixed_if : (stream : ℕ) → stream < 16 → (b : Bool) (e : nat_lt stream 16 ≡ b)
+        → Mixed (got stream ++ here stream after f) (lost_if stream b e) (offered stream)
     unfolding lost_if each
     mixed_if stream low true e = (each stream (ltb-true stream 16 e)).mixed
     mixed_if stream low false e = absurd (grind (arith, nat_tests, low, e))
@@ -132,9 +151,11 @@ module _ (n : ℕ) (link : LinkState) (s f : State) (sound : IsSound s) (at : Is
 
     clear_then : (stream code via : ℕ) → Clear stream code via (view s f) → Clear stream code via (view after f)
     clear_then stream code via old = record {
-      only = λ l d. by_queue (λ was now. NoneDeclares code was → NoneDeclares code now) (λ none m a. none m (last_among m gone_then rest a)) (λ q none. none) l (old.only l d);
+      only = λ l d. by_queue (λ was now. NoneDeclares code was → NoneDeclares code now)
+          (λ none m a. none m (last_among m gone_then rest a)) (λ q none. none) l (old.only l d);
       none_aside = subst (NoneDeclares code) (sym aside_same) old.none_aside;
-      behind = by_queue (λ was now. ClearBehind stream code was → ClearBehind stream code now) (clear_rest stream code gone_then rest) (λ q c. c) via old.behind;
+      behind = by_queue (λ was now. ClearBehind stream code was → ClearBehind stream code now)
+          (clear_rest stream code gone_then rest) (λ q c. c) via old.behind;
     }
       where
         last_among : (m : Message) (xs ys : List Message) → Among m ys → Among m (xs ++ ys)

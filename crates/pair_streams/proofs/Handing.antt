@@ -40,7 +40,8 @@ passes set = handed_in set.history ++ set.state.inbox
 
 handed_joined : (some more : List Entry) → handed_in (some ++ more) ≡ handed_in some ++ handed_in more
 handed_joined [] more = refl
-handed_joined (entry ∷ some) more = ap (λ (q : List (List ℕ)). handed_by entry.answer ++ q) (handed_joined some more) ∙ sym (append_assoc (handed_by entry.answer) (handed_in some) (handed_in more))
+handed_joined (entry ∷ some) more = ap (λ (q : List (List ℕ)). handed_by entry.answer ++ q) (handed_joined some more)
+    ∙ sym (append_assoc (handed_by entry.answer) (handed_in some) (handed_in more))
 
 passes_on : (set : LinkSet) (event : Event) → passes (after set event) ≡ passes set ++ delivered_by (answer_to set event) event
 unfolding passes
@@ -48,7 +49,9 @@ passes_on set event =
     let answer = answer_to set event in
     let entry : Entry = record { who = actor_of event; event = event; answer = answer } in
     let inbox = (step set.state event).state.inbox in
-    ap (λ (q : List (List ℕ)). q ++ inbox) (handed_joined set.history (entry ∷ []) ∙ ap (λ (q : List (List ℕ)). handed_in set.history ++ q) (append-nil (handed_by answer)))
+    ap (λ (q : List (List ℕ)). q ++ inbox)
+        (handed_joined set.history (entry ∷ [])
+          ∙ ap (λ (q : List (List ℕ)). handed_in set.history ++ q) (append-nil (handed_by answer)))
     ∙ append_assoc (handed_in set.history) (handed_by answer) inbox
     ∙ ap (λ (q : List (List ℕ)). handed_in set.history ++ q) (sym (event_passes set.state event))
     ∙ sym (append_assoc (handed_in set.history) set.state.inbox (delivered_by answer event))
@@ -58,9 +61,11 @@ abbrev Takes : Past → LinkSet → Type 0
 Takes past set = (stream : ℕ) → bodies_of stream (passes set) ≡ bodies (past.got stream)
 
 -- an event that delivers nothing
-keeps : (past then : Past) (set : LinkSet) (event : Event) → ((stream : ℕ) → then.got stream ≡ past.got stream) → delivered_by (answer_to set event) event ≡ [] → Takes past set → Takes then (after set event)
+keeps : (past then : Past) (set : LinkSet) (event : Event) → ((stream : ℕ) → then.got stream ≡ past.got stream)
+    → delivered_by (answer_to set event) event ≡ [] → Takes past set → Takes then (after set event)
 keeps past then set event same none t stream =
-    ap (bodies_of stream) (passes_on set event ∙ ap (λ (q : List (List ℕ)). passes set ++ q) none ∙ append-nil (passes set)) ∙ t stream ∙ ap bodies (sym (same stream))
+    ap (bodies_of stream) (passes_on set event ∙ ap (λ (q : List (List ℕ)). passes set ++ q) none
+          ∙ append-nil (passes set)) ∙ t stream ∙ ap bodies (sym (same stream))
 
 own_delivers : (answer : Answer) (event : Event) → has_own_step event ≡ false → delivered_by answer event ≡ []
 own_delivers (Heard report) (HeardEvent link unit) own = absurd cc
@@ -79,7 +84,9 @@ asked_got (Offer body) shown past stream = refl
 asked_got _ shown past stream = refl
 
 -- WHERE A UNIT IS HEARD: its body is the next one that the other end sent
-next_sent : (some : List (List ℕ)) (body : List ℕ) (sent : List Message) → some ++ body ∷ [] ≡ take (length (some ++ body ∷ [])) (bodies sent) → (m : Message) × (slice_get sent (length some) ≡ Some m)
+next_sent : (some : List (List ℕ)) (body : List ℕ) (sent : List Message)
+    → some ++ body ∷ [] ≡ take (length (some ++ body ∷ [])) (bodies sent) → (m : Message)
+    × (slice_get sent (length some) ≡ Some m)
 next_sent [] body [] e = absurd (let no : body ∷ [] ≡ [] = e in cc)
 next_sent [] body (m ∷ sent) e = (m, refl)
 next_sent (x ∷ some) body [] e = absurd (let no : x ∷ (some ++ body ∷ []) ≡ [] = e in cc)
@@ -89,7 +96,8 @@ module _ (k : ℕ) (unit : SignalUnit) (sent : List Message) (past : Past) (set 
   abbrev Joins : Answer → Type 0
   Joins answer =
       let then = past_heard k unit sent (Answered answer) past in
-      then.taken k ≡ take (length (then.taken k)) (bodies sent) → (stream : ℕ) → bodies_of stream (passes set ++ delivered_by answer (HeardEvent k unit)) ≡ bodies (then.got stream)
+      then.taken k ≡ take (length (then.taken k)) (bodies sent) → (stream : ℕ)
+          → bodies_of stream (passes set ++ delivered_by answer (HeardEvent k unit)) ≡ bodies (then.got stream)
 
   none_joins : (stream : ℕ) → bodies_of stream (passes set ++ []) ≡ bodies (past.got stream)
   none_joins stream = ap (bodies_of stream) (append-nil (passes set)) ∙ t stream
@@ -97,11 +105,18 @@ module _ (k : ℕ) (unit : SignalUnit) (sent : List Message) (past : Past) (set 
   none_got : (stream : ℕ) → bodies_of stream (passes set ++ []) ≡ bodies (added_at (stream_of (body_in unit)) [] past.got stream)
   none_got stream = none_joins stream ∙ ap bodies (sym (added_none (stream_of (body_in unit)) stream past.got))
 
-  one_got : (number stream : ℕ) → bodies_of stream (passes set ++ body_in unit ∷ []) ≡ bodies (added_at (stream_of (body_in unit)) (record { number = number; body = body_in unit } ∷ []) past.got stream)
+  one_got : (number stream : ℕ) → bodies_of stream (passes set ++ body_in unit ∷ [])
+      ≡ bodies (added_at (stream_of (body_in unit)) (record { number = number; body = body_in unit } ∷ []) past.got
+        stream)
   one_got number stream = filter-append (λ body. stream == stream_of body) (passes set) (body_in unit ∷ []) ∙ go (stream == stream_of (body_in unit)) refl
     where
-      go : (own : Bool) → (stream == stream_of (body_in unit)) ≡ own → bodies_of stream (passes set) ++ bodies_of stream (body_in unit ∷ []) ≡ bodies (added_at (stream_of (body_in unit)) (record { number = number; body = body_in unit } ∷ []) past.got stream)
-      go true e = rw e (ap (λ (q : List (List ℕ)). q ++ body_in unit ∷ []) (t stream) ∙ sym (map-append (λ (m : Message). m.body) (past.got stream) (record { number = number; body = body_in unit } ∷ [])))
+      go : (own : Bool) → (stream == stream_of (body_in unit)) ≡ own
+          → bodies_of stream (passes set) ++ bodies_of stream (body_in unit ∷ [])
+          ≡ bodies (added_at (stream_of (body_in unit)) (record { number = number; body = body_in unit } ∷ []) past.got
+            stream)
+      go true e = rw e (ap (λ (q : List (List ℕ)). q ++ body_in unit ∷ []) (t stream)
+            ∙ sym (map-append (λ (m : Message). m.body) (past.got stream)
+            (record { number = number; body = body_in unit } ∷ [])))
       go false e = rw e (append-nil (bodies_of stream (passes set)) ∙ t stream)
 
   message_joins : (report : Report) → report.took ≡ TookMessage → Joins (Heard report)
@@ -126,7 +141,9 @@ module _ (k : ℕ) (unit : SignalUnit) (sent : List Message) (past : Past) (set 
   joins Done prefix stream = none_joins stream
   joins (Refused why) prefix stream = none_joins stream
 
-  hears : (past_heard k unit sent (Answered (answer_to set (HeardEvent k unit))) past).taken k ≡ take (length ((past_heard k unit sent (Answered (answer_to set (HeardEvent k unit))) past).taken k)) (bodies sent)
+  hears : (past_heard k unit sent (Answered (answer_to set (HeardEvent k unit))) past).taken k
+      ≡ take (length ((past_heard k unit sent (Answered (answer_to set (HeardEvent k unit))) past).taken k))
+      (bodies sent)
       → Takes (past_heard k unit sent (Answered (answer_to set (HeardEvent k unit))) past) (after set (HeardEvent k unit))
   hears prefix stream = ap (bodies_of stream) (passes_on set (HeardEvent k unit)) ∙ joins (answer_to set (HeardEvent k unit)) prefix stream
 
@@ -142,11 +159,20 @@ module _ (g : Stage) (t : TakeAll g) where
   act_goes : (end : End) (event : Event) → has_own_step event ≡ false → Goes g (Act end event) (acts g.world end event)
   act_goes end event own = go (has_actor g.world (actor_of event)) (is_full (at_end g.world end))
     where
-      shown : (end : End) → Goes g (Act end event) (shows (Answered (answer_to (at_end g.world end) event)) (with_end g.world end (after (at_end g.world end) event)))
-      shown A = λ kept. (keeps g.a (past_asked event (Answered (answer_to g.world.a event)) g.a) g.world.a event (asked_got event (Answered (answer_to g.world.a event)) g.a) (own_delivers (answer_to g.world.a event) event own) t.0, t.1)
-      shown B = λ kept. (t.0, keeps g.b (past_asked event (Answered (answer_to g.world.b event)) g.b) g.world.b event (asked_got event (Answered (answer_to g.world.b event)) g.b) (own_delivers (answer_to g.world.b event) event own) t.1)
+      shown : (end : End) → Goes g (Act end event)
+          (shows (Answered (answer_to (at_end g.world end) event))
+            (with_end g.world end (after (at_end g.world end) event)))
+      shown A = λ kept. (keeps g.a (past_asked event (Answered (answer_to g.world.a event)) g.a) g.world.a event
+            (asked_got event (Answered (answer_to g.world.a event)) g.a)
+          (own_delivers (answer_to g.world.a event) event own) t.0, t.1)
+      shown B = λ kept. (t.0, keeps g.b (past_asked event (Answered (answer_to g.world.b event)) g.b) g.world.b event
+            (asked_got event (Answered (answer_to g.world.b event)) g.b)
+          (own_delivers (answer_to g.world.b event) event own) t.1)
 
-      go : (known full : Bool) → Goes g (Act end event) (cond known (cond full exhausted (shows (Answered (answer_to (at_end g.world end) event)) (with_end g.world end (after (at_end g.world end) event)))) impossible)
+      go : (known full : Bool) → Goes g (Act end event)
+          (cond known (cond full exhausted
+              (shows (Answered (answer_to (at_end g.world end) event))
+            (with_end g.world end (after (at_end g.world end) event)))) impossible)
       go true true = tt
       go true false = shown end
       go false full = tt
@@ -156,13 +182,17 @@ module _ (g : Stage) (t : TakeAll g) where
   own_goes end event false e = act_goes end event e
 
   -- what is sent joins a line, and no set
-  sends : (end : End) (k : ℕ) (answer : Answer) → answer ≡ answer_to (at_end g.world end) (Next k) → Goes g (Emit end k) (shows (Answered answer) (with_sent (with_end g.world end (after (at_end g.world end) (Next k))) end k (Answered answer)))
+  sends : (end : End) (k : ℕ) (answer : Answer) → answer ≡ answer_to (at_end g.world end) (Next k)
+      → Goes g (Emit end k) (shows (Answered answer)
+        (with_sent (with_end g.world end (after (at_end g.world end) (Next k))) end k (Answered answer)))
   sends A k answer e = go answer e
     where
       here : (then : Past) → ((stream : ℕ) → then.got stream ≡ g.a.got stream) → Takes then (after g.world.a (Next k))
       here then same = keeps g.a then g.world.a (Next k) same (next_delivers (answer_to g.world.a (Next k)) k) t.0
 
-      go : (answer : Answer) → answer ≡ answer_to g.world.a (Next k) → Goes g (Emit A k) (shows (Answered answer) (with_sent (with_end g.world A (after g.world.a (Next k))) A k (Answered answer)))
+      go : (answer : Answer) → answer ≡ answer_to g.world.a (Next k)
+          → Goes g (Emit A k) (shows (Answered answer)
+            (with_sent (with_end g.world A (after g.world.a (Next k))) A k (Answered answer)))
       go (Sent unit) e = λ kept. (here (past_sent k g.world.a.state (after g.world.a (Next k)).state g.a) (λ stream. refl), t.1)
       go _ e = λ kept. (here (past_sent k g.world.a.state (after g.world.a (Next k)).state g.a) (λ stream. refl), t.1)
   sends B k answer e = go answer e
@@ -170,14 +200,19 @@ module _ (g : Stage) (t : TakeAll g) where
       here : (then : Past) → ((stream : ℕ) → then.got stream ≡ g.b.got stream) → Takes then (after g.world.b (Next k))
       here then same = keeps g.b then g.world.b (Next k) same (next_delivers (answer_to g.world.b (Next k)) k) t.1
 
-      go : (answer : Answer) → answer ≡ answer_to g.world.b (Next k) → Goes g (Emit B k) (shows (Answered answer) (with_sent (with_end g.world B (after g.world.b (Next k))) B k (Answered answer)))
+      go : (answer : Answer) → answer ≡ answer_to g.world.b (Next k)
+          → Goes g (Emit B k) (shows (Answered answer)
+            (with_sent (with_end g.world B (after g.world.b (Next k))) B k (Answered answer)))
       go (Sent unit) e = λ kept. (t.0, here (past_sent k g.world.b.state (after g.world.b (Next k)).state g.b) (λ stream. refl))
       go _ e = λ kept. (t.0, here (past_sent k g.world.b.state (after g.world.b (Next k)).state g.b) (λ stream. refl))
 
   emit_goes : (end : End) (k : ℕ) → Goes g (Emit end k) (emits g.world end k)
   emit_goes end k = go (has_link g.world k) (is_full (at_end g.world end))
     where
-      go : (known full : Bool) → Goes g (Emit end k) (sends_on end k (cond known (cond full exhausted (shows (Answered (answer_to (at_end g.world end) (Next k))) (with_end g.world end (after (at_end g.world end) (Next k))))) impossible))
+      go : (known full : Bool) → Goes g (Emit end k)
+          (sends_on end k (cond known (cond full exhausted
+                (shows (Answered (answer_to (at_end g.world end) (Next k)))
+            (with_end g.world end (after (at_end g.world end) (Next k))))) impossible))
       go true true = tt
       go true false = sends end k (answer_to (at_end g.world end) (Next k)) refl
       go false full = tt
@@ -189,27 +224,42 @@ module _ (g : Stage) (t : TakeAll g) where
       lost A = λ kept. t
       lost B = λ kept. t
 
-      go : (known within : Bool) → Goes g (Lose end k place) (cond known (cond within (shows Lost (with_line g.world end k (without place (line_to g.world end k)))) impossible) impossible)
+      go : (known within : Bool) → Goes g (Lose end k place)
+          (cond known (cond within (shows Lost (with_line g.world end k (without place (line_to g.world end k))))
+              impossible) impossible)
       go true true = lost end
       go true false = tt
       go false within = tt
 
   -- what arrives is heard, or lost
   abbrev ArriveGoes : (end : End) (k : ℕ) → List SignalUnit → Outcome → Type 0
-  ArriveGoes A k line outcome = OnShows outcome (λ shown new. LinksKeep (with_past A (past_arrived k line (g.b.sent k) shown g.a) new g) → TakeAll (with_past A (past_arrived k line (g.b.sent k) shown g.a) new g))
-  ArriveGoes B k line outcome = OnShows outcome (λ shown new. LinksKeep (with_past B (past_arrived k line (g.a.sent k) shown g.b) new g) → TakeAll (with_past B (past_arrived k line (g.a.sent k) shown g.b) new g))
+  ArriveGoes A k line outcome = OnShows outcome
+      (λ shown new. LinksKeep (with_past A (past_arrived k line (g.b.sent k) shown g.a) new g)
+        → TakeAll (with_past A (past_arrived k line (g.b.sent k) shown g.a) new g))
+  ArriveGoes B k line outcome = OnShows outcome
+      (λ shown new. LinksKeep (with_past B (past_arrived k line (g.a.sent k) shown g.b) new g)
+        → TakeAll (with_past B (past_arrived k line (g.a.sent k) shown g.b) new g))
 
-  reach_goes : (end : End) (k : ℕ) (unit : SignalUnit) (rest : List SignalUnit) → ArriveGoes end k (unit ∷ rest) (reaches (with_line g.world end k rest) end k unit)
+  reach_goes : (end : End) (k : ℕ) (unit : SignalUnit) (rest : List SignalUnit)
+      → ArriveGoes end k (unit ∷ rest) (reaches (with_line g.world end k rest) end k unit)
   reach_goes A k unit rest = go (is_up k g.world.a.state) (has_link g.world k) (is_full g.world.a)
     where
-      go : (up known full : Bool) → ArriveGoes A k (unit ∷ rest) (cond up (cond known (cond full exhausted (shows (Answered (answer_to g.world.a (HeardEvent k unit))) (with_end (with_line g.world A k rest) A (after g.world.a (HeardEvent k unit))))) impossible) (shows Lost (with_line g.world A k rest)))
+      go : (up known full : Bool) → ArriveGoes A k (unit ∷ rest)
+          (cond up (cond known (cond full exhausted
+                (shows (Answered (answer_to g.world.a (HeardEvent k unit)))
+            (with_end (with_line g.world A k rest) A (after g.world.a (HeardEvent k unit))))) impossible)
+          (shows Lost (with_line g.world A k rest)))
       go true true true = tt
       go true true false = λ kept. (hears k unit (g.b.sent k) g.a g.world.a t.0 (kept k).1.prefix, t.1)
       go true false full = tt
       go false known full = λ kept. t
   reach_goes B k unit rest = go (is_up k g.world.b.state) (has_link g.world k) (is_full g.world.b)
     where
-      go : (up known full : Bool) → ArriveGoes B k (unit ∷ rest) (cond up (cond known (cond full exhausted (shows (Answered (answer_to g.world.b (HeardEvent k unit))) (with_end (with_line g.world B k rest) B (after g.world.b (HeardEvent k unit))))) impossible) (shows Lost (with_line g.world B k rest)))
+      go : (up known full : Bool) → ArriveGoes B k (unit ∷ rest)
+          (cond up (cond known (cond full exhausted
+                (shows (Answered (answer_to g.world.b (HeardEvent k unit)))
+            (with_end (with_line g.world B k rest) B (after g.world.b (HeardEvent k unit))))) impossible)
+          (shows Lost (with_line g.world B k rest)))
       go true true true = tt
       go true true false = λ kept. (t.0, hears k unit (g.a.sent k) g.b g.world.b t.1 (kept k).0.prefix)
       go true false full = tt
@@ -234,7 +284,9 @@ module _ (g : Stage) (t : TakeAll g) where
   together_goes : (k : ℕ) → Goes g (Together k) (rises g.world k)
   together_goes k = go (has_link g.world k) (is_settled_at_both g.world k) (is_full g.world.a || is_full g.world.b)
     where
-      go : (known settled full : Bool) → Goes g (Together k) (cond known (cond settled (cond full exhausted (shows CameUp (risen g.world k))) impossible) impossible)
+      go : (known settled full : Bool)
+          → Goes g (Together k) (cond known
+            (cond settled (cond full exhausted (shows CameUp (risen g.world k))) impossible) impossible)
       go true true true = tt
       go true true false = λ kept. (
         keeps g.a (past_risen k g.a) g.world.a (UpEvent k) (λ stream. refl) (up_delivers (answer_to g.world.a (UpEvent k)) k) t.0,
@@ -267,7 +319,10 @@ users_take g t stream = (
   sym (filter-append (λ body. stream == stream_of body) (handed_in g.world.b.history) g.world.b.state.inbox) ∙ t.1 stream,
 )
 
-onward : (g : Stage) (step : Step) (steps : List Step) → ((later : Stage) → TakeAll later → HoldsAlong LinksKeep later steps → HoldsAlong UsersTakeAll later steps) → (outcome : Outcome) → Goes g step outcome → OnShows outcome (λ shown new. HoldsAlong LinksKeep (passed g step shown new) steps)
+onward : (g : Stage) (step : Step) (steps : List Step)
+    → ((later : Stage) → TakeAll later → HoldsAlong LinksKeep later steps → HoldsAlong UsersTakeAll later steps)
+    → (outcome : Outcome) → Goes g step outcome
+    → OnShows outcome (λ shown new. HoldsAlong LinksKeep (passed g step shown new) steps)
     → OnShows outcome (λ shown new. HoldsAlong UsersTakeAll (passed g step shown new) steps)
 onward g step steps next (shows shown new) goes kept = next (passed g step shown new) (goes (at_once LinksKeep (passed g step shown new) steps kept)) kept
 onward g step steps next impossible goes kept = tt
@@ -304,8 +359,12 @@ bodies_first (suc n) (m ∷ messages) = ap (λ (q : List (List ℕ)). m.body ∷
 
 take_first : (g : Stage) → UsersTakeAll g → StreamsArrive g → UsersTakeFirst g
 take_first g all arrive stream low = (
-  prefix_of (taken_of stream g.world.a) (bodies_of stream g.world.a.state.inbox) (bodies (g.b.offered stream)) (length (g.a.got stream)) ((all stream).0 ∙ ap bodies (arrive stream low).1.prefix ∙ bodies_first (length (g.a.got stream)) (g.b.offered stream)),
-  prefix_of (taken_of stream g.world.b) (bodies_of stream g.world.b.state.inbox) (bodies (g.a.offered stream)) (length (g.b.got stream)) ((all stream).1 ∙ ap bodies (arrive stream low).0.prefix ∙ bodies_first (length (g.b.got stream)) (g.a.offered stream)),
+  prefix_of (taken_of stream g.world.a) (bodies_of stream g.world.a.state.inbox) (bodies (g.b.offered stream))
+      (length (g.a.got stream)) ((all stream).0 ∙ ap bodies (arrive stream low).1.prefix
+        ∙ bodies_first (length (g.a.got stream)) (g.b.offered stream)),
+  prefix_of (taken_of stream g.world.b) (bodies_of stream g.world.b.state.inbox) (bodies (g.a.offered stream))
+      (length (g.b.got stream)) ((all stream).1 ∙ ap bodies (arrive stream low).0.prefix
+        ∙ bodies_first (length (g.b.got stream)) (g.a.offered stream)),
 )
 
 -- in every quiet one it's a part of it
@@ -320,7 +379,8 @@ first_of : (some more : List (List ℕ)) → take (length some) (some ++ more) �
 first_of [] more = refl
 first_of (x ∷ some) more = ap (λ (q : List (List ℕ)). x ∷ q) (first_of some more)
 
-takes_part : (some more : List (List ℕ)) (got offered : List Message) → some ++ more ≡ bodies got → IsPart got offered → (part : List Message) × (bodies part ≡ some) × IsPart part offered
+takes_part : (some more : List (List ℕ)) (got offered : List Message) → some ++ more ≡ bodies got → IsPart got offered
+    → (part : List Message) × (bodies part ≡ some) × IsPart part offered
 takes_part some more got offered e p = (
   take (length some) got,
   bodies_first (length some) got ∙ ap (take (length some)) (sym e) ∙ first_of some more,
@@ -329,13 +389,19 @@ takes_part some more got offered e p = (
 
 take_part : (g : Stage) → UsersTakeAll g → PartsArrive g → UsersTakePart g
 take_part g all arrive stream low = (
-  takes_part (taken_of stream g.world.a) (bodies_of stream g.world.a.state.inbox) (g.a.got stream) (g.b.offered stream) (all stream).0 (arrive stream low).1.in_order,
-  takes_part (taken_of stream g.world.b) (bodies_of stream g.world.b.state.inbox) (g.b.got stream) (g.a.offered stream) (all stream).1 (arrive stream low).0.in_order,
+  takes_part (taken_of stream g.world.a) (bodies_of stream g.world.a.state.inbox) (g.a.got stream) (g.b.offered stream)
+      (all stream).0 (arrive stream low).1.in_order,
+  takes_part (taken_of stream g.world.b) (bodies_of stream g.world.b.state.inbox) (g.b.got stream) (g.a.offered stream)
+      (all stream).1 (arrive stream low).0.in_order,
 )
 
 -- both all along
 module _ (Arrive Say : Stage → Type 0) (says : (g : Stage) → UsersTakeAll g → Arrive g → Say g) where
-  both_onward : (g : Stage) (step : Step) (steps : List Step) → ((later : Stage) → HoldsAlong UsersTakeAll later steps → HoldsAlong Arrive later steps → HoldsAlong Say later steps) → (outcome : Outcome) → OnShows outcome (λ shown new. HoldsAlong UsersTakeAll (passed g step shown new) steps) → OnShows outcome (λ shown new. HoldsAlong Arrive (passed g step shown new) steps)
+  both_onward : (g : Stage) (step : Step) (steps : List Step)
+      → ((later : Stage) → HoldsAlong UsersTakeAll later steps → HoldsAlong Arrive later steps
+        → HoldsAlong Say later steps) → (outcome : Outcome)
+      → OnShows outcome (λ shown new. HoldsAlong UsersTakeAll (passed g step shown new) steps)
+      → OnShows outcome (λ shown new. HoldsAlong Arrive (passed g step shown new) steps)
       → OnShows outcome (λ shown new. HoldsAlong Say (passed g step shown new) steps)
   both_onward g step steps next (shows shown new) all arrive = next (passed g step shown new) all arrive
   both_onward g step steps next impossible all arrive = tt
@@ -365,11 +431,17 @@ quiet_honest (Inject end k unit ∷ steps) quiet = absurd quiet.0
 module _ (Say : Stage → Type 0) (says : (g : Stage) → UsersTakeAll g → StreamsArrive g → Say g) where
   pub sound_says : (a b : SetConfig) (steps : List Step) → IsSoundRun a b steps → HoldsAlong Say (begun a b) steps
   sound_says a b steps sound =
-      both_along StreamsArrive Say says (begun a b) steps (every_honest_run_hands_out a b steps (record { links = sound.links; profiles = sound.profiles; one_method = sound.one_method; steps = sound_honest steps sound.steps })) (every_sound_run a b steps sound)
+      both_along StreamsArrive Say says (begun a b) steps
+          (every_honest_run_hands_out a b steps
+            (record { links = sound.links; profiles = sound.profiles; one_method = sound.one_method;
+              steps = sound_honest steps sound.steps })) (every_sound_run a b steps sound)
 
 pub every_sound_run_hands_out : EverySoundRunHandsOutInOrder
 every_sound_run_hands_out = sound_says UsersTakeFirst take_first
 
 pub every_quiet_run_hands_out : EveryQuietRunHandsOutAPart
 every_quiet_run_hands_out a b steps quiet =
-    both_along PartsArrive UsersTakePart take_part (begun a b) steps (every_honest_run_hands_out a b steps (record { links = quiet.links; profiles = quiet.profiles; one_method = quiet.one_method; steps = quiet_honest steps quiet.steps })) (every_quiet_run a b steps quiet)
+    both_along PartsArrive UsersTakePart take_part (begun a b) steps
+        (every_honest_run_hands_out a b steps
+          (record { links = quiet.links; profiles = quiet.profiles; one_method = quiet.one_method;
+            steps = quiet_honest steps quiet.steps })) (every_quiet_run a b steps quiet)

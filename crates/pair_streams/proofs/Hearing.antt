@@ -61,7 +61,9 @@ sent_not_back : (n c : ℕ) (fate : Fate) → is_unacked n fate ≡ true → is_
 sent_not_back n c (Unacked l) e = refl
 sent_not_back n c _ e = absurd cc
 
-module _ (emergencies : Bool) (k : ℕ) (body : List ℕ) (s f : State) (sound : IsSound s) (codes : AreCodes s.settings) (offered got lost far_offered far_got far_lost : ℕ → List Message) (w : Flows s f offered got lost) (v : Flows f s far_offered far_got far_lost) where
+module _ (emergencies : Bool) (k : ℕ) (body : List ℕ) (s f : State) (sound : IsSound s) (codes : AreCodes s.settings)
+    (offered got lost far_offered far_got far_lost : ℕ → List Message) (w : Flows s f offered got lost)
+    (v : Flows f s far_offered far_got far_lost) where
   -- what is lost then was lost before, or is given up; and that in an emergency alone
   pub record Both' (t : State) : Type 0 where
     pub lost_then : ℕ → List Message
@@ -90,7 +92,8 @@ module _ (emergencies : Bool) (k : ℕ) (body : List ℕ) (s f : State) (sound :
       let t = settled (Upto fsn) l link s in
       let so = is_reached fsn l link s f sound at told_so in
       let accepted = settles_accepted fsn l link s f sound at so in
-      by_acks t accepted (settles_flow fsn l link s f sound at so offered got lost w (λ c m i a. far_in s t f accepted m i)) (λ c m i a. was_in fsn l link s f sound at so m i)
+      by_acks t accepted (settles_flow fsn l link s f sound at so offered got lost w
+            (λ c m i a. far_in s t f accepted m i)) (λ c m i a. was_in fsn l link s f sound at so m i)
 
   -- without a number
   blind_so : (l : ℕ) (link : LinkState) → IsAt l link Down s → emergencies ≡ true → Both' (settled Unknown l link s)
@@ -114,12 +117,16 @@ module _ (emergencies : Bool) (k : ℕ) (body : List ℕ) (s f : State) (sound :
     there = told l link s f sound codes at
 
     there_out : Flows there f offered got lost
-    there_out = queues_flow (Coa l (last_accepted link)) left f (left_sound l link s f sound codes at) (λ c d. coa_declares s.settings l (given left) (last_accepted link) c d) offered got lost
-        (leaves_flow false l link s f sound at offered got lost w (λ c m i a. far_in s left f (by_link l link (left_link false link) s left at.there refl (λ n old new. accepted_of new ≡ accepted_of old) refl (λ n old d. refl)) m i))
+    there_out = queues_flow (Coa l (last_accepted link)) left f (left_sound l link s f sound codes at)
+        (λ c d. coa_declares s.settings l (given left) (last_accepted link) c d) offered got lost
+        (leaves_flow false l link s f sound at offered got lost w
+              (λ c m i a. far_in s left f (by_link l link (left_link false link) s left at.there refl
+                (λ n old new. accepted_of new ≡ accepted_of old) refl (λ n old d. refl)) m i))
 
     there_acks : (c : ℕ) (m : Message) → In m (view there f) → Acknowledges c m → In m (view s f)
     there_acks c m i a = left_orders false l link s f sound at (Cba a.link c) m
-        (queues_acks (Coa l (last_accepted link)) left f (left_sound l link s f sound codes at) (λ d x. coa_acknowledges s.settings l (given left) (last_accepted link) d x) c m i a) a.is
+        (queues_acks (Coa l (last_accepted link)) left f (left_sound l link s f sound codes at)
+              (λ d x. coa_acknowledges s.settings l (given left) (last_accepted link) d x) c m i a) a.is
 
     answered_so : (fsn : ℕ) → Told fsn l link s f → Both' (settled (Upto fsn) l (left_link false link) there)
     answered_so fsn told_so =
@@ -129,7 +136,8 @@ module _ (emergencies : Bool) (k : ℕ) (body : List ℕ) (s f : State) (sound :
         let t = settled (Upto fsn) l (left_link false link) there in
         let settled_accepted = settles_accepted fsn l (left_link false link) there f there_sound there_at there_reached in
         by_acks t (λ n. settled_accepted n ∙ told_accepted l link s f sound codes at n)
-        (settles_flow fsn l (left_link false link) there f there_sound there_at there_reached offered got lost there_out (λ c m i a. far_in there t f settled_accepted m i))
+        (settles_flow fsn l (left_link false link) there f there_sound there_at there_reached offered got lost there_out
+              (λ c m i a. far_in there t f settled_accepted m i))
         (λ c m i a. there_acks c m (was_in fsn l (left_link false link) there f there_sound there_at there_reached m i) a)
 
     answered_blind : emergencies ≡ true → Both' (settled Unknown l (left_link false link) there)
@@ -141,14 +149,17 @@ module _ (emergencies : Bool) (k : ℕ) (body : List ℕ) (s f : State) (sound :
         record {
           lost_then = then_lost.lost_then;
           out = then_lost.flows;
-          back = far_carried s t f (λ n. blind_accepted l (left_link false link) there f there_sound there_at n ∙ told_accepted l link s f sound codes at n) far_offered far_got far_lost
+          back = far_carried s t f (λ n. blind_accepted l (left_link false link) there f there_sound there_at n
+                ∙ told_accepted l link s f sound codes at n) far_offered far_got far_lost
               (λ c m i a. there_acks c m (blind_was_in l (left_link false link) there f there_sound there_at m i) a) v;
           of = then_lost.of;
           none = λ e stream. absurd (let never : true ≡ false = sym may ∙ e in cc);
         }
 
   -- a declaration is acknowledged
-  module _ (code : ℕ) (few : code < 256) (none_declared : (m : Message) → In m (view f s) → Declares code m → ⊥) (none_acked : (m : Message) → In m (view s f) → Acknowledges code m → ⊥) (in_use : code_of code f.routing ≡ Free → ⊥)
+  module _ (code : ℕ) (few : code < 256) (none_declared : (m : Message) → In m (view f s) → Declares code m → ⊥)
+      (none_acked : (m : Message) → In m (view s f) → Acknowledges code m → ⊥)
+      (in_use : code_of code f.routing ≡ Free → ⊥)
       (empty : (stream : ℕ) → stream < 16 → (to via : ℕ) → place_of stream f.routing ≡ Changing to code via → those_of stream (pending via f s) ≡ []) where
     acknowledged_so : (l : ℕ) → Both' (queued (Cba l code) s)
     acknowledged_so l = record {
@@ -156,14 +167,19 @@ module _ (emergencies : Bool) (k : ℕ) (body : List ℕ) (s f : State) (sound :
       of = λ stream m a. inl a;
       none = λ e stream. refl;
       out = queues_flow (Cba l code) s f sound (λ c d. cba_declares s.settings l (given s) code c d) offered got lost w;
-      back = acked_flow s (queued (Cba l code) s) f (λ n. refl) code _ few far_offered far_got far_lost v (order_in (Cba l code) s f sound) (λ c a. cba_other s.settings l (given s) code c a) none_declared none_acked in_use empty;
+      back = acked_flow s (queued (Cba l code) s) f (λ n. refl) code _ few far_offered far_got far_lost v
+          (order_in (Cba l code) s f sound) (λ c a. cba_other s.settings l (given s) code c a) none_declared none_acked
+          in_use empty;
     }
 
   -- what waited for an acknowledgement goes home
-  module _ (code : ℕ) (none_declared : (m : Message) → In m (view s f) → Declares code m → ⊥) (none_acked : (m : Message) → In m (view f s) → Acknowledges code m → ⊥)
+  module _ (code : ℕ) (none_declared : (m : Message) → In m (view s f) → Declares code m → ⊥)
+      (none_acked : (m : Message) → In m (view f s) → Acknowledges code m → ⊥)
       (empty : (stream : ℕ) → stream < 16 → (to via : ℕ) → place_of stream s.routing ≡ Changing to code via → those_of stream (pending via s f) ≡ []) where
     released_so : Both' (released code s)
-    released_so = by_acks (released code s) (λ n. refl) (releases_flow code s f sound offered got lost w none_declared none_acked empty) (λ c m i a. gone_orders code s f sound (Cba a.link c) m i a.is)
+    released_so = by_acks (released code s) (λ n. refl)
+        (releases_flow code s f sound offered got lost w none_declared none_acked empty)
+        (λ c m i a. gone_orders code s f sound (Cba a.link c) m i a.is)
 
 -- AN ORDER IS NO USER'S
 module _ (message : Option Message) (body : List ℕ) where
@@ -201,7 +217,8 @@ module _ (message : Option Message) (body : List ℕ) where
   answer_got reached n link Down s = order_got
   answer_got reached n link Settled s = ignored_got
 
-  at_got : (n : ℕ) (s : State) (act : LinkState → Obeyed) → ((link : LinkState) → GotNone (act link).took) → (o : Option LinkState) → GotNone (at_link n s act o).took
+  at_got : (n : ℕ) (s : State) (act : LinkState → Obeyed) → ((link : LinkState) → GotNone (act link).took)
+      → (o : Option LinkState) → GotNone (at_link n s act o).took
   at_got n s act each None = ignored_got
   at_got n s act each (Some link) = each link
 
@@ -230,7 +247,9 @@ rest_of stream m ms e = go (is_of stream m) refl
     go true d = let never : m ∷ those_of stream ms ≡ [] = rw d at e in absurd cc
     go false d = rw d at e
 
-module _ {emergencies : Bool} (mx my : Method) (one : IsOneMethod mx my) (p : Two) (h : HoldsOf mx my p) (v : Streams emergencies p) (k : ℕ) (few : k < length p.near.links) (unit : SignalUnit) (rest : List SignalUnit) (front : units_on k p.back ≡ unit ∷ rest) (link : LinkState) (at : IsAt k link Up p.near) where
+module _ {emergencies : Bool} (mx my : Method) (one : IsOneMethod mx my) (p : Two) (h : HoldsOf mx my p)
+    (v : Streams emergencies p) (k : ℕ) (few : k < length p.near.links) (unit : SignalUnit) (rest : List SignalUnit)
+    (front : units_on k p.back ≡ unit ∷ rest) (link : LinkState) (at : IsAt k link Up p.near) where
   abbrev mid : State
   mid = hearing.mid mx my one p h v.ordered.both k few unit rest front link at
 
@@ -253,7 +272,8 @@ module _ {emergencies : Bool} (mx my : Method) (one : IsOneMethod mx my) (p : Tw
   aside_same = ap messages (hearing.heard_aside mx my one p h v.ordered.both k few unit rest front link at)
 
   backs : (c : ℕ) → back_by c mid ≡ back_by c p.near
-  backs c = ap messages (turned_same (is_unacked k) (is_back c) (Acked k) refl (λ fate e. sent_not_back k c fate e) (hearing.part mx my one p h v.ordered.both k few unit rest front link at).acked p.near.rows)
+  backs c = ap messages (turned_same (is_unacked k) (is_back c) (Acked k) refl (λ fate e. sent_not_back k c fate e)
+        (hearing.part mx my one p h v.ordered.both k few unit rest front link at).acked p.near.rows)
 
   mid_in : (m : Message) → In m (view mid p.far) → In m (view p.near p.far)
   mid_in = same_in p.near mid p.far queues aside_same
@@ -272,10 +292,15 @@ module _ {emergencies : Bool} (mx my : Method) (one : IsOneMethod mx my) (p : Tw
     none : emergencies ≡ false → (stream : ℕ) → lost_then stream ≡ v.out_lost stream
 
   abbrev Got : Type 0
-  Got = (stream : ℕ) → stream < 16 → added_at (stream_of (body_in unit)) (got_by taken.took (slice_get (p.far_past.sent k) (length (p.near_past.taken k))) (body_in unit)) p.near_past.got stream ++ here stream p.far mid ≡ p.near_past.got stream ++ here stream p.far p.near
+  Got = (stream : ℕ) → stream < 16
+      → added_at (stream_of (body_in unit))
+      (got_by taken.took (slice_get (p.far_past.sent k) (length (p.near_past.taken k))) (body_in unit)) p.near_past.got
+      stream ++ here stream p.far mid ≡ p.near_past.got stream ++ here stream p.far p.near
 
   -- nothing is got
-  none_got : (more : List Message) → more ≡ [] → (stream : ℕ) → here stream p.far mid ≡ here stream p.far p.near → added_at (stream_of (body_in unit)) more p.near_past.got stream ++ here stream p.far mid ≡ p.near_past.got stream ++ here stream p.far p.near
+  none_got : (more : List Message) → more ≡ [] → (stream : ℕ) → here stream p.far mid ≡ here stream p.far p.near
+      → added_at (stream_of (body_in unit)) more p.near_past.got stream ++ here stream p.far mid
+      ≡ p.near_past.got stream ++ here stream p.far p.near
   none_got more e stream same =
       ap (λ (x : List Message). added_at (stream_of (body_in unit)) x p.near_past.got stream ++ here stream p.far mid) e
       ∙ ap (λ (x : List Message). x ++ here stream p.far mid) (added_none (stream_of (body_in unit)) stream p.near_past.got)
@@ -284,26 +309,31 @@ module _ {emergencies : Bool} (mx my : Method) (one : IsOneMethod mx my) (p : Tw
   -- NO BODY IS ACCEPTED
   module _ (e : brought (hearing.part mx my one p h v.ordered.both k few unit rest front link at).accept unit ≡ None) where
     none_accepted : (l : ℕ) → accepted_on l mid ≡ accepted_on l p.near
-    none_accepted = by_link k link (hearing.mid_link mx my one p h v.ordered.both k few unit rest front link at) p.near mid at.there refl (λ n old new. accepted_of new ≡ accepted_of old)
+    none_accepted = by_link k link (hearing.mid_link mx my one p h v.ordered.both k few unit rest front link at) p.near
+        mid at.there refl (λ n old new. accepted_of new ≡ accepted_of old)
         (let zero_more = hearing.none_counted mx my one p h v.ordered.both k few unit rest front link at e in omega (arith, zero_more)) (λ n o d. refl)
 
     same_got : (stream : ℕ) → got_then stream ≡ p.near_past.got stream
     same_got stream =
-        ap (λ (x : List Message). added_at (stream_of (body_in unit)) x p.near_past.got stream) (rw e (nothing_got (slice_get (p.far_past.sent k) (length (p.near_past.taken k))) (body_in unit)))
+        ap (λ (x : List Message). added_at (stream_of (body_in unit)) x p.near_past.got stream)
+            (rw e (nothing_got (slice_get (p.far_past.sent k) (length (p.near_past.taken k))) (body_in unit)))
         ∙ added_none (stream_of (body_in unit)) stream p.near_past.got
 
     none_back : Flows p.far mid p.far_past.offered got_then v.back_lost
     none_back =
         let old = far_carried p.near mid p.far none_accepted p.far_past.offered p.near_past.got v.back_lost (λ c m i a. mid_in m i) v.back in
         record {
-          flow = λ stream low. subst (λ (x : List Message). Mixed (x ++ here stream p.far mid) (v.back_lost stream) (p.far_past.offered stream)) (sym (same_got stream)) (old.flow stream low);
+          flow = λ stream low. subst (λ (x : List Message). Mixed (x ++ here stream p.far mid) (v.back_lost stream)
+                (p.far_past.offered stream)) (sym (same_got stream)) (old.flow stream low);
           stands = old.stands;
           unused = old.unused;
           backing = old.backing;
         }
 
     none_then : Then taken.state
-    none_then = subst Then (sym (hearing.none_taken mx my one p h v.ordered.both k few unit rest front link at e)) (record { lost_then = v.out_lost; out = mid_out (far_in p.near mid p.far none_accepted); back = none_back; of = λ stream m a. inl a; none = λ x stream. refl })
+    none_then = subst Then (sym (hearing.none_taken mx my one p h v.ordered.both k few unit rest front link at e))
+        (record { lost_then = v.out_lost; out = mid_out (far_in p.near mid p.far none_accepted); back = none_back;
+            of = λ stream m a. inl a; none = λ x stream. refl })
 
   -- ONE IS: it's the first that was pending at the other
   module _ (body : List ℕ) (e : brought (hearing.part mx my one p h v.ordered.both k few unit rest front link at).accept unit ≡ Some body) where
@@ -329,14 +359,18 @@ module _ {emergencies : Bool} (mx my : Method) (one : IsOneMethod mx my) (p : Tw
     far_gone = hearing.gone mx my one p h v.ordered.both k few unit rest front link at body e
 
     others_same : (l : ℕ) → (k == l) ≡ false → pending l p.far mid ≡ pending l p.far p.near
-    others_same l d = ap (λ (o : Option LinkState). queue (accepted_of o - acked_on l p.far) l p.far.rows) (other_then k link (hearing.mid_link mx my one p h v.ordered.both k few unit rest front link at) p.near mid at.there refl l d)
+    others_same l d = ap (λ (o : Option LinkState). queue (accepted_of o - acked_on l p.far) l p.far.rows)
+        (other_then k link (hearing.mid_link mx my one p h v.ordered.both k few unit rest front link at) p.near mid
+          at.there refl l d)
 
     -- of a queue the first leaves, or nothing
-    by_queue : (P : List Message → List Message → Type 0) → P (first ∷ pending k p.far mid) (pending k p.far mid) → ((q : List Message) → P q q) → (l : ℕ) → P (pending l p.far p.near) (pending l p.far mid)
+    by_queue : (P : List Message → List Message → Type 0) → P (first ∷ pending k p.far mid) (pending k p.far mid)
+        → ((q : List Message) → P q q) → (l : ℕ) → P (pending l p.far p.near) (pending l p.far mid)
     by_queue P own same l = go (k == l) refl
       where
         go : (b : Bool) → (k == l) ≡ b → P (pending l p.far p.near) (pending l p.far mid)
-        go true d = subst (λ (n : ℕ). P (pending n p.far p.near) (pending n p.far mid)) (eqb-true k l d) (subst (λ (q : List Message). P q (pending k p.far mid)) (sym first_is) own)
+        go true d = subst (λ (n : ℕ). P (pending n p.far p.near) (pending n p.far mid)) (eqb-true k l d)
+            (subst (λ (q : List Message). P q (pending k p.far mid)) (sym first_is) own)
         go false d = subst (λ (q : List Message). P (pending l p.far p.near) q) (sym (others_same l d)) (same (pending l p.far p.near))
 
     none_left : (stream l : ℕ) → those_of stream (pending l p.far p.near) ≡ [] → those_of stream (pending l p.far mid) ≡ []
@@ -356,11 +390,15 @@ module _ {emergencies : Bool} (mx my : Method) (one : IsOneMethod mx my) (p : Tw
             let never : first ∷ those_of stream (pending k p.far mid) ≡ [] = sym is_first ∙ none in
             absurd cc
 
-        on_it : (m : ℕ) → (m == k) ≡ true → (more : List Message) → those_of stream (pending m p.far p.near ++ more) ≡ first ∷ those_of stream (pending m p.far mid ++ more)
-        on_it m d more = subst (λ (n : ℕ). those_of stream (pending n p.far p.near ++ more) ≡ first ∷ those_of stream (pending n p.far mid ++ more)) (sym (eqb-true m k d)) (ap (λ (q : List Message). those_of stream (q ++ more)) first_is ∙ rw own refl)
+        on_it : (m : ℕ) → (m == k) ≡ true → (more : List Message)
+            → those_of stream (pending m p.far p.near ++ more) ≡ first ∷ those_of stream (pending m p.far mid ++ more)
+        on_it m d more = subst (λ (n : ℕ). those_of stream (pending n p.far p.near ++ more)
+              ≡ first ∷ those_of stream (pending n p.far mid ++ more)) (sym (eqb-true m k d))
+            (ap (λ (q : List Message). those_of stream (q ++ more)) first_is ∙ rw own refl)
 
         on_case : (m : ℕ) → (m == k) ≡ true → those_of stream (pending m p.far p.near) ≡ first ∷ those_of stream (pending m p.far mid)
-        on_case m d = subst (λ (n : ℕ). those_of stream (pending n p.far p.near) ≡ first ∷ those_of stream (pending n p.far mid)) (sym (eqb-true m k d)) is_first
+        on_case m d = subst (λ (n : ℕ). those_of stream (pending n p.far p.near)
+              ≡ first ∷ those_of stream (pending n p.far mid)) (sym (eqb-true m k d)) is_first
 
         go : (q : Place) → place_of stream p.far.routing ≡ q → those_of stream (queue_at q p.far p.near) ≡ first ∷ those_of stream (queue_at q p.far mid)
         go (On m) is = on_case m (runs_here (On m) is (m == k) refl)
@@ -390,27 +428,39 @@ module _ {emergencies : Bool} (mx my : Method) (one : IsOneMethod mx my) (p : Tw
       got_it : got_by taken.took (slice_get (p.far_past.sent k) (length (p.near_past.taken k))) (body_in unit) ≡ first ∷ []
       got_it =
           ap (λ (t : Took). got_by t (slice_get (p.far_past.sent k) (length (p.near_past.taken k))) (body_in unit)) took_it
-          ∙ ap (λ (m : Option Message). got_by TookMessage m (body_in unit)) (hearing.first_sent mx my one p h v.ordered.both k few unit rest front link at body e)
+          ∙ ap (λ (m : Option Message). got_by TookMessage m (body_in unit))
+              (hearing.first_sent mx my one p h v.ordered.both k few unit rest front link at body e)
           ∙ ap (λ (b : List ℕ). record { number = first.number; body = b } ∷ []) (is_body ∙ sym first_body)
 
       users_got : Got
       users_got stream low = go (stream == stream_of (body_in unit)) refl
         where
-          go : (b : Bool) → (stream == stream_of (body_in unit)) ≡ b → cond b (p.near_past.got stream ++ got_by taken.took (slice_get (p.far_past.sent k) (length (p.near_past.taken k))) (body_in unit)) (p.near_past.got stream) ++ here stream p.far mid ≡ p.near_past.got stream ++ here stream p.far p.near
+          go : (b : Bool) → (stream == stream_of (body_in unit)) ≡ b
+              → cond b (p.near_past.got stream
+                ++ got_by taken.took (slice_get (p.far_past.sent k) (length (p.near_past.taken k))) (body_in unit))
+              (p.near_past.got stream) ++ here stream p.far mid ≡ p.near_past.got stream ++ here stream p.far p.near
           go true d =
               let same : stream ≡ stream_of first.body = eqb-true stream (stream_of (body_in unit)) d ∙ ap stream_of (is_body ∙ sym first_body) in
-              let own : is_of stream first ≡ true = rw (ap (λ (b : List ℕ). service_indicator b == 0) first_body ∙ users, eq-eqb (stream_of first.body) stream (sym same)) refl in
+              let own : is_of stream first ≡ true =
+                  rw (ap (λ (b : List ℕ). service_indicator b == 0) first_body
+                    ∙ users, eq-eqb (stream_of first.body) stream (sym same)) refl in
               ap (λ (x : List Message). p.near_past.got stream ++ x ++ here stream p.far mid) got_it
               ∙ append_assoc (p.near_past.got stream) (first ∷ []) (here stream p.far mid)
               ∙ ap (λ (x : List Message). p.near_past.got stream ++ x) (sym (here_loses stream low own))
           go false d =
-              let apart : (stream_of first.body == stream) ≡ false = ap (λ (b : List ℕ). stream_of b == stream) (first_body ∙ sym is_body) ∙ apart_back stream (stream_of (body_in unit)) d in
-              ap (λ (x : List Message). p.near_past.got stream ++ x) (here_stays stream (rw (ap (λ (b : List ℕ). service_indicator b == 0) first_body ∙ users, apart) refl))
+              let apart : (stream_of first.body == stream) ≡ false =
+                  ap (λ (b : List ℕ). stream_of b == stream) (first_body ∙ sym is_body)
+                  ∙ apart_back stream (stream_of (body_in unit)) d in
+              ap (λ (x : List Message). p.near_past.got stream ++ x)
+                  (here_stays stream (rw (ap (λ (b : List ℕ). service_indicator b == 0) first_body ∙ users, apart)
+                      refl))
 
     -- an order, or what the management ignores
     own_got : (service_indicator body == 0) ≡ true → Got
     own_got own stream low =
-        none_got (got_by taken.took (slice_get (p.far_past.sent k) (length (p.near_past.taken k))) (body_in unit)) (rw (e, own) (obeyed_got (slice_get (p.far_past.sent k) (length (p.near_past.taken k))) (body_in unit) (order_of p.near.settings.profile body) mid)) stream
+        none_got (got_by taken.took (slice_get (p.far_past.sent k) (length (p.near_past.taken k))) (body_in unit))
+            (rw (e, own) (obeyed_got (slice_get (p.far_past.sent k) (length (p.near_past.taken k))) (body_in unit)
+                (order_of p.near.settings.profile body) mid)) stream
         (here_stays stream (rw (ap (λ (b : List ℕ). service_indicator b == 0) first_body ∙ own) refl))
 
     got_some : Got
@@ -433,7 +483,8 @@ module _ {emergencies : Bool} (mx my : Method) (one : IsOneMethod mx my) (p : Tw
 
     mid_back : Flows p.far mid p.far_past.offered got_then v.back_lost
     mid_back = record {
-      flow = λ stream low. subst (λ (x : List Message). Mixed x (v.back_lost stream) (p.far_past.offered stream)) (sym (got_some stream low)) (v.back.flow stream low);
+      flow = λ stream low. subst (λ (x : List Message). Mixed x (v.back_lost stream) (p.far_past.offered stream))
+          (sym (got_some stream low)) (v.back.flow stream low);
       stands = λ stream low. let old = v.back.stands stream low in record { alone = λ l d. none_left stream l (old.alone l d); none_aside = old.none_aside };
       unused = v.back.unused;
       backing = backed p.far p.far p.near mid v.back.backing
@@ -459,12 +510,15 @@ module _ {emergencies : Bool} (mx my : Method) (one : IsOneMethod mx my) (p : Tw
       in_use : code_of code p.far.routing ≡ Free → ⊥
       in_use free = v.back.backing.free_declared code code_few free first first_in declares_first
 
-      empty_there : (stream : ℕ) → stream < 16 → (to via : ℕ) → place_of stream p.far.routing ≡ Changing to code via → those_of stream (pending via p.far mid) ≡ []
+      empty_there : (stream : ℕ) → stream < 16 → (to via : ℕ) → place_of stream p.far.routing ≡ Changing to code via
+          → those_of stream (pending via p.far mid) ≡ []
       empty_there stream low to via is_there =
           let clear = v.back.backing.clear stream low to code via is_there in
           let on_via : (via == k) ≡ true = stands_here clear (via == k) refl in
           subst (λ (n : ℕ). those_of stream (pending n p.far mid) ≡ []) (sym (eqb-true via k on_via))
-          ((subst (ClearBehind stream code) first_is (subst (λ (n : ℕ). ClearBehind stream code (pending n p.far p.near)) (eqb-true via k on_via) clear.behind)).0 declares_first)
+          ((subst (ClearBehind stream code) first_is
+                  (subst (λ (n : ℕ). ClearBehind stream code (pending n p.far p.near)) (eqb-true via k on_via)
+                clear.behind)).0 declares_first)
         where
           stands_here : Clear stream code via (view p.far p.near) → (b : Bool) → (via == k) ≡ b → b ≡ true
           stands_here clear true d = refl
@@ -482,28 +536,47 @@ module _ {emergencies : Bool} (mx my : Method) (one : IsOneMethod mx my) (p : Tw
       none_more_acks m i a = far_gone m i (v.out.backing.one_acked code m first (far_was m i) first_in a acks_first)
 
       empty_here : (stream : ℕ) → stream < 16 → (to via : ℕ) → place_of stream mid.routing ≡ Changing to code via → those_of stream (pending via mid p.far) ≡ []
-      empty_here stream low to via is_there = ap (those_of stream) (queues via) ∙ v.out.backing.answered stream low to code via is_there first first_in acks_first
+      empty_here stream low to via is_there = ap (those_of stream) (queues via)
+          ∙ v.out.backing.answered stream low to code via is_there first first_in acks_first
 
     out_mid : Flows mid p.far p.near_past.offered p.far_past.got v.out_lost
     out_mid = mid_out far_was
 
-    pair_of : (t : State) → Both' emergencies k body mid p.far sound_mid v.ordered.near_codes p.near_past.offered p.far_past.got v.out_lost p.far_past.offered got_then v.back_lost out_mid mid_back t → Then t
+    pair_of : (t : State) → Both' emergencies k body mid p.far sound_mid v.ordered.near_codes p.near_past.offered
+        p.far_past.got v.out_lost p.far_past.offered got_then v.back_lost out_mid mid_back t → Then t
     pair_of t b = record { lost_then = b.lost_then; out = b.out; back = b.back; of = b.of; none = b.none }
 
     obeyed_then : (t : State) → Obeys emergencies k body mid p.far t → Then t
-    obeyed_then t (keeps _ rows links routing none) = pair_of t (still emergencies k body mid p.far sound_mid v.ordered.near_codes p.near_past.offered p.far_past.got v.out_lost p.far_past.offered got_then v.back_lost out_mid mid_back t rows links routing)
-    obeyed_then t (settles fsn l other apart_from there told_so about over) = pair_of t (settled_so emergencies k body mid p.far sound_mid v.ordered.near_codes p.near_past.offered p.far_past.got v.out_lost p.far_past.offered got_then v.back_lost out_mid mid_back fsn l other there told_so)
-    obeyed_then t (answers fsn l other apart_from there told_so about over) = pair_of t (answered_so emergencies k body mid p.far sound_mid v.ordered.near_codes p.near_past.offered p.far_past.got v.out_lost p.far_past.offered got_then v.back_lost out_mid mid_back l other there fsn told_so)
-    obeyed_then t (settles_blind l other may apart_from there about over) = pair_of t (blind_so emergencies k body mid p.far sound_mid v.ordered.near_codes p.near_past.offered p.far_past.got v.out_lost p.far_past.offered got_then v.back_lost out_mid mid_back l other there may)
-    obeyed_then t (answers_blind l other may apart_from there about over) = pair_of t (answered_blind emergencies k body mid p.far sound_mid v.ordered.near_codes p.near_past.offered p.far_past.got v.out_lost p.far_past.offered got_then v.back_lost out_mid mid_back l other there may)
-    obeyed_then t (acknowledges l code is) = pair_of t (acknowledged_so emergencies k body mid p.far sound_mid v.ordered.near_codes p.near_past.offered p.far_past.got v.out_lost p.far_past.offered got_then v.back_lost out_mid mid_back code (code_few l code is) (none_more l code is) (none_acked l code is) (in_use l code is) (empty_there l code is) l)
-    obeyed_then t (releases l code is) = pair_of t (released_so emergencies k body mid p.far sound_mid v.ordered.near_codes p.near_past.offered p.far_past.got v.out_lost p.far_past.offered got_then v.back_lost out_mid mid_back code (none_declared l code is) (none_more_acks l code is) (empty_here l code is))
+    obeyed_then t (keeps _ rows links routing none) =
+        pair_of t (still emergencies k body mid p.far sound_mid v.ordered.near_codes p.near_past.offered p.far_past.got
+          v.out_lost p.far_past.offered got_then v.back_lost out_mid mid_back t rows links routing)
+    obeyed_then t (settles fsn l other apart_from there told_so about over) =
+        pair_of t (settled_so emergencies k body mid p.far sound_mid v.ordered.near_codes p.near_past.offered
+          p.far_past.got v.out_lost p.far_past.offered got_then v.back_lost out_mid mid_back fsn l other there told_so)
+    obeyed_then t (answers fsn l other apart_from there told_so about over) =
+        pair_of t (answered_so emergencies k body mid p.far sound_mid v.ordered.near_codes p.near_past.offered
+          p.far_past.got v.out_lost p.far_past.offered got_then v.back_lost out_mid mid_back l other there fsn told_so)
+    obeyed_then t (settles_blind l other may apart_from there about over) =
+        pair_of t (blind_so emergencies k body mid p.far sound_mid v.ordered.near_codes p.near_past.offered
+          p.far_past.got v.out_lost p.far_past.offered got_then v.back_lost out_mid mid_back l other there may)
+    obeyed_then t (answers_blind l other may apart_from there about over) =
+        pair_of t (answered_blind emergencies k body mid p.far sound_mid v.ordered.near_codes p.near_past.offered
+          p.far_past.got v.out_lost p.far_past.offered got_then v.back_lost out_mid mid_back l other there may)
+    obeyed_then t (acknowledges l code is) =
+        pair_of t (acknowledged_so emergencies k body mid p.far sound_mid v.ordered.near_codes p.near_past.offered
+          p.far_past.got v.out_lost p.far_past.offered got_then v.back_lost out_mid mid_back code (code_few l code is)
+        (none_more l code is) (none_acked l code is) (in_use l code is) (empty_there l code is) l)
+    obeyed_then t (releases l code is) =
+        pair_of t (released_so emergencies k body mid p.far sound_mid v.ordered.near_codes p.near_past.offered
+          p.far_past.got v.out_lost p.far_past.offered got_then v.back_lost out_mid mid_back code
+        (none_declared l code is) (none_more_acks l code is) (empty_here l code is))
 
     some_then : Then taken.state
     some_then = obeyed_then taken.state (hearing.some_obeyed mx my one p h v.ordered.both k few unit rest front link at body e)
 
   both_then : Then then_near
-  both_then = subst Then (sym (state_is mx my one p h v.ordered k few unit rest front link at)) (go (brought (hearing.part mx my one p h v.ordered.both k few unit rest front link at).accept unit) refl)
+  both_then = subst Then (sym (state_is mx my one p h v.ordered k few unit rest front link at))
+      (go (brought (hearing.part mx my one p h v.ordered.both k few unit rest front link at).accept unit) refl)
     where
       go : (body : Option (List ℕ)) → brought (hearing.part mx my one p h v.ordered.both k few unit rest front link at).accept unit ≡ body → Then taken.state
       go None e = none_then e
@@ -516,7 +589,8 @@ module _ {emergencies : Bool} (mx my : Method) (one : IsOneMethod mx my) (p : Tw
     back_lost = v.back_lost;
     out = both_then.out;
     back = both_then.back;
-    near_covers = record { managed = covered.managed; numbered = covered.numbered; known = covered.known; gone = λ number q. gone_case number q.0 q.1 (both_then.of q.0 q.1 q.2) q.3 };
+    near_covers = record { managed = covered.managed; numbered = covered.numbered; known = covered.known;
+          gone = λ number q. gone_case number q.0 q.1 (both_then.of q.0 q.1 q.2) q.3 };
     far_covers = v.far_covers;
     near_rises = rising_on p.near_past p.near (HeardEvent k unit) v.near_rises;
     far_rises = v.far_rises;
@@ -527,6 +601,8 @@ module _ {emergencies : Bool} (mx my : Method) (one : IsOneMethod mx my) (p : Tw
       covered : Covered p.near_past v.out_lost then_near
       covered = covers_on _ _ p.near (HeardEvent k unit) (λ body e. absurd cc) v.near_covers
 
-      gone_case : (number stream : ℕ) (m : Message) → Among m (v.out_lost stream) ⊎ (place m.number then_near.rows ≡ Some given_up) → m.number ≡ number → place number then_near.rows ≡ Some given_up
+      gone_case : (number stream : ℕ) (m : Message) → Among m (v.out_lost stream)
+          ⊎ (place m.number then_near.rows ≡ Some given_up) → m.number ≡ number
+          → place number then_near.rows ≡ Some given_up
       gone_case number stream m (inl a) same = covered.gone number (stream, m, a, same)
       gone_case number stream m (inr e) same = subst (λ (n : ℕ). place n then_near.rows ≡ Some given_up) same e

@@ -68,7 +68,8 @@ answer_leaves reached n link Up s = record { inbox = refl; none = λ body. refl 
 answer_leaves reached n link Down s = record { inbox = judged_inbox reached n link s; none = λ body. refl }
 answer_leaves reached n link Settled s = record { inbox = refl; none = λ body. refl }
 
-at_leaves : (n : ℕ) (s : State) (f : LinkState → Obeyed) → ((link : LinkState) → LeavesAlone s (f link)) → (there : Option LinkState) → LeavesAlone s (at_link n s f there)
+at_leaves : (n : ℕ) (s : State) (f : LinkState → Obeyed) → ((link : LinkState) → LeavesAlone s (f link))
+    → (there : Option LinkState) → LeavesAlone s (at_link n s f there)
 at_leaves n s f all None = record { inbox = refl; none = λ body. refl }
 at_leaves n s f all (Some link) = all link
 
@@ -78,9 +79,12 @@ back_leaves code Asked s = record { inbox = refl; none = λ body. refl }
 back_leaves code Spent s = record { inbox = refl; none = λ body. refl }
 
 order_leaves : (order : Order) (s : State) → LeavesAlone s (order_obeyed order s)
-order_leaves (Coo n fsn) s = at_leaves n s (λ link. changed_over (Upto fsn) n link link.phase s) (λ link. over_leaves (Upto fsn) n link link.phase s) (slice_get s.links n)
-order_leaves (Eco n) s = at_leaves n s (λ link. changed_over Unknown n link link.phase s) (λ link. over_leaves Unknown n link link.phase s) (slice_get s.links n)
-order_leaves (Coa n fsn) s = at_leaves n s (λ link. answered (Upto fsn) n link link.phase s) (λ link. answer_leaves (Upto fsn) n link link.phase s) (slice_get s.links n)
+order_leaves (Coo n fsn) s = at_leaves n s (λ link. changed_over (Upto fsn) n link link.phase s)
+    (λ link. over_leaves (Upto fsn) n link link.phase s) (slice_get s.links n)
+order_leaves (Eco n) s = at_leaves n s (λ link. changed_over Unknown n link link.phase s)
+    (λ link. over_leaves Unknown n link link.phase s) (slice_get s.links n)
+order_leaves (Coa n fsn) s = at_leaves n s (λ link. answered (Upto fsn) n link link.phase s)
+    (λ link. answer_leaves (Upto fsn) n link link.phase s) (slice_get s.links n)
 order_leaves (Eca n) s = at_leaves n s (λ link. answered Unknown n link link.phase s) (λ link. answer_leaves Unknown n link link.phase s) (slice_get s.links n)
 order_leaves (Cbd n code) s = record { inbox = refl; none = λ body. refl }
 order_leaves (Cba n code) s = back_leaves code (code_of code s.routing) s
@@ -149,15 +153,25 @@ module _ (s : State) (event : Event) where
       go false = append-nil s.inbox
 
 -- an accepted body of the management goes to the rules of changeover, any other to the inbox
-take_in : (accept : Bool) (unit : SignalUnit) (body : List ℕ) (s : State) → brought accept unit ≡ cond accept (Some body) None → s.inbox ++ message_of (takes (brought accept unit) s).took body ≡ (takes (brought accept unit) s).state.inbox
+take_in : (accept : Bool) (unit : SignalUnit) (body : List ℕ) (s : State)
+    → brought accept unit ≡ cond accept (Some body) None
+    → s.inbox ++ message_of (takes (brought accept unit) s).took body ≡ (takes (brought accept unit) s).state.inbox
 take_in false unit body s e = rw e (append-nil s.inbox)
 take_in true unit body s e = rw e (go (service_indicator body == 0))
   where
-    go : (b : Bool) → s.inbox ++ message_of (cond b (obeyed (order_of s.settings.profile body) s) (record { took = Rattle.set_events.specs.declared.answer.Took.TheVariants.Message; state = record s { inbox = s.inbox ++ body ∷ [] } })).took body ≡ (cond b (obeyed (order_of s.settings.profile body) s) (record { took = Rattle.set_events.specs.declared.answer.Took.TheVariants.Message; state = record s { inbox = s.inbox ++ body ∷ [] } })).state.inbox
-    go true = let alone = obeyed_leaves (order_of s.settings.profile body) s in ap (λ (more : List (List ℕ)). s.inbox ++ more) (alone.none body) ∙ append-nil s.inbox ∙ sym alone.inbox
+    go : (b : Bool) → s.inbox ++ message_of
+        (cond b (obeyed (order_of s.settings.profile body) s)
+          (record { took = Rattle.set_events.specs.declared.answer.Took.TheVariants.Message;
+            state = record s { inbox = s.inbox ++ body ∷ [] } })).took body
+        ≡ (cond b (obeyed (order_of s.settings.profile body) s)
+          (record { took = Rattle.set_events.specs.declared.answer.Took.TheVariants.Message;
+            state = record s { inbox = s.inbox ++ body ∷ [] } })).state.inbox
+    go true = let alone = obeyed_leaves (order_of s.settings.profile body) s in ap
+        (λ (more : List (List ℕ)). s.inbox ++ more) (alone.none body) ∙ append-nil s.inbox ∙ sym alone.inbox
     go false = refl
 
-control_passes : (s : State) (n : ℕ) (unit : SignalUnit) (link : LinkState) → is_heard s.settings.profile unit ≡ true → Passes s (Heard n unit) (controls unit n s link)
+control_passes : (s : State) (n : ℕ) (unit : SignalUnit) (link : LinkState) → is_heard s.settings.profile unit ≡ true
+    → Passes s (Heard n unit) (controls unit n s link)
 control_passes s n (Fisu head) link fits = append-nil s.inbox
 control_passes s n (Lssu head status) link fits = absurd cc
 control_passes s n (Msu head body) link fits =

@@ -38,7 +38,9 @@ module _ (P : ℕ → List ℕ → Type 0) (Q : ℕ → Type 0) where
     pub gone : (number : ℕ) → Q number → place number s.rows ≡ Some given_up
 
   -- rows that keep their bodies
-  covers_kept : (s t : State) → t.settings ≡ s.settings → t.finished ≡ s.finished → length t.rows ≡ length s.rows → IsNumbered (given s) t.rows → ((number : ℕ) → body_at number t.rows ≡ body_at number s.rows) → Stays given_up s.rows t.rows → Covers s → Covers t
+  covers_kept : (s t : State) → t.settings ≡ s.settings → t.finished ≡ s.finished → length t.rows ≡ length s.rows
+      → IsNumbered (given s) t.rows → ((number : ℕ) → body_at number t.rows ≡ body_at number s.rows)
+      → Stays given_up s.rows t.rows → Covers s → Covers t
   covers_kept s t settings left long numbered bodies stays c = record {
     managed = subst IsManaged (sym settings) c.managed;
     numbered = numbered_on s t left long numbered;
@@ -47,41 +49,61 @@ module _ (P : ℕ → List ℕ → Type 0) (Q : ℕ → Type 0) where
   }
 
   -- a new row has its own body
-  last_row : (number : ℕ) (row : Row) (rows : List Row) (body : List ℕ) → body_at number (rows ++ row ∷ []) ≡ Some body → (body_at number rows ≡ Some body) ⊎ ((row.number ≡ number) × (row.body ≡ body))
+  last_row : (number : ℕ) (row : Row) (rows : List Row) (body : List ℕ) → body_at number (rows ++ row ∷ []) ≡ Some body
+      → (body_at number rows ≡ Some body) ⊎ ((row.number ≡ number) × (row.body ≡ body))
   last_row number row [] body e = go (row.number == number) refl e
     where
-      go : (b : Bool) → (row.number == number) ≡ b → body_at number (row ∷ []) ≡ Some body → (body_at number [] ≡ Some body) ⊎ ((row.number ≡ number) × (row.body ≡ body))
+      go : (b : Bool) → (row.number == number) ≡ b → body_at number (row ∷ []) ≡ Some body
+          → (body_at number [] ≡ Some body) ⊎ ((row.number ≡ number) × (row.body ≡ body))
       go true h e = let same : Some row.body ≡ Some body = rw h at e in inr (eqb-true row.number number h, cc)
       go false h e = let no : None ≡ Some body = rw h at e in absurd cc
   last_row number row (r ∷ rows) body e = go (r.number == number) refl e (λ f. last_row number row rows body f)
     where
-      go : (b : Bool) → (r.number == number) ≡ b → body_at number ((r ∷ rows) ++ row ∷ []) ≡ Some body → (body_at number (rows ++ row ∷ []) ≡ Some body → (body_at number rows ≡ Some body) ⊎ ((row.number ≡ number) × (row.body ≡ body))) → (body_at number (r ∷ rows) ≡ Some body) ⊎ ((row.number ≡ number) × (row.body ≡ body))
+      go : (b : Bool) → (r.number == number) ≡ b → body_at number ((r ∷ rows) ++ row ∷ []) ≡ Some body
+          → (body_at number (rows ++ row ∷ []) ≡ Some body → (body_at number rows ≡ Some body)
+            ⊎ ((row.number ≡ number) × (row.body ≡ body))) → (body_at number (r ∷ rows) ≡ Some body)
+          ⊎ ((row.number ≡ number) × (row.body ≡ body))
       go true h e later = inl (rw h (rw h at e))
       go false h e later = cases (later (rw h at e))
         where
-          cases : (body_at number rows ≡ Some body) ⊎ ((row.number ≡ number) × (row.body ≡ body)) → (body_at number (r ∷ rows) ≡ Some body) ⊎ ((row.number ≡ number) × (row.body ≡ body))
+          cases : (body_at number rows ≡ Some body) ⊎ ((row.number ≡ number) × (row.body ≡ body))
+              → (body_at number (r ∷ rows) ≡ Some body) ⊎ ((row.number ≡ number) × (row.body ≡ body))
           cases (inl f) = inl (rw h f)
           cases (inr f) = inr f
 
-  pub covers_appended : (s t : State) (body : List ℕ) (fate : Fate) → t.settings ≡ s.settings → t.finished ≡ s.finished → t.rows ≡ appended (given s) s.rows body fate → ((service_indicator body == 0) ≡ false → P (given s) body) → Covers s → Covers t
+  pub covers_appended : (s t : State) (body : List ℕ) (fate : Fate) → t.settings ≡ s.settings → t.finished ≡ s.finished
+      → t.rows ≡ appended (given s) s.rows body fate → ((service_indicator body == 0) ≡ false → P (given s) body)
+      → Covers s → Covers t
   covers_appended s t body fate settings left rows new c = record {
     managed = subst IsManaged (sym settings) c.managed;
-    numbered = subst (λ (n : ℕ). IsNumbered n t.rows) (sym (one_more s t body fate left rows)) (rw rows (numbered_appended (given s) s.rows body fate c.numbered));
+    numbered = subst (λ (n : ℕ). IsNumbered n t.rows) (sym (one_more s t body fate left rows))
+        (rw rows (numbered_appended (given s) s.rows body fate c.numbered));
     known = λ number other e users. go number other users (last_row number (new_row (given s) body fate) s.rows other (ap (body_at number) (sym rows) ∙ e));
     gone = λ number q. rw rows (joined_stay given_up s.rows _ number (c.gone number q));
   }
     where
-      go : (number : ℕ) (other : List ℕ) → (service_indicator other == 0) ≡ false → (body_at number s.rows ≡ Some other) ⊎ ((given s ≡ number) × (body ≡ other)) → P number other
+      go : (number : ℕ) (other : List ℕ) → (service_indicator other == 0) ≡ false → (body_at number s.rows ≡ Some other)
+          ⊎ ((given s ≡ number) × (body ≡ other)) → P number other
       go number other users (inl e) = c.known number other e users
-      go number other users (inr e) = subst (λ (n : ℕ). P n other) e.0 (subst (λ (b : List ℕ). P (given s) b) e.1 (new (ap (λ (b : List ℕ). service_indicator b == 0) e.1 ∙ users)))
+      go number other users (inr e) =
+          subst (λ (n : ℕ). P n other) e.0
+          (subst (λ (b : List ℕ). P (given s) b) e.1 (new (ap (λ (b : List ℕ). service_indicator b == 0) e.1 ∙ users)))
 
-  order_covers : (order : Order) (s t : State) (fate : Fate) → t.settings ≡ s.settings → t.finished ≡ s.finished → t.rows ≡ appended (given s) s.rows (text s.settings.profile order s.settings.sio s.settings.dpc s.settings.opc) fate → Covers s → Covers t
-  order_covers order s t fate settings left rows c = covers_appended s t (text s.settings.profile order s.settings.sio s.settings.dpc s.settings.opc) fate settings left rows
-      (λ users. let own : (s.settings.sio % 16 == 0) ≡ true = eq-eqb (s.settings.sio % 16) 0 c.managed in let no : true ≡ false = sym own ∙ users in absurd cc) c
+  order_covers : (order : Order) (s t : State) (fate : Fate) → t.settings ≡ s.settings → t.finished ≡ s.finished
+      → t.rows ≡ appended (given s) s.rows (text s.settings.profile order s.settings.sio s.settings.dpc s.settings.opc)
+      fate → Covers s → Covers t
+  order_covers order s t fate settings left rows c =
+      covers_appended s t (text s.settings.profile order s.settings.sio s.settings.dpc s.settings.opc) fate settings
+      left rows
+      (λ users. let own : (s.settings.sio % 16 == 0) ≡ true =
+            eq-eqb (s.settings.sio % 16) 0 c.managed in let no : true ≡ false = sym own ∙ users in absurd cc) c
 
-  moved_covers : (test : Fate → Bool) (fate : Row → Fate) (s t : State) → test given_up ≡ false → t.settings ≡ s.settings → t.finished ≡ s.finished → t.rows ≡ moved test fate s.rows → Covers s → Covers t
+  moved_covers : (test : Fate → Bool) (fate : Row → Fate) (s t : State) → test given_up ≡ false
+      → t.settings ≡ s.settings → t.finished ≡ s.finished → t.rows ≡ moved test fate s.rows → Covers s → Covers t
   moved_covers test fate s t off settings left rows c =
-      covers_kept s t settings left (rw rows (moved_length test fate s.rows)) (rw rows (moved_numbered test fate (given s) s.rows c.numbered)) (λ number. ap (body_at number) rows ∙ body_moved test fate (given s) number s.rows c.numbered)
+      covers_kept s t settings left (rw rows (moved_length test fate s.rows))
+          (rw rows (moved_numbered test fate (given s) s.rows c.numbered))
+          (λ number. ap (body_at number) rows ∙ body_moved test fate (given s) number s.rows c.numbered)
       (rw rows (moved_stay given_up test off (given s) fate s.rows c.numbered)) c
 
   small : (Known : ℕ → Type 0) (May : Type 0) → KeptBy Known May (λ s t. Covers s → Covers t)
@@ -92,22 +114,30 @@ module _ (P : ℕ → List ℕ → Type 0) (Q : ℕ → Type 0) where
     queues = λ order s c. order_covers order s (queued order s) (fate_on (target s.links)) refl refl refl c;
     leaves = λ blind n link s known at c. moved_covers (is_back_to n) _ s (left_by blind n link s) refl refl refl refl c;
     acknowledges = λ count n link s known at few g c.
-        covers_kept s _ refl refl g.kept.count (g.kept.numbered (given s) c.numbered) (g.kept.bodies (given s) c.numbered) (turned_stay given_up (is_unacked n) refl (Acked n) count s.rows) c;
+        covers_kept s _ refl refl g.kept.count (g.kept.numbered (given s) c.numbered)
+            (g.kept.bodies (given s) c.numbered) (turned_stay given_up (is_unacked n) refl (Acked n) count s.rows) c;
     gives_up = λ was_sent cause n link s known at g c.
         let off = cond_both was_sent (is_unacked n) (is_waiting n) (λ test. test given_up ≡ false) (λ e. refl) (λ e. refl) in
-        covers_kept s _ refl refl g.kept.count (g.kept.numbered (given s) c.numbered) (g.kept.bodies (given s) c.numbered) (changed_stay given_up (cond was_sent (is_unacked n) (is_waiting n)) off (Discarded cause) s.rows) c;
+        covers_kept s _ refl refl g.kept.count (g.kept.numbered (given s) c.numbered)
+            (g.kept.bodies (given s) c.numbered)
+            (changed_stay given_up (cond was_sent (is_unacked n) (is_waiting n)) off (Discarded cause) s.rows) c;
     moves_off = λ told n link s known at c. moved_covers (is_on n) _ s (moved_over told n link s) refl refl refl refl c;
     answers = λ n link s known at c. covers_kept s (with_link n (answered_link link) s) refl refl refl c.numbered (λ number. refl) (λ number e. e) c;
     withdraws = λ count n link s known at g c.
-        covers_kept s (withdrawn count n s) refl refl g.kept.count (g.kept.numbered (given s) c.numbered) (g.kept.bodies (given s) c.numbered) (turned_stay given_up (is_waiting n) refl (Discarded NoAnswerCame) count s.rows) c;
-    declares = λ may home alternative s up can c. order_covers (Cbd home (code_for home alternative)) s (declared home alternative s) (Waiting alternative) refl refl refl c;
+        covers_kept s (withdrawn count n s) refl refl g.kept.count (g.kept.numbered (given s) c.numbered)
+            (g.kept.bodies (given s) c.numbered)
+            (turned_stay given_up (is_waiting n) refl (Discarded NoAnswerCame) count s.rows) c;
+    declares = λ may home alternative s up can c. order_covers (Cbd home (code_for home alternative)) s
+        (declared home alternative s) (Waiting alternative) refl refl refl c;
     releases = λ code s known c. moved_covers (is_back code) _ s (released code s) refl refl refl refl c;
   }
 
   sends_covers : (choice : Choice) (n : ℕ) (link : LinkState) (s : State) → Covers s → Covers (sends choice n s link).state
   sends_covers (again place) n link s c = covers_kept s _ refl refl refl c.numbered (λ number. refl) (λ number e. e) c
   sends_covers fill n link s c = covers_kept s _ refl refl refl c.numbered (λ number. refl) (λ number e. e) c
-  sends_covers first n link s c = let k = (sent n s.rows).kept in covers_kept s _ refl refl k.count (k.numbered (given s) c.numbered) (k.bodies (given s) c.numbered) (turned_stay given_up (is_waiting n) refl (Unacked n) 1 s.rows) c
+  sends_covers first n link s c = let k =
+      (sent n s.rows).kept in covers_kept s _ refl refl k.count (k.numbered (given s) c.numbered)
+      (k.bodies (given s) c.numbered) (turned_stay given_up (is_waiting n) refl (Unacked n) 1 s.rows) c
 
   -- every event but an offer
   pub covers_on : (s : State) (event : Event) → ((body : List ℕ) → event ≡ Offer body → ⊥) → Covers s → Covers (step s event).state
@@ -120,7 +150,10 @@ module _ (P : ℕ → List ℕ → Type 0) (Q : ℕ → Type 0) where
     sends = λ n link t e keeps at g. sends_covers (choice_of (octets_in (unack n t.rows)) link.control (window_of n link t.rows)) n link t (keeps c);
     hears = λ n unit link e fits at g.
         let count = (part_of link.control (window_of n link s.rows) (head_of unit) (is_msu unit)).acked in
-        covers_kept s _ refl refl g.kept.count (g.kept.numbered (given s) c.numbered) (g.kept.bodies (given s) c.numbered) (turned_stay given_up (is_unacked n) refl (Acked n) count s.rows) c;
+        covers_kept s _ refl refl g.kept.count (g.kept.numbered (given s) c.numbered)
+            (g.kept.bodies (given s) c.numbered) (turned_stay given_up (is_unacked n) refl (Acked n) count s.rows) c;
     rises = λ n link e at u.
-        covers_kept s _ refl refl u.kept.count (u.kept.numbered (given s) c.numbered) (u.kept.bodies (given s) c.numbered) (moved_stay given_up is_parked refl (given s) (all_with (Waiting n)) s.rows c.numbered) c;
+        covers_kept s _ refl refl u.kept.count (u.kept.numbered (given s) c.numbered)
+            (u.kept.bodies (given s) c.numbered)
+            (moved_stay given_up is_parked refl (given s) (all_with (Waiting n)) s.rows c.numbered) c;
   })

@@ -56,7 +56,8 @@ module _ (s t f : State) (queues : (l : ℕ) → pending l t f ≡ pending l s f
           }
 
       pub same_flow : NewAcknowledges (view f t) (view f s) → Flows t f offered got lost
-      same_flow acknowledges = carried s t f f offered got lost w same_kept (λ c few e. inl (ap (code_of c) (sym routing) ∙ e)) (λ c m i d. same_in m i) acknowledges
+      same_flow acknowledges = carried s t f f offered got lost w same_kept
+          (λ c few e. inl (ap (code_of c) (sym routing) ∙ e)) (λ c m i d. same_in m i) acknowledges
 
 -- A MESSAGE STANDS LAST
 module _ (z : Message) (stream : ℕ) where
@@ -68,13 +69,17 @@ module _ (z : Message) (stream : ℕ) where
   those_out b h old new (ungrown e q) = ap (those_of stream) q
   those_out b h old new (grown e q) = absurd (let no : true ≡ false = sym e ∙ h in cc)
 
-  pub those_in : is_of stream z ≡ true → (b : Bool) → b ≡ true → (old new : List Message) → Grows z b old new → those_of stream new ≡ those_of stream old ++ z ∷ []
+  pub those_in : is_of stream z ≡ true → (b : Bool) → b ≡ true → (old new : List Message) → Grows z b old new
+      → those_of stream new ≡ those_of stream old ++ z ∷ []
   those_in own b h old new (ungrown e q) = absurd (let no : true ≡ false = sym h ∙ e in cc)
   those_in own b h old new (grown e q) = ap (those_of stream) q ∙ those_joined stream old (z ∷ []) ∙ rw own refl
 
-  clear_stays : (code : ℕ) → is_of stream z ≡ false → (b : Bool) (old new : List Message) → Grows z b old new → ClearBehind stream code old → ClearBehind stream code new
+  clear_stays : (code : ℕ) → is_of stream z ≡ false → (b : Bool) (old new : List Message) → Grows z b old new
+      → ClearBehind stream code old → ClearBehind stream code new
   clear_stays code other b old new (ungrown e q) c = subst (ClearBehind stream code) (sym q) c
-  clear_stays code other b old new (grown e q) c = subst (ClearBehind stream code) (sym q) (clear_joined stream code old (z ∷ []) c (one_none stream z other) ((λ d. refl), tt))
+  clear_stays code other b old new (grown e q) c =
+      subst (ClearBehind stream code) (sym q)
+      (clear_joined stream code old (z ∷ []) c (one_none stream z other) ((λ d. refl), tt))
 
 grows_among : (z : Message) (b : Bool) (old new : List Message) → Grows z b old new → (m : Message) → Among m new → Among m old ⊎ ((m ≡ z) × (b ≡ true))
 grows_among z b old new (ungrown e q) m a = inl (subst (Among m) q a)
@@ -85,12 +90,15 @@ grows_among z b old new (grown e q) m a = go (among_joined m old (z ∷ []) (sub
     go (inr (inl same)) = inr (same, e)
     go (inr (inr x)) = absurd x
 
-module _ (s t f : State) (body : List ℕ) (fate : Fate) (rows : t.rows ≡ appended (given s) s.rows body fate) (links : t.links ≡ s.links) (new : (l : ℕ) → IsNew (accepted_on l f - acked_on l s) l (given s) s.rows body fate) where
+module _ (s t f : State) (body : List ℕ) (fate : Fate) (rows : t.rows ≡ appended (given s) s.rows body fate)
+    (links : t.links ≡ s.links) (new : (l : ℕ) → IsNew (accepted_on l f - acked_on l s) l (given s) s.rows body fate)
+    where
   abbrev pub z : Message
   z = new_message (given s) body
 
   pub grows_on : (l : ℕ) → Grows z (is_on l fate) (pending l s f) (pending l t f)
-  grows_on l = subst (λ (q : List Message). Grows z (is_on l fate) (pending l s f) q) (rw (rows, links) refl) (grows (accepted_on l f - acked_on l s) l (given s) s.rows body fate (new l))
+  grows_on l = subst (λ (q : List Message). Grows z (is_on l fate) (pending l s f) q) (rw (rows, links) refl)
+      (grows (accepted_on l f - acked_on l s) l (given s) s.rows body fate (new l))
 
   pub grows_aside : Grows z (is_parked fate) (aside s) (aside t)
   grows_aside = subst (λ (q : List Message). Grows z (is_parked fate) (aside s) q) (rw rows refl) (go (is_parked fate) refl)
@@ -124,7 +132,9 @@ module _ (s t f : State) (body : List ℕ) (fate : Fate) (rows : t.rows ≡ appe
     queue_stays (On l) = those_stay z stream other (is_on l fate) (pending l s f) (pending l t f) (grows_on l)
     queue_stays (Changing to code via) =
         those_joined stream (pending via t f) (back_by code t)
-        ∙ ap₂ (λ (x y : List Message). x ++ y) (those_stay z stream other (is_on via fate) (pending via s f) (pending via t f) (grows_on via)) (those_stay z stream other (is_back code fate) (back_by code s) (back_by code t) (grows_back code))
+        ∙ ap₂ (λ (x y : List Message). x ++ y)
+            (those_stay z stream other (is_on via fate) (pending via s f) (pending via t f) (grows_on via))
+            (those_stay z stream other (is_back code fate) (back_by code s) (back_by code t) (grows_back code))
         ∙ sym (those_joined stream (pending via s f) (back_by code s))
     queue_stays Nowhere = those_stay z stream other (is_parked fate) (aside s) (aside t) grows_aside
 
@@ -149,12 +159,16 @@ module _ (s t f : State) (body : List ℕ) (fate : Fate) (rows : t.rows ≡ appe
         aside_case m (inl x) = old.none_aside m x
         aside_case m (inr p) = λ e. none (subst (Declares code) p.0 e)
 
-    module _ (offered got lost : ℕ → List Message) (w : Flows s f offered got lost) (low : stream < 16) (same : place_of stream t.routing ≡ place_of stream s.routing) (used : has_messages stream t.routing ≡ has_messages stream s.routing) (none : (to code via : ℕ) → place_of stream s.routing ≡ Changing to code via → Declares code z → ⊥) where
+    module _ (offered got lost : ℕ → List Message) (w : Flows s f offered got lost) (low : stream < 16)
+        (same : place_of stream t.routing ≡ place_of stream s.routing)
+        (used : has_messages stream t.routing ≡ has_messages stream s.routing)
+        (none : (to code via : ℕ) → place_of stream s.routing ≡ Changing to code via → Declares code z → ⊥) where
       pub apart_kept : Kept stream s t f f
       apart_kept = record {
         here_is = ap (λ (p : Place). those_of stream (queue_at p t f)) same ∙ queue_stays (place_of stream s.routing);
         stands = subst (λ (p : Place). Stands stream p t f) (sym same) (stands_stays (place_of stream s.routing) (w.stands stream low));
         used = used;
         clear = λ to code via e. clear_grows code via (none to code via (sym same ∙ e)) (w.backing.clear stream low to code via (sym same ∙ e));
-        answered = λ to code via e n i a. those_stay z stream other (is_on via fate) (pending via s f) (pending via t f) (grows_on via) ∙ w.backing.answered stream low to code via (sym same ∙ e) n i a;
+        answered = λ to code via e n i a. those_stay z stream other (is_on via fate) (pending via s f) (pending via t f)
+            (grows_on via) ∙ w.backing.answered stream low to code via (sym same ∙ e) n i a;
       }

@@ -79,7 +79,8 @@ module _ (code : ℕ) (s f : State) (sound : IsSound s) where
     queues = releases_queues code s f sound up
 
     users_added : (l : ℕ) (m : Message) → Among m (adds l) → order_any m.body ≡ None
-    users_added l m a = gained_users (is_back code) (all_with (Waiting to_home)) (code_back code) s.rows (unsent_home code s f sound) s.routing sound.backs l m a
+    users_added l m a = gained_users (is_back code) (all_with (Waiting to_home)) (code_back code) s.rows
+        (unsent_home code s f sound) s.routing sound.backs l m a
 
     users_parked : (m : Message) → Among m (messages (parked rows_turned)) → order_any m.body ≡ None
     users_parked m a = turned_users (is_back code) (all_with (Waiting to_home)) (code_back code) s.routing is_parked s.rows sound.backs m a
@@ -99,12 +100,14 @@ module _ (code : ℕ) (s f : State) (sound : IsSound s) where
   gone_orders order m i is = go (is_up to_home s) refl
     where
       go : (b : Bool) → is_up to_home s ≡ b → In m (view s f)
-      go true up = added_order s gone f (adds up) (messages (parked rows_turned)) (queues up) (releases_aside code s f sound) (users_added up) (users_parked up) order m i is
+      go true up = added_order s gone f (adds up) (messages (parked rows_turned)) (queues up)
+          (releases_aside code s f sound) (users_added up) (users_parked up) order m i is
       go false down = same_in s gone f (queues_same down) (aside_stays down) m i
 
   module _ (offered got lost : ℕ → List Message) (w : Flows s f offered got lost) where
     module _ (up : is_up to_home s ≡ true) where
-      parts : (other : Fate → Bool) (b : Bool) (stream : ℕ) → other (Waiting to_home) ≡ b → those_of stream (messages (standing other rows_turned)) ≡ cond b (those_of stream (back_by code s)) []
+      parts : (other : Fate → Bool) (b : Bool) (stream : ℕ) → other (Waiting to_home) ≡ b
+          → those_of stream (messages (standing other rows_turned)) ≡ cond b (those_of stream (back_by code s)) []
       parts other b stream e =
           ap (those_of stream) (turned_filter (is_back code) other (all_with (Waiting to_home)) s.rows)
           ∙ ap (λ (c : Bool). those_of stream (messages (filter (λ row. is_back code row.fate && c) s.rows))) e
@@ -118,7 +121,8 @@ module _ (code : ℕ) (s f : State) (sound : IsSound s) where
           ∙ append-nil (cond (to_home == l) (those_of stream (back_by code s)) [])
 
       aside_same : (stream : ℕ) → those_of stream (aside gone) ≡ those_of stream (aside s)
-      aside_same stream = ap (those_of stream) (releases_aside code s f sound) ∙ joins_none stream (aside s) (messages (parked rows_turned)) (parts is_parked false stream refl)
+      aside_same stream = ap (those_of stream) (releases_aside code s f sound)
+          ∙ joins_none stream (aside s) (messages (parked rows_turned)) (parts is_parked false stream refl)
 
       -- one that doesn't come back by it
       module _ (stream : ℕ) (low : stream < 16) (p : Place) (is : place_of stream s.routing ≡ p) (other : waits_by p code ≡ false) where
@@ -141,18 +145,23 @@ module _ (code : ℕ) (s f : State) (sound : IsSound s) where
 
           stays_kept : Kept stream s gone f f
           stays_kept = record {
-            here_is = ap (λ (q : Place). those_of stream (queue_at q gone f)) then_is ∙ queue_is ∙ ap (λ (q : Place). those_of stream (queue_at q s f)) (sym is);
-            stands = subst (λ (q : Place). Stands stream q gone f) (sym then_is) (let old = subst (λ (q : Place). Stands stream q s f) is (w.stands stream low) in record {
+            here_is = ap (λ (q : Place). those_of stream (queue_at q gone f)) then_is ∙ queue_is
+                ∙ ap (λ (q : Place). those_of stream (queue_at q s f)) (sym is);
+            stands = subst (λ (q : Place). Stands stream q gone f) (sym then_is)
+                (let old = subst (λ (q : Place). Stands stream q s f) is (w.stands stream low) in record {
               alone = λ l e. queue_same l ∙ old.alone l e;
               none_aside = λ e. aside_same stream ∙ old.none_aside e;
             });
             used = used_then stream low;
-            clear = λ to c via e. added_clear s gone f (adds up) (messages (parked rows_turned)) (queues up) (releases_aside code s f sound) (users_added up) (users_parked up) stream c via (adds_none via) (w.backing.clear stream low to c via (is ∙ sym then_is ∙ e));
+            clear = λ to c via e. added_clear s gone f (adds up) (messages (parked rows_turned)) (queues up)
+                (releases_aside code s f sound) (users_added up) (users_parked up) stream c via (adds_none via)
+                (w.backing.clear stream low to c via (is ∙ sym then_is ∙ e));
             answered = λ to c via e n i a. queue_same via ∙ w.backing.answered stream low to c via (is ∙ sym then_is ∙ e) n i a;
           }
 
       -- one that does: nothing of it is pending where it came from
-      module _ (stream : ℕ) (low : stream < 16) (to c via : ℕ) (is : place_of stream s.routing ≡ Changing to c via) (own : (c == code) ≡ true) (empty : those_of stream (pending via s f) ≡ []) where
+      module _ (stream : ℕ) (low : stream < 16) (to c via : ℕ) (is : place_of stream s.routing ≡ Changing to c via)
+          (own : (c == code) ≡ true) (empty : those_of stream (pending via s f) ≡ []) where
         on_home : place_of stream gone.routing ≡ On to
         on_home = place_then stream low ∙ ap (place_back code) is ∙ rw own refl
 
@@ -214,11 +223,15 @@ module _ (code : ℕ) (s f : State) (sound : IsSound s) where
           }
 
     -- EITHER WAY
-    module _ (none_declared : (m : Message) → In m (view s f) → Declares code m → ⊥) (none_acked : (m : Message) → In m (view f s) → Acknowledges code m → ⊥) (empty : (stream : ℕ) → stream < 16 → (to via : ℕ) → place_of stream s.routing ≡ Changing to code via → those_of stream (pending via s f) ≡ []) where
+    module _ (none_declared : (m : Message) → In m (view s f) → Declares code m → ⊥)
+        (none_acked : (m : Message) → In m (view f s) → Acknowledges code m → ⊥)
+        (empty : (stream : ℕ) → stream < 16 → (to via : ℕ) → place_of stream s.routing ≡ Changing to code via
+          → those_of stream (pending via s f) ≡ []) where
       each_kept : (b : Bool) → is_up to_home s ≡ b → (stream : ℕ) → stream < 16 → Kept stream s gone f f
       each_kept b u stream low = go b u (place_of stream s.routing) refl
         where
-          back_case : (b : Bool) → is_up to_home s ≡ b → (to c via : ℕ) → place_of stream s.routing ≡ Changing to c via → (own : Bool) → (c == code) ≡ own → Kept stream s gone f f
+          back_case : (b : Bool) → is_up to_home s ≡ b → (to c via : ℕ) → place_of stream s.routing ≡ Changing to c via
+              → (own : Bool) → (c == code) ≡ own → Kept stream s gone f f
           back_case true up to c via is true own =
               let same : c ≡ code = eqb-true c code own in
               goes_kept up stream low to c via is own (empty stream low to via (is ∙ ap (λ (n : ℕ). Changing to n via) same))
@@ -244,7 +257,9 @@ module _ (code : ℕ) (s f : State) (sound : IsSound s) where
             (λ m i d. none_declared m (gone_orders (Cbd d.link c) m i d.is) (subst (λ (n : ℕ). Declares n m) (eqb-true c code same) d)),
             (λ m i d. none_acked m i (subst (λ (n : ℕ). Acknowledges n m) (eqb-true c code same) d)),
           )
-          go false other = inl (ap (λ (b : Bool). cond b Free (code_of c s.routing)) (sym other) ∙ sym ((route.codes_alone s.routing c sound.routing few).back_code code) ∙ e)
+          go false other = inl (ap (λ (b : Bool). cond b Free (code_of c s.routing)) (sym other)
+                ∙ sym ((route.codes_alone s.routing c sound.routing few).back_code code) ∙ e)
 
       pub releases_flow : Flows gone f offered got lost
-      releases_flow = carried s gone f f offered got lost w (each_kept (is_up to_home s) refl) gone_freed (λ c m i d. gone_orders (Cbd d.link c) m i d.is) (λ c m i a. i)
+      releases_flow = carried s gone f f offered got lost w (each_kept (is_up to_home s) refl) gone_freed
+          (λ c m i d. gone_orders (Cbd d.link c) m i d.is) (λ c m i a. i)

@@ -23,7 +23,8 @@ pub rest_none : (xs ys : List Message) → xs ++ ys ≡ [] → ys ≡ []
 rest_none [] ys e = e
 rest_none (x ∷ xs) ys e = absurd cc
 
-module _ (k : ℕ) (s t f g : State) (sound : IsSound s) (a : Rises k s t) (b : Rises k f g) (routing : t.routing ≡ raised k s.routing) (backs : (c : ℕ) → back_by c t ≡ back_by c s) where
+module _ (k : ℕ) (s t f g : State) (sound : IsSound s) (a : Rises k s t) (b : Rises k f g)
+    (routing : t.routing ≡ raised k s.routing) (backs : (c : ℕ) → back_by c t ≡ back_by c s) where
   same_at : (l : ℕ) → (k == l) ≡ false → pending l t g ≡ pending l s f
   same_at l d =
       ap (λ (i : ℕ). queue (i - acked_on l t) l t.rows) (ap accepted_of (b.links l d))
@@ -67,7 +68,8 @@ module _ (k : ℕ) (s t f g : State) (sound : IsSound s) (a : Rises k s t) (b : 
     from_aside = ap (those_of stream) own_is
 
     -- on the link, where nothing of it is on another
-    module _ (then_is : place_of stream t.routing ≡ On k) (here_is : those_of stream (pending k t g) ≡ here stream s f) (none : (l : ℕ) → (k == l) ≡ false → those_of stream (pending l s f) ≡ []) where
+    module _ (then_is : place_of stream t.routing ≡ On k) (here_is : those_of stream (pending k t g) ≡ here stream s f)
+        (none : (l : ℕ) → (k == l) ≡ false → those_of stream (pending l s f) ≡ []) where
       on_kept : Kept stream s t f g
       on_kept = record {
         here_is = ap (λ (q : Place). those_of stream (queue_at q t g)) then_is ∙ here_is;
@@ -81,7 +83,9 @@ module _ (k : ℕ) (s t f g : State) (sound : IsSound s) (a : Rises k s t) (b : 
       }
 
     -- it stays where it is, on another link or from one
-    module _ (p : Place) (l : ℕ) (is : place_of stream s.routing ≡ p) (then_is : place_of stream t.routing ≡ p) (other : (k == l) ≡ false) (by : (m : ℕ) → runs_by p m ≡ (l == m)) (somewhere : runs_nowhere p ≡ false) (queue_is : those_of stream (queue_at p t g) ≡ those_of stream (queue_at p s f)) where
+    module _ (p : Place) (l : ℕ) (is : place_of stream s.routing ≡ p) (then_is : place_of stream t.routing ≡ p)
+        (other : (k == l) ≡ false) (by : (m : ℕ) → runs_by p m ≡ (l == m)) (somewhere : runs_nowhere p ≡ false)
+        (queue_is : those_of stream (queue_at p t g) ≡ those_of stream (queue_at p s f)) where
       old : Stands stream p s f
       old = subst (λ (q : Place). Stands stream q s f) is (w.stands stream low)
 
@@ -98,7 +102,9 @@ module _ (k : ℕ) (s t f g : State) (sound : IsSound s) (a : Rises k s t) (b : 
         stands = subst (λ (q : Place). Stands stream q t g) (sym then_is) (record { alone = none_on; none_aside = λ e. ap (those_of stream) aside_none });
         used = used_then;
         clear = λ to c v e. clear_case to c v (sym then_is ∙ e);
-        answered = λ to c v e n i x. ap (those_of stream) (same_at v (ap (λ (m : ℕ). k == m) (sym (via_is to c v (sym then_is ∙ e))) ∙ other)) ∙ w.backing.answered stream low to c v (is ∙ sym then_is ∙ e) n i x;
+        answered = λ to c v e n i x. ap (those_of stream)
+            (same_at v (ap (λ (m : ℕ). k == m) (sym (via_is to c v (sym then_is ∙ e))) ∙ other))
+            ∙ w.backing.answered stream low to c v (is ∙ sym then_is ∙ e) n i x;
       }
         where
           clear_case : (to c v : ℕ) → p ≡ Changing to c v → Clear stream c v (view t g)
@@ -120,9 +126,12 @@ module _ (k : ℕ) (s t f g : State) (sound : IsSound s) (a : Rises k s t) (b : 
       where
         -- one that never had a message has none anywhere
         none_here : has_messages stream s.routing ≡ false → here stream s f ≡ []
-        none_here e = rest_none (got stream) (here stream s f) (subst (λ (x : List Message). Mixed (got stream ++ here stream s f) (lost stream) x) (w.unused stream low e) (w.flow stream low)).0
+        none_here e = rest_none (got stream) (here stream s f)
+            (subst (λ (x : List Message). Mixed (got stream ++ here stream s f) (lost stream) x) (w.unused stream low e)
+              (w.flow stream low)).0
 
-        on_case : (m : ℕ) → place_of stream s.routing ≡ On m → (home used : Bool) → (stream % s.routing.links == k) ≡ home → has_messages stream s.routing ≡ used → Kept stream s t f g
+        on_case : (m : ℕ) → place_of stream s.routing ≡ On m → (home used : Bool)
+            → (stream % s.routing.links == k) ≡ home → has_messages stream s.routing ≡ used → Kept stream s t f g
         on_case m is true false h u =
             let before : those_of stream (pending m s f) ≡ [] = ap (λ (q : Place). those_of stream (queue_at q s f)) (sym is) ∙ none_here u in
             let stood = subst (λ (q : Place). Stands stream q s f) is (w.stands stream low) in
@@ -130,24 +139,33 @@ module _ (k : ℕ) (s t f g : State) (sound : IsSound s) (a : Rises k s t) (b : 
             (from_aside ∙ stood.none_aside refl ∙ sym (none_here u))
             (λ l d. none_at m before stood l (m == l) refl)
           where
-            none_at : (m : ℕ) → those_of stream (pending m s f) ≡ [] → Stands stream (On m) s f → (l : ℕ) (c : Bool) → (m == l) ≡ c → those_of stream (pending l s f) ≡ []
+            none_at : (m : ℕ) → those_of stream (pending m s f) ≡ [] → Stands stream (On m) s f → (l : ℕ) (c : Bool)
+                → (m == l) ≡ c → those_of stream (pending l s f) ≡ []
             none_at m before stood l true e = ap (λ (n : ℕ). those_of stream (pending n s f)) (sym (eqb-true m l e)) ∙ before
             none_at m before stood l false e = stood.alone l e
         on_case m is true true h u = stays_on m is (rw (h, u) refl)
           where
-            stays_on : (m : ℕ) → place_of stream s.routing ≡ On m → place_raised k (stream % s.routing.links) (has_messages stream s.routing) (On m) ≡ On m → Kept stream s t f g
+            stays_on : (m : ℕ) → place_of stream s.routing ≡ On m
+                → place_raised k (stream % s.routing.links) (has_messages stream s.routing) (On m) ≡ On m
+                → Kept stream s t f g
             stays_on m is stays =
                 let other = not_settled m (subst (IsPlaced s.links) is (sound.placed stream low)) in
-                stays_kept (On m) m is (place_then ∙ ap (λ (q : Place). place_raised k (stream % s.routing.links) (has_messages stream s.routing) q) is ∙ stays) other (λ l. refl) refl (ap (those_of stream) (same_at m other)) (λ to c v e. absurd cc)
+                stays_kept (On m) m is (place_then
+                      ∙ ap (λ (q : Place). place_raised k (stream % s.routing.links) (has_messages stream s.routing) q)
+                    is ∙ stays) other (λ l. refl) refl (ap (those_of stream) (same_at m other)) (λ to c v e. absurd cc)
         on_case m is false used h u =
             let other = not_settled m (subst (IsPlaced s.links) is (sound.placed stream low)) in
-            stays_kept (On m) m is (place_then ∙ ap (λ (q : Place). place_raised k (stream % s.routing.links) (has_messages stream s.routing) q) is ∙ rw h refl) other (λ l. refl) refl (ap (those_of stream) (same_at m other)) (λ to c v e. absurd cc)
+            stays_kept (On m) m is (place_then
+                  ∙ ap (λ (q : Place). place_raised k (stream % s.routing.links) (has_messages stream s.routing) q) is
+                ∙ rw h refl) other (λ l. refl) refl (ap (those_of stream) (same_at m other)) (λ to c v e. absurd cc)
 
         go : (p : Place) → place_of stream s.routing ≡ p → Kept stream s t f g
         go (On m) is = on_case m is (stream % s.routing.links == k) (has_messages stream s.routing) refl refl
         go (Changing to code via) is =
             let other = not_settled via (subst (IsPlaced s.links) is (sound.placed stream low)) in
-            stays_kept (Changing to code via) via is (place_then ∙ ap (λ (q : Place). place_raised k (stream % s.routing.links) (has_messages stream s.routing) q) is) other (λ l. refl) refl
+            stays_kept (Changing to code via) via is
+                (place_then ∙ ap (λ (q : Place). place_raised k (stream % s.routing.links)
+                    (has_messages stream s.routing) q) is) other (λ l. refl) refl
             (ap₂ (λ (x y : List Message). those_of stream (x ++ y)) (same_at via other) (backs code)) (λ t c v e. cc)
         go Nowhere is =
             let stood = subst (λ (q : Place). Stands stream q s f) is (w.stands stream low) in
@@ -156,4 +174,6 @@ module _ (k : ℕ) (s t f g : State) (sound : IsSound s) (a : Rises k s t) (b : 
             (λ l d. stood.alone l refl)
 
   pub rises_flow : (offered got lost : ℕ → List Message) → Flows s f offered got lost → NewAcknowledges (view g t) (view f s) → Flows t g offered got lost
-  rises_flow offered got lost w acknowledges = carried s t f g offered got lost w (λ stream low. risen_kept offered got lost w stream low) (λ c few e. inl (ap (code_of c) (sym routing) ∙ e)) (λ c m i d. risen_in m i) acknowledges
+  rises_flow offered got lost w acknowledges =
+      carried s t f g offered got lost w (λ stream low. risen_kept offered got lost w stream low)
+      (λ c few e. inl (ap (code_of c) (sym routing) ∙ e)) (λ c m i d. risen_in m i) acknowledges

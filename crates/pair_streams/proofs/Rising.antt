@@ -37,7 +37,8 @@ rise_part least low (x ∷ part) (y ∷ all) end few (inl p) r =
     let same : x.number ≡ y.number = ap (λ (m : Message). m.number) p.0 in
     let above = r.0 in
     (omega (arith, few, above, same), rise_part (x.number + 1) (y.number + 1) part all end (omega (arith, same)) p.1 r.1)
-rise_part least low (x ∷ part) (y ∷ all) end few (inr p) r = let above = r.0 in rise_part least (y.number + 1) (x ∷ part) all end (omega (arith, few, above)) p r.1
+rise_part least low (x ∷ part) (y ∷ all) end few (inr p) r = let above =
+    r.0 in rise_part least (y.number + 1) (x ∷ part) all end (omega (arith, few, above)) p r.1
 
 -- THE NUMBERS GIVEN OUT never get fewer
 abbrev More : State → State → Type 0
@@ -62,7 +63,9 @@ small Known May = record {
   queues = λ order s. more_appended s (queued order s) _ _ refl refl;
   leaves = λ blind n link s known at. same_many s (left_by blind n link s) refl (moved_length (is_back_to n) _ s.rows);
   acknowledges = λ count n link s known at few g. same_many s (acknowledged_by count n link s) refl g.kept.count;
-  gives_up = λ sent cause n link s known at g. same_many s (record s { rows = changed (cond sent (is_unacked n) (is_waiting n)) (Discarded cause) s.rows }) refl g.kept.count;
+  gives_up = λ sent cause n link s known at g. same_many s
+      (record s { rows = changed (cond sent (is_unacked n) (is_waiting n)) (Discarded cause) s.rows }) refl
+      g.kept.count;
   answers = λ n link s known at. same_many s (with_link n (answered_link link) s) refl refl;
   withdraws = λ count n link s known at g. same_many s (withdrawn count n s) refl g.kept.count;
   moves_off = λ told n link s known at. same_many s (moved_over told n link s) refl (moved_length (is_on n) _ s.rows);
@@ -89,7 +92,8 @@ Rising past s = (stream : ℕ) → RiseTo 0 (past.offered stream) (given s)
 pub rising_on : (past : Past) (s : State) (event : Event) → Rising past s → Rising past (step s event).state
 rising_on past s event r stream = rise_further 0 (past.offered stream) (given s) (given (step s event).state) (never_fewer s event) (r stream)
 
-offer_rises : (past : Past) (s : State) (body : List ℕ) (o : Option SetRefusal) → Rising past s → Rising (past_asked (Offer body) (Answered (offered o s body).answer) past) (offered o s body).state
+offer_rises : (past : Past) (s : State) (body : List ℕ) (o : Option SetRefusal) → Rising past s
+    → Rising (past_asked (Offer body) (Answered (offered o s body).answer) past) (offered o s body).state
 offer_rises past s body (Some why) r stream = go (stream == stream_of body)
   where
     go : (b : Bool) → RiseTo 0 (cond b (past.offered stream ++ []) (past.offered stream)) (given s)
@@ -98,9 +102,13 @@ offer_rises past s body (Some why) r stream = go (stream == stream_of body)
 offer_rises past s body None r stream = go (stream == stream_of body)
   where
     go : (b : Bool) → RiseTo 0 (cond b (past.offered stream ++ new_message (given s) body ∷ []) (past.offered stream)) (given (offered None s body).state)
-    go true = subst (λ (n : ℕ). RiseTo 0 (past.offered stream ++ new_message (given s) body ∷ []) n) (sym (one_more s (offered None s body).state body _ refl refl)) (rise_last 0 (past.offered stream) (given s) (new_message (given s) body) refl (r stream))
-    go false = rise_further 0 (past.offered stream) (given s) (given (offered None s body).state) (more_appended s (offered None s body).state body _ refl refl) (r stream)
+    go true = subst (λ (n : ℕ). RiseTo 0 (past.offered stream ++ new_message (given s) body ∷ []) n)
+        (sym (one_more s (offered None s body).state body _ refl refl))
+        (rise_last 0 (past.offered stream) (given s) (new_message (given s) body) refl (r stream))
+    go false = rise_further 0 (past.offered stream) (given s) (given (offered None s body).state)
+        (more_appended s (offered None s body).state body _ refl refl) (r stream)
 
-pub offers_rise : (past : Past) (s : State) (body : List ℕ) → Rising past s → Rising (past_asked (Offer body) (Answered (step s (Offer body)).answer) past) (step s (Offer body)).state
+pub offers_rise : (past : Past) (s : State) (body : List ℕ) → Rising past s
+    → Rising (past_asked (Offer body) (Answered (step s (Offer body)).answer) past) (step s (Offer body)).state
 unfolding step
 offers_rise past s body r = offer_rises past s body (offer_refusal s.settings.profile s.rows body) r

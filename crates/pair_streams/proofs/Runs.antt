@@ -72,29 +72,37 @@ among_in m [] at e = absurd cc
 among_in m (x ∷ xs) zero e = let same : Some x ≡ Some m = e in let is : x ≡ m = cc in inl (sym is)
 among_in m (x ∷ xs) (suc at) e = inr (among_in m xs at e)
 
-module _ (stream : ℕ) (low : stream < 16) (s f : State) (near far : Past) (lost : ℕ → List Message) (w : Flows s f near.offered far.got lost) (covers : Covered near lost s) (rising : Rising near s) where
+module _ (stream : ℕ) (low : stream < 16) (s f : State) (near far : Past) (lost : ℕ → List Message)
+    (w : Flows s f near.offered far.got lost) (covers : Covered near lost s) (rising : Rising near s) where
   -- an acknowledged message stands nowhere else
   module _ (link : ℕ) (m : Message) (placed : place m.number s.rows ≡ Some (Acked link)) where
-    acked_in : (test : Fate → Bool) → test (Acked link) ≡ false → (at : ℕ) (row : Row) → slice_get (standing test s.rows) at ≡ Some row → m.number ≡ row.number → ⊥
+    acked_in : (test : Fate → Bool) → test (Acked link) ≡ false → (at : ℕ) (row : Row)
+        → slice_get (standing test s.rows) at ≡ Some row → m.number ≡ row.number → ⊥
     acked_in test off at row there number =
-        let row_is : row_of m.number s.rows ≡ Some row = row_in_filter (given s) (λ (r : Row). test r.fate) s.rows at m.number row covers.numbered there (sym number) in
+        let row_is : row_of m.number s.rows ≡ Some row =
+            row_in_filter (given s) (λ (r : Row). test r.fate) s.rows at m.number row covers.numbered there (sym number)
+            in
         let fate : Some row.fate ≡ Some (Acked link) = ap (option_map (λ (r : Row). r.fate)) (sym row_is) ∙ placed in
         let is : row.fate ≡ Acked link = cc in
         let no : true ≡ false = sym (filtered (λ (r : Row). test r.fate) s.rows at row there) ∙ ap test is ∙ off in
         absurd cc
 
     not_pending : (l : ℕ) → Among m (pending l s f) → ⊥
-    not_pending l a = last (among_joined m (messages (drop count (unack l s.rows) ++ wait l s.rows)) (messages (held l s.rows)) (subst (λ (q : List Message). Among m q) (joined (drop count (unack l s.rows) ++ wait l s.rows) (held l s.rows)) a))
+    not_pending l a = last (among_joined m (messages (drop count (unack l s.rows) ++ wait l s.rows))
+          (messages (held l s.rows)) (subst (λ (q : List Message). Among m q)
+          (joined (drop count (unack l s.rows) ++ wait l s.rows) (held l s.rows)) a))
       where
         count : ℕ
         count = accepted_on l f - acked_on l s
 
         first : Among m (messages (drop count (unack l s.rows))) ⊎ Among m (messages (wait l s.rows)) → ⊥
-        first (inl b) = let r = row_among m (drop count (unack l s.rows)) b in acked_in (is_unacked l) refl (count + r.place) r.row (sym (get_rest count r.place (unack l s.rows)) ∙ r.there) r.number_is
+        first (inl b) = let r = row_among m (drop count (unack l s.rows)) b in acked_in (is_unacked l) refl
+            (count + r.place) r.row (sym (get_rest count r.place (unack l s.rows)) ∙ r.there) r.number_is
         first (inr b) = let r = row_among m (wait l s.rows) b in acked_in (is_waiting l) refl r.place r.row r.there r.number_is
 
         last : Among m (messages (drop count (unack l s.rows) ++ wait l s.rows)) ⊎ Among m (messages (held l s.rows)) → ⊥
-        last (inl b) = first (among_joined m (messages (drop count (unack l s.rows))) (messages (wait l s.rows)) (subst (λ (q : List Message). Among m q) (joined (drop count (unack l s.rows)) (wait l s.rows)) b))
+        last (inl b) = first (among_joined m (messages (drop count (unack l s.rows))) (messages (wait l s.rows))
+              (subst (λ (q : List Message). Among m q) (joined (drop count (unack l s.rows)) (wait l s.rows)) b))
         last (inr b) = let r = row_among m (held l s.rows) b in acked_in (is_held l) refl r.place r.row r.there r.number_is
 
     not_aside : Among m (aside s) → ⊥
@@ -132,13 +140,17 @@ module _ (stream : ℕ) (low : stream < 16) (s f : State) (near far : Past) (los
             absurd cc
 
   -- where nothing of it stands
-  empty : (q : Place) → ((l : ℕ) → those_of stream (pending l s f) ≡ []) → those_of stream (aside s) ≡ [] → those_of stream (kept_back s) ≡ [] → those_of stream (queue_at q s f) ≡ []
+  empty : (q : Place) → ((l : ℕ) → those_of stream (pending l s f) ≡ []) → those_of stream (aside s) ≡ []
+      → those_of stream (kept_back s) ≡ [] → those_of stream (queue_at q s f) ≡ []
   empty (On l) none none_aside none_back = none l
-  empty (Changing to code via) none none_aside none_back = none_both stream (pending via s f) (back_by code s) (none via) (none_within stream (is_back code) stands_back (λ fate e. code_back code fate e) s.rows none_back)
+  empty (Changing to code via) none none_aside none_back =
+      none_both stream (pending via s f) (back_by code s) (none via)
+      (none_within stream (is_back code) stands_back (λ fate e. code_back code fate e) s.rows none_back)
   empty Nowhere none none_aside none_back = none_aside
 
   part_of : IsPart (far.got stream) (near.offered stream)
-  part_of = part_first (far.got stream) (here stream s f) (near.offered stream) (mixed_part (far.got stream ++ here stream s f) (lost stream) (near.offered stream) (w.flow stream low))
+  part_of = part_first (far.got stream) (here stream s f) (near.offered stream)
+      (mixed_part (far.got stream ++ here stream s f) (lost stream) (near.offered stream) (w.flow stream low))
 
   once_each : RiseFrom 0 (far.got stream)
   once_each = rise_part 0 0 (far.got stream) (near.offered stream) (given s) (omega arith) part_of (rising stream)
@@ -149,11 +161,15 @@ module _ (stream : ℕ) (low : stream < 16) (s f : State) (near far : Past) (los
     prefix = first_part (far.got stream) (here stream s f) (near.offered stream) all_of;
     once = once_each;
     acked = λ link m own placed body. acked_got link m placed own body;
-    all = λ none none_aside none_back. sym (append-nil (far.got stream)) ∙ ap (λ (x : List Message). far.got stream ++ x) (sym (empty (place_of stream s.routing) none none_aside none_back)) ∙ all_of;
+    all = λ none none_aside none_back. sym (append-nil (far.got stream))
+        ∙ ap (λ (x : List Message). far.got stream ++ x)
+        (sym (empty (place_of stream s.routing) none none_aside none_back)) ∙ all_of;
   }
     where
       all_of : far.got stream ++ here stream s f ≡ near.offered stream
-      all_of = mixed_none (far.got stream ++ here stream s f) (near.offered stream) (subst (λ (l : List Message). Mixed (far.got stream ++ here stream s f) l (near.offered stream)) whole (w.flow stream low))
+      all_of = mixed_none (far.got stream ++ here stream s f) (near.offered stream)
+          (subst (λ (l : List Message). Mixed (far.got stream ++ here stream s f) l (near.offered stream)) whole
+            (w.flow stream low))
 
   -- and where some is
   pub arrives_in_part : ArrivesInPart stream near far s f
@@ -165,7 +181,9 @@ module _ (stream : ℕ) (low : stream < 16) (s f : State) (near far : Past) (los
   }
     where
       got_or_lost : here stream s f ≡ [] → (m : Message) → IsIn m (near.offered stream) → IsIn m (far.got stream) ⊎ (place m.number s.rows ≡ Some given_up)
-      got_or_lost none m offered = go (mixed_among m (far.got stream ++ here stream s f) (lost stream) (near.offered stream) (w.flow stream low) (among_in m (near.offered stream) offered.0 offered.1))
+      got_or_lost none m offered = go
+          (mixed_among m (far.got stream ++ here stream s f) (lost stream) (near.offered stream) (w.flow stream low)
+            (among_in m (near.offered stream) offered.0 offered.1))
         where
           go : Among m (far.got stream ++ here stream s f) ⊎ Among m (lost stream) → IsIn m (far.got stream) ⊎ (place m.number s.rows ≡ Some given_up)
           go (inl a) = inl (is_in m (far.got stream) (subst (Among m) (ap (λ (q : List Message). far.got stream ++ q) none ∙ append-nil (far.got stream)) a))
@@ -186,7 +204,8 @@ no_injection false end k unit safe = safe
 no_injection true end k unit safe = safe
 
 -- other units are under way
-on_lines : {emergencies : Bool} (p : Two) (out back : List (List SignalUnit)) → Streams emergencies p → Streams emergencies (record p { out = out; back = back })
+on_lines : {emergencies : Bool} (p : Two) (out back : List (List SignalUnit)) → Streams emergencies p
+    → Streams emergencies (record p { out = out; back = back })
 on_lines p out back v = record {
   ordered = record { both = v.ordered.both; near_codes = v.ordered.near_codes; far_codes = v.ordered.far_codes };
   out_lost = v.out_lost;
@@ -219,22 +238,30 @@ module _ (emergencies : Bool) (ma mb : Method) (one : IsOneMethod ma mb) where
     act_keeps : (end : End) (event : Event) → IsSafe emergencies (Act end event) → has_own_step event ≡ false → Keeps g (Act end event) (acts g.world end event)
     act_keeps end event sound own = go (has_actor g.world (actor_of event)) (is_full (at_end g.world end))
       where
-        shown : (end : End) → IsSafe emergencies (Act end event) → Keeps g (Act end event) (shows (Answered (answer_to (at_end g.world end) event)) (with_end g.world end (after (at_end g.world end) event)))
+        shown : (end : End) → IsSafe emergencies (Act end event)
+            → Keeps g (Act end event) (shows (Answered (answer_to (at_end g.world end) event))
+              (with_end g.world end (after (at_end g.world end) event)))
         shown A sound = asked_streams (seen A g) h.near_sound v A event own sound
         shown B sound = streams_back _ (asked_streams (seen B g) h_b.near_sound v_b B event own sound)
 
-        go : (known full : Bool) → Keeps g (Act end event) (cond known (cond full exhausted (shows (Answered (answer_to (at_end g.world end) event)) (with_end g.world end (after (at_end g.world end) event)))) impossible)
+        go : (known full : Bool) → Keeps g (Act end event)
+            (cond known (cond full exhausted
+                (shows (Answered (answer_to (at_end g.world end) event))
+              (with_end g.world end (after (at_end g.world end) event)))) impossible)
         go true true = tt
         go true false = shown end sound
         go false full = tt
 
-    own_keeps : (end : End) (event : Event) → IsSafe emergencies (Act end event) → (own : Bool) → has_own_step event ≡ own → Keeps g (Act end event) (cond own impossible (acts g.world end event))
+    own_keeps : (end : End) (event : Event) → IsSafe emergencies (Act end event) → (own : Bool)
+        → has_own_step event ≡ own → Keeps g (Act end event) (cond own impossible (acts g.world end event))
     own_keeps end event sound true e = tt
     own_keeps end event sound false e = act_keeps end event sound e
 
     -- EMIT
     abbrev EmitKeeps : (end : End) (k : ℕ) → Answer → Type 0
-    EmitKeeps end k answer = Streams emergencies (seen A (passed g (Emit end k) (Answered answer) (with_sent (with_end g.world end (after (at_end g.world end) (Next k))) end k (Answered answer))))
+    EmitKeeps end k answer = Streams emergencies
+        (seen A (passed g (Emit end k) (Answered answer)
+            (with_sent (with_end g.world end (after (at_end g.world end) (Next k))) end k (Answered answer))))
 
     emit_a : (k : ℕ) → k < length g.world.a.state.links → (b : Bool) → is_up k g.world.a.state ≡ b → EmitKeeps A k (answer_to g.world.a (Next k))
     emit_a k few true e =
@@ -246,9 +273,11 @@ module _ (emergencies : Bool) (ma mb : Method) (one : IsOneMethod ma mb) where
     emit_b : (k : ℕ) → k < length g.world.b.state.links → (b : Bool) → is_up k g.world.b.state ≡ b → EmitKeeps B k (answer_to g.world.b (Next k))
     emit_b k few true e =
         let at = is_at_up k g.world.b.state e in
-        subst (EmitKeeps B k) (sym (moving.answers_sent mb ma (seen B g) h_b k few at.0 at.1)) (streams_back _ (sends_streams mb ma one_b (seen B g) h_b v_b k _ few at.0 at.1))
+        subst (EmitKeeps B k) (sym (moving.answers_sent mb ma (seen B g) h_b k few at.0 at.1))
+            (streams_back _ (sends_streams mb ma one_b (seen B g) h_b v_b k _ few at.0 at.1))
     emit_b k few false e =
-        subst (EmitKeeps B k) (sym (ap (λ (o : SetOutcome). o.answer) (moving.next_refused k g.world.b.state e).1)) (streams_back _ (sends_none mb ma one_b (seen B g) h_b v_b k _ e))
+        subst (EmitKeeps B k) (sym (ap (λ (o : SetOutcome). o.answer) (moving.next_refused k g.world.b.state e).1))
+            (streams_back _ (sends_none mb ma one_b (seen B g) h_b v_b k _ e))
 
     emit_at : (end : End) (k : ℕ) → k < length g.world.a.state.links → EmitKeeps end k (answer_to (at_end g.world end) (Next k))
     emit_at A k few = emit_a k few (is_up k g.world.a.state) refl
@@ -257,7 +286,11 @@ module _ (emergencies : Bool) (ma mb : Method) (one : IsOneMethod ma mb) where
     emit_keeps : (end : End) (k : ℕ) → Keeps g (Emit end k) (emits g.world end k)
     emit_keeps end k = go (has_link g.world k) refl (is_full (at_end g.world end))
       where
-        go : (known : Bool) → has_link g.world k ≡ known → (full : Bool) → Keeps g (Emit end k) (sends_on end k (cond known (cond full exhausted (shows (Answered (answer_to (at_end g.world end) (Next k))) (with_end g.world end (after (at_end g.world end) (Next k))))) impossible))
+        go : (known : Bool) → has_link g.world k ≡ known → (full : Bool)
+            → Keeps g (Emit end k) (sends_on end k
+              (cond known (cond full exhausted
+                (shows (Answered (answer_to (at_end g.world end) (Next k)))
+              (with_end g.world end (after (at_end g.world end) (Next k))))) impossible))
         go true e true = tt
         go true e false = emit_at end k (ltb-true k (link_count g.world.a.state) e)
         go false e full = tt
@@ -270,7 +303,9 @@ module _ (emergencies : Bool) (ma mb : Method) (one : IsOneMethod ma mb) where
         lost A = on_lines (seen A g) _ _ v
         lost B = on_lines (seen A g) _ _ v
 
-        go : (known within : Bool) → Keeps g (Lose end k place) (cond known (cond within (shows Lost (with_line g.world end k (without place (line_to g.world end k)))) impossible) impossible)
+        go : (known within : Bool) → Keeps g (Lose end k place)
+            (cond known (cond within (shows Lost (with_line g.world end k (without place (line_to g.world end k))))
+                impossible) impossible)
         go true true = lost end
         go true false = tt
         go false within = tt
@@ -282,38 +317,58 @@ module _ (emergencies : Bool) (ma mb : Method) (one : IsOneMethod ma mb) where
 
     -- heard in service, else lost
     module _ (k : ℕ) (few : k < length g.world.a.state.links) (unit : SignalUnit) (rest : List SignalUnit) where
-      heard_a : units_on k g.world.to_a ≡ unit ∷ rest → (link : LinkState) → IsAt k link Up g.world.a.state → ArriveKeeps A k (unit ∷ rest) (shows (Answered (answer_to g.world.a (Heard k unit))) (with_end (with_line g.world A k rest) A (after g.world.a (Heard k unit))))
+      heard_a : units_on k g.world.to_a ≡ unit ∷ rest → (link : LinkState) → IsAt k link Up g.world.a.state
+          → ArriveKeeps A k (unit ∷ rest)
+          (shows (Answered (answer_to g.world.a (Heard k unit)))
+            (with_end (with_line g.world A k rest) A (after g.world.a (Heard k unit))))
       heard_a front link at =
-          subst (λ (answer : Answer). Streams emergencies (seen A (with_past A (past_arrived k (unit ∷ rest) (g.b.sent k) (Answered answer) g.a) (with_end (with_line g.world A k rest) A (after g.world.a (Heard k unit))) g)))
+          subst (λ (answer : Answer). Streams emergencies
+                (seen A (with_past A (past_arrived k (unit ∷ rest) (g.b.sent k) (Answered answer) g.a)
+                  (with_end (with_line g.world A k rest) A (after g.world.a (Heard k unit))) g)))
           (sym (moving.answers_heard ma mb one (seen A g) h k few unit rest front link at))
           (hears_streams ma mb one (seen A g) h v k few unit rest front link at)
 
-      heard_b : units_on k g.world.to_b ≡ unit ∷ rest → (link : LinkState) → IsAt k link Up g.world.b.state → ArriveKeeps B k (unit ∷ rest) (shows (Answered (answer_to g.world.b (Heard k unit))) (with_end (with_line g.world B k rest) B (after g.world.b (Heard k unit))))
+      heard_b : units_on k g.world.to_b ≡ unit ∷ rest → (link : LinkState) → IsAt k link Up g.world.b.state
+          → ArriveKeeps B k (unit ∷ rest)
+          (shows (Answered (answer_to g.world.b (Heard k unit)))
+            (with_end (with_line g.world B k rest) B (after g.world.b (Heard k unit))))
       heard_b front link at =
           let few_b : k < length g.world.b.state.links = omega (arith, few, h.far_links) in
-          subst (λ (answer : Answer). Streams emergencies (seen A (with_past B (past_arrived k (unit ∷ rest) (g.a.sent k) (Answered answer) g.b) (with_end (with_line g.world B k rest) B (after g.world.b (Heard k unit))) g)))
+          subst (λ (answer : Answer). Streams emergencies
+                (seen A (with_past B (past_arrived k (unit ∷ rest) (g.a.sent k) (Answered answer) g.b)
+                  (with_end (with_line g.world B k rest) B (after g.world.b (Heard k unit))) g)))
           (sym (moving.answers_heard mb ma one_b (seen B g) h_b k few_b unit rest front link at))
           (streams_back _ (hears_streams mb ma one_b (seen B g) h_b v_b k few_b unit rest front link at))
 
       reach_a : units_on k g.world.to_a ≡ unit ∷ rest → (rising : Bool) → is_up k g.world.a.state ≡ rising → (known full : Bool)
-          → ArriveKeeps A k (unit ∷ rest) (cond rising (cond known (cond full exhausted (shows (Answered (answer_to g.world.a (Heard k unit))) (with_end (with_line g.world A k rest) A (after g.world.a (Heard k unit))))) impossible) (shows Lost (with_line g.world A k rest)))
+          → ArriveKeeps A k (unit ∷ rest)
+              (cond rising (cond known (cond full exhausted
+                    (shows (Answered (answer_to g.world.a (Heard k unit)))
+                (with_end (with_line g.world A k rest) A (after g.world.a (Heard k unit))))) impossible)
+              (shows Lost (with_line g.world A k rest)))
       reach_a front true e true true = tt
       reach_a front true e true false = let at = is_at_up k g.world.a.state e in heard_a front at.0 at.1
       reach_a front true e false full = tt
       reach_a front false e known full = on_lines (seen A g) _ _ v
 
       reach_b : units_on k g.world.to_b ≡ unit ∷ rest → (rising : Bool) → is_up k g.world.b.state ≡ rising → (known full : Bool)
-          → ArriveKeeps B k (unit ∷ rest) (cond rising (cond known (cond full exhausted (shows (Answered (answer_to g.world.b (Heard k unit))) (with_end (with_line g.world B k rest) B (after g.world.b (Heard k unit))))) impossible) (shows Lost (with_line g.world B k rest)))
+          → ArriveKeeps B k (unit ∷ rest)
+              (cond rising (cond known (cond full exhausted
+                    (shows (Answered (answer_to g.world.b (Heard k unit)))
+                (with_end (with_line g.world B k rest) B (after g.world.b (Heard k unit))))) impossible)
+              (shows Lost (with_line g.world B k rest)))
       reach_b front true e true true = tt
       reach_b front true e true false = let at = is_at_up k g.world.b.state e in heard_b front at.0 at.1
       reach_b front true e false full = tt
       reach_b front false e known full = on_lines (seen A g) _ _ v
 
-    front_a : (k : ℕ) → k < length g.world.a.state.links → (line : List SignalUnit) → units_on k g.world.to_a ≡ line → ArriveKeeps A k line (front_arrives g.world A k line)
+    front_a : (k : ℕ) → k < length g.world.a.state.links → (line : List SignalUnit) → units_on k g.world.to_a ≡ line
+        → ArriveKeeps A k line (front_arrives g.world A k line)
     front_a k few [] e = tt
     front_a k few (unit ∷ rest) e = reach_a k few unit rest e (is_up k g.world.a.state) refl (has_link g.world k) (is_full g.world.a)
 
-    front_b : (k : ℕ) → k < length g.world.a.state.links → (line : List SignalUnit) → units_on k g.world.to_b ≡ line → ArriveKeeps B k line (front_arrives g.world B k line)
+    front_b : (k : ℕ) → k < length g.world.a.state.links → (line : List SignalUnit) → units_on k g.world.to_b ≡ line
+        → ArriveKeeps B k line (front_arrives g.world B k line)
     front_b k few [] e = tt
     front_b k few (unit ∷ rest) e = reach_b k few unit rest e (is_up k g.world.b.state) refl (has_link g.world k) (is_full g.world.b)
 
@@ -350,23 +405,28 @@ module _ (emergencies : Bool) (ma mb : Method) (one : IsOneMethod ma mb) where
     done_keeps (Together k) safe = together_keeps k
     done_keeps (Inject end k unit) safe = absurd (no_injection emergencies end k unit safe)
 
-  pub step_keeps : (g : Stage) → Holds ma mb one g → Streams emergencies (seen A g) → (step : Step) → IsSafe emergencies step → Keeps g step (carried_out g.world step)
+  pub step_keeps : (g : Stage) → Holds ma mb one g → Streams emergencies (seen A g) → (step : Step)
+      → IsSafe emergencies step → Keeps g step (carried_out g.world step)
   unfolding carried_out
   step_keeps g h v step safe = done_keeps g h v step safe
 
   -- ALL ALONG, of what it says at each stage
   module _ (Says : Stage → Type 0) (says : (g : Stage) → Streams emergencies (seen A g) → Says g) where
-    onward : (g : Stage) (step : Step) (steps : List Step) → ((later : Stage) → Holds ma mb one later → Streams emergencies (seen A later) → HoldsAlong Says later steps) → (outcome : Outcome) → Goes ma mb one g step outcome → Keeps g step outcome
+    onward : (g : Stage) (step : Step) (steps : List Step)
+        → ((later : Stage) → Holds ma mb one later → Streams emergencies (seen A later) → HoldsAlong Says later steps)
+        → (outcome : Outcome) → Goes ma mb one g step outcome → Keeps g step outcome
         → OnShows outcome (λ shown new. HoldsAlong Says (passed g step shown new) steps)
     onward g step steps next (shows shown new) goes keeps = next (passed g step shown new) goes.1 keeps
     onward g step steps next impossible goes keeps = tt
     onward g step steps next exhausted goes keeps = tt
 
-    along : (g : Stage) → Holds ma mb one g → Streams emergencies (seen A g) → (steps : List Step) → AreSteps (IsSafe emergencies) steps → HoldsAlong Says g steps
+    along : (g : Stage) → Holds ma mb one g → Streams emergencies (seen A g) → (steps : List Step)
+        → AreSteps (IsSafe emergencies) steps → HoldsAlong Says g steps
     along g h v [] safe = says g v
     along g h v (step ∷ steps) safe = (
       says g v,
-      onward g step steps (λ later holds streams. along later holds streams steps safe.1) (carried_out g.world step) (step_goes ma mb one g h step (is_safe_honest emergencies step safe.0)) (step_keeps g h v step safe.0),
+      onward g step steps (λ later holds streams. along later holds streams steps safe.1) (carried_out g.world step)
+          (step_goes ma mb one g h step (is_safe_honest emergencies step safe.0)) (step_keeps g h v step safe.0),
     )
 
 streams_arrive : (g : Stage) → Streams false (seen A g) → StreamsArrive g
@@ -415,7 +475,9 @@ first_flows config other = record {
     b = settings_of other
 
     never : (stream to code via : ℕ) → place_of stream (opened_with (settings_of config)).routing ≡ Changing to code via → ⊥
-    never stream to code via e = never_changing stream to code via (opened_with (settings_of config)).routing (opened_sound (settings_of config) (settings_sound config)).routing (opened_new (settings_of config) (settings_sound config)).straight.none_open e
+    never stream to code via e = never_changing stream to code via (opened_with (settings_of config)).routing
+        (opened_sound (settings_of config) (settings_sound config)).routing
+        (opened_new (settings_of config) (settings_sound config)).straight.none_open e
 
 first_covers : (config : SetConfig) → Covered no_past (λ stream. []) (opened_with (settings_of config))
 first_covers config = record {
@@ -445,7 +507,11 @@ first_streams emergencies a b = record {
 }
 
 pub every_sound_run : (a b : SetConfig) (steps : List Step) → IsSoundRun a b steps → HoldsAlong StreamsArrive (begun a b) steps
-every_sound_run a b steps sound = along false a.method b.method sound.one_method StreamsArrive streams_arrive (begun a b) (at_first a b sound.links sound.profiles) (first_streams false a b) steps sound.steps
+every_sound_run a b steps sound =
+    along false a.method b.method sound.one_method StreamsArrive streams_arrive (begun a b)
+    (at_first a b sound.links sound.profiles) (first_streams false a b) steps sound.steps
 
 pub every_quiet_run : (a b : SetConfig) (steps : List Step) → IsQuietRun a b steps → HoldsAlong PartsArrive (begun a b) steps
-every_quiet_run a b steps quiet = along true a.method b.method quiet.one_method PartsArrive parts_arrive (begun a b) (at_first a b quiet.links quiet.profiles) (first_streams true a b) steps quiet.steps
+every_quiet_run a b steps quiet =
+    along true a.method b.method quiet.one_method PartsArrive parts_arrive (begun a b)
+    (at_first a b quiet.links quiet.profiles) (first_streams true a b) steps quiet.steps

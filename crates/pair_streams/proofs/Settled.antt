@@ -80,12 +80,15 @@ module _ (fsn n : ℕ) (link : LinkState) (s f : State) (sound : IsSound s) (at 
   queues : (l : ℕ) → pending l after f ≡ queue_then (n == l) (is_on l (fate_on (target s.links))) l
   queues l = go (n == l) refl
     where
-      joins : (to : Option ℕ) → target s.links ≡ to → (n == l) ≡ false → (b : Bool) → is_on l (fate_on to) ≡ b → pending l after f ≡ cond b (pending l s f ++ pending n s f) (pending l s f)
+      joins : (to : Option ℕ) → target s.links ≡ to → (n == l) ≡ false → (b : Bool) → is_on l (fate_on to) ≡ b
+          → pending l after f ≡ cond b (pending l s f ++ pending n s f) (pending l s f)
       joins to e d false g = settles_apart fsn n link s f sound at r l d (ap (λ (t : Option ℕ). is_on l (fate_on t)) e ∙ g)
       joins None e d true g = absurd cc
       joins (Some to) e d true g = settles_to fsn n link s f sound at r l (e ∙ ap (λ (k : ℕ). Some k) (eqb-true to l g))
 
-      go : (b : Bool) → (n == l) ≡ b → pending l after f ≡ cond b [] (cond (is_on l (fate_on (target s.links))) (pending l s f ++ pending n s f) (pending l s f))
+      go : (b : Bool) → (n == l) ≡ b
+          → pending l after f ≡ cond b []
+          (cond (is_on l (fate_on (target s.links))) (pending l s f ++ pending n s f) (pending l s f))
       go true e = subst (λ (k : ℕ). pending k after f ≡ []) (eqb-true n l e) (gone fsn n link s f sound at r (accepted_on n f - acked_on n after))
       go false e = joins (target s.links) refl e (is_on l (fate_on (target s.links))) refl
 
@@ -118,7 +121,9 @@ module _ (fsn n : ℕ) (link : LinkState) (s f : State) (sound : IsSound s) (at 
   backs : (c : ℕ) → back_by c after ≡ back_by c s
   backs c =
       ap (λ (rows : List Row). messages (standing (is_back c) rows)) (rows_then fsn n link s f sound at r)
-      ∙ ap messages (moved_same (is_on n) (is_back c) (all_with (fate_on (target s.links))) (turned (is_unacked n) (Acked n) (reached_by fsn n link s.rows) s.rows) (λ row. target_not_back c (target s.links)) (λ fate e. on_not_back n c fate e))
+      ∙ ap messages (moved_same (is_on n) (is_back c) (all_with (fate_on (target s.links)))
+            (turned (is_unacked n) (Acked n) (reached_by fsn n link s.rows) s.rows)
+          (λ row. target_not_back c (target s.links)) (λ fate e. on_not_back n c fate e))
       ∙ ap messages (turned_same (is_unacked n) (is_back c) (Acked n) refl (λ fate e. sent_not_back n c fate e) (reached_by fsn n link s.rows) s.rows)
 
   module _ (stream : ℕ) (low : stream < 16) where
@@ -147,14 +152,19 @@ module _ (fsn n : ℕ) (link : LinkState) (s f : State) (sound : IsSound s) (at 
 
     -- of one that has all there all moves
     module _ (all : (l : ℕ) → (n == l) ≡ false → those_of stream (pending l s f) ≡ []) (none_aside : those_of stream (aside s) ≡ []) where
-      moves_on : (to : Option ℕ) → target s.links ≡ to → (l : ℕ) → those_of stream (pending l after f) ≡ cond (is_on l (fate_on to)) (those_of stream (pending n s f)) []
-      moves_on to e l = ap (those_of stream) (queues l ∙ ap (λ (t : Option ℕ). queue_then (n == l) (is_on l (fate_on t)) l) e) ∙ go to e (n == l) refl (is_on l (fate_on to)) refl
+      moves_on : (to : Option ℕ) → target s.links ≡ to → (l : ℕ)
+          → those_of stream (pending l after f) ≡ cond (is_on l (fate_on to)) (those_of stream (pending n s f)) []
+      moves_on to e l = ap (those_of stream)
+          (queues l ∙ ap (λ (t : Option ℕ). queue_then (n == l) (is_on l (fate_on t)) l) e)
+          ∙ go to e (n == l) refl (is_on l (fate_on to)) refl
         where
           own_not : (to : Option ℕ) → target s.links ≡ to → (n == l) ≡ true → is_on l (fate_on to) ≡ true → ⊥
           own_not None e d g = absurd cc
           own_not (Some t) e d g = false_true (n == t) (not_own t e) (ap (λ (k : ℕ). n == k) (eqb-true t l g) ∙ d)
 
-          go : (to : Option ℕ) → target s.links ≡ to → (own : Bool) → (n == l) ≡ own → (joins : Bool) → is_on l (fate_on to) ≡ joins → those_of stream (queue_then own joins l) ≡ cond joins (those_of stream (pending n s f)) []
+          go : (to : Option ℕ) → target s.links ≡ to → (own : Bool) → (n == l) ≡ own → (joins : Bool)
+              → is_on l (fate_on to) ≡ joins
+              → those_of stream (queue_then own joins l) ≡ cond joins (those_of stream (pending n s f)) []
           go to e true d true g = absurd (own_not to e d g)
           go to e true d false g = refl
           go to e false d true g = none_joins stream (pending l s f) (pending n s f) (all l d)
@@ -195,7 +205,8 @@ module _ (fsn n : ℕ) (link : LinkState) (s f : State) (sound : IsSound s) (at 
               behind = subst (ClearBehind stream code) (sym (queues via)) (behind_case was via_apart (n == via) (is_on via (fate_on (target s.links))));
             }
           where
-            on_case : Clear stream code via (view s f) → (via == n) ≡ false → (l : ℕ) → (via == l) ≡ false → (m : Message) → (own joins : Bool) → Among m (queue_then own joins l) → Declares code m → ⊥
+            on_case : Clear stream code via (view s f) → (via == n) ≡ false → (l : ℕ) → (via == l) ≡ false
+                → (m : Message) → (own joins : Bool) → Among m (queue_then own joins l) → Declares code m → ⊥
             on_case was away l d m true joins a x = a
             on_case was away l d m false false a x = was.only l d m a x
             on_case was away l d m false true a x = go (among_joined m (pending l s f) (pending n s f) a)
@@ -215,11 +226,14 @@ module _ (fsn n : ℕ) (link : LinkState) (s f : State) (sound : IsSound s) (at 
             behind_case : Clear stream code via (view s f) → (via == n) ≡ false → (own joins : Bool) → ClearBehind stream code (queue_then own joins via)
             behind_case was away true joins = tt
             behind_case was away false false = was.behind
-            behind_case was away false true = clear_joined stream code (pending via s f) (pending n s f) was.behind none_there (clear_none stream code (pending n s f) (was.only n away))
+            behind_case was away false true =
+                clear_joined stream code (pending via s f) (pending n s f) was.behind none_there
+                (clear_none stream code (pending n s f) (was.only n away))
 
         stays_kept : Kept stream s after f f
         stays_kept = record {
-          here_is = ap (λ (q : Place). those_of stream (queue_at q after f)) then_is ∙ queue_stays p ∙ ap (λ (q : Place). those_of stream (queue_at q s f)) (sym is);
+          here_is = ap (λ (q : Place). those_of stream (queue_at q after f)) then_is ∙ queue_stays p
+              ∙ ap (λ (q : Place). those_of stream (queue_at q s f)) (sym is);
           stands = subst (λ (q : Place). Stands stream q after f) (sym then_is) (record {
             alone = λ l e. stays_on none_there l ∙ old.alone l e;
             none_aside = λ e. stays_aside none_there ∙ old.none_aside e;
@@ -230,14 +244,16 @@ module _ (fsn n : ℕ) (link : LinkState) (s f : State) (sound : IsSound s) (at 
         }
 
       -- IT MOVES from the link
-      module _ (p : Place) (is : place_of stream s.routing ≡ p) (on_it : runs_by p n ≡ true) (never_nowhere : runs_nowhere p ≡ false) (where_else : (l : ℕ) → (n == l) ≡ false → runs_by p l ≡ false) where
+      module _ (p : Place) (is : place_of stream s.routing ≡ p) (on_it : runs_by p n ≡ true)
+          (never_nowhere : runs_nowhere p ≡ false) (where_else : (l : ℕ) → (n == l) ≡ false → runs_by p l ≡ false) where
         was : Stands stream p s f
         was = subst (λ (q : Place). Stands stream q s f) is (w.stands stream low)
 
         all_there : (l : ℕ) → (n == l) ≡ false → those_of stream (pending l s f) ≡ []
         all_there l d = was.alone l (where_else l d)
 
-        goes_on : (to : Option ℕ) → target s.links ≡ to → (l : ℕ) → those_of stream (pending l after f) ≡ cond (is_on l (fate_on to)) (those_of stream (pending n s f)) []
+        goes_on : (to : Option ℕ) → target s.links ≡ to → (l : ℕ)
+            → those_of stream (pending l after f) ≡ cond (is_on l (fate_on to)) (those_of stream (pending n s f)) []
         goes_on = moves_on all_there (was.none_aside never_nowhere)
 
         goes_aside : (to : Option ℕ) → target s.links ≡ to → those_of stream (aside after) ≡ those_of stream (cond (is_parked (fate_on to)) (pending n s f) [])
@@ -255,19 +271,28 @@ module _ (fsn n : ℕ) (link : LinkState) (s f : State) (sound : IsSound s) (at 
       -- one that runs on it
       on_kept : place_of stream s.routing ≡ On n → (to : Option ℕ) → target s.links ≡ to → Kept stream s after f f
       on_kept is None e =
-          let then_is : place_of stream after.routing ≡ Nowhere = place_then ∙ ap₂ (λ (t : Option ℕ) (q : Place). place_settled n t q) e is ∙ rw (itself n) refl in
+          let then_is : place_of stream after.routing ≡ Nowhere = place_then
+              ∙ ap₂ (λ (t : Option ℕ) (q : Place). place_settled n t q) e is ∙ rw (itself n) refl in
           record {
-            here_is = ap (λ (q : Place). those_of stream (queue_at q after f)) then_is ∙ goes_aside (On n) is (itself n) refl (λ l d. d) None e ∙ ap (λ (q : Place). those_of stream (queue_at q s f)) (sym is);
-            stands = subst (λ (q : Place). Stands stream q after f) (sym then_is) (record { alone = λ l d. goes_on (On n) is (itself n) refl (λ l d. d) None e l; none_aside = λ d. absurd cc });
+            here_is = ap (λ (q : Place). those_of stream (queue_at q after f)) then_is
+                ∙ goes_aside (On n) is (itself n) refl (λ l d. d) None e
+                ∙ ap (λ (q : Place). those_of stream (queue_at q s f)) (sym is);
+            stands = subst (λ (q : Place). Stands stream q after f) (sym then_is)
+                (record { alone = λ l d. goes_on (On n) is (itself n) refl (λ l d. d) None e l;
+                    none_aside = λ d. absurd cc });
             used = used_then;
             clear = λ t c v g. absurd (let never : Nowhere ≡ Changing t c v = sym then_is ∙ g in cc);
             answered = λ t c v g m i a. absurd (let never : Nowhere ≡ Changing t c v = sym then_is ∙ g in cc);
           }
       on_kept is (Some to) e =
-          let then_is : place_of stream after.routing ≡ On to = place_then ∙ ap₂ (λ (t : Option ℕ) (q : Place). place_settled n t q) e is ∙ rw (itself n) refl in
+          let then_is : place_of stream after.routing ≡ On to = place_then
+              ∙ ap₂ (λ (t : Option ℕ) (q : Place). place_settled n t q) e is ∙ rw (itself n) refl in
           record {
-            here_is = ap (λ (q : Place). those_of stream (queue_at q after f)) then_is ∙ at_target (On n) is (itself n) refl (λ l d. d) to e ∙ ap (λ (q : Place). those_of stream (queue_at q s f)) (sym is);
-            stands = subst (λ (q : Place). Stands stream q after f) (sym then_is) (stands_then (On n) is (itself n) refl (λ l d. d) to e (On to) refl (λ l. refl));
+            here_is = ap (λ (q : Place). those_of stream (queue_at q after f)) then_is
+                ∙ at_target (On n) is (itself n) refl (λ l d. d) to e
+                ∙ ap (λ (q : Place). those_of stream (queue_at q s f)) (sym is);
+            stands = subst (λ (q : Place). Stands stream q after f) (sym then_is)
+                (stands_then (On n) is (itself n) refl (λ l d. d) to e (On to) refl (λ l. refl));
             used = used_then;
             clear = λ t c v g. absurd (let never : On to ≡ Changing t c v = sym then_is ∙ g in cc);
             answered = λ t c v g m i a. absurd (let never : On to ≡ Changing t c v = sym then_is ∙ g in cc);
@@ -286,7 +311,8 @@ module _ (fsn n : ℕ) (link : LinkState) (s f : State) (sound : IsSound s) (at 
       via_kept : (to code : ℕ) → place_of stream s.routing ≡ Changing to code n → (there : Option ℕ) → target s.links ≡ there → Kept stream s after f f
       via_kept to code is None e = absurd (has_target to code n is e)
       via_kept to code is (Some t) e =
-          let then_is : place_of stream after.routing ≡ Changing to code t = place_then ∙ ap₂ (λ (o : Option ℕ) (q : Place). place_settled n o q) e is ∙ rw (itself n) refl in
+          let then_is : place_of stream after.routing ≡ Changing to code t = place_then
+              ∙ ap₂ (λ (o : Option ℕ) (q : Place). place_settled n o q) e is ∙ rw (itself n) refl in
           let before = w.backing.clear stream low to code n is in
           let moves = at_target (Changing to code n) is (itself n) refl (λ l d. d) t e in
           record {
@@ -296,7 +322,9 @@ module _ (fsn n : ℕ) (link : LinkState) (s f : State) (sound : IsSound s) (at 
                 ∙ ap₂ (λ (x y : List Message). x ++ y) moves (ap (those_of stream) (backs code))
                 ∙ sym (those_joined stream (pending n s f) (back_by code s))
                 ∙ ap (λ (q : Place). those_of stream (queue_at q s f)) (sym is);
-            stands = subst (λ (q : Place). Stands stream q after f) (sym then_is) (stands_then (Changing to code n) is (itself n) refl (λ l d. d) t e (Changing to code t) refl (λ l. refl));
+            stands = subst (λ (q : Place). Stands stream q after f) (sym then_is)
+                (stands_then (Changing to code n) is (itself n) refl (λ l d. d) t e (Changing to code t) refl
+                  (λ l. refl));
             used = used_then;
             clear = λ a c v g.
                 let same : Changing to code t ≡ Changing a c v = sym then_is ∙ g in
@@ -307,17 +335,23 @@ module _ (fsn n : ℕ) (link : LinkState) (s f : State) (sound : IsSound s) (at 
                 let same : Changing to code t ≡ Changing a c v = sym then_is ∙ g in
                 let code_is : code ≡ c = cc in
                 let via_is : t ≡ v = cc in
-                subst (λ (k : ℕ). those_of stream (pending k after f) ≡ []) via_is (moves ∙ w.backing.answered stream low to code n is m i (subst (λ (k : ℕ). Acknowledges k m) (sym code_is) x));
+                subst (λ (k : ℕ). those_of stream (pending k after f) ≡ []) via_is
+                    (moves ∙ w.backing.answered stream low to code n is m i
+                      (subst (λ (k : ℕ). Acknowledges k m) (sym code_is) x));
           }
         where
           moved_clear : Clear stream code n (view s f) → Clear stream code t (view after f)
           moved_clear before = record {
-            only = λ l d m a. on_case l m (n == l) refl (is_on l (fate_on (target s.links))) (ap (λ (o : Option ℕ). is_on l (fate_on o)) e ∙ d) (subst (Among m) (queues l) a);
+            only = λ l d m a. on_case l m (n == l) refl (is_on l (fate_on (target s.links)))
+                (ap (λ (o : Option ℕ). is_on l (fate_on o)) e ∙ d) (subst (Among m) (queues l) a);
             none_aside = λ m a. before.none_aside m (subst (Among m) (aside_is (Some t) e) a);
-            behind = subst (ClearBehind stream code) (sym (settles_to fsn n link s f sound at r t e)) (clear_after stream code (pending t s f) (pending n s f) (before.only t (not_own t e)) before.behind);
+            behind = subst (ClearBehind stream code) (sym (settles_to fsn n link s f sound at r t e))
+                (clear_after stream code (pending t s f) (pending n s f) (before.only t (not_own t e)) before.behind);
           }
             where
-              on_case : (l : ℕ) (m : Message) (own : Bool) → (n == l) ≡ own → (joins : Bool) → is_on l (fate_on (target s.links)) ≡ false → Among m (queue_then own (is_on l (fate_on (target s.links))) l) → Declares code m → ⊥
+              on_case : (l : ℕ) (m : Message) (own : Bool) → (n == l) ≡ own → (joins : Bool)
+                  → is_on l (fate_on (target s.links)) ≡ false
+                  → Among m (queue_then own (is_on l (fate_on (target s.links))) l) → Declares code m → ⊥
               on_case l m true d joins off a x = a
               on_case l m false d joins off a x = before.only l d m (subst (λ (b : Bool). Among m (queue_then false b l)) off a) x
 
@@ -342,5 +376,8 @@ module _ (fsn n : ℕ) (link : LinkState) (s f : State) (sound : IsSound s) (at 
           go (Changing to code via) is = back_case to code via is (via == n) refl
           go Nowhere is = stays_kept Nowhere is refl refl
 
-  pub settles_flow : (offered got lost : ℕ → List Message) → Flows s f offered got lost → NewAcknowledges (view f after) (view f s) → Flows after f offered got lost
-  settles_flow offered got lost w acknowledges = carried s after f f offered got lost w (λ stream low. settled_kept stream low offered got lost w) (λ c few e. inl (ap (code_of c) (sym routing_then) ∙ e)) (λ c m i d. was_in m i) acknowledges
+  pub settles_flow : (offered got lost : ℕ → List Message) → Flows s f offered got lost
+      → NewAcknowledges (view f after) (view f s) → Flows after f offered got lost
+  settles_flow offered got lost w acknowledges =
+      carried s after f f offered got lost w (λ stream low. settled_kept stream low offered got lost w)
+      (λ c few e. inl (ap (code_of c) (sym routing_then) ∙ e)) (λ c m i d. was_in m i) acknowledges

@@ -50,38 +50,54 @@ module _ (emergencies : Bool) (ma mb : Method) (one : IsOneMethod ma mb) where
     v_b = streams_back (seen A g) v
 
     module _ (k : ℕ) (few : k < length g.world.a.state.links) (unit : SignalUnit) (rest : List SignalUnit) where
-      heard_a : units_on k g.world.to_a ≡ unit ∷ rest → (link : LinkState) → IsAt k link Up g.world.a.state → OrdersTell g (Arrive A k) (Answered (answer_to g.world.a (Heard k unit)))
+      heard_a : units_on k g.world.to_a ≡ unit ∷ rest → (link : LinkState) → IsAt k link Up g.world.a.state
+          → OrdersTell g (Arrive A k) (Answered (answer_to g.world.a (Heard k unit)))
       heard_a front link at =
           subst (λ (answer : Answer). OrdersTell g (Arrive A k) (Answered answer))
           (sym (moving.answers_heard ma mb one (seen A g) h k few unit rest front link at))
-          (subst (λ (line : List SignalUnit). FrontTells line (moving.report ma mb one (seen A g) h k few unit rest front link at).took g.world.a.state g.b) (sym front) (hears_tells ma mb one (seen A g) h v.ordered.both k few unit rest front link at))
+          (subst (λ (line : List SignalUnit). FrontTells line
+                  (moving.report ma mb one (seen A g) h k few unit rest front link at).took g.world.a.state g.b)
+              (sym front) (hears_tells ma mb one (seen A g) h v.ordered.both k few unit rest front link at))
 
-      heard_b : units_on k g.world.to_b ≡ unit ∷ rest → (link : LinkState) → IsAt k link Up g.world.b.state → OrdersTell g (Arrive B k) (Answered (answer_to g.world.b (Heard k unit)))
+      heard_b : units_on k g.world.to_b ≡ unit ∷ rest → (link : LinkState) → IsAt k link Up g.world.b.state
+          → OrdersTell g (Arrive B k) (Answered (answer_to g.world.b (Heard k unit)))
       heard_b front link at =
           let few_b : k < length g.world.b.state.links = omega (arith, few, h.far_links) in
           subst (λ (answer : Answer). OrdersTell g (Arrive B k) (Answered answer))
           (sym (moving.answers_heard mb ma one_b (seen B g) h_b k few_b unit rest front link at))
-          (subst (λ (line : List SignalUnit). FrontTells line (moving.report mb ma one_b (seen B g) h_b k few_b unit rest front link at).took g.world.b.state g.a) (sym front) (hears_tells mb ma one_b (seen B g) h_b v_b.ordered.both k few_b unit rest front link at))
+          (subst (λ (line : List SignalUnit). FrontTells line
+                  (moving.report mb ma one_b (seen B g) h_b k few_b unit rest front link at).took g.world.b.state g.a)
+              (sym front) (hears_tells mb ma one_b (seen B g) h_b v_b.ordered.both k few_b unit rest front link at))
 
       reach_a : units_on k g.world.to_a ≡ unit ∷ rest → (rising : Bool) → is_up k g.world.a.state ≡ rising → (known full : Bool)
-          → Tells g (Arrive A k) (cond rising (cond known (cond full exhausted (shows (Answered (answer_to g.world.a (Heard k unit))) (with_end (with_line g.world A k rest) A (after g.world.a (Heard k unit))))) impossible) (shows Lost (with_line g.world A k rest)))
+          → Tells g (Arrive A k) (cond rising
+                (cond known (cond full exhausted
+                  (shows (Answered (answer_to g.world.a (Heard k unit)))
+                (with_end (with_line g.world A k rest) A (after g.world.a (Heard k unit))))) impossible)
+              (shows Lost (with_line g.world A k rest)))
       reach_a front true e true true = tt
       reach_a front true e true false = let at = is_at_up k g.world.a.state e in heard_a front at.0 at.1
       reach_a front true e false full = tt
       reach_a front false e known full = tt
 
       reach_b : units_on k g.world.to_b ≡ unit ∷ rest → (rising : Bool) → is_up k g.world.b.state ≡ rising → (known full : Bool)
-          → Tells g (Arrive B k) (cond rising (cond known (cond full exhausted (shows (Answered (answer_to g.world.b (Heard k unit))) (with_end (with_line g.world B k rest) B (after g.world.b (Heard k unit))))) impossible) (shows Lost (with_line g.world B k rest)))
+          → Tells g (Arrive B k) (cond rising
+                (cond known (cond full exhausted
+                  (shows (Answered (answer_to g.world.b (Heard k unit)))
+                (with_end (with_line g.world B k rest) B (after g.world.b (Heard k unit))))) impossible)
+              (shows Lost (with_line g.world B k rest)))
       reach_b front true e true true = tt
       reach_b front true e true false = let at = is_at_up k g.world.b.state e in heard_b front at.0 at.1
       reach_b front true e false full = tt
       reach_b front false e known full = tt
 
-    front_a : (k : ℕ) → k < length g.world.a.state.links → (line : List SignalUnit) → units_on k g.world.to_a ≡ line → Tells g (Arrive A k) (front_arrives g.world A k line)
+    front_a : (k : ℕ) → k < length g.world.a.state.links → (line : List SignalUnit) → units_on k g.world.to_a ≡ line
+        → Tells g (Arrive A k) (front_arrives g.world A k line)
     front_a k few [] e = tt
     front_a k few (unit ∷ rest) e = reach_a k few unit rest e (is_up k g.world.a.state) refl (has_link g.world k) (is_full g.world.a)
 
-    front_b : (k : ℕ) → k < length g.world.a.state.links → (line : List SignalUnit) → units_on k g.world.to_b ≡ line → Tells g (Arrive B k) (front_arrives g.world B k line)
+    front_b : (k : ℕ) → k < length g.world.a.state.links → (line : List SignalUnit) → units_on k g.world.to_b ≡ line
+        → Tells g (Arrive B k) (front_arrives g.world B k line)
     front_b k few [] e = tt
     front_b k few (unit ∷ rest) e = reach_b k few unit rest e (is_up k g.world.b.state) refl (has_link g.world k) (is_full g.world.b)
 
@@ -108,7 +124,10 @@ module _ (emergencies : Bool) (ma mb : Method) (one : IsOneMethod ma mb) where
   abbrev AllTell : Stage → List Step → Type 0
   AllTell g steps = HoldsAtEach (λ before step shown later. OrdersTell before step shown) g steps
 
-  onward : (g : Stage) (step : Step) (steps : List Step) → ((later : Stage) → Holds ma mb one later → Streams emergencies (seen A later) → AllTell later steps) → (outcome : Outcome) → Goes ma mb one g step outcome → Keeps emergencies ma mb one g step outcome → Tells g step outcome
+  onward : (g : Stage) (step : Step) (steps : List Step)
+      → ((later : Stage) → Holds ma mb one later → Streams emergencies (seen A later) → AllTell later steps)
+      → (outcome : Outcome) → Goes ma mb one g step outcome → Keeps emergencies ma mb one g step outcome
+      → Tells g step outcome
       → OnShows outcome (λ shown new. OrdersTell g step shown × AllTell (passed g step shown new) steps)
   onward g step steps next (shows shown new) goes keeps tells = (tells, next (passed g step shown new) goes.1 keeps)
   onward g step steps next impossible goes keeps tells = tt
@@ -116,7 +135,13 @@ module _ (emergencies : Bool) (ma mb : Method) (one : IsOneMethod ma mb) where
 
   along : (g : Stage) → Holds ma mb one g → Streams emergencies (seen A g) → (steps : List Step) → AreSteps (IsSafe emergencies) steps → AllTell g steps
   along g h v [] safe = tt
-  along g h v (step ∷ steps) safe = onward g step steps (λ later holds streams. along later holds streams steps safe.1) (carried_out g.world step) (step_goes ma mb one g h step (is_safe_honest emergencies step safe.0)) (step_keeps emergencies ma mb one g h v step safe.0) (step_tells g h v step)
+  along g h v (step ∷ steps) safe =
+      onward g step steps (λ later holds streams. along later holds streams steps safe.1) (carried_out g.world step)
+      (step_goes ma mb one g h step (is_safe_honest emergencies step safe.0))
+      (step_keeps emergencies ma mb one g h v step safe.0) (step_tells g h v step)
 
-pub every_quiet_run_tells : (a b : SetConfig) (steps : List Step) → IsQuietRun a b steps → HoldsAtEach (λ before step shown later. OrdersTell before step shown) (begun a b) steps
-every_quiet_run_tells a b steps quiet = along true a.method b.method quiet.one_method (begun a b) (at_first a b quiet.links quiet.profiles) (first_streams true a b) steps quiet.steps
+pub every_quiet_run_tells : (a b : SetConfig) (steps : List Step) → IsQuietRun a b steps
+    → HoldsAtEach (λ before step shown later. OrdersTell before step shown) (begun a b) steps
+every_quiet_run_tells a b steps quiet =
+    along true a.method b.method quiet.one_method (begun a b) (at_first a b quiet.links quiet.profiles)
+    (first_streams true a b) steps quiet.steps

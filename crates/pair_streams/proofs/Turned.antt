@@ -40,7 +40,10 @@ turns (Changing to code via) k = to == k
 turns Nowhere k = false
 
 -- users' messages that join queues declare nothing
-module _ (s t f : State) (adds : ℕ → List Message) (adds_aside : List Message) (queues : (l : ℕ) → pending l t f ≡ pending l s f ++ adds l) (aside_is : aside t ≡ aside s ++ adds_aside) (users : (l : ℕ) (m : Message) → Among m (adds l) → order_any m.body ≡ None) (users_aside : (m : Message) → Among m adds_aside → order_any m.body ≡ None) where
+module _ (s t f : State) (adds : ℕ → List Message) (adds_aside : List Message)
+    (queues : (l : ℕ) → pending l t f ≡ pending l s f ++ adds l) (aside_is : aside t ≡ aside s ++ adds_aside)
+    (users : (l : ℕ) (m : Message) → Among m (adds l) → order_any m.body ≡ None)
+    (users_aside : (m : Message) → Among m adds_aside → order_any m.body ≡ None) where
   pub added_order : (order : Order) (m : Message) → In m (view t f) → order_any m.body ≡ Some order → In m (view s f)
   added_order order m (stands_on l a) is = go (among_joined m (pending l s f) (adds l) (subst (Among m) (queues l) a))
     where
@@ -57,7 +60,9 @@ module _ (s t f : State) (adds : ℕ → List Message) (adds_aside : List Messag
   added_clear stream code via none old = record {
     only = λ l e m a d. on_case l e m d (among_joined m (pending l s f) (adds l) (subst (Among m) (queues l) a));
     none_aside = λ m a d. aside_case m d (among_joined m (aside s) adds_aside (subst (Among m) aside_is a));
-    behind = subst (ClearBehind stream code) (sym (queues via)) (clear_joined stream code (pending via s f) (adds via) old.behind none (clear_none stream code (adds via) (λ m a d. users_declare code m (users via m a) d)));
+    behind = subst (ClearBehind stream code) (sym (queues via))
+        (clear_joined stream code (pending via s f) (adds via) old.behind none
+          (clear_none stream code (adds via) (λ m a d. users_declare code m (users via m a) d)));
   }
     where
       on_case : (l : ℕ) → (via == l) ≡ false → (m : Message) → Declares code m → Among m (pending l s f) ⊎ Among m (adds l) → ⊥
@@ -93,7 +98,8 @@ module _ (blind : Bool) (k : ℕ) (link : LinkState) (s f : State) (sound : IsSo
     place_then = (route.alone s.routing stream sound.routing low).left_place k
 
     -- a row of the stream that stands back is one of its code
-    own_row : (row : Row) (c : ℕ) → is_of stream (record { number = row.number; body = row.body }) ≡ true → (b : IsBackOf s.routing row (Back c)) → place ≡ Changing (home_of c) c b.2
+    own_row : (row : Row) (c : ℕ) → is_of stream (record { number = row.number; body = row.body }) ≡ true
+        → (b : IsBackOf s.routing row (Back c)) → place ≡ Changing (home_of c) c b.2
     own_row row c own b = ap (λ (n : ℕ). place_of n s.routing) (sym (of_stream stream (record { number = row.number; body = row.body }) own)) ∙ b.3
 
     goes_place : (row : Row) → is_of stream (record { number = row.number; body = row.body }) ≡ true → goes row ≡ fate_at (place_left k place) out
@@ -105,7 +111,9 @@ module _ (blind : Bool) (k : ℕ) (link : LinkState) (s f : State) (sound : IsSo
       abbrev P : Row → Bool
       P row = is_back_to k row.fate && other (goes row)
 
-      off_row : turns place k ≡ false → (row : Row) (fate : Fate) → IsBackOf s.routing row fate → is_of stream (record { number = row.number; body = row.body }) ≡ true → (is_back_to k fate && other (goes row)) ≡ false
+      off_row : turns place k ≡ false → (row : Row) (fate : Fate) → IsBackOf s.routing row fate
+          → is_of stream (record { number = row.number; body = row.body }) ≡ true
+          → (is_back_to k fate && other (goes row)) ≡ false
       off_row off row (Back c) b own =
           let home_off : (home_of c == k) ≡ false = ap (λ (p : Place). turns p k) (sym (own_row row c own b)) ∙ off in
           rw home_off refl
@@ -120,7 +128,10 @@ module _ (blind : Bool) (k : ℕ) (link : LinkState) (s f : State) (sound : IsSo
       pub none_turned : turns place k ≡ false → those_of stream (messages (standing other rows_turned)) ≡ []
       none_turned off =
           ap (those_of stream) (turned_filter (is_back_to k) other goes s.rows)
-          ∙ picked stream P (λ row. false) s.rows (each_so (λ row. IsBackOf s.routing row row.fate) (λ row. is_of stream (record { number = row.number; body = row.body }) ≡ true → P row ≡ false) (λ row b own. off_row off row row.fate b own) s.rows sound.backs)
+          ∙ picked stream P (λ row. false) s.rows
+              (each_so (λ row. IsBackOf s.routing row row.fate)
+                (λ row. is_of stream (record { number = row.number; body = row.body }) ≡ true → P row ≡ false)
+              (λ row b own. off_row off row row.fate b own) s.rows sound.backs)
           ∙ ap (those_of stream) (never_picked s.rows)
 
       -- all of this one, where the test tells so
@@ -128,7 +139,9 @@ module _ (blind : Bool) (k : ℕ) (link : LinkState) (s f : State) (sound : IsSo
         left_place : place_left k place ≡ On via
         left_place = ap (place_left k) is ∙ rw on refl
 
-        on_row : (b : Bool) → other (fate_at (On via) out) ≡ b → (row : Row) (fate : Fate) → IsBackOf s.routing row fate → is_of stream (record { number = row.number; body = row.body }) ≡ true → (is_back_to k fate && other (goes row)) ≡ (is_back code fate && b)
+        on_row : (b : Bool) → other (fate_at (On via) out) ≡ b → (row : Row) (fate : Fate) → IsBackOf s.routing row fate
+            → is_of stream (record { number = row.number; body = row.body }) ≡ true
+            → (is_back_to k fate && other (goes row)) ≡ (is_back code fate && b)
         on_row b e row (Back c) back own =
             let same : Changing (home_of c) c back.2 ≡ Changing to code via = sym (own_row row c own back) ∙ is in
             let code_is : c ≡ code = cc in
@@ -144,15 +157,21 @@ module _ (blind : Bool) (k : ℕ) (link : LinkState) (s f : State) (sound : IsSo
         on_row b e row Parked back own = refl
         on_row b e row (Discarded cause) back own = refl
 
-        pub all_turned : (b : Bool) → other (fate_at (On via) out) ≡ b → those_of stream (messages (standing other rows_turned)) ≡ cond b (those_of stream (back_by code s)) []
+        pub all_turned : (b : Bool) → other (fate_at (On via) out) ≡ b
+            → those_of stream (messages (standing other rows_turned)) ≡ cond b (those_of stream (back_by code s)) []
         all_turned b e =
             ap (those_of stream) (turned_filter (is_back_to k) other goes s.rows)
-            ∙ picked stream P (λ row. is_back code row.fate && b) s.rows (each_so (λ row. IsBackOf s.routing row row.fate) (λ row. is_of stream (record { number = row.number; body = row.body }) ≡ true → P row ≡ (is_back code row.fate && b)) (λ row back own. on_row b e row row.fate back own) s.rows sound.backs)
+            ∙ picked stream P (λ row. is_back code row.fate && b) s.rows
+                (each_so (λ row. IsBackOf s.routing row row.fate)
+                  (λ row. is_of stream (record { number = row.number; body = row.body }) ≡ true
+                  → P row ≡ (is_back code row.fate && b)) (λ row back own. on_row b e row row.fate back own) s.rows
+                sound.backs)
             ∙ and_so stream (is_back code) b s.rows
 
     -- a link gains all that stood back of a stream that came from it, and nothing of others
     two_parts : (l : ℕ) → those_of stream (adds l) ≡ those_of stream (messages (wait l rows_turned)) ++ those_of stream (messages (held l rows_turned))
-    two_parts l = ap (those_of stream) (joined (wait l rows_turned) (held l rows_turned)) ∙ those_joined stream (messages (wait l rows_turned)) (messages (held l rows_turned))
+    two_parts l = ap (those_of stream) (joined (wait l rows_turned) (held l rows_turned))
+        ∙ those_joined stream (messages (wait l rows_turned)) (messages (held l rows_turned))
 
     pub adds_none : turns place k ≡ false → (l : ℕ) → those_of stream (adds l) ≡ []
     adds_none off l = two_parts l ∙ ap₂ (λ (x y : List Message). x ++ y) (none_turned (is_waiting l) off) (none_turned (is_held l) off)
@@ -190,18 +209,22 @@ module _ (blind : Bool) (k : ℕ) (link : LinkState) (s f : State) (sound : IsSo
     parks_nothing Nowhere e true on = absurd cc
 
     aside_same : those_of stream (aside left) ≡ those_of stream (aside s)
-    aside_same = ap (those_of stream) (leaves_aside blind k link s f sound at) ∙ joins_none stream (aside s) (messages (parked rows_turned)) (parks_nothing (place_of stream s.routing) refl (turns (place_of stream s.routing) k) refl)
+    aside_same = ap (those_of stream) (leaves_aside blind k link s f sound at)
+        ∙ joins_none stream (aside s) (messages (parked rows_turned))
+        (parks_nothing (place_of stream s.routing) refl (turns (place_of stream s.routing) k) refl)
 
     queue_same : (l : ℕ) → those_of stream (adds l) ≡ [] → those_of stream (pending l left f) ≡ those_of stream (pending l s f)
     queue_same l none = ap (those_of stream) (leaves_queues blind k link s f sound at l) ∙ joins_none stream (pending l s f) (adds l) none
 
     -- what stands back by another home's code does then too
-    back_stays : (to code via : ℕ) → place_of stream s.routing ≡ Changing to code via → (to == k) ≡ false → those_of stream (back_by code left) ≡ those_of stream (back_by code s)
+    back_stays : (to code via : ℕ) → place_of stream s.routing ≡ Changing to code via → (to == k) ≡ false
+        → those_of stream (back_by code left) ≡ those_of stream (back_by code s)
     back_stays to code via is off =
         let coded = coded_at s.routing stream sound.routing to code via is in
         ap (λ (rows : List Row). those_of stream (messages rows)) (moved_more (is_back_to k) (is_back code) goes s.rows (λ fate e. not_both fate e coded.0))
         ∙ ap (those_of stream) (joined (standing (is_back code) s.rows) (standing (is_back code) rows_turned))
-        ∙ joins_none stream (back_by code s) (messages (standing (is_back code) rows_turned)) (none_turned stream low (is_back code) (ap (λ (p : Place). turns p k) is ∙ off))
+        ∙ joins_none stream (back_by code s) (messages (standing (is_back code) rows_turned))
+            (none_turned stream low (is_back code) (ap (λ (p : Place). turns p k) is ∙ off))
       where
         not_both : (fate : Fate) → is_back_to k fate ≡ true → home_of code ≡ to → is_back code fate ≡ false
         not_both (Back c) e h = apart c code (λ same. false_true (to == k) off (ap (λ (n : ℕ). n == k) (sym h ∙ ap home_of (sym same)) ∙ e))
@@ -220,12 +243,14 @@ module _ (blind : Bool) (k : ℕ) (link : LinkState) (s f : State) (sound : IsSo
 
   -- no order comes to stand there
   pub left_orders : (order : Order) (m : Message) → In m (view left f) → order_any m.body ≡ Some order → In m (view s f)
-  left_orders = added_order s left f adds (messages (parked rows_turned)) (leaves_queues blind k link s f sound at) (leaves_aside blind k link s f sound at) users_added users_parked
+  left_orders = added_order s left f adds (messages (parked rows_turned)) (leaves_queues blind k link s f sound at)
+      (leaves_aside blind k link s f sound at) users_added users_parked
 
   module _ (offered got lost : ℕ → List Message) (w : Flows s f offered got lost) where
     module _ (stream : ℕ) (low : stream < 16) where
       -- one that stays where it is
-      module _ (p : Place) (is : place_of stream s.routing ≡ p) (off : turns p k ≡ false) (stays : place_left k p ≡ p) (queue_is : those_of stream (queue_at p left f) ≡ those_of stream (queue_at p s f)) where
+      module _ (p : Place) (is : place_of stream s.routing ≡ p) (off : turns p k ≡ false) (stays : place_left k p ≡ p)
+          (queue_is : those_of stream (queue_at p left f) ≡ those_of stream (queue_at p s f)) where
         then_is : place_of stream left.routing ≡ p
         then_is = place_then stream low ∙ ap (place_left k) is ∙ stays
 
@@ -235,12 +260,15 @@ module _ (blind : Bool) (k : ℕ) (link : LinkState) (s f : State) (sound : IsSo
         stays_kept : Kept stream s left f f
         stays_kept = record {
           here_is = ap (λ (q : Place). those_of stream (queue_at q left f)) then_is ∙ queue_is ∙ ap (λ (q : Place). those_of stream (queue_at q s f)) (sym is);
-          stands = subst (λ (q : Place). Stands stream q left f) (sym then_is) (let old = subst (λ (q : Place). Stands stream q s f) is (w.stands stream low) in record {
+          stands = subst (λ (q : Place). Stands stream q left f) (sym then_is)
+              (let old = subst (λ (q : Place). Stands stream q s f) is (w.stands stream low) in record {
             alone = λ l e. queue_same stream low l (none l) ∙ old.alone l e;
             none_aside = λ e. aside_same stream low ∙ old.none_aside e;
           });
           used = (route.alone s.routing stream sound.routing low).left_messages k;
-          clear = λ to code via e. added_clear s left f adds (messages (parked rows_turned)) (leaves_queues blind k link s f sound at) (leaves_aside blind k link s f sound at) users_added users_parked stream code via (none via) (w.backing.clear stream low to code via (is ∙ sym then_is ∙ e));
+          clear = λ to code via e. added_clear s left f adds (messages (parked rows_turned))
+              (leaves_queues blind k link s f sound at) (leaves_aside blind k link s f sound at) users_added
+              users_parked stream code via (none via) (w.backing.clear stream low to code via (is ∙ sym then_is ∙ e));
           answered = λ to code via e n i a. queue_same stream low via (none via) ∙ w.backing.answered stream low to code via (is ∙ sym then_is ∙ e) n i a;
         }
 
@@ -253,14 +281,19 @@ module _ (blind : Bool) (k : ℕ) (link : LinkState) (s f : State) (sound : IsSo
         at_via =
             ap (those_of stream) (leaves_queues blind k link s f sound at via)
             ∙ those_joined stream (pending via s f) (adds via)
-            ∙ ap (λ (x : List Message). those_of stream (pending via s f) ++ x) (adds_all stream low to code via is on via ∙ ap (λ (b : Bool). cond b (those_of stream (back_by code s)) []) (itself via))
+            ∙ ap (λ (x : List Message). those_of stream (pending via s f) ++ x)
+                (adds_all stream low to code via is on via
+                  ∙ ap (λ (b : Bool). cond b (those_of stream (back_by code s)) []) (itself via))
             ∙ sym (those_joined stream (pending via s f) (back_by code s))
 
         turned_kept : Kept stream s left f f
         turned_kept = record {
           here_is = ap (λ (q : Place). those_of stream (queue_at q left f)) on_via ∙ at_via ∙ ap (λ (q : Place). those_of stream (queue_at q s f)) (sym is);
-          stands = subst (λ (q : Place). Stands stream q left f) (sym on_via) (let old = subst (λ (q : Place). Stands stream q s f) is (w.stands stream low) in record {
-            alone = λ l e. queue_same stream low l (adds_all stream low to code via is on l ∙ ap (λ (b : Bool). cond b (those_of stream (back_by code s)) []) e) ∙ old.alone l e;
+          stands = subst (λ (q : Place). Stands stream q left f) (sym on_via)
+              (let old = subst (λ (q : Place). Stands stream q s f) is (w.stands stream low) in record {
+            alone = λ l e. queue_same stream low l
+                (adds_all stream low to code via is on l
+                  ∙ ap (λ (b : Bool). cond b (those_of stream (back_by code s)) []) e) ∙ old.alone l e;
             none_aside = λ e. aside_same stream low ∙ old.none_aside refl;
           });
           used = (route.alone s.routing stream sound.routing low).left_messages k;
@@ -275,7 +308,9 @@ module _ (blind : Bool) (k : ℕ) (link : LinkState) (s f : State) (sound : IsSo
           back_case to code via is true on = turned_kept to code via is on
           back_case to code via is false off = stays_kept (Changing to code via) is off (rw off refl)
               (those_joined stream (pending via left f) (back_by code left)
-              ∙ ap₂ (λ (x y : List Message). x ++ y) (queue_same stream low via (adds_none stream low (ap (λ (q : Place). turns q k) is ∙ off) via)) (back_stays stream low to code via is off)
+              ∙ ap₂ (λ (x y : List Message). x ++ y)
+                  (queue_same stream low via (adds_none stream low (ap (λ (q : Place). turns q k) is ∙ off) via))
+                  (back_stays stream low to code via is off)
               ∙ sym (those_joined stream (pending via s f) (back_by code s)))
 
           go : (p : Place) → place_of stream s.routing ≡ p → Kept stream s left f f

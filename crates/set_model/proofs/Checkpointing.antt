@@ -10,11 +10,17 @@ use Rattle.set_model.proofs.Rows.{at_most_one, each_filter, fewer_filter, filter
 use Rattle.set_model.specs.Rows.{place, body_at, stands_back, numbers, waits, was_sent, was_held, is_on, is_held, is_unacked, is_waiting, is_parked}
 
 -- each that leaves is in one count
-all_ended : (rows : List Row) → length rows ≡ length (unfinished rows) + length (standing was_acked (users rows)) + length (standing (was_discarded_by Emergency) (users rows)) + length (standing (was_discarded_by Unreasonable) (users rows)) + length (standing (was_discarded_by NoAnswer) (users rows)) + length (filter (λ row. not (is_users row) && not (is_unfinished row.fate)) rows)
+all_ended : (rows : List Row) → length rows
+    ≡ length (unfinished rows) + length (standing was_acked (users rows)) + length
+    (standing (was_discarded_by Emergency) (users rows)) + length
+    (standing (was_discarded_by Unreasonable) (users rows)) + length (standing (was_discarded_by NoAnswer) (users rows))
+    + length (filter (λ row. not (is_users row) && not (is_unfinished row.fate)) rows)
 all_ended [] = refl
 all_ended (x ∷ rows) = grind (arith, all_ended rows)
 
-by_cause : (rows : List Row) → length (standing was_discarded (users rows)) ≡ length (standing (was_discarded_by Emergency) (users rows)) + length (standing (was_discarded_by Unreasonable) (users rows)) + length (standing (was_discarded_by NoAnswer) (users rows))
+by_cause : (rows : List Row) → length (standing was_discarded (users rows))
+    ≡ length (standing (was_discarded_by Emergency) (users rows)) + length
+    (standing (was_discarded_by Unreasonable) (users rows)) + length (standing (was_discarded_by NoAnswer) (users rows))
 by_cause [] = refl
 by_cause (x ∷ rows) = grind (arith, by_cause rows)
 
@@ -87,15 +93,19 @@ checkpoint_sound s t =
       none_aside = λ n link at up. aside ∙ t.none_aside n link at up;
       all_run = t.all_run;
       homes_up = t.homes_up;
-      backs = each_filter (λ row. IsBackOf s.routing row row.fate) (λ row. IsBackOf s.routing row row.fate) (λ row. is_unfinished row.fate) (λ x e b. b) s.rows t.backs;
+      backs = each_filter (λ row. IsBackOf s.routing row row.fate) (λ row. IsBackOf s.routing row row.fate)
+          (λ row. is_unfinished row.fate) (λ x e b. b) s.rows t.backs;
       back_order = rw backs t.back_order;
     }
 
 pub checkpoints : (s : State) → Checkpoints s
-checkpoints s = record { given_same = given_stays s; counts_same = counts_stay s; sound = checkpoint_sound s; kept = λ number t. stays_found number s.rows (at_most_one (given s) number s.rows t.numbered) }
+checkpoints s = record { given_same = given_stays s; counts_same = counts_stay s; sound = checkpoint_sound s;
+      kept = λ number t. stays_found number s.rows (at_most_one (given s) number s.rows t.numbered) }
 
 -- WHAT THE ROWS ARE, by their numbers in order and what is found under each
-rebuilt_on : (given : ℕ) (all rows : List Row) → IsNumbered given all → ((i : ℕ) (row : Row) → slice_get rows i ≡ Some row → row_of row.number all ≡ Some row) → rebuilt (λ n. place n all) (λ n. body_at n all) (numbers rows) ≡ rows
+rebuilt_on : (given : ℕ) (all rows : List Row) → IsNumbered given all
+    → ((i : ℕ) (row : Row) → slice_get rows i ≡ Some row → row_of row.number all ≡ Some row)
+    → rebuilt (λ n. place n all) (λ n. body_at n all) (numbers rows) ≡ rows
 rebuilt_on given all [] numbered found = refl
 rebuilt_on given all (x ∷ rows) numbered found =
     let here = found 0 x refl in
@@ -103,7 +113,10 @@ rebuilt_on given all (x ∷ rows) numbered found =
     grind (arith, here, rest)
 
 pub rows_are : (given : ℕ) (rows : List Row) → IsNumbered given rows → rebuilt (λ n. place n rows) (λ n. body_at n rows) (numbers rows) ≡ rows
-rows_are given rows numbered = rebuilt_on given rows rows numbered (λ i row e. row_in_filter given (λ row. true) rows i row.number row numbered (ap (λ (xs : List Row). slice_get xs i) (filter_all rows) ∙ e) refl)
+rows_are given rows numbered =
+    rebuilt_on given rows rows numbered
+    (λ i row e. row_in_filter given (λ row. true) rows i row.number row numbered
+      (ap (λ (xs : List Row). slice_get xs i) (filter_all rows) ∙ e) refl)
   where
     filter_all : (rows : List Row) → filter (λ row. true) rows ≡ rows
     filter_all [] = refl

@@ -29,7 +29,9 @@ pub record Kept (rows new : List Row) : Type 0 where
   pub total : total_of (counts_of new) ≡ total_of (counts_of rows)
   pub acked : (counts_of rows).acked ≤ (counts_of new).acked
 
-pub moved_kept : (test : Fate → Bool) (fate : Row → Fate) (rows : List Row) → ((row : Row) → was_acked (fate row) ≡ false) → ((l : ℕ) → test (Acked l) ≡ false) → Kept rows (moved test fate rows)
+pub moved_kept : (test : Fate → Bool) (fate : Row → Fate) (rows : List Row)
+    → ((row : Row) → was_acked (fate row) ≡ false) → ((l : ℕ) → test (Acked l) ≡ false)
+    → Kept rows (moved test fate rows)
 moved_kept test fate rows o w =
     let none : (f : Fate) → test f ≡ true → was_acked f ≡ false = λ f e. grind arith in
     let numbered = λ (given : ℕ) (n : IsNumbered given rows). moved_numbered test fate given rows n in
@@ -54,11 +56,15 @@ untouched n rows new same =
 
 -- A NEW MESSAGE.
 -- a place where it stands, and one where it doesn't
-pub appended_in : (number : ℕ) (rows : List Row) (body : List ℕ) (fate : Fate) (test : Fate → Bool) → test fate ≡ true → standing test (appended number rows body fate) ≡ standing test rows ++ new_row number body fate ∷ []
+pub appended_in : (number : ℕ) (rows : List Row) (body : List ℕ) (fate : Fate) (test : Fate → Bool) → test fate ≡ true
+    → standing test (appended number rows body fate) ≡ standing test rows ++ new_row number body fate ∷ []
 appended_in number rows body fate test h = filter-append (λ (row : Row). test row.fate) rows (new_row number body fate ∷ []) ∙ rw h refl
 
-pub appended_out : (number : ℕ) (rows : List Row) (body : List ℕ) (fate : Fate) (test : Fate → Bool) → test fate ≡ false → standing test (appended number rows body fate) ≡ standing test rows
-appended_out number rows body fate test h = filter-append (λ (row : Row). test row.fate) rows (new_row number body fate ∷ []) ∙ ap (λ (xs : List Row). standing test rows ++ xs) (rw h refl) ∙ append-nil (standing test rows)
+pub appended_out : (number : ℕ) (rows : List Row) (body : List ℕ) (fate : Fate) (test : Fate → Bool) → test fate ≡ false
+    → standing test (appended number rows body fate) ≡ standing test rows
+appended_out number rows body fate test h =
+    filter-append (λ (row : Row). test row.fate) rows (new_row number body fate ∷ [])
+    ∙ ap (λ (xs : List Row). standing test rows ++ xs) (rw h refl) ∙ append-nil (standing test rows)
 
 -- ROWS OF A LINK THAT CHANGE IN THEIR PLACES: none of them is held, and what stands elsewhere doesn't change.
 pub record ChangesOn (l : ℕ) (rows new : List Row) : Type 0 where
@@ -71,13 +77,20 @@ pub record ChangesOn (l : ℕ) (rows new : List Row) : Type 0 where
   pub others : (n : ℕ) → (l == n) ≡ false → Untouched n rows new
 
 -- those that were sent on it, or wait for it, stay sent on it or are done with
-module _ (l : ℕ) (test : Fate → Bool) (to : Fate) (rows new : List Row) (i : InPlace test to rows new) (goes : (f : Fate) → test f ≡ true → (is_unacked l f || is_waiting l f) ≡ true) where
+module _ (l : ℕ) (test : Fate → Bool) (to : Fate) (rows new : List Row) (i : InPlace test to rows new)
+    (goes : (f : Fate) → test f ≡ true → (is_unacked l f || is_waiting l f) ≡ true) where
   changes_on : (is_unacked l to || not (is_unfinished to)) ≡ true → (IsInOrder l rows → IsInOrder l new) → ChangesOn l rows new
   changes_on comes order =
       let unacked : (k : ℕ) → test (Acked k) ≡ false = λ k. grind (arith, goes (Acked k)) in
       let last = i.before (λ f. is_unacked l f || is_waiting l f) (is_held l) (λ f e u. goes f e) (λ f e h. grind arith) in
-      let none : (other : Fate → Bool) → other to ≡ false → ((f : Fate) → (is_unacked l f || is_waiting l f) ≡ true → other f ≡ false) → standing other new ≡ standing other rows = λ other o w. i.same other o (λ f e. w f (goes f e)) in
-      record { kept = grind (arith, total_is, same_numbers); held_same = none (is_held l) (grind arith) (λ f e. grind arith); parked_same = none is_parked (grind arith) (λ f e. grind arith); back_same = none stands_back (grind arith) (λ f e. grind arith); order_kept = order; last_kept = last; others = λ n d. untouched n rows new (none (is_on n) (grind arith) (λ f e. grind arith)) }
+      let none : (other : Fate → Bool) → other to ≡ false
+          → ((f : Fate) → (is_unacked l f || is_waiting l f) ≡ true → other f ≡ false)
+          → standing other new ≡ standing other rows = λ other o w. i.same other o (λ f e. w f (goes f e)) in
+      record { kept = grind (arith, total_is, same_numbers);
+            held_same = none (is_held l) (grind arith) (λ f e. grind arith);
+          parked_same = none is_parked (grind arith) (λ f e. grind arith);
+          back_same = none stands_back (grind arith) (λ f e. grind arith); order_kept = order; last_kept = last;
+          others = λ n d. untouched n rows new (none (is_on n) (grind arith) (λ f e. grind arith)) }
 
   ends_on : is_unfinished to ≡ false → ChangesOn l rows new
   ends_on done = changes_on (grind arith) (i.before (is_unacked l) (is_waiting l) (λ f e u. grind arith) (λ f e w. grind arith))
@@ -93,7 +106,8 @@ pub record Sent (l : ℕ) (rows new : List Row) : Type 0 where
 pub sent : (l : ℕ) (rows : List Row) → Sent l rows (turned (is_waiting l) (Unacked l) 1 rows)
 sent l rows =
     let first = first_sent l rows (itself l) in
-    let changed = changes_on l (is_waiting l) (Unacked l) rows _ (turned_there (is_waiting l) (Unacked l) 1 rows) (λ f e. grind arith) (grind arith) (λ o. (first o).0) in
+    let changed = changes_on l (is_waiting l) (Unacked l) rows _ (turned_there (is_waiting l) (Unacked l) 1 rows)
+        (λ f e. grind arith) (grind arith) (λ o. (first o).0) in
     record { in_place = changed; wait_is = turned_left (is_waiting l) (Unacked l) refl 1 rows; unack_is = λ o. (first o).1 }
 
 -- AN ACKNOWLEDGEMENT.
@@ -116,13 +130,15 @@ sent_by first n rows = (sent n rows).in_place
 sent_by _ n rows = (acknowledged n 0 rows).in_place
 
 -- MESSAGES THAT ARE GIVEN UP.
-pub given_up : (l : ℕ) (sent : Bool) (cause : DiscardCause) (rows : List Row) → ChangesOn l rows (changed (cond sent (is_unacked l) (is_waiting l)) (Discarded cause) rows)
+pub given_up : (l : ℕ) (sent : Bool) (cause : DiscardCause) (rows : List Row)
+    → ChangesOn l rows (changed (cond sent (is_unacked l) (is_waiting l)) (Discarded cause) rows)
 given_up l true cause rows = ends_on l (is_unacked l) (Discarded cause) rows _ (turned_there (is_unacked l) (Discarded cause) _ rows) (λ f e. grind arith) refl
 given_up l false cause rows = ends_on l (is_waiting l) (Discarded cause) rows _ (turned_there (is_waiting l) (Discarded cause) _ rows) (λ f e. grind arith) refl
 
 -- Foremost ones that are given up, as many as wait, before they are sent.
 pub withdrawn_rows : (count l : ℕ) (rows : List Row) → ChangesOn l rows (turned (is_waiting l) (Discarded NoAnswer) count rows)
-withdrawn_rows count l rows = ends_on l (is_waiting l) (Discarded NoAnswer) rows _ (turned_there (is_waiting l) (Discarded NoAnswer) count rows) (λ f e. grind arith) refl
+withdrawn_rows count l rows = ends_on l (is_waiting l) (Discarded NoAnswer) rows _
+    (turned_there (is_waiting l) (Discarded NoAnswer) count rows) (λ f e. grind arith) refl
 
 pub withdrawn_unack : (count l : ℕ) (rows : List Row) → unack l (turned (is_waiting l) (Discarded NoAnswer) count rows) ≡ unack l rows
 withdrawn_unack count l rows = turned_same (is_waiting l) (is_unacked l) (Discarded NoAnswer) refl (λ f e. grind arith) count rows
@@ -133,7 +149,10 @@ withdrawn_wait count l rows = turned_left (is_waiting l) (Discarded NoAnswer) re
 -- A LINK THAT IS LEFT BY ITS MESSAGES.
 -- none of the three kinds is on it where nothing is
 pub empty_link : (l : ℕ) (rows : List Row) → on l rows ≡ [] → IsEmptyLink l rows
-empty_link l rows none = let kind = λ (test : Fate → Bool) (w : (f : Fate) → test f ≡ true → is_on l f ≡ true). none_within test (is_on l) w rows none in record { unack_none = kind (is_unacked l) (λ f e. grind arith); wait_none = kind (is_waiting l) (λ f e. grind arith); held_none = kind (is_held l) (λ f e. grind arith) }
+empty_link l rows none = let kind =
+    λ (test : Fate → Bool) (w : (f : Fate) → test f ≡ true → is_on l f ≡ true). none_within test (is_on l) w rows none
+    in record { unack_none = kind (is_unacked l) (λ f e. grind arith);
+      wait_none = kind (is_waiting l) (λ f e. grind arith); held_none = kind (is_held l) (λ f e. grind arith) }
 
 pub record Left (l : ℕ) (to : Fate) (rows new : List Row) : Type 0 where
   pub kept : Kept rows new

@@ -27,45 +27,78 @@ use Rattle.set_model.proofs.SoundBack.{up_not_held, down_not_waiting, alternativ
 use Rattle.set_model.proofs.Walk.{step_walks}
 
 -- ALONE: a link has the messages that it had, and more behind them.
-alone_more : (n : ℕ) (s t : State) (come : List Row) → slice_get t.links n ≡ slice_get s.links n → unack n t.rows ≡ unack n s.rows → wait n t.rows ≡ wait n s.rows ++ wait n come → held n t.rows ≡ held n s.rows ++ held n come → (is_up n s ≡ false → wait n come ≡ []) → (is_up n s ≡ true → held n come ≡ []) → LeavesAlone n s t
-alone_more n s t come link sent waits holds no_wait no_held = record { link_same = link; unack_same = sent; more = wait n come; wait_more = waits; none_more = no_wait; later = held n come; held_later = holds; none_later = no_held }
+alone_more : (n : ℕ) (s t : State) (come : List Row) → slice_get t.links n ≡ slice_get s.links n
+    → unack n t.rows ≡ unack n s.rows → wait n t.rows ≡ wait n s.rows ++ wait n come
+    → held n t.rows ≡ held n s.rows ++ held n come → (is_up n s ≡ false → wait n come ≡ [])
+    → (is_up n s ≡ true → held n come ≡ []) → LeavesAlone n s t
+alone_more n s t come link sent waits holds no_wait no_held =
+    record { link_same = link; unack_same = sent; more = wait n come; wait_more = waits; none_more = no_wait;
+      later = held n come; held_later = holds; none_later = no_held }
 
 -- a new message comes to wait for the link, or to be held for it
-alone_appended : (n : ℕ) (body : List ℕ) (fate : Fate) (s : State) (routing : Routing) → is_unacked n fate ≡ false → (is_up n s ≡ false → is_waiting n fate ≡ false) → (is_up n s ≡ true → is_held n fate ≡ false) → LeavesAlone n s (record s { rows = appended (given s) s.rows body fate; routing = routing })
-alone_appended n body fate s routing unsent waits holds = alone_more n s _ (new_row (given s) body fate ∷ []) refl (appended_out (given s) s.rows body fate (is_unacked n) unsent) (grind (arith, filter-append)) (grind (arith, filter-append)) (λ e. grind (arith, waits)) (λ e. grind (arith, holds))
+alone_appended : (n : ℕ) (body : List ℕ) (fate : Fate) (s : State) (routing : Routing) → is_unacked n fate ≡ false
+    → (is_up n s ≡ false → is_waiting n fate ≡ false) → (is_up n s ≡ true → is_held n fate ≡ false)
+    → LeavesAlone n s (record s { rows = appended (given s) s.rows body fate; routing = routing })
+alone_appended n body fate s routing unsent waits holds =
+    alone_more n s _ (new_row (given s) body fate ∷ []) refl
+    (appended_out (given s) s.rows body fate (is_unacked n) unsent) (grind (arith, filter-append))
+    (grind (arith, filter-append)) (λ e. grind (arith, waits)) (λ e. grind (arith, holds))
 
 -- rows of other places that move come to wait for the link, or to be held for it
-alone_moved : (n : ℕ) (test : Fate → Bool) (fate : Row → Fate) (s : State) (links : List LinkState) (routing : Routing) → slice_get links n ≡ slice_get s.links n → ((f : Fate) → test f ≡ true → is_on n f ≡ false) → ((x : Row) → is_unacked n (fate x) ≡ false)
-    → (link_is_up (slice_get links n) ≡ false → (x : Row) → is_waiting n (fate x) ≡ false) → (link_is_up (slice_get links n) ≡ true → (x : Row) → is_held n (fate x) ≡ false) → LeavesAlone n s (record s { links = links; rows = moved test fate s.rows; routing = routing })
-alone_moved n test fate s links routing same off unsent waits holds = alone_more n s _ (map (fated fate) (standing test s.rows)) same (grind (arith, moved_same)) (grind (arith, moved_more)) (grind (arith, moved_more)) (λ e. grind (arith, fated_none, waits)) (λ e. grind (arith, fated_none, holds))
+alone_moved : (n : ℕ) (test : Fate → Bool) (fate : Row → Fate) (s : State) (links : List LinkState) (routing : Routing)
+    → slice_get links n ≡ slice_get s.links n → ((f : Fate) → test f ≡ true → is_on n f ≡ false)
+    → ((x : Row) → is_unacked n (fate x) ≡ false)
+    → (link_is_up (slice_get links n) ≡ false → (x : Row) → is_waiting n (fate x) ≡ false)
+        → (link_is_up (slice_get links n) ≡ true → (x : Row) → is_held n (fate x) ≡ false)
+        → LeavesAlone n s (record s { links = links; rows = moved test fate s.rows; routing = routing })
+alone_moved n test fate s links routing same off unsent waits holds =
+    alone_more n s _ (map (fated fate) (standing test s.rows)) same (grind (arith, moved_same))
+    (grind (arith, moved_more)) (grind (arith, moved_more)) (λ e. grind (arith, fated_none, waits))
+    (λ e. grind (arith, fated_none, holds))
 
 pub leaves_alone : (n : ℕ) (s : State) (event : Event) → (Concerns event n s → ⊥) → LeavesAlone n s (step s event).state
 leaves_alone n s event free =
-    let alone_by = λ (s t : State) (links : slice_get t.links n ≡ slice_get s.links n) (u : Untouched n s.rows t.rows). alone_more n s t [] links u.unack_same (grind (arith, append-nil, u)) (grind (arith, append-nil, u)) (λ e. refl) (λ e. refl) in
-    let alone_then : (a b c : State) → LeavesAlone n a b → LeavesAlone n b c → LeavesAlone n a c = λ a b c p q. record { link_same = grind arith; unack_same = grind arith; more = p.more ++ q.more; wait_more = grind (arith, append_assoc); none_more = λ e. grind arith; later = p.later ++ q.later; held_later = grind (arith, append_assoc); none_later = λ e. grind arith } in
+    let alone_by = λ (s t : State) (links : slice_get t.links n ≡ slice_get s.links n) (u : Untouched n s.rows t.rows).
+        alone_more n s t [] links u.unack_same (grind (arith, append-nil, u)) (grind (arith, append-nil, u)) (λ e. refl)
+        (λ e. refl) in
+    let alone_then : (a b c : State) → LeavesAlone n a b → LeavesAlone n b c
+        → LeavesAlone n a c = λ a b c p q.
+        record { link_same = grind arith; unack_same = grind arith; more = p.more ++ q.more;
+          wait_more = grind (arith, append_assoc); none_more = λ e. grind arith; later = p.later ++ q.later;
+        held_later = grind (arith, append_assoc); none_later = λ e. grind arith } in
     let off = λ (m : ℕ) (known : Concerns event m s). apart m n (λ same. free (subst (λ (k : ℕ). Concerns event k s) same known)) in
     let concerned = λ (by : Event) (m : ℕ) (u : State) (e : event ≡ by) (known : Concerns by m u). subst (λ (v : Event). Concerns v m u) (sym e) known in
     -- what waits for a link that is up waits for no other
-    let up_waits : (to m : ℕ) (u : State) → is_up to u ≡ true → is_up m u ≡ false → is_waiting m (Waiting to) ≡ false = λ to m u up down. grind (arith, nat_tests) in
-    let off_waits = λ (links new : List LinkState) (same : slice_get new n ≡ slice_get links n) (down : link_is_up (slice_get new n) ≡ false). not_on_waiting n (fate_on (target links)) (target_off links n (rw same at down)) in
+    let up_waits : (to m : ℕ) (u : State) → is_up to u ≡ true → is_up m u ≡ false
+        → is_waiting m (Waiting to) ≡ false = λ to m u up down. grind (arith, nat_tests) in
+    let off_waits = λ (links new : List LinkState) (same : slice_get new n ≡ slice_get links n)
+        (down : link_is_up (slice_get new n) ≡ false). not_on_waiting n (fate_on (target links))
+        (target_off links n (rw same at down)) in
     let target_unheld : (to : Option ℕ) → is_held n (fate_on to) ≡ false = λ to. grind arith in
     let apart_from = λ (m : ℕ) (rows new : List Row) (g : ChangesOn m rows new). g.others in
     let risen = λ (m : ℕ) (rows new : List Row) (u : Unparked m rows new). u.others in
-    step_walks s (LeavesAlone n) (LeavesAlone n s) event (search (apart_from, risen, up_waits, alternative_up, alone_moved, back_not_on, code_back, home_back, on_other, apart_back, not_sent, off_waits, target_unheld, alone_then, alone_by, untouched, alone_appended, offered_out, up_not_held, down_not_waiting, off, concerned, inl, get_set_other, eqb-false) depth 7)
+    step_walks s (LeavesAlone n) (LeavesAlone n s) event
+        (search (apart_from, risen, up_waits, alternative_up, alone_moved, back_not_on, code_back, home_back, on_other,
+            apart_back, not_sent, off_waits, target_unheld, alone_then, alone_by, untouched, alone_appended,
+        offered_out, up_not_held, down_not_waiting, off, concerned, inl, get_set_other, eqb-false) depth 7)
 
 -- THE WINDOW.
 pub numbers-drop : (d : ℕ) (rows : List Row) → numbers (drop d rows) ≡ drop d (numbers rows)
 numbers-drop d rows = sym (drop-map (λ (row : Row). row.number) d rows)
 
-window_sent : (n : ℕ) (link : LinkState) (choice : Choice) (rows : List Row) → IsInOrder n rows → window_of n link (rows_sent choice n rows) ≡ window_after choice (window_of n link rows)
+window_sent : (n : ℕ) (link : LinkState) (choice : Choice) (rows : List Row) → IsInOrder n rows
+    → window_of n link (rows_sent choice n rows) ≡ window_after choice (window_of n link rows)
 window_sent n link choice rows order =
     let d = sent n rows in
     let unacked = ap numbers (d.unack_is order) ∙ numbers_joined (λ row. Unacked n) (unack n rows) (take 1 (wait n rows)) in
     grind (arith, take-map, numbers-drop, d.wait_is, unacked)
 
-none_brought : (unit : SignalUnit) (t : State) → ((about : ℕ) → BringsAbout t.settings.profile about unit → ⊥) → (accept : Bool) (body : Option (List ℕ)) → brought accept unit ≡ body → ((takes body t).state.links ≡ t.links) × ((takes body t).state.rows ≡ t.rows)
+none_brought : (unit : SignalUnit) (t : State) → ((about : ℕ) → BringsAbout t.settings.profile about unit → ⊥)
+    → (accept : Bool) (body : Option (List ℕ)) → brought accept unit ≡ body → ((takes body t).state.links ≡ t.links)
+    × ((takes body t).state.rows ≡ t.rows)
 none_brought unit t none accept None e = (refl, refl)
-none_brought unit t none accept (Some body) e = let no = λ (o : Order) (f : order_of t.settings.profile body ≡ Some o). none (link_of o) (grind arith) in grind (arith, no)
+none_brought unit t none accept (Some body) e = let no =
+    λ (o : Order) (f : order_of t.settings.profile body ≡ Some o). none (link_of o) (grind arith) in grind (arith, no)
 
 -- a unit that is heard has numbers of the profile
 pub heard_low : (p : Profile) (unit : SignalUnit) → is_heard p unit ≡ true → (header_in unit).bsn < fsn_count p
@@ -74,11 +107,15 @@ heard_low p (Lssu head status) e = absurd cc
 heard_low p (Msu head body) e = grind (arith, nat_tests)
 
 -- and leaves its BSN as the one last acknowledged, where it's processed
-last_heard : (p : Profile) (acked last bsn : ℕ) (b : Bool) → last ≡ (acked + fsn_before_first p) % fsn_count p → bsn < fsn_count p → (acked + (if b then (bsn + fsn_count p - last) % fsn_count p else 0) + fsn_before_first p) % fsn_count p ≡ (if b then bsn else last)
+last_heard : (p : Profile) (acked last bsn : ℕ) (b : Bool) → last ≡ (acked + fsn_before_first p) % fsn_count p
+    → bsn < fsn_count p → (acked + (if b then (bsn + fsn_count p - last) % fsn_count p else 0) + fsn_before_first p) %
+    fsn_count p ≡ (if b then bsn else last)
 last_heard p acked last bsn true e low = acked_is p acked last bsn e low
 last_heard p acked last bsn false e low = ap (λ (n : ℕ). (n + fsn_before_first p) % fsn_count p) (omega arith) ∙ sym e
 
-moved_window : (p : Profile) (last last' : ℕ) (xs xs' ys ys' : List ℕ) → last ≡ last' → xs ≡ xs' → ys ≡ ys' → ◌≡◌ {A = WindowState} (record { profile = p; last = last; unacked = xs; unsent = ys; room = 0 }) (record { profile = p; last = last'; unacked = xs'; unsent = ys'; room = 0 })
+moved_window : (p : Profile) (last last' : ℕ) (xs xs' ys ys' : List ℕ) → last ≡ last' → xs ≡ xs' → ys ≡ ys'
+    → ◌≡◌ {A = WindowState} (record { profile = p; last = last; unacked = xs; unsent = ys; room = 0 })
+    (record { profile = p; last = last'; unacked = xs'; unsent = ys'; room = 0 })
 moved_window p last last' xs xs' ys ys' e f g = rw (e, f, g) refl
 
 part_acked : (control : Control) (w : WindowState) (head : Header) (msu : Bool) → (part_of control w head msu).acked ≡ acked_by control w head

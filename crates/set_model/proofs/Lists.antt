@@ -16,17 +16,22 @@ pub get_set_same : {X : Type 0} (xs : List X) (n : ℕ) (x : X) → n < length x
 get_set_same xs n x few = slice_get-get_or (slice_set xs n x) n x (omega (arith, few, length_set xs n x)) ∙ ap Some (get_or-set_same xs n x x few)
 
 pub get_set_other : {X : Type 0} (xs : List X) (n m : ℕ) (x : X) → n ≢ m → slice_get (slice_set xs n x) m ≡ slice_get xs m
-get_set_other xs n m x other = grind (arith, slice_get-get_or (slice_set xs n x) m x, slice_get-get_or xs m x, slice_get_past (slice_set xs n x) m, slice_get_past xs m, get_or-set_other xs n m x x (λ e. other (sym e)), length_set xs n x)
+get_set_other xs n m x other =
+    grind (arith, slice_get-get_or (slice_set xs n x) m x, slice_get-get_or xs m x, slice_get_past (slice_set xs n x) m,
+      slice_get_past xs m, get_or-set_other xs n m x x (λ e. other (sym e)), length_set xs n x)
 
 pub set_same : {X : Type 0} (xs : List X) (n : ℕ) (x : X) → slice_get xs n ≡ Some x → slice_set xs n x ≡ xs
 set_same xs n x there = grind (arith, set-get_or xs n x, get_or_from_slice_get)
 
 -- where one place is set, each place holds what was set or what it held
-pub at_set : {X : Type 0} (xs : List X) (n m : ℕ) (x y : X) → slice_get (slice_set xs n x) m ≡ Some y → ((m ≡ n) × (y ≡ x)) ⊎ ((m ≢ n) × (slice_get xs m ≡ Some y))
+pub at_set : {X : Type 0} (xs : List X) (n m : ℕ) (x y : X) → slice_get (slice_set xs n x) m ≡ Some y
+    → ((m ≡ n) × (y ≡ x)) ⊎ ((m ≢ n) × (slice_get xs m ≡ Some y))
 at_set xs n m x y there = grind (arith, get_set_same, get_set_other, within, length_set)
 
 -- what holds of the new element and of the others holds of each
-pub each_set : {X : Type 0} (P : ℕ → X → Type 0) (xs : List X) (n : ℕ) (x : X) → P n x → ((m : ℕ) (y : X) → (n == m) ≡ false → slice_get xs m ≡ Some y → P m y) → (m : ℕ) (y : X) → slice_get (slice_set xs n x) m ≡ Some y → P m y
+pub each_set : {X : Type 0} (P : ℕ → X → Type 0) (xs : List X) (n : ℕ) (x : X) → P n x
+    → ((m : ℕ) (y : X) → (n == m) ≡ false → slice_get xs m ≡ Some y → P m y) → (m : ℕ) (y : X)
+    → slice_get (slice_set xs n x) m ≡ Some y → P m y
 each_set P xs n x one others m y there = grind (arith, nat_tests, at_set)
 
 -- a place that is set to something of the same image
@@ -47,8 +52,10 @@ pub present : {X : Type 0} (xs : List X) (n : ℕ) → n < length xs → (x : X)
 present xs n few = grind (arith, slice_get_cases xs n)
 
 -- The link that messages are moved to.
-pub target_up : (links : List LinkState) (to : ℕ) → target links ≡ Some to → (link : LinkState) × (slice_get links to ≡ Some link) × (has_phase_up link.phase ≡ true)
-target_up links to e = at_map (λ (l : LinkState). has_phase_up l.phase) links to true (subst (IsTarget _) e (target_is (map (λ (l : LinkState). has_phase_up l.phase) links))).0
+pub target_up : (links : List LinkState) (to : ℕ) → target links ≡ Some to → (link : LinkState)
+    × (slice_get links to ≡ Some link) × (has_phase_up link.phase ≡ true)
+target_up links to e = at_map (λ (l : LinkState). has_phase_up l.phase) links to true
+    (subst (IsTarget _) e (target_is (map (λ (l : LinkState). has_phase_up l.phase) links))).0
 
 -- where there is none, no link is up
 pub none_up : (links : List LinkState) (n : ℕ) (link : LinkState) → target links ≡ None → slice_get links n ≡ Some link → has_phase_up link.phase ≡ false

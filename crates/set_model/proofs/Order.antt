@@ -10,12 +10,15 @@ use Rattle.set_model.specs.State.{Asked, Changing}
 use Rattle.set_route.proofs.Quiet.{at_place}
 
 -- ROWS THAT MOVE: none that goes comes to stand there.
-pub gone_none : (test : Fate → Bool) (fate : Row → Fate) (P : Row → Type 0) (other : Fate → Bool) → ((x : Row) → test x.fate ≡ true → P x → other (fate x) ≡ false) → (rows : List Row) → Each P rows → standing other (map (fated fate) (standing test rows)) ≡ []
+pub gone_none : (test : Fate → Bool) (fate : Row → Fate) (P : Row → Type 0) (other : Fate → Bool)
+    → ((x : Row) → test x.fate ≡ true → P x → other (fate x) ≡ false) → (rows : List Row) → Each P rows
+    → standing other (map (fated fate) (standing test rows)) ≡ []
 gone_none test fate P other so [] e = refl
 gone_none test fate P other so (x ∷ rows) e = grind (arith, gone_none test fate P other so rows e.1)
 
 -- none stands there, since what does is so
-pub none_standing : (P : Row → Type 0) (test : Fate → Bool) → ((x : Row) → test x.fate ≡ true → P x → ⊥) → (rows : List Row) → Each P rows → standing test rows ≡ []
+pub none_standing : (P : Row → Type 0) (test : Fate → Bool) → ((x : Row) → test x.fate ≡ true → P x → ⊥)
+    → (rows : List Row) → Each P rows → standing test rows ≡ []
 none_standing P test never [] e = refl
 none_standing P test never (x ∷ rows) e = grind (arith, none_standing P test never rows e.1)
 
@@ -34,18 +37,24 @@ ascends_end k [] below a = (tt, tt)
 ascends_end k (n ∷ ns) below a = (each_append (λ m. n < m) ns (k ∷ []) a.0 (below 0 n refl, tt), ascends_end k ns (λ i m e. below (suc i) m e) a.1)
 
 -- as that of a new message does
-pub ascends_appended : (given : ℕ) (p : Row → Bool) (rows : List Row) (body : List ℕ) (fate : Fate) → IsNumbered given rows → IsAscending (numbers (filter p rows)) → IsAscending (numbers (filter p (appended given rows body fate)))
+pub ascends_appended : (given : ℕ) (p : Row → Bool) (rows : List Row) (body : List ℕ) (fate : Fate)
+    → IsNumbered given rows → IsAscending (numbers (filter p rows))
+    → IsAscending (numbers (filter p (appended given rows body fate)))
 ascends_appended given p rows body fate numbered a =
     let last = ascends_end given (numbers (filter p rows)) (λ i m e. (found_by_number given p rows i m numbered e).below) a in
     grind (arith, filter-append, map-append, append-nil, last)
 
 -- WHAT STANDS BACK, as streams move.
 -- a stream on its way back goes to the home of its code, which is open
-pub coded_at : (r : Routing) (stream : ℕ) → IsRouting r → (to code via : ℕ) → place_of stream r ≡ Changing to code via → (home_of code ≡ to) × (code_of code r ≡ Asked)
+pub coded_at : (r : Routing) (stream : ℕ) → IsRouting r → (to code via : ℕ) → place_of stream r ≡ Changing to code via
+    → (home_of code ≡ to) × (code_of code r ≡ Asked)
 coded_at r stream sound to code via e = subst (IsCoded r) e (at_place (IsCoded r) tt r.streams stream sound.coded)
 
 -- where a stream on its way back by a code of which nothing moves stays on it
-pub stood : (test : Fate → Bool) (old new : Routing) → ((k : ℕ) → k < 16 → (code via : ℕ) → test (Back code) ≡ false → place_of k old ≡ Changing (home_of code) code via → (via' : ℕ) × (place_of k new ≡ Changing (home_of code) code via')) → (x : Row) (f : Fate) → not (test f) ≡ true → IsBackOf old x f → IsBackOf new x f
+pub stood : (test : Fate → Bool) (old new : Routing)
+    → ((k : ℕ) → k < 16 → (code via : ℕ) → test (Back code) ≡ false → place_of k old ≡ Changing (home_of code) code via
+      → (via' : ℕ) × (place_of k new ≡ Changing (home_of code) code via')) → (x : Row) (f : Fate) → not (test f) ≡ true
+    → IsBackOf old x f → IsBackOf new x f
 stood test old new stays x f out b = grind arith
 
 -- of the rows it asks only those that stand back
@@ -74,12 +83,17 @@ module _ (p q : Fate → Bool) where
   before_filter keep (x ∷ rows) o = grind (arith, filter_comm, before_filter keep rows o.1)
 
   -- rows of both kinds tell it alone
-  pub before_within : (r : Fate → Bool) → ((f : Fate) → p f ≡ true → r f ≡ true) → ((f : Fate) → q f ≡ true → r f ≡ true) → (rows : List Row) → AreBefore p q (standing r rows) → AreBefore p q rows
+  pub before_within : (r : Fate → Bool) → ((f : Fate) → p f ≡ true → r f ≡ true)
+      → ((f : Fate) → q f ≡ true → r f ≡ true) → (rows : List Row) → AreBefore p q (standing r rows)
+      → AreBefore p q rows
   before_within r a b [] o = tt
   before_within r a b (x ∷ rows) o = grind (arith, filter_within, a, b, before_within r a b rows)
 
 -- THE FIRST MESSAGE THAT WAITS IS SENT: it is then the last one that was.
-pub first_sent : (l : ℕ) (rows : List Row) → (l == l) ≡ true → IsInOrder l rows → IsInOrder l (turned (is_waiting l) (Unacked l) 1 rows) × (unack l (turned (is_waiting l) (Unacked l) 1 rows) ≡ unack l rows ++ map (with_fate (Unacked l)) (take 1 (wait l rows)))
+pub first_sent : (l : ℕ) (rows : List Row) → (l == l) ≡ true → IsInOrder l rows
+    → IsInOrder l (turned (is_waiting l) (Unacked l) 1 rows)
+    × (unack l (turned (is_waiting l) (Unacked l) 1 rows) ≡ unack l rows
+      ++ map (with_fate (Unacked l)) (take 1 (wait l rows)))
 first_sent l [] s o = (tt, refl)
 first_sent l (x ∷ rows) s o = grind (arith, first_sent l rows s o.1)
 

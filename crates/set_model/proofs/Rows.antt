@@ -21,7 +21,8 @@ pub filter_within : (p q : Row → Bool) → ((x : Row) → p x ≡ true → q x
 filter_within p q w [] = refl
 filter_within p q w (x ∷ xs) = grind (arith, filter_within p q w xs)
 
-pub none_within : (test other : Fate → Bool) → ((f : Fate) → test f ≡ true → other f ≡ true) → (rows : List Row) → standing other rows ≡ [] → standing test rows ≡ []
+pub none_within : (test other : Fate → Bool) → ((f : Fate) → test f ≡ true → other f ≡ true) → (rows : List Row)
+    → standing other rows ≡ [] → standing test rows ≡ []
 none_within test other w rows none = sym (filter_within (λ row. test row.fate) (λ row. other row.fate) (λ row. w row.fate) rows) ∙ ap (standing test) none
 
 -- nothing passes both
@@ -33,11 +34,13 @@ pub fewer_filter : (p : Row → Bool) (rows : List Row) → length (filter p row
 fewer_filter p rows = omega (arith, length-filter_both p (λ row. not (p row)) (λ row. refl) rows)
 
 -- Rows that all got their fates.
-pub filter_fated : (p : Row → Bool) (fate : Row → Fate) → ((x : Row) → p (fated fate x) ≡ p x) → (xs : List Row) → filter p (map (fated fate) xs) ≡ map (fated fate) (filter p xs)
+pub filter_fated : (p : Row → Bool) (fate : Row → Fate) → ((x : Row) → p (fated fate x) ≡ p x) → (xs : List Row)
+    → filter p (map (fated fate) xs) ≡ map (fated fate) (filter p xs)
 filter_fated p fate same [] = refl
 filter_fated p fate same (x ∷ xs) = grind (arith, filter_fated p fate same xs)
 
-pub fated_all : (test : Fate → Bool) (fate : Row → Fate) → ((x : Row) → test (fate x) ≡ true) → (xs : List Row) → standing test (map (fated fate) xs) ≡ map (fated fate) xs
+pub fated_all : (test : Fate → Bool) (fate : Row → Fate) → ((x : Row) → test (fate x) ≡ true) → (xs : List Row)
+    → standing test (map (fated fate) xs) ≡ map (fated fate) xs
 fated_all test fate h [] = refl
 fated_all test fate h (x ∷ xs) = rw (h x) (ap (λ (ys : List Row). fated fate x ∷ ys) (fated_all test fate h xs))
 
@@ -68,14 +71,17 @@ module _ (test : Fate → Bool) (fate : Row → Fate) where
   moved_length rows = grind (arith, length-append, length-map, length-filter_both)
 
   -- a test that doesn't look at the fate keeps the rows of the move that the list kept
-  pub filter_moved : (p : Row → Bool) → ((x : Row) → p (fated fate x) ≡ p x) → (rows : List Row) → filter p (moved test fate rows) ≡ moved test fate (filter p rows)
+  pub filter_moved : (p : Row → Bool) → ((x : Row) → p (fated fate x) ≡ p x) → (rows : List Row)
+      → filter p (moved test fate rows) ≡ moved test fate (filter p rows)
   filter_moved p same rows = search (filter-append, filter_comm, filter_fated)
 
   pub moved_numbered : (given : ℕ) (rows : List Row) → IsNumbered given rows → IsNumbered given (moved test fate rows)
   moved_numbered given rows numbered number = grind (arith, filter_moved, moved_length, numbered)
 
   pub moved_fit : (q : Profile) (rows : List Row) → AreFit q rows → AreFit q (moved test fate rows)
-  moved_fit q rows a = let fits = λ (p : Row → Bool). each_filter _ (λ row. length row.body ≤ longest_body q) p (λ x e f. f) rows a in search (each_append, fits, fit_fated)
+  moved_fit q rows a = let fits =
+      λ (p : Row → Bool). each_filter _ (λ row. length row.body ≤ longest_body q) p (λ x e f. f) rows a
+      in search (each_append, fits, fit_fated)
 
 -- WHAT THE FILTERS SEE OF A MOVE.
 module _ (test other : Fate → Bool) (fate : Row → Fate) (rows : List Row) where
@@ -91,19 +97,24 @@ module _ (test other : Fate → Bool) (fate : Row → Fate) (rows : List Row) wh
   moved_gone h w = grind (arith, parts, filter_apart, fated_none)
 
   -- a place where none goes and none comes
-  pub moved_same : ((row : Row) → other (fate row) ≡ false) → ((f : Fate) → test f ≡ true → other f ≡ false) → standing other (moved test fate rows) ≡ standing other rows
+  pub moved_same : ((row : Row) → other (fate row) ≡ false) → ((f : Fate) → test f ≡ true → other f ≡ false)
+      → standing other (moved test fate rows) ≡ standing other rows
   moved_same h w = search (parts, others_stay, fated_none, append-nil)
 
   -- a place where they come, behind those that stand there
-  pub moved_joined : ((row : Row) → other (fate row) ≡ true) → ((f : Fate) → test f ≡ true → other f ≡ false) → standing other (moved test fate rows) ≡ standing other rows ++ map (fated fate) (standing test rows)
+  pub moved_joined : ((row : Row) → other (fate row) ≡ true) → ((f : Fate) → test f ≡ true → other f ≡ false)
+      → standing other (moved test fate rows) ≡ standing other rows ++ map (fated fate) (standing test rows)
   moved_joined h w = search (parts, others_stay, fated_all)
 
   -- a place where some of them come, behind those that stand there
-  pub moved_more : ((f : Fate) → test f ≡ true → other f ≡ false) → standing other (moved test fate rows) ≡ standing other rows ++ standing other (map (fated fate) (standing test rows))
+  pub moved_more : ((f : Fate) → test f ≡ true → other f ≡ false)
+      → standing other (moved test fate rows) ≡ standing other rows
+      ++ standing other (map (fated fate) (standing test rows))
   moved_more w = parts ∙ ap (λ (ys : List Row). ys ++ standing other (map (fated fate) (standing test rows))) (others_stay w)
 
   -- a place from which they go, where none of them comes
-  pub moved_off : standing other (map (fated fate) (standing test rows)) ≡ [] → standing other (moved test fate rows) ≡ standing (λ f. not (test f)) (standing other rows)
+  pub moved_off : standing other (map (fated fate) (standing test rows)) ≡ []
+      → standing other (moved test fate rows) ≡ standing (λ f. not (test f)) (standing other rows)
   moved_off e = grind (arith, parts, append-nil, filter_comm)
 
 -- where no row moves
@@ -112,7 +123,10 @@ moved_nothing test fate [] e = refl
 moved_nothing test fate (x ∷ rows) e = grind (arith, moved_nothing test fate rows)
 
 -- Each message is counted in one place.
-pub all_counted : (rows : List Row) → length (standing waits rows) + length (standing was_sent rows) + length (standing was_acked rows) + length (standing was_held rows) + length (standing is_parked rows) + length (standing stands_back rows) + length (standing was_discarded rows) ≡ length rows
+pub all_counted : (rows : List Row)
+    → length (standing waits rows) + length (standing was_sent rows) + length (standing was_acked rows) + length
+    (standing was_held rows) + length (standing is_parked rows) + length (standing stands_back rows) + length
+    (standing was_discarded rows) ≡ length rows
 all_counted [] = refl
 all_counted (x ∷ rows) = grind (arith, all_counted rows)
 
@@ -126,15 +140,20 @@ with_number number rows = filter (λ row. row.number == number) rows
 abbrev pub new_row : ℕ → List ℕ → Fate → Row
 new_row number body fate = record { number = number; body = body; fate = fate }
 
-pub numbered_appended : (given : ℕ) (rows : List Row) (body : List ℕ) (fate : Fate) → IsNumbered given rows → IsNumbered (given + 1) (appended given rows body fate)
+pub numbered_appended : (given : ℕ) (rows : List Row) (body : List ℕ) (fate : Fate) → IsNumbered given rows
+    → IsNumbered (given + 1) (appended given rows body fate)
 numbered_appended given rows body fate numbered number = grind (arith, nat_tests, filter-append, length-append, length_push)
 
-pub same_numbers : (given : ℕ) (rows new : List Row) → ((number : ℕ) → length (with_number number new) ≡ length (with_number number rows)) → IsNumbered given rows → IsNumbered given new
+pub same_numbers : (given : ℕ) (rows new : List Row)
+    → ((number : ℕ) → length (with_number number new) ≡ length (with_number number rows)) → IsNumbered given rows
+    → IsNumbered given new
 same_numbers given rows new each numbered number = omega (arith, each number, numbered number)
 
 -- Rows that get another fate in their places: the first n where a test tells. All of them are as many as there are rows.
 -- What is kept where a row stays, and where one turns, is kept by the change.
-module _ (test : Fate → Bool) (fate : Fate) (P : List Row → List Row → Type 0) (none : P [] []) (stays : (x : Row) (xs ys : List Row) → P xs ys → P (x ∷ xs) (x ∷ ys)) (turns : (x : Row) (xs ys : List Row) → test x.fate ≡ true → P xs ys → P (x ∷ xs) (with_fate fate x ∷ ys)) where
+module _ (test : Fate → Bool) (fate : Fate) (P : List Row → List Row → Type 0) (none : P [] [])
+    (stays : (x : Row) (xs ys : List Row) → P xs ys → P (x ∷ xs) (x ∷ ys))
+    (turns : (x : Row) (xs ys : List Row) → test x.fate ≡ true → P xs ys → P (x ∷ xs) (with_fate fate x ∷ ys)) where
   pub where_turned : (n : ℕ) (rows : List Row) → P rows (turned test fate n rows)
   where_turned zero [] = none
   where_turned zero (x ∷ rows) = stays x rows rows (where_turned zero rows)
@@ -154,17 +173,21 @@ pub record InPlace (test : Fate → Bool) (fate : Fate) (xs ys : List Row) : Typ
   pub same : (other : Fate → Bool) → other fate ≡ false → ((f : Fate) → test f ≡ true → other f ≡ false) → standing other ys ≡ standing other xs
   -- places to which none comes that wasn't there
   pub none : (p : Fate → Bool) → ((f : Fate) → test f ≡ true → p fate ≡ true → p f ≡ true) → standing p xs ≡ [] → standing p ys ≡ []
-  pub before : (p q : Fate → Bool) → ((f : Fate) → test f ≡ true → p fate ≡ true → p f ≡ true) → ((f : Fate) → test f ≡ true → q fate ≡ true → q f ≡ true) → AreBefore p q xs → AreBefore p q ys
+  pub before : (p q : Fate → Bool) → ((f : Fate) → test f ≡ true → p fate ≡ true → p f ≡ true)
+      → ((f : Fate) → test f ≡ true → q fate ≡ true → q f ≡ true) → AreBefore p q xs → AreBefore p q ys
 
 pub turned_there : (test : Fate → Bool) (fate : Fate) (n : ℕ) (rows : List Row) → InPlace test fate rows (turned test fate n rows)
 turned_there test fate n rows = where_turned test fate (InPlace test fate) (grind arith) (λ x xs ys p. grind arith) (λ x xs ys h p. grind arith) n rows
 
 -- A place where none turns and none comes.
-pub turned_same : (test other : Fate → Bool) (fate : Fate) → other fate ≡ false → ((f : Fate) → test f ≡ true → other f ≡ false) → (n : ℕ) (rows : List Row) → standing other (turned test fate n rows) ≡ standing other rows
+pub turned_same : (test other : Fate → Bool) (fate : Fate) → other fate ≡ false
+    → ((f : Fate) → test f ≡ true → other f ≡ false) → (n : ℕ) (rows : List Row)
+    → standing other (turned test fate n rows) ≡ standing other rows
 turned_same test other fate o w n rows = (turned_there test fate n rows).same other o w
 
 -- those that turned, or changed, left their place
-pub turned_left : (test : Fate → Bool) (fate : Fate) → test fate ≡ false → (n : ℕ) (rows : List Row) → standing test (turned test fate n rows) ≡ drop n (standing test rows)
+pub turned_left : (test : Fate → Bool) (fate : Fate) → test fate ≡ false → (n : ℕ) (rows : List Row)
+    → standing test (turned test fate n rows) ≡ drop n (standing test rows)
 turned_left test fate o zero rows = refl
 turned_left test fate o (suc n) [] = refl
 turned_left test fate o (suc n) (x ∷ rows) = grind (arith, turned_left test fate o n rows, turned_left test fate o (suc n) rows)
@@ -190,27 +213,34 @@ not_found given number rows numbered above = let none = numbered number in grind
 
 -- A MOVE: the row of a number is the one that it was, with the fate if it moved.
 module _ (test : Fate → Bool) (fate : Row → Fate) where
-  few_moved : (rows : List Row) → length rows ≤ 1 → slice_get (moved test fate rows) 0 ≡ option_map (λ row. cond (test row.fate) (fated fate row) row) (slice_get rows 0)
+  few_moved : (rows : List Row) → length rows ≤ 1
+      → slice_get (moved test fate rows) 0
+      ≡ option_map (λ row. cond (test row.fate) (fated fate row) row) (slice_get rows 0)
   few_moved [] l = refl
   few_moved (x ∷ []) l = grind arith
   few_moved (x ∷ y ∷ rows) l = absurd (omega (arith, l))
 
-  row_moved : (given number : ℕ) (rows : List Row) → IsNumbered given rows → row_of number (moved test fate rows) ≡ option_map (λ row. cond (test row.fate) (fated fate row) row) (row_of number rows)
+  row_moved : (given number : ℕ) (rows : List Row) → IsNumbered given rows
+      → row_of number (moved test fate rows)
+      ≡ option_map (λ row. cond (test row.fate) (fated fate row) row) (row_of number rows)
   row_moved given number rows numbered = let few = at_most_one given number rows numbered in grind (arith, row_is_first, filter_moved, few_moved, few)
 
-  pub place_moved : (given number : ℕ) (rows : List Row) → IsNumbered given rows → place number (moved test fate rows) ≡ option_map (λ r. cond (test r.fate) (fate r) r.fate) (row_of number rows)
+  pub place_moved : (given number : ℕ) (rows : List Row) → IsNumbered given rows
+      → place number (moved test fate rows) ≡ option_map (λ r. cond (test r.fate) (fate r) r.fate) (row_of number rows)
   place_moved given number rows numbered = let one = row_moved given number rows numbered in grind (arith, one)
 
   pub body_moved : (given number : ℕ) (rows : List Row) → IsNumbered given rows → body_at number (moved test fate rows) ≡ body_at number rows
   body_moved given number rows numbered = let one = row_moved given number rows numbered in grind (arith, one)
 
 -- UNIQUE: a row of a filter is the one that its number finds.
-found_in : (p : Row → Bool) (rows : List Row) (i k : ℕ) (row : Row) → slice_get (filter p rows) i ≡ Some row → row.number ≡ k → length (with_number k rows) ≤ 1 → with_number k rows ≡ row ∷ []
+found_in : (p : Row → Bool) (rows : List Row) (i k : ℕ) (row : Row) → slice_get (filter p rows) i ≡ Some row
+    → row.number ≡ k → length (with_number k rows) ≤ 1 → with_number k rows ≡ row ∷ []
 found_in p [] i k row e n l = absurd cc
 found_in p (x ∷ rows) zero k row e n l = grind (arith, nat_tests, no_rows (with_number k rows), found_in p rows zero k row)
 found_in p (x ∷ rows) (suc i) k row e n l = grind (arith, nat_tests, no_rows (with_number k rows), found_in p rows i k row, found_in p rows (suc i) k row)
 
-pub row_in_filter : (given : ℕ) (p : Row → Bool) (rows : List Row) (i k : ℕ) (row : Row) → IsNumbered given rows → slice_get (filter p rows) i ≡ Some row → row.number ≡ k → row_of k rows ≡ Some row
+pub row_in_filter : (given : ℕ) (p : Row → Bool) (rows : List Row) (i k : ℕ) (row : Row) → IsNumbered given rows
+    → slice_get (filter p rows) i ≡ Some row → row.number ≡ k → row_of k rows ≡ Some row
 row_in_filter given p rows i k row numbered e n = let one = found_in p rows i k row e n (at_most_one given k rows numbered) in grind (arith, row_is_first)
 
 -- Whoever keeps the numbers of a filter, as a window does, finds under each of them the row of that place.
@@ -220,7 +250,8 @@ pub record Found (given : ℕ) (p : Row → Bool) (rows : List Row) (i number : 
   pub body_is : body_at number rows ≡ Some row.body
   pub below : number < given
 
-pub found_by_number : (given : ℕ) (p : Row → Bool) (rows : List Row) (i number : ℕ) → IsNumbered given rows → slice_get (numbers (filter p rows)) i ≡ Some number → Found given p rows i number
+pub found_by_number : (given : ℕ) (p : Row → Bool) (rows : List Row) (i number : ℕ) → IsNumbered given rows
+    → slice_get (numbers (filter p rows)) i ≡ Some number → Found given p rows i number
 found_by_number given p rows i number numbered e =
     let at = at_map (λ (row : Row). row.number) (filter p rows) i number e in
     let one = found_in p rows i number at.0 at.1 at.2 (at_most_one given number rows numbered) in
