@@ -6,7 +6,7 @@ use Rattle.l2_units.specs.declared.status.Status.{Status}
 use Rattle.l2_units.specs.declared.timer.TimerOrder.{TimerOrder}
 use Rattle.l2_align.specs.declared.align.State.{State}
 use Rattle.l2_align.specs.declared.signals.AlignIn.{AlignIn}
-use Rattle.l2_align.specs.declared.signals.End.{End}
+use Rattle.l2_align.specs.declared.signals.Outcome.{Outcome}
 use Rattle.l2_align.specs.declared.signals.Monitor.{Monitor}
 use Rattle.l2_align.specs.Alignment.{Alignment, initial}
 use Rattle.l2_align.specs.Table.{Row, row, table, aborted, counted_abort, idle, stop_t4, silent, proving, shortened, heard_not_aligned, heard_aligned, heard_proving}
@@ -20,7 +20,7 @@ either P false x y p q = q
 -- An end leaves a new machine.
 
 abbrev Ends : Row → Type 0
-Ends r = (e : End) → r.out.end ≡ Some e → r.next ≡ initial
+Ends r = (e : Outcome) → r.out.outcome ≡ Some e → r.next ≡ initial
 
 ends_aborted : (a : Alignment) → Ends (aborted a)
 ends_aborted a = either Ends (nat_lt (a.aborts + 1) 5) _ _ (λ e h. cc) (λ e h. refl)
@@ -52,7 +52,7 @@ ends State.Proving AlignIn.Good a = either Ends a.pending _ _ (λ e h. cc) (λ e
 ends State.Proving AlignIn.T4 a = either Ends a.pending _ _ (λ e h. cc) (λ e h. refl)
 ends _ _ a = λ e h. cc
 
-pub new_at_end : (a : Alignment) (i : AlignIn) (e : End) → (row a i).out.end ≡ Some e → (row a i).next ≡ initial
+pub new_at_end : (a : Alignment) (i : AlignIn) (e : Outcome) → (row a i).out.outcome ≡ Some e → (row a i).next ≡ initial
 new_at_end a i = ends a.state i a
 
 -- Complete is told at an end of T4, of an unbroken period.
@@ -64,7 +64,7 @@ pub record IsWhole (s : State) (a : Alignment) (i : AlignIn) : Type 0 where
 
 -- this row doesn't tell Complete
 abbrev GoesOn : Row → Type 0
-GoesOn r = r.out.end ≢ Some End.Complete
+GoesOn r = r.out.outcome ≢ Some Outcome.Complete
 
 goes_on_not_aligned : (s : Status) (a : Alignment) → GoesOn (heard_not_aligned s a)
 goes_on_not_aligned Status.Normal a h = cc
@@ -81,23 +81,23 @@ goes_on_proving _ a = λ h. cc
 goes_on_abort : (a : Alignment) → GoesOn (table State.Proving AlignIn.Abort a)
 goes_on_abort a = either GoesOn a.pending _ _ (λ h. cc) (either GoesOn (nat_lt (a.aborts + 1) 5) _ _ (λ h. cc) (λ h. cc))
 
-completes_by : (b : Bool) (a : Alignment) → (if b then proving a else idle stop_t4 (Some End.Complete)).out.end ≡ Some End.Complete → b ≡ false
+completes_by : (b : Bool) (a : Alignment) → (if b then proving a else idle stop_t4 (Some Outcome.Complete)).out.outcome ≡ Some Outcome.Complete → b ≡ false
 completes_by true a h = cc
 completes_by false a h = refl
 
-completes : (s : State) (i : AlignIn) (a : Alignment) → (table s i a).out.end ≡ Some End.Complete → IsWhole s a i
+completes : (s : State) (i : AlignIn) (a : Alignment) → (table s i a).out.outcome ≡ Some Outcome.Complete → IsWhole s a i
 completes State.Idle AlignIn.Start a h = absurd cc
 completes State.NotAligned (AlignIn.Heard status) a h = absurd (goes_on_not_aligned status a h)
 completes State.Aligned (AlignIn.Heard status) a h = absurd (goes_on_aligned status a h)
 completes State.Proving (AlignIn.Heard status) a h = absurd (goes_on_proving status a h)
 completes State.Proving AlignIn.Emergency a h =
-    absurd (either (λ r. r.out.end ≢ Some End.Complete) a.short _ _ (λ k. cc) (λ k. cc) h)
+    absurd (either (λ r. r.out.outcome ≢ Some Outcome.Complete) a.short _ _ (λ k. cc) (λ k. cc) h)
 completes State.Proving AlignIn.Abort a h = absurd (goes_on_abort a h)
 completes State.Proving AlignIn.Good a h = absurd (either GoesOn a.pending _ _ (λ k. cc) (λ k. cc) h)
 completes State.Proving AlignIn.T4 a h = record { input = refl; state = refl; pending = completes_by a.pending a h }
 completes _ _ a h = absurd cc
 
-pub whole_at_complete : (a : Alignment) (i : AlignIn) → (row a i).out.end ≡ Some End.Complete → IsWhole a.state a i
+pub whole_at_complete : (a : Alignment) (i : AlignIn) → (row a i).out.outcome ≡ Some Outcome.Complete → IsWhole a.state a i
 whole_at_complete a i h = completes a.state i a h
 
 -- A row that doesn't start T4 and leaves the machine proving, no abort waiting, found it so; it was no abort, and left
@@ -180,7 +180,7 @@ pub record Counts (a next : Alignment) (n : ℕ) : Type 0 where
 abbrev CountsIn : Alignment → AlignIn → Row → Type 0
 CountsIn a i r = r.next.state ≡ State.Proving → Counts a r.next (counted i r.out.monitor)
 
-counts_few : (b : Bool) (a : Alignment) → b ≡ nat_lt (a.aborts + 1) 5 → CountsIn a AlignIn.Abort (if b then counted_abort a else idle stop_t4 (Some End.NotPossible))
+counts_few : (b : Bool) (a : Alignment) → b ≡ nat_lt (a.aborts + 1) 5 → CountsIn a AlignIn.Abort (if b then counted_abort a else idle stop_t4 (Some Outcome.NotPossible))
 counts_few true a e h = record { more = refl; few = grind (arith, nat_tests) }
 counts_few false a e h = absurd cc
 
@@ -209,14 +209,14 @@ counts_on a i e f = subst (λ s. CountsIn a i (table s i a)) (sym e) (counts i a
 
 -- The abort that counts as the fifth, and no other, gives NotPossible.
 
-fifth_by : (b : Bool) (a : Alignment) → b ≡ nat_lt (a.aborts + 1) 5 → a.aborts ≤ 4 → ((if b then counted_abort a else idle stop_t4 (Some End.NotPossible)).out.end ≡ Some End.NotPossible) ↔ (a.aborts ≡ 4)
+fifth_by : (b : Bool) (a : Alignment) → b ≡ nat_lt (a.aborts + 1) 5 → a.aborts ≤ 4 → ((if b then counted_abort a else idle stop_t4 (Some Outcome.NotPossible)).out.outcome ≡ Some Outcome.NotPossible) ↔ (a.aborts ≡ 4)
 fifth_by true a e f = (λ h. absurd cc, λ h. absurd (grind (arith, nat_tests)))
 fifth_by false a e f = (λ h. grind (arith, nat_tests), λ h. refl)
 
-fifth : (b : Bool) (a : Alignment) → a.aborts ≤ 4 → let r = if b then silent a else aborted a in r.out.monitor ≡ Monitor.Off → (r.out.end ≡ Some End.NotPossible) ↔ (a.aborts ≡ 4)
+fifth : (b : Bool) (a : Alignment) → a.aborts ≤ 4 → let r = if b then silent a else aborted a in r.out.monitor ≡ Monitor.Off → (r.out.outcome ≡ Some Outcome.NotPossible) ↔ (a.aborts ≡ 4)
 fifth true a f m = absurd cc
 fifth false a f m = fifth_by (nat_lt (a.aborts + 1) 5) a refl f
 
-pub fifth_on : (a : Alignment) → a.state ≡ State.Proving → a.aborts ≤ 4 → (row a AlignIn.Abort).out.monitor ≡ Monitor.Off → ((row a AlignIn.Abort).out.end ≡ Some End.NotPossible) ↔ (a.aborts ≡ 4)
+pub fifth_on : (a : Alignment) → a.state ≡ State.Proving → a.aborts ≤ 4 → (row a AlignIn.Abort).out.monitor ≡ Monitor.Off → ((row a AlignIn.Abort).out.outcome ≡ Some Outcome.NotPossible) ↔ (a.aborts ≡ 4)
 fifth_on a e f =
-    subst (λ s. let r = table s AlignIn.Abort a in r.out.monitor ≡ Monitor.Off → (r.out.end ≡ Some End.NotPossible) ↔ (a.aborts ≡ 4)) (sym e) (fifth a.pending a f)
+    subst (λ s. let r = table s AlignIn.Abort a in r.out.monitor ≡ Monitor.Off → (r.out.outcome ≡ Some Outcome.NotPossible) ↔ (a.aborts ≡ 4)) (sym e) (fifth a.pending a f)

@@ -3,7 +3,7 @@ use Rattle.std.proofs.Common.{◌≡◌, ◌+◌, ◌≤◌, ◌⊎◌, inl, inr
 use Rattle.l2_units.specs.Orders.{is_start}
 use Rattle.l2_align.specs.declared.align.State.{State}
 use Rattle.l2_align.specs.declared.signals.AlignIn.{AlignIn}
-use Rattle.l2_align.specs.declared.signals.End.{End}
+use Rattle.l2_align.specs.declared.signals.Outcome.{Outcome}
 use Rattle.l2_align.specs.declared.signals.Monitor.{Monitor}
 use Rattle.l2_align.specs.Alignment.{Alignment, initial}
 use Rattle.l2_align.specs.Table.{row}
@@ -69,7 +69,7 @@ counted_on a (i ∷ is) f h =
     let rest = counted_on (row a i).next is c.few h.1 in
     record { state = rest.state; count = omega (arith, rest.count, c.more); few = rest.few }
 
-fifth_after : (b z : Alignment) (is : List AlignIn) → z ≡ after b is → b.aborts ≡ 0 → StaysProving b is → (row z AlignIn.Abort).out.monitor ≡ Monitor.Off → ((row z AlignIn.Abort).out.end ≡ Some End.NotPossible) ↔ (aborts_among b is ≡ 4)
+fifth_after : (b z : Alignment) (is : List AlignIn) → z ≡ after b is → b.aborts ≡ 0 → StaysProving b is → (row z AlignIn.Abort).out.monitor ≡ Monitor.Off → ((row z AlignIn.Abort).out.outcome ≡ Some Outcome.NotPossible) ↔ (aborts_among b is ≡ 4)
 fifth_after b z is e zero_first stays off =
     let c = counted_on b is (omega arith) stays in
     let state : z.state ≡ State.Proving = rw e c.state in

@@ -2,7 +2,7 @@
 use Rattle.std.specs.Prelude.{◌≡◌, ◌↔◌, Some, List, [], ◌∷◌, ◌++◌}
 use Rattle.l2_align.specs.declared.align.State.{State}
 use Rattle.l2_align.specs.declared.signals.AlignIn.{AlignIn}
-use Rattle.l2_align.specs.declared.signals.End.{End}
+use Rattle.l2_align.specs.declared.signals.Outcome.{Outcome}
 use Rattle.l2_align.specs.declared.signals.Monitor.{Monitor}
 use Rattle.l2_align.specs.Alignment.{initial}
 use Rattle.l2_align.specs.Runs.{after, told_at, HasProved, StaysProving, aborts_among}
@@ -10,7 +10,7 @@ use Rattle.l2_align.specs.Runs.{after, told_at, HasProved, StaysProving, aborts_
 -- Complete is told only at an end of T4 since whose start no abort came
 abbrev pub CompletesUnbroken : Type 0
 CompletesUnbroken =
-    (past : List AlignIn) (input : AlignIn) → (told_at past input).end ≡ Some End.Complete →
+    (past : List AlignIn) (input : AlignIn) → (told_at past input).outcome ≡ Some Outcome.Complete →
     (input ≡ AlignIn.T4) × HasProved initial past
 
 -- Aligned was left for proving, and `since` kept the machine there: an abort that counts then gives NotPossible
@@ -21,11 +21,11 @@ FifthAbortEnds =
     (after initial past).state ≡ State.Aligned →
     StaysProving (after initial (past ++ leaving ∷ [])) since →
     (told_at (past ++ leaving ∷ since) AlignIn.Abort).monitor ≡ Monitor.Off →
-    ((told_at (past ++ leaving ∷ since) AlignIn.Abort).end ≡ Some End.NotPossible)
+    ((told_at (past ++ leaving ∷ since) AlignIn.Abort).outcome ≡ Some Outcome.NotPossible)
     ↔ (aborts_among (after initial (past ++ leaving ∷ [])) since ≡ 4)
 
 -- after each end the machine is as new
 abbrev pub NewAfterEnd : Type 0
 NewAfterEnd =
-    (past : List AlignIn) (input : AlignIn) (end : End) →
-    (told_at past input).end ≡ Some end → after initial (past ++ input ∷ []) ≡ initial
+    (past : List AlignIn) (input : AlignIn) (outcome : Outcome) →
+    (told_at past input).outcome ≡ Some outcome → after initial (past ++ input ∷ []) ≡ initial

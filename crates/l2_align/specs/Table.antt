@@ -5,7 +5,7 @@ use Rattle.l2_units.specs.declared.timer.TimerOrder.{TimerOrder}
 use Rattle.l2_align.specs.declared.align.State.{State}
 use Rattle.l2_align.specs.declared.signals.AlignIn.{AlignIn}
 use Rattle.l2_align.specs.declared.signals.AlignOut.{AlignOut}
-use Rattle.l2_align.specs.declared.signals.End.{End}
+use Rattle.l2_align.specs.declared.signals.Outcome.{Outcome}
 use Rattle.l2_align.specs.declared.signals.Monitor.{Monitor}
 use Rattle.l2_align.specs.Alignment.{Alignment, initial}
 
@@ -22,7 +22,7 @@ nothing = record {
   t3 = TimerOrder.Keep;
   t4 = TimerOrder.Keep;
   monitor = Monitor.Keep;
-  end = None;
+  outcome = None;
 }
 
 -- one timer stops
@@ -90,8 +90,8 @@ fallen_back a = record {
 }
 
 -- each way to Idle: its timer stops, the monitor is off, all values are cleared
-abbrev pub idle : AlignOut → Option End → Row
-idle stops end = record { out = record stops { monitor = Monitor.Off; end = end }; next = initial }
+abbrev pub idle : AlignOut → Option Outcome → Row
+idle stops outcome = record { out = record stops { monitor = Monitor.Off; outcome = outcome }; next = initial }
 
 -- an abort that counts
 abbrev pub counted_abort : Alignment → Row
@@ -102,7 +102,7 @@ counted_abort a = record {
 
 -- alignment isn't possible at the fifth
 abbrev pub aborted : Alignment → Row
-aborted a = if nat_lt (a.aborts + 1) 5 then counted_abort a else idle stop_t4 (Some End.NotPossible)
+aborted a = if nat_lt (a.aborts + 1) 5 then counted_abort a else idle stop_t4 (Some Outcome.NotPossible)
 
 -- The rows, in order, by the state and by the status that is heard; what has none is ignored.
 
@@ -120,27 +120,27 @@ heard_not_aligned _ a = silent a
 abbrev pub when_not_aligned : AlignIn → Alignment → Row
 when_not_aligned AlignIn.Emergency a = silent (record a { local = true })
 when_not_aligned (AlignIn.Heard status) a = heard_not_aligned status a
-when_not_aligned AlignIn.T2 a = idle stop_t2 (Some End.NotPossible)
+when_not_aligned AlignIn.T2 a = idle stop_t2 (Some Outcome.NotPossible)
 when_not_aligned AlignIn.Stop a = idle stop_t2 None
 when_not_aligned _ a = silent a
 
 abbrev pub heard_aligned : Status → Alignment → Row
 heard_aligned Status.Normal a = first_proving a
 heard_aligned Status.Emergency a = first_proving (record a { short = true })
-heard_aligned Status.OutOfService a = idle stop_t3 (Some End.NotPossible)
+heard_aligned Status.OutOfService a = idle stop_t3 (Some Outcome.NotPossible)
 heard_aligned _ a = silent a
 
 abbrev pub when_aligned : AlignIn → Alignment → Row
 when_aligned AlignIn.Emergency a = asking a
 when_aligned (AlignIn.Heard status) a = heard_aligned status a
-when_aligned AlignIn.T3 a = idle stop_t3 (Some End.NotPossible)
+when_aligned AlignIn.T3 a = idle stop_t3 (Some Outcome.NotPossible)
 when_aligned AlignIn.Stop a = idle stop_t3 None
 when_aligned _ a = silent a
 
 abbrev pub heard_proving : Status → Alignment → Row
 heard_proving Status.Emergency a = shortened a
 heard_proving Status.OutOfAlignment a = fallen_back a
-heard_proving Status.OutOfService a = idle stop_t4 (Some End.NotPossible)
+heard_proving Status.OutOfService a = idle stop_t4 (Some Outcome.NotPossible)
 heard_proving _ a = silent a
 
 abbrev pub when_proving : AlignIn → Alignment → Row
@@ -148,7 +148,7 @@ when_proving AlignIn.Emergency a = sending Status.Emergency (shortened (record a
 when_proving (AlignIn.Heard status) a = heard_proving status a
 when_proving AlignIn.Abort a = if a.pending then silent a else aborted a
 when_proving AlignIn.Good a = if a.pending then proving a else silent a
-when_proving AlignIn.T4 a = if a.pending then proving a else idle stop_t4 (Some End.Complete)
+when_proving AlignIn.T4 a = if a.pending then proving a else idle stop_t4 (Some Outcome.Complete)
 when_proving AlignIn.Stop a = idle stop_t4 None
 when_proving _ a = silent a
 

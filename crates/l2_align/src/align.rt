@@ -4,7 +4,7 @@ ghost use Rattle.std.specs.Prelude.{◌≡◌, true};
 ghost use Rattle.l2_align.specs.Alignment.{initial};
 ghost use Rattle.l2_align.specs.Table.{row, aborted, aligned, asking, fallen_back, first_proving, idle, nothing, proving, seeking, sending, shortened};
 
-use crate::signals::{AlignIn, AlignOut, End, Monitor};
+use crate::signals::{AlignIn, AlignOut, Monitor, Outcome};
 use l2_units::{Status, TimerOrder};
 use std::marker::Model;
 
@@ -61,7 +61,7 @@ const NOTHING: AlignOut = AlignOut {
     t3: TimerOrder::Keep,
     t4: TimerOrder::Keep,
     monitor: Monitor::Keep,
-    end: None,
+    outcome: None,
 };
 
 const STOPS_T2: AlignOut = AlignOut {
@@ -114,23 +114,23 @@ impl Align {
                 self.align(self.local)
             }
             (State::NotAligned, AlignIn::Heard(Status::Emergency)) => self.align(true),
-            (State::NotAligned, AlignIn::T2) => self.go_idle(STOPS_T2, Some(End::NotPossible)),
+            (State::NotAligned, AlignIn::T2) => self.go_idle(STOPS_T2, Some(Outcome::NotPossible)),
             (State::Aligned, AlignIn::Emergency) => self.ask_emergency(),
             (State::Aligned, AlignIn::Heard(Status::Normal)) => self.leave_aligned(self.short),
             (State::Aligned, AlignIn::Heard(Status::Emergency)) => self.leave_aligned(true),
             (State::Aligned, AlignIn::Heard(Status::OutOfService) | AlignIn::T3) => {
-                self.go_idle(STOPS_T3, Some(End::NotPossible))
+                self.go_idle(STOPS_T3, Some(Outcome::NotPossible))
             }
             (State::Proving, AlignIn::Emergency) => self.turn_to_emergency(),
             (State::Proving, AlignIn::Heard(Status::Emergency)) => self.shorten(),
             (State::Proving, AlignIn::Heard(Status::OutOfAlignment)) => self.fall_back(),
             (State::Proving, AlignIn::Heard(Status::OutOfService)) => {
-                self.go_idle(STOPS_T4, Some(End::NotPossible))
+                self.go_idle(STOPS_T4, Some(Outcome::NotPossible))
             }
             (State::Proving, AlignIn::Abort) if !self.pending => self.count_abort(),
             (State::Proving, AlignIn::Good) if self.pending => self.prove(),
             (State::Proving, AlignIn::T4) if self.pending => self.prove(),
-            (State::Proving, AlignIn::T4) => self.go_idle(STOPS_T4, Some(End::Complete)),
+            (State::Proving, AlignIn::T4) => self.go_idle(STOPS_T4, Some(Outcome::Complete)),
             (State::NotAligned, AlignIn::Stop) => self.go_idle(STOPS_T2, None),
             (State::Aligned, AlignIn::Stop) => self.go_idle(STOPS_T3, None),
             (State::Proving, AlignIn::Stop) => self.go_idle(STOPS_T4, None),
@@ -250,7 +250,7 @@ impl Align {
         ensures next { self.new ≡ (aborted self.old).next }
     {
         if self.aborts >= LAST_ABORT - 1 {
-            return self.go_idle(STOPS_T4, Some(End::NotPossible));
+            return self.go_idle(STOPS_T4, Some(Outcome::NotPossible));
         }
         self.aborts += 1;
         self.pending = true;
@@ -280,14 +280,14 @@ impl Align {
     }
 
     // Every way back to Idle: the state's timer stops, and all values are cleared.
-    fn go_idle(&mut self, stops: AlignOut, end: Option<End>) -> AlignOut
-        ensures out { result ≡ (idle stops end).out }
-        ensures next { self.new ≡ (idle stops end).next }
+    fn go_idle(&mut self, stops: AlignOut, outcome: Option<Outcome>) -> AlignOut
+        ensures out { result ≡ (idle stops outcome).out }
+        ensures next { self.new ≡ (idle stops outcome).next }
     {
         *self = Align::new();
         AlignOut {
             monitor: Monitor::Off,
-            end,
+            outcome,
             ..stops
         }
     }

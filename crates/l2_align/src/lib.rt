@@ -74,4 +74,4 @@ pub mod laws;
 mod signals;
 
 pub use align::{Align, NORMAL_PROVING, State};
-pub use signals::{AlignIn, AlignOut, End, Monitor};
+pub use signals::{AlignIn, AlignOut, Monitor, Outcome};

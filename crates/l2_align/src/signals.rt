@@ -40,7 +40,7 @@ pub enum Monitor {
 
 /// How alignment ends.
 #[derive(Clone, Copy, Debug, PartialEq, Eq)]
-pub enum End {
+pub enum Outcome {
     /// A whole proving period went by without an abort.
     Complete,
     /// The link can't be aligned.
@@ -61,5 +61,5 @@ pub struct AlignOut {
     /// What becomes of the monitor.
     pub monitor: Monitor,
     /// That alignment is over, and how.
-    pub end: Option<End>,
+    pub outcome: Option<Outcome>,
 }

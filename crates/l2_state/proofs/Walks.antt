@@ -2,7 +2,7 @@
 use Rattle.std.proofs.Common.{◌≡◌, ◌⊎◌, inl, inr, Some, List, [], ◌∷◌, ◌++◌, refl, ap, subst, ◌∙◌}
 use Rattle.l2_state.specs.declared.link_state.State.{State}
 use Rattle.l2_state.specs.declared.signals.StateIn.{StateIn}
-use Rattle.l2_state.specs.declared.signals.Told.{Told}
+use Rattle.l2_state.specs.declared.signals.Indication.{Indication}
 use Rattle.l2_state.specs.Laws.{UpOnlyFromReady, HasStart, StartBetweenDowns}
 use Rattle.l2_state.specs.Runs.{after}
 use Rattle.l2_state.specs.Table.{row}
@@ -34,5 +34,5 @@ start_between_downs past first between second c d h k =
       | inl start ↦ start
       | inr stays ↦
           let there : after State.OutOfService (past ++ first ∷ between) ≡ State.OutOfService = joins ∙ (ap (λ s. after s between) down ∙ stays) in
-          absurd (no_down second d (subst (λ (s : State). (row s second).out.told ≡ Some (Told.Down d)) there k))
+          absurd (no_down second d (subst (λ (s : State). (row s second).out.indication ≡ Some (Indication.Down d)) there k))
     ]

@@ -2,7 +2,7 @@
 use Rattle.std.specs.Prelude.{List, [], ◌∷◌}
 use Rattle.l2_state.specs.declared.link_state.State.{State}
 use Rattle.l2_state.specs.declared.signals.StateIn.{StateIn}
-use Rattle.l2_state.specs.declared.signals.Told.{Told}
+use Rattle.l2_state.specs.declared.signals.Indication.{Indication}
 use Rattle.std.specs.Prelude.{Option}
 use Rattle.l2_state.specs.Table.{row}
 
@@ -12,5 +12,5 @@ after state [] = state
 after state (input ∷ inputs) = after (row state input).next inputs
 
 -- what the last of these inputs tells, the link being out of service at first
-abbrev pub told_at : List StateIn → StateIn → Option Told
-told_at past input = (row (after State.OutOfService past) input).out.told
+abbrev pub told_at : List StateIn → StateIn → Option Indication
+told_at past input = (row (after State.OutOfService past) input).out.indication

@@ -8,7 +8,7 @@ use Rattle.l2_state.specs.declared.signals.Sending.{Sending}
 use Rattle.l2_state.specs.declared.signals.StateIn.{StateIn}
 use Rattle.l2_state.specs.declared.signals.StateOut.{StateOut}
 use Rattle.l2_state.specs.declared.signals.Switch.{Switch}
-use Rattle.l2_state.specs.declared.signals.Told.{Told}
+use Rattle.l2_state.specs.declared.signals.Indication.{Indication}
 
 -- what a row does: what is told, and the state afterwards
 pub record Row : Type 0 where
@@ -28,7 +28,7 @@ silent next = record {
     t1 = TimerOrder.Keep;
     alignment = None;
     new_suerm = false;
-    told = None;
+    indication = None;
     paused = is_paused next;
   };
   next = next;
@@ -47,8 +47,8 @@ switching switch r = record r { out = record r.out { alignment = Some switch } }
 abbrev pub watching : Row → Row
 watching r = record r { out = record r.out { new_suerm = true } }
 
-abbrev pub telling : Told → Row → Row
-telling what r = record r { out = record r.out { told = Some what } }
+abbrev pub telling : Indication → Row → Row
+telling what r = record r { out = record r.out { indication = Some what } }
 
 -- from OutOfService: initial alignment begins
 abbrev pub aligning : Row
@@ -60,12 +60,12 @@ ready = sending Sending.FillIn (timing TimerOrder.Start (watching (silent State.
 
 -- from Ready: the far end is ready too
 abbrev pub raised : Row
-raised = sending Sending.Traffic (timing TimerOrder.Stop (telling Told.Up (silent (State.InService false))))
+raised = sending Sending.Traffic (timing TimerOrder.Stop (telling Indication.Up (silent (State.InService false))))
 
 -- out of service, for this cause
 abbrev pub down : Cause → Row
 down cause =
-    sending Sending.OutOfService (timing TimerOrder.Stop (telling (Told.Down cause) (silent State.OutOfService)))
+    sending Sending.OutOfService (timing TimerOrder.Stop (telling (Indication.Down cause) (silent State.OutOfService)))
 
 -- taken out of service at this end
 abbrev pub stopped : Row

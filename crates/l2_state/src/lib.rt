@@ -65,4 +65,4 @@ mod link_state;
 mod signals;
 
 pub use link_state::{LinkState, State};
-pub use signals::{Sending, StateIn, StateOut, Switch, Told};
+pub use signals::{Indication, Sending, StateIn, StateOut, Switch};

@@ -4,7 +4,7 @@ ghost use Rattle.std.specs.Prelude.{◌≡◌};
 ghost use Rattle.l2_units.specs.declared.cause.Cause.{Cause};
 ghost use Rattle.l2_state.specs.Table.{row, down, silent, raised, ready, aligning, stopped};
 
-use crate::signals::{Sending, StateIn, StateOut, Switch, Told};
+use crate::signals::{Indication, Sending, StateIn, StateOut, Switch};
 use l2_units::{Cause, Status, TimerOrder};
 use std::marker::Model;
 
@@ -44,7 +44,7 @@ const NOTHING: StateOut = StateOut {
     t1: TimerOrder::Keep,
     alignment: None,
     new_suerm: false,
-    told: None,
+    indication: None,
     paused: false,
 };
 
@@ -144,7 +144,7 @@ impl LinkState {
         StateOut {
             send: Some(Sending::Traffic),
             t1: TimerOrder::Stop,
-            told: Some(Told::Up),
+            indication: Some(Indication::Up),
             ..NOTHING
         }
     }
@@ -167,7 +167,7 @@ impl LinkState {
         StateOut {
             send: Some(Sending::OutOfService),
             t1: TimerOrder::Stop,
-            told: Some(Told::Down(cause)),
+            indication: Some(Indication::Down(cause)),
             ..NOTHING
         }
     }

@@ -49,7 +49,7 @@ pub enum Switch {
 
 /// What is told to level 3 (Q.703 12).
 #[derive(Clone, Copy, Debug, PartialEq, Eq)]
-pub enum Told {
+pub enum Indication {
     /// The link is in service.
     Up,
     /// The link is out of service, for this cause.
@@ -68,7 +68,7 @@ pub struct StateOut {
     /// A new signal unit error rate monitor begins (SUERM, Q.703 10.2).
     pub new_suerm: bool,
     /// What level 3 is told.
-    pub told: Option<Told>,
+    pub indication: Option<Indication>,
     /// Whether the far end has a processor outage now, so that no message goes out: the value, not a change of it.
     pub paused: bool,
 }

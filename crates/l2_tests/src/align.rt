@@ -1,6 +1,6 @@
 //! Whole runs, in the trade's words.
 use super::holds;
-use l2_align::{Align, AlignIn, AlignOut, End, Monitor};
+use l2_align::{Align, AlignIn, AlignOut, Monitor, Outcome};
 use l2_units::{Status, TimerOrder};
 use std::test::Fail;
 
@@ -49,12 +49,12 @@ fn completes(align: &mut Align) -> bool {
     starts(align)
         && is_aligned(align)
         && begins_to_prove(align)
-        && told(align, AlignIn::T4).end == Some(End::Complete)
+        && told(align, AlignIn::T4).outcome == Some(Outcome::Complete)
 }
 
 fn is_aborted(align: &mut Align) -> bool {
     let out = told(align, AlignIn::Abort);
-    out.monitor == Monitor::Off && out.end.is_none()
+    out.monitor == Monitor::Off && out.outcome.is_none()
 }
 
 #[test]
@@ -68,7 +68,7 @@ fn ends_at_the_fifth(align: &mut Align) -> bool {
             return false;
         }
     }
-    told(align, AlignIn::Abort).end == Some(End::NotPossible)
+    told(align, AlignIn::Abort).outcome == Some(Outcome::NotPossible)
 }
 
 #[test]
@@ -79,7 +79,7 @@ fn emergency_heard_in_normal_proving() -> Result<(), Fail> {
         t3: TimerOrder::Keep,
         t4: TimerOrder::StartFor { octet_times: 4_096 },
         monitor: Monitor::Emergency,
-        end: None,
+        outcome: None,
     };
     let mut align = proving_normally();
     holds(told(&mut align, AlignIn::Heard(Status::Emergency)) == shortened)

@@ -1,6 +1,6 @@
 //! Whole runs, in the trade's words.
 use super::holds;
-use l2_state::{LinkState, Sending, StateIn, StateOut, Switch, Told};
+use l2_state::{Indication, LinkState, Sending, StateIn, StateOut, Switch};
 use l2_units::{Cause, Status, TimerOrder};
 use std::test::Fail;
 
@@ -20,7 +20,7 @@ fn is_aligned(link: &mut LinkState) -> bool {
 
 fn is_up(link: &mut LinkState) -> bool {
     let heard = told(link, StateIn::Fisu);
-    heard.told == Some(Told::Up) && heard.send == Some(Sending::Traffic)
+    heard.indication == Some(Indication::Up) && heard.send == Some(Sending::Traffic)
 }
 
 fn comes_up(link: &mut LinkState) -> bool {
@@ -30,7 +30,7 @@ fn comes_up(link: &mut LinkState) -> bool {
 /// It hears that the far end is out of alignment.
 fn is_lost(link: &mut LinkState) -> bool {
     let lost = told(link, StateIn::Heard(Status::OutOfAlignment));
-    lost.told == Some(Told::Down(Cause::Status))
+    lost.indication == Some(Indication::Down(Cause::Status))
 }
 
 /// It hears that once more.
@@ -40,7 +40,7 @@ fn does_nothing(link: &mut LinkState) -> bool {
         t1: TimerOrder::Keep,
         alignment: None,
         new_suerm: false,
-        told: None,
+        indication: None,
         paused: false,
     };
     told(link, StateIn::Heard(Status::OutOfAlignment)) == ignored

@@ -7,7 +7,7 @@ use Rattle.l2_flow.specs.Table.{row as flow_row}
 use Rattle.l2_state.specs.declared.link_state.State.{State}
 use Rattle.l2_state.specs.declared.signals.StateIn.{StateIn}
 use Rattle.l2_state.specs.declared.signals.Switch.{Switch}
-use Rattle.l2_state.specs.declared.signals.Told.{Told}
+use Rattle.l2_state.specs.declared.signals.Indication.{Indication}
 use Rattle.l2_state.specs.Table.{row as state_row}
 use Rattle.set_events.specs.declared.answer.Answer.{Answer}
 use Rattle.term_core.specs.Judging.{by_aerm, by_suerm, in_state, while_aligning, judgement}
@@ -33,7 +33,7 @@ fallen_link (Some Told.Up) t = refl
 fallen_link (Some (Told.Down cause)) t = refl
 
 pub quiet_link : (t : Terminal) → (stops_quietly t).link ≡ t.link
-quiet_link t = fallen_link (state_row t.state StateIn.Stop).out.told (after_state StateIn.Stop t) ∙ state_link StateIn.Stop t
+quiet_link t = fallen_link (state_row t.state StateIn.Stop).out.indication (after_state StateIn.Stop t) ∙ state_link StateIn.Stop t
 
 aerm_link : (aerm : Option ℕ) (error : Bool) (t : Terminal) → (by_aerm aerm error t).after.link ≡ t.link
 aerm_link None error t = refl
@@ -78,7 +78,7 @@ fallen_bits (Some Told.Up) t = refl
 fallen_bits (Some (Told.Down cause)) t = refl
 
 pub quiet_bits : (t : Terminal) → (stops_quietly t).bits ≡ t.bits
-quiet_bits t = fallen_bits (state_row t.state StateIn.Stop).out.told (after_state StateIn.Stop t) ∙ state_bits StateIn.Stop t
+quiet_bits t = fallen_bits (state_row t.state StateIn.Stop).out.indication (after_state StateIn.Stop t) ∙ state_bits StateIn.Stop t
 
 -- that a message is sent is no failure (Q.703 9.3): flow control asks nothing of the set
 

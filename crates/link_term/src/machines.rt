@@ -2,14 +2,14 @@
 ghost use Rattle.std.specs.Prelude.{◌≡◌, Some, if◌then◌else◌, IfOk};
 ghost use Rattle.set_events.specs.Lent.{HasFitUnit, event_in};
 ghost use Rattle.set_events.specs.declared.event.Event.TheVariants.{Down, DownBlind};
-ghost use Rattle.l2_state.specs.declared.signals.Told.TheVariants.{Down as ToldDown};
+ghost use Rattle.l2_state.specs.declared.signals.Indication.TheVariants.{Down as ToldDown};
 ghost use Rattle.link_term.specs.Talking.{Talks};
 ghost use Rattle.term_model.specs.Machines.{asks_up, asks_down, tells, state_in, align_in, flow_in};
 
 use super::door::Door;
-use l2_align::{AlignIn, End};
+use l2_align::{AlignIn, Outcome};
 use l2_flow::FlowIn;
-use l2_state::{StateIn, Told};
+use l2_state::{Indication, StateIn};
 use l2_units::Cause;
 use set_events::{EventRef, Reply, SetFault};
 use term_core::Inside;
@@ -103,8 +103,8 @@ pub(crate) fn input_state<D: Door>(
 {
     match inside.state(input) {
         None => Ok(()),
-        Some(Told::Up) => ask_up(inside, door),
-        Some(Told::Down(cause)) => leave(inside, door, cause),
+        Some(Indication::Up) => ask_up(inside, door),
+        Some(Indication::Down(cause)) => leave(inside, door, cause),
     }
 }
 
@@ -123,8 +123,8 @@ pub(crate) fn input_align<D: Door>(
 {
     match inside.align(input) {
         None => Ok(()),
-        Some(End::Complete) => input_state(inside, door, StateIn::Complete),
-        Some(End::NotPossible) => input_state(inside, door, StateIn::NotPossible),
+        Some(Outcome::Complete) => input_state(inside, door, StateIn::Complete),
+        Some(Outcome::NotPossible) => input_state(inside, door, StateIn::NotPossible),
     }
 }
 

@@ -19,19 +19,19 @@ ghost use Rattle.term_model.specs.Machines.{
 };
 
 use crate::inside::Inside;
-use l2_align::{AlignIn, End, Monitor, NORMAL_PROVING};
+use l2_align::{AlignIn, Monitor, Outcome, NORMAL_PROVING};
 use l2_flow::FlowIn;
 use l2_monitors::{Aerm, Suerm};
-use l2_state::{StateIn, Switch, Told};
+use l2_state::{Indication, StateIn, Switch};
 use l2_units::{Cause, Status, TimerOrder};
 use set_events::AnswerRef;
 
 impl Inside {
     /// An input of initial alignment control: what it makes of the terminal, and how alignment ends, if it does, which
     /// link state control is to be told (Q.703 7.3).
-    pub fn align(&mut self, input: AlignIn) -> Option<End>
+    pub fn align(&mut self, input: AlignIn) -> Option<Outcome>
         ensures next { self.new ≡ aligns input self.old }
-        ensures end { result ≡ (align_row self.old.align input).out.end }
+        ensures end { result ≡ (align_row self.old.align input).out.outcome }
     {
         let out = self.align.input(input);
         self.status = named_status(out.send, self.status);
@@ -39,7 +39,7 @@ impl Inside {
         self.clocks.t2 = order_clock(out.t2, self.lengths.t2, self.clocks.t2);
         self.clocks.t3 = order_clock(out.t3, self.lengths.t3, self.clocks.t3);
         self.clocks.t4 = order_clock(out.t4, NORMAL_PROVING, self.clocks.t4);
-        out.end
+        out.outcome
     }
 
     /// An input of flow control: what it makes of the terminal, and the failure that it tells, if any (Q.703 9.3).
@@ -57,9 +57,9 @@ impl Inside {
 
     /// An input of link state control: what it makes of the terminal, alignment started or stopped with it, and what
     /// level 3 is to be told, if anything (Q.703 12.1).
-    pub fn state(&mut self, input: StateIn) -> Option<Told>
+    pub fn state(&mut self, input: StateIn) -> Option<Indication>
         ensures next { self.new ≡ after_state input self.old }
-        ensures told { result ≡ (state_row self.old.state input).out.told }
+        ensures told { result ≡ (state_row self.old.state input).out.indication }
     {
         let out = self.state.input(input);
         if out.new_suerm {
@@ -67,7 +67,7 @@ impl Inside {
         }
         self.clocks.t1 = order_clock(out.t1, self.lengths.t1, self.clocks.t1);
         self.switch(out.alignment);
-        out.told
+        out.indication
     }
 
     /// Link state control starts or stops initial alignment, which doesn't end it (Q.703 12.1).
@@ -113,7 +113,7 @@ impl Inside {
     pub fn stop_quietly(&mut self)
         ensures { self.new ≡ stops_quietly self.old }
     {
-        if let Some(Told::Down(cause)) = self.state(StateIn::Stop) {
+        if let Some(Indication::Down(cause)) = self.state(StateIn::Stop) {
             self.fall(cause);
         }
     }

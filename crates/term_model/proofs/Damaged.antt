@@ -6,12 +6,12 @@ use Rattle.l2_units.specs.declared.unit.Unit.{Unit as SignalUnit}
 use Rattle.l2_monitors.specs.Suerm.{Kept}
 use Rattle.l2_align.specs.declared.align.State.{State as AlignState}
 use Rattle.l2_align.specs.declared.signals.AlignIn.{AlignIn}
-use Rattle.l2_align.specs.declared.signals.End.{End}
+use Rattle.l2_align.specs.declared.signals.Outcome.{Outcome}
 use Rattle.l2_align.specs.Alignment.{Alignment}
 use Rattle.l2_align.specs.Table.{row as align_row, table, silent, aborted, counted_abort, idle, stop_t4}
 use Rattle.l2_state.specs.declared.link_state.State.{State}
 use Rattle.l2_state.specs.declared.signals.StateIn.{StateIn}
-use Rattle.l2_state.specs.declared.signals.Told.{Told}
+use Rattle.l2_state.specs.declared.signals.Indication.{Indication}
 use Rattle.l2_state.specs.Table.{row as state_row}
 use Rattle.set_events.specs.declared.event.Event.{Event}
 use Rattle.set_events.specs.declared.history.Entry.{Entry}
@@ -28,10 +28,10 @@ use Rattle.term_model.proofs.Keeping.{Keeps, then_keeps, if_keeps, went_asked}
 abbrev pub AsksDown : Talk Terminal → Type 0
 AsksDown talk = Keeps IsDown (λ t. Unit {0}) talk
 
-abbrev pub NoUp : Option Told → Type 0
+abbrev pub NoUp : Option Indication → Type 0
 NoUp None = Unit {0}
-NoUp (Some Told.Up) = ⊥
-NoUp (Some (Told.Down cause)) = Unit {0}
+NoUp (Some Indication.Up) = ⊥
+NoUp (Some (Indication.Down cause)) = Unit {0}
 
 asks_down_down : (cause : Cause) (t : Terminal) → AsksDown (asks_down cause t)
 asks_down_down cause t = (down_of t.blind, λ answer. tt)
@@ -40,50 +40,50 @@ asks_down_down cause t = (down_of t.blind, λ answer. tt)
     down_of true = tt
     down_of false = tt
 
-tells_down : (told : Option Told) (t : Terminal) → NoUp told → AsksDown (tells told t)
+tells_down : (told : Option Indication) (t : Terminal) → NoUp told → AsksDown (tells told t)
 tells_down None t is = tt
-tells_down (Some Told.Up) t is = absurd is
-tells_down (Some (Told.Down cause)) t is =
+tells_down (Some Indication.Up) t is = absurd is
+tells_down (Some (Indication.Down cause)) t is =
     if_keeps IsDown (λ u. Unit {0}) t.up (asks_down cause t) (done (fallen cause t)) (λ up. asks_down_down cause t) (λ down. tt)
 
-failure_no_up : (s : State) (cause : Cause) → NoUp (state_row s (StateIn.Failure cause)).out.told
+failure_no_up : (s : State) (cause : Cause) → NoUp (state_row s (StateIn.Failure cause)).out.indication
 failure_no_up State.OutOfService cause = tt
 failure_no_up State.Aligning cause = tt
 failure_no_up State.Ready cause = tt
 failure_no_up (State.InService paused) cause = tt
 
-not_possible_no_up : (s : State) → NoUp (state_row s StateIn.NotPossible).out.told
+not_possible_no_up : (s : State) → NoUp (state_row s StateIn.NotPossible).out.indication
 not_possible_no_up State.OutOfService = tt
 not_possible_no_up State.Aligning = tt
 not_possible_no_up State.Ready = tt
 not_possible_no_up (State.InService paused) = tt
 
-abbrev pub NoComplete : Option End → Type 0
+abbrev pub NoComplete : Option Outcome → Type 0
 NoComplete None = Unit {0}
-NoComplete (Some End.Complete) = ⊥
-NoComplete (Some End.NotPossible) = Unit {0}
+NoComplete (Some Outcome.Complete) = ⊥
+NoComplete (Some Outcome.NotPossible) = Unit {0}
 
-aborted_end : (more : Bool) (a : Alignment) → NoComplete (if more then counted_abort a else idle stop_t4 (Some End.NotPossible)).out.end
+aborted_end : (more : Bool) (a : Alignment) → NoComplete (if more then counted_abort a else idle stop_t4 (Some Outcome.NotPossible)).out.outcome
 aborted_end true a = tt
 aborted_end false a = tt
 
-abort_if_end : (pending : Bool) (a : Alignment) → NoComplete (if pending then silent a else aborted a).out.end
+abort_if_end : (pending : Bool) (a : Alignment) → NoComplete (if pending then silent a else aborted a).out.outcome
 abort_if_end true a = tt
 abort_if_end false a = aborted_end (nat_lt (a.aborts + 1) 5) a
 
-abort_end : (s : AlignState) (a : Alignment) → NoComplete (table s AlignIn.Abort a).out.end
+abort_end : (s : AlignState) (a : Alignment) → NoComplete (table s AlignIn.Abort a).out.outcome
 abort_end AlignState.Idle a = tt
 abort_end AlignState.NotAligned a = tt
 abort_end AlignState.Aligned a = tt
 abort_end AlignState.Proving a = abort_if_end a.pending a
 
-ends_down : (end : Option End) (t : Terminal) → NoComplete end → AsksDown (ends end t)
+ends_down : (end : Option Outcome) (t : Terminal) → NoComplete end → AsksDown (ends end t)
 ends_down None t is = tt
-ends_down (Some End.Complete) t is = absurd is
-ends_down (Some End.NotPossible) t is = tells_down (state_row t.state StateIn.NotPossible).out.told (after_state StateIn.NotPossible t) (not_possible_no_up t.state)
+ends_down (Some Outcome.Complete) t is = absurd is
+ends_down (Some Outcome.NotPossible) t is = tells_down (state_row t.state StateIn.NotPossible).out.indication (after_state StateIn.NotPossible t) (not_possible_no_up t.state)
 
 abort_down : (t : Terminal) → AsksDown (align_in AlignIn.Abort t)
-abort_down t = ends_down (align_row t.align AlignIn.Abort).out.end (aligns AlignIn.Abort t) (abort_end t.align.state t.align)
+abort_down t = ends_down (align_row t.align AlignIn.Abort).out.outcome (aligns AlignIn.Abort t) (abort_end t.align.state t.align)
 
 aerm_down : (aerm : Option ℕ) (error : Bool) (t : Terminal) → AsksDown (aerm_judges aerm error t)
 aerm_down None error t = tt
@@ -96,7 +96,7 @@ suerm_down None error t = tt
 suerm_down (Some old) error t =
     let u : Terminal = record t { suerm = Some (after_mark old error) } in
     if_keeps IsDown (λ v. Unit {0}) (after_mark old error).tripped (state_in (StateIn.Failure Cause.Suerm) u) (done u)
-    (λ is. tells_down (state_row u.state (StateIn.Failure Cause.Suerm)).out.told (after_state (StateIn.Failure Cause.Suerm) u) (failure_no_up u.state Cause.Suerm))
+    (λ is. tells_down (state_row u.state (StateIn.Failure Cause.Suerm)).out.indication (after_state (StateIn.Failure Cause.Suerm) u) (failure_no_up u.state Cause.Suerm))
     (λ not. tt)
 
 service_down : (state : State) (error : Bool) (t : Terminal) → AsksDown (service_judges state error t)

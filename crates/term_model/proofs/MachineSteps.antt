@@ -3,10 +3,10 @@ use Rattle.std.proofs.Common.{refl, ◌≡◌, Bool, true, false, Option, Some, 
 use Rattle.l2_units.specs.declared.cause.Cause.{Cause}
 use Rattle.l2_align.specs.declared.align.State.{State}
 use Rattle.l2_align.specs.declared.signals.AlignIn.{AlignIn}
-use Rattle.l2_align.specs.declared.signals.End.{End}
+use Rattle.l2_align.specs.declared.signals.Outcome.{Outcome}
 use Rattle.l2_align.specs.Alignment.{Alignment}
 use Rattle.l2_align.specs.Table.{row as align_row, table}
-use Rattle.l2_state.specs.declared.signals.Told.{Told}
+use Rattle.l2_state.specs.declared.signals.Indication.{Indication}
 use Rattle.l2_state.specs.declared.signals.StateIn.{StateIn}
 use Rattle.l2_state.specs.Table.{row as state_row}
 use Rattle.l2_flow.specs.declared.input.FlowIn.{FlowIn}
@@ -21,18 +21,18 @@ asks_down_if : (up : Bool) (cause : Cause) (t : Terminal) → AsksOne (if up the
 asks_down_if true cause t = λ answer. tt
 asks_down_if false cause t = tt
 
-tells_one : (told : Option Told) (t : Terminal) → AsksOne (tells told t)
+tells_one : (told : Option Indication) (t : Terminal) → AsksOne (tells told t)
 tells_one None t = tt
-tells_one (Some Told.Up) t = λ answer. tt
-tells_one (Some (Told.Down cause)) t = asks_down_if t.up cause t
+tells_one (Some Indication.Up) t = λ answer. tt
+tells_one (Some (Indication.Down cause)) t = asks_down_if t.up cause t
 
 state_one : (input : StateIn) (t : Terminal) → AsksOne (state_in input t)
-state_one input t = tells_one (state_row t.state input).out.told (after_state input t)
+state_one input t = tells_one (state_row t.state input).out.indication (after_state input t)
 
-ends_one : (end : Option End) (t : Terminal) → AsksOne (ends end t)
+ends_one : (end : Option Outcome) (t : Terminal) → AsksOne (ends end t)
 ends_one None t = tt
-ends_one (Some End.Complete) t = state_one StateIn.Complete t
-ends_one (Some End.NotPossible) t = state_one StateIn.NotPossible t
+ends_one (Some Outcome.Complete) t = state_one StateIn.Complete t
+ends_one (Some Outcome.NotPossible) t = state_one StateIn.NotPossible t
 
 fails_one : (failure : Option Cause) (t : Terminal) → AsksOne (fails failure t)
 fails_one None t = tt
@@ -41,17 +41,17 @@ fails_one (Some cause) t = state_one (StateIn.Failure cause) t
 pub inputs_ask_one : (t : Terminal) → InputsAskOne t
 inputs_ask_one t = record {
   state = λ input. state_one input t;
-  align = λ input. ends_one (align_row t.align input).out.end (aligns input t);
+  align = λ input. ends_one (align_row t.align input).out.outcome (aligns input t);
   flow = λ input. fails_one (flow_row t.flow input).out.failure (controls input t);
 }
 
-start_ends : (s : State) (a : Alignment) → (table s AlignIn.Start a).out.end ≡ None
+start_ends : (s : State) (a : Alignment) → (table s AlignIn.Start a).out.outcome ≡ None
 start_ends State.Idle a = refl
 start_ends State.NotAligned a = refl
 start_ends State.Aligned a = refl
 start_ends State.Proving a = refl
 
-stop_ends : (s : State) (a : Alignment) → (table s AlignIn.Stop a).out.end ≡ None
+stop_ends : (s : State) (a : Alignment) → (table s AlignIn.Stop a).out.outcome ≡ None
 stop_ends State.Idle a = refl
 stop_ends State.NotAligned a = refl
 stop_ends State.Aligned a = refl

@@ -3,12 +3,12 @@ use Rattle.std.proofs.Common.{refl, sym, ap, subst, arith, ◌≡◌, ◌∙◌,
 use Rattle.l2_units.specs.declared.cause.Cause.{Cause}
 use Rattle.l2_units.specs.declared.timer.TimerOrder.{TimerOrder}
 use Rattle.l2_align.specs.declared.signals.AlignIn.{AlignIn}
-use Rattle.l2_align.specs.declared.signals.End.{End}
+use Rattle.l2_align.specs.declared.signals.Outcome.{Outcome}
 use Rattle.l2_align.specs.Table.{Row as AlignRow, row as align_row}
 use Rattle.l2_state.specs.declared.link_state.State.{State}
 use Rattle.l2_state.specs.declared.signals.StateIn.{StateIn}
 use Rattle.l2_state.specs.declared.signals.Switch.{Switch}
-use Rattle.l2_state.specs.declared.signals.Told.{Told}
+use Rattle.l2_state.specs.declared.signals.Indication.{Indication}
 use Rattle.l2_state.specs.Table.{Row as StateRow, row as state_row}
 use Rattle.l2_flow.specs.declared.input.FlowIn.{FlowIn}
 use Rattle.l2_flow.specs.Table.{Effect, row_of as flow_row}
@@ -160,15 +160,15 @@ asks_down_kept b t cause timed = (down_of t.blind, λ answer. fallen_kept b t ca
     down_of false = timed.link_is
 
 -- what is told is true of the terminal then
-abbrev pub IsSo : Option Told → Terminal → Type 0
+abbrev pub IsSo : Option Indication → Terminal → Type 0
 IsSo None t = IsServed t
-IsSo (Some Told.Up) t = IsInService t.state
-IsSo (Some (Told.Down cause)) t = Unit {0}
+IsSo (Some Indication.Up) t = IsInService t.state
+IsSo (Some (Indication.Down cause)) t = Unit {0}
 
-tells_kept : (b t : Terminal) (told : Option Told) → IsTimed b t → IsSo told t → Keeps (IsOfLink b.link) (IsKept b) (tells told t)
+tells_kept : (b t : Terminal) (told : Option Indication) → IsTimed b t → IsSo told t → Keeps (IsOfLink b.link) (IsKept b) (tells told t)
 tells_kept b t None timed so = record { timed = timed; served = so }
-tells_kept b t (Some Told.Up) timed so = asks_up_kept b t timed so
-tells_kept b t (Some (Told.Down cause)) timed so =
+tells_kept b t (Some Indication.Up) timed so = asks_up_kept b t timed so
+tells_kept b t (Some (Indication.Down cause)) timed so =
     if_keeps (IsOfLink b.link) (IsKept b) t.up (asks_down cause t) (done (fallen cause t)) (λ up. asks_down_kept b t cause timed) (λ down. fallen_kept b t cause timed)
 
 -- a start or a stop of alignment doesn't touch what is told
@@ -182,27 +182,27 @@ same_up t None = refl
 same_up t (Some Switch.Start) = refl
 same_up t (Some Switch.Stop) = refl
 
-so_told : (told : Option Told) (t u : Terminal) (new : State) → IsTold told t.state new → u.state ≡ new → u.up ≡ t.up → IsServed t → IsSo told u
+so_told : (told : Option Indication) (t u : Terminal) (new : State) → IsTold told t.state new → u.state ≡ new → u.up ≡ t.up → IsServed t → IsSo told u
 so_told None t u new is state up served = λ now. subst IsInService (sym state) (is (served (sym up ∙ now)))
-so_told (Some Told.Up) t u new is state up served = subst IsInService (sym state) is
-so_told (Some (Told.Down cause)) t u new is state up served = tt
+so_told (Some Indication.Up) t u new is state up served = subst IsInService (sym state) is
+so_told (Some (Indication.Down cause)) t u new is state up served = tt
 
-state_row_kept : (b t : Terminal) (row : StateRow) → StateOrders t.state row → IsKept b t → Keeps (IsOfLink b.link) (IsKept b) (tells row.out.told (with_state row t))
+state_row_kept : (b t : Terminal) (row : StateRow) → StateOrders t.state row → IsKept b t → Keeps (IsOfLink b.link) (IsKept b) (tells row.out.indication (with_state row t))
 state_row_kept b t row orders kept =
-    tells_kept b (with_state row t) row.out.told (state_timed b t row orders.0 kept.timed)
-    (so_told row.out.told t (with_state row t) row.next orders.1 (same_state _ row.out.alignment) (same_up _ row.out.alignment) kept.served)
+    tells_kept b (with_state row t) row.out.indication (state_timed b t row orders.0 kept.timed)
+    (so_told row.out.indication t (with_state row t) row.next orders.1 (same_state _ row.out.alignment) (same_up _ row.out.alignment) kept.served)
 
 pub state_kept : (b t : Terminal) (input : StateIn) → IsKept b t → Keeps (IsOfLink b.link) (IsKept b) (state_in input t)
 state_kept b t input kept = state_row_kept b t (state_row t.state input) (state_orders t.state input) kept
 
-ends_kept : (b t : Terminal) (end : Option End) → IsKept b t → Keeps (IsOfLink b.link) (IsKept b) (ends end t)
+ends_kept : (b t : Terminal) (end : Option Outcome) → IsKept b t → Keeps (IsOfLink b.link) (IsKept b) (ends end t)
 ends_kept b t None kept = kept
-ends_kept b t (Some End.Complete) kept = state_kept b t StateIn.Complete kept
-ends_kept b t (Some End.NotPossible) kept = state_kept b t StateIn.NotPossible kept
+ends_kept b t (Some Outcome.Complete) kept = state_kept b t StateIn.Complete kept
+ends_kept b t (Some Outcome.NotPossible) kept = state_kept b t StateIn.NotPossible kept
 
 pub align_kept : (b t : Terminal) (input : AlignIn) → IsKept b t → Keeps (IsOfLink b.link) (IsKept b) (align_in input t)
 align_kept b t input kept =
-    ends_kept b (aligns input t) (align_row t.align input).out.end (record { timed = aligns_timed b t input kept.timed; served = kept.served })
+    ends_kept b (aligns input t) (align_row t.align input).out.outcome (record { timed = aligns_timed b t input kept.timed; served = kept.served })
 
 fails_kept : (b t : Terminal) (failure : Option Cause) → IsKept b t → Keeps (IsOfLink b.link) (IsKept b) (fails failure t)
 fails_kept b t None kept = kept
@@ -213,15 +213,15 @@ flow_kept b t input kept =
     fails_kept b (controls input t) (flow_row t.flow input).out.failure
     (record { timed = flow_timed b t (flow_row t.flow input) (flow_orders t.flow input) kept.timed; served = kept.served })
 
-fallen_if_kept : (b t : Terminal) (told : Option Told) → IsTimed b t → IsSo told t → IsKept b (fallen_if told t)
+fallen_if_kept : (b t : Terminal) (told : Option Indication) → IsTimed b t → IsSo told t → IsKept b (fallen_if told t)
 fallen_if_kept b t None timed so = record { timed = timed; served = so }
-fallen_if_kept b t (Some Told.Up) timed so = record { timed = timed; served = λ up. so }
-fallen_if_kept b t (Some (Told.Down cause)) timed so = fallen_kept b t cause timed
+fallen_if_kept b t (Some Indication.Up) timed so = record { timed = timed; served = λ up. so }
+fallen_if_kept b t (Some (Indication.Down cause)) timed so = fallen_kept b t cause timed
 
-quietly_kept : (b t : Terminal) (row : StateRow) → StateOrders t.state row → IsKept b t → IsKept b (fallen_if row.out.told (with_state row t))
+quietly_kept : (b t : Terminal) (row : StateRow) → StateOrders t.state row → IsKept b t → IsKept b (fallen_if row.out.indication (with_state row t))
 quietly_kept b t row orders kept =
-    fallen_if_kept b (with_state row t) row.out.told (state_timed b t row orders.0 kept.timed)
-    (so_told row.out.told t (with_state row t) row.next orders.1 (same_state _ row.out.alignment) (same_up _ row.out.alignment) kept.served)
+    fallen_if_kept b (with_state row t) row.out.indication (state_timed b t row orders.0 kept.timed)
+    (so_told row.out.indication t (with_state row t) row.next orders.1 (same_state _ row.out.alignment) (same_up _ row.out.alignment) kept.served)
 
 pub stops_kept : (b t : Terminal) → IsKept b t → IsKept b (stops_quietly t)
 stops_kept b t kept = quietly_kept b t (state_row t.state StateIn.Stop) (state_orders t.state StateIn.Stop) kept

@@ -5,12 +5,12 @@ use Rattle.l2_units.specs.declared.timer.TimerOrder.{TimerOrder}
 use Rattle.l2_align.specs.declared.align.State.{State as AlignState}
 use Rattle.l2_align.specs.declared.signals.AlignIn.{AlignIn}
 use Rattle.l2_align.specs.declared.signals.AlignOut.{AlignOut}
-use Rattle.l2_align.specs.declared.signals.End.{End}
+use Rattle.l2_align.specs.declared.signals.Outcome.{Outcome}
 use Rattle.l2_align.specs.Alignment.{Alignment}
 use Rattle.l2_align.specs.Table.{row as align_row, table, silent, proving, counted_abort, aborted, idle, stop_t4, when_idle, when_not_aligned, when_aligned, when_proving, heard_not_aligned, heard_aligned, heard_proving}
 use Rattle.l2_state.specs.declared.link_state.State.{State}
 use Rattle.l2_state.specs.declared.signals.StateIn.{StateIn}
-use Rattle.l2_state.specs.declared.signals.Told.{Told}
+use Rattle.l2_state.specs.declared.signals.Indication.{Indication}
 use Rattle.l2_state.specs.Table.{Row as StateRow, row as state_row}
 use Rattle.l2_flow.specs.declared.input.FlowIn.{FlowIn}
 use Rattle.l2_flow.specs.declared.output.FlowOut.{FlowOut}
@@ -43,7 +43,7 @@ shortened_if : (short : Bool) (a : Alignment) → AlignOrders (if short then sil
 shortened_if true a = (tt, tt, tt)
 shortened_if false a = (tt, tt, length_of true)
 
-aborted_if : (more : Bool) (a : Alignment) → AlignOrders (if more then counted_abort a else idle stop_t4 (Some End.NotPossible)).out
+aborted_if : (more : Bool) (a : Alignment) → AlignOrders (if more then counted_abort a else idle stop_t4 (Some Outcome.NotPossible)).out
 aborted_if true a = (tt, tt, tt)
 aborted_if false a = (tt, tt, tt)
 
@@ -55,7 +55,7 @@ good_if : (pending : Bool) (a : Alignment) → AlignOrders (if pending then prov
 good_if true a = (tt, tt, length_of a.short)
 good_if false a = (tt, tt, tt)
 
-t4_if : (pending : Bool) (a : Alignment) → AlignOrders (if pending then proving a else idle stop_t4 (Some End.Complete)).out
+t4_if : (pending : Bool) (a : Alignment) → AlignOrders (if pending then proving a else idle stop_t4 (Some Outcome.Complete)).out
 t4_if true a = (tt, tt, length_of a.short)
 t4_if false a = (tt, tt, tt)
 
@@ -103,13 +103,13 @@ pub align_orders : (a : Alignment) (input : AlignIn) → AlignOrders (align_row 
 align_orders a input = table_orders a.state input a
 
 -- LINK STATE. Nothing told: in service afterwards where it was so before. Up told: in service.
-abbrev pub IsTold : Option Told → State → State → Type 0
+abbrev pub IsTold : Option Indication → State → State → Type 0
 IsTold None old new = IsInService old → IsInService new
-IsTold (Some Told.Up) old new = IsInService new
-IsTold (Some (Told.Down cause)) old new = Unit {0}
+IsTold (Some Indication.Up) old new = IsInService new
+IsTold (Some (Indication.Down cause)) old new = Unit {0}
 
 abbrev pub StateOrders : State → StateRow → Type 0
-StateOrders old row = IsPlain row.out.t1 × IsTold row.out.told old row.next
+StateOrders old row = IsPlain row.out.t1 × IsTold row.out.indication old row.next
 
 pub state_orders : (s : State) (input : StateIn) → StateOrders s (state_row s input)
 state_orders State.OutOfService StateIn.Start = (tt, λ not. absurd not)

@@ -34,8 +34,8 @@ EachInputAsksAtMostOne = (t : Terminal) → InputsAskOne t
 -- LAW: what link state control does to the other two is no more than the layers say: a Start and a Stop never end
 -- alignment, and a Reset never is a failure
 pub record EndsNothing (a : Alignment) (v : Values) : Type 0 where
-  pub start : (align_row a AlignIn.Start).out.end ≡ None
-  pub stop : (align_row a AlignIn.Stop).out.end ≡ None
+  pub start : (align_row a AlignIn.Start).out.outcome ≡ None
+  pub stop : (align_row a AlignIn.Stop).out.outcome ≡ None
   pub reset : (flow_row v FlowIn.Reset).out.failure ≡ None
 
 abbrev pub LayersAreWhole : Type 0

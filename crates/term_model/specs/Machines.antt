@@ -10,12 +10,12 @@ use Rattle.l2_units.specs.declared.timer.TimerOrder.{TimerOrder}
 use Rattle.l2_monitors.specs.Aerm.{threshold}
 use Rattle.l2_monitors.specs.Suerm.{Kept}
 use Rattle.l2_align.specs.declared.signals.AlignIn.{AlignIn}
-use Rattle.l2_align.specs.declared.signals.End.{End}
+use Rattle.l2_align.specs.declared.signals.Outcome.{Outcome}
 use Rattle.l2_align.specs.declared.signals.Monitor.{Monitor}
 use Rattle.l2_align.specs.Table.{Row as AlignRow, row as align_row}
 use Rattle.l2_state.specs.declared.signals.StateIn.{StateIn}
 use Rattle.l2_state.specs.declared.signals.Switch.{Switch}
-use Rattle.l2_state.specs.declared.signals.Told.{Told}
+use Rattle.l2_state.specs.declared.signals.Indication.{Indication}
 use Rattle.l2_state.specs.Table.{Row as StateRow, row as state_row}
 use Rattle.l2_flow.specs.declared.input.FlowIn.{FlowIn}
 use Rattle.l2_flow.specs.Table.{Effect, row_of as flow_row}
@@ -124,24 +124,24 @@ abbrev pub asks_down : Cause → Terminal → Talk Terminal
 asks_down cause t =
     ask (if t.blind then Event.DownBlind t.link else Event.Down t.link) (λ answer. done (fallen cause t))
 
-abbrev pub tells : Option Told → Terminal → Talk Terminal
+abbrev pub tells : Option Indication → Terminal → Talk Terminal
 tells None t = done t
-tells (Some Told.Up) t = asks_up t
-tells (Some (Told.Down cause)) t = if t.up then asks_down cause t else done (fallen cause t)
+tells (Some Indication.Up) t = asks_up t
+tells (Some (Indication.Down cause)) t = if t.up then asks_down cause t else done (fallen cause t)
 
 -- an input of link state control
 abbrev pub state_in : StateIn → Terminal → Talk Terminal
-state_in input t = tells (state_row t.state input).out.told (after_state input t)
+state_in input t = tells (state_row t.state input).out.indication (after_state input t)
 
 -- Q.703 7.3, 12.1: how initial alignment ends, link state control is told
-abbrev pub ends : Option End → Terminal → Talk Terminal
+abbrev pub ends : Option Outcome → Terminal → Talk Terminal
 ends None t = done t
-ends (Some End.Complete) t = state_in StateIn.Complete t
-ends (Some End.NotPossible) t = state_in StateIn.NotPossible t
+ends (Some Outcome.Complete) t = state_in StateIn.Complete t
+ends (Some Outcome.NotPossible) t = state_in StateIn.NotPossible t
 
 -- an input of initial alignment control
 abbrev pub align_in : AlignIn → Terminal → Talk Terminal
-align_in input t = ends (align_row t.align input).out.end (aligns input t)
+align_in input t = ends (align_row t.align input).out.outcome (aligns input t)
 
 -- Q.703 5.3.1, 9.3, 12.1: a failure that flow control tells is one of the link
 abbrev pub fails : Option Cause → Terminal → Talk Terminal
@@ -153,10 +153,10 @@ abbrev pub flow_in : FlowIn → Terminal → Talk Terminal
 flow_in input t = fails (flow_row t.flow input).out.failure (controls input t)
 
 -- The set said that the link isn't up: it's stopped here, and the set isn't told (own).
-abbrev pub fallen_if : Option Told → Terminal → Terminal
+abbrev pub fallen_if : Option Indication → Terminal → Terminal
 fallen_if None t = t
-fallen_if (Some Told.Up) t = t
-fallen_if (Some (Told.Down cause)) t = fallen cause t
+fallen_if (Some Indication.Up) t = t
+fallen_if (Some (Indication.Down cause)) t = fallen cause t
 
 abbrev pub stops_quietly : Terminal → Terminal
-stops_quietly t = fallen_if (state_row t.state StateIn.Stop).out.told (after_state StateIn.Stop t)
+stops_quietly t = fallen_if (state_row t.state StateIn.Stop).out.indication (after_state StateIn.Stop t)

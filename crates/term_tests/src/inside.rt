@@ -5,10 +5,10 @@ ghost use Rattle.l2_units.specs.declared.profile.Profile.TheVariants.{Narrow};
 ghost use Rattle.l2_units.specs.Grammar.{IsHeadOf, head_of};
 
 use super::core_door::holds;
-use l2_align::{AlignIn, End};
+use l2_align::{AlignIn, Outcome};
 use l2_bits::{Deframer, Mark};
 use l2_flow::FlowIn;
-use l2_state::{State, StateIn, Told};
+use l2_state::{Indication, State, StateIn};
 use l2_units::{Cause, Header, Status, Unit, UnitRef, body_of, header_in, write};
 use set_events::{AnswerRef, Refusal};
 use std::test::Fail;
@@ -200,8 +200,8 @@ fn is_not_possible(inside: &mut Inside) -> bool {
     let end = inside.align(AlignIn::T2);
     let told = inside.state(StateIn::NotPossible);
     inside.fall(Cause::NotPossible);
-    end == Some(End::NotPossible)
-        && told == Some(Told::Down(Cause::NotPossible))
+    end == Some(Outcome::NotPossible)
+        && told == Some(Indication::Down(Cause::NotPossible))
         && inside.cause() == Some(Cause::NotPossible)
 }
 
@@ -234,7 +234,7 @@ fn comes_into_service(inside: &mut Inside) -> bool {
     let end = inside.align(AlignIn::T4);
     let quiet = inside.state(StateIn::Complete).is_none();
     let ready = inside.state_now() == State::Ready;
-    end == Some(End::Complete) && quiet && ready && inside.state(StateIn::Fisu) == Some(Told::Up)
+    end == Some(Outcome::Complete) && quiet && ready && inside.state(StateIn::Fisu) == Some(Indication::Up)
 }
 
 /// It's up, and may be blind, once the set has said so.
