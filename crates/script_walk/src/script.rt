@@ -118,7 +118,7 @@ impl<A: Account> LineText for Script<A> {
                 shown,
                 ..
             } = self;
-            carry_out::<A>(alloc, world, step, shown, number, text, out)
+            do_line::<A>(alloc, world, step, shown, number, text, out)
         }
     }
 
@@ -174,7 +174,7 @@ fn unread(number: u64, text: &[u8]) -> Stop<ScriptFault>
 }
 
 /// A line after the first asks for a step, which is carried out.
-fn carry_out<A: Account>(
+fn do_line<A: Account>(
     alloc: Global,
     world: &mut Option<World>,
     step: &mut Step,
@@ -191,14 +191,14 @@ fn carry_out<A: Account>(
         unreachable!();
     };
     match read_step_into(alloc, world_profile(world), text, step) {
-        Ok(true) => carry_out_step::<A>(alloc, world, number, step, shown, out),
+        Ok(true) => do_step::<A>(alloc, world, number, step, shown, out),
         Ok(false) => Err(unread(number, text)),
         Err(_) => Err(Stop::Memory),
     }
 }
 
 /// The step of this line is carried out, and what it shows is told.
-fn carry_out_step<A: Account>(
+fn do_step<A: Account>(
     alloc: Global,
     world: &mut World,
     number: u64,

@@ -12,7 +12,7 @@ ghost use Rattle.set_step.specs.Answering.{AnswersFor, wants_none};
 ghost use Rattle.set_changeover.specs.Parts.{kept_of};
 
 use super::forgetting::{copied, kept};
-use super::step::carry_out;
+use super::step::take_step;
 use l2_units::Profile;
 use l2_window::Window;
 use set_changeover::{Link, Parts, phase_of};
@@ -94,7 +94,7 @@ impl<A: Allocator + Copy> Core<A> {
         ensures fault { IfErr result (λ fault. fault ≡ SetFault.NoMemory) }
         ensures none { wants_none (event_in event.now) ≡ true → IsOk result }
     {
-        Ok(carry_out(&mut self.parts, event, reply)?)
+        Ok(take_step(&mut self.parts, event, reply)?)
     }
 
     /// A law: there is a state that it agrees with.

@@ -18,7 +18,7 @@ use std::alloc::{AllocError, Allocator};
 
 /// What is answered to an event is put into `reply`. On a fault nothing of the parts has changed.
 #[tactic(auto, using(crate::proofs::Kept::may_want))]
-pub(crate) fn carry_out<A: Allocator + Copy>(
+pub(crate) fn take_step<A: Allocator + Copy>(
     parts: &mut Parts<A>,
     event: &EventRef<'_>,
     reply: &mut Reply,

@@ -50,7 +50,7 @@ fn link_of_event(event: &Event) -> Option<u8>
 }
 
 /// What a line asks for is done, of a link that is there: what it prints.
-pub(crate) fn carry_out(alloc: Global, bench: &mut Bench, asked: &Asked) -> Result<Vec<u8>, Want>
+pub(crate) fn ask_bench(alloc: Global, bench: &mut Bench, asked: &Asked) -> Result<Vec<u8>, Want>
     requires there { is_below (length bench.old.links) (link_in asked.now) ≡ true }
     requires few { length bench.old.links ≤ 16 }
     ensures { IfOk result (λ text. Does asked.now bench.old text.items bench.new) }

@@ -11,7 +11,7 @@ ghost use Rattle.text_lines.specs.Flaws.{flaw_of};
 ghost use Rattle.text_lines.specs.Lines.{prints};
 ghost use Rattle.text_lines.specs.Talking.{IsCarriedOut, MayTell};
 
-use super::asking::{carry_out, link_of};
+use super::asking::{ask_bench, link_of};
 use super::fault::{TerminalFault, Want};
 use l2_units::Profile;
 use pair_steps::End as Side;
@@ -210,7 +210,7 @@ fn answer_to(
     if !is_there(bench.links(), link_of(asked)) {
         return Err(Stop::Input(TerminalFault::Step { line: number }));
     }
-    match carry_out(alloc, bench, asked) {
+    match ask_bench(alloc, bench, asked) {
         Ok(printed) => Ok(out.extend_from_slice(&printed)?),
         Err(Want) => Err(Stop::Memory),
     }

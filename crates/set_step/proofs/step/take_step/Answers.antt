@@ -1,6 +1,6 @@
 -- Each arm is what its callee promises, told of the event: the search finds it too, and takes a second for each.
 use Rattle.std.proofs.Common.{arith}
-use Rattle.set_step.proofs.step.carry_out.Goals as goal
+use Rattle.set_step.proofs.step.take_step.Goals as goal
 
 pub returns-in-Offer-clause-ok : goal.returns-in-Offer-clause-ok
 returns-in-Offer-clause-ok o c = rw c.in-Offer.is c.offer.ensures.ok
