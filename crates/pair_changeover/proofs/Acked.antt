@@ -1,5 +1,9 @@
 -- WHAT IS ACKNOWLEDGED STAYS SO: of one end, what counts as acknowledged on a link are the first of the messages that
--- were sent on it, and each of those stands acknowledged there.
+-- were sent on it, and each of those stands acknowledged there; what is unacknowledged is the rest of them, unless it
+-- was given up (`AckedFirst`). `acked_first` says that every event of a sound set keeps this; but for Next and Up an
+-- event is a walk of small changes (`step_walks`, set_model's Walk.antt). Acknowledging turns the first of the
+-- unacknowledged rows (`first_turned`, by induction on the rows), and no number stands in two of them. Whole.antt,
+-- Arriving.antt and Runs.antt use it.
 use Rattle.std.proofs.Common.{refl, arith, ◌≡◌, ◌∙◌, ap, sym, subst, ℕ, zero, suc, ◌+◌, ◌-◌, ◌≤◌, ◌==◌, Bool, true, false, List, [], ◌∷◌, ◌++◌, All, length, map, take, drop, slice_get, slice_set, Option, Some, None, replicate, ◌⊎◌, inl, inr, if◌then◌else◌}
 use Rattle.std.proofs.lemmas.Bool.{eqb-true}
 use Rattle.std.proofs.lemmas.List.{append-nil, length-append, length-drop, length-map, map-append, drop-map, take-append-le, drop-append-le, drop-drop}

@@ -1,4 +1,9 @@
--- A LINK THAT IS LEFT after a unit was heard on another stands as if it had been left before.
+-- A LINK THAT IS LEFT after a unit was heard on another stands as if it had been left before: of a fate that isn't
+-- standing back, of which the unit left the rows alone, the same rows stand there (`left_alike`), and what was sent and
+-- acknowledged on it is as it was (`left_unack`, `left_acked`). For the unit acknowledged rows of its own link alone,
+-- and changed neither the routing nor which links are up, so each row that turns by the leaving gets the same fate
+-- (`row_alike`). Induction is on rows alone, in `fated_alike`. Arriving.antt uses it to tell what is diverted by the
+-- state in which the unit came.
 use Rattle.std.proofs.Common.{refl, ◌≡◌, ◌∙◌, ap, sym, subst, ℕ, ◌==◌, Bool, true, false, List, [], ◌∷◌, ◌++◌, map, slice_get, slice_set, Some, cond}
 use Rattle.std.proofs.lemmas.Bool.{eqb-true}
 use Rattle.set_events.specs.declared.answer.Fate.{Fate}

@@ -1,4 +1,9 @@
--- A UNIT IS HEARD, or a link comes up: what holds of both ends is kept, and a link that settles diverts exactly the rest.
+-- A UNIT IS HEARD, or a link comes up: what holds of both ends is kept, and a link that settles diverts exactly the
+-- rest (`hears_did`, `rises_did`); and an order tells the FSN of the last message that its end accepted
+-- (`hears_tells`). A unit is taken in two parts, what it acknowledges on its own link and what its body leads to
+-- (Hearing.antt, Obeying.antt). A link that settles by the second is another one: what was pending on it begins with
+-- what was sent there and not accepted (`reaches`), and it stands as if it had been left before the unit came
+-- (Alike.antt), as `Diverts` says it. These are cases of one step; Runs.antt has the induction over the steps.
 use Rattle.l2_window.specs.Window.{fsn_count, fsn_before_first}
 use Rattle.std.proofs.Common.{refl, arith, ◌≡◌, ◌∙◌, ap, sym, subst, ℕ, zero, suc, ◌<◌, ◌==◌, ◌+◌, ◌-◌, ◌%◌, Bool, true, false, List, [], ◌∷◌, ◌++◌, All, length, take, drop, slice_get, Option, Some, None, append_assoc}
 use Rattle.std.proofs.lemmas.Bool.{eqb-true}

@@ -1,5 +1,9 @@
--- A LINK SETTLES WITHOUT A NUMBER, in an emergency: what was sent on it and isn't acknowledged is discarded, and then it
--- settles as by the number of the message last acknowledged.
+-- A LINK SETTLES WITHOUT A NUMBER, in an emergency: what was sent on it and isn't acknowledged is discarded, and then
+-- it settles as by the number of the message last acknowledged (`blind_is`). By that number nothing more is reached
+-- (`blind_reached`), so Passing.antt's lemma of settling serves once more, and `blind_both` says that what holds of the
+-- orders under way is kept. `own_rest`, `others_stay` and `aside_stays` tell the queues in between, by equations on
+-- lists and without induction. Obeying.antt uses `blind_both` and `blind_accepted`; pair_streams's Given.antt and
+-- Blindly.antt go the same two steps.
 use Rattle.l2_window.specs.Window.{fsn_count, fsn_before_first, most_unacked}
 use Rattle.l2_window.proofs.Numbers.{distance_is}
 use Rattle.std.proofs.Common.{length, refl, arith, ◌≡◌, ◌∙◌, ap, sym, subst, ℕ, ◌==◌, ◌+◌, ◌-◌, ◌%◌, Bool, true, false, List, [], ◌∷◌, ◌++◌, drop, append_assoc, inl, inr}

@@ -1,4 +1,9 @@
--- WHAT A SETTLED LINK COUNTS as acknowledged was accepted, with emergencies or without.
+-- WHAT A SETTLED LINK COUNTS as acknowledged was accepted, with emergencies or without, in both directions (`Counts`).
+-- It's kept by an event that accepts and settles nothing (`counts_kept`), by a link that comes up at both ends, as it
+-- isn't settled then (`counts_risen`), and by a unit that is heard (`heard_counts`): a link that settles by it, with a
+-- number or without, counts no more than was accepted (`obeys_less`, Obeying.antt), since before it did so as the law
+-- of links says (`kept_on`, pair_model's Kept.antt). Each is one step; the induction over the steps of a quiet run is
+-- in pair_streams's Counting.antt, which alone uses this.
 use Rattle.std.proofs.lemmas.Bool.{eqb-true}
 use Rattle.std.proofs.Common.{refl, arith, ◌≡◌, ◌∙◌, ap, sym, subst, ℕ, ◌≤◌, ◌<◌, ◌==◌, Bool, true, false, List, ◌∷◌, length, slice_get, Some}
 use Rattle.l2_units.specs.declared.unit.Unit.{Unit as SignalUnit}

@@ -1,4 +1,9 @@
--- WHAT AN END HEARS, and the orders under way at both: the body that it accepts is the first that is pending at the other.
+-- WHAT AN END HEARS, and the orders under way at both: the body that it accepts is the first that is pending at the
+-- other (`first_is`), which stands nowhere else (`gone`). `hears` says that the unit's own part keeps what holds of the
+-- orders, and that what the body leads to is a case of `Obeys` (Obeying.antt). There the invariant pays: an order of a
+-- changeover that is heard was the only one about its link, and came by another; its end left that link, and tells what
+-- it counts, if anything. Case by case on the body and the order; Reaching.antt finds the row, Passing.antt tells the
+-- queues. Used by Ordered.antt, Arriving.antt, Counted.antt and Telling.antt, and by pair_streams's Hearing.antt.
 use Rattle.std.proofs.Common.{refl, arith, ◌≡◌, ◌≢◌, ◌∙◌, ap, sym, subst, ℕ, suc, ◌≤◌, ◌<◌, ◌==◌, ◌+◌, ◌-◌, Bool, true, false, List, [], ◌∷◌, ◌++◌, length, take, drop, slice_get, Option, Some, None, inl}
 use Rattle.std.proofs.lemmas.Bool.{eqb-true}
 use Rattle.std.proofs.lemmas.Option.{same_Some}

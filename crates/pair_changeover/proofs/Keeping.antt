@@ -1,4 +1,9 @@
--- WHAT EACH EVENT OF AN END KEEPS of the orders under way, but hearing and coming up: it settles nothing and accepts nothing.
+-- WHAT EACH EVENT OF AN END KEEPS of the orders under way, but hearing and coming up: it settles nothing and accepts
+-- nothing (`Keeps`). A lemma for each: `offer_kept`, `take_kept`, `find_kept`, `down_kept`, `blind_kept` where there
+-- may be emergencies, `restore_kept`, and `next_keeps` where no more was accepted than was sent. The case that matters
+-- is Down, which queues an order: no other stood about that link, because it was up till then (`queues_both`,
+-- Changes.antt). Induction is only on the alternatives of Restore (`declares_keep`). Used by Whole.antt, Ordered.antt
+-- and Counted.antt, and by pair_streams's Acting.antt and Counting.antt.
 use Rattle.std.proofs.Common.{refl, ◌≡◌, ◌∙◌, ap, sym, subst, ℕ, zero, suc, ◌<◌, ◌≤◌, ◌==◌, ◌+◌, ◌-◌, Bool, true, false, nat_lt, nat_le, List, [], ◌∷◌, length, slice_get, Option, Some, None, cond}
 use Rattle.std.proofs.lemmas.Bool.{eqb-true}
 use Rattle.l3_orders.specs.declared.order.Order.TheVariants.{Cbd}

@@ -1,4 +1,9 @@
--- A LINK IS LEFT, or a changeback's messages go home: what stood back turns to other links.
+-- A LINK IS LEFT, or a changeback's messages go home: what stood back turns to other links. `leaves_queues` and
+-- `leaves_aside` tell what stands behind each queue then and what is parked, `releases_queues` and `releases_aside` the
+-- same where a code is released to a home that is up; `leaves_acts` and `releases_acts` say that no order is made. Both
+-- are Turning.antt's change: a link that is up holds nothing, and for one that isn't nothing comes to wait, by
+-- soundness; and by a code whose home isn't up nothing stands back (`none_back`). No induction of its own. Used by
+-- Keeping.antt and Obeying.antt, and by pair_streams's Turned.antt and Returned.antt.
 use Rattle.std.proofs.Common.{refl, ap, ◌∙◌, ◌≡◌, subst, ℕ, ◌==◌, Bool, true, false, List, ◌++◌, slice_get, Option, Some, inl, inr}
 use Rattle.std.proofs.lemmas.Bool.{eqb-true}
 use Rattle.set_events.specs.declared.answer.Fate.{Fate}

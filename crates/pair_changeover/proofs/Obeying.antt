@@ -1,5 +1,9 @@
--- WHAT AN ORDER THAT IS HEARD LEADS TO at an end: the link settles by the number that the far end counts; an end that is
--- still up on it leaves it first, and acknowledges.
+-- WHAT AN ORDER THAT IS HEARD LEADS TO at an end: the link settles by the number that the far end counts; an end that
+-- is still up on it leaves it first, and acknowledges. `Obeys` lists what a body can lead to. In each case what holds
+-- of the orders is kept (`obeys_both`), and a settled link counts no more than was accepted (`obeys_less`); without
+-- emergencies it counts just that, nothing is discarded, and what was pending moves (`obeys_equal`, `obeys_discards`,
+-- `obeys_moves`). For the FSN is the far end's count, so its distance is what that end accepted beyond
+-- (`told_reached`). No induction. Hearing.antt finds the case; Ordered.antt and Arriving.antt take the results.
 use Rattle.std.proofs.Common.{refl, arith, ◌≡◌, ◌∙◌, ap, sym, subst, ℕ, ◌≤◌, ◌<◌, ◌==◌, ◌+◌, ◌-◌, ◌%◌, Bool, true, false, List, [], ◌∷◌, ◌++◌, length, slice_get, slice_set, Option, Some, None}
 use Rattle.std.proofs.lemmas.Bool.{eqb-true}
 use Rattle.std.proofs.lemmas.Bool.Decides.{nat_tests}

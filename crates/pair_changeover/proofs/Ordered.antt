@@ -1,5 +1,9 @@
--- THE ORDERS UNDER WAY AT BOTH ENDS, all along a run in which each order is answered, with emergencies or without: every
--- step keeps what holds of them.
+-- THE ORDERS UNDER WAY AT BOTH ENDS, all along a run in which each order is answered, with emergencies or without:
+-- every step keeps what holds of them (`Ordered`, seen from the end that acts). `asked_ordered` is for an event that
+-- accepts and settles nothing, `heard_ordered` for a unit that is heard, `rises_both` for a link that comes up, and
+-- `sends_keep` for a unit that is sent, as no more was accepted than was sent (`sent_enough`). The work is done in
+-- Keeping.antt, Hearing.antt, Obeying.antt and Passing.antt; here it's put together for one step. Used by Whole.antt,
+-- Arriving.antt and Counted.antt, and by pair_streams's Acting.antt and Hearing.antt.
 use Rattle.std.proofs.Common.{arith, ◌≡◌, ap, sym, subst, ℕ, ◌≤◌, ◌<◌, ◌-◌, Bool, List, ◌∷◌, length}
 use Rattle.l2_units.specs.declared.unit.Unit.{Unit as SignalUnit}
 use Rattle.pair_steps.specs.Lines.{units_on, with_units}

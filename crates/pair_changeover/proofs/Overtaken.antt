@@ -1,5 +1,8 @@
--- NO ORDER IS OVERTAKEN where each order is answered, with emergencies or without: where a link is up at an end no order
--- about it stands there. So nothing is discarded before a unit is sent.
+-- NO ORDER IS OVERTAKEN where each order is answered, with emergencies or without: where a link is up at an end no
+-- order about it stands there. So nothing is discarded before a unit is sent (`nothing_cleared`), and Next of a link in
+-- service is just `next` (`sends_next`). What waits for a link is pending on it (`first_pending`), and if its first
+-- were an order about a link that is up, that would stand against `none_up` of what holds of the orders. Only who is
+-- among joined lists takes an induction. Used by Whole.antt, and by pair_streams's Acting.antt and Counting.antt.
 use Rattle.std.proofs.Common.{refl, ◌≡◌, ◌∙◌, ap, ℕ, Bool, true, false, List, [], ◌∷◌, ◌++◌, drop, Option, Some, None, inl, inr}
 use Rattle.l3_orders.specs.declared.order.Order.{Order}
 use Rattle.l3_orders.specs.declared.order.Order.TheVariants.{Coo, Coa, Cbd, Cba, Eco, Eca}

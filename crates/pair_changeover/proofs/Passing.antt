@@ -1,4 +1,9 @@
 -- WHAT AN END DOES ON ONE LINK, and the orders under way at both: it sends, it hears, the link settles, or comes up.
+-- `passing` is of a link that is up, `was_first` of what leaves the other's queue when it's accepted, `settles_acts` of
+-- a link that settles by a number which leaves just what was pending (`IsReached`), `rises_orders` of one that comes up
+-- at both ends. Queues are read off Table.antt, by link (`by_link`). The case that matters is settling: an order that
+-- moves to the target isn't about it, since the target is up. No induction. Used by Keeping.antt, Hearing.antt,
+-- Obeying.antt, Blind.antt and Ordered.antt, and by pair_streams's Settled.antt and Risen.antt.
 use Rattle.std.proofs.Common.{refl, arith, ◌≡◌, ◌∙◌, ap, sym, subst, ℕ, suc, ◌≤◌, ◌==◌, ◌-◌, Bool, true, false, List, [], ◌∷◌, ◌++◌, slice_get, slice_set, Option, Some, None, ◌⊎◌, inl, inr}
 use Rattle.std.proofs.lemmas.Bool.{eqb-true}
 use Rattle.set_events.specs.declared.answer.Fate.TheVariants.{Acked, Parked}

@@ -1,4 +1,9 @@
--- HOW FAR THE FAR END GOT on a link, and which message it accepts next: the first that is pending, which stands nowhere else.
+-- HOW FAR THE FAR END GOT on a link, and which message it accepts next: the first that is pending, which stands nowhere
+-- else. `reaches` reads it off what pair_model promises of a link (`IsKeptOn`): what is acknowledged was accepted, and
+-- no more was accepted than was sent. `due` finds the row of the body that is accepted: so far among the unacknowledged
+-- as was accepted beyond what is acknowledged. `not_queued` and `not_aside` say that no other pending or parked message
+-- has its number, as two rows would (`two_there`, `at_most_one`). The inductions are on lists of rows. Used by
+-- Hearing.antt, Ordered.antt, Counted.antt, Whole.antt and Arriving.antt.
 use Rattle.std.proofs.Common.{refl, arith, ◌≡◌, ◌≢◌, ◌∙◌, ap, sym, subst, ℕ, zero, suc, ◌≤◌, ◌<◌, ◌==◌, ◌+◌, ◌-◌, Bool, true, false, List, [], ◌∷◌, ◌++◌, length, filter, take, drop, slice_get, Option, Some, None, ◌⊎◌, inl, inr}
 use Rattle.std.proofs.lemmas.Bool.{eq-eqb, eqb-true}
 use Rattle.std.proofs.lemmas.List.{length-map}

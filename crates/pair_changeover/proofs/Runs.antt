@@ -1,4 +1,9 @@
--- EVERY SOUND RUN DIVERTS THE REST: one induction over its steps, beside that of the links.
+-- EVERY SOUND RUN DIVERTS THE REST: one induction over its steps, beside that of the links. `every_sound_run` answers
+-- every_sound_run_diverts_the_rest (src/laws.rt), and pair_world's World::play ensures it of its steps. `along` takes
+-- two things from stage to stage, the tie of each link (`Holds`, pair_model's Runs.antt) and `Whole` (Whole.antt);
+-- `step_went` says of each step that it keeps the second and that a link which settles diverts the rest. Its cases are
+-- `asks_did` and `sends_did` of Whole.antt, `hears_did` and `rises_did` of Arriving.antt, seen from the end that acts;
+-- at first nothing stands anywhere (`whole_at_first`).
 use Rattle.l2_units.specs.declared.profile.Profile.{Profile}
 use Rattle.std.proofs.Common.{refl, arith, ◌≡◌, ◌∙◌, ap, sym, subst, ℕ, zero, suc, ◌<◌, ◌-◌, Bool, true, false, ◌||◌, nat_lt, List, [], ◌∷◌, ◌++◌, length, slice_get, replicate, Option, Some, None, cond}
 use Rattle.std.proofs.lemmas.Bool.{ltb-true}

@@ -1,4 +1,9 @@
--- WHAT AN ORDER TELLS where it's heard, with emergencies or without: the FSN of the last message that its end accepted.
+-- WHAT AN ORDER TELLS where it's heard, with emergencies or without: the FSN of the last message that its end accepted,
+-- so it's reasonable where the link hasn't settled (`hears_tells`). Of the orders that carry a number, COO and COA,
+-- what holds of those under way says that it's the one that their end counts; that this is the length of what was
+-- accepted is pair_model's law of links (`kept_on`), and `told_reasonable` (Obeying.antt) does the arithmetic.
+-- Arriving.antt has the same where nothing is discarded; this wants `Both` alone. One step, case by case on the order;
+-- pair_streams's Telling.antt takes it along quiet runs.
 use Rattle.l2_window.specs.Window.{fsn_count, fsn_before_first}
 use Rattle.std.proofs.Common.{refl, arith, ◌≡◌, ◌∙◌, ap, sym, ℕ, ◌<◌, ◌+◌, ◌%◌, Bool, List, ◌∷◌, length, Option, Some, None}
 use Rattle.l2_units.specs.declared.unit.Unit.{Unit as SignalUnit}

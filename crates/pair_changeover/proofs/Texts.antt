@@ -1,4 +1,9 @@
--- AN ORDER'S TEXT is read as that order.
+-- AN ORDER'S TEXT is read as that order: `coo_read`, `coa_read` and `eco_read`, by either profile, where the set's
+-- service octet is the management's and its point codes have 14 bits (`AreCodes`), the link is below 16, and the FSN is
+-- one of the profile's. And nothing else is read as an order of a changeover: no declaration or acknowledgement of a
+-- changeback (`cbd_plain`, `cba_plain`), no message of a user (`users_no_order`). It's arithmetic on octets (`slc_is`,
+-- `wide_is`), case by case on the profile, without induction; l3_orders's Texts.antt says that `order_any` reads what
+-- one profile does. Used by Keeping.antt, Obeying.antt, Hearing.antt and Turning.antt.
 use Rattle.std.proofs.Common.{refl, arith, ◌≡◌, ◌∙◌, sym, subst, ℕ, ◌<◌, ◌==◌, ◌+◌, ◌*◌, ◌/◌, ◌%◌, Bool, true, false, List, [], ◌∷◌, Option, Some, None, cond}
 use Rattle.std.proofs.lemmas.Bool.{eq-eqb}
 use Rattle.std.proofs.lemmas.Option.{same_Some}

@@ -1,4 +1,9 @@
--- WHAT STOOD BACK TURNS TO LINKS, all together and in its order: what that does to what is pending.
+-- WHAT STOOD BACK TURNS TO LINKS, all together and in its order: what that does to what is pending. Each queue gains
+-- the rows that come to wait for its link or to be held for it, at its end (`turned_pending`), the rest is parked
+-- (`turned_aside`), and no order is made (`turned_acts`). The last is so as only users' messages stand back
+-- (`turned_users`, by induction on the rows). And they stand at the end because a link either holds nothing, or nothing
+-- comes to wait for it (`IsEither`): else the new ones would stand before what is held. Leaving.antt uses it for a link
+-- that is left and for a code that is released, and so do pair_streams's Turned.antt and Returned.antt.
 use Rattle.std.proofs.Common.{Some, None, refl, ◌≡◌, ◌∙◌, ap, sym, subst, ℕ, ◌==◌, Bool, true, false, not, ◌-◌, List, [], ◌∷◌, ◌++◌, map, drop, ◌⊎◌, inl, inr, cond}
 use Rattle.std.proofs.lemmas.List.{append-nil}
 use Rattle.l3_orders.specs.Grammar.{order_any}

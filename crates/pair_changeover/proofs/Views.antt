@@ -1,5 +1,9 @@
--- THE ORDERS UNDER WAY between two ends, told by what stands at each and the other hasn't accepted: no copies, losses or
--- acknowledgements occur here.
+-- THE ORDERS UNDER WAY between two ends, told by what stands at each and the other hasn't accepted: no copies, losses
+-- or acknowledgements occur here. `Orders` is what holds of them all along: each tells what its end counts, none is
+-- about a link that is up here or settled there, and of each other link there is at most one, on another link.
+-- `carries` says that a change in which no order is made keeps it (`Passes`), `queued_in` that a new order about a link
+-- that was just left does (`Queues`). It's argued by where a message came from, on views alone; only `among_joined` is
+-- an induction. Changes.antt takes both to states; the words are used all through this crate and pair_streams.
 use Rattle.std.proofs.Common.{refl, ◌≡◌, ◌≢◌, ◌∙◌, ap, sym, subst, ℕ, Bool, true, false, List, [], ◌∷◌, ◌++◌, Some, ◌⊎◌, inl, inr}
 use Rattle.l3_orders.specs.declared.order.Order.{Order}
 use Rattle.l3_orders.specs.declared.order.Order.TheVariants.{Coo, Coa, Cbd, Cba, Eco, Eca}

@@ -1,4 +1,9 @@
 -- WHAT HOLDS OF BOTH ENDS ALL ALONG, beside each link's tie, and that every step keeps it: seen from the end that acts.
+-- `Whole` is `Both` of Changes.antt, and of each end that a settled link counts just what the far end accepted, that
+-- the acknowledged are the first that were sent, and that nothing is discarded (`Half`). `asks_did`, `sends_did` and
+-- `sends_not` say of events that settle nothing that they keep it, from Keeping.antt, Acked.antt and Overtaken.antt;
+-- hearing and coming up are Arriving.antt's. `loses_nothing` reads the promise off it. These are cases of one step;
+-- Runs.antt has the induction over the steps.
 use Rattle.std.proofs.Common.{refl, arith, ◌≡◌, ◌∙◌, ap, sym, subst, ℕ, ◌≤◌, ◌<◌, Bool, true, false, List, [], length, slice_get, Some}
 use Rattle.l2_units.specs.declared.unit.Unit.{Unit as SignalUnit}
 use Rattle.set_events.specs.declared.config.Method.{Method}

@@ -1,4 +1,8 @@
--- The law of one link, at once for both error controls: of two ends of one method.
+-- THE LAW OF ONE LINK, at once for both error controls: of two ends of one method (`one_link`). The basic and the
+-- cyclic control keep the rules that l2_window's Rules.antt asks of any (`kept`), as l2_basic and l2_pcr prove of each;
+-- here it's only chosen by the controls of the two ends. What both have in step is what their method asks (`InStep`),
+-- and ends of two methods have nothing in step. The induction over the life of a link is in l2_window's Runs.antt.
+-- Tied.antt, Sending.antt, Hearing.antt, Rising.antt and Kept.antt speak of `rules` or use `one_link`.
 use Rattle.std.proofs.Common.{refl, ◌≡◌, ◌<◌, ◌%◌, ℕ, Bool, true, false, ◌&&◌, ◌==◌, nat_lt, List, [], ◌∷◌, ◌++◌, length, Option, None}
 use Rattle.std.specs.Prelude.{is_some, if◌then◌else◌}
 use Rattle.l2_units.specs.declared.unit.Header.{Header}

@@ -1,4 +1,8 @@
--- HOW MANY BODIES A LINK COUNTS AS ACCEPTED: only its own hearing and coming up change that.
+-- HOW MANY BODIES A LINK COUNTS AS ACCEPTED: only its own hearing and coming up change that (`count_stays`), and what
+-- becomes of an accepted body doesn't (`takes_count`). It's a walk of small changes (`step_walks`, set_model's
+-- Walk.antt): each leaves the list of links alone, or sets a link to one that counts as many (`set_links`); of hearing
+-- and coming up the link is another (`IsApart`). Tied.antt and Pairs.antt keep by it that the count is that of the
+-- bodies taken; used by Hearing.antt and Moving.antt too.
 use Rattle.std.proofs.Common.{refl, ◌≡◌, ◌≢◌, ◌∙◌, ap, subst, ℕ, ◌==◌, false, List, slice_get, slice_set, Option, Some, ◌⊎◌, inl, inr}
 use Rattle.set_events.specs.declared.event.Event.{Event}
 use Rattle.set_events.specs.declared.event.Event.TheVariants.{Heard, Up as UpEvent}

@@ -1,4 +1,8 @@
--- SHORT RUNS, COMPUTED: what the definitions of a run say of them.
+-- SHORT RUNS, COMPUTED: what the definitions of a run say of them. A message arrives; the first of two is lost and sent
+-- again; the far end leaves a link with one message under way, which is diverted to the other link behind the answer to
+-- the order. After each run what was offered, sent, taken or got at an end is computed from the definitions alone, so
+-- there's nothing to argue. Nothing uses these theorems: they show that the words of specs/Run.antt mean what a reader
+-- expects, as that a retransmission is no first sending.
 use Rattle.l2_units.specs.declared.profile.Profile.TheVariants.{Narrow}
 use Rattle.std.proofs.Common.{refl, arith, ◌≡◌, ◌≤◌, ℕ, List, [], ◌∷◌}
 use Rattle.set_events.specs.declared.config.Method.TheVariants.{Basic}

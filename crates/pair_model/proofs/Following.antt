@@ -1,4 +1,9 @@
--- HOW A LINK GOES ON at an end by what isn't its own sending, hearing or coming up.
+-- HOW A LINK GOES ON at an end by what isn't its own sending, hearing or coming up (`Follows`): unless it's settled
+-- then, it wasn't settled before, its control, count and unacknowledged messages are the same, and more may wait for
+-- it, last. There's a lemma for each event, from `offer_follows` to `timeout_follows`, and `takes_follows` for what an
+-- accepted body leads to. Of other links it's a walk of small changes (`others`, set_model's Walk.antt); the link
+-- itself settles, or isn't touched. Only `released_follow` is an induction, on the codes. Tied.antt takes a tie on by
+-- it; Pairs.antt, Moving.antt and Hearing.antt use the lemmas.
 use Rattle.set_model.specs.Step.{is_heard}
 use Rattle.std.proofs.Common.{refl, ◌≡◌, ◌≢◌, ◌∙◌, ap, sym, subst, ℕ, zero, suc, ◌<◌, ◌==◌, Bool, true, false, List, [], ◌∷◌, ◌++◌, length, map, slice_get, slice_set, Option, Some, None, append_assoc, cond, inl, inr}
 use Rattle.std.proofs.lemmas.Bool.{eqb-true}

@@ -1,4 +1,9 @@
--- WHAT AN END HEARS: the unit that arrives on a link in service is heard as the law's end hears it.
+-- WHAT AN END HEARS: the unit that arrives on a link in service is heard as the law's end hears it, so the tie is kept
+-- (`hears`). The unit's own part is the law's step (`mid_tied`): the window moves as the control's does
+-- (`window_moves`, set_model's Framing.antt), and something becomes of each body that is accepted (`took_some`), so as
+-- many are taken as are counted. What the body leads to is no more than Following.antt allows. By the law the unit has
+-- numbers of the profile (`unit_fits`) and tells no fault (`no_fault`). Case by case on the unit; no induction but on
+-- the rows (`fit_at`). Used by Moving.antt and by pair_changeover's Hearing.antt.
 use Rattle.std.specs.Prelude.{◌≤◌, nat_lt, nat_le}
 use Rattle.l2_units.specs.declared.profile.Profile.{Profile}
 use Rattle.l2_units.specs.Profile.{fsn_count, longest_body}

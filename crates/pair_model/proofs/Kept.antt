@@ -1,4 +1,9 @@
--- WHAT THE TIE OF A LINK SAYS of what passed on it, and that it holds at first.
+-- WHAT THE TIE OF A LINK SAYS of what passed on it, and that it holds at first. `kept_tied`, and `kept_on` of two ends:
+-- the bodies that were accepted are the first that were sent, the far end counts just those, and until it settles what
+-- is unacknowledged is the rest. The law says so of numbers (`one_link`, Controls.antt), and the rows have one body for
+-- each (`first_bodies`, `same_messages`, by induction on the lists). `at_first` ties each link of two new sets as one
+-- that was never up (`unborn`, Rising.antt). Used by Runs.antt, and by pair_changeover's Hearing.antt, Ordered.antt and
+-- Whole.antt.
 use Rattle.std.proofs.Common.{refl, arith, ◌≡◌, ◌∙◌, ap, ap₂, sym, ℕ, zero, suc, true, List, [], ◌∷◌, length, map, take, drop, slice_get, Some, replicate}
 use Rattle.std.proofs.lemmas.Option.{same_Some}
 use Rattle.l2_window.specs.Window.{WindowState}

@@ -1,5 +1,9 @@
 -- WHAT MOVES ON THE LINES keeps the tie of each link: two ends, seen from the one that sends, hears or loses, and from
--- either where a link comes up.
+-- either where a link comes up (`emits_up`, `emits_not`, `hears_up`, `loses`, `rises`). On the link itself that's
+-- Sending.antt's, Hearing.antt's or Rising.antt's work, or `lost` of Tied.antt; every other link goes on, as
+-- Following.antt says, with the same line and the same past. `answers_sent`, `answers_heard` and `tells_none` say what
+-- is answered. It's argued by link; only `drop_all` is an induction. Runs.antt uses it for four kinds of steps, and the
+-- Runs.antt of pair_changeover and pair_streams for the answers.
 use Rattle.std.proofs.Common.{refl, arith, ◌≡◌, ◌∙◌, ap, sym, subst, ℕ, ◌<◌, ◌==◌, Bool, true, false, List, [], ◌∷◌, ◌++◌, length, drop, slice_get, Option, Some, None, cond}
 use Rattle.std.proofs.lemmas.Bool.{eqb-true}
 use Rattle.std.proofs.lemmas.List.{append-nil}

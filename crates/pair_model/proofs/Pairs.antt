@@ -1,4 +1,9 @@
--- EVERY STEP KEEPS THE TIE OF EACH LINK: two ends, seen from the one that acts.
+-- EVERY STEP KEEPS THE TIE OF EACH LINK: two ends, seen from the one that acts. `HoldsOf` is what holds of two ends
+-- (`Two`): both are sound, of their methods and one profile, with as many links and lines, and each link is tied.
+-- `event_holds` says that an event at one end keeps all but the ties, `asks` that one which has no step of its own
+-- keeps these too, as each link goes on by it (Following.antt, Counts.antt). Case by case on the event; that settings
+-- stay is a walk of small changes (`settings_stay`). Moving.antt has the steps on the lines, and Runs.antt the
+-- induction; pair_changeover and pair_streams speak in these words.
 use Rattle.std.proofs.Common.{refl, ◌≡◌, ◌≢◌, ◌∙◌, ap, sym, ℕ, ◌<◌, ◌==◌, false, List, length}
 use Rattle.l2_units.specs.declared.unit.Unit.{Unit as SignalUnit}
 use Rattle.pair_steps.specs.Lines.{units_of, units_on, with_units}

@@ -1,4 +1,8 @@
--- A LINK THAT COMES UP at both ends begins a world of the law.
+-- A LINK THAT COMES UP at both ends begins a world of the law (`rises_tied`): at each end its control and its window
+-- are new (`fresh_begins`) and nothing was sent, since a settled link has no messages (`settled_empty`, set_model's
+-- Settling.antt). `unborn` ties a link that isn't up at either end and has no past to a world that just began: a tie
+-- asks nothing of the control of a settled link. No induction: such a world's run has no step. Moving.antt uses it for
+-- Up, Kept.antt for new sets; `settled_at` serves pair_changeover's Arriving.antt too.
 use Rattle.l2_units.specs.declared.profile.Profile.{Profile}
 use Rattle.l2_units.specs.declared.profile.Profile.TheVariants.{Narrow}
 use Rattle.l2_window.proofs.Numbers.{from_zero}

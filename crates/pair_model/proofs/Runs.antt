@@ -1,4 +1,9 @@
--- EVERY HONEST RUN KEEPS EACH LINK: one induction over its steps.
+-- EVERY HONEST RUN KEEPS EACH LINK: one induction over its steps. `every_honest_run` answers
+-- every_honest_run_keeps_links (src/laws.rt), and pair_world's World::play ensures it of its steps. `along` takes
+-- `Holds` from stage to stage; `step_goes` says that each step keeps it and tells no fault, by `asks` of Pairs.antt and
+-- by Moving.antt, seen from the end that acts. What a stage promises is read off its ties (`links_keep`, Kept.antt).
+-- The inductions of pair_changeover's Runs.antt and pair_streams's Runs.antt go beside this one, with `seen`, `Holds`,
+-- `Goes` and `step_goes`.
 use Rattle.std.proofs.Common.{refl, arith, ◌≡◌, ◌∙◌, ap, sym, subst, ℕ, ◌<◌, Bool, true, false, ◌&&◌, ◌||◌, nat_lt, List, [], ◌∷◌, length, slice_get, Option, Some, None, cond}
 use Rattle.std.proofs.lemmas.Bool.{ltb-true}
 use Rattle.l2_units.specs.declared.unit.Unit.{Unit as SignalUnit}

@@ -1,4 +1,9 @@
--- WHAT AN END SENDS: the next unit of a link in service is the law's, and joins the line.
+-- WHAT AN END SENDS: the next unit of a link in service is the law's, and joins the line, so the tie is kept (`sends`).
+-- What was overtaken is discarded first: in the law's world it's taken back (`cleared_tied`). Then the control chooses
+-- as the law does, since its window holds the numbers of the rows, and moves as the rows do (`window_is`); the unit
+-- carries the body of the row that was chosen (`told`); and what was first sent is what the unacknowledged rows gained
+-- (`gained`). Case by case on the choice; the inductions are on lists. Used by Moving.antt, Hearing.antt and Kept.antt,
+-- and by pair_changeover's Overtaken.antt and Acked.antt.
 use Rattle.std.proofs.Common.{refl, arith, ◌≡◌, ◌∙◌, ap, sym, subst, ℕ, zero, suc, ◌<◌, Bool, List, [], ◌∷◌, ◌++◌, length, map, drop, slice_get, Option, Some, None, filter}
 use Rattle.std.proofs.lemmas.List.{map-append, length-map}
 use Rattle.std.proofs.lemmas.Option.{slice_get-map}

@@ -1,5 +1,9 @@
 -- THE TIE of a link of two ends to the law of one link: a world of the law that a run leads to, whose messages are the
--- numbers of the rows that are sent on the link.
+-- numbers of the rows that are sent on the link (`Tied`). It stays while rows keep their bodies (`stand_kept`,
+-- `units_kept`), is the same seen from the other end (`turned`, by induction on the law's run), and goes on with the
+-- link (`follows`, by Following.antt): each message that comes to wait is offered in the law's world, each that waits
+-- no longer is taken back (`withdraws`), one after another. `lost` is of a unit that leaves the line. Used by
+-- Sending.antt, Hearing.antt, Rising.antt, Moving.antt, Pairs.antt and Kept.antt.
 use Rattle.l2_units.specs.declared.profile.Profile.{Profile}
 use Rattle.l2_window.specs.Window.{fsn_before_first, fsn_count}
 use Rattle.std.proofs.Common.{refl, arith, ◌≡◌, ◌∙◌, ap, sym, subst, ℕ, zero, suc, ◌<◌, ◌+◌, ◌%◌, Bool, true, false, nat_lt, List, [], ◌∷◌, ◌++◌, length, map, take, drop, slice_get, Option, Some, None, append_assoc}

@@ -1,4 +1,9 @@
--- EACH STREAM, WHEN AN END ACTS: it's, it sends, or a link comes up.
+-- EACH STREAM, WHEN AN END ACTS: an event is asked of it, it sends, or a link comes up. `Streams` is what holds of both
+-- ends: the orders under way, each stream in both directions (`Flows`, Codes.antt), that what a set holds of users was
+-- offered there and what is lost was discarded (`Covered`), that numbers rise, and that without emergencies nothing is
+-- lost. `asked_streams`, `sends_streams`, `sends_none` and `rises_streams` say that such a step keeps it. An offer
+-- alone adds to what was offered, and its message stands last where its stream runs. Case by case on the event; the
+-- queues are told by pair_changeover's Keeping.antt. Runs.antt has the induction, Hearing.antt the step that is left.
 use Rattle.std.proofs.Common.{refl, ◌≡◌, ◌∙◌, ap, sym, subst, ℕ, ◌<◌, ◌==◌, Bool, true, false, List, [], ◌∷◌, ◌++◌, length, slice_get, Option, Some, None, cond, inl, inr}
 use Rattle.std.proofs.lemmas.List.{append-nil}
 use Rattle.l2_units.specs.declared.unit.Unit.{Unit as SignalUnit}

@@ -1,4 +1,8 @@
--- WHERE NOTHING IS LEFT at either end, all that was offered has arrived.
+-- WHERE NOTHING IS LEFT at either end, all that was offered has arrived: users got it (`all_arrived`), and took it or
+-- find it in the inbox (`all_taken`); in a quiet run each message was got, or discarded in an emergency
+-- (`all_accounted`). Where the counts of users' messages are zero nothing of a stream is pending, parked or stands back
+-- (`none_of`, by induction on the rows), and for that case Runs.antt and Handing.antt promise it. `at_end` takes what
+-- holds along a run to its end, by induction on the steps. World::is_idle of pair_world ensures all three.
 use Rattle.std.proofs.Common.{refl, arith, ◌≡◌, ◌∙◌, ap, sym, subst, ℕ, suc, ◌==◌, ◌-◌, Bool, true, false, List, [], ◌∷◌, ◌++◌, length, drop}
 use Rattle.set_events.specs.declared.answer.Fate.{Fate}
 use Rattle.set_events.specs.declared.answer.Fate.TheVariants.{Waiting, Unacked, Acked, Held, Parked, Back, Discarded}

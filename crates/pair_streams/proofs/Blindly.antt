@@ -1,4 +1,8 @@
--- A LINK SETTLES WITHOUT A NUMBER, and each stream: of those that are lost each stands given up, and the rest goes along.
+-- A LINK SETTLES WITHOUT A NUMBER, and each stream: of those that are lost each stands given up, and the rest goes
+-- along (`blind_flow`). It's taken in the two steps of pair_changeover's Blind.antt: what was sent is given up
+-- (Given.antt), and then the link settles by the number of the message last acknowledged (Settled.antt). What is lost
+-- by it was an unacknowledged row, which turned and then stays as it is (`stands_given_up`); that each such row turns
+-- is the one induction, on the rows (`placed_turned`). Hearing.antt uses it.
 use Rattle.std.proofs.Math.Nat.{le_refl}
 use Rattle.std.proofs.lemmas.Bool.Decides.{nat_tests}
 use Rattle.std.proofs.Common.{arith, zero, suc, ◌≤◌, length, refl, ◌≡◌, ◌∙◌, sym, subst, ℕ, ◌+◌, ◌-◌, Bool, true, List, [], ◌∷◌, drop, slice_get, Some, ◌⊎◌, inl, inr}

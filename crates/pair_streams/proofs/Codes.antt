@@ -1,5 +1,9 @@
--- THE CODES OF CHANGEBACKS between two ends: of one in use a declaration or its acknowledgement is under way, and nothing of
--- its streams stands behind the declaration.
+-- THE CODES OF CHANGEBACKS between two ends: of a free one nothing is under way, of one in use at most a declaration or
+-- its acknowledgement, and nothing of its streams stands behind the declaration (`Backing`). With where each stream
+-- stands (Flowing.antt) and what was kept and lost of it (Mixed.antt) it makes `Flows`, what holds of the streams from
+-- one end to the other. `carried` says what a change has to keep of each stream (`Kept`) so that all is; `far_carried`
+-- is for a far end that accepts nothing, `acked_flow` for one that acknowledges a declaration: nothing of its streams
+-- is left to arrive. Moving.antt, Settled.antt, Turned.antt and others make a `Kept` of each change. No induction.
 use Rattle.std.proofs.Common.{refl, ◌≡◌, ◌∙◌, ap, sym, subst, ℕ, ◌<◌, ◌==◌, ◌-◌, false, List, [], ◌++◌, ◌⊎◌, inl, inr}
 use Rattle.set_route.specs.declared.place.Place.{Place}
 use Rattle.set_route.specs.declared.place.Place.TheVariants.{On, Changing, Nowhere}

@@ -1,4 +1,8 @@
--- WHAT A LINK COUNTS as acknowledged was accepted, all along a quiet run: one induction over the steps, beside that of the streams.
+-- WHAT A LINK COUNTS as acknowledged was accepted, all along a quiet run: one induction over the steps, beside that of
+-- the streams. `every_quiet_run_counts` answers every_quiet_run_acks_the_taken (src/laws.rt), and World::play of
+-- pair_world ensures it of its steps. `along` takes three things from stage to stage: each link's tie (`Holds`),
+-- `Streams` (Acting.antt), and `Counts` of pair_changeover's Counted.antt, which `step_counts` keeps. The last speaks
+-- of settled links; of others pair_model's law of links says the same (`says_of`).
 use Rattle.std.proofs.Common.{refl, arith, ◌≡◌, ◌∙◌, ap, sym, subst, ℕ, ◌<◌, ◌≤◌, Bool, true, false, List, [], ◌∷◌, length, cond, ◌||◌, nat_lt}
 use Rattle.std.proofs.lemmas.Bool.{ltb-true}
 use Rattle.l2_units.specs.declared.unit.Unit.{Unit as SignalUnit}

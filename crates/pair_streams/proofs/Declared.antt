@@ -1,4 +1,9 @@
--- DECLARATIONS AND THEIR ACKNOWLEDGEMENTS among messages, and what stands behind a declaration.
+-- DECLARATIONS AND THEIR ACKNOWLEDGEMENTS among messages, and what stands behind a declaration: nothing of the stream,
+-- for each of its code (`ClearBehind`), also when more joins or the front leaves (`clear_joined`, `clear_rest`, by
+-- induction on the list). And which octets are read as what: a set's declaration tells its own code alone
+-- (`cbd_other`), its acknowledgement too (`cba_other`), and neither an order of a changeover nor a user's message is
+-- one (`leaving_declares`, `users_declare`); that is computed, case by case on the profile. Codes.antt says with these
+-- words what holds; Declaring.antt, Flows.antt, Settled.antt, Turned.antt and Hearing.antt use the lemmas.
 use Rattle.std.proofs.Common.{refl, ◌≡◌, ◌∙◌, sym, ℕ, ◌==◌, ◌+◌, ◌*◌, ◌%◌, ◌/◌, Bool, true, false, List, [], ◌∷◌, ◌++◌, Option, Some, None, cond, inl, inr}
 use Rattle.std.proofs.lemmas.Bool.{eq-eqb}
 use Rattle.l3_orders.specs.declared.order.Order.{Order}

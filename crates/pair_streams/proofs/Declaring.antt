@@ -1,4 +1,9 @@
--- AN END DECLARES A CHANGEBACK, and each stream: those that ran on the alternative come back from it, behind what stands there.
+-- AN END DECLARES A CHANGEBACK, and each stream: those that ran on the alternative come back from it, behind what
+-- stands there (`declares_flow`); and so from each link from which Restore can (`comes_flow`, by induction on the links
+-- that are left). The code was free, so none of its declarations or acknowledgements was under way; the new one stands
+-- last on the alternative, and nothing of its streams comes behind it, since what is offered from then on waits by the
+-- code (`clear_new`). `comes_acks` says that no acknowledgement comes to stand there. Case by case on the stream's
+-- place; Acting.antt uses it.
 use Rattle.std.proofs.Common.{refl, arith, ◌≡◌, ◌∙◌, ap, sym, subst, ℕ, zero, suc, ◌<◌, ◌==◌, ◌-◌, ◌%◌, Bool, true, false, not, ◌&&◌, List, [], ◌∷◌, ◌++◌, slice_get, Option, Some, None, cond, ◌⊎◌, inl, inr}
 use Rattle.std.proofs.lemmas.Bool.{eqb-true}
 use Rattle.l3_orders.specs.declared.order.Order.TheVariants.{Cbd}

@@ -1,4 +1,9 @@
--- THOSE OF A STREAM, in lists that are joined, shortened or filtered.
+-- THOSE OF A STREAM, in lists that are joined, shortened or filtered: equations about `those_of`, which picks a
+-- stream's messages of users. `those_joined` is of two lists, `none_dropped` of the rest of one, `turned_filter` of
+-- rows that turn, which are a filter of those that stood; `picked` says that two tests which tell the same of a
+-- stream's rows pick the same. Most are inductions on the list, case by case on what the tests tell of its first.
+-- Flowing.antt, Moving.antt, Settled.antt, Turned.antt, Returned.antt, Given.antt and Runs.antt argue with them, stream
+-- by stream.
 use Rattle.std.proofs.Common.{refl, ◌≡◌, ◌∙◌, ap, sym, ℕ, zero, suc, ◌==◌, Bool, true, false, not, ◌&&◌, List, [], ◌∷◌, ◌++◌, map, filter, drop, cond, ◌⊎◌, inl, inr}
 use Rattle.std.proofs.lemmas.Bool.{eqb-true}
 use Rattle.std.proofs.lemmas.List.{append-nil}

@@ -1,5 +1,9 @@
--- WHERE A STREAM STANDS: what the far end hasn't accepted of it is pending on the link on which it runs, or parked; on its
--- way back it's pending on the link from which it comes, and what was offered since waits for the acknowledgement.
+-- WHERE A STREAM STANDS: what the far end hasn't accepted of it is pending on the link on which it runs, or parked; on
+-- its way back it's pending on the link from which it comes, and what was offered since waits for the acknowledgement.
+-- `here` is that list, `Stands` says that nothing of the stream is elsewhere; Codes.antt makes them part of what holds
+-- all along. `none_back_by` is proved: of a stream that doesn't come back by a code nothing stands back by it, since in
+-- a sound state a row that stands back is of a stream that does (`waiting_row`, case by case on the fate).
+-- Filtered.antt takes that to the list. Declaring.antt and Returned.antt use it.
 use Rattle.std.proofs.Common.{refl, ◌≡◌, ◌∙◌, ap, sym, ℕ, ◌==◌, Bool, true, false, List, [], ◌++◌}
 use Rattle.set_events.specs.declared.answer.Fate.{Fate}
 use Rattle.set_events.specs.declared.answer.Fate.TheVariants.{Waiting, Unacked, Acked, Held, Parked, Back, Discarded}

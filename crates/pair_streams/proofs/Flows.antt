@@ -1,4 +1,9 @@
--- A MESSAGE STANDS LAST at an end, and each stream: one that is offered, an order, or a declaration.
+-- A MESSAGE STANDS LAST at an end, and each stream: one that is offered (`offers_flow`), or an order that declares
+-- nothing (`queues_flow`); `offers_acks` and `queues_acks` say that no acknowledgement comes to stand there. An order
+-- is of no stream (`no_stream`), so each has what it had. What is offered stands last where its stream runs, whether on
+-- a link, on its way back or nowhere (`grows_there`), as it's last of what was offered. It stands behind no
+-- declaration, since on the way back it waits by the code. Case by case on the place; Moving.antt has the other
+-- streams. Used by Acting.antt and Hearing.antt; declarations are Declaring.antt's.
 use Rattle.std.proofs.Common.{refl, ◌≡◌, ◌∙◌, ap, ap₂, sym, subst, ℕ, ◌<◌, ◌==◌, ◌-◌, ◌%◌, Bool, true, false, List, [], ◌∷◌, ◌++◌, Option, Some, None, append_assoc, cond, ◌⊎◌, inl, inr}
 use Rattle.std.proofs.lemmas.Bool.{eqb-true, eq-eqb}
 use Rattle.l3_orders.specs.declared.order.Order.{Order}

@@ -1,4 +1,8 @@
--- WHAT WAS SENT ON A LINK IS GIVEN UP, in an emergency, and each stream: some of it is lost, and the rest stays in its order.
+-- WHAT WAS SENT ON A LINK IS GIVEN UP, in an emergency, and each stream: some of it is lost, and the rest stays in its
+-- order (`gives_up_flow`). What goes is the front of the link's queue (`gone_then`), so a stream loses the front of
+-- what stands of it there, or nothing (`Loses`), and `fewer` of Mixed.antt makes two parts in their order of what is
+-- left and what is lost (`LostMore`). A front that goes leaves nothing new behind a declaration. Case by case on the
+-- stream's place; the queues are told by pair_changeover's Blind.antt. Only Blindly.antt uses it.
 use Rattle.std.proofs.Common.{length, refl, arith, ◌≡◌, ◌∙◌, ap, sym, subst, ℕ, ◌<◌, ◌==◌, ◌-◌, Bool, true, false, nat_lt, List, [], ◌∷◌, ◌++◌, drop, append_assoc, ◌⊎◌, inl, inr}
 use Rattle.std.proofs.lemmas.Bool.{eqb-true, ltb-true}
 use Rattle.std.proofs.lemmas.Bool.Decides.{nat_tests}

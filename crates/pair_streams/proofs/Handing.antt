@@ -1,4 +1,9 @@
--- WHAT USERS TAKE, ALL ALONG A RUN: each body that is delivered was sent by the other end, so users take all that is got.
+-- WHAT USERS TAKE, ALL ALONG A RUN: each body that is delivered was sent by the other end, so users take all that is
+-- got. `every_honest_run_hands_out`, `every_sound_run_hands_out` and `every_quiet_run_hands_out` answer the laws that
+-- begin so (src/laws.rt). The first is an induction over the steps: what passed the inbox of a set, or stands in it, is
+-- what was got. An event adds the same body to both (`event_passes`, Inbox.antt), where the law of links says that the
+-- body was sent (`next_sent`). In the other two Runs.antt says what is got, and what users took is the first of it
+-- (`take_first`, `take_part`). Arrived.antt uses `sound_says`.
 use Rattle.std.proofs.Common.{refl, ◌≡◌, ◌∙◌, ap, sym, ℕ, zero, suc, ◌==◌, Bool, true, false, ◌||◌, nat_lt, List, [], ◌∷◌, ◌++◌, length, take, slice_get, Some, cond, append_assoc, inl, inr}
 use Rattle.std.proofs.lemmas.List.{append-nil, map-append}
 use Rattle.std.proofs.lemmas.List.Elements.{filter-append}

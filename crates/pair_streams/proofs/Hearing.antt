@@ -1,4 +1,9 @@
--- EACH STREAM, WHEN AN END HEARS: the message that it accepts leaves what was pending, and its users get it.
+-- EACH STREAM, WHEN AN END HEARS: the message that it accepts leaves what was pending, and its users get it
+-- (`hears_streams`). That message stood first where its stream stands (`here_loses`), so what was got and what stands
+-- are together as before (`users_got`). Then each case of what its body leads to (`Obeys`, pair_changeover's
+-- Obeying.antt) keeps both directions, from Settled.antt, Blindly.antt, Turned.antt, Flows.antt and Returned.antt
+-- (`obeyed_then`). The case that matters: a CBD that is heard stood behind all of its streams on that link, so when
+-- it's acknowledged nothing of them is left to arrive (`empty_there`). No induction; Runs.antt uses it.
 use Rattle.std.proofs.Common.{refl, arith, ◌≡◌, ◌≢◌, ◌∙◌, ap, sym, subst, ℕ, ◌<◌, ◌==◌, ◌-◌, Bool, true, false, List, [], ◌∷◌, ◌++◌, length, slice_get, Option, Some, None, append_assoc, cond, ◌⊎◌, inl, inr}
 use Rattle.std.proofs.lemmas.Bool.{eqb-true, eq-eqb}
 use Rattle.l2_units.specs.declared.unit.Unit.{Unit as SignalUnit}

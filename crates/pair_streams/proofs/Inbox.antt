@@ -1,4 +1,8 @@
 -- THE INBOX of a set: what an event delivers joins it, what Take hands out leaves it, and nothing else changes it.
+-- `event_passes` says so of each event, case by case; settling, orders and changeback leave it alone (`obeyed_leaves`),
+-- which for the declarations and codes of one event is an induction on how many are left. `hands_out` follows along a
+-- legal history by induction on its entries, and answers every_history_hands_out_in_order (src/laws.rt). No law of two
+-- ends occurs here; Handing.antt uses `event_passes` for them.
 use Rattle.set_model.specs.Step.{is_heard, controls}
 use Rattle.std.proofs.Common.{refl, ◌≡◌, ◌∙◌, ap, sym, ℕ, zero, suc, ◌==◌, Bool, true, false, List, [], ◌∷◌, ◌++◌, slice_get, Option, Some, None, cond, append_assoc}
 use Rattle.std.proofs.lemmas.List.{append-nil}

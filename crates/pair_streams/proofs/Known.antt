@@ -1,5 +1,9 @@
--- EVERY MESSAGE OF A USER THAT A SET HOLDS was offered there: whatever is asked, an own new row is an order. And what was
--- discarded stays so.
+-- EVERY MESSAGE OF A USER THAT A SET HOLDS was offered there: whatever is asked, an own new row is an order. And what
+-- was discarded stays so. `Covers` says both, for any account of what is known and what is gone; `covers_on` that every
+-- event but an offer keeps it, `covers_appended` that a row which is known does. It's a walk of small changes
+-- (`step_walks`, set_model's Walk.antt): each keeps the bodies of rows, or appends an order, which is of the
+-- management; only `last_row` is an induction, on the rows. Acting.antt and Hearing.antt keep it; by it Runs.antt knows
+-- that what is acknowledged was offered.
 use Rattle.std.proofs.Common.{refl, ◌≡◌, ◌∙◌, ap, sym, subst, ℕ, ◌==◌, ◌%◌, Bool, true, false, List, [], ◌∷◌, ◌++◌, length, cond, Some, None, ◌⊎◌, inl, inr}
 use Rattle.std.proofs.lemmas.Bool.{eq-eqb, eqb-true}
 use Rattle.l3_orders.specs.declared.order.Order.{Order}

@@ -1,4 +1,8 @@
--- A LIST IN TWO PARTS, each in its order: what is kept of it, and what is lost.
+-- A LIST IN TWO PARTS, each in its order: what is kept of it, and what is lost. `mixed_none` says that what is kept is
+-- all where nothing is lost, `mixed_part` that it's a part in order, `mixed_among` that each message is in one of the
+-- two; `mixed_last` is of one more that is kept, and `fewer` of some in the middle that are lost after all. Each is an
+-- induction on the whole list, which tells of each message to which part it went; states don't occur. Codes.antt says
+-- with it what becomes of a stream; Flows.antt, Given.antt and Runs.antt use the lemmas.
 use Rattle.std.proofs.Common.{refl, ◌≡◌, ◌∙◌, ap, sym, subst, List, [], ◌∷◌, ◌++◌, ◌⊎◌, inl, inr}
 use Rattle.pair_model.specs.Run.{Message}
 use Rattle.pair_changeover.proofs.Views.{Among}

@@ -1,4 +1,9 @@
--- WHAT A CHANGE OF AN END DOES TO EACH STREAM, where queues stay, or a message stands last.
+-- WHAT A CHANGE OF AN END DOES TO EACH STREAM, where queues stay, or a message stands last. Where all queues and the
+-- routing stay, `same_flow` keeps all that holds. A new message joins the one queue of its fate (`grows_on`,
+-- `grows_aside`, `grows_back`); a stream that it isn't of keeps what Codes.antt asks, unless it declares the stream's
+-- code (`apart_kept`), and its own has it last (`those_in`). It follows case by case from where the message joined
+-- (`grows`, pair_changeover's Changes.antt), without induction. Used by Acting.antt, Hearing.antt, Flows.antt,
+-- Declaring.antt and Returned.antt.
 use Rattle.std.proofs.Common.{refl, ◌≡◌, ◌∙◌, ap, ap₂, sym, subst, ℕ, ◌<◌, ◌==◌, ◌-◌, Bool, true, false, List, [], ◌∷◌, ◌++◌, ◌⊎◌, inl, inr}
 use Rattle.set_events.specs.declared.answer.Fate.{Fate}
 use Rattle.set_route.specs.declared.place.Place.{Place}

@@ -1,4 +1,8 @@
--- A CHANGEBACK IS ACKNOWLEDGED, and each stream: what stood back by its code waits at home, and its streams run there.
+-- A CHANGEBACK IS ACKNOWLEDGED, and each stream: what stood back by its code waits at home, and its streams run there
+-- (`releases_flow`). They stay in order since nothing of them is pending any more where they came from: Hearing.antt
+-- knows it from the acknowledgement that it heard. Of other streams nothing stands back by that code (`none_back_by`),
+-- and where its home isn't up nothing does. Case by case on the stream's place, no induction; the queues are told by
+-- pair_changeover's Leaving.antt. `gone_orders` says that no order comes to stand there. Only Hearing.antt uses it.
 use Rattle.std.proofs.Common.{refl, ◌≡◌, ◌∙◌, ap, ap₂, sym, subst, ℕ, ◌<◌, ◌==◌, ◌&&◌, Bool, true, false, List, [], ◌++◌, filter, Some, None, cond, inl, inr}
 use Rattle.std.proofs.lemmas.Bool.{eqb-true}
 use Rattle.std.proofs.lemmas.List.{append-nil}

@@ -1,4 +1,8 @@
--- A LINK COMES UP at both ends, and each stream: what was parked waits for it.
+-- A LINK COMES UP at both ends, and each stream: what was parked waits for it (`rises_flow`). A stream that ran nowhere
+-- runs there then, and what stood of it was parked; so does one that has its home there and never had a message, of
+-- which nothing stands. Any other stays: it runs on a link or comes from one that isn't settled, so on another than
+-- this one (`not_settled`). That's the whole argument, case by case on the place (`risen_kept`); the queues are those
+-- of `Rises`, pair_changeover's Passing.antt. Acting.antt uses it.
 use Rattle.std.proofs.Common.{refl, ◌≡◌, ◌∙◌, ap, ap₂, sym, subst, ℕ, ◌<◌, ◌==◌, ◌-◌, ◌%◌, Bool, true, false, List, [], ◌∷◌, ◌++◌, slice_get, Some, inl}
 use Rattle.std.proofs.lemmas.Bool.{eqb-true}
 use Rattle.set_route.specs.declared.place.Place.{Place}

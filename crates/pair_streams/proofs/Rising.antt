@@ -1,4 +1,8 @@
--- NUMBERS RISE: a set gives each number once, so those of what was offered rise, and so do those of any part in order.
+-- NUMBERS RISE: a set gives each number once, so those of what was offered rise, and so do those of any part in order
+-- (`rise_part`, by induction on the list). No event makes the numbers given out fewer (`never_fewer`, a walk of small
+-- changes, set_model's Walk.antt), and an offer gives the next (`one_more`); so what was offered of a stream rises and
+-- stays below (`rising_on`, `offers_rise`). Acting.antt and Hearing.antt keep it step by step, and Runs.antt reads off
+-- it that no number is got twice.
 use Rattle.std.proofs.Common.{refl, arith, ◌≡◌, ◌∙◌, ap, sym, subst, ℕ, ◌≤◌, ◌==◌, ◌+◌, Bool, true, false, List, [], ◌∷◌, ◌++◌, length, Option, Some, None, cond, inl, inr}
 use Rattle.std.proofs.lemmas.List.{append-nil, length-append}
 use Rattle.set_events.specs.declared.answer.Fate.{Fate}

@@ -1,5 +1,9 @@
--- EVERY SOUND RUN KEEPS EACH STREAM, and every quiet one what isn't given up: one induction over the steps, beside that of
--- the links.
+-- EVERY SOUND RUN KEEPS EACH STREAM, and every quiet one what isn't given up: one induction over the steps, beside that
+-- of the links. `every_sound_run` and `every_quiet_run` answer every_sound_run_keeps_streams and
+-- every_quiet_run_keeps_order (src/laws.rt). `along` takes each link's tie (`Holds`) and `Streams` from stage to stage;
+-- `step_keeps` is Acting.antt and Hearing.antt. What was got and what stands are together what was offered, but for
+-- what is lost: so what was got is the first of it or a part, and an acknowledged message, which stands nowhere, was
+-- got (`arrives_so`, `arrives_in_part`). Counting.antt, Telling.antt, Handing.antt and Arrived.antt use it.
 use Rattle.set_model.proofs.Places.{code_back}
 use Rattle.set_route.proofs.Quiet.{never_changing}
 use Rattle.pair_streams.proofs.Filtered.{among_all, none_both, none_within}

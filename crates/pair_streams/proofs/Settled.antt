@@ -1,4 +1,9 @@
--- A LINK SETTLES, or comes up, and each stream: what stands of it goes along.
+-- A LINK SETTLES, and each stream: what stands of it goes along (`settles_flow`). The link's whole queue goes behind
+-- the target's, or aside (pair_changeover's Passing.antt), and the routing moves the streams that ran on the link or
+-- came from it to the same place. A stream elsewhere has nothing there and stays (`stays_kept`); one that ran there has
+-- all there and goes (`on_kept`); one that comes from there takes its declaration along, with nothing behind it
+-- (`via_kept`). Case by case on the place, no induction. `was_in` says that nothing new is pending. Used by
+-- Hearing.antt and Blindly.antt.
 use Rattle.std.proofs.Common.{refl, ◌≡◌, ◌∙◌, ap, ap₂, sym, subst, ℕ, ◌<◌, ◌==◌, ◌-◌, Bool, true, false, List, [], ◌++◌, slice_get, Option, Some, None, cond, ◌⊎◌, inl, inr}
 use Rattle.std.proofs.lemmas.Bool.{eqb-true}
 use Rattle.set_events.specs.declared.answer.Fate.{Fate}

@@ -1,4 +1,8 @@
--- WHAT AN ORDER TELLS where it's heard, all along a quiet run: one induction over the steps, beside that of the streams.
+-- WHAT AN ORDER TELLS where it's heard, all along a quiet run: one induction over the steps, beside that of the
+-- streams. `every_quiet_run_tells` answers every_quiet_run_tells_numbers (src/laws.rt), and World::play of pair_world
+-- ensures it of its steps. Nothing more has to be carried for it: `along` takes each link's tie (`Holds`) and `Streams`
+-- (Acting.antt) from stage to stage, which have the orders under way, and a unit that arrives is pair_changeover's
+-- Telling.antt (`hears_tells`). Other steps hear no order.
 use Rattle.std.proofs.Common.{refl, arith, ◌≡◌, sym, subst, ℕ, ◌<◌, Bool, true, false, List, [], ◌∷◌, length, cond}
 use Rattle.std.proofs.lemmas.Bool.{ltb-true}
 use Rattle.l2_units.specs.declared.unit.Unit.{Unit as SignalUnit}

@@ -1,4 +1,9 @@
--- WHAT STOOD BACK TURNS, and each stream: to the link that it came from where its home is left, and home where it's acknowledged.
+-- WHAT STOOD BACK TURNS, and each stream: to the link that it came from where its home is left (`leaves_flow`). Such a
+-- stream runs there again, and what waited for the acknowledgement stands behind what is pending there (`adds_all`,
+-- `turned_kept`); of any other stream nothing turns (`adds_none`). For a row that stands back is of a stream that comes
+-- back by its code, and so the rows that turn are picked by stream (Filtered.antt). The code is spent then and not
+-- free, since its declaration may be under way. No induction; the queues are told by pair_changeover's Leaving.antt.
+-- Used by Acting.antt and Hearing.antt; Returned.antt uses `added_order` and `added_clear`.
 use Rattle.std.proofs.Common.{refl, ◌≡◌, ◌∙◌, ap, ap₂, Some, None, sym, subst, ℕ, ◌<◌, ◌==◌, ◌&&◌, Bool, true, false, List, [], ◌++◌, cond, ◌⊎◌, inl, inr}
 use Rattle.std.proofs.lemmas.List.{append-nil}
 use Rattle.l3_orders.specs.declared.order.Order.{Order}

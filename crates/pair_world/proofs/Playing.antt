@@ -1,4 +1,8 @@
--- Steps that are carried out one after another.
+-- STEPS THAT ARE CARRIED OUT one after another. `IsUnderWay` is the invariant of the loop: what the steps that are left
+-- lead to from here is what all of them lead to from the start. `leads` and `fails` tell the same of two
+-- configurations, from whose world the steps began, so that World::play answers for them. Nothing is proved by
+-- induction: the loop takes one step after another of `played_from`. Used by World::carry_out_all and World::play
+-- (src/world.rt).
 use Rattle.std.proofs.Common.{◌≡◌, ◌∙◌, ap, sym, ℕ, List, drop}
 use Rattle.set_events.specs.declared.config.SetConfig.{SetConfig}
 use Rattle.pair_steps.specs.declared.step.Step.{Step}

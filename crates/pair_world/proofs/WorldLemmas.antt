@@ -1,4 +1,8 @@
--- Steps of the world.
+-- STEPS OF THE WORLD, as the code makes them: an event changes no number of links (`kept_by`); a unit that was taken
+-- out of the front of its line has arrived (`arrives_so`); and where a set made no step, since memory was refused or
+-- its history is full, the world's step fails in the same way (`act_fails`, `rise_fails`). Case by case on the result
+-- and the fault, without induction. Used by the function apply and by World::arrive, World::act and World::raise
+-- (src/world.rt).
 use Rattle.std.proofs.Common.{refl, ◌≡◌, ◌∙◌, ◌⊎◌, ◌||◌, inl, inr, ap, subst, sym, ℕ, Bool, true, false, List, [], ◌∷◌, Some, slice_get, Result, Ok, Err, OnOk, OnErr}
 use Rattle.std.specs.Result.{IsErrAnd}
 use Rattle.l2_units.specs.declared.unit.Unit.{Unit as SignalUnit}

@@ -1,4 +1,8 @@
--- A declaration goes out on each link from which streams come back.
+-- A DECLARATION goes out on each link from which streams come back, one link after another: the loops of
+-- src/changeback.rt. `becomes_next` says that after one step more the state is what a run of one more leads to, since
+-- the last step of a run comes last (`last_step`, by induction on the number of steps). `declares_next` and `count_is`
+-- say whether one of the links that are left can declare, and how many there are. Used by the functions restore,
+-- time_out and has_alternative.
 use Rattle.std.proofs.Common.{◌-◌, ◌||◌, ◌<◌, arith, ◌≡◌, ap, sym, ◌+◌, ℕ, zero, suc, length}
 use Rattle.set_model.specs.Changeover.{can_declare, some_declare}
 use Rattle.set_model.specs.State.{State, link_count}

@@ -1,4 +1,9 @@
--- One link of the list changes, and what the list stands for with it.
+-- ONE LINK OF THE LIST CHANGES, and what the list stands for with it: the link that an index read is the state's
+-- (`found`, `stands_for`), and so is the list that it's put back into (`link_set`). Of a set that agrees with a state
+-- (`Agrees`) it follows that a link is there in its phase (`is_in`), what is answered there (`served`, `known_here`) or
+-- ignored (`none_there`, `not_left`), which link is the target once one is left (`beside_left`), and that there's room
+-- (`here_room`, `has_room_left`). Case by case, without induction. The functions of src/changeover.rt, src/settling.rt
+-- and src/changeback.rt use it; so do set_traffic's Traffic.antt and set_step's Kept.antt.
 use Rattle.std.proofs.Common.{arith, ◌≡◌, ◌∙◌, ap, sym, ◌<◌, ℕ, List, map, length, slice_get, slice_set, slice_index_or, Some, ◌≢◌, false, Option, IfSome, refl, subst, ◌≤◌, None, option_map, true, [], drop}
 use Rattle.std.proofs.lemmas.Option.{slice_get-get_or}
 use Rattle.set_changeover.specs.Parts.{Link, Parts, kept_of, AtLink, IsOut, IsReach, Gives, Obeys, Phase, Down, IsWhole, IsCounted, AreCounted}

@@ -1,4 +1,9 @@
--- WHAT STANDS IN EACH PLACE after rows came to stand elsewhere, queue after queue, and where each number stands then.
+-- WHAT STANDS IN EACH PLACE after rows came to stand elsewhere, queue after queue, and where each number stands then
+-- (`Shifts`). The first so many of a place get a fate (`turned_shifts`): they stand last in their new place where none
+-- there stands behind one of them. All of one or more places go (`moved_shifts`), a message is new (`appended_at`), or
+-- rows stand last with their own fates (`parted_at`). Each number stands in one row, so it went or stayed (`GoesTo`),
+-- and what stood somewhere has a message (`given_all`). The inductions are on the rows. States.antt alone uses it, and
+-- lets the queues follow.
 use Rattle.std.proofs.Common.{arith, refl, ap, sym, ◌∙◌, Option, ◌≡◌, ◌≤◌, ◌<◌, [], ◌∷◌, length, ℕ, zero, suc, Bool, true, false, List, ◌++◌, Some, None, take, drop, cond, not, filter, option_map}
 use Rattle.std.specs.List.{drop-map}
 use Rattle.std.proofs.lemmas.Bool.Decides.{nat_tests}

@@ -1,4 +1,7 @@
--- THE STATE THAT IS KEPT, once the order of its rows is known, is the one that it stands for.
+-- THE STATE THAT IS KEPT, once the order of its rows is known, is the one that it stands for (`shown_is`). Under each
+-- number what is kept tells the fate and the octets that the row has, and rows are what these tell in their order
+-- (`rows_are`, set_model's Checkpointing.antt); only `rebuilt_same` is an induction, on the numbers. set_core's
+-- Keeping.antt uses it where a set's base is shown by what the set keeps.
 use Rattle.std.proofs.Common.{refl, ◌≡◌, ◌∙◌, [], ◌∷◌, ℕ, List, Option, length}
 use Rattle.set_model.specs.Checkpoint.{rebuilt}
 use Rattle.set_model.specs.Rows.{Fate, body_at, numbers, place}

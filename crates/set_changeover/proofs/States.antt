@@ -1,4 +1,9 @@
--- WHAT IS KEPT STANDS FOR THE STATE, before and after each small change.
+-- WHAT IS KEPT STANDS FOR THE STATE, before and after each small change: `appended_for`, `sent_for`, `acked_for`,
+-- `given_up_for`, `withdrawn_for`, `settled_for`, `risen_for`, `released_for`, and `link_for` where no message moves.
+-- Queues that change as the places of the rows do stand for the rows (`shifts_stand`, from RowsAt.antt and set_queues's
+-- Standing.antt), and the FSN last acknowledged on a link is its count, modulo the FSNs. As many messages reached the
+-- far end by the queues as by the rows (`reaches`). No induction is left here. Used by Turns.antt, and by the functions
+-- of src/settling.rt, src/changeback.rt and src/parts.rt, of set_traffic and set_step.
 use Rattle.std.proofs.Common.{refl, arith, ◌≡◌, ◌∙◌, ap, sym, ◌<◌, ◌≤◌, [], ◌∷◌, length, ℕ, ◌==◌, Bool, true, false, List, ◌++◌, Option, Some, take, drop, cond, ◌≢◌, ◌+◌, ◌%◌, slice_get, slice_set, option_map, not, map-id, nat_le}
 use Rattle.std.proofs.lemmas.Bool.{cases_eq, cases_lt, ne_eqb, eq-eqb}
 use Rattle.std.proofs.lemmas.List.{length-append, map-append, length-map, take_all, drop_all}

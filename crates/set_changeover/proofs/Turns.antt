@@ -1,4 +1,9 @@
--- WHAT STANDS BACK FOR A LINK turns back: the oldest, the first of the rows that do, and so all of it, one by one.
+-- WHAT STOOD BACK FOR A LINK turns back: the oldest, the first of the rows that do, and so all of it, one by one. The
+-- model moves all these rows at once; the loop takes the lowest number among the codes of the home. `TurnsOn` is its
+-- invariant: what is left stands behind all else, in the order of its numbers, and moved at once it makes the same of
+-- the state; `starts`, `turned_first` and `all_turned` are its beginning, its step and its end. `Turning` adds the room
+-- (`turns_one`). Inductions are on rows (`first_above`, `turned_one`) and codes (`back_less`). The function turn_back
+-- (src/turning.rt) uses it, and leave (src/changeover.rt) `turning_of`.
 use Rattle.std.proofs.Common.{length-take, nat_lt, inl, inr, refl, arith, ◌≡◌, ◌∙◌, ap, sym, subst, [], ◌∷◌, ◌++◌, length, ℕ, suc, Bool, true, false, List, Some, cond, take, drop, ◌+◌, ◌*◌, None, ◌≤◌, ◌<◌, zero, ◌==◌, ◌⊎◌, Option, slice_get, filter, map, not, option_map}
 use Rattle.std.proofs.lemmas.Bool.{eq-eqb, cases_eq, cases_lt, ne_eqb, not-true}
 use Rattle.std.proofs.lemmas.Bool.Decides.{nat_tests}

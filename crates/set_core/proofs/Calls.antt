@@ -1,4 +1,8 @@
--- The calls of actors, entry by entry.
+-- THE CALLS OF ACTORS, entry by entry: an entry is one call more of its own actor (`its_own`) and none of any other
+-- (`others`), so the sum of all calls grows by one (`sums_more`), and no actor made more than all did (`in_sum`). The
+-- same goes for an earlier history's calls with those that came since (`users_added`, `terminals_added`). The
+-- inductions are on the history, and on the lists of 64 users and 16 terminals. Keeping.antt makes a set's books of it;
+-- the function apply_into of src/set.rt and history_audit's Heard.antt use it too.
 use Rattle.std.proofs.Common.{refl, arith, ◌≡◌, ◌∙◌, ap, sym, ◌<◌, ◌≤◌, [], ◌∷◌, length, ℕ, zero, suc, ◌+◌, Bool, true, false, List, ◌++◌, ◌==◌, All, replicate, slice_index, sum}
 use Rattle.std.specs.Prelude.{if◌then◌else◌}
 use Rattle.std.proofs.lemmas.Bool.Decides.{nat_tests}

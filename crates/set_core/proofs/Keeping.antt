@@ -1,4 +1,9 @@
--- What a set keeps, entry by entry.
+-- WHAT A SET KEEPS, entry by entry (`IsKept`): its history is legal, what it keeps agrees with the state after it, its
+-- tally is that of the books, and the bounds hold. `kept_more` is of one entry more, with what the books gain
+-- (`gained`), `kept_new` of a new set, `kept_on` and `kept_by` of what goes on from a checkpoint; what an entry adds to
+-- a history is an induction on its entries (`legal_more`, `after_more`). `Replayed` is the invariant of a replay: what
+-- is left decides whether all is legal (`replay_more`, `reading_on`). It stands on Calls.antt, set_model's Staying.antt
+-- and set_changeover's Shown.antt; src/set.rt, src/base.rt and src/auditing.rt use it.
 use Rattle.std.proofs.Common.{refl, arith, ◌≡◌, ◌∙◌, ap, sym, subst, take, drop, get_or, ◌<◌, ◌≤◌, ◌^◌, [], ◌∷◌, length, ℕ, ◌+◌, sum, List, ◌++◌, ◌↔◌, ◌*◌}
 use Rattle.std.proofs.lemmas.List.{length-append, length-replicate, drop_more, take_more}
 use Rattle.std.proofs.lemmas.List.Elements.{filter-append}

@@ -1,4 +1,9 @@
--- A CHECKPOINT: each message that is finished leaves the rows for one count.
+-- A CHECKPOINT: each message that is finished leaves the rows for one count. `checkpoints` answers
+-- a_checkpoint_keeps_what_is_unfinished (src/laws.rt): as many numbers are given out, the counts are the same, and the
+-- state is sound. A place of which nothing is finished keeps its rows (`stand_still`), and each row that leaves is in
+-- one count (`all_ended`): inductions on the rows; soundness follows clause by clause, since what is filtered keeps its
+-- order. `rows_are` says that rows are what their numbers, fates and octets tell. Used by set_step's Forgotten.antt,
+-- set_core's Keeping.antt and set_changeover's Shown.antt.
 use Rattle.l2_units.specs.Profile.{longest_body}
 use Rattle.std.proofs.Common.{refl, arith, ◌≡◌, ◌≤◌, ℕ, ◌+◌, ◌==◌, ◌&&◌, ◌||◌, not, Bool, true, false, List, [], ◌∷◌, length, filter, None, Some, slice_get, suc, ◌∙◌, ap, subst, sym}
 use Rattle.set_model.specs.Checkpoint.{Checkpoints, checkpointed, counts_in, rebuilt, stays, unfinished, was_discarded_by}

@@ -1,4 +1,9 @@
--- WHAT EACH CHANGE DOES TO EACH LINK: the lemmas that a set's step is argued by.
+-- WHAT EACH CHANGE DOES TO EACH LINK: the lemmas that a set's step is argued by. `sent`, `acknowledged`, `given_up` and
+-- `withdrawn_rows` are of rows that change in their places, `moved_to`, `moved_aside` and `left` of a link that its
+-- messages leave, `unparked` of one that comes up, `appended_in` and `appended_out` of a new message. Each tells the
+-- queues of its link, that others see nothing (`Untouched`), and what every change keeps of numbers, octets and counts
+-- (`Kept`). They follow from what filters see of rows (Rows.antt, Order.antt), where the inductions are. Walk.antt,
+-- SoundLink.antt, Framing.antt and Settling.antt build on them, and so does pair_changeover's Table.antt.
 use Rattle.l2_units.specs.declared.profile.Profile.{Profile}
 use Rattle.std.proofs.Common.{inl, inr, refl, arith, ◌≡◌, ◌∙◌, ap, ◌≤◌, [], ◌∷◌, length, ℕ, Bool, true, false, ◌==◌, ◌||◌, List, ◌++◌, map, take, drop, not, cond}
 use Rattle.std.proofs.lemmas.List.{append-nil, map-append}

@@ -1,4 +1,9 @@
--- WHAT AN EVENT LEAVES ALONE, and how it moves the window of its own link.
+-- WHAT AN EVENT LEAVES ALONE, and how it moves the window of its own link. `leaves_alone` answers
+-- an_event_leaves_the_rest_alone (src/laws.rt): a link that isn't concerned has the messages that it had, and more
+-- behind them. It's a walk of small changes (`step_walks`, Walk.antt): each is of another link, or lets rows come last
+-- (`alone_moved`, `alone_appended`). `window_moves` answers a_window_moves_as_its_control: the numbers move as
+-- Events.antt says of the rows, and a processed unit's BSN is the number last acknowledged then (`last_heard`, modulo
+-- the FSNs). No induction. Soundness.antt uses it, and pair_model's Following.antt, Sending.antt and Hearing.antt.
 use Rattle.std.proofs.Common.{arith, refl, ◌≡◌, ◌∙◌, sym, subst, ℕ, Bool, true, false, List, [], ◌∷◌, ◌++◌, map, drop, slice_get, Option, Some, append_assoc, inl, None, ap, take}
 use Rattle.std.proofs.lemmas.Bool.{eqb-false}
 use Rattle.std.proofs.lemmas.Bool.Decides.{nat_tests}

@@ -1,4 +1,9 @@
--- What a list holds when one place of it is set.
+-- WHAT A LIST HOLDS when one place of it is set: there what was set (`get_set_same`), elsewhere what it held
+-- (`get_set_other`, `at_set`), so what holds of the new element and of the others holds of each (`each_set`); and
+-- images alike (`at_map`, `map_at`). Of a set's links: messages move to a link that is up (`target_up`), and where
+-- there's no target none is (`none_up`). It all follows from the standard library's lemmas and set_route's Lowest.antt,
+-- without an induction here. Whatever sets a link uses it: SoundLink.antt, SoundBack.antt, Framing.antt, and
+-- pair_changeover's Changes.antt.
 use Rattle.std.proofs.Common.{arith, ◌≡◌, ◌≢◌, ◌==◌, false, ◌∙◌, ap, sym, ◌<◌, length, ℕ, List, map, slice_get, slice_set, Some, ◌⊎◌, option_map, subst, true, None}
 pub use Rattle.std.proofs.lemmas.Option.{slice_get_within as within}
 pub use Rattle.std.proofs.lemmas.List.{length-set as length_set, map-set as map_set}

@@ -1,4 +1,9 @@
--- FACTS OF EACH ROW, and what changes of rows do to them.
+-- FACTS OF EACH ROW, and what changes of rows do to them. Numbers ascend in every filter (`ascends_filter`), also with
+-- a new message (`ascends_appended`). Rows of one kind stand before those of another where more come or some leave
+-- (`before_append`, `before_filter`); so the first message that waits is the last that was sent once it's sent
+-- (`first_sent`), and a link has first what was sent, then what waits, then what is held (`on_in_order`). A stream on
+-- its way back goes to the home of its code (`coded_at`). Most are inductions on the rows. Used by Events.antt,
+-- SoundLink.antt, SoundBack.antt, Soundness.antt and Checkpointing.antt.
 use Rattle.std.proofs.Common.{inl, ◌⊎◌, arith, refl, ◌≡◌, ◌<◌, ℕ, suc, Bool, true, false, not, ◌||◌, List, [], ◌∷◌, ◌++◌, map, slice_get, Some, filter, subst, ◌==◌, take}
 use Rattle.std.proofs.lemmas.List.{append-nil, map-append}
 use Rattle.std.proofs.lemmas.List.Elements.{filter-append}

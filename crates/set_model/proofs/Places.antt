@@ -1,4 +1,9 @@
--- Fates and links: what stands in one place stands in no other; and streams, of which there are 16.
+-- FATES AND LINKS: what stands in one place stands in no other; and streams, of which there are 16 (`stream_below_16`).
+-- What is on one link isn't on another (`on_other`), what isn't on a link neither waits for it nor was sent on it nor
+-- is held for it (`not_on_waiting`), and what stands back is on none, nor parked (`back_not_on`, `back_not_parked`).
+-- Each is seen case by case on the fate; `itself`, `apart_back` and `false_true` are of tests alone. Events.antt,
+-- SoundBack.antt, Framing.antt and the proofs of two ends (pair_model, pair_changeover, pair_streams) use them all
+-- through.
 use Rattle.std.proofs.Common.{arith, refl, ◌≡◌, ◌<◌, ◌∙◌, sym, ℕ, Bool, true, false, ◌==◌, List}
 pub use Rattle.std.proofs.lemmas.Bool.{ne_eqb as apart}
 use Rattle.std.proofs.lemmas.Bool.{eq-eqb, eqb-false}

@@ -1,4 +1,9 @@
--- Filters of rows, and of rows with other fates.
+-- FILTERS OF ROWS, and of rows with other fates: what the tests of a state see when some rows turn in their places
+-- (`turned_there`, `turned_same`, `turned_left`) or leave them and stand last (`moved_same`, `moved_joined`,
+-- `moved_more`, `moved_gone`). And rows that are looked up: each number stands in one (`at_most_one`), a move keeps
+-- what is found under it (`place_moved`, `body_moved`), and a row of a filter is the one that its number finds
+-- (`row_in_filter`). Most are inductions on the rows, one for all that turn (`where_turned`). States don't occur.
+-- Order.antt and Events.antt build on it, and pair_changeover's Reaching.antt.
 use Rattle.l2_units.specs.declared.profile.Profile.{Profile}
 use Rattle.l2_units.specs.Profile.{longest_body}
 use Rattle.std.proofs.Common.{refl, arith, ◌≡◌, ◌∙◌, ap, sym, [], ◌∷◌, length, ◌≤◌, Bool, true, false, List, ◌++◌, map, filter, not, ◌+◌, ◌<◌, ℕ, ◌==◌, None, cond, zero, suc, drop, Some, slice_get, option_map}

@@ -1,4 +1,9 @@
 -- A LINK THAT SETTLES: what the far end has is acknowledged, and the rest of its messages move in order (Q.704 5.5).
+-- `moves_the_rest` answers settling_moves_the_rest (src/laws.rt); `diverts_the_rest` says of a sound state that exactly
+-- the others stand behind what waited for the target, or was parked; `settled_empty` that nothing is left on the link;
+-- `no_target` that a link which was left isn't the target. Case by case on the target, from `acknowledged`, `moved_to`
+-- and `moved_aside` of Events.antt, without induction; that rows stand in the order of sending is soundness. Used by
+-- Soundness.antt and SoundBack.antt, and by pair_changeover's Passing.antt.
 use Rattle.std.proofs.Common.{arith, refl, ◌≡◌, ◌≢◌, ap, sym, subst, ℕ, true, List, slice_get, Option, Some, None}
 use Rattle.std.proofs.lemmas.List.{map-append}
 use Rattle.set_route.specs.Target.{target_of}

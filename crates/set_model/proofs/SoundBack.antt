@@ -1,5 +1,9 @@
--- WHAT HOLDS OF EVERY STATE is kept when a link comes up, when it is left, and when its messages leave it, and by a
--- changeback.
+-- WHAT HOLDS OF EVERY STATE is kept when a link comes up (`rises_sound`), when it is left (`leaves`), and when its
+-- messages leave it (`moves_off_sound`), and by a changeback (`declares`, `releases`). But for the declaration, which
+-- is a new row, rows move while links or streams change and none comes to stand back: `moved_sound` says once what that
+-- asks of each stream's place, of the homes of codes and of each link. Where streams run then is set_route's Alone.antt
+-- and Places.antt; rows are Rows.antt's and Events.antt's. No induction. Soundness.antt uses it; `none_back`,
+-- `up_not_held` and `down_not_waiting` serve pair_changeover's Leaving.antt too.
 use Rattle.std.proofs.lemmas.Bool.Decides.{nat_tests}
 use Rattle.std.proofs.Common.{length, refl, arith, ◌≡◌, ◌∙◌, ap, ◌<◌, ℕ, ◌==◌, true, false, List, [], map, slice_get, None, Some, IfSome, Bool, not}
 use Rattle.std.proofs.lemmas.Bool.{and_parts}

@@ -1,4 +1,9 @@
--- What the control chooses to send for the first time, and where its cursor, or its place in the cycle, is after each step.
+-- WHAT HOLDS OF EVERY STATE is kept by a change of one link, or by a new row: by sending and hearing (`sends_sound`,
+-- `hears_sound`), on a link that was left (`acknowledges`, `gives_up`), by what is given up before it's sent
+-- (`withdraws`), a late order (`answers`), an order and an offer (`queues`, `offers`). Rows change in their places, so
+-- the other links see nothing (`changes`); the link's own window stays within its bound, its cursor in range
+-- (`range_heard`), and the FSN that it expects is its count of accepted bodies, modulo the FSNs (`expected_heard`). A
+-- new row stands last (`appended_sound`). No induction. Used by Soundness.antt and SoundBack.antt.
 use Rattle.std.proofs.Common.{arith, ◌||◌, ◌≡◌, ◌≢◌, ◌<◌, ◌≤◌, ℕ, ◌+◌, ◌%◌, Bool, length, drop, refl, ◌∙◌, ap, sym, subst, ◌==◌, true, false, List, [], ◌++◌, map, slice_get, slice_set, Some, cond, ◌∷◌, None}
 use Rattle.std.proofs.lemmas.List.{length-drop, append-nil, length-map, length-append, length-set, length-take}
 use Rattle.std.proofs.lemmas.Bool.Decides.{nat_tests}

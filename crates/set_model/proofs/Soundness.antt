@@ -1,4 +1,9 @@
--- EVERY STEP KEEPS WHAT HOLDS OF EVERY SET'S STATE, and a new set has it.
+-- EVERY STEP KEEPS WHAT HOLDS OF EVERY SET'S STATE, and a new set has it (`step_sound`, `opened_sound`). A step is a
+-- walk of small changes (Walk.antt), each of which SoundLink.antt or SoundBack.antt has. `step_straight`: while no
+-- changeback is under way the messages of each stream stay together, in the order of their numbers, since of a stream
+-- all live rows move or none (`stream_moves`, by induction on the rows in `parts`). By `laws` and `step_laws` most
+-- functions of src/laws.rt are proved. Used by pair_model's Pairs.antt, Moving.antt and Kept.antt, by set_step's
+-- Kept.antt and by set_core's Keeping.antt.
 use Rattle.std.proofs.Common.{refl, arith, ◌≡◌, ◌∙◌, sym, subst, ℕ, ◌<◌, ◌%◌, List, [], ◌∷◌, map, slice_get, Some, replicate, slice_index_or, ap, Bool, true, false, not, ◌&&◌, length, cond, ◌==◌, ◌||◌, None}
 use Rattle.std.proofs.lemmas.List.{get_or-replicate, length-replicate, append-nil, map-append, length-map}
 use Rattle.std.proofs.lemmas.Option.{slice_get_cases}

@@ -1,4 +1,9 @@
--- The laws of the list of rows, and the whole numbers of the links.
+-- NO EVENT CHANGES A MESSAGE, only an offer adds to what is counted, and an event adds at most one to each whole number
+-- of a link. `messages_stay`, `moves_rows` and `step_at_most` answer no_message_changes, a_move_moves_the_links_rows
+-- and a_step_counts (src/laws.rt); `keeps_messages` and `step_gains` are told by Soundness.antt. They're walks of small
+-- changes (Walk.antt): `step_grows` of messages, whose rows turn, move, or are joined by an order, and `step_counts` of
+-- the links' numbers; only `few_turned` is an induction, on the rows. Used by Soundness.antt, SoundBack.antt and
+-- Framing.antt, by set_core's Keeping.antt and by pair_model's Pairs.antt.
 use Rattle.std.proofs.Common.{arith, ℕ, Bool, List, Option, ◌≡◌, ◌∙◌, ap, sym, ◌≤◌, ◌==◌, true, false, refl, zero-le, zero, suc, ◌+◌, [], ◌∷◌, length, slice_get, slice_set, Some}
 use Rattle.std.proofs.lemmas.List.{drop_at, length_push, length-append, append-nil, length-map, length-drop}
 use Rattle.std.proofs.lemmas.List.Filters.{length-filter_both}

@@ -1,4 +1,9 @@
--- THE WALK over the cases of the step, once: what each small change keeps, every event keeps.
+-- THE WALK over the cases of the step, once: what each small change keeps, every event keeps. `KeptBy` lists the small
+-- changes: a link is left, some of its messages are acknowledged or given up, what it has moves off, an order is
+-- queued, and so on; `WalkedBy` adds the first change of an event, and `step_walks` leads each event through them. It's
+-- case by case on the event, the order and the phase; `declare_walks` and `release_walks` are inductions on the links
+-- and codes that are left. Soundness.antt, Staying.antt and Framing.antt are such walks; so are parts of pair_model's
+-- Following.antt and pair_changeover's Acked.antt.
 use Rattle.std.proofs.Common.{refl, arith, ◌≡◌, ◌<◌, ◌≤◌, length, ℕ, zero, suc, ◌+◌, Bool, true, false, ◌⊎◌, List, [], ◌∷◌, ◌++◌, slice_get, Option, Some, None, inr, cond}
 use Rattle.std.proofs.lemmas.Bool.{cond_both}
 use Rattle.l3_orders.specs.Grammar.{link_of, order_of}

@@ -1,4 +1,8 @@
--- WHAT A CHECKPOINT KEEPS agrees with the state that it leads to.
+-- WHAT A CHECKPOINT KEEPS agrees with the state that it leads to (`kept_agrees`). What is kept is forgotten number by
+-- number, while the model filters its rows; both say the same of each number (`StaysAs`), since a fate is that of a
+-- queue just where more can become of the message (`final_is`). So no queue changes, and as many are counted as leave
+-- (`finished_are`, by induction on the rows in `orders_ended`), no more than were given out (`fits`). It stands on
+-- set_model's Checkpointing.antt and set_traffic's Counts.antt; the function kept of src/forgetting.rt uses it.
 use Rattle.std.proofs.Common.{refl, arith, ◌≡◌, ◌∙◌, ap, sym, subst, ◌+◌, ◌≤◌, ◌&&◌, [], ◌∷◌, List, ℕ, Bool, not, length, filter, cond, Option, None, Some, option_map}
 use Rattle.std.proofs.lemmas.Bool.Decides.{nat_tests}
 use Rattle.std.proofs.lemmas.List.{length-map}

@@ -1,4 +1,9 @@
--- What is read of a set, a set of which nothing was asked, and what holds after each event.
+-- WHAT IS READ OF A SET, a set of which nothing was asked, and what holds after each event. `unacked_is` and
+-- `counts_told` say that the number and FSN at a place of a link, and the counts, are the state's; `opened` that new
+-- parts agree with a new set's state; `is_empty` that nothing stands on a settled link; `answers_for` and `holds_after`
+-- that an answer is the step's, and that agreement holds after it. All is read off what is kept and the laws of the
+-- model (`settled_empty`, `step_sound`); only `replicated` is an induction. The functions of src/contents.rt and
+-- src/step.rt use it.
 use Rattle.std.proofs.Common.{refl, arith, ◌≡◌, ap, ◌≤◌, ◌+◌, [], ◌∷◌, List, ℕ, suc, length, Option, Some, None, ◌<◌, ◌%◌, slice_get, option_map, true, false, IsOk, Result, subst, zero, ◌^◌, nat_lt, if◌then◌else◌, replicate, ◌∙◌}
 use Rattle.std.proofs.lemmas.Bool.Decides.{nat_tests}
 use Rattle.set_queues.specs.Buffers.{Lists, is_standing, queue_at, last_at, profile_at, no_lists}

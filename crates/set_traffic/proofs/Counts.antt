@@ -1,4 +1,9 @@
--- HOW MANY MESSAGES stand somewhere, by what is kept of them and by their rows.
+-- HOW MANY MESSAGES stand somewhere, by what is kept of them and by their rows: as many, whatever label and fate are
+-- asked for (`counted`); so with the unsent messages of a stream (`unsent_is`) and the counts of users' messages
+-- (`counts_are`). What is kept stands in the order of numbers, the rows in that of queueing. But each number stands in
+-- one row, so the slots from a number on pass a test as often as the rows of that number or a later one (`as_many`, by
+-- induction on the slots; `one_less`, on the rows). Used by the function offer of src/offering.rt, and by set_step's
+-- Kept.antt and Forgotten.antt.
 use Rattle.std.proofs.Common.{refl, arith, ◌≡◌, ◌∙◌, ap, sym, ◌≤◌, ◌+◌, [], ◌∷◌, List, ℕ, suc, length, ◌&&◌, Bool, false, nat_le, Option, None, Some, slice_get, filter, option_map}
 use Rattle.std.proofs.Math.Nat.{zero-add}
 use Rattle.std.proofs.lemmas.Bool.Decides.{nat_tests}

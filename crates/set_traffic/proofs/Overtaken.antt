@@ -1,4 +1,9 @@
--- WHAT WAS OVERTAKEN leaves its queue, one by one.
+-- WHAT WAS OVERTAKEN leaves its queue, one by one, while the model discards at once as many of the first that wait
+-- (`cleared`). `ClearsOn` is the loop's invariant: what is kept stands for a state from which the same is cleared.
+-- `clears_first` is its step, `cleared_all` its end, and it ends since the queue gets shorter (`one_less`). That one
+-- and then so many are one more is an induction on the rows (`turned_on`). `first_is` and `none_first` say whether the
+-- first that waits was overtaken. Used by the functions clear and is_first_overtaken of src/clearing.rt, and by
+-- send_next of src/sending.rt (`cleared_order`).
 use Rattle.std.proofs.lemmas.Bool.{eq-eqb}
 use Rattle.std.proofs.lemmas.Option.{same_Some}
 use Rattle.std.proofs.Common.{refl, arith, ◌≡◌, ◌≢◌, ◌∙◌, ap, sym, subst, ℕ, zero, suc, ◌<◌, Bool, true, false, List, [], ◌∷◌, length, drop, slice_get, Option, Some, None, option_map}

@@ -1,4 +1,9 @@
--- What is sent and heard, by what is kept and by the state that it stands for.
+-- WHAT IS SENT AND HEARD, by what is kept and by the state that it stands for: a control tells the same by the window
+-- that is kept and by the rows' (`told`), a BSN reaches as many in the queue as it acknowledges (`part_reaches`), a
+-- unit that is sent has the body of the row that was chosen (`body_is`, `given`), and a body that is accepted leads to
+-- the same (`message_taken`, `order_obeyed`). `space_still` says that room is kept. It's read off agreement, case by
+-- case; inductions are on rows (`fit_at`, `sum_of`) and codes (`same_from`). Used by the functions of src/sending.rt
+-- and src/hearing.rt, by Overtaken.antt and by set_step's Kept.antt.
 use Rattle.std.proofs.Common.{refl, arith, ◌≡◌, ◌==◌, ap, sym, ◌<◌, ◌+◌, ℕ, Bool, length, Option, Some, slice_get, slice_index_or, option_map, ◌∙◌, ◌≤◌, [], ◌∷◌, List, suc, true, ◌*◌, ◌++◌, zero, false, slice_set, cond, subst}
 use Rattle.std.proofs.lemmas.Bool.Decides.{nat_tests}
 use Rattle.arrayvec.specs.declared.array_vec.ArrayVec.{ArrayVec}
