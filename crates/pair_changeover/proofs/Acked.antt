@@ -117,8 +117,8 @@ first_turned l (suc n) (x ∷ rows) apart =
     behind y count same sent are =
         let new = turned (is_unacked l) (Acked l) count rows in
         let many : (number : ℕ) → length (with_number number new) ≡ length (with_number number rows) =
-            λ number. (turned_there (is_unacked l) (Acked l) count rows).as_many (λ row. row.number == number)
-            (λ f r. refl) in
+        λ number. (turned_there (is_unacked l) (Acked l) count rows).as_many (λ row. row.number == number)
+        (λ f r. refl) in
         still l new (y ∷ new) (λ number e. found_behind x y rows new apart same many number (Acked l) e) sent are
 
     at_front : place x.number (with_fate (Acked l) x ∷ turned (is_unacked l) (Acked l) n rows) ≡ Some (Acked l)
@@ -129,7 +129,7 @@ first_turned l (suc n) (x ∷ rows) apart =
         → AreAcked l (turned (is_unacked l) (Acked l) (suc n) rows) (take (suc n) (messages (unack l rows)))
         → AreAcked l (turned (is_unacked l) (Acked l) (suc n) (x ∷ rows)) (take (suc n) (messages (unack l (x ∷ rows))))
     go true h p q = rw h (All-cons
-          (λ m. place m.number (with_fate (Acked l) x ∷ turned (is_unacked l) (Acked l) n rows) ≡ Some (Acked l))
+        (λ m. place m.number (with_fate (Acked l) x ∷ turned (is_unacked l) (Acked l) n rows) ≡ Some (Acked l))
         (message_of x) (take n (messages (unack l rows))) at_front
         (behind (with_fate (Acked l) x) n refl (take n (messages (unack l rows))) p))
     go false h p q = rw h (behind x (suc n) refl (take (suc n) (messages (unack l rows))) q)
@@ -154,7 +154,7 @@ grown given l acked count sent rows numbered few are rest enough =
       first = subst (AreAcked l new)
           (sym (take-add acked count sent ∙ ap (λ (ms : List Message). take acked sent ++ take count ms) (sym rest)))
           (All-append (λ m. place m.number new ≡ Some (Acked l)) (take acked sent)
-            (take count (messages (unack l rows))) one_part other_part);
+          (take count (messages (unack l rows))) one_part other_part);
       rest = ap messages (turned_left (is_unacked l) (Acked l) refl count rows)
           ∙ sym (drop-map message_of count (unack l rows)) ∙ ap (drop count) rest ∙ drop-drop count acked sent;
     }
@@ -165,7 +165,7 @@ pub numbered_on : (s t : State) → t.finished ≡ s.finished → length t.rows 
 numbered_on s t gone long numbered =
     subst (λ (n : ℕ). IsNumbered n t.rows)
     (sym (ap (λ (f : FinishedCounts). all_finished f + length t.rows) gone
-        ∙ ap (λ (n : ℕ). all_finished s.finished + n) long)) numbered
+    ∙ ap (λ (n : ℕ). all_finished s.finished + n) long)) numbered
 
 module _ (l : ℕ) (sent : List Message) where
   -- nothing that is told of the link changed
@@ -190,7 +190,7 @@ module _ (l : ℕ) (sent : List Message) where
       → AckedFirst l sent t
   own_set s t link after there links numbered few are rest =
       let found : slice_get t.links l ≡ Some after = ap (λ (ls : List LinkState). slice_get ls l) links
-          ∙ get_set_same s.links l after (within s.links l link there) in
+      ∙ get_set_same s.links l after (within s.links l link there) in
       let count : acked_on l t ≡ after.acked = ap acked_of found in
       record {
         numbered = numbered;
@@ -233,11 +233,14 @@ module _ (l : ℕ) (sent : List Message) where
           let few = ap length none.1 in
           let same : after.acked ≡ link.acked = omega (arith, acked, enough, few) in
           let are : AreAcked l t.rows (take link.acked sent) =
-              rw rows (still l s.rows new (turned_stay (Acked l) (is_unacked l) refl (Acked l) count s.rows)
-                (take link.acked sent) now.1) in
+          rw rows (still l s.rows new (turned_stay (Acked l) (is_unacked l) refl (Acked l) count s.rows)
+          (take link.acked sent) now.1) in
           own_set s t link after there links numbered (rw same now.0) (rw same are)
-              (λ e. inr (phase ∙ none.0, ap (unack l) rows ∙ turned_left (is_unacked l) (Acked l) refl count s.rows
-                  ∙ ap (drop count) none.1 ∙ drop-nil count))
+          (λ e. inr (
+            phase ∙ none.0,
+            ap (unack l) rows ∙ turned_left (is_unacked l) (Acked l) refl count s.rows
+                ∙ ap (drop count) none.1 ∙ drop-nil count,
+          ))
 
   -- another link is set
   other_set : (n : ℕ) (after : LinkState) (links : List LinkState) → (n == l) ≡ false → slice_get (slice_set links n after) l ≡ slice_get links l
@@ -260,8 +263,8 @@ module _ (l : ℕ) (sent : List Message) where
       let more : given t ≡ given s + 1 = omega (arith, long, ap all_finished gone) in
       let numbered : IsNumbered (given s + 1) t.rows = rw rows (numbered_appended (given s) s.rows body fate a.numbered) in
       goes_on s t (subst (λ (n : ℕ). IsNumbered n t.rows) (sym more) numbered)
-          (rw rows (joined_stay (Acked l) s.rows _)) links
-          (ap (unack l) rows ∙ appended_out (given s) s.rows body fate (is_unacked l) unsent) a
+      (rw rows (joined_stay (Acked l) s.rows _)) links
+      (ap (unack l) rows ∙ appended_out (given s) s.rows body fate (is_unacked l) unsent) a
 
   -- what stood back goes elsewhere
   turns : (test : Fate → Bool) (fate : Row → Fate) (s t : State) → t.finished ≡ s.finished → test (Acked l) ≡ false
@@ -269,9 +272,9 @@ module _ (l : ℕ) (sent : List Message) where
       → t.rows ≡ moved test fate s.rows → t.links ≡ s.links → AckedFirst l sent s → AckedFirst l sent t
   turns test fate s t gone w back unsent rows links a =
       goes_on s t (numbered_on s t gone (rw rows (moved_length test fate s.rows))
-            (rw rows (moved_numbered test fate (given s) s.rows a.numbered)))
-          (rw rows (moved_stay (Acked l) test w (given s) fate s.rows a.numbered))
-          (ap (λ (ks : List LinkState). slice_get ks l) links)
+      (rw rows (moved_numbered test fate (given s) s.rows a.numbered)))
+      (rw rows (moved_stay (Acked l) test w (given s) fate s.rows a.numbered))
+      (ap (λ (ks : List LinkState). slice_get ks l) links)
       (ap (unack l) rows ∙ moved_same test (is_unacked l) fate s.rows unsent (λ f e. not_on_unacked l f (back_not_on l f (back f e)))) a
 
   leaves_own : (blind : Bool) (link : LinkState) (s : State) → IsAt l link Up s → AckedFirst l sent s → AckedFirst l sent (out_of_service blind l link s)
@@ -288,8 +291,8 @@ module _ (l : ℕ) (sent : List Message) where
       let out = out_of_service blind n link s in
       turns (is_back_to n) _ out (left_by blind n link s) refl refl (home_back n) (λ row. offered_out l _ out) refl refl
       (by_link n (λ m. IsAt m link Up s → AckedFirst l sent (out_of_service blind m link s))
-            (λ here. leaves_own blind link s here a)
-          (λ d here. goes_on s out a.numbered (λ number e. e) (other_set n (left_link blind link) s.links d) refl a) at)
+      (λ here. leaves_own blind link s here a)
+      (λ d here. goes_on s out a.numbered (λ number e. e) (other_set n (left_link blind link) s.links d) refl a) at)
 
   acknowledges_any : (count n : ℕ) (link after : LinkState) (s t : State) → t.finished ≡ s.finished
       → slice_get s.links n ≡ Some link → t.links ≡ slice_set s.links n after
@@ -298,15 +301,15 @@ module _ (l : ℕ) (sent : List Message) where
       → AckedFirst l sent s → AckedFirst l sent t
   acknowledges_any count n link after s t gone there links rows acked phase unsettled enough a =
       by_link n (λ m. slice_get s.links m ≡ Some link → t.links ≡ slice_set s.links m after
-            → t.rows ≡ turned (is_unacked m) (Acked m) count s.rows → count ≤ length (unack m s.rows)
-          → AckedFirst l sent t)
+      → t.rows ≡ turned (is_unacked m) (Acked m) count s.rows → count ≤ length (unack m s.rows)
+      → AckedFirst l sent t)
       (λ at ls rs few. own_acked count link after s t gone at ls rs acked phase unsettled few a)
       (λ d at ls rs few. goes_on s t
-            (numbered_on s t gone (rw rs (acknowledged n count s.rows).kept.count)
-            (rw rs ((acknowledged n count s.rows).kept.numbered (given s) a.numbered)))
-          (rw rs (turned_stay (Acked l) (is_unacked n) refl (Acked n) count s.rows))
-          (ap (λ (ks : List LinkState). slice_get ks l) ls ∙ other_set n after s.links d)
-          (ap (unack l) rs ∙ ((acknowledged n count s.rows).others l d).unack_same) a)
+      (numbered_on s t gone (rw rs (acknowledged n count s.rows).kept.count)
+      (rw rs ((acknowledged n count s.rows).kept.numbered (given s) a.numbered)))
+      (rw rs (turned_stay (Acked l) (is_unacked n) refl (Acked n) count s.rows))
+      (ap (λ (ks : List LinkState). slice_get ks l) ls ∙ other_set n after s.links d)
+      (ap (unack l) rs ∙ ((acknowledged n count s.rows).others l d).unack_same) a)
       there links rows enough
 
   gives_up_own : (cause : DiscardCause) (link : LinkState) (s : State) → IsAt l link Down s → AckedFirst l sent s
@@ -318,21 +321,23 @@ module _ (l : ℕ) (sent : List Message) where
     few = a.few;
     first = still l s.rows (changed (is_unacked l) (Discarded cause) s.rows)
         (changed_stay (Acked l) (is_unacked l) refl (Discarded cause) s.rows) (take (acked_on l s) sent) a.first;
-    going = λ other there unsettled. inr
-        (ap (λ (k : LinkState). k.phase) (same_at s.links l link other at.there there)
-          ∙ at.phase_is, changed_left (is_unacked l) (Discarded cause) refl s.rows);
+    going = λ other there unsettled. inr (
+      ap (λ (k : LinkState). k.phase) (same_at s.links l link other at.there there)
+          ∙ at.phase_is,
+      changed_left (is_unacked l) (Discarded cause) refl s.rows,
+    );
   }
 
   moves_off_any : (told : Bool) (n : ℕ) (link : LinkState) (s : State) → IsAt n link Down s → AckedFirst l sent s → AckedFirst l sent (moved_over told n link s)
   moves_off_any told n link s at a =
       by_link n (λ m. IsAt m link Down s → AckedFirst l sent (moved_over told m link s))
       (λ here. let now = at_link s link here.there a in own_set s (moved_over told l link s) link
-            (settled_link told link) here.there refl (numbered l) now.0
-          (still l s.rows (moved_over told l link s).rows (stay l) (take link.acked sent) now.1) (λ e. absurd cc))
+      (settled_link told link) here.there refl (numbered l) now.0
+      (still l s.rows (moved_over told l link s).rows (stay l) (take link.acked sent) now.1) (λ e. absurd cc))
       (λ d there. goes_on s (moved_over told n link s) (numbered n) (stay n)
-            (other_set n (settled_link told link) s.links d)
-          (moved_same (is_on n) (is_unacked l) (all_with (fate_on (target s.links))) s.rows
-            (λ x. not_sent l (target s.links)) (λ f e. not_on_unacked l f (on_other l n (apart_back n l d) f e))) a)
+      (other_set n (settled_link told link) s.links d)
+      (moved_same (is_on n) (is_unacked l) (all_with (fate_on (target s.links))) s.rows
+      (λ x. not_sent l (target s.links)) (λ f e. not_on_unacked l f (on_other l n (apart_back n l d) f e))) a)
       at
     where
       numbered : (m : ℕ) → IsNumbered (given (moved_over told m link s)) (moved (is_on m) (all_with (fate_on (target s.links))) s.rows)
@@ -348,7 +353,7 @@ module _ (l : ℕ) (sent : List Message) where
   answers_any n link s at a =
       by_link n (λ m. IsAt m link Settled s → AckedFirst l sent (with_link m (answered_link link) s))
       (λ here. let now = at_link s link here.there a in own_set s (with_link l (answered_link link) s) link
-            (answered_link link) here.there refl a.numbered now.0 now.1
+      (answered_link link) here.there refl a.numbered now.0 now.1
       (λ e. absurd (let no : true ≡ false = sym (ap has_phase_settled here.phase_is) ∙ e in cc)))
       (λ d there. goes_on s (with_link n (answered_link link) s) a.numbered (λ number e. e) (other_set n (answered_link link) s.links d) refl a)
       at
@@ -358,9 +363,9 @@ module _ (l : ℕ) (sent : List Message) where
   withdraws_any count n s a =
       let g = withdrawn_rows count n s.rows in
       goes_on s (withdrawn count n s)
-          (numbered_on s (withdrawn count n s) refl g.kept.count (g.kept.numbered (given s) a.numbered))
-          (turned_stay (Acked l) (is_waiting n) refl (Discarded NoAnswerCame) count s.rows) refl
-          (turned_same (is_waiting n) (is_unacked l) (Discarded NoAnswerCame) refl (λ f e. grind arith) count s.rows) a
+      (numbered_on s (withdrawn count n s) refl g.kept.count (g.kept.numbered (given s) a.numbered))
+      (turned_stay (Acked l) (is_waiting n) refl (Discarded NoAnswerCame) count s.rows) refl
+      (turned_same (is_waiting n) (is_unacked l) (Discarded NoAnswerCame) refl (λ f e. grind arith) count s.rows) a
 
   -- whatever small change is made
   pub small : (Known : ℕ → Type 0) (May : Type 0) → KeptBy Known May (λ s t. AckedFirst l sent s → AckedFirst l sent t)
@@ -376,21 +381,21 @@ module _ (l : ℕ) (sent : List Message) where
         (acknowledged_by count n link s) refl at.there refl refl refl refl (ap has_phase_settled at.phase_is) enough a;
     gives_up = λ was_sent cause n link s known at g. cond_both was_sent (is_unacked n) (is_waiting n)
         (λ test. ChangesOn n s.rows (changed test (Discarded cause) s.rows) → AckedFirst l sent s
-          → AckedFirst l sent (record s { rows = changed test (Discarded cause) s.rows }))
+        → AckedFirst l sent (record s { rows = changed test (Discarded cause) s.rows }))
         (λ e g a. by_link n (λ m. IsAt m link Down s
-            → AckedFirst l sent (record s { rows = changed (is_unacked m) (Discarded cause) s.rows }))
+        → AckedFirst l sent (record s { rows = changed (is_unacked m) (Discarded cause) s.rows }))
         (λ here. gives_up_own cause link s here a)
         (λ d here. goes_on s (record s { rows = changed (is_unacked n) (Discarded cause) s.rows })
-              (numbered_on s (record s { rows = changed (is_unacked n) (Discarded cause) s.rows }) refl g.kept.count
-              (g.kept.numbered (given s) a.numbered))
-            (changed_stay (Acked l) (is_unacked n) refl (Discarded cause) s.rows) refl ((g.others l d).unack_same) a)
-            at)
+        (numbered_on s (record s { rows = changed (is_unacked n) (Discarded cause) s.rows }) refl g.kept.count
+        (g.kept.numbered (given s) a.numbered))
+        (changed_stay (Acked l) (is_unacked n) refl (Discarded cause) s.rows) refl ((g.others l d).unack_same) a)
+        at)
         (λ e g a. goes_on s (record s { rows = changed (is_waiting n) (Discarded cause) s.rows })
-              (numbered_on s (record s { rows = changed (is_waiting n) (Discarded cause) s.rows }) refl g.kept.count
-              (g.kept.numbered (given s) a.numbered))
-            (changed_stay (Acked l) (is_waiting n) refl (Discarded cause) s.rows) refl
-            (turned_same (is_waiting n) (is_unacked l) (Discarded cause) refl (λ f e. grind arith) (length s.rows)
-              s.rows) a) g;
+        (numbered_on s (record s { rows = changed (is_waiting n) (Discarded cause) s.rows }) refl g.kept.count
+        (g.kept.numbered (given s) a.numbered))
+        (changed_stay (Acked l) (is_waiting n) refl (Discarded cause) s.rows) refl
+        (turned_same (is_waiting n) (is_unacked l) (Discarded cause) refl (λ f e. grind arith) (length s.rows)
+        s.rows) a) g;
     moves_off = λ told n link s known at a. moves_off_any told n link s at a;
     answers = λ n link s known at a. answers_any n link s at a;
     withdraws = λ count n link s known at g a. withdraws_any count n s a;
@@ -418,11 +423,11 @@ module _ (l : ℕ) (sent : List Message) where
   -- A UNIT IS HEARD: its own part
   pub hears_part : (n : ℕ) (unit : SignalUnit) (link : LinkState) (s : State) → IsAt n link Up s → AckedFirst l sent s
       → AckedFirst l sent (after_control (part_of link.control (window_of n link s.rows) (header_in unit) (is_msu unit))
-        (header_in unit) unit n s link)
+      (header_in unit) unit n s link)
   hears_part n unit link s at a =
       let part = part_of link.control (window_of n link s.rows) (header_in unit) (is_msu unit) in
       acknowledges_any part.acked n link _ s (after_control part (header_in unit) unit n s link) refl at.there refl refl
-          refl refl (ap has_phase_settled at.phase_is) (acked_few n link s.rows (header_in unit) (is_msu unit)) a
+      refl refl (ap has_phase_settled at.phase_is) (acked_few n link s.rows (header_in unit) (is_msu unit)) a
 
 -- A UNIT IS SENT. What the link's unacknowledged messages gain stands behind them.
 sent_more : (choice : Choice) (l : ℕ) (rows : List Row) → IsInOrder l rows → (more : List Row) × (unack l (rows_sent choice l rows) ≡ unack l rows ++ more)
@@ -450,18 +455,18 @@ module _ (l : ℕ) (sent : List Message) (s : State) where
       let more = sent_more choice l s.rows (sound.links l link at.there).in_order in
       let now = at_link l sent s link at.there a in
       let gained : first_sent l s t ≡ messages more.0 =
-          ap (λ (rows : List Row). messages (drop (length (unack l s.rows)) rows)) more.1
-          ∙ ap messages (drop-append_seam (unack l s.rows) more.0) in
+      ap (λ (rows : List Row). messages (drop (length (unack l s.rows)) rows)) more.1
+      ∙ ap messages (drop-append_seam (unack l s.rows) more.0) in
       let longer = length-append sent (first_sent l s t) in
       own_set l (sent ++ first_sent l s t) s t link _ at.there refl
-          (numbered_on s (next l s link).state refl (sent_by choice l s.rows).kept.count
-            ((sent_by choice l s.rows).kept.numbered (given s) a.numbered)) (omega (arith, now.0, longer))
+      (numbered_on s (next l s link).state refl (sent_by choice l s.rows).kept.count
+      ((sent_by choice l s.rows).kept.numbered (given s) a.numbered)) (omega (arith, now.0, longer))
       (subst (AreAcked l t.rows) (sym (take-append-le link.acked sent (first_sent l s t) now.0))
-            (still l s.rows t.rows (sent_stay choice l l s.rows) (take link.acked sent) now.1))
+      (still l s.rows t.rows (sent_stay choice l l s.rows) (take link.acked sent) now.1))
       (λ e. inl (ap messages more.1 ∙ map-append message_of (unack l s.rows) more.0
-              ∙ ap (λ (ms : List Message). ms ++ messages more.0) (rest_up l sent link s at a)
-          ∙ ap (λ (ms : List Message). drop link.acked sent ++ ms) (sym gained)
-          ∙ sym (drop-append-le link.acked sent (first_sent l s t) now.0)))
+      ∙ ap (λ (ms : List Message). ms ++ messages more.0) (rest_up l sent link s at a)
+      ∙ ap (λ (ms : List Message). drop link.acked sent ++ ms) (sym gained)
+      ∙ sym (drop-append-le link.acked sent (first_sent l s t) now.0)))
 
   pub sends_any : (n : ℕ) (link : LinkState) → IsSound s → IsAt n link Up s → AckedFirst l sent s
       → AckedFirst l (if l == n then sent ++ first_sent n s (next n s link).state else sent) (next n s link).state
@@ -469,15 +474,15 @@ module _ (l : ℕ) (sent : List Message) (s : State) where
     where
       go : (b : Bool) → (l == n) ≡ b → AckedFirst l (if b then sent ++ first_sent n s (next n s link).state else sent) (next n s link).state
       go true e = subst (λ (m : ℕ). IsAt m link Up s
-            → AckedFirst l (sent ++ first_sent m s (next m s link).state) (next m s link).state) (eqb-true l n e)
+          → AckedFirst l (sent ++ first_sent m s (next m s link).state) (next m s link).state) (eqb-true l n e)
           (λ here. sends_own link sound here a) at
       go false e =
           let choice = choice_of (octets_in (unack n s.rows)) link.control (window_of n link s.rows) in
           let d = apart_back l n e in
           goes_on l sent s (next n s link).state
-              (numbered_on s (next n s link).state refl (sent_by choice n s.rows).kept.count
-                ((sent_by choice n s.rows).kept.numbered (given s) a.numbered)) (sent_stay choice l n s.rows)
-              (other_set l sent n _ s.links d) (sent_apart choice l n s.rows d) a
+          (numbered_on s (next n s link).state refl (sent_by choice n s.rows).kept.count
+          ((sent_by choice n s.rows).kept.numbered (given s) a.numbered)) (sent_stay choice l n s.rows)
+          (other_set l sent n _ s.links d) (sent_apart choice l n s.rows d) a
 
   -- one that isn't in service sends nothing
   sends_none : (n : ℕ) → AckedFirst l sent s → AckedFirst l (if l == n then sent ++ first_sent n s s else sent) s
@@ -502,7 +507,7 @@ module _ (l : ℕ) (sent : List Message) (s : State) where
           let more : first_sent n clear (next n clear at.0).state ≡ first_sent n s (next n clear at.0).state = cleared_sends n s (next n clear at.0).state in
           rw (next_is n at.0 s at.1)
           (rw more at (sends_any l sent clear n at.0 (cleared_sound n at.0 s at.1 sound) (cleared_at n at.0 s at.1)
-                  (withdraws_any l sent (overtaken n s) n s a)))
+          (withdraws_any l sent (overtaken n s) n s a)))
       go false e = rw ((next_refused n s e).1) (sends_none l sent s n a)
 
   -- A LINK COMES UP: what it sends is told anew.
@@ -516,21 +521,21 @@ module _ (l : ℕ) (sent : List Message) (s : State) where
       own : IsAt l link Settled s → AckedFirst l [] (rises l s Settled).state
       own here =
           let none : unack l (rises l s Settled).state.rows ≡ [] = (unparked l s.rows).unack_same
-              ∙ (settled_empty s l link sound here.there here.phase_is).unack_none in
+          ∙ (settled_empty s l link sound here.there here.phase_is).unack_none in
           own_set l [] s (rises l s Settled).state link _ here.there refl
-              (numbered_on s (rises l s Settled).state refl (unparked l s.rows).kept.count
-                ((unparked l s.rows).kept.numbered (given s) a.numbered)) (omega arith) (All-nil _)
-              (λ e. inl (ap messages none))
+          (numbered_on s (rises l s Settled).state refl (unparked l s.rows).kept.count
+          ((unparked l s.rows).kept.numbered (given s) a.numbered)) (omega arith) (All-nil _)
+          (λ e. inl (ap messages none))
 
       go : (b : Bool) → (l == n) ≡ b → AckedFirst l (if b then [] else sent) (rises n s Settled).state
       go true e = subst (λ (m : ℕ). IsAt m link Settled s → AckedFirst l [] (rises m s Settled).state) (eqb-true l n e) own at
       go false e =
           let d = apart_back l n e in
           goes_on l sent s (rises n s Settled).state
-              (numbered_on s (rises n s Settled).state refl (unparked n s.rows).kept.count
-                ((unparked n s.rows).kept.numbered (given s) a.numbered))
-              (moved_stay (Acked l) is_parked refl (given s) (all_with (Waiting n)) s.rows a.numbered)
-              (other_set l sent n _ s.links d) (((unparked n s.rows).others l d).unack_same) a
+          (numbered_on s (rises n s Settled).state refl (unparked n s.rows).kept.count
+          ((unparked n s.rows).kept.numbered (given s) a.numbered))
+          (moved_stay (Acked l) is_parked refl (given s) (all_with (Waiting n)) s.rows a.numbered)
+          (other_set l sent n _ s.links d) (((unparked n s.rows).others l d).unack_same) a
 
   up_kept : (n : ℕ) → IsSound s → AckedFirst l sent s → AckedFirst l (if is_settled n s then (if l == n then [] else sent) else sent) (step s (UpEvent n)).state
   unfolding step
@@ -611,4 +616,4 @@ pub rises_first : (l n : ℕ) (s : State) (past : Past) → IsSound s → is_set
     → AckedFirst l ((past_risen n past).sent l) (step s (UpEvent n)).state
 rises_first l n s past sound settled a =
     subst (λ (b : Bool). AckedFirst l (if b then (if l == n then [] else past.sent l) else past.sent l)
-      (step s (UpEvent n)).state) settled (up_kept l (past.sent l) s n sound a)
+    (step s (UpEvent n)).state) settled (up_kept l (past.sent l) s n sound a)

@@ -31,8 +31,8 @@ module _ (l : ℕ) (state : LinkState) (s : State) where
     where
       go : (b : Bool) → has_phase_up state.phase ≡ b → unack l (as_left l (Some state) s).rows ≡ unack l s.rows
       go true e = rw e (unack_same (is_back_to l)
-            (λ row. fate_at (place_of (stream_of row.body) (out_of_service false l state s).routing)
-            (out_of_service false l state s)) (home_back l) s.rows
+          (λ row. fate_at (place_of (stream_of row.body) (out_of_service false l state s).routing)
+          (out_of_service false l state s)) (home_back l) s.rows
           (λ m row. offered_out m _ (out_of_service false l state s)) l)
       go false e = rw e refl
 
@@ -87,7 +87,7 @@ module _ (k l count : ℕ) (link link' state : LinkState) (s mid : State) (apart
       go : (b : Bool) → (l == n) ≡ b → is_up n out_mid ≡ is_up n out
       go true e = subst (λ (m : ℕ). is_up m out_mid ≡ is_up m out) (eqb-true l n e)
           (ap link_is_up (own_then l state (left_link false state) mid out_mid mid_there refl)
-                ∙ sym (ap link_is_up (own_then l state (left_link false state) s out state_there refl)))
+          ∙ sym (ap link_is_up (own_then l state (left_link false state) s out state_there refl)))
       go false e =
           ap link_is_up (other_then l state (left_link false state) mid out_mid mid_there refl n e) ∙ mid_up n
           ∙ sym (ap link_is_up (other_then l state (left_link false state) s out state_there refl n e))
@@ -108,7 +108,7 @@ module _ (k l count : ℕ) (link link' state : LinkState) (s mid : State) (apart
     turned_alike : standing other (left_by false l state mid).rows ≡ standing other (left_by false l state s).rows
     turned_alike =
         let back : standing (is_back_to l) mid.rows ≡ standing (is_back_to l) s.rows = ap (standing (is_back_to l)) rows
-            ∙ turned_same (is_unacked k) (is_back_to l) (Acked k) refl (λ f e. sent_not_back k l f e) count s.rows in
+        ∙ turned_same (is_unacked k) (is_back_to l) (Acked k) refl (λ f e. sent_not_back k l f e) count s.rows in
         let f : Row → Fate = λ row. fate_at (place_of (stream_of row.body) out_mid.routing) out_mid in
         let g : Row → Fate = λ row. fate_at (place_of (stream_of row.body) out.routing) out in
         moved_more (is_back_to l) other f mid.rows (λ x e. never_back x (home_back l x e))

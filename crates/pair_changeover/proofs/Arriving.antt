@@ -63,8 +63,8 @@ queue_parts : (count l : ℕ) (rows : List Row) → queue count l rows ≡ drop 
 queue_parts count l rows =
     joined (drop count (unack l rows) ++ wait l rows) (held l rows)
     ∙ ap (λ (x : List Message). x ++ messages (held l rows))
-        (joined (drop count (unack l rows)) (wait l rows)
-          ∙ ap (λ (x : List Message). x ++ messages (wait l rows)) (messages_dropped count (unack l rows)))
+    (joined (drop count (unack l rows)) (wait l rows)
+    ∙ ap (λ (x : List Message). x ++ messages (wait l rows)) (messages_dropped count (unack l rows)))
 
 module _ (mx my : Method) (one : IsOneMethod mx my) (p : Two) (h : HoldsOf mx my p) (w : Whole p) (k : ℕ)
     (few : k < length p.near.links) (unit : SignalUnit) (rest : List SignalUnit)
@@ -104,7 +104,7 @@ module _ (mx my : Method) (one : IsOneMethod mx my) (p : Two) (h : HoldsOf mx my
 
   mid_equal : (l : ℕ) → is_settled l mid ≡ true → acked_on l mid ≡ accepted_on l p.far
   mid_equal l = mid_all (λ n old new. (link_is_settled old ≡ true → acked_of old ≡ accepted_on n p.far)
-        → link_is_settled new ≡ true → acked_of new ≡ accepted_on n p.far)
+      → link_is_settled new ≡ true → acked_of new ≡ accepted_on n p.far)
       (λ before e. absurd (let no : false ≡ true = sym (ap has_phase_settled at.phase_is) ∙ e in cc)) (λ n o d before. before) l (w.near.equal l)
 
   mid_discards : standing was_discarded mid.rows ≡ standing was_discarded p.near.rows
@@ -130,7 +130,7 @@ module _ (mx my : Method) (one : IsOneMethod mx my) (p : Two) (h : HoldsOf mx my
   far_equal : (l : ℕ) → is_settled l p.far ≡ true → acked_on l p.far ≡ accepted_on l then_near
   far_equal l e =
       let same : accepted_on l then_near ≡ accepted_on l mid = ap (accepted_on l) state_is
-          ∙ obeys_accepted k body mid p.far mid_sound w.near.codes does.both _ does.obeys l in
+      ∙ obeys_accepted k body mid p.far mid_sound w.near.codes does.both _ does.obeys l in
       w.far.equal l e ∙ sym (same ∙ mid_accepted l (w.both.far.apart l e))
 
   -- WHAT SETTLES
@@ -213,7 +213,7 @@ module _ (mx my : Method) (one : IsOneMethod mx my) (p : Two) (h : HoldsOf mx my
         ∙ ap (λ (u : List Row). drop (t - a) (messages u) ++ messages (wait l left.rows) ++ messages (held l left.rows)) (left_unack l state p.near)
         ∙ ap (λ (x : List Message). drop (t - a) x ++ messages (wait l left.rows) ++ messages (held l left.rows)) reach.unacked
         ∙ ap (λ (x : List Message). x ++ messages (wait l left.rows) ++ messages (held l left.rows))
-            (drop_twice (t - a) a (p.near_past.sent l) ∙ ap (λ (n : ℕ). drop n (p.near_past.sent l)) many)
+        (drop_twice (t - a) a (p.near_past.sent l) ∙ ap (λ (n : ℕ). drop n (p.near_past.sent l)) many)
 
     abbrev moved_state : State
     moved_state = (hearing.taken mx my one p h w.both k few unit rest front link at).state
@@ -224,33 +224,33 @@ module _ (mx my : Method) (one : IsOneMethod mx my) (p : Two) (h : HoldsOf mx my
         ++ answer_on l (slice_get mid.links l) mid ++ pending l (as_left l (slice_get mid.links l) mid) p.far
         → new ≡ messages (queue_for to left_mid.rows) ++ answer_on l (slice_get mid.links l) mid ++ pending l left_mid p.far
     moved_there to new e = subst (λ (o : Option LinkState). new ≡ messages (queue_for to (as_left l o mid).rows)
-          ++ answer_on l (slice_get mid.links l) mid ++ pending l (as_left l o mid) p.far) there_mid e
+        ++ answer_on l (slice_get mid.links l) mid ++ pending l (as_left l o mid) p.far) there_mid e
 
     moved_from : (to : Option ℕ) (new : List Message)
         → new ≡ messages (queue_for to left_mid.rows) ++ answer_on l (slice_get mid.links l) mid
         ++ pending l left_mid p.far
         → new ≡ messages (queue_for to left.rows) ++ answer_on l (slice_get p.near.links l) p.near
-            ++ drop (length (p.far_past.taken l)) (p.near_past.sent l) ++ messages (wait l left.rows)
-            ++ messages (held l left.rows)
+        ++ drop (length (p.far_past.taken l)) (p.near_past.sent l) ++ messages (wait l left.rows)
+        ++ messages (held l left.rows)
     moved_from to new e =
         e
         ∙ ap (λ (x : List Message). x ++ answer_on l (slice_get mid.links l) mid ++ pending l left_mid p.far) (same_queue to)
         ∙ ap (λ (x : List Message). messages (queue_for to left.rows) ++ x ++ pending l left_mid p.far) same_answer
         ∙ ap (λ (x : List Message). messages (queue_for to left.rows) ++ answer_on l (slice_get p.near.links l) p.near ++ x) rest_is
         ∙ told_apart (messages (queue_for to left.rows)) (answer_on l (slice_get p.near.links l) p.near)
-            (drop (length (p.far_past.taken l)) (p.near_past.sent l)) (messages (wait l left.rows))
-            (messages (held l left.rows))
+        (drop (length (p.far_past.taken l)) (p.near_past.sent l)) (messages (wait l left.rows))
+        (messages (held l left.rows))
 
     diverts_from : DivertsFrom l (p.near_past.sent l) (p.far_past.taken l) p.near left then_near
     diverts_from = record {
       acked = subst (λ (n : ℕ). All (λ message. place message.number then_near.rows ≡ Some (Acked l))
-            (take n (p.near_past.sent l))) (equal_then l now ∙ counted) (first_then l).first;
+          (take n (p.near_past.sent l))) (equal_then l now ∙ counted) (first_then l).first;
       moved = rw state_is (moved_from (target moved_state.links) _ (moved_there (target moved_state.links) _ moved_so.moved));
     }
 
     diverts : Diverts l (p.near_past.sent l) (p.far_past.taken l) p.near then_near
     diverts = subst (λ (o : Option LinkState). DivertsFrom l (p.near_past.sent l) (p.far_past.taken l) p.near
-          (as_left l o p.near) then_near) (sym link_there.1) diverts_from
+        (as_left l o p.near) then_near) (sym link_there.1) diverts_from
 
   pub hears_did : Did p heard
   hears_did = record {
@@ -295,16 +295,16 @@ module _ (mx my : Method) (one : IsOneMethod mx my) (p : Two) (h : HoldsOf mx my
       ≡ Some body → IsToldBy unit p.near p.far_past
   some_tells body e order fsn state is fsn_in there going =
       let is_order : order_of p.near.settings.profile body ≡ Some order =
-          ap (order_of p.near.settings.profile)
-          (sym (hearing.is_body mx my one p h w.both k few unit rest front link at body e)) ∙ is in
+      ap (order_of p.near.settings.profile)
+      (sym (hearing.is_body mx my one p h w.both k few unit rest front link at body e)) ∙ is in
       let fsn_is = number_is fsn order (view p.far p.near) fsn_in
-          (hearing.tells mx my one p h w.both k few unit rest front link at body e order is_order
-            (is_over fsn order fsn_in)) in
+      (hearing.tells mx my one p h w.both k few unit rest front link at body e order is_order
+      (is_over fsn order fsn_in)) in
       let t = hearing.told_before mx my one p h w.both k few unit rest front link at body e order is_order
-          (is_over fsn order fsn_in) fsn fsn_is state there going in
+      (is_over fsn order fsn_in) fsn fsn_is state there going in
       let other = present p.far.links (link_of order) (omega (arith, within p.near.links (link_of order) state there, h.far_links)) in
       let counted : accepted_on (link_of order) p.far ≡ length (p.far_past.taken (link_of order)) =
-          ap accepted_of other.1 ∙ (kept_on mx my one p h (link_of order)).accepted other.0 other.1 in
+      ap accepted_of other.1 ∙ (kept_on mx my one p h (link_of order)).accepted other.0 other.1 in
       record {
         last = t.last ∙ ap (λ (n : ℕ). (n + fsn_before_first state.profile) % fsn_count state.profile) counted;
         reasonable = told_reasonable fsn (link_of order) state p.near p.far ((h.near_sound.links (link_of order) state there).window) t;
@@ -377,7 +377,7 @@ half_rises k s t f g past sound is a b w = record {
   where
     go : (l : ℕ) → is_settled l t ≡ true → (c : Bool) → (k == l) ≡ c → acked_on l t ≡ accepted_on l g
     go l e true d = absurd (let here : is_settled k t ≡ true =
-          subst (λ (n : ℕ). is_settled n t ≡ true) (sym (eqb-true k l d)) e in let no : false ≡ true =
+        subst (λ (n : ℕ). is_settled n t ≡ true) (sym (eqb-true k l d)) e in let no : false ≡ true =
         sym a.unsettled_then ∙ here in cc)
     go l e false d = ap acked_of (a.links l d) ∙ w.equal l (ap link_is_settled (sym (a.links l d)) ∙ e) ∙ sym (ap accepted_of (b.links l d))
 
@@ -386,7 +386,7 @@ settles_none k s t near far a l e now = go (k == l) refl
   where
     go : (c : Bool) → (k == l) ≡ c → Diverts l (near.sent l) (far.taken l) s t
     go true d = absurd (let here : is_settled k t ≡ true =
-          subst (λ (n : ℕ). is_settled n t ≡ true) (sym (eqb-true k l d)) now in let no : false ≡ true =
+        subst (λ (n : ℕ). is_settled n t ≡ true) (sym (eqb-true k l d)) now in let no : false ≡ true =
         sym a.unsettled_then ∙ here in cc)
     go false d = absurd (let no : false ≡ true = sym e ∙ ap link_is_settled (sym (a.links l d)) ∙ now in cc)
 

@@ -54,9 +54,13 @@ module _ (n : ℕ) (link : LinkState) (s f : State) (sound : IsSound s) (at : Is
 
   -- of its queue what wasn't sent is left, and other queues stay
   pub rest_is : (count : ℕ) → queue count n given_up.rows ≡ messages (wait n s.rows ++ held n s.rows)
-  rest_is count = rw (none_sent,
-        turned_same (is_unacked n) (is_waiting n) (Discarded Emergency) refl (λ f e. grind arith) (length s.rows)
-      s.rows, does.held_same, drop_none {X = Row} count) refl
+  rest_is count = rw (
+    none_sent,
+    turned_same (is_unacked n) (is_waiting n) (Discarded Emergency) refl (λ f e. grind arith) (length s.rows)
+        s.rows,
+    does.held_same,
+    drop_none {X = Row} count,
+  ) refl
 
   pub own_rest : pending n given_up f ≡ messages (wait n s.rows ++ held n s.rows)
   own_rest = rest_is (accepted_on n f - acked_on n s)
@@ -73,8 +77,8 @@ module _ (n : ℕ) (link : LinkState) (s f : State) (sound : IsSound s) (at : Is
       go : (b : Bool) → (n == l) ≡ b → Among m (pending l s f)
       go true e = subst (λ (k : ℕ). Among m (pending k s f)) (eqb-true n l e)
           (subst (λ (rows : List Row). Among m (messages rows))
-                (sym (append_assoc (drop (accepted_on n f - acked_on n s) (unack n s.rows)) (wait n s.rows)
-                  (held n s.rows)))
+          (sym (append_assoc (drop (accepted_on n f - acked_on n s) (unack n s.rows)) (wait n s.rows)
+          (held n s.rows)))
           (among_rest (accepted_on n f - acked_on n s) (unack n s.rows) (wait n s.rows ++ held n s.rows) m
           (subst (Among m) own_rest (subst (λ (k : ℕ). Among m (pending k given_up f)) (sym (eqb-true n l e)) a))))
       go false d = subst (Among m) (others_stay l d) a
@@ -112,7 +116,7 @@ module _ (n : ℕ) (link : LinkState) (s f : State) (sound : IsSound s) (at : Is
   pub blind_acts : {emergencies : Bool} → Both emergencies s f → is_up n f ≡ false → NoneAbout n (view f s) → Acts given_up (settled Unknown n link s) f
   blind_acts o far_down none = subst (λ (t : State). Acts given_up t f) (sym blind_is)
       (settles_acts last_number n link given_up f given_up_sound given_up_at blind_reached
-        (acts s given_up f gives_up_acts o) far_down (acts_far_none s given_up f gives_up_acts n none))
+      (acts s given_up f gives_up_acts o) far_down (acts_far_none s given_up f gives_up_acts n none))
 
   pub blind_both : {emergencies : Bool} → Both emergencies s f → is_up n f ≡ false → NoneAbout n (view f s) → Both emergencies (settled Unknown n link s) f
   blind_both o far_down none = acts given_up (settled Unknown n link s) f (blind_acts o far_down none) (acts s given_up f gives_up_acts o)

@@ -143,59 +143,59 @@ held_none s link sound up = go (slice_get s.links link) refl
 -- A NEW MESSAGE that is no order
 module _ (s f : State) (body : List ℕ) (fate : Fate) (t : State) (rows : t.rows ≡ appended (given s) s.rows body fate)
     (links : t.links ≡ s.links) (new : (link : ℕ) → IsNew 0 link (given s) s.rows body fate) (no_order : IsNoOrder body)
-    where
-  abbrev count_at : ℕ → ℕ
-  count_at link = accepted_on link f - acked_on link s
+  where
+    abbrev count_at : ℕ → ℕ
+    count_at link = accepted_on link f - acked_on link s
 
-  offer_came : (link : ℕ) (m : Message)
-      → Grows (new_message (given s) body) (is_on link fate) (pending link s f)
-      (queue (count_at link) link (appended (given s) s.rows body fate))
-      → Among m (queue (count_at link) link (appended (given s) s.rows body fate)) → Came (view s f) link m
-  offer_came link m (ungrown e q) among = stayed (subst (λ (x : List Message). Among m x) q among)
-  offer_came link m (grown e q) among =
-      go (among_joined m (pending link s f) (new_message (given s) body ∷ [])
+    offer_came : (link : ℕ) (m : Message)
+        → Grows (new_message (given s) body) (is_on link fate) (pending link s f)
+        (queue (count_at link) link (appended (given s) s.rows body fate))
+        → Among m (queue (count_at link) link (appended (given s) s.rows body fate)) → Came (view s f) link m
+    offer_came link m (ungrown e q) among = stayed (subst (λ (x : List Message). Among m x) q among)
+    offer_came link m (grown e q) among =
+        go (among_joined m (pending link s f) (new_message (given s) body ∷ [])
         (subst (λ (x : List Message). Among m x) q among))
-    where
-      go : Among m (pending link s f) ⊎ Among m (new_message (given s) body ∷ []) → Came (view s f) link m
-      go (inl a) = stayed a
-      go (inr (inl e)) = plain (λ order is over. no_order order (ap (λ (x : Message). order_any x.body) (sym e) ∙ is) over)
-      go (inr (inr a)) = absurd a
+      where
+        go : Among m (pending link s f) ⊎ Among m (new_message (given s) body ∷ []) → Came (view s f) link m
+        go (inl a) = stayed a
+        go (inr (inl e)) = plain (λ order is over. no_order order (ap (λ (x : Message). order_any x.body) (sym e) ∙ is) over)
+        go (inr (inr a)) = absurd a
 
-  offer_aside : (m : Message) (b : Bool) → is_parked fate ≡ b
-      → Among m (messages (Rattle.set_model.specs.Rows.parked (appended (given s) s.rows body fate)))
-      → CameAside (view s f) m
-  offer_aside m false e among = was_in (stands_aside (subst (λ (x : List Message). Among m x) (aside_apart 0 0 (given s) s.rows body fate e) among))
-  offer_aside m true e among = go
-      (among_joined m (aside s) (new_message (given s) body ∷ [])
+    offer_aside : (m : Message) (b : Bool) → is_parked fate ≡ b
+        → Among m (messages (Rattle.set_model.specs.Rows.parked (appended (given s) s.rows body fate)))
+        → CameAside (view s f) m
+    offer_aside m false e among = was_in (stands_aside (subst (λ (x : List Message). Among m x) (aside_apart 0 0 (given s) s.rows body fate e) among))
+    offer_aside m true e among = go
+        (among_joined m (aside s) (new_message (given s) body ∷ [])
         (subst (λ (x : List Message). Among m x) (aside_joins 0 0 (given s) s.rows body fate e) among))
-    where
-      go : Among m (aside s) ⊎ Among m (new_message (given s) body ∷ []) → CameAside (view s f) m
-      go (inl a) = was_in (stands_aside a)
-      go (inr (inl e)) = plain_aside (λ order is over. no_order order (ap (λ (x : Message). order_any x.body) (sym e) ∙ is) over)
-      go (inr (inr a)) = absurd a
+      where
+        go : Among m (aside s) ⊎ Among m (new_message (given s) body ∷ []) → CameAside (view s f) m
+        go (inl a) = was_in (stands_aside a)
+        go (inr (inl e)) = plain_aside (λ order is over. no_order order (ap (λ (x : Message). order_any x.body) (sym e) ∙ is) over)
+        go (inr (inr a)) = absurd a
 
-  pub offers_acts : Acts s t f
-  offers_acts = record {
-    came = λ link m among. offer_came link m (grows_at link) (subst (λ (x : List Message). Among m x) (rw (rows, links) refl) among);
-    came_aside = λ m among. offer_aside m (is_parked fate) refl (subst (λ (x : List Message). Among m x) (rw rows refl) among);
-    up_less = λ link up. ap (λ (ls : List LinkState). link_is_up (slice_get ls link)) (sym links) ∙ up;
-    settled_more = λ link settled. inl (ap (λ (ls : List LinkState). link_is_settled (slice_get ls link)) (sym links) ∙ settled);
-    accepted = λ link. inl (ap (λ (ls : List LinkState). last_of (slice_get ls link)) links);
-    far_came = far_same s t f (λ link. ap (λ (ls : List LinkState). accepted_of (slice_get ls link)) links);
-  }
-    where
-      grows_at : (link : ℕ) → Grows (new_message (given s) body) (is_on link fate) (pending link s f)
-          (queue (count_at link) link (appended (given s) s.rows body fate))
-      grows_at link = grows (count_at link) link (given s) s.rows body fate (again fate (new link))
-        where
-          again : (fate : Fate) → IsNew 0 link (given s) s.rows body fate → IsNew (count_at link) link (given s) s.rows body fate
-          again (Waiting l) (to_wait k none) = to_wait k none
-          again (Held l) (to_hold k) = to_hold k
-          again Parked to_park = to_park
-          again (Unacked l) new = elim new [ ]
-          again (Acked l) new = elim new [ ]
-          again (Back code) (to_back c) = to_back code
-          again (Discarded cause) new = elim new [ ]
+    pub offers_acts : Acts s t f
+    offers_acts = record {
+      came = λ link m among. offer_came link m (grows_at link) (subst (λ (x : List Message). Among m x) (rw (rows, links) refl) among);
+      came_aside = λ m among. offer_aside m (is_parked fate) refl (subst (λ (x : List Message). Among m x) (rw rows refl) among);
+      up_less = λ link up. ap (λ (ls : List LinkState). link_is_up (slice_get ls link)) (sym links) ∙ up;
+      settled_more = λ link settled. inl (ap (λ (ls : List LinkState). link_is_settled (slice_get ls link)) (sym links) ∙ settled);
+      accepted = λ link. inl (ap (λ (ls : List LinkState). last_of (slice_get ls link)) links);
+      far_came = far_same s t f (λ link. ap (λ (ls : List LinkState). accepted_of (slice_get ls link)) links);
+    }
+      where
+        grows_at : (link : ℕ) → Grows (new_message (given s) body) (is_on link fate) (pending link s f)
+            (queue (count_at link) link (appended (given s) s.rows body fate))
+        grows_at link = grows (count_at link) link (given s) s.rows body fate (again fate (new link))
+          where
+            again : (fate : Fate) → IsNew 0 link (given s) s.rows body fate → IsNew (count_at link) link (given s) s.rows body fate
+            again (Waiting l) (to_wait k none) = to_wait k none
+            again (Held l) (to_hold k) = to_hold k
+            again Parked to_park = to_park
+            again (Unacked l) new = elim new [ ]
+            again (Acked l) new = elim new [ ]
+            again (Back code) (to_back c) = to_back code
+            again (Discarded cause) new = elim new [ ]
 
 -- AN ORDER IS QUEUED
 module _ {emergencies : Bool} (s f : State) (order : Order) (sound : IsSound s) (o : Both emergencies s f)
@@ -238,8 +238,8 @@ module _ {emergencies : Bool} (s f : State) (order : Order) (sound : IsSound s) 
   queue_aside m false e among = inr (subst (λ (x : List Message). Among m x) (aside_apart 0 0 (given s) s.rows body (fate_on (target s.links)) e) among)
   queue_aside m true e among = go
       (among_joined m (aside s) (z ∷ [])
-        (subst (λ (x : List Message). Among m x) (aside_joins 0 0 (given s) s.rows body (fate_on (target s.links)) e)
-        among))
+      (subst (λ (x : List Message). Among m x) (aside_joins 0 0 (given s) s.rows body (fate_on (target s.links)) e)
+      among))
     where
       go : Among m (aside s) ⊎ Among m (z ∷ []) → (m ≡ z) ⊎ Among m (aside s)
       go (inl a) = inr a
@@ -255,7 +255,7 @@ module _ {emergencies : Bool} (s f : State) (order : Order) (sound : IsSound s) 
     unsettled = unsettled;
     came = λ link m among. queue_came link m
         (grows (accepted_on link f - acked_on link s) link (given s) s.rows body (fate_on (target s.links))
-          (new_at link (target s.links) refl)) among;
+        (new_at link (target s.links) refl)) among;
     came_aside = λ m among. queue_aside m (is_parked (fate_on (target s.links))) refl among;
     up_same = λ link. refl;
     settled_same = λ link. refl;
@@ -284,7 +284,7 @@ module _ (k : ℕ) (link link' : LinkState) (s t : State) (there : slice_get s.l
       go : (b : Bool) → (k == l) ≡ b → P l (slice_get s.links l) (slice_get t.links l)
       go true e = subst (λ (n : ℕ). P n (slice_get s.links n) (slice_get t.links n)) (eqb-true k l e)
           (subst (λ (o : Option LinkState). P k o (slice_get t.links k)) (sym there)
-            (subst (λ (o : Option LinkState). P k (Some link) o) (sym own_then) own))
+          (subst (λ (o : Option LinkState). P k (Some link) o) (sym own_then) own))
       go false e = subst (λ (o : Option LinkState). P l (slice_get s.links l) o) (sym (other_then l e)) (other l (slice_get s.links l) e)
 
 -- what stood at neither end about a link doesn't then

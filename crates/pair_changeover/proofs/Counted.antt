@@ -51,7 +51,7 @@ risen_less k s t f g a b less l e = go (k == l) refl
   where
     go : (b : Bool) → (k == l) ≡ b → acked_on l t ≤ accepted_on l g
     go true d = absurd (let here : is_settled k t ≡ true =
-          subst (λ (n : ℕ). is_settled n t ≡ true) (sym (eqb-true k l d)) e in let no : false ≡ true =
+        subst (λ (n : ℕ). is_settled n t ≡ true) (sym (eqb-true k l d)) e in let no : false ≡ true =
         sym a.unsettled_then ∙ here in cc)
     go false d =
         let acked = ap acked_of (a.links l d) in
@@ -65,53 +65,53 @@ counts_risen k s t f g a b c = record { near = risen_less k s t f g a b c.near; 
 module _ {emergencies : Bool} (mx my : Method) (one : IsOneMethod mx my) (p : Two) (h : HoldsOf mx my p)
     (o : Ordered emergencies p) (c : Counts p.near p.far) (k : ℕ) (few : k < length p.near.links) (unit : SignalUnit)
     (rest : List SignalUnit) (front : units_on k p.back ≡ unit ∷ rest) (link : LinkState) (at : IsAt k link Up p.near)
-    where
-  abbrev mid : State
-  mid = hearing.mid mx my one p h o.both k few unit rest front link at
+  where
+    abbrev mid : State
+    mid = hearing.mid mx my one p h o.both k few unit rest front link at
 
-  abbrev mid_link : LinkState
-  mid_link = hearing.mid_link mx my one p h o.both k few unit rest front link at
+    abbrev mid_link : LinkState
+    mid_link = hearing.mid_link mx my one p h o.both k few unit rest front link at
 
-  abbrev then_near : State
-  then_near = (step p.near (HeardEvent k unit)).state
+    abbrev then_near : State
+    then_near = (step p.near (HeardEvent k unit)).state
 
-  abbrev body : List ℕ
-  body = orders.body mx my one p h o k few unit rest front link at
+    abbrev body : List ℕ
+    body = orders.body mx my one p h o k few unit rest front link at
 
-  does : hearing.Hears mx my one p h o.both k few unit rest front link at
-  does = orders.does mx my one p h o k few unit rest front link at
+    does : hearing.Hears mx my one p h o.both k few unit rest front link at
+    does = orders.does mx my one p h o k few unit rest front link at
 
-  mid_less : (l : ℕ) → is_settled l mid ≡ true → acked_on l mid ≤ accepted_on l p.far
-  mid_less l = by_link k link mid_link p.near mid at.there refl
-      (λ n old new. (link_is_settled old ≡ true → acked_of old ≤ accepted_on n p.far) → link_is_settled new ≡ true → acked_of new ≤ accepted_on n p.far)
-      (λ before e. absurd (let no : false ≡ true = sym (ap has_phase_settled at.phase_is) ∙ e in cc)) (λ n old d before. before) l (c.near l)
+    mid_less : (l : ℕ) → is_settled l mid ≡ true → acked_on l mid ≤ accepted_on l p.far
+    mid_less l = by_link k link mid_link p.near mid at.there refl
+        (λ n old new. (link_is_settled old ≡ true → acked_of old ≤ accepted_on n p.far) → link_is_settled new ≡ true → acked_of new ≤ accepted_on n p.far)
+        (λ before e. absurd (let no : false ≡ true = sym (ap has_phase_settled at.phase_is) ∙ e in cc)) (λ n old d before. before) l (c.near l)
 
-  mid_accepted : (l : ℕ) → is_up l p.near ≡ false → accepted_on l mid ≡ accepted_on l p.near
-  mid_accepted = by_link k link mid_link p.near mid at.there refl
-      (λ l old new. link_is_up old ≡ false → accepted_of new ≡ accepted_of old)
-      (λ e. absurd (let no : true ≡ false = sym (ap has_phase_up at.phase_is) ∙ e in cc)) (λ l old d e. refl)
+    mid_accepted : (l : ℕ) → is_up l p.near ≡ false → accepted_on l mid ≡ accepted_on l p.near
+    mid_accepted = by_link k link mid_link p.near mid at.there refl
+        (λ l old new. link_is_up old ≡ false → accepted_of new ≡ accepted_of old)
+        (λ e. absurd (let no : true ≡ false = sym (ap has_phase_up at.phase_is) ∙ e in cc)) (λ l old d e. refl)
 
-  due : (n : ℕ) (state : LinkState) → (k == n) ≡ false → slice_get mid.links n ≡ Some state
-      → has_phase_settled state.phase ≡ false → state.acked ≤ accepted_on n p.far
-  due n state d there going =
-      let near : slice_get p.near.links n ≡ Some state = sym (other_then k link mid_link p.near mid at.there refl n d) ∙ there in
-      let other = present p.far.links n (omega (arith, within p.near.links n state near, h.far_links)) in
-      (reaches n p.near_past p.far_past p.near p.far (kept_on mx my one p h n) state near going other.0 other.1).due
+    due : (n : ℕ) (state : LinkState) → (k == n) ≡ false → slice_get mid.links n ≡ Some state
+        → has_phase_settled state.phase ≡ false → state.acked ≤ accepted_on n p.far
+    due n state d there going =
+        let near : slice_get p.near.links n ≡ Some state = sym (other_then k link mid_link p.near mid at.there refl n d) ∙ there in
+        let other = present p.far.links n (omega (arith, within p.near.links n state near, h.far_links)) in
+        (reaches n p.near_past p.far_past p.near p.far (kept_on mx my one p h n) state near going other.0 other.1).due
 
-  near_then : (l : ℕ) → is_settled l then_near ≡ true → acked_on l then_near ≤ accepted_on l p.far
-  near_then = subst (λ (s : State). (l : ℕ) → is_settled l s ≡ true → acked_on l s ≤ accepted_on l p.far)
-      (sym (orders.state_is mx my one p h o k few unit rest front link at))
-      (obeys_less k body mid p.far (orders.mid_sound mx my one p h o k few unit rest front link at) o.near_codes due mid_less _ does.obeys)
+    near_then : (l : ℕ) → is_settled l then_near ≡ true → acked_on l then_near ≤ accepted_on l p.far
+    near_then = subst (λ (s : State). (l : ℕ) → is_settled l s ≡ true → acked_on l s ≤ accepted_on l p.far)
+        (sym (orders.state_is mx my one p h o k few unit rest front link at))
+        (obeys_less k body mid p.far (orders.mid_sound mx my one p h o k few unit rest front link at) o.near_codes due mid_less _ does.obeys)
 
-  far_then : (l : ℕ) → is_settled l p.far ≡ true → acked_on l p.far ≤ accepted_on l then_near
-  far_then l e =
-      let same : accepted_on l then_near ≡ accepted_on l mid =
-          ap (accepted_on l) (orders.state_is mx my one p h o k few unit rest front link at)
-          ∙ obeys_accepted k body mid p.far (orders.mid_sound mx my one p h o k few unit rest front link at)
-          o.near_codes does.both _ does.obeys l in
-      let mid_same = mid_accepted l (o.both.far.apart l e) in
-      let enough = c.far l e in
-      omega (arith, same, mid_same, enough)
+    far_then : (l : ℕ) → is_settled l p.far ≡ true → acked_on l p.far ≤ accepted_on l then_near
+    far_then l e =
+        let same : accepted_on l then_near ≡ accepted_on l mid =
+        ap (accepted_on l) (orders.state_is mx my one p h o k few unit rest front link at)
+        ∙ obeys_accepted k body mid p.far (orders.mid_sound mx my one p h o k few unit rest front link at)
+        o.near_codes does.both _ does.obeys l in
+        let mid_same = mid_accepted l (o.both.far.apart l e) in
+        let enough = c.far l e in
+        omega (arith, same, mid_same, enough)
 
-  pub heard_counts : Counts then_near p.far
-  heard_counts = record { near = near_then; far = far_then }
+    pub heard_counts : Counts then_near p.far
+    heard_counts = record { near = near_then; far = far_then }

@@ -87,7 +87,7 @@ offer_keeps s f body sound None e =
     record {
       both = acts s (offered None s body).state f
           (offers_acts s f body fate (offered None s body).state refl refl
-            (λ link. fate_new s body link sound (place_of (stream_of body) s.routing))
+          (λ link. fate_new s body link sound (place_of (stream_of body) s.routing))
           (users_no_order body (users_body s.settings.profile s.rows body e)));
       settled = λ l. refl;
       acked = λ l g. refl;
@@ -134,7 +134,7 @@ in_keeps {emergencies = emergencies} k s f act all = go (slice_get s.links k) re
 
     go : (o : Option LinkState) → slice_get s.links k ≡ o
         → Keeps emergencies s (with_known o s
-          (λ link. cond (has_phase_up link.phase) (act link) (refused s NotUp))).state f
+        (λ link. cond (has_phase_up link.phase) (act link) (refused s NotUp))).state f
     go None e = keeps_still s s f refl refl
     go (Some link) e = at link e (has_phase_up link.phase) refl
 
@@ -210,8 +210,8 @@ declared_keeps home alternative s f sound can =
     record {
       both = acts s (declared home alternative s) f (offers_acts s f body (Waiting alternative) (declared home alternative s) refl refl
           (λ link. to_wait alternative (λ same. held_none s link sound
-                  (subst (λ (n : ℕ). is_up n s ≡ true) (eqb-true alternative link same)
-                (alternative_up home alternative s can))))
+          (subst (λ (n : ℕ). is_up n s ≡ true) (eqb-true alternative link same)
+          (alternative_up home alternative s can))))
           (cbd_plain s.settings home (code_for home alternative)));
       settled = λ l. refl;
       acked = λ l g. refl;
@@ -227,10 +227,10 @@ declares_keep {emergencies = emergencies} home alternative (suc n) s f sound up 
   where
     go : (b : Bool) → can_declare home alternative s ≡ b
         → ((t : State) → IsSound t → is_up home t ≡ true
-          → Keeps emergencies t (declared_from home (suc alternative) n t) f)
+        → Keeps emergencies t (declared_from home (suc alternative) n t) f)
         → Keeps emergencies s (declared_from home alternative (suc n) s) f
     go true e later = rw e (keeps_then s (declared home alternative s) _ f (declared_keeps home alternative s f sound e)
-          (later (declared home alternative s) (declares home alternative s up e sound) up))
+        (later (declared home alternative s) (declares home alternative s up e sound) up))
     go false e later = rw e (later s sound up)
 
 comes_keep : {emergencies : Bool} (k : ℕ) (s f : State) → IsSound s → is_up k s ≡ true → Keeps emergencies s (comes_back k s).state f

@@ -125,7 +125,7 @@ module _ (code : ℕ) (s f : State) (sound : IsSound s) where
 
   pub releases_aside : aside gone ≡ aside s ++ messages (parked (turned_rows (is_back code) (all_with (Waiting home)) (code_back code) s.rows unsent_home))
   releases_aside = ap messages (turned_parked (is_back code) (all_with (Waiting home)) (code_back code) s.rows
-        unsent_home) ∙ joined (parked s.rows)
+      unsent_home) ∙ joined (parked s.rows)
       (parked (turned_rows (is_back code) (all_with (Waiting home)) (code_back code) s.rows unsent_home))
 
   pub releases_acts : Acts s gone f

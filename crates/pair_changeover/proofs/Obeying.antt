@@ -54,7 +54,7 @@ module _ (fsn l : ℕ) (link : LinkState) (s f : State) (few : length (unack l s
   pub told_reached : reached_by fsn l link s.rows ≡ accepted_on l f - link.acked
   told_reached =
       let e = distance_is link.profile ((link.acked + fsn_before_first link.profile) % fsn_count link.profile)
-          link.acked (accepted_on l f) (length (unack l s.rows)) refl t.due t.within few in
+      link.acked (accepted_on l f) (length (unack l s.rows)) refl t.due t.within few in
       rw (t.last) (omega (arith, e))
 
   pub told_reasonable : is_reasonable fsn l link s.rows ≡ true
@@ -170,15 +170,15 @@ module _ (fsn l : ℕ) (link : LinkState) (s f : State) (sound : IsSound s) (at 
   settles_discards =
       ap (standing was_discarded) (rows_then fsn l link s f sound at r)
       ∙ moved_same (is_on l) was_discarded (all_with (fate_on (target s.links)))
-          (turned (is_unacked l) (Acked l) (reached_by fsn l link s.rows) s.rows)
-          (λ row. not_discarded (target s.links)) (λ fate e. on_not_discarded l fate e)
+      (turned (is_unacked l) (Acked l) (reached_by fsn l link s.rows) s.rows)
+      (λ row. not_discarded (target s.links)) (λ fate e. on_not_discarded l fate e)
       ∙ turned_same (is_unacked l) was_discarded (Acked l) refl (λ fate e. sent_not_discarded l fate e) (reached_by fsn l link s.rows) s.rows
 
   -- the target is what it was
   pub same_target : target settled_then.links ≡ target s.links
   same_target = ap target links_after
       ∙ ap target_of (map_set_same (λ (k : LinkState). has_phase_up k.phase) s.links l link link_after at.there
-        (ap has_phase_up (sym at.phase_is)))
+      (ap has_phase_up (sym at.phase_is)))
 
   settles_moved : (to : Option ℕ) → target s.links ≡ to
       → messages (queue_for to settled_then.rows) ≡ messages (queue_for to s.rows)
@@ -186,18 +186,18 @@ module _ (fsn l : ℕ) (link : LinkState) (s f : State) (sound : IsSound s) (at 
   settles_moved None e =
       let own = sound.links l link at.there in
       ap (λ (rows : List Row). messages (parked rows))
-          (rows_then fsn l link s f sound at r
-            ∙ ap (λ (to : Option ℕ). moved (is_on l) (all_with (fate_on to))
-            (turned (is_unacked l) (Acked l) (reached_by fsn l link s.rows) s.rows)) e)
+      (rows_then fsn l link s f sound at r
+      ∙ ap (λ (to : Option ℕ). moved (is_on l) (all_with (fate_on to))
+      (turned (is_unacked l) (Acked l) (reached_by fsn l link s.rows) s.rows)) e)
       ∙ aside_settled (reached_by fsn l link s.rows) l s.rows own.in_order own.held_last
   settles_moved (Some to) e =
       let own = sound.links l link at.there in
       ap (λ (rows : List Row). messages (wait to rows))
-          (rows_then fsn l link s f sound at r
-            ∙ ap (λ (to : Option ℕ). moved (is_on l) (all_with (fate_on to))
-            (turned (is_unacked l) (Acked l) (reached_by fsn l link s.rows) s.rows)) e)
+      (rows_then fsn l link s f sound at r
+      ∙ ap (λ (to : Option ℕ). moved (is_on l) (all_with (fate_on to))
+      (turned (is_unacked l) (Acked l) (reached_by fsn l link s.rows) s.rows)) e)
       ∙ wait_settled (reached_by fsn l link s.rows) l to s.rows
-          (apart l to (no_target fsn l link s at.there r.reasonable at.phase_is to e)) own.in_order own.held_last
+      (apart l to (no_target fsn l link s at.there r.reasonable at.phase_is to e)) own.in_order own.held_last
 
   -- what was pending on it stands behind what waited for the target
   pub settles_moves : messages (queue_for (target settled_then.links) settled_then.rows)
@@ -234,7 +234,7 @@ module _ (l : ℕ) (link : LinkState) (s f : State) (sound : IsSound s) (codes :
   pub coa_is : order_any (text s.settings.profile (Coa l (last_accepted link)) s.settings.sio s.settings.dpc s.settings.opc) ≡ Some (Coa l (last_accepted link))
   coa_is = coa_read s.settings l (last_accepted link) codes below
       (rw (← (sound.links l link at.there).profile)
-        (cycle link.profile (link.accepted + fsn_before_first link.profile)))
+      (cycle link.profile (link.accepted + fsn_before_first link.profile)))
 
   pub not_settled : (a b : Bool) → (a ≡ true → b ≡ false) → b ≡ true → a ≡ false
   not_settled false b w e = refl
@@ -277,27 +277,29 @@ module _ (l : ℕ) (link : LinkState) (s f : State) (sound : IsSound s) (codes :
   told_accepted = by_link l link (left_link false link) s left at.there refl (λ m old new. accepted_of new ≡ accepted_of old) refl (λ m old d. refl)
 
   answer_is : (q : List Message)
-      → q ++ record { number = given left;
-        body = text s.settings.profile (Coa l (last_accepted link)) s.settings.sio s.settings.dpc s.settings.opc } ∷ []
+      → q ++ record {
+        number = given left;
+        body = text s.settings.profile (Coa l (last_accepted link)) s.settings.sio s.settings.dpc s.settings.opc;
+      } ∷ []
       ≡ q ++ answer_on l (Some link) s
   answer_is q = rw (at.phase_is, same_number) refl
 
   told_target : (to : Option ℕ) → target left.links ≡ to → messages (queue_for to told.rows) ≡ messages (queue_for to left.rows) ++ answer_on l (Some link) s
   told_target None e =
       ap (λ (to : Option ℕ). messages
-            (parked (appended (given left) left.rows
-              (text s.settings.profile (Coa l (last_accepted link)) s.settings.sio s.settings.dpc s.settings.opc)
-          (fate_on to)))) e
+      (parked (appended (given left) left.rows
+      (text s.settings.profile (Coa l (last_accepted link)) s.settings.sio s.settings.dpc s.settings.opc)
+      (fate_on to)))) e
       ∙ aside_joins 0 0 (given left) left.rows (text s.settings.profile (Coa l (last_accepted link)) s.settings.sio s.settings.dpc s.settings.opc) Parked refl
       ∙ answer_is (messages (parked left.rows))
   told_target (Some to) e =
       ap (λ (o : Option ℕ). messages
-            (wait to (appended (given left) left.rows
-              (text s.settings.profile (Coa l (last_accepted link)) s.settings.sio s.settings.dpc s.settings.opc)
-          (fate_on o)))) e
+      (wait to (appended (given left) left.rows
+      (text s.settings.profile (Coa l (last_accepted link)) s.settings.sio s.settings.dpc s.settings.opc)
+      (fate_on o)))) e
       ∙ ap messages (appended_in (given left) left.rows
-            (text s.settings.profile (Coa l (last_accepted link)) s.settings.sio s.settings.dpc s.settings.opc)
-          (Waiting to) (is_waiting to) (itself to))
+      (text s.settings.profile (Coa l (last_accepted link)) s.settings.sio s.settings.dpc s.settings.opc)
+      (Waiting to) (is_waiting to) (itself to))
       ∙ joined (wait to left.rows) _
       ∙ answer_is (messages (wait to left.rows))
 
@@ -315,9 +317,9 @@ module _ (l : ℕ) (link : LinkState) (s f : State) (sound : IsSound s) (codes :
   pub told_pending : pending l told f ≡ pending l left f
   told_pending =
       queue_apart (accepted_on l f - acked_on l left) l (given left) left.rows
-          (text s.settings.profile (Coa l (last_accepted link)) s.settings.sio s.settings.dpc s.settings.opc)
-          (fate_on (target left.links)) (elsewhere (target left.links) refl (is_on l (fate_on (target left.links)))
-            refl)
+      (text s.settings.profile (Coa l (last_accepted link)) s.settings.sio s.settings.dpc s.settings.opc)
+      (fate_on (target left.links)) (elsewhere (target left.links) refl (is_on l (fate_on (target left.links)))
+      refl)
 
   pub told_discards : standing was_discarded told.rows ≡ standing was_discarded s.rows
   told_discards = appended_out (given left) left.rows
@@ -335,7 +337,7 @@ module _ (l code : ℕ) (s f : State) (sound : IsSound s) where
   new_back link (Some to) e = let up =
       target_up s.links to e in to_wait to
       (λ same. held_none s link sound
-        (subst (λ (n : ℕ). is_up n s ≡ true) (eqb-true to link same) (ap link_is_up up.1 ∙ up.2)))
+      (subst (λ (n : ℕ). is_up n s ≡ true) (eqb-true to link same) (ap link_is_up up.1 ∙ up.2)))
 
   pub acknowledges_acts : Acts s (queued (Cba l code) s) f
   acknowledges_acts = offers_acts s f body_back (fate_on (target s.links)) (queued (Cba l code) s) refl refl
@@ -357,14 +359,14 @@ module _ {emergencies : Bool} (k : ℕ) (body : List ℕ) (s f : State) (sound :
   obeys_both _ (settles fsn l link other at told_so heard over) = settles_both fsn l link s f sound at (is_reached fsn l link s f sound at told_so) o heard
   obeys_both _ (answers fsn l link other at told_so heard over) =
       settles_both fsn l (left_link false link) (told l link s f sound codes at) f
-          (told_sound l link s f sound codes at) (told_at l link s f sound codes at)
-          (told_reached_so l link s f sound codes at fsn told_so) (told_both l link s f sound codes at o)
-          (told_heard l link s f sound codes at heard)
+      (told_sound l link s f sound codes at) (told_at l link s f sound codes at)
+      (told_reached_so l link s f sound codes at fsn told_so) (told_both l link s f sound codes at o)
+      (told_heard l link s f sound codes at heard)
   obeys_both _ (settles_blind l link may other at heard over) = blind_both l link s f sound at o heard.far_down heard.none
   obeys_both _ (answers_blind l link may other at heard over) =
       blind_both l (left_link false link) (told l link s f sound codes at) f (told_sound l link s f sound codes at)
-          (told_at l link s f sound codes at) (told_both l link s f sound codes at o) heard.far_down
-          (told_heard l link s f sound codes at heard).none
+      (told_at l link s f sound codes at) (told_both l link s f sound codes at o) heard.far_down
+      (told_heard l link s f sound codes at heard).none
   obeys_both _ (acknowledges l code is) = acts s (queued (Cba l code) s) f (acknowledges_acts l code s f sound) o
   obeys_both _ (releases l code is) = acts s (released code s) f (releases_acts code s f sound) o
 
@@ -375,8 +377,8 @@ module _ {emergencies : Bool} (k : ℕ) (body : List ℕ) (s f : State) (sound :
   obeys_accepted _ (settles_blind l link may other at heard over) n = blind_accepted l link s f sound at n
   obeys_accepted _ (answers fsn l link other at told_so heard over) n =
       settles_accepted fsn l (left_link false link) (told l link s f sound codes at) f
-          (told_sound l link s f sound codes at) (told_at l link s f sound codes at)
-          (told_reached_so l link s f sound codes at fsn told_so) n
+      (told_sound l link s f sound codes at) (told_at l link s f sound codes at)
+      (told_reached_so l link s f sound codes at fsn told_so) n
       ∙ told_accepted l link s f sound codes at n
   obeys_accepted _ (answers_blind l link may other at heard over) n =
       blind_accepted l (left_link false link) (told l link s f sound codes at) f (told_sound l link s f sound codes at) (told_at l link s f sound codes at) n
@@ -405,7 +407,7 @@ still_less s f l link there =
 -- what a settled link counts as acknowledged was accepted, with emergencies or without
 module _ {emergencies : Bool} (k : ℕ) (body : List ℕ) (s f : State) (sound : IsSound s) (codes : AreCodes s.settings)
     (due : (n : ℕ) (link : LinkState) → (k == n) ≡ false → slice_get s.links n ≡ Some link
-      → has_phase_settled link.phase ≡ false → link.acked ≤ accepted_on n f) where
+    → has_phase_settled link.phase ≡ false → link.acked ≤ accepted_on n f) where
   pub obeys_less : ((n : ℕ) → is_settled n s ≡ true → acked_on n s ≤ accepted_on n f) → (t : State)
       → Obeys emergencies k body s f t → (n : ℕ) → is_settled n t ≡ true → acked_on n t ≤ accepted_on n f
   obeys_less less t (keeps _ rows links routing none) n e =
@@ -415,14 +417,14 @@ module _ {emergencies : Bool} (k : ℕ) (body : List ℕ) (s f : State) (sound :
       settles_less fsn l link s f sound at (is_reached fsn l link s f sound at told_so) told_so n (less n) e
   obeys_less less _ (answers fsn l link other at told_so heard over) n e =
       settles_less fsn l (left_link false link) (told l link s f sound codes at) f
-          (told_sound l link s f sound codes at) (told_at l link s f sound codes at)
-          (told_reached_so l link s f sound codes at fsn told_so) (told_still l link s f sound codes at fsn told_so) n
+      (told_sound l link s f sound codes at) (told_at l link s f sound codes at)
+      (told_reached_so l link s f sound codes at fsn told_so) (told_still l link s f sound codes at fsn told_so) n
       (still_less s f l link at.there n (less n)) e
   obeys_less less _ (settles_blind l link may other at heard over) n e =
       blind_less l link s f at.there (due l link other at.there (ap has_phase_settled at.phase_is)) n (less n) e
   obeys_less less _ (answers_blind l link may other at heard over) n e =
       blind_less l (left_link false link) (told l link s f sound codes at) f (told_at l link s f sound codes at).there
-          (due l link other at.there (ap has_phase_settled at.phase_is)) n (still_less s f l link at.there n (less n)) e
+      (due l link other at.there (ap has_phase_settled at.phase_is)) n (still_less s f l link at.there n (less n)) e
   obeys_less less _ (acknowledges l code is) n e = less n e
   obeys_less less _ (releases l code is) n e = less n e
 
@@ -437,11 +439,11 @@ module _ (k : ℕ) (body : List ℕ) (s f : State) (sound : IsSound s) (codes : 
       settles_equal fsn l link s f sound at (is_reached fsn l link s f sound at told_so) told_so n (equal n) e
   obeys_equal equal _ (answers fsn l link other at told_so heard over) n e =
       settles_equal fsn l (left_link false link) (told l link s f sound codes at) f
-          (told_sound l link s f sound codes at) (told_at l link s f sound codes at)
-          (told_reached_so l link s f sound codes at fsn told_so) (told_still l link s f sound codes at fsn told_so) n
+      (told_sound l link s f sound codes at) (told_at l link s f sound codes at)
+      (told_reached_so l link s f sound codes at fsn told_so) (told_still l link s f sound codes at fsn told_so) n
       (by_link l link (left_link false link) s (left_by false l link s) at.there refl
-            (λ m old new. (link_is_settled old ≡ true → acked_of old ≡ accepted_on m f) → link_is_settled new ≡ true
-            → acked_of new ≡ accepted_on m f) (λ before g. absurd cc) (λ m old d before g. before g) n (equal n)) e
+      (λ m old new. (link_is_settled old ≡ true → acked_of old ≡ accepted_on m f) → link_is_settled new ≡ true
+      → acked_of new ≡ accepted_on m f) (λ before g. absurd cc) (λ m old d before g. before g) n (equal n)) e
   obeys_equal equal _ (settles_blind l link may other at heard over) n e = absurd cc
   obeys_equal equal _ (answers_blind l link may other at heard over) n e = absurd cc
   obeys_equal equal _ (acknowledges l code is) n e = equal n e
@@ -452,8 +454,8 @@ module _ (k : ℕ) (body : List ℕ) (s f : State) (sound : IsSound s) (codes : 
   obeys_discards _ (settles fsn l link other at told_so heard over) = settles_discards fsn l link s f sound at (is_reached fsn l link s f sound at told_so)
   obeys_discards _ (answers fsn l link other at told_so heard over) =
       settles_discards fsn l (left_link false link) (told l link s f sound codes at) f
-          (told_sound l link s f sound codes at) (told_at l link s f sound codes at)
-          (told_reached_so l link s f sound codes at fsn told_so)
+      (told_sound l link s f sound codes at) (told_at l link s f sound codes at)
+      (told_reached_so l link s f sound codes at fsn told_so)
       ∙ told_discards l link s f sound codes at
   obeys_discards _ (settles_blind l link may other at heard over) = absurd cc
   obeys_discards _ (answers_blind l link may other at heard over) = absurd cc
@@ -466,7 +468,7 @@ module _ (k : ℕ) (body : List ℕ) (s f : State) (sound : IsSound s) (codes : 
   pub obeys_moves : (t : State) → Obeys false k body s f t → (n : ℕ) → MovedAt t n
   obeys_moves t (keeps _ rows links routing none) n e g =
       absurd (let no : false ≡ true = sym e ∙ ap (λ (ls : List LinkState). link_is_settled (slice_get ls n)) (sym links)
-        ∙ g in cc)
+      ∙ g in cc)
   obeys_moves _ (settles_blind l link may other at heard over) n e g = absurd cc
   obeys_moves _ (answers_blind l link may other at heard over) n e g = absurd cc
   obeys_moves _ (acknowledges l code is) n e g = absurd (let no : false ≡ true = sym e ∙ g in cc)
@@ -480,8 +482,8 @@ module _ (k : ℕ) (body : List ℕ) (s f : State) (sound : IsSound s) (codes : 
         other = other;
         moved = settles_moves fsn l link s f sound at (is_reached fsn l link s f sound at told_so)
             ∙ ap (λ (q : List Message). q ++ pending l s f)
-                (sym (append-nil (messages (queue_for (target t.links) s.rows)))
-                  ∙ ap (λ (a : List Message). messages (queue_for (target t.links) s.rows) ++ a) (sym none))
+            (sym (append-nil (messages (queue_for (target t.links) s.rows)))
+            ∙ ap (λ (a : List Message). messages (queue_for (target t.links) s.rows) ++ a) (sym none))
             ∙ ap (λ (u : State). messages (queue_for (target t.links) u.rows) ++ answer_on l (slice_get s.links l) s ++ pending l u f) (sym stays);
       })
   obeys_moves _ (answers fsn l link other at told_so heard over) n e g =
@@ -492,8 +494,8 @@ module _ (k : ℕ) (body : List ℕ) (s f : State) (sound : IsSound s) (codes : 
       let before = left_by false l link s in
       let t = settled (Upto fsn) l (left_link false link) there in
       let unsettled : is_settled n there ≡ false =
-          by_link l link (left_link false link) s before at.there refl
-          (λ m old new. link_is_settled old ≡ false → link_is_settled new ≡ false) (λ f. refl) (λ m old d f. f) n e in
+      by_link l link (left_link false link) s before at.there refl
+      (λ m old new. link_is_settled old ≡ false → link_is_settled new ≡ false) (λ f. refl) (λ m old d f. f) n e in
       let same : l ≡ n = settles_alone fsn l (left_link false link) there f there_sound there_at there_told n unsettled g in
       let to_is : target t.links ≡ target there.links = same_target fsn l (left_link false link) there f there_sound there_at there_told in
       let left_so : as_left l (slice_get s.links l) s ≡ before = ap (λ (o : Option LinkState). as_left l o s) at.there ∙ rw (at.phase_is) refl in
@@ -503,7 +505,7 @@ module _ (k : ℕ) (body : List ℕ) (s f : State) (sound : IsSound s) (codes : 
             ∙ ap (λ (to : Option ℕ). messages (queue_for to there.rows) ++ pending l there f) to_is
             ∙ ap (λ (q : List Message). q ++ pending l there f) (told_target l link s f sound codes at (target there.links) refl)
             ∙ ap (λ (p : List Message). messages (queue_for (target there.links) before.rows)
-                  ++ answer_on l (Some link) s ++ p) (told_pending l link s f sound codes at)
+            ++ answer_on l (Some link) s ++ p) (told_pending l link s f sound codes at)
             ∙ ap (λ (to : Option ℕ). messages (queue_for to before.rows) ++ answer_on l (Some link) s ++ pending l before f) (sym to_is)
             ∙ ap (λ (o : Option LinkState). messages (queue_for (target t.links) before.rows) ++ answer_on l o s ++ pending l before f) (sym at.there)
             ∙ ap (λ (u : State). messages (queue_for (target t.links) u.rows) ++ answer_on l (slice_get s.links l) s ++ pending l u f) (sym left_so);

@@ -40,7 +40,7 @@ first_pending count k rows rest row e =
     let sent = drop count (unack k rows) in
     rw (joined (sent ++ wait k rows) (held k rows), joined sent (wait k rows))
     (among_front (message_of row) (messages sent ++ messages (wait k rows)) (messages (held k rows))
-          (among_behind (message_of row) (messages sent) (messages (wait k rows)) here))
+    (among_behind (message_of row) (messages sent) (messages (wait k rows)) here))
 
 module _ {emergencies : Bool} (k : ℕ) (s f : State) (o : Both emergencies s f) where
   -- an order about a link that is up stands nowhere

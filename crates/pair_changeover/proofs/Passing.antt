@@ -38,7 +38,7 @@ module _ (k : ℕ) (link link' : LinkState) (s t f : State) (at : IsAt k link Up
   -- no queue of this end changes
   pub passing_queues : (l : ℕ) → pending l t f ≡ pending l s f
   passing_queues = all (λ n old new. queue (accepted_on n f - acked_of new) n t.rows
-        ≡ queue (accepted_on n f - acked_of old) n s.rows) own
+      ≡ queue (accepted_on n f - acked_of old) n s.rows) own
       (λ n old d. queue_untouched (accepted_on n f - acked_of old) n s.rows t.rows (others n d))
 
   pub passing : Acts s t f
@@ -47,7 +47,7 @@ module _ (k : ℕ) (link link' : LinkState) (s t f : State) (at : IsAt k link Up
     came_aside = λ m among. was_in (stands_aside (subst (λ (q : List Message). Among m q) (ap messages parked_same) among));
     up_less = λ l e. all (λ n old new. link_is_up new ≡ true → link_is_up old ≡ true) (λ g. was_up) (λ n old d g. g) l e;
     settled_more = λ l e. inl (all (λ n old new. link_is_settled new ≡ true → link_is_settled old ≡ true)
-          (λ g. absurd (let no : false ≡ true = ap has_phase_settled (sym up) ∙ g in cc)) (λ n old d g. g) l e);
+        (λ g. absurd (let no : false ≡ true = ap has_phase_settled (sym up) ∙ g in cc)) (λ n old d g. g) l e);
     accepted = λ l. accepted_at l;
     far_came = far_came;
   }
@@ -200,8 +200,8 @@ module _ (fsn n : ℕ) (link : LinkState) (s f : State) (sound : IsSound s) (at 
     came_other l (Some to) e d true g m among =
         subst (λ (i : ℕ). At i (queue (accepted_on i f - acked_on i s) i (there_then (Some to)))) (eqb-true to l g)
         (λ x a. joined_case to e x (among_joined x (pending to s f) (queue count n s.rows)
-                (subst (λ (q : List Message). Among x q) (joins_target (accepted_on to f - acked_on to s) to e) a))) m
-            among
+        (subst (λ (q : List Message). Among x q) (joins_target (accepted_on to f - acked_on to s) to e) a))) m
+        among
       where
         joined_case : (to : ℕ) → target s.links ≡ Some to → (x : Message) → Among x (pending to s f) ⊎ Among x (queue count n s.rows) → Came (view s f) to x
         joined_case to e x (inl a) = stayed a
@@ -215,19 +215,19 @@ module _ (fsn n : ℕ) (link : LinkState) (s f : State) (sound : IsSound s) (at 
       where
         go : (b : Bool) → (n == l) ≡ b → Came (view s f) l m
         go true e = absurd (subst (λ (q : List Message). Among m q) (gone (accepted_on n f - acked_on n after))
-              (subst (λ (i : ℕ). Among m (pending i after f)) (sym (eqb-true n l e)) among))
+            (subst (λ (i : ℕ). Among m (pending i after f)) (sym (eqb-true n l e)) among))
         go false e =
             let counts : acked_on l after ≡ acked_on l s = ap acked_of (other_then n link link_then s after at.there links_then l e) in
             let same : pending l after f ≡ queue (accepted_on l f - acked_on l s) l (there_then (target s.links)) =
             ap (λ (i : ℕ). queue (accepted_on l f - i) l after.rows) counts
-                ∙ ap (λ (rows : List Row). queue (accepted_on l f - acked_on l s) l rows) rows_then in
+            ∙ ap (λ (rows : List Row). queue (accepted_on l f - acked_on l s) l rows) rows_then in
             came_other l (target s.links) refl e (is_on l (fate_on (target s.links))) refl m (subst (λ (q : List Message). Among m q) same among)
 
     came_aside_at : (to : Option ℕ) → target s.links ≡ to → (m : Message) → Among m (messages (parked (there_then to))) → CameAside (view s f) m
     came_aside_at (Some to) e m among =
         was_in (stands_aside (subst (λ (q : List Message). Among m q)
-                (ap messages ((moved_to n to mid (no_own to e)).parked_same
-                ∙ (acknowledged n count s.rows).parked_same)) among))
+        (ap messages ((moved_to n to mid (no_own to e)).parked_same
+        ∙ (acknowledged n count s.rows).parked_same)) among))
     came_aside_at None e m among = go (among_joined m (aside s) (queue count n s.rows) (subst (λ (q : List Message). Among m q) joins_aside among))
       where
         go : Among m (aside s) ⊎ Among m (queue count n s.rows) → CameAside (view s f) m
@@ -242,7 +242,7 @@ module _ (fsn n : ℕ) (link : LinkState) (s f : State) (sound : IsSound s) (at 
       up_less = λ l up. all_links (λ i old new. link_is_up new ≡ true → link_is_up old ≡ true) (λ e. absurd cc) (λ i old d e. e) l up;
       settled_more = λ l e. all_links
           (λ i old new. link_is_settled new ≡ true → (link_is_settled old ≡ true)
-            ⊎ ((is_up i f ≡ false) × NoneAbout i (view f s))) (λ g. inr (far_down, none)) (λ i old d g. inl g) l e;
+          ⊎ ((is_up i f ≡ false) × NoneAbout i (view f s))) (λ g. inr (far_down, none)) (λ i old d g. inl g) l e;
       accepted = λ l. inl (all_links (λ i old new. last_of new ≡ last_of old) refl (λ i old d. refl) l);
       far_came = far_same s after f (all_links (λ i old new. accepted_of new ≡ accepted_of old) refl (λ i old d. refl));
     }
@@ -271,8 +271,8 @@ module _ {emergencies : Bool} (k : ℕ) (s t f g : State) (a : Rises k s t) (b :
   rises_passes = record {
     came = split (λ l. (m : Message) → Among m (pending l t g) → Came (view s f) l m)
         (λ m among. let stood : In m (view s f) =
-              stands_aside (subst (λ (q : List Message). Among m q) (a.own (accepted_on k g - acked_on k t)) among)
-            in moved stood (λ about. o.none_settled k b.settled_was m stood about))
+        stands_aside (subst (λ (q : List Message). Among m q) (a.own (accepted_on k g - acked_on k t)) among)
+        in moved stood (λ about. o.none_settled k b.settled_was m stood about))
         (λ l d m among. stayed (subst (λ (q : List Message). Among m q) (same_at_other l d) among));
     came_aside = λ m among. absurd (subst (λ (q : List Message). Among m q) (ap messages a.none_aside) among);
     none_up = split (λ l. is_up l t ≡ true → NoneAbout l (view s f)) (λ e. o.none_settled k b.settled_was)

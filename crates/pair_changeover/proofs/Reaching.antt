@@ -44,7 +44,7 @@ reaches l near far s f k link there unsettled other far_there =
     let as_many = length-map (near.sent l) (λ (m : Message). m.body) in
     let more = dropped link.acked (near.sent l) in
     let left : length (drop link.acked (near.sent l)) ≡ length (unack l s.rows) = ap length (sym g.unacked)
-        ∙ length-map (unack l s.rows) (λ (row : Row). record { number = row.number; body = row.body }) in
+    ∙ length-map (unack l s.rows) (λ (row : Row). record { number = row.number; body = row.body }) in
     record {
       due = omega (arith, counted, g.acked);
       within = omega (arith, counted, few, as_many, more, left);
@@ -121,7 +121,7 @@ two_there p number (r ∷ rows) i j x y few e f n m = go (p r) (r.number == numb
     go : (b c : Bool) → p r ≡ b → (r.number == number) ≡ c → (i j : ℕ) → i < j
         → slice_get (filter p (r ∷ rows)) i ≡ Some x → slice_get (filter p (r ∷ rows)) j ≡ Some y
         → ((a b : ℕ) → a < b → slice_get (filter p rows) a ≡ Some x → slice_get (filter p rows) b ≡ Some y
-          → 2 ≤ length (with_number number rows)) → 2 ≤ length (with_number number (r ∷ rows))
+        → 2 ≤ length (with_number number rows)) → 2 ≤ length (with_number number (r ∷ rows))
     go false true h k i j few e f later = let two = later i j few (rw h at e) (rw h at f) in rw k (omega (arith, two))
     go false false h k i j few e f later = rw k (later i j few (rw h at e) (rw h at f))
     go true true h k i zero few e f later = absurd (omega (arith, few))
@@ -238,10 +238,10 @@ module _ (given k count : ℕ) (rows : List Row) (numbered : IsNumbered given ro
       twice w same =
           let one = at_most_one given row.number rows numbered in
           let there_too : slice_get (unack k rows) (from + w.place) ≡ Some w.row =
-              subst (λ (n : ℕ). slice_get (unack n rows) (from + w.place) ≡ Some w.row) (sym (eqb-true k l same))
-              (sent_there w) in
+          subst (λ (n : ℕ). slice_get (unack n rows) (from + w.place) ≡ Some w.row) (sym (eqb-true k l same))
+          (sent_there w) in
           let two = two_there (λ (r : Row). is_unacked k r.fate) row.number rows count (from + w.place) row w.row
-              (let more = behind same in omega (arith, more)) there there_too refl (sym w.number_is ∙ e) in
+          (let more = behind same in omega (arith, more)) there there_too refl (sym w.number_is ∙ e) in
           absurd (omega (arith, one, two))
 
       go : RowOf m (drop from (unack l rows)) ⊎ (RowOf m (wait l rows) ⊎ RowOf m (held l rows)) → ⊥

@@ -56,8 +56,10 @@ from_a g later step shown told d = record { whole = d.whole; is = record { told 
 
 from_b : (g later : Stage) (step : Step) (shown : Shown) → OrdersTell g step shown → Did (seen B g) (seen B later) → Went g step shown later
 from_b g later step shown told d =
-    record { whole = whole_back (seen B later) d.whole;
-      is = record { told = told; diverted = λ end link before now. at end link before now } }
+    record {
+      whole = whole_back (seen B later) d.whole;
+      is = record { told = told; diverted = λ end link before now. at end link before now };
+    }
   where
     at : DivertsTheRest g later
     at A link before now = d.far link before now
@@ -83,7 +85,7 @@ module _ (ma mb : Method) (one : IsOneMethod ma mb) where
       where
         shown : (end : End) → IsSoundStep (Act end event)
             → Went' g (Act end event) (shows (Answered (answer_to (at_end g.world end) event))
-              (with_end g.world end (after (at_end g.world end) event)))
+            (with_end g.world end (after (at_end g.world end) event)))
         shown A sound = from_a g _ (Act A event) (Answered (answer_to g.world.a event)) tt
             (asks_did ma mb one (seen A g) h w A event (Answered (answer_to g.world.a event)) own sound)
         shown B sound = from_b g _ (Act B event) (Answered (answer_to g.world.b event)) tt
@@ -91,8 +93,8 @@ module _ (ma mb : Method) (one : IsOneMethod ma mb) where
 
         go : (known full : Bool) → Went' g (Act end event)
             (cond known (cond full exhausted
-                (shows (Answered (answer_to (at_end g.world end) event))
-              (with_end g.world end (after (at_end g.world end) event)))) impossible)
+            (shows (Answered (answer_to (at_end g.world end) event))
+            (with_end g.world end (after (at_end g.world end) event)))) impossible)
         go true true = tt
         go true false = shown end sound
         go false full = tt
@@ -106,25 +108,25 @@ module _ (ma mb : Method) (one : IsOneMethod ma mb) where
     abbrev EmitWent : (end : End) (k : ℕ) → Answer → Type 0
     EmitWent end k answer = Went g (Emit end k) (Answered answer)
         (passed g (Emit end k) (Answered answer)
-          (with_sent (with_end g.world end (after (at_end g.world end) (Next k))) end k (Answered answer)))
+        (with_sent (with_end g.world end (after (at_end g.world end) (Next k))) end k (Answered answer)))
 
     emit_a : (k : ℕ) → k < length g.world.a.state.links → (b : Bool) → is_up k g.world.a.state ≡ b → EmitWent A k (answer_to g.world.a (Next k))
     emit_a k few true e =
         let at = is_at_up k g.world.a.state e in
         subst (EmitWent A k) (sym (moving.answers_sent ma mb (seen A g) h k few at.0 at.1))
-            (from_a g _ (Emit A k) _ tt (sends_did ma mb one (seen A g) h w k _ few at.0 at.1))
+        (from_a g _ (Emit A k) _ tt (sends_did ma mb one (seen A g) h w k _ few at.0 at.1))
     emit_a k few false e =
         subst (EmitWent A k) (sym (ap (λ (o : SetOutcome). o.answer) (moving.next_refused k g.world.a.state e).1))
-            (from_a g _ (Emit A k) _ tt (sends_not ma mb one (seen A g) h w k _ e))
+        (from_a g _ (Emit A k) _ tt (sends_not ma mb one (seen A g) h w k _ e))
 
     emit_b : (k : ℕ) → k < length g.world.b.state.links → (b : Bool) → is_up k g.world.b.state ≡ b → EmitWent B k (answer_to g.world.b (Next k))
     emit_b k few true e =
         let at = is_at_up k g.world.b.state e in
         subst (EmitWent B k) (sym (moving.answers_sent mb ma (seen B g) h_b k few at.0 at.1))
-            (from_b g _ (Emit B k) _ tt (sends_did mb ma one_b (seen B g) h_b w_b k _ few at.0 at.1))
+        (from_b g _ (Emit B k) _ tt (sends_did mb ma one_b (seen B g) h_b w_b k _ few at.0 at.1))
     emit_b k few false e =
         subst (EmitWent B k) (sym (ap (λ (o : SetOutcome). o.answer) (moving.next_refused k g.world.b.state e).1))
-            (from_b g _ (Emit B k) _ tt (sends_not mb ma one_b (seen B g) h_b w_b k _ e))
+        (from_b g _ (Emit B k) _ tt (sends_not mb ma one_b (seen B g) h_b w_b k _ e))
 
     emit_at : (end : End) (k : ℕ) → k < length g.world.a.state.links → EmitWent end k (answer_to (at_end g.world end) (Next k))
     emit_at A k few = emit_a k few (is_up k g.world.a.state) refl
@@ -135,9 +137,9 @@ module _ (ma mb : Method) (one : IsOneMethod ma mb) where
       where
         go : (known : Bool) → has_link g.world k ≡ known → (full : Bool)
             → Went' g (Emit end k) (sends_on end k
-              (cond known (cond full exhausted
-                (shows (Answered (answer_to (at_end g.world end) (Next k)))
-              (with_end g.world end (after (at_end g.world end) (Next k))))) impossible))
+            (cond known (cond full exhausted
+            (shows (Answered (answer_to (at_end g.world end) (Next k)))
+            (with_end g.world end (after (at_end g.world end) (Next k))))) impossible))
         go true e true = tt
         go true e false = emit_at end k (ltb-true k (link_count g.world.a.state) e)
         go false e full = tt
@@ -152,7 +154,7 @@ module _ (ma mb : Method) (one : IsOneMethod ma mb) where
 
         go : (known within : Bool) → Went' g (Lose end k place)
             (cond known (cond within (shows Lost (with_line g.world end k (without place (line_to g.world end k))))
-                impossible) impossible)
+            impossible) impossible)
         go true true = lost end
         go true false = tt
         go false within = tt
@@ -167,40 +169,40 @@ module _ (ma mb : Method) (one : IsOneMethod ma mb) where
       heard_a : units_on k g.world.to_a ≡ unit ∷ rest → (link : LinkState) → IsAt k link Up g.world.a.state
           → ArriveWent A k (unit ∷ rest)
           (shows (Answered (answer_to g.world.a (Heard k unit)))
-            (with_end (with_line g.world A k rest) A (after g.world.a (Heard k unit))))
+          (with_end (with_line g.world A k rest) A (after g.world.a (Heard k unit))))
       heard_a front link at =
           subst (λ (answer : Answer). Went g (Arrive A k) (Answered answer)
-                (with_past A (past_arrived k (unit ∷ rest) (g.b.sent k) (Answered answer) g.a)
-                (with_end (with_line g.world A k rest) A (after g.world.a (Heard k unit))) g))
+          (with_past A (past_arrived k (unit ∷ rest) (g.b.sent k) (Answered answer) g.a)
+          (with_end (with_line g.world A k rest) A (after g.world.a (Heard k unit))) g))
           (sym (moving.answers_heard ma mb one (seen A g) h k few unit rest front link at))
           (from_a g _ (Arrive A k) _
           (subst (λ (line : List SignalUnit). FrontTells line
-                  (moving.report ma mb one (seen A g) h k few unit rest front link at).took g.world.a.state g.b)
-              (sym front) (hears_tells ma mb one (seen A g) h w k few unit rest front link at))
+          (moving.report ma mb one (seen A g) h k few unit rest front link at).took g.world.a.state g.b)
+          (sym front) (hears_tells ma mb one (seen A g) h w k few unit rest front link at))
           (hears_did ma mb one (seen A g) h w k few unit rest front link at))
 
       heard_b : units_on k g.world.to_b ≡ unit ∷ rest → (link : LinkState) → IsAt k link Up g.world.b.state
           → ArriveWent B k (unit ∷ rest)
           (shows (Answered (answer_to g.world.b (Heard k unit)))
-            (with_end (with_line g.world B k rest) B (after g.world.b (Heard k unit))))
+          (with_end (with_line g.world B k rest) B (after g.world.b (Heard k unit))))
       heard_b front link at =
           let few_b : k < length g.world.b.state.links = omega (arith, few, h.far_links) in
           subst (λ (answer : Answer). Went g (Arrive B k) (Answered answer)
-                (with_past B (past_arrived k (unit ∷ rest) (g.a.sent k) (Answered answer) g.b)
-                (with_end (with_line g.world B k rest) B (after g.world.b (Heard k unit))) g))
+          (with_past B (past_arrived k (unit ∷ rest) (g.a.sent k) (Answered answer) g.b)
+          (with_end (with_line g.world B k rest) B (after g.world.b (Heard k unit))) g))
           (sym (moving.answers_heard mb ma one_b (seen B g) h_b k few_b unit rest front link at))
           (from_b g _ (Arrive B k) _
           (subst (λ (line : List SignalUnit). FrontTells line
-                  (moving.report mb ma one_b (seen B g) h_b k few_b unit rest front link at).took g.world.b.state g.a)
-              (sym front) (hears_tells mb ma one_b (seen B g) h_b w_b k few_b unit rest front link at))
+          (moving.report mb ma one_b (seen B g) h_b k few_b unit rest front link at).took g.world.b.state g.a)
+          (sym front) (hears_tells mb ma one_b (seen B g) h_b w_b k few_b unit rest front link at))
           (hears_did mb ma one_b (seen B g) h_b w_b k few_b unit rest front link at))
 
       reach_a : units_on k g.world.to_a ≡ unit ∷ rest → (rising : Bool) → is_up k g.world.a.state ≡ rising → (known full : Bool)
           → ArriveWent A k (unit ∷ rest)
-              (cond rising (cond known (cond full exhausted
-                    (shows (Answered (answer_to g.world.a (Heard k unit)))
-                (with_end (with_line g.world A k rest) A (after g.world.a (Heard k unit))))) impossible)
-              (shows Lost (with_line g.world A k rest)))
+          (cond rising (cond known (cond full exhausted
+          (shows (Answered (answer_to g.world.a (Heard k unit)))
+          (with_end (with_line g.world A k rest) A (after g.world.a (Heard k unit))))) impossible)
+          (shows Lost (with_line g.world A k rest)))
       reach_a front true e true true = tt
       reach_a front true e true false = let at = is_at_up k g.world.a.state e in heard_a front at.0 at.1
       reach_a front true e false full = tt
@@ -208,10 +210,10 @@ module _ (ma mb : Method) (one : IsOneMethod ma mb) where
 
       reach_b : units_on k g.world.to_b ≡ unit ∷ rest → (rising : Bool) → is_up k g.world.b.state ≡ rising → (known full : Bool)
           → ArriveWent B k (unit ∷ rest)
-              (cond rising (cond known (cond full exhausted
-                    (shows (Answered (answer_to g.world.b (Heard k unit)))
-                (with_end (with_line g.world B k rest) B (after g.world.b (Heard k unit))))) impossible)
-              (shows Lost (with_line g.world B k rest)))
+          (cond rising (cond known (cond full exhausted
+          (shows (Answered (answer_to g.world.b (Heard k unit)))
+          (with_end (with_line g.world B k rest) B (after g.world.b (Heard k unit))))) impossible)
+          (shows Lost (with_line g.world B k rest)))
       reach_b front true e true true = tt
       reach_b front true e true false = let at = is_at_up k g.world.b.state e in heard_b front at.0 at.1
       reach_b front true e false full = tt
@@ -286,8 +288,8 @@ module _ (ma mb : Method) (one : IsOneMethod ma mb) where
   along g h w [] sound = record { lost_nothing = lost_nothing g h w; diverted = tt }
   along g h w (step ∷ steps) sound =
       let rest = onward g step steps (λ later holds whole. along later holds whole steps sound.1)
-          (carried_out g.world step) (step_goes ma mb one g h step (is_honest step sound.0))
-          (step_went g h w step sound.0) in
+      (carried_out g.world step) (step_goes ma mb one g h step (is_honest step sound.0))
+      (step_went g h w step sound.0) in
       record { lost_nothing = (lost_nothing g h w, rest.0); diverted = rest.1 }
 
 -- AT FIRST

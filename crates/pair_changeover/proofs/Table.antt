@@ -57,15 +57,22 @@ module _ (count link number : ℕ) (rows : List Row) (body : List ℕ) (fate : F
       → held link rows ≡ [] → queue count link (appended number rows body fate) ≡ queue count link rows
       ++ new_message number body ∷ []
   queue_waits w u h none =
-      rw (appended_out number rows body fate (is_unacked link) u, appended_in number rows body fate (is_waiting link) w,
-            appended_out number rows body fate (is_held link) h, none)
+      rw (
+        appended_out number rows body fate (is_unacked link) u,
+        appended_in number rows body fate (is_waiting link) w,
+        appended_out number rows body fate (is_held link) h,
+        none,
+      )
       (joins_waiting (drop count (unack link rows)) (wait link rows) (new_row number body fate ∷ []))
 
   pub queue_holds : is_waiting link fate ≡ false → is_unacked link fate ≡ false → is_held link fate ≡ true
       → queue count link (appended number rows body fate) ≡ queue count link rows ++ new_message number body ∷ []
   queue_holds w u h =
-      rw (appended_out number rows body fate (is_unacked link) u,
-            appended_out number rows body fate (is_waiting link) w, appended_in number rows body fate (is_held link) h)
+      rw (
+        appended_out number rows body fate (is_unacked link) u,
+        appended_out number rows body fate (is_waiting link) w,
+        appended_in number rows body fate (is_held link) h,
+      )
       (joins_held (drop count (unack link rows)) (wait link rows) (held link rows) (new_row number body fate ∷ []))
 
   pub queue_apart : is_on link fate ≡ false → queue count link (appended number rows body fate) ≡ queue count link rows
@@ -88,13 +95,13 @@ sends_on count sent waiting kept fate few =
     ap (λ (xs : List Row). messages (xs ++ drop 1 waiting)) (drop-append-le count sent more few)
     ∙ joined (drop count sent ++ more) (drop 1 waiting)
     ∙ ap (λ (ms : List Message). ms ++ messages (drop 1 waiting))
-        (joined (drop count sent) more
-          ∙ ap (λ (ms : List Message). messages (drop count sent) ++ ms) (same_messages fate (take 1 waiting)))
+    (joined (drop count sent) more
+    ∙ ap (λ (ms : List Message). messages (drop count sent) ++ ms) (same_messages fate (take 1 waiting)))
     ∙ append_assoc (messages (drop count sent)) (messages (take 1 waiting)) (messages (drop 1 waiting))
     ∙ ap (λ (ms : List Message). messages (drop count sent) ++ ms) (sym (joined (take 1 waiting) (drop 1 waiting)) ∙ ap messages (take-append-drop 1 waiting))
     ∙ sym (joined (drop count sent) waiting) in
     joined (drop count (sent ++ more) ++ drop 1 waiting) kept ∙ ap (λ (ms : List Message). ms ++ messages kept) left
-        ∙ sym (joined (drop count sent ++ waiting) kept)
+    ∙ sym (joined (drop count sent ++ waiting) kept)
 
 pub queue_sent : (count link : ℕ) (rows : List Row) → IsInOrder link rows → count ≤ length (unack link rows)
     → queue count link (turned (is_waiting link) (Unacked link) 1 rows) ≡ queue count link rows
@@ -128,9 +135,9 @@ queue_settled count to_count link to rows other order last none =
     let u = a.others to other in
     rw (m.unack_same, m.wait_is, m.held_same, u.unack_same, u.wait_same, u.held_same, none, a.on_is order last)
     (joins_waiting (drop to_count (unack to rows)) (wait to rows)
-          (map (with_fate (Waiting to)) (drop count (unack link rows) ++ wait link rows ++ held link rows))
+    (map (with_fate (Waiting to)) (drop count (unack link rows) ++ wait link rows ++ held link rows))
     ∙ ap (λ (ms : List Message). messages (drop to_count (unack to rows) ++ wait to rows ++ []) ++ ms)
-        (same_messages (Waiting to) (drop count (unack link rows) ++ wait link rows ++ held link rows)))
+    (same_messages (Waiting to) (drop count (unack link rows) ++ wait link rows ++ held link rows)))
 
 pub aside_settled : (count link : ℕ) (rows : List Row) → IsInOrder link rows → IsHeldLast link rows
     → messages (parked (moved (is_on link) (all_with Parked) (turned (is_unacked link) (Acked link) count rows)))

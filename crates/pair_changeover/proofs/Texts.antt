@@ -43,7 +43,7 @@ pub coo_read : (settings : Settings) (link fsn : ℕ) → AreCodes settings → 
 coo_read settings link fsn codes few small =
     any_of settings.profile (text settings.profile (Coo link fsn) settings.sio settings.dpc settings.opc) (Coo link fsn)
     (coo_in settings.profile settings.sio settings.dpc settings.opc link fsn codes.management codes.dpc codes.opc few
-      small)
+    small)
 
 coa_in : (p : Profile) (sio dpc opc link fsn : ℕ) → sio % 16 ≡ 0 → dpc < 16384 → opc < 16384 → link < 16
     → fsn < fsn_count p → order_of p (text p (Coa link fsn) sio dpc opc) ≡ Some (Coa link fsn)
@@ -55,7 +55,7 @@ pub coa_read : (settings : Settings) (link fsn : ℕ) → AreCodes settings → 
 coa_read settings link fsn codes few small =
     any_of settings.profile (text settings.profile (Coa link fsn) settings.sio settings.dpc settings.opc) (Coa link fsn)
     (coa_in settings.profile settings.sio settings.dpc settings.opc link fsn codes.management codes.dpc codes.opc few
-      small)
+    small)
 
 eco_in : (p : Profile) (sio dpc opc link : ℕ) → sio % 16 ≡ 0 → dpc < 16384 → opc < 16384 → link < 16
     → order_of p (text p (Eco link) sio dpc opc) ≡ Some (Eco link)

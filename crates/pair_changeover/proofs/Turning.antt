@@ -44,7 +44,7 @@ module _ (test : Fate → Bool) (fate : Row → Fate) (back : (f : Fate) → tes
       kept : (Among m (messages (standing other (map (fated fate) (standing test rows)))) → order_any m.body ≡ None)
           → test row.fate ≡ true → (c : Bool)
           → Among m (messages (cond c (fated fate row ∷ standing other (map (fated fate) (standing test rows)))
-              (standing other (map (fated fate) (standing test rows))))) → order_any m.body ≡ None
+          (standing other (map (fated fate) (standing test rows))))) → order_any m.body ≡ None
       kept rest e true (inl same) = ap (λ (x : Message). order_any x.body) same ∙ plain_row routing row row.fate e b.0
       kept rest e true (inr a) = rest a
       kept rest e false a = rest a
@@ -52,7 +52,7 @@ module _ (test : Fate → Bool) (fate : Row → Fate) (back : (f : Fate) → tes
       go : (Among m (messages (standing other (map (fated fate) (standing test rows)))) → order_any m.body ≡ None)
           → (c : Bool) → test row.fate ≡ c
           → Among m (messages (standing other
-              (map (fated fate) (cond c (row ∷ standing test rows) (standing test rows))))) → order_any m.body ≡ None
+          (map (fated fate) (cond c (row ∷ standing test rows) (standing test rows))))) → order_any m.body ≡ None
       go rest true e a = kept rest e (other (fate row)) a
       go rest false e a = rest a
 
@@ -75,7 +75,7 @@ module _ (test : Fate → Bool) (fate : Row → Fate) (back : (f : Fate) → tes
     turned_queue count l (inl p) =
         let none : held l turned_rows ≡ [] = fated_none (is_held l) fate p.1 (standing test rows) in
         let same : held l (moved test fate rows) ≡ held l rows =
-            moved_same test (is_held l) fate rows p.1 (λ f e. not_on_held l f (back_not_on l f (back f e))) in
+        moved_same test (is_held l) fate rows p.1 (λ f e. not_on_held l f (back_not_on l f (back f e))) in
         let more = moved_more test (is_waiting l) fate rows (λ f e. not_on_waiting l f (back_not_on l f (back f e))) in
         rw (unack_same l, more, same, p.0, none)
         (joins_waiting (drop count (unack l rows)) (wait l rows) (wait l turned_rows)
@@ -83,7 +83,7 @@ module _ (test : Fate → Bool) (fate : Row → Fate) (back : (f : Fate) → tes
     turned_queue count l (inr w) =
         let none : wait l turned_rows ≡ [] = fated_none (is_waiting l) fate w (standing test rows) in
         let same : wait l (moved test fate rows) ≡ wait l rows =
-            moved_same test (is_waiting l) fate rows w (λ f e. not_on_waiting l f (back_not_on l f (back f e))) in
+        moved_same test (is_waiting l) fate rows w (λ f e. not_on_waiting l f (back_not_on l f (back f e))) in
         let more = moved_more test (is_held l) fate rows (λ f e. not_on_held l f (back_not_on l f (back f e))) in
         rw (unack_same l, same, more, none) (joins_held (drop count (unack l rows)) (wait l rows) (held l rows) (held l turned_rows))
 
@@ -93,7 +93,7 @@ module _ (test : Fate → Bool) (fate : Row → Fate) (back : (f : Fate) → tes
     pub gained_users : (routing : Routing) → AreBack routing rows → (l : ℕ) (m : Message) → Among m (gained l) → order_any m.body ≡ None
     gained_users routing b l m among =
         go (among_joined m (messages (wait l turned_rows)) (messages (held l turned_rows))
-          (subst (Among m) (joined (wait l turned_rows) (held l turned_rows)) among))
+        (subst (Among m) (joined (wait l turned_rows) (held l turned_rows)) among))
       where
         go : Among m (messages (wait l turned_rows)) ⊎ Among m (messages (held l turned_rows)) → order_any m.body ≡ None
         go (inl a) = turned_users routing (is_waiting l) rows b m a
@@ -126,7 +126,7 @@ module _ (test : Fate → Bool) (fate : Row → Fate) (s t f : State)
     came = λ l m among. came_case l m (among_joined m (pending l s f) (gained test fate back s.rows unsent l) (subst (Among m) (turned_pending l) among));
     came_aside = λ m among. aside_case m
         (among_joined m (aside s) (messages (parked (turned_rows test fate back s.rows unsent)))
-          (subst (Among m) turned_aside among));
+        (subst (Among m) turned_aside among));
     up_less = up;
     settled_more = λ l e. inl (settled l e);
     accepted = λ l. inl (last l);

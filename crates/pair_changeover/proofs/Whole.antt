@@ -71,10 +71,18 @@ pub stays : (p q : Two) → Whole p → q.near ≡ p.near → q.far ≡ p.far
 stays p q w near far near_sent far_sent = record {
   whole = record {
     both = rw (near, far) (w.both);
-    near = rw (near, far) (record { equal = w.near.equal; acked = λ l. rw (near_sent l) (w.near.acked l);
-            none_discarded = w.near.none_discarded; codes = w.near.codes });
-    far = rw (near, far) (record { equal = w.far.equal; acked = λ l. rw (far_sent l) (w.far.acked l);
-            none_discarded = w.far.none_discarded; codes = w.far.codes });
+    near = rw (near, far) (record {
+      equal = w.near.equal;
+      acked = λ l. rw (near_sent l) (w.near.acked l);
+      none_discarded = w.near.none_discarded;
+      codes = w.near.codes;
+    });
+    far = rw (near, far) (record {
+      equal = w.far.equal;
+      acked = λ l. rw (far_sent l) (w.far.acked l);
+      none_discarded = w.far.none_discarded;
+      codes = w.far.codes;
+    });
   };
   near = none_settles p.near_past p.far_past p.near q.near (λ l. ap (is_settled l) near);
   far = none_settles p.far_past p.near_past p.far q.far (λ l. ap (is_settled l) far);
@@ -148,7 +156,7 @@ module _ (mx my : Method) (one : IsOneMethod mx my) (p : Two) (h : HoldsOf mx my
     pub sends_did : k < length p.near.links → (link : LinkState) → IsAt k link Up p.near → Did p sent_then
     sends_did few link at = keeps_did p w (Next k) (past_sent k p.near (step p.near (Next k)).state p.near_past) out p.back
         (subst (λ (o : Outcome). Keeps false p.near o.state p.far) (sym (sends_next k p.near p.far w.both link at))
-              (next_keeps k link p.near p.far h.near_sound at (let r = near_reaches in omega (arith, r.due, r.within))))
+        (next_keeps k link p.near p.far h.near_sound at (let r = near_reaches in omega (arith, r.due, r.within))))
         (λ l. emits_first l k p.near p.near_past h.near_sound (w.near.acked l))
       where
         far_at : (other : LinkState) × (slice_get p.far.links k ≡ Some other)
@@ -175,7 +183,7 @@ module _ (mx my : Method) (one : IsOneMethod mx my) (p : Two) (h : HoldsOf mx my
       go link state there true e =
           let other = present p.far.links link (omega (arith, within p.near.links link state there, h.far_links)) in
           let counted : accepted_on link p.far ≡ length (p.far_past.taken link) = ap accepted_of other.1
-              ∙ (kept_on mx my one p h link).accepted other.0 other.1 in
+          ∙ (kept_on mx my one p h link).accepted other.0 other.1 in
           let equal = w.near.equal link (ap link_is_settled there ∙ e) in
           let is : acked_on link p.near ≡ state.acked = ap acked_of there in
           omega (arith, counted, equal, is)

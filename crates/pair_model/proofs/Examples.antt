@@ -18,9 +18,21 @@ use Rattle.pair_model.specs.Run.{Stage, begun, passed, Message}
 
 -- an end with so many links
 end_with : (links : ℕ) → 1 ≤ links → links ≤ 16 → SetConfig
-end_with links some few = record { set = 0; links = links; opc = 2; dpc = 1; sio = 128; method = Basic;
-      profile = Narrow; has_links = some; links_in_range = few; opc_in_range = omega arith; dpc_in_range = omega arith;
-    management = refl; limits_in_range = refl }
+end_with links some few = record {
+  set = 0;
+  links = links;
+  opc = 2;
+  dpc = 1;
+  sio = 128;
+  method = Basic;
+  profile = Narrow;
+  has_links = some;
+  links_in_range = few;
+  opc_in_range = omega arith;
+  dpc_in_range = omega arith;
+  management = refl;
+  limits_in_range = refl;
+}
 
 one_link : Stage
 one_link = begun (end_with 1 (omega arith) (omega arith)) (end_with 1 (omega arith) (omega arith))

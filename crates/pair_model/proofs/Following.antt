@@ -107,7 +107,7 @@ follows_settled l s t link there is = λ after at unsettled.
 follows_set : (l m : ℕ) (link : LinkState) (s t : State) → (m == l) ≡ false → t.links ≡ slice_set s.links m link → Untouched l s.rows t.rows → Follows l s t
 follows_set l m link s t d links u =
     follows_untouched l s t (ap (λ (ls : List LinkState). slice_get ls l) links
-      ∙ get_set_other s.links m l link (λ same. false_true (m == l) d (rw same (itself l)))) u
+    ∙ get_set_other s.links m l link (λ same. false_true (m == l) d (rw same (itself l)))) u
 
 -- a new message that wasn't sent
 follows_new : (l : ℕ) (body : List ℕ) (fate : Fate) (s t : State) → is_unacked l fate ≡ false
@@ -151,9 +151,9 @@ out_follows l blind m link s at = go (m == l) refl
     go true d = λ after there unsettled.
         let same : m ≡ l = eqb-true m l d in
         let is : after ≡ left_link blind link =
-            same_at (slice_set s.links m (left_link blind link)) l (left_link blind link) after
-            (subst (λ (k : ℕ). slice_get (slice_set s.links m (left_link blind link)) k ≡ Some (left_link blind link))
-              same (get_set_same s.links m (left_link blind link) (within s.links m link at.there))) there in
+        same_at (slice_set s.links m (left_link blind link)) l (left_link blind link) after
+        (subst (λ (k : ℕ). slice_get (slice_set s.links m (left_link blind link)) k ≡ Some (left_link blind link))
+        same (get_set_same s.links m (left_link blind link) (within s.links m link at.there))) there in
         record {
           link = link;
           there = subst (λ (k : ℕ). slice_get s.links k ≡ Some link) same at.there;
@@ -180,8 +180,8 @@ follows_off told l m link s d at = go (target s.links) refl
     apart_target to e =
         let up = target_up s.links to e in
         apart m to (λ same. let it : up.0 ≡ link =
-              same_at s.links m link up.0 at.there (ap (slice_get s.links) same ∙ up.1) in let no : true ≡ false =
-            sym up.2 ∙ ap (λ (k : LinkState). has_phase_up k.phase) it ∙ ap has_phase_up at.phase_is in cc)
+        same_at s.links m link up.0 at.there (ap (slice_get s.links) same ∙ up.1) in let no : true ≡ false =
+        sym up.2 ∙ ap (λ (k : LinkState). has_phase_up k.phase) it ∙ ap has_phase_up at.phase_is in cc)
 
     joins : (to : ℕ) → target s.links ≡ Some to → (b : Bool) → (to == l) ≡ b → Follows l s (moved_over told m link s)
     joins to e false f = follows_set l m (settled_link told link) s (moved_over told m link s) d refl
@@ -190,8 +190,8 @@ follows_off told l m link s d at = go (target s.links) refl
         let same : l ≡ to = sym (eqb-true to l f) in
         let moved = moved_to m to s.rows (apart_target to e) in
         follows_by l s (moved_over told m link s) (map (with_fate (Waiting to)) (on m s.rows))
-            (get_set_other s.links m l (settled_link told link) (λ eq. false_true (m == l) d (rw eq (itself l))))
-            (rw (e, same) moved.unack_same) (rw (e, same) moved.wait_is)
+        (get_set_other s.links m l (settled_link told link) (λ eq. false_true (m == l) d (rw eq (itself l))))
+        (rw (e, same) moved.unack_same) (rw (e, same) moved.wait_is)
 
     go : (to : Option ℕ) → target s.links ≡ to → Follows l s (moved_over told m link s)
     go None e = follows_set l m (settled_link told link) s (moved_over told m link s) d refl (rw e ((left_by_rows m Parked s.rows refl refl).others l d refl))
@@ -232,8 +232,8 @@ settles reached l link s t few =
 marks : (l : ℕ) (link : LinkState) (s : State) → slice_get s.links l ≡ Some link → Follows l s (with_link l (answered_link link) s)
 marks l link s there = λ after found unsettled.
     let is : after ≡ answered_link link =
-        same_at (slice_set s.links l (answered_link link)) l (answered_link link) after
-        (get_set_same s.links l (answered_link link) (within s.links l link there)) found in
+    same_at (slice_set s.links l (answered_link link)) l (answered_link link) after
+    (get_set_same s.links l (answered_link link) (within s.links l link there)) found in
     record {
       link = link;
       there = there;
@@ -439,8 +439,8 @@ controls_follow l m unit s link d =
     let part = part_of link.control (window_of m link s.rows) (header_in unit) (is_msu unit) in
     let mid = after_control part (header_in unit) unit m s link in
     follows_then l s mid (controls unit m s link).state
-        (follows_set l m _ s mid d refl ((acknowledged m part.acked s.rows).others l d))
-        (takes_follows l (brought part.accept unit) mid)
+    (follows_set l m _ s mid d refl ((acknowledged m part.acked s.rows).others l d))
+    (takes_follows l (brought part.accept unit) mid)
 
 heard_goes : (l m : ℕ) (unit : SignalUnit) (s : State) (link : LinkState) → (m == l) ≡ false → Follows l s (heard unit m s link).state
 heard_goes l m unit s link d = go (is_heard s.settings.profile unit) refl

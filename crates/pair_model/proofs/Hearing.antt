@@ -127,7 +127,7 @@ body_took body false s = refl
 
 pub took_many : (control : Control) (w : WindowState) (unit : SignalUnit) (s : State)
     → length (taken_by (takes (brought (part_of control w (header_in unit) (is_msu unit)).accept unit) s).took
-      (body_in unit)) ≡ one_if (part_of control w (header_in unit) (is_msu unit)).accept
+    (body_in unit)) ≡ one_if (part_of control w (header_in unit) (is_msu unit)).accept
 took_many control w (Fisu head) s = rw (only_messages control w head) refl
 took_many control w (Lssu head status) s = rw (only_messages control w head) refl
 took_many control w (Msu head body) s = body_took body.items (part_of control w head true).accept s
@@ -172,188 +172,191 @@ same_msu rows c (Msu head body) is = rw (is.2) refl
 module _ (l : ℕ) (mx my : Method) (one : IsOneMethod mx my) (x y : Side) (out rest : List SignalUnit)
     (unit : SignalUnit) (link : LinkState) (sound : IsSound x.state) (at : IsAt l link Up x.state)
     (same : y.state.settings.profile ≡ x.state.settings.profile) (fit : AreFit y.state.settings.profile y.state.rows)
-    where
-  abbrev rows : List Row
-  rows = x.state.rows
+  where
+    abbrev rows : List Row
+    rows = x.state.rows
 
-  abbrev window : WindowState
-  window = window_of l link rows
+    abbrev window : WindowState
+    window = window_of l link rows
 
-  abbrev head : Header
-  head = header_in unit
+    abbrev head : Header
+    head = header_in unit
 
-  abbrev pub part : HeardPart
-  part = part_of link.control window head (is_msu unit)
+    abbrev pub part : HeardPart
+    part = part_of link.control window head (is_msu unit)
 
-  abbrev pub mid : State
-  mid = after_control part head unit l x.state link
+    abbrev pub mid : State
+    mid = after_control part head unit l x.state link
 
-  abbrev pub taken : Obeyed
-  taken = takes (brought part.accept unit) mid
+    abbrev pub taken : Obeyed
+    taken = takes (brought part.accept unit) mid
 
-  abbrev pub mid_link : LinkState
-  mid_link = record link { acked = link.acked + part.acked; accepted = link.accepted + one_if part.accept;
-        control = control_heard link.control window head (is_msu unit) }
-
-  mid_there : slice_get mid.links l ≡ Some mid_link
-  mid_there = get_set_same x.state.links l mid_link (within x.state.links l link at.there)
-
-  window_is : is_heard x.state.settings.profile unit ≡ true → window_of l mid_link mid.rows ≡ window_heard link.control window head
-  window_is fits =
-      let m = (window_moves l link x.state sound at.there at.phase_is).heard unit fits in
-      let same : m.0 ≡ mid_link = same_at mid.links l mid_link m.0 mid_there m.1 in
-      subst (λ (k : LinkState). window_of l k mid.rows ≡ window_heard link.control window head) same m.3
-
-  mid_same : (number : ℕ) → body_at number mid.rows ≡ body_at number rows
-  mid_same number = (acknowledged l part.acked rows).kept.bodies (given x.state) sound.numbered number
-
-  -- the law's world then
-  abbrev heard_at : Option ℕ → List Carried → LinkWorld Control → LinkWorld Control
-  heard_at message behind w = record w {
-    near = record w.near {
-      control = control_heard link.control window head (is_msu unit);
-      window = window_heard link.control window head;
-      took = w.near.took ++ (if part.accept then option_to_list message else []);
+    abbrev pub mid_link : LinkState
+    mid_link = record link {
       acked = link.acked + part.acked;
-    };
-    back = behind;
-  }
-
-  -- with the unit that comes
-  module _ (w : LinkWorld Control) (message : Option ℕ) (behind : List Carried)
-      (comes : w.back ≡ record { head = head; message = message } ∷ behind) (msu : is_some message ≡ is_msu unit) where
-    arrival : Arrives rules (record { head = head; message = message }) (flip (standing_at l link rows w)) (flip (heard_at message behind w))
-    arrival = record {
-      control = rw msu refl;
-      window = refl;
-      sent = refl;
-      took = rw msu refl;
-      acked = rw msu refl;
-      near = refl;
-      out = comes;
-      back = refl;
+      accepted = link.accepted + one_if part.accept;
+      control = control_heard link.control window head (is_msu unit);
     }
 
-    hears_run : (p : Profile) → Run rules p (start_of mx) (start_of my) (standing_at l link rows w)
-        → Run rules p (start_of mx) (start_of my) (heard_at message behind w)
-    hears_run p r = steps_far (standing_at l link rows w) (heard_at message behind w) r
-        (arrives (flip (standing_at l link rows w)) (flip (heard_at message behind w))
+    mid_there : slice_get mid.links l ≡ Some mid_link
+    mid_there = get_set_same x.state.links l mid_link (within x.state.links l link at.there)
+
+    window_is : is_heard x.state.settings.profile unit ≡ true → window_of l mid_link mid.rows ≡ window_heard link.control window head
+    window_is fits =
+        let m = (window_moves l link x.state sound at.there at.phase_is).heard unit fits in
+        let same : m.0 ≡ mid_link = same_at mid.links l mid_link m.0 mid_there m.1 in
+        subst (λ (k : LinkState). window_of l k mid.rows ≡ window_heard link.control window head) same m.3
+
+    mid_same : (number : ℕ) → body_at number mid.rows ≡ body_at number rows
+    mid_same number = (acknowledged l part.acked rows).kept.bodies (given x.state) sound.numbered number
+
+    -- the law's world then
+    abbrev heard_at : Option ℕ → List Carried → LinkWorld Control → LinkWorld Control
+    heard_at message behind w = record w {
+      near = record w.near {
+        control = control_heard link.control window head (is_msu unit);
+        window = window_heard link.control window head;
+        took = w.near.took ++ (if part.accept then option_to_list message else []);
+        acked = link.acked + part.acked;
+      };
+      back = behind;
+    }
+
+    -- with the unit that comes
+    module _ (w : LinkWorld Control) (message : Option ℕ) (behind : List Carried)
+        (comes : w.back ≡ record { head = head; message = message } ∷ behind) (msu : is_some message ≡ is_msu unit) where
+      arrival : Arrives rules (record { head = head; message = message }) (flip (standing_at l link rows w)) (flip (heard_at message behind w))
+      arrival = record {
+        control = rw msu refl;
+        window = refl;
+        sent = refl;
+        took = rw msu refl;
+        acked = rw msu refl;
+        near = refl;
+        out = comes;
+        back = refl;
+      }
+
+      hears_run : (p : Profile) → Run rules p (start_of mx) (start_of my) (standing_at l link rows w)
+          → Run rules p (start_of mx) (start_of my) (heard_at message behind w)
+      hears_run p r = steps_far (standing_at l link rows w) (heard_at message behind w) r
+          (arrives (flip (standing_at l link rows w)) (flip (heard_at message behind w))
           (record { head = head; message = message }) arrival)
 
-    no_fault_at : (p : Profile) → Run rules p (start_of mx) (start_of my) (standing_at l link rows w) → part.fault ≡ None
-    no_fault_at p r =
-        let f = (one_link mx my one p (standing_at l link rows w) r).1.no_fault (record { head = head; message = message }) behind comes in
-        rw msu at f
+      no_fault_at : (p : Profile) → Run rules p (start_of mx) (start_of my) (standing_at l link rows w) → part.fault ≡ None
+      no_fault_at p r =
+          let f = (one_link mx my one p (standing_at l link rows w) r).1.no_fault (record { head = head; message = message }) behind comes in
+          rw msu at f
 
-    -- the unit that comes is of the set's profile
-    unit_fits : (p : Profile) → Run rules p (start_of mx) (start_of my) (standing_at l link rows w)
-        → IsUnitOf y.state.rows (record { head = head; message = message }) unit
-        → is_heard x.state.settings.profile unit ≡ true
-    unit_fits p r is =
-        let law = one_link mx my one p (standing_at l link rows w) r in
-        let numbers = law.1.fits (record { head = head; message = message }) behind comes in
-        let here : link.profile ≡ p = law.0.profile_is in
-        let whole : x.state.settings.profile ≡ p = sym ((sound.links l link at.there).profile) ∙ here in
-        rw whole (heard_so p y.state.rows (record { head = head; message = message }) unit is numbers (rw (sym (same ∙ whole)) fit))
+      -- the unit that comes is of the set's profile
+      unit_fits : (p : Profile) → Run rules p (start_of mx) (start_of my) (standing_at l link rows w)
+          → IsUnitOf y.state.rows (record { head = head; message = message }) unit
+          → is_heard x.state.settings.profile unit ≡ true
+      unit_fits p r is =
+          let law = one_link mx my one p (standing_at l link rows w) r in
+          let numbers = law.1.fits (record { head = head; message = message }) behind comes in
+          let here : link.profile ≡ p = law.0.profile_is in
+          let whole : x.state.settings.profile ≡ p = sym ((sound.links l link at.there).profile) ∙ here in
+          rw whole (heard_so p y.state.rows (record { head = head; message = message }) unit is numbers (rw (sym (same ∙ whole)) fit))
 
-    -- before the body is taken
-    abbrev mid_side : Side
-    mid_side = record { state = mid; sent = x.sent; taken = x.taken ++ taken_by taken.took (body_in unit) }
+      -- before the body is taken
+      abbrev mid_side : Side
+      mid_side = record { state = mid; sent = x.sent; taken = x.taken ++ taken_by taken.took (body_in unit) }
 
-    mid_ties : is_heard x.state.settings.profile unit ≡ true
-        → IsUnitOf y.state.rows (record { head = head; message = message }) unit → AreUnits y.state.rows behind rest
-        → Ties l w x y out (unit ∷ rest) → Ties l (heard_at message behind w) mid_side y out rest
-    mid_ties fits is left t =
-        let keep : KeepBodies rows mid.rows = λ number body e. mid_same number ∙ e in
-        let many = took_many link.control window unit mid in
-        let before = t.near_counts link at.there in
-        let counted : link.accepted + one_if part.accept ≡ length (x.taken ++ taken_by taken.took (body_in unit)) =
-            omega (arith, before, many, length-append x.taken (taken_by taken.took (body_in unit))) in
+      mid_ties : is_heard x.state.settings.profile unit ≡ true
+          → IsUnitOf y.state.rows (record { head = head; message = message }) unit → AreUnits y.state.rows behind rest
+          → Ties l w x y out (unit ∷ rest) → Ties l (heard_at message behind w) mid_side y out rest
+      mid_ties fits is left t =
+          let keep : KeepBodies rows mid.rows = λ number body e. mid_same number ∙ e in
+          let many = took_many link.control window unit mid in
+          let before = t.near_counts link at.there in
+          let counted : link.accepted + one_if part.accept ≡ length (x.taken ++ taken_by taken.took (body_in unit)) =
+          omega (arith, before, many, length-append x.taken (taken_by taken.took (body_in unit))) in
+          record {
+            near = record {
+              sent_is = t.near.sent_is;
+              stand = stand_kept rows mid.rows keep x.sent t.near.stand;
+              took_is = bodies_joined y.state.rows w.near.took _ x.taken _ t.near.took_is (took_bodies y.state.rows unit message part.accept mid is);
+            };
+            far = record { sent_is = t.far.sent_is; stand = t.far.stand; took_is = bodies_kept rows mid.rows keep w.far.took y.taken t.far.took_is };
+            near_goes = λ other found unsettled.
+                let same : mid_link ≡ other = sym (same_at mid.links l mid_link other mid_there found) in
+                subst (λ (k : LinkState). IsGoing l (heard_at message behind w).near k mid.rows) same
+                (record { control = refl; window = sym (window_is fits); acked = refl });
+            far_goes = t.far_goes;
+            near_counts = λ other found. ap (λ (k : LinkState). k.accepted) (same_at mid.links l mid_link other mid_there found) ∙ counted;
+            far_counts = t.far_counts;
+            out = units_kept rows mid.rows keep w.out out t.out;
+            back = left;
+          }
+
+    -- what comes on the line is the law's
+    pub record Comes (w : LinkWorld Control) : Type 0 where
+      pub message : Option ℕ
+      pub behind : List Carried
+      pub comes : w.back ≡ record { head = head; message = message } ∷ behind
+      pub msu : is_some message ≡ is_msu unit
+      pub is : IsUnitOf y.state.rows (record { head = head; message = message }) unit
+      pub left : AreUnits y.state.rows behind rest
+
+    comes_so : (w : LinkWorld Control) (cs : List Carried) → w.back ≡ cs → AreUnits y.state.rows cs (unit ∷ rest) → Comes w
+    comes_so w [] e are = absurd are
+    comes_so w (c ∷ cs) e are =
+        let same = same_head y.state.rows c unit are.0 in
+        let c_is : c ≡ record { head = head; message = c.message } = rw (← same) refl in
         record {
-          near = record {
-            sent_is = t.near.sent_is;
-            stand = stand_kept rows mid.rows keep x.sent t.near.stand;
-            took_is = bodies_joined y.state.rows w.near.took _ x.taken _ t.near.took_is (took_bodies y.state.rows unit message part.accept mid is);
-          };
-          far = record { sent_is = t.far.sent_is; stand = t.far.stand; took_is = bodies_kept rows mid.rows keep w.far.took y.taken t.far.took_is };
-          near_goes = λ other found unsettled.
-              let same : mid_link ≡ other = sym (same_at mid.links l mid_link other mid_there found) in
-              subst (λ (k : LinkState). IsGoing l (heard_at message behind w).near k mid.rows) same
-                  (record { control = refl; window = sym (window_is fits); acked = refl });
-          far_goes = t.far_goes;
-          near_counts = λ other found. ap (λ (k : LinkState). k.accepted) (same_at mid.links l mid_link other mid_there found) ∙ counted;
-          far_counts = t.far_counts;
-          out = units_kept rows mid.rows keep w.out out t.out;
-          back = left;
+          message = c.message;
+          behind = cs;
+          comes = e ∙ ap (λ (d : Carried). d ∷ cs) c_is;
+          msu = same_msu y.state.rows c unit are.0;
+          is = subst (λ (d : Carried). IsUnitOf y.state.rows d unit) c_is are.0;
+          left = are.1;
         }
 
-  -- what comes on the line is the law's
-  pub record Comes (w : LinkWorld Control) : Type 0 where
-    pub message : Option ℕ
-    pub behind : List Carried
-    pub comes : w.back ≡ record { head = head; message = message } ∷ behind
-    pub msu : is_some message ≡ is_msu unit
-    pub is : IsUnitOf y.state.rows (record { head = head; message = message }) unit
-    pub left : AreUnits y.state.rows behind rest
+    runs_at : (t : Tied l mx my x y out (unit ∷ rest)) → Run rules t.profile (start_of mx) (start_of my) (standing_at l link rows t.world)
+    runs_at t = subst (λ (v : LinkWorld Control). Run rules t.profile (start_of mx) (start_of my) v)
+        (stands_so l link rows t.world (t.ties.near_goes link at.there (ap has_phase_settled at.phase_is))) t.run
 
-  comes_so : (w : LinkWorld Control) (cs : List Carried) → w.back ≡ cs → AreUnits y.state.rows cs (unit ∷ rest) → Comes w
-  comes_so w [] e are = absurd are
-  comes_so w (c ∷ cs) e are =
-      let same = same_head y.state.rows c unit are.0 in
-      let c_is : c ≡ record { head = head; message = c.message } = rw (← same) refl in
-      record {
-        message = c.message;
-        behind = cs;
-        comes = e ∙ ap (λ (d : Carried). d ∷ cs) c_is;
-        msu = same_msu y.state.rows c unit are.0;
-        is = subst (λ (d : Carried). IsUnitOf y.state.rows d unit) c_is are.0;
-        left = are.1;
-      }
+    abbrev pub hearer : Side
+    hearer = record { state = taken.state; sent = x.sent; taken = x.taken ++ taken_by taken.took (body_in unit) }
 
-  runs_at : (t : Tied l mx my x y out (unit ∷ rest)) → Run rules t.profile (start_of mx) (start_of my) (standing_at l link rows t.world)
-  runs_at t = subst (λ (v : LinkWorld Control). Run rules t.profile (start_of mx) (start_of my) v)
-      (stands_so l link rows t.world (t.ties.near_goes link at.there (ap has_phase_settled at.phase_is))) t.run
+    -- an end that hears, before the body is taken
+    abbrev pub hearing : Side
+    hearing = record { state = mid; sent = x.sent; taken = x.taken ++ taken_by taken.took (body_in unit) }
 
-  abbrev pub hearer : Side
-  hearer = record { state = taken.state; sent = x.sent; taken = x.taken ++ taken_by taken.took (body_in unit) }
+    pub mid_tied : Tied l mx my x y out (unit ∷ rest) → Tied l mx my hearing y out rest
+    mid_tied t =
+        let w = t.world in
+        let c = comes_so w w.back refl t.ties.back in
+        record {
+          profile = t.profile;
+          world = heard_at c.message c.behind w;
+          run = hears_run w c.message c.behind c.comes c.msu t.profile (runs_at t);
+          ties = mid_ties w c.message c.behind c.comes c.msu (unit_fits w c.message c.behind c.comes c.msu t.profile (runs_at t) c.is) c.is c.left t.ties;
+        }
 
-  -- an end that hears, before the body is taken
-  abbrev pub hearing : Side
-  hearing = record { state = mid; sent = x.sent; taken = x.taken ++ taken_by taken.took (body_in unit) }
+    -- and then
+    pub hears : Tied l mx my x y out (unit ∷ rest) → Tied l mx my hearer y out rest
+    hears t =
+        let w = t.world in
+        let c = comes_so w w.back refl t.ties.back in
+        let stepped = subst (λ (o : Outcome). KeepsMessages x.state o.state)
+        (heard_is l unit link x.state (unit_fits w c.message c.behind c.comes c.msu t.profile (runs_at t) c.is) at)
+        (keeps_messages x.state (Heard l unit) sound.numbered) in
+        let keep : KeepBodies mid.rows taken.state.rows =
+        λ number body e. keep_bodies x.state taken.state sound.numbered stepped number body
+        (sym (mid_same number) ∙ e) in
+        follows l mx my hearing y out rest taken.state keep (takes_count l (brought part.accept unit) mid)
+        (takes_follows l (brought part.accept unit) mid) (mid_tied t)
 
-  pub mid_tied : Tied l mx my x y out (unit ∷ rest) → Tied l mx my hearing y out rest
-  mid_tied t =
-      let w = t.world in
-      let c = comes_so w w.back refl t.ties.back in
-      record {
-        profile = t.profile;
-        world = heard_at c.message c.behind w;
-        run = hears_run w c.message c.behind c.comes c.msu t.profile (runs_at t);
-        ties = mid_ties w c.message c.behind c.comes c.msu (unit_fits w c.message c.behind c.comes c.msu t.profile (runs_at t) c.is) c.is c.left t.ties;
-      }
+    pub no_fault : Tied l mx my x y out (unit ∷ rest) → part.fault ≡ None
+    no_fault t =
+        let w = t.world in
+        let c = comes_so w w.back refl t.ties.back in
+        no_fault_at w c.message c.behind c.comes c.msu t.profile (runs_at t)
 
-  -- and then
-  pub hears : Tied l mx my x y out (unit ∷ rest) → Tied l mx my hearer y out rest
-  hears t =
-      let w = t.world in
-      let c = comes_so w w.back refl t.ties.back in
-      let stepped = subst (λ (o : Outcome). KeepsMessages x.state o.state)
-          (heard_is l unit link x.state (unit_fits w c.message c.behind c.comes c.msu t.profile (runs_at t) c.is) at)
-          (keeps_messages x.state (Heard l unit) sound.numbered) in
-      let keep : KeepBodies mid.rows taken.state.rows =
-          λ number body e. keep_bodies x.state taken.state sound.numbered stepped number body
-          (sym (mid_same number) ∙ e) in
-      follows l mx my hearing y out rest taken.state keep (takes_count l (brought part.accept unit) mid)
-          (takes_follows l (brought part.accept unit) mid) (mid_tied t)
-
-  pub no_fault : Tied l mx my x y out (unit ∷ rest) → part.fault ≡ None
-  no_fault t =
-      let w = t.world in
-      let c = comes_so w w.back refl t.ties.back in
-      no_fault_at w c.message c.behind c.comes c.msu t.profile (runs_at t)
-
-  -- the event is this
-  pub step_is : Tied l mx my x y out (unit ∷ rest) → step x.state (Heard l unit) ≡ controls unit l x.state link
-  step_is t =
-      let c = comes_so t.world t.world.back refl t.ties.back in
-      heard_is l unit link x.state (unit_fits t.world c.message c.behind c.comes c.msu t.profile (runs_at t) c.is) at
+    -- the event is this
+    pub step_is : Tied l mx my x y out (unit ∷ rest) → step x.state (Heard l unit) ≡ controls unit l x.state link
+    step_is t =
+        let c = comes_so t.world t.world.back refl t.ties.back in
+        heard_is l unit link x.state (unit_fits t.world c.message c.behind c.comes c.msu t.profile (runs_at t) c.is) at

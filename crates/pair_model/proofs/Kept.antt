@@ -86,7 +86,7 @@ kept_tied l mx my one x y out back numbered t =
             acked = omega (arith, g.acked, f.acked, many);
             unacked = same_messages x.state.rows (messages (unack l x.state.rows)) (drop link.acked x.sent)
                 (stand_each x.state.rows (unack l x.state.rows)
-                      (λ i row e. body_there (given x.state) (λ r. is_unacked l r.fate) x.state.rows i row numbered e))
+                (λ i row e. body_there (given x.state) (λ r. is_unacked l r.fate) x.state.rows i row numbered e))
                 (stand_rest x.state.rows link.acked x.sent t.ties.near.stand)
                 (numbers_of_messages (unack l x.state.rows)
                 ∙ sym (ap (λ (v : WindowState). v.unacked) g.window)
@@ -100,7 +100,7 @@ kept_tied l mx my one x y out back numbered t =
 pub kept_on : (mx my : Method) (one : IsOneMethod mx my) (p : Two) → HoldsOf mx my p → (l : ℕ) → IsKeptOn l p.near_past p.far_past p.near p.far
 kept_on mx my one p h l =
     let k = kept_tied l mx my one (side l p.near p.near_past) (side l p.far p.far_past) (units_on l p.out)
-        (units_on l p.back) h.near_sound.numbered (h.ties l) in
+    (units_on l p.back) h.near_sound.numbered (h.ties l) in
     record { prefix = k.prefix; accepted = k.accepted; going = k.going }
 
 -- AT FIRST
@@ -130,9 +130,14 @@ new_counts : (settings : Settings) (l : ℕ) (link : LinkState) → slice_get (o
 new_counts settings l link there = ap (λ (k : LinkState). k.accepted) (same_there settings.links l (new_link settings.profile settings.method) link there)
 
 pub at_first : (a b : SetConfig) → a.links ≡ b.links → a.profile ≡ b.profile
-    → HoldsOf a.method b.method (record
-      { near = opened_with (settings_of a); far = opened_with (settings_of b); near_past = no_past; far_past = no_past;
-      out = (begun a b).world.to_b; back = (begun a b).world.to_a })
+    → HoldsOf a.method b.method (record {
+      near = opened_with (settings_of a);
+      far = opened_with (settings_of b);
+      near_past = no_past;
+      far_past = no_past;
+      out = (begun a b).world.to_b;
+      back = (begun a b).world.to_a;
+    })
 at_first a b same profiles = record {
   near_sound = opened_sound (settings_of a) (settings_sound a);
   far_sound = opened_sound (settings_of b) (settings_sound b);
@@ -144,6 +149,6 @@ at_first a b same profiles = record {
   back_lines = count_of (length (opened_with (settings_of a)).links) [];
   ties = λ l. rw (nothing_on (length (opened_with (settings_of a)).links) l)
       (unborn l a.method b.method (opened_with (settings_of a)) (opened_with (settings_of b))
-        (new_settled (settings_of a) l) (new_settled (settings_of b) l) (new_counts (settings_of a) l)
+      (new_settled (settings_of a) l) (new_settled (settings_of b) l) (new_counts (settings_of a) l)
       (new_counts (settings_of b) l));
 }

@@ -68,7 +68,7 @@ next_refused k s e = go (slice_get s.links k) refl
 
     go : (o : Option LinkState) → slice_get s.links k ≡ o → (why : SetRefusal)
         × (with_known o s (λ link. cond (has_phase_up link.phase) (next k (cleared k s) link) (refused s NotUp))
-          ≡ refused s why)
+        ≡ refused s why)
     go None f = (NoSuchLink, refl)
     go (Some link) f = at link f (has_phase_up link.phase) refl
 
@@ -107,8 +107,8 @@ module _ (mx my : Method) (p : Two) (h : HoldsOf mx my p) (k : ℕ) where
     here : Tied k mx my (side k after sent_past) (side k p.far p.far_past) (units_on k (joined_on k sent_unit p.out)) (units_on k p.back)
     here = like k mx my _ (side k after sent_past) _ _ _ _ _ _
         (same_side (ap (λ (o : Outcome). o.state) (sending.next_is k link p.near at))
-          (added_here k (first_sent k p.near after) p.near_past.sent
-          ∙ ap (λ (o : Outcome). p.near_past.sent k ++ first_sent k p.near o.state) (sending.next_is k link p.near at)
+        (added_here k (first_sent k p.near after) p.near_past.sent
+        ∙ ap (λ (o : Outcome). p.near_past.sent k ++ first_sent k p.near o.state) (sending.next_is k link p.near at)
         ∙ ap (λ (ms : List Message). p.near_past.sent k ++ ms)
         (sym (sending.cleared_sends k p.near (next k (cleared k p.near) link).state))) refl) refl
         (on_set k _ p.out (omega (arith, few, h.out_lines))) refl
@@ -128,7 +128,7 @@ module _ (mx my : Method) (p : Two) (h : HoldsOf mx my p) (k : ℕ) where
             → Tied l mx my (side l after sent_past) (side l p.far p.far_past) (units_on l (joined_on k sent_unit p.out))
             (units_on l p.back)
         go l true d = subst (λ (m : ℕ). Tied m mx my (side m after sent_past) (side m p.far p.far_past)
-              (units_on m (joined_on k sent_unit p.out)) (units_on m p.back)) (eqb-true k l d) here
+            (units_on m (joined_on k sent_unit p.out)) (units_on m p.back)) (eqb-true k l d) here
         go l false d = there l d
 
     pub answers_sent : (step p.near (Next k)).answer ≡ Sent sent_unit
@@ -139,9 +139,9 @@ module _ (mx my : Method) (p : Two) (h : HoldsOf mx my p) (k : ℕ) where
   emits_not e =
       let same : after ≡ p.near = ap (λ (o : Outcome). o.state) (next_refused k p.near e).1 in
       event_holds mx my p h (Next k) tt sent_past p.out p.back refl refl
-          (λ l. like l mx my _ (side l after sent_past) _ _ _ _ _ _
-            (same_side same (ap (λ (more : List Message). added_at k more p.near_past.sent l)
-              (nothing_sent k p.near after same) ∙ added_none k l p.near_past.sent) refl) refl refl refl (h.ties l))
+      (λ l. like l mx my _ (side l after sent_past) _ _ _ _ _ _
+      (same_side same (ap (λ (more : List Message). added_at k more p.near_past.sent l)
+      (nothing_sent k p.near after same) ∙ added_none k l p.near_past.sent) refl) refl refl refl (h.ties l))
 
 -- A UNIT IS LOST from the line out
 pub loses : (mx my : Method) (p : Two) → HoldsOf mx my p → (k place : ℕ) → k < length p.near.links
@@ -163,9 +163,9 @@ loses mx my p h k place few within = record {
         → Tied l mx my (side l p.near p.near_past) (side l p.far p.far_past)
         (units_on l (with_units k (without place (units_on k p.out)) p.out)) (units_on l p.back)
     go l true d = subst (λ (m : ℕ). Tied m mx my (side m p.near p.near_past) (side m p.far p.far_past)
-          (units_on m (with_units k (without place (units_on k p.out)) p.out)) (units_on m p.back)) (eqb-true k l d)
+        (units_on m (with_units k (without place (units_on k p.out)) p.out)) (units_on m p.back)) (eqb-true k l d)
         (like k mx my _ _ _ _ _ _ _ _ refl refl (on_set k _ p.out (omega (arith, few, h.out_lines))) refl
-          (lost k mx my _ _ (units_on k p.out) (units_on k p.back) place within (h.ties k)))
+        (lost k mx my _ _ (units_on k p.out) (units_on k p.back) place within (h.ties k)))
     go l false d = like l mx my _ _ _ _ _ _ _ _ refl refl (on_other l k _ p.out d) refl (h.ties l)
 
 -- AN END HEARS the unit in front of the line back
@@ -177,9 +177,9 @@ module _ (mx my : Method) (one : IsOneMethod mx my) (p : Two) (h : HoldsOf mx my
 
   abbrev pub report : Report
   report = report_of (hearing.part k mx my one (side k p.near p.near_past) (side k p.far p.far_past) (units_on k p.out)
-        rest unit link h.near_sound at h.profiles h.far_sound.fit)
+      rest unit link h.near_sound at h.profiles h.far_sound.fit)
       (hearing.taken k mx my one (side k p.near p.near_past) (side k p.far p.far_past) (units_on k p.out) rest unit link
-        h.near_sound at h.profiles h.far_sound.fit).took
+      h.near_sound at h.profiles h.far_sound.fit).took
 
   abbrev heard_past : Past
   heard_past = past_heard k unit (p.far_past.sent k) (Answered (HeardBack report)) p.near_past
@@ -194,10 +194,10 @@ module _ (mx my : Method) (one : IsOneMethod mx my) (p : Two) (h : HoldsOf mx my
   heard_here : Tied k mx my (side k hearer_then heard_past) (side k p.far p.far_past) (units_on k p.out) (units_on k (with_units k rest p.back))
   heard_here = like k mx my _ (side k hearer_then heard_past) _ _ _ _ _ _
       (same_side (ap (λ (o : Outcome). o.state) event_is) refl
-        (added_here k (taken_by report.took (body_in unit)) p.near_past.taken)) refl refl
+      (added_here k (taken_by report.took (body_in unit)) p.near_past.taken)) refl refl
       (on_set k rest p.back (omega (arith, few, h.back_lines)))
       (hearing.hears k mx my one (side k p.near p.near_past) (side k p.far p.far_past) (units_on k p.out) rest unit link
-            h.near_sound at h.profiles h.far_sound.fit front_tied)
+      h.near_sound at h.profiles h.far_sound.fit front_tied)
 
   heard_there : (l : ℕ) → (k == l) ≡ false
       → Tied l mx my (side l hearer_then heard_past) (side l p.far p.far_past) (units_on l p.out)
@@ -213,7 +213,7 @@ module _ (mx my : Method) (one : IsOneMethod mx my) (p : Two) (h : HoldsOf mx my
           → Tied l mx my (side l hearer_then heard_past) (side l p.far p.far_past) (units_on l p.out)
           (units_on l (with_units k rest p.back))
       go l true d = subst (λ (m : ℕ). Tied m mx my (side m hearer_then heard_past) (side m p.far p.far_past)
-            (units_on m p.out) (units_on m (with_units k rest p.back))) (eqb-true k l d) heard_here
+          (units_on m p.out) (units_on m (with_units k rest p.back))) (eqb-true k l d) heard_here
       go l false d = heard_there l d
 
   pub answers_heard : (step p.near (Heard k unit)).answer ≡ HeardBack report
@@ -221,7 +221,7 @@ module _ (mx my : Method) (one : IsOneMethod mx my) (p : Two) (h : HoldsOf mx my
 
   pub tells_none : report.fault ≡ None
   tells_none = rw (hearing.no_fault k mx my one (side k p.near p.near_past) (side k p.far p.far_past) (units_on k p.out)
-        rest unit link h.near_sound at h.profiles h.far_sound.fit front_tied) refl
+      rest unit link h.near_sound at h.profiles h.far_sound.fit front_tied) refl
 
 -- A LINK COMES UP at both ends
 module _ (mx my : Method) (p : Two) (h : HoldsOf mx my p) (k : ℕ) (few : k < length p.near.links)
@@ -233,8 +233,14 @@ module _ (mx my : Method) (p : Two) (h : HoldsOf mx my p) (k : ℕ) (few : k < l
   far_then = (step p.far (UpEvent k)).state
 
   abbrev pub risen : Two
-  risen = record { near = near_then; far = far_then; near_past = past_risen k p.near_past;
-        far_past = past_risen k p.far_past; out = with_units k [] p.out; back = with_units k [] p.back }
+  risen = record {
+    near = near_then;
+    far = far_then;
+    near_past = past_risen k p.near_past;
+    far_past = past_risen k p.far_past;
+    out = with_units k [] p.out;
+    back = with_units k [] p.back;
+  }
 
   cleared_here : {X : Type 0} (f : ℕ → List X) → cleared_at k f k ≡ []
   cleared_here f = rw (itself k) refl
@@ -253,25 +259,25 @@ module _ (mx my : Method) (p : Two) (h : HoldsOf mx my p) (k : ℕ) (few : k < l
       (on_set k [] p.back (omega (arith, few, h.back_lines)))
       (rises_tied p.near.settings.profile k mx my near_then far_then
       (fresh k p.near.settings.profile mx p.near h.near_sound refl h.near_method a.0 a.1)
-          (fresh k p.near.settings.profile my p.far h.far_sound h.profiles h.far_method b.0 b.1)
+      (fresh k p.near.settings.profile my p.far h.far_sound h.profiles h.far_method b.0 b.1)
       (fresh_begins k p.near.settings.profile mx p.near h.near_sound refl h.near_method a.0 a.1)
-          (fresh_begins k p.near.settings.profile my p.far h.far_sound h.profiles h.far_method b.0 b.1)
+      (fresh_begins k p.near.settings.profile my p.far h.far_sound h.profiles h.far_method b.0 b.1)
       refl refl refl refl
       (fresh_goes k p.near.settings.profile mx p.near h.near_sound refl h.near_method a.0 a.1)
-          (fresh_goes k p.near.settings.profile my p.far h.far_sound h.profiles h.far_method b.0 b.1)
+      (fresh_goes k p.near.settings.profile my p.far h.far_sound h.profiles h.far_method b.0 b.1)
       (fresh_counts k p.near.settings.profile mx p.near h.near_sound refl h.near_method a.0 a.1)
-          (fresh_counts k p.near.settings.profile my p.far h.far_sound h.profiles h.far_method b.0 b.1))
+      (fresh_counts k p.near.settings.profile my p.far h.far_sound h.profiles h.far_method b.0 b.1))
 
   risen_there : (l : ℕ) → (k == l) ≡ false → TiedAt l mx my risen
   risen_there l d =
       let one = goes_on mx my p h (UpEvent k) l d (up_follows l k p.near (no_other k l d)) in
       let back = turned l mx my _ _ _ _ one in
       let two = follows l my mx (side l p.far p.far_past) (side l near_then p.near_past) (units_on l p.back)
-          (units_on l p.out) far_then (keeps my mx (swapped p) (swap mx my p h) (UpEvent k))
-          (count_stays l p.far (UpEvent k) d) (up_follows l k p.far (no_other k l d)) back in
+      (units_on l p.out) far_then (keeps my mx (swapped p) (swap mx my p h) (UpEvent k))
+      (count_stays l p.far (UpEvent k) d) (up_follows l k p.far (no_other k l d)) back in
       like l mx my (side l near_then p.near_past) (side l near_then (past_risen k p.near_past))
-          (side l far_then p.far_past) (side l far_then (past_risen k p.far_past)) (units_on l p.out) _
-          (units_on l p.back) _
+      (side l far_then p.far_past) (side l far_then (past_risen k p.far_past)) (units_on l p.out) _
+      (units_on l p.back) _
       (same_side refl (cleared_other l p.near_past.sent d) (cleared_other l p.near_past.taken d))
       (same_side refl (cleared_other l p.far_past.sent d) (cleared_other l p.far_past.taken d))
       (on_other l k [] p.out d)

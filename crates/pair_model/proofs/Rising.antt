@@ -98,13 +98,24 @@ pub unborn : (l : ℕ) (mx my : Method) (x y : State)
     → Counts l y [] → Tied l mx my (new_side x) (new_side y) [] []
 unborn l mx my x y a b counts far_counts =
     let end : (m : Method) → LinkEnd Control =
-        λ m. record { control = start_of m;
-          window = record { profile = Narrow; last = 127; unacked = []; unsent = []; room = 0 }; sent = []; took = [];
-        acked = 0 } in
+    λ m. record {
+      control = start_of m;
+      window = record { profile = Narrow; last = 127; unacked = []; unsent = []; room = 0 };
+      sent = [];
+      took = [];
+      acked = 0;
+    } in
     let start : (m : Method) → Begins rules Narrow (start_of m) (end m) =
-        λ m. record { control = refl; profile_is = refl; last = refl; unacked = refl; sent = refl; took = refl;
-          acked = refl } in
+    λ m. record {
+      control = refl;
+      profile_is = refl;
+      last = refl;
+      unacked = refl;
+      sent = refl;
+      took = refl;
+      acked = refl;
+    } in
     rises_tied Narrow l mx my x y (end mx) (end my) (start mx) (start my) refl refl refl refl
-        (λ link found unsettled. absurd (let no : true ≡ false = sym (a link found) ∙ unsettled in cc))
-        (λ link found unsettled. absurd (let no : true ≡ false = sym (b link found) ∙ unsettled in cc)) counts
-        far_counts
+    (λ link found unsettled. absurd (let no : true ≡ false = sym (a link found) ∙ unsettled in cc))
+    (λ link found unsettled. absurd (let no : true ≡ false = sym (b link found) ∙ unsettled in cc)) counts
+    far_counts

@@ -57,13 +57,13 @@ in_tells k s f all = go (slice_get s.links k)
   where
     at : (link : LinkState) (b : Bool)
         → TellsNoFault (Answered (cond b (f link)
-            (refused s Rattle.set_events.specs.declared.answer.Refusal.TheVariants.NotUp)).answer)
+        (refused s Rattle.set_events.specs.declared.answer.Refusal.TheVariants.NotUp)).answer)
     at link true = all link
     at link false = tt
 
     go : (o : Option LinkState) → TellsNoFault
         (Answered (with_known o s (λ link. cond (has_phase_up link.phase) (f link)
-              (refused s Rattle.set_events.specs.declared.answer.Refusal.TheVariants.NotUp))).answer)
+        (refused s Rattle.set_events.specs.declared.answer.Refusal.TheVariants.NotUp))).answer)
     go None = tt
     go (Some link) = at link (has_phase_up link.phase)
 
@@ -166,14 +166,14 @@ module _ (ma mb : Method) (one : IsOneMethod ma mb) where
       where
         shown : (end : End) → Goes g (Act end event)
             (shows (Answered (answer_to (at_end g.world end) event))
-              (with_end g.world end (after (at_end g.world end) event)))
+            (with_end g.world end (after (at_end g.world end) event)))
         shown A = (answer_tells g.world.a.state event own, asks ma mb (seen A g) h event _ own)
         shown B = (answer_tells g.world.b.state event own, back_b _ (asks mb ma (seen B g) h_b event _ own))
 
         go : (known full : Bool) → Goes g (Act end event)
             (cond known (cond full exhausted
-                (shows (Answered (answer_to (at_end g.world end) event))
-              (with_end g.world end (after (at_end g.world end) event)))) impossible)
+            (shows (Answered (answer_to (at_end g.world end) event))
+            (with_end g.world end (after (at_end g.world end) event)))) impossible)
         go true true = tt
         go true false = shown end
         go false full = tt
@@ -181,44 +181,44 @@ module _ (ma mb : Method) (one : IsOneMethod ma mb) where
     -- EMIT
     emit_a : (k : ℕ) → k < length g.world.a.state.links → (b : Bool) → is_up k g.world.a.state ≡ b
         → Goes g (Emit A k) (sends_on A k
-          (shows (Answered (answer_to g.world.a (Next k))) (with_end g.world A (after g.world.a (Next k)))))
+        (shows (Answered (answer_to g.world.a (Next k))) (with_end g.world A (after g.world.a (Next k)))))
     emit_a k few true e =
         let at = is_at_up k g.world.a.state e in
         subst (λ (answer : Answer). TellsNoFault (Answered answer)
-              × Holds (passed g (Emit A k) (Answered answer)
-              (with_sent (with_end g.world A (after g.world.a (Next k))) A k (Answered answer))))
-            (sym (moving.answers_sent ma mb (seen A g) h k few at.0 at.1))
+        × Holds (passed g (Emit A k) (Answered answer)
+        (with_sent (with_end g.world A (after g.world.a (Next k))) A k (Answered answer))))
+        (sym (moving.answers_sent ma mb (seen A g) h k few at.0 at.1))
         (tt, moving.emits_up ma mb (seen A g) h k few at.0 at.1)
     emit_a k few false e =
         let not = moving.next_refused k g.world.a.state e in
         subst (λ (answer : Answer). TellsNoFault (Answered answer)
-              × Holds (passed g (Emit A k) (Answered answer)
-              (with_sent (with_end g.world A (after g.world.a (Next k))) A k (Answered answer))))
-            (sym (ap (λ (o : SetOutcome). o.answer) not.1))
+        × Holds (passed g (Emit A k) (Answered answer)
+        (with_sent (with_end g.world A (after g.world.a (Next k))) A k (Answered answer))))
+        (sym (ap (λ (o : SetOutcome). o.answer) not.1))
         (tt, moving.emits_not ma mb (seen A g) h k e)
 
     emit_b : (k : ℕ) → k < length g.world.b.state.links → (b : Bool) → is_up k g.world.b.state ≡ b
         → Goes g (Emit B k) (sends_on B k
-          (shows (Answered (answer_to g.world.b (Next k))) (with_end g.world B (after g.world.b (Next k)))))
+        (shows (Answered (answer_to g.world.b (Next k))) (with_end g.world B (after g.world.b (Next k)))))
     emit_b k few true e =
         let at = is_at_up k g.world.b.state e in
         subst (λ (answer : Answer). TellsNoFault (Answered answer)
-              × Holds (passed g (Emit B k) (Answered answer)
-              (with_sent (with_end g.world B (after g.world.b (Next k))) B k (Answered answer))))
-            (sym (moving.answers_sent mb ma (seen B g) h_b k few at.0 at.1))
+        × Holds (passed g (Emit B k) (Answered answer)
+        (with_sent (with_end g.world B (after g.world.b (Next k))) B k (Answered answer))))
+        (sym (moving.answers_sent mb ma (seen B g) h_b k few at.0 at.1))
         (tt, back_b _ (moving.emits_up mb ma (seen B g) h_b k few at.0 at.1))
     emit_b k few false e =
         let not = moving.next_refused k g.world.b.state e in
         subst (λ (answer : Answer). TellsNoFault (Answered answer)
-              × Holds (passed g (Emit B k) (Answered answer)
-              (with_sent (with_end g.world B (after g.world.b (Next k))) B k (Answered answer))))
-            (sym (ap (λ (o : SetOutcome). o.answer) not.1))
+        × Holds (passed g (Emit B k) (Answered answer)
+        (with_sent (with_end g.world B (after g.world.b (Next k))) B k (Answered answer))))
+        (sym (ap (λ (o : SetOutcome). o.answer) not.1))
         (tt, back_b _ (moving.emits_not mb ma (seen B g) h_b k e))
 
     emit_at : (end : End) (k : ℕ) → k < length g.world.a.state.links
         → Goes g (Emit end k) (sends_on end k
-          (shows (Answered (answer_to (at_end g.world end) (Next k)))
-          (with_end g.world end (after (at_end g.world end) (Next k)))))
+        (shows (Answered (answer_to (at_end g.world end) (Next k)))
+        (with_end g.world end (after (at_end g.world end) (Next k)))))
     emit_at A k few = emit_a k few (is_up k g.world.a.state) refl
     emit_at B k few = emit_b k (omega (arith, few, h.far_links)) (is_up k g.world.b.state) refl
 
@@ -227,9 +227,9 @@ module _ (ma mb : Method) (one : IsOneMethod ma mb) where
       where
         go : (known : Bool) → has_link g.world k ≡ known → (full : Bool)
             → Goes g (Emit end k) (sends_on end k
-              (cond known (cond full exhausted
-                (shows (Answered (answer_to (at_end g.world end) (Next k)))
-              (with_end g.world end (after (at_end g.world end) (Next k))))) impossible))
+            (cond known (cond full exhausted
+            (shows (Answered (answer_to (at_end g.world end) (Next k)))
+            (with_end g.world end (after (at_end g.world end) (Next k))))) impossible))
         go true e true = tt
         go true e false = emit_at end k (ltb-true k (link_count g.world.a.state) e)
         go false e full = tt
@@ -253,8 +253,8 @@ module _ (ma mb : Method) (one : IsOneMethod ma mb) where
       where
         go : (known : Bool) → has_link g.world k ≡ known → (within : Bool) → nat_lt place (length (line_to g.world end k)) ≡ within
             → Goes g (Lose end k place) (cond known
-                  (cond within (shows Lost (with_line g.world end k (without place (line_to g.world end k))))
-                  impossible) impossible)
+            (cond within (shows Lost (with_line g.world end k (without place (line_to g.world end k))))
+            impossible) impossible)
         go true e true f = (tt, lost_at end k place (ltb-true k (link_count g.world.a.state) e) (ltb-true place (length (line_to g.world end k)) f))
         go true e false f = tt
         go false e within f = tt
@@ -269,26 +269,27 @@ module _ (ma mb : Method) (one : IsOneMethod ma mb) where
       heard_a : units_on k g.world.to_a ≡ unit ∷ rest → (link : LinkState) → IsAt k link Up g.world.a.state
           → ArriveGoes A k (unit ∷ rest)
           (shows (Answered (answer_to g.world.a (Heard k unit)))
-            (with_end (with_line g.world A k rest) A (after g.world.a (Heard k unit))))
+          (with_end (with_line g.world A k rest) A (after g.world.a (Heard k unit))))
       heard_a front link at =
           subst (λ (answer : Answer). TellsNoFault (Answered answer)
-                × Holds (with_past A (past_arrived k (unit ∷ rest) (g.b.sent k) (Answered answer) g.a)
-                (with_end (with_line g.world A k rest) A (after g.world.a (Heard k unit))) g))
+          × Holds (with_past A (past_arrived k (unit ∷ rest) (g.b.sent k) (Answered answer) g.a)
+          (with_end (with_line g.world A k rest) A (after g.world.a (Heard k unit))) g))
           (sym (moving.answers_heard ma mb one (seen A g) h k few unit rest front link at))
           (moving.tells_none ma mb one (seen A g) h k few unit rest front link at, moving.hears_up ma mb one (seen A g) h k few unit rest front link at)
 
       heard_b : units_on k g.world.to_b ≡ unit ∷ rest → (link : LinkState) → IsAt k link Up g.world.b.state
           → ArriveGoes B k (unit ∷ rest)
           (shows (Answered (answer_to g.world.b (Heard k unit)))
-            (with_end (with_line g.world B k rest) B (after g.world.b (Heard k unit))))
+          (with_end (with_line g.world B k rest) B (after g.world.b (Heard k unit))))
       heard_b front link at =
           let few_b : k < length g.world.b.state.links = omega (arith, few, h.far_links) in
           subst (λ (answer : Answer). TellsNoFault (Answered answer)
-                × Holds (with_past B (past_arrived k (unit ∷ rest) (g.a.sent k) (Answered answer) g.b)
-                (with_end (with_line g.world B k rest) B (after g.world.b (Heard k unit))) g))
-          (sym (moving.answers_heard mb ma one_b (seen B g) h_b k few_b unit rest front link at))
-          (moving.tells_none mb ma one_b (seen B g) h_b k few_b unit rest front link at,
-                back_b _ (moving.hears_up mb ma one_b (seen B g) h_b k few_b unit rest front link at))
+          × Holds (with_past B (past_arrived k (unit ∷ rest) (g.a.sent k) (Answered answer) g.b)
+          (with_end (with_line g.world B k rest) B (after g.world.b (Heard k unit))) g))
+          (sym (moving.answers_heard mb ma one_b (seen B g) h_b k few_b unit rest front link at)) (
+            moving.tells_none mb ma one_b (seen B g) h_b k few_b unit rest front link at,
+            back_b _ (moving.hears_up mb ma one_b (seen B g) h_b k few_b unit rest front link at),
+          )
 
       front_lost_a : units_on k g.world.to_a ≡ unit ∷ rest → Holds (record g { world = with_line g.world A k rest })
       front_lost_a front = subst (λ (us : List SignalUnit). Holds (record g { world = with_line g.world A k us }))
@@ -300,10 +301,10 @@ module _ (ma mb : Method) (one : IsOneMethod ma mb) where
 
       reach_a : units_on k g.world.to_a ≡ unit ∷ rest → (rising : Bool) → is_up k g.world.a.state ≡ rising → (known full : Bool)
           → ArriveGoes A k (unit ∷ rest)
-              (cond rising (cond known (cond full exhausted
-                    (shows (Answered (answer_to g.world.a (Heard k unit)))
-                (with_end (with_line g.world A k rest) A (after g.world.a (Heard k unit))))) impossible)
-              (shows Lost (with_line g.world A k rest)))
+          (cond rising (cond known (cond full exhausted
+          (shows (Answered (answer_to g.world.a (Heard k unit)))
+          (with_end (with_line g.world A k rest) A (after g.world.a (Heard k unit))))) impossible)
+          (shows Lost (with_line g.world A k rest)))
       reach_a front true e true true = tt
       reach_a front true e true false = let at = is_at_up k g.world.a.state e in heard_a front at.0 at.1
       reach_a front true e false full = tt
@@ -311,10 +312,10 @@ module _ (ma mb : Method) (one : IsOneMethod ma mb) where
 
       reach_b : units_on k g.world.to_b ≡ unit ∷ rest → (rising : Bool) → is_up k g.world.b.state ≡ rising → (known full : Bool)
           → ArriveGoes B k (unit ∷ rest)
-              (cond rising (cond known (cond full exhausted
-                    (shows (Answered (answer_to g.world.b (Heard k unit)))
-                (with_end (with_line g.world B k rest) B (after g.world.b (Heard k unit))))) impossible)
-              (shows Lost (with_line g.world B k rest)))
+          (cond rising (cond known (cond full exhausted
+          (shows (Answered (answer_to g.world.b (Heard k unit)))
+          (with_end (with_line g.world B k rest) B (after g.world.b (Heard k unit))))) impossible)
+          (shows Lost (with_line g.world B k rest)))
       reach_b front true e true true = tt
       reach_b front true e true false = let at = is_at_up k g.world.b.state e in heard_b front at.0 at.1
       reach_b front true e false full = tt

@@ -70,9 +70,13 @@ told_at given p rows new i head numbered keep = go (slice_get (filter p rows) i)
     go : (o : Option Row) → slice_get (filter p rows) i ≡ o
         → IsUnitOf new (record { head = head; message = slice_get (numbers (filter p rows)) i }) (unit_of o head)
     go None e = (refl, slice_get-map (λ (r : Row). r.number) (filter p rows) i ∙ ap (option_map (λ (r : Row). r.number)) e)
-    go (Some row) e = (row.number, refl, slice_get-map (λ (r : Row). r.number) (filter p rows) i
+    go (Some row) e = (
+      row.number,
+      refl,
+      slice_get-map (λ (r : Row). r.number) (filter p rows) i
           ∙ ap (option_map (λ (r : Row). r.number)) e,
-        keep row.number row.body (body_there given p rows i row numbered e))
+      keep row.number row.body (body_there given p rows i row numbered e),
+    )
 
 told : (given l : ℕ) (link : LinkState) (rows new : List Row) (choice : Choice) (head : Header) → IsNumbered given rows
     → KeepBodies rows new → IsUnitOf new (record { head = head; message = message_of choice (window_of l link rows) })
@@ -201,8 +205,8 @@ module _ (l : ℕ) (mx my : Method) (x y : Side) (out back : List SignalUnit) (l
       stand = stand_joined after.rows x.sent (first_sent l x.state after)
           (stand_kept rows after.rows kept x.sent t.near.stand)
           (stand_dropped after.rows (length (unack l rows)) (unack l after.rows)
-            (stand_each after.rows (unack l after.rows)
-            (λ i row e. body_there (given after) (λ r. is_unacked l r.fate) after.rows i row numbered_after e)));
+          (stand_each after.rows (unack l after.rows)
+          (λ i row e. body_there (given after) (λ r. is_unacked l r.fate) after.rows i row numbered_after e)));
       took_is = t.near.took_is;
     };
     far = record { sent_is = t.far.sent_is; stand = t.far.stand; took_is = bodies_kept rows after.rows kept w.far.took y.taken t.far.took_is };
@@ -223,9 +227,13 @@ module _ (l : ℕ) (mx my : Method) (x y : Side) (out back : List SignalUnit) (l
       let w = t.world in
       let g = t.ties.near_goes link at.there (ap has_phase_settled at.phase_is) in
       let at_link = subst (λ (v : LinkWorld Control). Run rules t.profile (start_of mx) (start_of my) v) (stands_so l link rows w g) t.run in
-      record { profile = t.profile; world = emitted w;
-            run = steps (standing_at l link rows w) (emitted w) at_link
-          (emits (standing_at l link rows w) (emitted w) octets (emission w)); ties = emitted_ties w t.ties }
+      record {
+        profile = t.profile;
+        world = emitted w;
+        run = steps (standing_at l link rows w) (emitted w) at_link
+            (emits (standing_at l link rows w) (emitted w) octets (emission w));
+        ties = emitted_ties w t.ties;
+      }
 
 -- what a link in service answers
 pub sent_answer : (l : ℕ) (link : LinkState) (s : State) → IsAt l link Up s → (unit : SignalUnit) × ((step s (Next l)).answer ≡ Sent unit)

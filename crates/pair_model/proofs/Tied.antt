@@ -69,8 +69,8 @@ there_below given number rows body numbered there = go (nat_lt number given) ref
         let low = rw e at (numbered number) in
         let none = empty _ (omega (arith, low)) in
         let no : None ≡ Some body = sym
-            (ap (option_map (λ (row : Row). row.body))
-              (row_is_first number rows ∙ ap (λ (xs : List Row). slice_get xs 0) none)) ∙ there in
+        (ap (option_map (λ (row : Row). row.body))
+        (row_is_first number rows ∙ ap (λ (xs : List Row). slice_get xs 0) none)) ∙ there in
         absurd cc
 
 pub keep_bodies : (s t : State) → IsNumbered (given s) s.rows → KeepsMessages s t → KeepBodies s.rows t.rows
@@ -184,8 +184,16 @@ turned l mx my x y out back t = record {
   profile = t.profile;
   world = flip t.world;
   run = run_back t.profile (start_of mx) (start_of my) t.world t.run;
-  ties = record { near = t.ties.far; far = t.ties.near; near_goes = t.ties.far_goes; far_goes = t.ties.near_goes;
-        near_counts = t.ties.far_counts; far_counts = t.ties.near_counts; out = t.ties.back; back = t.ties.out };
+  ties = record {
+    near = t.ties.far;
+    far = t.ties.near;
+    near_goes = t.ties.far_goes;
+    far_goes = t.ties.near_goes;
+    near_counts = t.ties.far_counts;
+    far_counts = t.ties.near_counts;
+    out = t.ties.back;
+    back = t.ties.out;
+  };
 }
 
 pub numbers_append : (xs ys : List Row) → numbers (xs ++ ys) ≡ numbers xs ++ numbers ys
@@ -210,8 +218,13 @@ push_all p near far [] w r = rw (append-nil w.near.window.unsent) r
 push_all p near far (n ∷ more) w r =
     let one = pushed (n ∷ []) w in
     let offer : Offers rules n w one =
-        record { pushes = record { profile = refl; last = refl; unacked = refl; unsent = refl; room = omega arith };
-          near = refl; far = refl; out = refl; back = refl } in
+    record {
+      pushes = record { profile = refl; last = refl; unacked = refl; unsent = refl; room = omega arith };
+      near = refl;
+      far = refl;
+      out = refl;
+      back = refl;
+    } in
     rw (append_assoc w.near.window.unsent (n ∷ []) more) at (push_all p near far more one (steps w one r (offers w one n offer)))
 
 take_all_back : (p : Profile) (near far : Control) (n : ℕ) (unsent : List ℕ) (w : LinkWorld Control)
@@ -221,8 +234,19 @@ take_all_back p near far (suc n) [] w e r = rw (← e) r
 take_all_back p near far (suc n) (m ∷ unsent) w e r =
     let one = waiting unsent w in
     let back : TakesBack rules w one =
-        record { withdraws = record { profile = refl; last = refl; unacked = refl; unsent = rw e refl;
-            room = omega arith }; near = refl; far = refl; out = refl; back = refl } in
+    record {
+      withdraws = record {
+        profile = refl;
+        last = refl;
+        unacked = refl;
+        unsent = rw e refl;
+        room = omega arith;
+      };
+      near = refl;
+      far = refl;
+      out = refl;
+      back = refl;
+    } in
     take_all_back p near far n unsent one refl (steps w one r (takes_back w one back))
 
 module _ (l : ℕ) (mx my : Method) (x y : Side) (out back : List SignalUnit) (s : State)
@@ -244,9 +268,12 @@ module _ (l : ℕ) (mx my : Method) (x y : Side) (out back : List SignalUnit) (s
   }
 
   ends : (t : Tied l mx my x y out back) → (more : List ℕ) → Goes l (pushed more t.world).near s → Tied l mx my moved y out back
-  ends t more goes = record { profile = t.profile; world = pushed more t.world;
-        run = push_all t.profile (start_of mx) (start_of my) more t.world t.run;
-      ties = tells_on (t.world.near.window.unsent ++ more) t.world t.ties goes }
+  ends t more goes = record {
+    profile = t.profile;
+    world = pushed more t.world;
+    run = push_all t.profile (start_of mx) (start_of my) more t.world t.run;
+    ties = tells_on (t.world.near.window.unsent ++ more) t.world t.ties goes;
+  }
 
   -- the first that waited wait no longer, and nothing else changes
   pub withdraws : (n : ℕ) → s.links ≡ x.state.links → unack l s.rows ≡ unack l x.state.rows
@@ -307,6 +334,14 @@ lost l mx my x y out back place few t =
       profile = t.profile;
       world = new;
       run = steps w new t.run (loses w new s.before s.one s.behind loss);
-      ties = record { near = t.ties.near; far = t.ties.far; near_goes = t.ties.near_goes; far_goes = t.ties.far_goes;
-            near_counts = t.ties.near_counts; far_counts = t.ties.far_counts; out = s.rest; back = t.ties.back };
+      ties = record {
+        near = t.ties.near;
+        far = t.ties.far;
+        near_goes = t.ties.near_goes;
+        far_goes = t.ties.far_goes;
+        near_counts = t.ties.near_counts;
+        far_counts = t.ties.far_counts;
+        out = s.rest;
+        back = t.ties.back;
+      };
     }

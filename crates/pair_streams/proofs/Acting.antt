@@ -216,7 +216,7 @@ module _ (s f : State) (sound : IsSound s) (offered_here got lost : ℕ → List
       → offer_refusal s.settings.profile s.rows body ≡ o
       → Flows (offered o s body).state f
       (past_asked (Offer body) (Answered (offered o s body).answer)
-        (record { sent = λ l. []; taken = λ l. []; offered = offered_here; got = λ l. [] })).offered got lost
+      (record { sent = λ l. []; taken = λ l. []; offered = offered_here; got = λ l. [] })).offered got lost
   offer_out body low None e = offers_flow s f sound body low (users_body s.settings.profile s.rows body e) offered_here got lost w
   offer_out body low (Some why) e = none_more (stream_of body) s f offered_here got lost w
 
@@ -228,7 +228,7 @@ module _ (s f : State) (sound : IsSound s) (offered_here got lost : ℕ → List
   pub offers_out : (body : List ℕ) → stream_of body < 16
       → Flows (step s (Offer body)).state f
       (past_asked (Offer body) (Answered (step s (Offer body)).answer)
-        (record { sent = λ l. []; taken = λ l. []; offered = offered_here; got = λ l. [] })).offered got lost
+      (record { sent = λ l. []; taken = λ l. []; offered = offered_here; got = λ l. [] })).offered got lost
   unfolding step
   offers_out body low = offer_out body low (offer_refusal s.settings.profile s.rows body) refl
 
@@ -249,8 +249,12 @@ among_more m (x ∷ xs) ys (inr a) = inr (among_more m xs ys a)
 covers_more : (stream : ℕ) (more : List Message) (past : Past) (lost : ℕ → List Message) (t : State)
     → Covered past lost t → Covered (record past { offered = added_at stream more past.offered }) lost t
 covers_more stream more past lost t c =
-    record { managed = c.managed; numbered = c.numbered; gone = c.gone;
-      known = λ number b e users. go number b (c.known number b e users) (stream_of b == stream) refl }
+    record {
+      managed = c.managed;
+      numbered = c.numbered;
+      gone = c.gone;
+      known = λ number b e users. go number b (c.known number b e users) (stream_of b == stream) refl;
+    }
   where
     go : (number : ℕ) (b : List ℕ) → Among (record { number = number; body = b }) (past.offered (stream_of b))
         → (c : Bool) → (stream_of b == stream) ≡ c
@@ -264,8 +268,8 @@ offer_covers : (s : State) (past : Past) (lost : ℕ → List Message) (body : L
     (offered o s body).state
 offer_covers s past lost body None c =
     covers_appended _ _ s (offered None s body).state body _ refl refl refl
-        (λ e. rw (itself (stream_of body)) (among_last (new_message (given s) body) (past.offered (stream_of body))))
-        (covers_more (stream_of body) (new_message (given s) body ∷ []) past lost s c)
+    (λ e. rw (itself (stream_of body)) (among_last (new_message (given s) body) (past.offered (stream_of body))))
+    (covers_more (stream_of body) (new_message (given s) body ∷ []) past lost s c)
 offer_covers s past lost body (Some why) c = covers_more (stream_of body) [] past lost s c
 
 offers_cover : (s : State) (past : Past) (lost : ℕ → List Message) (body : List ℕ) → Covered past lost s
@@ -307,7 +311,7 @@ module _ {emergencies : Bool} (p : Two) (sound : IsSound p.near) (w : Streams em
         out = offers_out p.near p.far sound p.near_past.offered p.far_past.got w.out_lost w.out body (stream_below_16 body);
         back = far_carried p.near (step p.near (Offer body)).state p.far keeps.accepted p.far_past.offered
             p.near_past.got w.back_lost (offers_back p.near p.far sound p.near_past.offered p.far_past.got w.out_lost
-              w.out body (stream_below_16 body)) w.back;
+            w.out body (stream_below_16 body)) w.back;
         near_covers = offers_cover p.near p.near_past w.out_lost body w.near_covers;
         far_covers = w.far_covers;
         near_rises = offers_rise p.near_past p.near body w.near_rises;
@@ -407,7 +411,7 @@ rises_backs : (k c : ℕ) (s : State) (link : LinkState) → IsAt k link Settled
 unfolding step
 rises_backs k c s link at = rw (at.there, at.phase_is)
     (ap messages (moved_same is_parked (is_back c) (all_with (Waiting k)) s.rows (λ row. refl)
-        (λ fate e. parked_not_back c fate e)))
+    (λ fate e. parked_not_back c fate e)))
 
 module _ {emergencies : Bool} (mx my : Method) (p : Two) (h : HoldsOf mx my p) (w : Streams emergencies p) (k : ℕ)
     (few : k < length p.near.links) (near_settled : is_settled k p.near ≡ true)

@@ -73,11 +73,11 @@ module _ (stream : ℕ) (s f : State) (done : AreDone (counts_in s)) where
       let waiting = none_of stream waits (is_waiting l) (waits_within l) s.rows done.none_waiting in
       let holding = none_of stream was_held (is_held l) (held_within l) s.rows done.none_held in
       ap (those_of stream) (joined (drop count (unack l s.rows) ++ wait l s.rows) (held l s.rows)
-            ∙ ap (λ (q : List Message). q ++ messages (held l s.rows))
-          (joined (drop count (unack l s.rows)) (wait l s.rows)))
+      ∙ ap (λ (q : List Message). q ++ messages (held l s.rows))
+      (joined (drop count (unack l s.rows)) (wait l s.rows)))
       ∙ those_joined stream (messages (drop count (unack l s.rows)) ++ messages (wait l s.rows)) (messages (held l s.rows))
       ∙ ap (λ (q : List Message). q ++ those_of stream (messages (held l s.rows)))
-          (those_joined stream (messages (drop count (unack l s.rows))) (messages (wait l s.rows)))
+      (those_joined stream (messages (drop count (unack l s.rows))) (messages (wait l s.rows)))
       ∙ rw (sent, waiting, holding) refl
 
   none_aside : those_of stream (aside s) ≡ []

@@ -69,9 +69,9 @@ IsFreed c s t g = (code_of c s.routing ≡ Free)
 pub backed : (s t f g : State) → Backing s.routing (view s f) (view f s)
     → ((stream : ℕ) → stream < 16 → (to code via : ℕ) → place_of stream t.routing ≡ Changing to code via → Clear stream code via (view t g))
     → ((stream : ℕ) → stream < 16 → (to code via : ℕ) → place_of stream t.routing ≡ Changing to code via → (n : Message)
-          → In n (view f s) → Acknowledges code n → those_of stream (pending via t g) ≡ [])
+    → In n (view f s) → Acknowledges code n → those_of stream (pending via t g) ≡ [])
     → ((c : ℕ) → c < 256 → code_of c t.routing ≡ Free → IsFreed c s t g) → NewDeclares (view t g) (view s f)
-        → NewAcknowledges (view g t) (view f s) → Backing t.routing (view t g) (view g t)
+    → NewAcknowledges (view g t) (view f s) → Backing t.routing (view t g) (view g t)
 backed s t f g b clear answered freed declares acknowledges = record {
   few_declared = λ c m i d. b.few_declared c m (declares c m i d) d;
   few_acked = λ c m i d. b.few_acked c m (acknowledges c m i d) d;
@@ -95,7 +95,7 @@ backed s t f g b clear answered freed declares acknowledges = record {
 -- and of all
 pub carried : (s t f g : State) (offered got lost : ℕ → List Message) → Flows s f offered got lost → ((stream : ℕ) → stream < 16 → Kept stream s t f g)
     → ((c : ℕ) → c < 256 → code_of c t.routing ≡ Free → IsFreed c s t g) → NewDeclares (view t g) (view s f)
-        → NewAcknowledges (view g t) (view f s) → Flows t g offered got lost
+    → NewAcknowledges (view g t) (view f s) → Flows t g offered got lost
 carried s t f g offered got lost w kept freed declares acknowledges = record {
   flow = λ stream low. subst (λ (x : List Message). Mixed (got stream ++ x) (lost stream) (offered stream)) (sym (kept stream low).here_is) (w.flow stream low);
   stands = λ stream low. (kept stream low).stands;
@@ -151,8 +151,8 @@ module _ (s t f : State) (accepted : (l : ℕ) → accepted_on l t ≡ accepted_
       (w : Flows f s offered got lost) (new : (m : Message) → In m (view t f) → In m (view s f) ⊎ (m ≡ z))
       (tells : (c : ℕ) → Acknowledges c z → c ≡ code)
       (none_declared : (m : Message) → In m (view f s) → Declares code m → ⊥)
-          (none_acked : (m : Message) → In m (view s f) → Acknowledges code m → ⊥)
-          (in_use : code_of code f.routing ≡ Free → ⊥)
+      (none_acked : (m : Message) → In m (view s f) → Acknowledges code m → ⊥)
+      (in_use : code_of code f.routing ≡ Free → ⊥)
       (empty : (stream : ℕ) → stream < 16 → (to via : ℕ) → place_of stream f.routing ≡ Changing to code via → those_of stream (pending via f s) ≡ []) where
     at_code : (P : ℕ → Type 0) → (c : ℕ) (m : Message) → m ≡ z → Acknowledges c m → P code → P c
     at_code P c m same a p = subst P (sym (tells c (subst (Acknowledges c) same a))) p

@@ -98,12 +98,12 @@ module _ (ma mb : Method) (one : IsOneMethod ma mb) where
             (event_kept g.world.a.state g.world.b.state A event h.near_sound v.ordered.near_codes own safe)
         shown B safe = counts_back (step g.world.b.state event).state g.world.a.state
             (counts_kept g.world.b.state (step g.world.b.state event).state g.world.a.state c_b
-              (event_kept g.world.b.state g.world.a.state B event h.far_sound v.ordered.far_codes own safe))
+            (event_kept g.world.b.state g.world.a.state B event h.far_sound v.ordered.far_codes own safe))
 
         go : (known full : Bool) → CountsThen
             (cond known (cond full exhausted
-                (shows (Answered (answer_to (at_end g.world end) event))
-              (with_end g.world end (after (at_end g.world end) event)))) impossible)
+            (shows (Answered (answer_to (at_end g.world end) event))
+            (with_end g.world end (after (at_end g.world end) event)))) impossible)
         go true true = tt
         go true false = shown end safe
         go false full = tt
@@ -119,38 +119,38 @@ module _ (ma mb : Method) (one : IsOneMethod ma mb) where
     next_a k few true e =
         let at = is_at_up k g.world.a.state e in
         subst (λ (o : SetOutcome). EventKeeps true g.world.a.state o.state g.world.b.state)
-            (sym (sends_next k g.world.a.state g.world.b.state v.ordered.both at.0 at.1))
-            (sends_keep ma mb one (seen A g) h k few at.0 at.1)
+        (sym (sends_next k g.world.a.state g.world.b.state v.ordered.both at.0 at.1))
+        (sends_keep ma mb one (seen A g) h k few at.0 at.1)
     next_a k few false e =
         subst (λ (s : State). EventKeeps true g.world.a.state s g.world.b.state)
-            (sym (ap (λ (o : SetOutcome). o.state) (moving.next_refused k g.world.a.state e).1))
-            (keeps_still g.world.a.state g.world.a.state g.world.b.state refl refl)
+        (sym (ap (λ (o : SetOutcome). o.state) (moving.next_refused k g.world.a.state e).1))
+        (keeps_still g.world.a.state g.world.a.state g.world.b.state refl refl)
 
     next_b : (k : ℕ) → k < length g.world.b.state.links → (b : Bool) → is_up k g.world.b.state ≡ b
         → EventKeeps true g.world.b.state (step g.world.b.state (Next k)).state g.world.a.state
     next_b k few true e =
         let at = is_at_up k g.world.b.state e in
         subst (λ (o : SetOutcome). EventKeeps true g.world.b.state o.state g.world.a.state)
-            (sym (sends_next k g.world.b.state g.world.a.state v_b.ordered.both at.0 at.1))
-            (sends_keep mb ma one_b (seen B g) h_b k few at.0 at.1)
+        (sym (sends_next k g.world.b.state g.world.a.state v_b.ordered.both at.0 at.1))
+        (sends_keep mb ma one_b (seen B g) h_b k few at.0 at.1)
     next_b k few false e =
         subst (λ (s : State). EventKeeps true g.world.b.state s g.world.a.state)
-            (sym (ap (λ (o : SetOutcome). o.state) (moving.next_refused k g.world.b.state e).1))
-            (keeps_still g.world.b.state g.world.b.state g.world.a.state refl refl)
+        (sym (ap (λ (o : SetOutcome). o.state) (moving.next_refused k g.world.b.state e).1))
+        (keeps_still g.world.b.state g.world.b.state g.world.a.state refl refl)
 
     emit_at : (end : End) (k : ℕ) → k < length g.world.a.state.links → CountsIn (with_end g.world end (after (at_end g.world end) (Next k)))
     emit_at A k few = counts_kept g.world.a.state (step g.world.a.state (Next k)).state g.world.b.state c (next_a k few (is_up k g.world.a.state) refl)
     emit_at B k few = counts_back (step g.world.b.state (Next k)).state g.world.a.state
         (counts_kept g.world.b.state (step g.world.b.state (Next k)).state g.world.a.state c_b
-          (next_b k (omega (arith, few, h.far_links)) (is_up k g.world.b.state) refl))
+        (next_b k (omega (arith, few, h.far_links)) (is_up k g.world.b.state) refl))
 
     emit_counts : (end : End) (k : ℕ) → CountsThen (emits g.world end k)
     emit_counts end k = go (has_link g.world k) refl (is_full (at_end g.world end))
       where
         go : (known : Bool) → has_link g.world k ≡ known → (full : Bool)
             → CountsThen (sends_on end k (cond known
-                (cond full exhausted (shows (Answered (answer_to (at_end g.world end) (Next k)))
-                (with_end g.world end (after (at_end g.world end) (Next k))))) impossible))
+            (cond full exhausted (shows (Answered (answer_to (at_end g.world end) (Next k)))
+            (with_end g.world end (after (at_end g.world end) (Next k))))) impossible))
         go true e true = tt
         go true e false = sent_counts (with_end g.world end (after (at_end g.world end) (Next k))) end k
             (answer_to (at_end g.world end) (Next k)) (emit_at end k (ltb-true k (link_count g.world.a.state) e))
@@ -166,7 +166,7 @@ module _ (ma mb : Method) (one : IsOneMethod ma mb) where
 
         go : (known within : Bool) → CountsThen
             (cond known (cond within (shows Lost (with_line g.world end k (without place (line_to g.world end k))))
-                impossible) impossible)
+            impossible) impossible)
         go true true = lost end
         go true false = tt
         go false within = tt
@@ -175,9 +175,9 @@ module _ (ma mb : Method) (one : IsOneMethod ma mb) where
     module _ (k : ℕ) (few : k < length g.world.a.state.links) (unit : SignalUnit) (rest : List SignalUnit) where
       reach_a : units_on k g.world.to_a ≡ unit ∷ rest → (rising : Bool) → is_up k g.world.a.state ≡ rising → (known full : Bool)
           → CountsThen (cond rising (cond known
-                  (cond full exhausted (shows (Answered (answer_to g.world.a (Heard k unit)))
-                  (with_end (with_line g.world A k rest) A (after g.world.a (Heard k unit))))) impossible)
-              (shows Lost (with_line g.world A k rest)))
+          (cond full exhausted (shows (Answered (answer_to g.world.a (Heard k unit)))
+          (with_end (with_line g.world A k rest) A (after g.world.a (Heard k unit))))) impossible)
+          (shows Lost (with_line g.world A k rest)))
       reach_a front true e true true = tt
       reach_a front true e true false = let at = is_at_up k g.world.a.state e in heard_counts ma mb one (seen A g) h v.ordered c k few unit rest front at.0 at.1
       reach_a front true e false full = tt
@@ -185,15 +185,15 @@ module _ (ma mb : Method) (one : IsOneMethod ma mb) where
 
       reach_b : units_on k g.world.to_b ≡ unit ∷ rest → (rising : Bool) → is_up k g.world.b.state ≡ rising → (known full : Bool)
           → CountsThen (cond rising (cond known
-                  (cond full exhausted (shows (Answered (answer_to g.world.b (Heard k unit)))
-                  (with_end (with_line g.world B k rest) B (after g.world.b (Heard k unit))))) impossible)
-              (shows Lost (with_line g.world B k rest)))
+          (cond full exhausted (shows (Answered (answer_to g.world.b (Heard k unit)))
+          (with_end (with_line g.world B k rest) B (after g.world.b (Heard k unit))))) impossible)
+          (shows Lost (with_line g.world B k rest)))
       reach_b front true e true true = tt
       reach_b front true e true false =
           let at = is_at_up k g.world.b.state e in
           counts_back (step g.world.b.state (Heard k unit)).state g.world.a.state
-              (heard_counts mb ma one_b (seen B g) h_b v_b.ordered c_b k (omega (arith, few, h.far_links)) unit rest
-                front at.0 at.1)
+          (heard_counts mb ma one_b (seen B g) h_b v_b.ordered c_b k (omega (arith, few, h.far_links)) unit rest
+          front at.0 at.1)
       reach_b front true e false full = tt
       reach_b front false e known full = c
 
@@ -258,7 +258,7 @@ module _ (ma mb : Method) (one : IsOneMethod ma mb) where
       go true e =
           let other = present p.far.links link (omega (arith, within p.near.links link state there, h.far_links)) in
           let counted : accepted_on link p.far ≡ length (p.far_past.taken link) = ap accepted_of other.1
-              ∙ (kept_on mx my one p h link).accepted other.0 other.1 in
+          ∙ (kept_on mx my one p h link).accepted other.0 other.1 in
           let few = less link (ap link_is_settled there ∙ e) in
           let is : acked_on link p.near ≡ state.acked = ap acked_of there in
           omega (arith, counted, few, is)
@@ -282,7 +282,7 @@ module _ (ma mb : Method) (one : IsOneMethod ma mb) where
 
   onward : (g : Stage) (step : Step) (steps : List Step)
       → ((later : Stage) → Holds ma mb one later → Streams true (seen A later) → CountsIn later.world
-        → HoldsAlong AckedAreTaken later steps) → (outcome : Outcome) → Goes ma mb one g step outcome
+      → HoldsAlong AckedAreTaken later steps) → (outcome : Outcome) → Goes ma mb one g step outcome
       → Keeps true ma mb one g step outcome → OnShows outcome (λ shown new. CountsIn (passed g step shown new).world)
       → OnShows outcome (λ shown new. HoldsAlong AckedAreTaken (passed g step shown new) steps)
   onward g step steps next (shows shown new) goes keeps c = next (passed g step shown new) goes.1 keeps c

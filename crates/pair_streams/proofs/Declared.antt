@@ -103,7 +103,7 @@ coo_declares_in Narrow sio dpc opc l fsn other link e =
     (λ n e. absurd cc) (sio % 16 == 0) link e
 coo_declares_in Wide sio dpc opc l fsn other link e =
     declares_wide other (Coo (label_number dpc opc l / 0x1000000 % 256 / 16)
-      (((fsn + 4096 * 0) % 256 + 256 * ((fsn + 4096 * 0) / 256)) % 4096)) (λ n e. absurd cc) (sio % 16 == 0) link e
+    (((fsn + 4096 * 0) % 256 + 256 * ((fsn + 4096 * 0) / 256)) % 4096)) (λ n e. absurd cc) (sio % 16 == 0) link e
 
 coo_acknowledges_in : (p : Profile) (sio dpc opc l fsn other link : ℕ) → order_any (text p (Coo l fsn) sio dpc opc) ≡ Some (Cba link other) → ⊥
 coo_acknowledges_in Narrow sio dpc opc l fsn other link e =
@@ -111,7 +111,7 @@ coo_acknowledges_in Narrow sio dpc opc l fsn other link e =
     (λ n e. absurd cc) (sio % 16 == 0) link e
 coo_acknowledges_in Wide sio dpc opc l fsn other link e =
     acknowledges_wide other (Coo (label_number dpc opc l / 0x1000000 % 256 / 16)
-      (((fsn + 4096 * 0) % 256 + 256 * ((fsn + 4096 * 0) / 256)) % 4096)) (λ n e. absurd cc) (sio % 16 == 0) link e
+    (((fsn + 4096 * 0) % 256 + 256 * ((fsn + 4096 * 0) / 256)) % 4096)) (λ n e. absurd cc) (sio % 16 == 0) link e
 
 coa_declares_in : (p : Profile) (sio dpc opc l fsn other link : ℕ) → order_any (text p (Coa l fsn) sio dpc opc) ≡ Some (Cbd link other) → ⊥
 coa_declares_in Narrow sio dpc opc l fsn other link e =
@@ -119,7 +119,7 @@ coa_declares_in Narrow sio dpc opc l fsn other link e =
     (λ n e. absurd cc) (sio % 16 == 0) link e
 coa_declares_in Wide sio dpc opc l fsn other link e =
     declares_wide other (Coa (label_number dpc opc l / 0x1000000 % 256 / 16)
-      (((fsn + 4096 * 0) % 256 + 256 * ((fsn + 4096 * 0) / 256)) % 4096)) (λ n e. absurd cc) (sio % 16 == 0) link e
+    (((fsn + 4096 * 0) % 256 + 256 * ((fsn + 4096 * 0) / 256)) % 4096)) (λ n e. absurd cc) (sio % 16 == 0) link e
 
 coa_acknowledges_in : (p : Profile) (sio dpc opc l fsn other link : ℕ) → order_any (text p (Coa l fsn) sio dpc opc) ≡ Some (Cba link other) → ⊥
 coa_acknowledges_in Narrow sio dpc opc l fsn other link e =
@@ -127,7 +127,7 @@ coa_acknowledges_in Narrow sio dpc opc l fsn other link e =
     (λ n e. absurd cc) (sio % 16 == 0) link e
 coa_acknowledges_in Wide sio dpc opc l fsn other link e =
     acknowledges_wide other (Coa (label_number dpc opc l / 0x1000000 % 256 / 16)
-      (((fsn + 4096 * 0) % 256 + 256 * ((fsn + 4096 * 0) / 256)) % 4096)) (λ n e. absurd cc) (sio % 16 == 0) link e
+    (((fsn + 4096 * 0) % 256 + 256 * ((fsn + 4096 * 0) / 256)) % 4096)) (λ n e. absurd cc) (sio % 16 == 0) link e
 
 module _ (s : Settings) (l : ℕ) where
   abbrev told_link : ℕ
@@ -183,7 +183,9 @@ leaving_declares s l false link number other d = coo_declares s l number (last_a
 leaving_declares s l true link number other d = eco_declares s l number other d
 
 pub leaving_acknowledges : (s : Settings) (l : ℕ) (blind : Bool) (link : LinkState) (number other : ℕ)
-    → Acknowledges other (record { number = number;
-        body = text s.profile (leaving_order blind l link) s.sio s.dpc s.opc }) → ⊥
+    → Acknowledges other (record {
+      number = number;
+      body = text s.profile (leaving_order blind l link) s.sio s.dpc s.opc;
+    }) → ⊥
 leaving_acknowledges s l false link number other d = coo_acknowledges s l number (last_accepted link) other d
 leaving_acknowledges s l true link number other d = eco_acknowledges s l number other d

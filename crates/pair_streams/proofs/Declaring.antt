@@ -89,7 +89,7 @@ module _ (home alternative : ℕ) (s f : State) (sound : IsSound s) (home_up : i
   of_none : (stream : ℕ) → is_of stream z ≡ false
   of_none stream = no_stream stream s.settings.sio (given s)
       (label s.settings.dpc s.settings.opc home
-        ++ heading_of (Cbd home code) ∷ content_with s.settings.profile 0 (Cbd home code)) sound.managed
+      ++ heading_of (Cbd home code) ∷ content_with s.settings.profile 0 (Cbd home code)) sound.managed
 
   tells : (c : ℕ) → Declares c z → c ≡ code
   tells c d = cbd_other s.settings home (given s) code c d
@@ -153,7 +153,7 @@ module _ (home alternative : ℕ) (s f : State) (sound : IsSound s) (home_up : i
         back_none : those_of stream (back_by code then_s) ≡ []
         back_none =
             those_stay z stream (of_none stream) false (back_by code s) (back_by code then_s)
-                (grows_back s then_s f body (Waiting alternative) refl refl new_at code)
+            (grows_back s then_s f body (Waiting alternative) refl refl new_at code)
             ∙ none_back_by stream code s sound (ap (λ (q : Place). waits_by q code) is)
 
         clear_new : Clear stream code alternative (view then_s f)
@@ -197,11 +197,11 @@ module _ (home alternative : ℕ) (s f : State) (sound : IsSound s) (home_up : i
           go true e =
               let runs = both_true (stream % s.routing.links == home) (runs_on alternative (place_of stream s.routing)) e in
               asked_kept (runs_on_so alternative (place_of stream s.routing) runs.1)
-                  (place_then ∙ ap (λ (b : Bool). cond b (Changing home code alternative) (place_of stream s.routing))
-                    e)
+              (place_then ∙ ap (λ (b : Bool). cond b (Changing home code alternative) (place_of stream s.routing))
+              e)
           go false e = apart_kept s then_s f body (Waiting alternative) refl refl new_at stream (of_none stream) offered
               got lost w low (place_then ∙ ap
-                (λ (b : Bool). cond b (Changing home code alternative) (place_of stream s.routing)) e) used_then
+              (λ (b : Bool). cond b (Changing home code alternative) (place_of stream s.routing)) e) used_then
               other_code
 
     -- THE CODE is in use then, and told by this message alone
@@ -272,10 +272,10 @@ declares_from home alternative (suc n) s f offered got lost sound up w =
   where
     go : (b : Bool) → can_declare home alternative s ≡ b
         → ((t : State) → IsSound t → is_up home t ≡ true → Flows t f offered got lost
-          → Flows (declared_from home (suc alternative) n t) f offered got lost)
+        → Flows (declared_from home (suc alternative) n t) f offered got lost)
         → Flows (declared_from home alternative (suc n) s) f offered got lost
     go true e later = rw e (later (declared home alternative s) (declares home alternative s up e sound) up
-          (declares_flow home alternative s f sound up e offered got lost w))
+        (declares_flow home alternative s f sound up e offered got lost w))
     go false e later = rw e (later s sound up w)
 
 pub acks_from : (home alternative n : ℕ) (s f : State) → IsSound s → is_up home s ≡ true
@@ -286,14 +286,14 @@ acks_from home alternative (suc n) s f sound up =
   where
     go : (b : Bool) → can_declare home alternative s ≡ b
         → ((t : State) → IsSound t → is_up home t ≡ true
-          → NewAcknowledges (view (declared_from home (suc alternative) n t) f) (view t f))
+        → NewAcknowledges (view (declared_from home (suc alternative) n t) f) (view t f))
         → NewAcknowledges (view (declared_from home alternative (suc n) s) f) (view s f)
     go true e later = subst (λ (b : Bool). NewAcknowledges
-          (view (declared_from home (suc alternative) n (cond b (declared home alternative s) s)) f) (view s f)) (sym e)
+        (view (declared_from home (suc alternative) n (cond b (declared home alternative s) s)) f) (view s f)) (sym e)
         (λ c m i a. declares_acks home alternative s f sound up e c m
-          (later (declared home alternative s) (declares home alternative s up e sound) up c m i a) a)
+        (later (declared home alternative s) (declares home alternative s up e sound) up c m i a) a)
     go false e later = subst (λ (b : Bool). NewAcknowledges
-          (view (declared_from home (suc alternative) n (cond b (declared home alternative s) s)) f) (view s f)) (sym e)
+        (view (declared_from home (suc alternative) n (cond b (declared home alternative s) s)) f) (view s f)) (sym e)
         (later s sound up)
 
 pub comes_flow : (k : ℕ) (s f : State) (offered got lost : ℕ → List Message) → IsSound s → is_up k s ≡ true
@@ -309,8 +309,8 @@ comes_acks k s f sound up = go (some_declare k 0 (link_count s) s) refl
   where
     go : (b : Bool) → some_declare k 0 (link_count s) s ≡ b → NewAcknowledges (view (comes_back k s).state f) (view s f)
     go true e = subst (λ (b : Bool). NewAcknowledges
-          (view (cond b (record { answer = Done; state = declared_from k 0 (link_count s) s })
-            (refused s Nothing)).state f) (view s f)) (sym e) (acks_from k 0 (link_count s) s f sound up)
+        (view (cond b (record { answer = Done; state = declared_from k 0 (link_count s) s })
+        (refused s Nothing)).state f) (view s f)) (sym e) (acks_from k 0 (link_count s) s f sound up)
     go false e = subst (λ (b : Bool). NewAcknowledges
-          (view (cond b (record { answer = Done; state = declared_from k 0 (link_count s) s })
-            (refused s Nothing)).state f) (view s f)) (sym e) (λ c m i a. i)
+        (view (cond b (record { answer = Done; state = declared_from k 0 (link_count s) s })
+        (refused s Nothing)).state f) (view s f)) (sym e) (λ c m i a. i)

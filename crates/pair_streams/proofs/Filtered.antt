@@ -94,10 +94,10 @@ pub none_queued : (stream count l : ℕ) (rows : List Row) → those_of stream (
     → those_of stream (queue count l rows) ≡ []
 none_queued stream count l rows a b c =
     ap (those_of stream) (joined (drop count (unack l rows) ++ wait l rows) (held l rows)
-          ∙ ap (λ (q : List Message). q ++ messages (held l rows)) (joined (drop count (unack l rows)) (wait l rows)))
+    ∙ ap (λ (q : List Message). q ++ messages (held l rows)) (joined (drop count (unack l rows)) (wait l rows)))
     ∙ none_both stream (messages (drop count (unack l rows)) ++ messages (wait l rows)) (messages (held l rows))
-        (none_both stream (messages (drop count (unack l rows))) (messages (wait l rows))
-          (none_dropped stream count (unack l rows) a) b) c
+    (none_both stream (messages (drop count (unack l rows))) (messages (wait l rows))
+    (none_dropped stream count (unack l rows) a) b) c
 
 pub each_so : (P Q : Row → Type 0) → ((row : Row) → P row → Q row) → (rows : List Row) → Each P rows → Each Q rows
 each_so P Q so [] each = tt
@@ -123,7 +123,7 @@ and_so stream test true rows = picked stream (λ row. test row.fate && true) (λ
 
     always : (rows : List Row) → Each
         (λ row. is_of stream (record { number = row.number; body = row.body }) ≡ true
-          → (test row.fate && true) ≡ test row.fate) rows
+        → (test row.fate && true) ≡ test row.fate) rows
     always [] = tt
     always (row ∷ rows) = ((λ own. and_true (test row.fate)), always rows)
 and_so stream test false rows = picked stream (λ row. test row.fate && false) (λ row. false) rows (always rows) ∙ ap (those_of stream) (never_picked rows)

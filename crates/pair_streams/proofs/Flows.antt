@@ -45,8 +45,8 @@ pub order_new : (s f : State) (l : ℕ) (body : List ℕ) → IsSound s → (to 
 order_new s f l body sound None e = to_park
 order_new s f l body sound (Some to) e =
     to_wait to (λ same. held_none s l sound
-      (subst (λ (k : ℕ). is_up k s ≡ true) (eqb-true to l same)
-      (let up = target_up s.links to e in ap link_is_up up.1 ∙ up.2)))
+    (subst (λ (k : ℕ). is_up k s ≡ true) (eqb-true to l same)
+    (let up = target_up s.links to e in ap link_is_up up.1 ∙ up.2)))
 
 module _ (order : Order) (s f : State) (sound : IsSound s) where
   abbrev body : List ℕ
@@ -64,13 +64,13 @@ module _ (order : Order) (s f : State) (sound : IsSound s) where
   of_none : (stream : ℕ) → is_of stream order_z ≡ false
   of_none stream = no_stream stream s.settings.sio (given s)
       (label s.settings.dpc s.settings.opc (link_of order)
-        ++ heading_of order ∷ content_with s.settings.profile 0 order) sound.managed
+      ++ heading_of order ∷ content_with s.settings.profile 0 order) sound.managed
 
   pub queues_flow : ((c : ℕ) → Declares c order_z → ⊥) → (offered got lost : ℕ → List Message)
       → Flows s f offered got lost → Flows (queued order s) f offered got lost
   queues_flow none offered got lost w = carried s (queued order s) f f offered got lost w
       (λ stream low. apart_kept s (queued order s) f body (fate_on (target s.links)) refl refl new_at stream
-            (of_none stream) offered got lost w low refl refl (λ to code via e. none code))
+      (of_none stream) offered got lost w low refl refl (λ to code via e. none code))
       (λ c few e. inl e) (λ c m i d. go c m d (order_in m i)) (λ c m i a. i)
     where
       go : (c : ℕ) (m : Message) → Declares c m → In m (view s f) ⊎ (m ≡ order_z) → In m (view s f)
@@ -163,8 +163,8 @@ module _ (s f : State) (sound : IsSound s) (body : List ℕ) (low : stream_of bo
       ∙ ap₂ (λ (x y : List Message). x ++ y)
       (those_out z (stream_of body) (is_on via fate) (ap (λ (q : Place). is_on via (fate_at q s)) is) (pending via s f) (pending via then_s f) (on_grows via))
       (those_in z (stream_of body) own_is (is_back code fate)
-            (ap (λ (q : Place). is_back code (fate_at q s)) is ∙ itself code) (back_by code s) (back_by code then_s)
-          (back_grows code))
+      (ap (λ (q : Place). is_back code (fate_at q s)) is ∙ itself code) (back_by code s) (back_by code then_s)
+      (back_grows code))
       ∙ sym (append_assoc (those_of (stream_of body) (pending via s f)) (those_of (stream_of body) (back_by code s)) (z ∷ []))
       ∙ ap (λ (x : List Message). x ++ z ∷ []) (sym (those_joined (stream_of body) (pending via s f) (back_by code s)))
   grows_there Nowhere is = those_in z (stream_of body) own_is (is_parked fate)
@@ -174,7 +174,7 @@ module _ (s f : State) (sound : IsSound s) (body : List ℕ) (low : stream_of bo
     apart_so : (stream : ℕ) → stream < 16 → (stream == stream_of body) ≡ false → Kept stream s then_s f f
     apart_so stream few e =
         apart_kept s then_s f body fate refl refl new_for stream (rw (users, apart_back stream (stream_of body) e) refl)
-            offered got lost w few (same_place stream few)
+        offered got lost w few (same_place stream few)
         ((route.alone s.routing stream sound.routing few).accepted_messages (stream_of body) ∙ rw e refl) (λ to code via g. no_declaration code)
 
     -- its own stream stands alone too
@@ -228,11 +228,11 @@ module _ (s f : State) (sound : IsSound s) (body : List ℕ) (low : stream_of bo
         → place_of stream then_s.routing ≡ Changing to code via → (n : Message) → In n (view f s) → Acknowledges code n
         → those_of stream (pending via then_s f) ≡ []
     answered_then = by_stream (λ stream. (to code via : ℕ) → place_of stream then_s.routing ≡ Changing to code via
-          → (n : Message) → In n (view f s) → Acknowledges code n → those_of stream (pending via then_s f) ≡ [])
+        → (n : Message) → In n (view f s) → Acknowledges code n → those_of stream (pending via then_s f) ≡ [])
         (λ to code via e n i a. let is = sym (same_place (stream_of body) low)
-              ∙ e in ap (those_of (stream_of body))
-            (same_queue via (is_on via fate) refl (back_fate to code via via is))
-            ∙ w.backing.answered (stream_of body) low to code via is n i a)
+        ∙ e in ap (those_of (stream_of body))
+        (same_queue via (is_on via fate) refl (back_fate to code via via is))
+        ∙ w.backing.answered (stream_of body) low to code via is n i a)
         (λ stream few d. (apart_so stream few d).answered)
 
     was_there : (c : ℕ) (m : Message) → In m (view then_s f) → Declares c m → In m (view s f)
@@ -259,8 +259,8 @@ module _ (s f : State) (sound : IsSound s) (body : List ℕ) (low : stream_of bo
             let same : stream ≡ stream_of body = eqb-true stream (stream_of body) e in
             let last : got (stream_of body) ++ here (stream_of body) then_s f ≡ got (stream_of body) ++ here (stream_of body) s f ++ z ∷ [] =
             ap (λ (x : List Message). got (stream_of body) ++ x)
-                (ap (λ (q : Place). those_of (stream_of body) (queue_at q then_s f)) (same_place (stream_of body) low)
-                  ∙ grows_there place refl)
+            (ap (λ (q : Place). those_of (stream_of body) (queue_at q then_s f)) (same_place (stream_of body) low)
+            ∙ grows_there place refl)
             ∙ sym (append_assoc (got (stream_of body)) (here (stream_of body) s f) (z ∷ [])) in
             subst (λ (n : ℕ). Mixed (got n ++ here n then_s f) (lost n) (offered n ++ z ∷ [])) (sym same)
             (subst (λ (x : List Message). Mixed x (lost (stream_of body)) (offered (stream_of body) ++ z ∷ [])) (sym last)
@@ -272,7 +272,7 @@ module _ (s f : State) (sound : IsSound s) (body : List ℕ) (low : stream_of bo
             → (stream == stream_of body) ≡ b → cond b (offered stream ++ z ∷ []) (offered stream) ≡ []
         unused_case stream few e true d =
             absurd (let never : true ≡ false =
-              sym ((route.alone s.routing stream sound.routing few).accepted_messages (stream_of body) ∙ rw d refl)
+            sym ((route.alone s.routing stream sound.routing few).accepted_messages (stream_of body) ∙ rw d refl)
             ∙ e in cc)
         unused_case stream few e false d = w.unused stream few (sym (apart_so stream few d).used ∙ e)
 

@@ -58,7 +58,7 @@ module _ (n : ℕ) (link : LinkState) (s f : State) (sound : IsSound s) (at : Is
 
   queue_is : pending n s f ≡ gone_then ++ rest
   queue_is = ap messages (append_assoc (drop (accepted_on n f - acked_on n s) (unack n s.rows)) (wait n s.rows)
-        (held n s.rows)) ∙ joined (drop (accepted_on n f - acked_on n s) (unack n s.rows))
+      (held n s.rows)) ∙ joined (drop (accepted_on n f - acked_on n s) (unack n s.rows))
       (wait n s.rows ++ held n s.rows)
 
   rest_is : pending n after f ≡ rest
@@ -81,7 +81,7 @@ module _ (n : ℕ) (link : LinkState) (s f : State) (sound : IsSound s) (at : Is
       go : (b : Bool) → (n == l) ≡ b → P (pending l s f) (pending l after f)
       go true d = subst (λ (k : ℕ). P (pending k s f) (pending k after f)) (eqb-true n l d)
           (subst (λ (q : List Message). P q (pending n after f)) (sym queue_is)
-            (subst (λ (q : List Message). P (gone_then ++ rest) q) (sym rest_is) own))
+          (subst (λ (q : List Message). P (gone_then ++ rest) q) (sym rest_is) own))
       go false d = subst (λ (q : List Message). P (pending l s f) q) (sym (others l d)) (same (pending l s f))
 
   pub was_in : (m : Message) → In m (view after f) → In m (view s f)
@@ -101,13 +101,13 @@ module _ (n : ℕ) (link : LinkState) (s f : State) (sound : IsSound s) (at : Is
     none_left : (stream l : ℕ) → those_of stream (pending l s f) ≡ [] → those_of stream (pending l after f) ≡ []
     none_left stream = by_queue (λ old new. those_of stream old ≡ [] → those_of stream new ≡ [])
         (λ e. rest_empty (those_of stream gone_then) (those_of stream rest)
-          (sym (those_joined stream gone_then rest) ∙ e)) (λ q e. e)
+        (sym (those_joined stream gone_then rest) ∙ e)) (λ q e. e)
 
     loses_on : (stream l : ℕ) (more : List Message) → Loses stream (pending l s f ++ more) (pending l after f ++ more)
     loses_on stream l more = by_queue (λ old new. Loses stream (old ++ more) (new ++ more))
         (some_lost (those_of stream (rest ++ more))
-              (ap (those_of stream) (append_assoc gone_then rest more) ∙ those_joined stream gone_then (rest ++ more))
-            refl)
+        (ap (those_of stream) (append_assoc gone_then rest more) ∙ those_joined stream gone_then (rest ++ more))
+        refl)
         (λ q. none_lost refl) l
 
     loses_at : (stream : ℕ) (q : Place) → Loses stream (queue_at q s f) (queue_at q after f)
@@ -122,13 +122,16 @@ module _ (n : ℕ) (link : LinkState) (s f : State) (sound : IsSound s) (at : Is
         → Mixed (got stream ++ those_of stream old) (lost stream) (offered stream)
         → Fewer (got stream) (those_of stream gone_then) (those_of stream new) (lost stream) (offered stream)
     lost_of stream low old new (none_lost same) m =
-        record { lost_then = lost stream;
+        record {
+          lost_then = lost stream;
           mixed = subst (λ (q : List Message). Mixed (got stream ++ those_of stream q) (lost stream) (offered stream))
-        (sym same) m; of = λ x a. inl a }
+              (sym same) m;
+          of = λ x a. inl a;
+        }
     lost_of stream low old new (some_lost more was now) m =
         subst (λ (q : List Message). Fewer (got stream) (those_of stream gone_then) q (lost stream) (offered stream)) (sym now)
         (fewer (got stream) (those_of stream gone_then) more (lost stream) (offered stream)
-              (subst (λ (q : List Message). Mixed (got stream ++ q) (lost stream) (offered stream)) was m))
+        (subst (λ (q : List Message). Mixed (got stream ++ q) (lost stream) (offered stream)) was m))
 
     each : (stream : ℕ) → stream < 16 → Fewer (got stream) (those_of stream gone_then) (here stream after f) (lost stream) (offered stream)
     each stream low = lost_of stream low (queue_at (place_of stream s.routing) s f)

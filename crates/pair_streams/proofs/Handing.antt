@@ -55,8 +55,8 @@ passes_on set event =
     let entry : Entry = record { who = actor_of event; event = event; answer = answer } in
     let inbox = (step set.state event).state.inbox in
     ap (λ (q : List (List ℕ)). q ++ inbox)
-        (handed_joined set.history (entry ∷ [])
-          ∙ ap (λ (q : List (List ℕ)). handed_in set.history ++ q) (append-nil (handed_by answer)))
+    (handed_joined set.history (entry ∷ [])
+    ∙ ap (λ (q : List (List ℕ)). handed_in set.history ++ q) (append-nil (handed_by answer)))
     ∙ append_assoc (handed_in set.history) (handed_by answer) inbox
     ∙ ap (λ (q : List (List ℕ)). handed_in set.history ++ q) (sym (event_passes set.state event))
     ∙ sym (append_assoc (handed_in set.history) set.state.inbox (delivered_by answer event))
@@ -70,7 +70,7 @@ keeps : (past then : Past) (set : LinkSet) (event : Event) → ((stream : ℕ) �
     → delivered_by (answer_to set event) event ≡ [] → Takes past set → Takes then (after set event)
 keeps past then set event same none t stream =
     ap (bodies_of stream) (passes_on set event ∙ ap (λ (q : List (List ℕ)). passes set ++ q) none
-          ∙ append-nil (passes set)) ∙ t stream ∙ ap bodies (sym (same stream))
+    ∙ append-nil (passes set)) ∙ t stream ∙ ap bodies (sym (same stream))
 
 own_delivers : (answer : Answer) (event : Event) → has_own_step event ≡ false → delivered_by answer event ≡ []
 own_delivers (Heard report) (HeardEvent link unit) own = absurd cc
@@ -102,7 +102,7 @@ module _ (k : ℕ) (unit : SignalUnit) (sent : List Message) (past : Past) (set 
   Joins answer =
       let then = past_heard k unit sent (Answered answer) past in
       then.taken k ≡ take (length (then.taken k)) (bodies sent) → (stream : ℕ)
-          → bodies_of stream (passes set ++ delivered_by answer (HeardEvent k unit)) ≡ bodies (then.got stream)
+      → bodies_of stream (passes set ++ delivered_by answer (HeardEvent k unit)) ≡ bodies (then.got stream)
 
   none_joins : (stream : ℕ) → bodies_of stream (passes set ++ []) ≡ bodies (past.got stream)
   none_joins stream = ap (bodies_of stream) (append-nil (passes set)) ∙ t stream
@@ -112,16 +112,16 @@ module _ (k : ℕ) (unit : SignalUnit) (sent : List Message) (past : Past) (set 
 
   one_got : (number stream : ℕ) → bodies_of stream (passes set ++ body_in unit ∷ [])
       ≡ bodies (added_at (stream_of (body_in unit)) (record { number = number; body = body_in unit } ∷ []) past.got
-        stream)
+      stream)
   one_got number stream = filter-append (λ body. stream == stream_of body) (passes set) (body_in unit ∷ []) ∙ go (stream == stream_of (body_in unit)) refl
     where
       go : (own : Bool) → (stream == stream_of (body_in unit)) ≡ own
           → bodies_of stream (passes set) ++ bodies_of stream (body_in unit ∷ [])
           ≡ bodies (added_at (stream_of (body_in unit)) (record { number = number; body = body_in unit } ∷ []) past.got
-            stream)
+          stream)
       go true e = rw e (ap (λ (q : List (List ℕ)). q ++ body_in unit ∷ []) (t stream)
-            ∙ sym (map-append (λ (m : Message). m.body) (past.got stream)
-            (record { number = number; body = body_in unit } ∷ [])))
+          ∙ sym (map-append (λ (m : Message). m.body) (past.got stream)
+          (record { number = number; body = body_in unit } ∷ [])))
       go false e = rw e (append-nil (bodies_of stream (passes set)) ∙ t stream)
 
   message_joins : (report : Report) → report.took ≡ TookMessage → Joins (Heard report)
@@ -166,18 +166,24 @@ module _ (g : Stage) (t : TakeAll g) where
     where
       shown : (end : End) → Goes g (Act end event)
           (shows (Answered (answer_to (at_end g.world end) event))
-            (with_end g.world end (after (at_end g.world end) event)))
-      shown A = λ kept. (keeps g.a (past_asked event (Answered (answer_to g.world.a event)) g.a) g.world.a event
+          (with_end g.world end (after (at_end g.world end) event)))
+      shown A = λ kept. (
+        keeps g.a (past_asked event (Answered (answer_to g.world.a event)) g.a) g.world.a event
             (asked_got event (Answered (answer_to g.world.a event)) g.a)
-          (own_delivers (answer_to g.world.a event) event own) t.0, t.1)
-      shown B = λ kept. (t.0, keeps g.b (past_asked event (Answered (answer_to g.world.b event)) g.b) g.world.b event
+            (own_delivers (answer_to g.world.a event) event own) t.0,
+        t.1,
+      )
+      shown B = λ kept. (
+        t.0,
+        keeps g.b (past_asked event (Answered (answer_to g.world.b event)) g.b) g.world.b event
             (asked_got event (Answered (answer_to g.world.b event)) g.b)
-          (own_delivers (answer_to g.world.b event) event own) t.1)
+            (own_delivers (answer_to g.world.b event) event own) t.1,
+      )
 
       go : (known full : Bool) → Goes g (Act end event)
           (cond known (cond full exhausted
-              (shows (Answered (answer_to (at_end g.world end) event))
-            (with_end g.world end (after (at_end g.world end) event)))) impossible)
+          (shows (Answered (answer_to (at_end g.world end) event))
+          (with_end g.world end (after (at_end g.world end) event)))) impossible)
       go true true = tt
       go true false = shown end
       go false full = tt
@@ -189,7 +195,7 @@ module _ (g : Stage) (t : TakeAll g) where
   -- what is sent joins a line, and no set
   sends : (end : End) (k : ℕ) (answer : Answer) → answer ≡ answer_to (at_end g.world end) (Next k)
       → Goes g (Emit end k) (shows (Answered answer)
-        (with_sent (with_end g.world end (after (at_end g.world end) (Next k))) end k (Answered answer)))
+      (with_sent (with_end g.world end (after (at_end g.world end) (Next k))) end k (Answered answer)))
   sends A k answer e = go answer e
     where
       here : (then : Past) → ((stream : ℕ) → then.got stream ≡ g.a.got stream) → Takes then (after g.world.a (Next k))
@@ -197,7 +203,7 @@ module _ (g : Stage) (t : TakeAll g) where
 
       go : (answer : Answer) → answer ≡ answer_to g.world.a (Next k)
           → Goes g (Emit A k) (shows (Answered answer)
-            (with_sent (with_end g.world A (after g.world.a (Next k))) A k (Answered answer)))
+          (with_sent (with_end g.world A (after g.world.a (Next k))) A k (Answered answer)))
       go (Sent unit) e = λ kept. (here (past_sent k g.world.a.state (after g.world.a (Next k)).state g.a) (λ stream. refl), t.1)
       go _ e = λ kept. (here (past_sent k g.world.a.state (after g.world.a (Next k)).state g.a) (λ stream. refl), t.1)
   sends B k answer e = go answer e
@@ -207,7 +213,7 @@ module _ (g : Stage) (t : TakeAll g) where
 
       go : (answer : Answer) → answer ≡ answer_to g.world.b (Next k)
           → Goes g (Emit B k) (shows (Answered answer)
-            (with_sent (with_end g.world B (after g.world.b (Next k))) B k (Answered answer)))
+          (with_sent (with_end g.world B (after g.world.b (Next k))) B k (Answered answer)))
       go (Sent unit) e = λ kept. (t.0, here (past_sent k g.world.b.state (after g.world.b (Next k)).state g.b) (λ stream. refl))
       go _ e = λ kept. (t.0, here (past_sent k g.world.b.state (after g.world.b (Next k)).state g.b) (λ stream. refl))
 
@@ -216,8 +222,8 @@ module _ (g : Stage) (t : TakeAll g) where
     where
       go : (known full : Bool) → Goes g (Emit end k)
           (sends_on end k (cond known (cond full exhausted
-                (shows (Answered (answer_to (at_end g.world end) (Next k)))
-            (with_end g.world end (after (at_end g.world end) (Next k))))) impossible))
+          (shows (Answered (answer_to (at_end g.world end) (Next k)))
+          (with_end g.world end (after (at_end g.world end) (Next k))))) impossible))
       go true true = tt
       go true false = sends end k (answer_to (at_end g.world end) (Next k)) refl
       go false full = tt
@@ -231,7 +237,7 @@ module _ (g : Stage) (t : TakeAll g) where
 
       go : (known within : Bool) → Goes g (Lose end k place)
           (cond known (cond within (shows Lost (with_line g.world end k (without place (line_to g.world end k))))
-              impossible) impossible)
+          impossible) impossible)
       go true true = lost end
       go true false = tt
       go false within = tt
@@ -240,10 +246,10 @@ module _ (g : Stage) (t : TakeAll g) where
   abbrev ArriveGoes : (end : End) (k : ℕ) → List SignalUnit → Outcome → Type 0
   ArriveGoes A k line outcome = OnShows outcome
       (λ shown new. LinksKeep (with_past A (past_arrived k line (g.b.sent k) shown g.a) new g)
-        → TakeAll (with_past A (past_arrived k line (g.b.sent k) shown g.a) new g))
+      → TakeAll (with_past A (past_arrived k line (g.b.sent k) shown g.a) new g))
   ArriveGoes B k line outcome = OnShows outcome
       (λ shown new. LinksKeep (with_past B (past_arrived k line (g.a.sent k) shown g.b) new g)
-        → TakeAll (with_past B (past_arrived k line (g.a.sent k) shown g.b) new g))
+      → TakeAll (with_past B (past_arrived k line (g.a.sent k) shown g.b) new g))
 
   reach_goes : (end : End) (k : ℕ) (unit : SignalUnit) (rest : List SignalUnit)
       → ArriveGoes end k (unit ∷ rest) (reaches (with_line g.world end k rest) end k unit)
@@ -251,8 +257,8 @@ module _ (g : Stage) (t : TakeAll g) where
     where
       go : (up known full : Bool) → ArriveGoes A k (unit ∷ rest)
           (cond up (cond known (cond full exhausted
-                (shows (Answered (answer_to g.world.a (HeardEvent k unit)))
-            (with_end (with_line g.world A k rest) A (after g.world.a (HeardEvent k unit))))) impossible)
+          (shows (Answered (answer_to g.world.a (HeardEvent k unit)))
+          (with_end (with_line g.world A k rest) A (after g.world.a (HeardEvent k unit))))) impossible)
           (shows Lost (with_line g.world A k rest)))
       go true true true = tt
       go true true false = λ kept. (hears k unit (g.b.sent k) g.a g.world.a t.0 (kept k).1.prefix, t.1)
@@ -262,8 +268,8 @@ module _ (g : Stage) (t : TakeAll g) where
     where
       go : (up known full : Bool) → ArriveGoes B k (unit ∷ rest)
           (cond up (cond known (cond full exhausted
-                (shows (Answered (answer_to g.world.b (HeardEvent k unit)))
-            (with_end (with_line g.world B k rest) B (after g.world.b (HeardEvent k unit))))) impossible)
+          (shows (Answered (answer_to g.world.b (HeardEvent k unit)))
+          (with_end (with_line g.world B k rest) B (after g.world.b (HeardEvent k unit))))) impossible)
           (shows Lost (with_line g.world B k rest)))
       go true true true = tt
       go true true false = λ kept. (t.0, hears k unit (g.a.sent k) g.b g.world.b t.1 (kept k).0.prefix)
@@ -291,7 +297,7 @@ module _ (g : Stage) (t : TakeAll g) where
     where
       go : (known settled full : Bool)
           → Goes g (Together k) (cond known
-            (cond settled (cond full exhausted (shows CameUp (risen g.world k))) impossible) impossible)
+          (cond settled (cond full exhausted (shows CameUp (risen g.world k))) impossible) impossible)
       go true true true = tt
       go true true false = λ kept. (
         keeps g.a (past_risen k g.a) g.world.a (UpEvent k) (λ stream. refl) (up_delivers (answer_to g.world.a (UpEvent k)) k) t.0,
@@ -366,10 +372,10 @@ take_first : (g : Stage) → UsersTakeAll g → StreamsArrive g → UsersTakeFir
 take_first g all arrive stream low = (
   prefix_of (taken_of stream g.world.a) (bodies_of stream g.world.a.state.inbox) (bodies (g.b.offered stream))
       (length (g.a.got stream)) ((all stream).0 ∙ ap bodies (arrive stream low).1.prefix
-        ∙ bodies_first (length (g.a.got stream)) (g.b.offered stream)),
+      ∙ bodies_first (length (g.a.got stream)) (g.b.offered stream)),
   prefix_of (taken_of stream g.world.b) (bodies_of stream g.world.b.state.inbox) (bodies (g.a.offered stream))
       (length (g.b.got stream)) ((all stream).1 ∙ ap bodies (arrive stream low).0.prefix
-        ∙ bodies_first (length (g.b.got stream)) (g.a.offered stream)),
+      ∙ bodies_first (length (g.b.got stream)) (g.a.offered stream)),
 )
 
 -- in every quiet one it's a part of it
@@ -404,7 +410,7 @@ take_part g all arrive stream low = (
 module _ (Arrive Say : Stage → Type 0) (says : (g : Stage) → UsersTakeAll g → Arrive g → Say g) where
   both_onward : (g : Stage) (step : Step) (steps : List Step)
       → ((later : Stage) → HoldsAlong UsersTakeAll later steps → HoldsAlong Arrive later steps
-        → HoldsAlong Say later steps) → (outcome : Outcome)
+      → HoldsAlong Say later steps) → (outcome : Outcome)
       → OnShows outcome (λ shown new. HoldsAlong UsersTakeAll (passed g step shown new) steps)
       → OnShows outcome (λ shown new. HoldsAlong Arrive (passed g step shown new) steps)
       → OnShows outcome (λ shown new. HoldsAlong Say (passed g step shown new) steps)
@@ -437,9 +443,13 @@ module _ (Say : Stage → Type 0) (says : (g : Stage) → UsersTakeAll g → Str
   pub sound_says : (a b : SetConfig) (steps : List Step) → IsSoundRun a b steps → HoldsAlong Say (begun a b) steps
   sound_says a b steps sound =
       both_along StreamsArrive Say says (begun a b) steps
-          (every_honest_run_hands_out a b steps
-            (record { links = sound.links; profiles = sound.profiles; one_method = sound.one_method;
-              steps = sound_honest steps sound.steps })) (every_sound_run a b steps sound)
+      (every_honest_run_hands_out a b steps
+      (record {
+        links = sound.links;
+        profiles = sound.profiles;
+        one_method = sound.one_method;
+        steps = sound_honest steps sound.steps;
+      })) (every_sound_run a b steps sound)
 
 pub every_sound_run_hands_out : EverySoundRunHandsOutInOrder
 every_sound_run_hands_out = sound_says UsersTakeFirst take_first
@@ -447,6 +457,10 @@ every_sound_run_hands_out = sound_says UsersTakeFirst take_first
 pub every_quiet_run_hands_out : EveryQuietRunHandsOutAPart
 every_quiet_run_hands_out a b steps quiet =
     both_along PartsArrive UsersTakePart take_part (begun a b) steps
-        (every_honest_run_hands_out a b steps
-          (record { links = quiet.links; profiles = quiet.profiles; one_method = quiet.one_method;
-            steps = quiet_honest steps quiet.steps })) (every_quiet_run a b steps quiet)
+    (every_honest_run_hands_out a b steps
+    (record {
+      links = quiet.links;
+      profiles = quiet.profiles;
+      one_method = quiet.one_method;
+      steps = quiet_honest steps quiet.steps;
+    })) (every_quiet_run a b steps quiet)

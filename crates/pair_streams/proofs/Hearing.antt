@@ -98,7 +98,7 @@ module _ (emergencies : Bool) (k : ℕ) (body : List ℕ) (s f : State) (sound :
       let so = is_reached fsn l link s f sound at told_so in
       let accepted = settles_accepted fsn l link s f sound at so in
       by_acks t accepted (settles_flow fsn l link s f sound at so offered got lost w
-            (λ c m i a. far_in s t f accepted m i)) (λ c m i a. was_in fsn l link s f sound at so m i)
+      (λ c m i a. far_in s t f accepted m i)) (λ c m i a. was_in fsn l link s f sound at so m i)
 
   -- without a number
   blind_so : (l : ℕ) (link : LinkState) → IsAt l link Down s → emergencies ≡ true → Both' (settled Unknown l link s)
@@ -125,13 +125,13 @@ module _ (emergencies : Bool) (k : ℕ) (body : List ℕ) (s f : State) (sound :
     there_out = queues_flow (Coa l (last_accepted link)) left f (left_sound l link s f sound codes at)
         (λ c d. coa_declares s.settings l (given left) (last_accepted link) c d) offered got lost
         (leaves_flow false l link s f sound at offered got lost w
-              (λ c m i a. far_in s left f (by_link l link (left_link false link) s left at.there refl
-                (λ n old new. accepted_of new ≡ accepted_of old) refl (λ n old d. refl)) m i))
+        (λ c m i a. far_in s left f (by_link l link (left_link false link) s left at.there refl
+        (λ n old new. accepted_of new ≡ accepted_of old) refl (λ n old d. refl)) m i))
 
     there_acks : (c : ℕ) (m : Message) → In m (view there f) → Acknowledges c m → In m (view s f)
     there_acks c m i a = left_orders false l link s f sound at (Cba a.link c) m
         (queues_acks (Coa l (last_accepted link)) left f (left_sound l link s f sound codes at)
-              (λ d x. coa_acknowledges s.settings l (given left) (last_accepted link) d x) c m i a) a.is
+        (λ d x. coa_acknowledges s.settings l (given left) (last_accepted link) d x) c m i a) a.is
 
     answered_so : (fsn : ℕ) → Told fsn l link s f → Both' (settled (Upto fsn) l (left_link false link) there)
     answered_so fsn told_so =
@@ -142,7 +142,7 @@ module _ (emergencies : Bool) (k : ℕ) (body : List ℕ) (s f : State) (sound :
         let settled_accepted = settles_accepted fsn l (left_link false link) there f there_sound there_at there_reached in
         by_acks t (λ n. settled_accepted n ∙ told_accepted l link s f sound codes at n)
         (settles_flow fsn l (left_link false link) there f there_sound there_at there_reached offered got lost there_out
-              (λ c m i a. far_in there t f settled_accepted m i))
+        (λ c m i a. far_in there t f settled_accepted m i))
         (λ c m i a. there_acks c m (was_in fsn l (left_link false link) there f there_sound there_at there_reached m i) a)
 
     answered_blind : emergencies ≡ true → Both' (settled Unknown l (left_link false link) there)
@@ -155,7 +155,7 @@ module _ (emergencies : Bool) (k : ℕ) (body : List ℕ) (s f : State) (sound :
           lost_then = then_lost.lost_then;
           out = then_lost.flows;
           back = far_carried s t f (λ n. blind_accepted l (left_link false link) there f there_sound there_at n
-                ∙ told_accepted l link s f sound codes at n) far_offered far_got far_lost
+              ∙ told_accepted l link s f sound codes at n) far_offered far_got far_lost
               (λ c m i a. there_acks c m (blind_was_in l (left_link false link) there f there_sound there_at m i) a) v;
           of = then_lost.of;
           none = λ e stream. absurd (let never : true ≡ false = sym may ∙ e in cc);
@@ -278,7 +278,7 @@ module _ {emergencies : Bool} (mx my : Method) (one : IsOneMethod mx my) (p : Tw
 
   backs : (c : ℕ) → back_by c mid ≡ back_by c p.near
   backs c = ap messages (turned_same (is_unacked k) (is_back c) (Acked k) refl (λ fate e. sent_not_back k c fate e)
-        (hearing.part mx my one p h v.ordered.both k few unit rest front link at).acked p.near.rows)
+      (hearing.part mx my one p h v.ordered.both k few unit rest front link at).acked p.near.rows)
 
   mid_in : (m : Message) → In m (view mid p.far) → In m (view p.near p.far)
   mid_in = same_in p.near mid p.far queues aside_same
@@ -321,7 +321,7 @@ module _ {emergencies : Bool} (mx my : Method) (one : IsOneMethod mx my) (p : Tw
     same_got : (stream : ℕ) → got_then stream ≡ p.near_past.got stream
     same_got stream =
         ap (λ (x : List Message). added_at (stream_of (body_in unit)) x p.near_past.got stream)
-            (rw e (nothing_got (slice_get (p.far_past.sent k) (length (p.near_past.taken k))) (body_in unit)))
+        (rw e (nothing_got (slice_get (p.far_past.sent k) (length (p.near_past.taken k))) (body_in unit)))
         ∙ added_none (stream_of (body_in unit)) stream p.near_past.got
 
     none_back : Flows p.far mid p.far_past.offered got_then v.back_lost
@@ -329,7 +329,7 @@ module _ {emergencies : Bool} (mx my : Method) (one : IsOneMethod mx my) (p : Tw
         let old = far_carried p.near mid p.far none_accepted p.far_past.offered p.near_past.got v.back_lost (λ c m i a. mid_in m i) v.back in
         record {
           flow = λ stream low. subst (λ (x : List Message). Mixed (x ++ here stream p.far mid) (v.back_lost stream)
-                (p.far_past.offered stream)) (sym (same_got stream)) (old.flow stream low);
+              (p.far_past.offered stream)) (sym (same_got stream)) (old.flow stream low);
           stands = old.stands;
           unused = old.unused;
           backing = old.backing;
@@ -337,8 +337,13 @@ module _ {emergencies : Bool} (mx my : Method) (one : IsOneMethod mx my) (p : Tw
 
     none_then : Then taken.state
     none_then = subst Then (sym (hearing.none_taken mx my one p h v.ordered.both k few unit rest front link at e))
-        (record { lost_then = v.out_lost; out = mid_out (far_in p.near mid p.far none_accepted); back = none_back;
-            of = λ stream m a. inl a; none = λ x stream. refl })
+        (record {
+          lost_then = v.out_lost;
+          out = mid_out (far_in p.near mid p.far none_accepted);
+          back = none_back;
+          of = λ stream m a. inl a;
+          none = λ x stream. refl;
+        })
 
   -- ONE IS: it's the first that was pending at the other
   module _ (body : List ℕ) (e : brought (hearing.part mx my one p h v.ordered.both k few unit rest front link at).accept unit ≡ Some body) where
@@ -366,7 +371,7 @@ module _ {emergencies : Bool} (mx my : Method) (one : IsOneMethod mx my) (p : Tw
     others_same : (l : ℕ) → (k == l) ≡ false → pending l p.far mid ≡ pending l p.far p.near
     others_same l d = ap (λ (o : Option LinkState). queue (accepted_of o - acked_on l p.far) l p.far.rows)
         (other_then k link (hearing.mid_link mx my one p h v.ordered.both k few unit rest front link at) p.near mid
-          at.there refl l d)
+        at.there refl l d)
 
     -- of a queue the first leaves, or nothing
     by_queue : (P : List Message → List Message → Type 0) → P (first ∷ pending k p.far mid) (pending k p.far mid)
@@ -398,12 +403,12 @@ module _ {emergencies : Bool} (mx my : Method) (one : IsOneMethod mx my) (p : Tw
         on_it : (m : ℕ) → (m == k) ≡ true → (more : List Message)
             → those_of stream (pending m p.far p.near ++ more) ≡ first ∷ those_of stream (pending m p.far mid ++ more)
         on_it m d more = subst (λ (n : ℕ). those_of stream (pending n p.far p.near ++ more)
-              ≡ first ∷ those_of stream (pending n p.far mid ++ more)) (sym (eqb-true m k d))
+            ≡ first ∷ those_of stream (pending n p.far mid ++ more)) (sym (eqb-true m k d))
             (ap (λ (q : List Message). those_of stream (q ++ more)) first_is ∙ rw own refl)
 
         on_case : (m : ℕ) → (m == k) ≡ true → those_of stream (pending m p.far p.near) ≡ first ∷ those_of stream (pending m p.far mid)
         on_case m d = subst (λ (n : ℕ). those_of stream (pending n p.far p.near)
-              ≡ first ∷ those_of stream (pending n p.far mid)) (sym (eqb-true m k d)) is_first
+            ≡ first ∷ those_of stream (pending n p.far mid)) (sym (eqb-true m k d)) is_first
 
         go : (q : Place) → place_of stream p.far.routing ≡ q → those_of stream (queue_at q p.far p.near) ≡ first ∷ those_of stream (queue_at q p.far mid)
         go (On m) is = on_case m (runs_here (On m) is (m == k) refl)
@@ -434,7 +439,7 @@ module _ {emergencies : Bool} (mx my : Method) (one : IsOneMethod mx my) (p : Tw
       got_it =
           ap (λ (t : Took). got_by t (slice_get (p.far_past.sent k) (length (p.near_past.taken k))) (body_in unit)) took_it
           ∙ ap (λ (m : Option Message). got_by TookMessage m (body_in unit))
-              (hearing.first_sent mx my one p h v.ordered.both k few unit rest front link at body e)
+          (hearing.first_sent mx my one p h v.ordered.both k few unit rest front link at body e)
           ∙ ap (λ (b : List ℕ). record { number = first.number; body = b } ∷ []) (is_body ∙ sym first_body)
 
       users_got : Got
@@ -442,30 +447,33 @@ module _ {emergencies : Bool} (mx my : Method) (one : IsOneMethod mx my) (p : Tw
         where
           go : (b : Bool) → (stream == stream_of (body_in unit)) ≡ b
               → cond b (p.near_past.got stream
-                ++ got_by taken.took (slice_get (p.far_past.sent k) (length (p.near_past.taken k))) (body_in unit))
+              ++ got_by taken.took (slice_get (p.far_past.sent k) (length (p.near_past.taken k))) (body_in unit))
               (p.near_past.got stream) ++ here stream p.far mid ≡ p.near_past.got stream ++ here stream p.far p.near
           go true d =
               let same : stream ≡ stream_of first.body = eqb-true stream (stream_of (body_in unit)) d ∙ ap stream_of (is_body ∙ sym first_body) in
               let own : is_of stream first ≡ true =
-                  rw (ap (λ (b : List ℕ). service_indicator b == 0) first_body
-                    ∙ users, eq-eqb (stream_of first.body) stream (sym same)) refl in
+              rw (
+                ap (λ (b : List ℕ). service_indicator b == 0) first_body
+                    ∙ users,
+                eq-eqb (stream_of first.body) stream (sym same),
+              ) refl in
               ap (λ (x : List Message). p.near_past.got stream ++ x ++ here stream p.far mid) got_it
               ∙ append_assoc (p.near_past.got stream) (first ∷ []) (here stream p.far mid)
               ∙ ap (λ (x : List Message). p.near_past.got stream ++ x) (sym (here_loses stream low own))
           go false d =
               let apart : (stream_of first.body == stream) ≡ false =
-                  ap (λ (b : List ℕ). stream_of b == stream) (first_body ∙ sym is_body)
-                  ∙ apart_back stream (stream_of (body_in unit)) d in
+              ap (λ (b : List ℕ). stream_of b == stream) (first_body ∙ sym is_body)
+              ∙ apart_back stream (stream_of (body_in unit)) d in
               ap (λ (x : List Message). p.near_past.got stream ++ x)
-                  (here_stays stream (rw (ap (λ (b : List ℕ). service_indicator b == 0) first_body ∙ users, apart)
-                      refl))
+              (here_stays stream (rw (ap (λ (b : List ℕ). service_indicator b == 0) first_body ∙ users, apart)
+              refl))
 
     -- an order, or what the management ignores
     own_got : (service_indicator body == 0) ≡ true → Got
     own_got own stream low =
         none_got (got_by taken.took (slice_get (p.far_past.sent k) (length (p.near_past.taken k))) (body_in unit))
-            (rw (e, own) (obeyed_got (slice_get (p.far_past.sent k) (length (p.near_past.taken k))) (body_in unit)
-                (order_of p.near.settings.profile body) mid)) stream
+        (rw (e, own) (obeyed_got (slice_get (p.far_past.sent k) (length (p.near_past.taken k))) (body_in unit)
+        (order_of p.near.settings.profile body) mid)) stream
         (here_stays stream (rw (ap (λ (b : List ℕ). service_indicator b == 0) first_body ∙ own) refl))
 
     got_some : Got
@@ -522,8 +530,8 @@ module _ {emergencies : Bool} (mx my : Method) (one : IsOneMethod mx my) (p : Tw
           let on_via : (via == k) ≡ true = stands_here clear (via == k) refl in
           subst (λ (n : ℕ). those_of stream (pending n p.far mid) ≡ []) (sym (eqb-true via k on_via))
           ((subst (ClearBehind stream code) first_is
-                  (subst (λ (n : ℕ). ClearBehind stream code (pending n p.far p.near)) (eqb-true via k on_via)
-                clear.behind)).0 declares_first)
+          (subst (λ (n : ℕ). ClearBehind stream code (pending n p.far p.near)) (eqb-true via k on_via)
+          clear.behind)).0 declares_first)
         where
           stands_here : Clear stream code via (view p.far p.near) → (b : Bool) → (via == k) ≡ b → b ≡ true
           stands_here clear true d = refl
@@ -554,26 +562,26 @@ module _ {emergencies : Bool} (mx my : Method) (one : IsOneMethod mx my) (p : Tw
     obeyed_then : (t : State) → Obeys emergencies k body mid p.far t → Then t
     obeyed_then t (keeps _ rows links routing none) =
         pair_of t (still emergencies k body mid p.far sound_mid v.ordered.near_codes p.near_past.offered p.far_past.got
-          v.out_lost p.far_past.offered got_then v.back_lost out_mid mid_back t rows links routing)
+        v.out_lost p.far_past.offered got_then v.back_lost out_mid mid_back t rows links routing)
     obeyed_then t (settles fsn l other apart_from there told_so about over) =
         pair_of t (settled_so emergencies k body mid p.far sound_mid v.ordered.near_codes p.near_past.offered
-          p.far_past.got v.out_lost p.far_past.offered got_then v.back_lost out_mid mid_back fsn l other there told_so)
+        p.far_past.got v.out_lost p.far_past.offered got_then v.back_lost out_mid mid_back fsn l other there told_so)
     obeyed_then t (answers fsn l other apart_from there told_so about over) =
         pair_of t (answered_so emergencies k body mid p.far sound_mid v.ordered.near_codes p.near_past.offered
-          p.far_past.got v.out_lost p.far_past.offered got_then v.back_lost out_mid mid_back l other there fsn told_so)
+        p.far_past.got v.out_lost p.far_past.offered got_then v.back_lost out_mid mid_back l other there fsn told_so)
     obeyed_then t (settles_blind l other may apart_from there about over) =
         pair_of t (blind_so emergencies k body mid p.far sound_mid v.ordered.near_codes p.near_past.offered
-          p.far_past.got v.out_lost p.far_past.offered got_then v.back_lost out_mid mid_back l other there may)
+        p.far_past.got v.out_lost p.far_past.offered got_then v.back_lost out_mid mid_back l other there may)
     obeyed_then t (answers_blind l other may apart_from there about over) =
         pair_of t (answered_blind emergencies k body mid p.far sound_mid v.ordered.near_codes p.near_past.offered
-          p.far_past.got v.out_lost p.far_past.offered got_then v.back_lost out_mid mid_back l other there may)
+        p.far_past.got v.out_lost p.far_past.offered got_then v.back_lost out_mid mid_back l other there may)
     obeyed_then t (acknowledges l code is) =
         pair_of t (acknowledged_so emergencies k body mid p.far sound_mid v.ordered.near_codes p.near_past.offered
-          p.far_past.got v.out_lost p.far_past.offered got_then v.back_lost out_mid mid_back code (code_few l code is)
+        p.far_past.got v.out_lost p.far_past.offered got_then v.back_lost out_mid mid_back code (code_few l code is)
         (none_more l code is) (none_acked l code is) (in_use l code is) (empty_there l code is) l)
     obeyed_then t (releases l code is) =
         pair_of t (released_so emergencies k body mid p.far sound_mid v.ordered.near_codes p.near_past.offered
-          p.far_past.got v.out_lost p.far_past.offered got_then v.back_lost out_mid mid_back code
+        p.far_past.got v.out_lost p.far_past.offered got_then v.back_lost out_mid mid_back code
         (none_declared l code is) (none_more_acks l code is) (empty_here l code is))
 
     some_then : Then taken.state
@@ -594,8 +602,12 @@ module _ {emergencies : Bool} (mx my : Method) (one : IsOneMethod mx my) (p : Tw
     back_lost = v.back_lost;
     out = both_then.out;
     back = both_then.back;
-    near_covers = record { managed = covered.managed; numbered = covered.numbered; known = covered.known;
-          gone = λ number q. gone_case number q.0 q.1 (both_then.of q.0 q.1 q.2) q.3 };
+    near_covers = record {
+      managed = covered.managed;
+      numbered = covered.numbered;
+      known = covered.known;
+      gone = λ number q. gone_case number q.0 q.1 (both_then.of q.0 q.1 q.2) q.3;
+    };
     far_covers = v.far_covers;
     near_rises = rising_on p.near_past p.near (HeardEvent k unit) v.near_rises;
     far_rises = v.far_rises;

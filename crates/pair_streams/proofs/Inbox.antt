@@ -165,11 +165,15 @@ take_in true unit body s e = rw e (go (service_indicator body == 0))
   where
     go : (b : Bool) → s.inbox ++ message_of
         (cond b (obeyed (order_of s.settings.profile body) s)
-          (record { took = Rattle.set_events.specs.declared.answer.Took.TheVariants.Message;
-            state = record s { inbox = s.inbox ++ body ∷ [] } })).took body
+        (record {
+          took = Rattle.set_events.specs.declared.answer.Took.TheVariants.Message;
+          state = record s { inbox = s.inbox ++ body ∷ [] };
+        })).took body
         ≡ (cond b (obeyed (order_of s.settings.profile body) s)
-          (record { took = Rattle.set_events.specs.declared.answer.Took.TheVariants.Message;
-            state = record s { inbox = s.inbox ++ body ∷ [] } })).state.inbox
+        (record {
+          took = Rattle.set_events.specs.declared.answer.Took.TheVariants.Message;
+          state = record s { inbox = s.inbox ++ body ∷ [] };
+        })).state.inbox
     go true = let alone = obeyed_leaves (order_of s.settings.profile body) s in ap
         (λ (more : List (List ℕ)). s.inbox ++ more) (alone.none body) ∙ append-nil s.inbox ∙ sym alone.inbox
     go false = refl

@@ -65,7 +65,7 @@ module _ (P : ℕ → List ℕ → Type 0) (Q : ℕ → Type 0) where
     where
       go : (b : Bool) → (r.number == number) ≡ b → body_at number ((r ∷ rows) ++ row ∷ []) ≡ Some body
           → (body_at number (rows ++ row ∷ []) ≡ Some body → (body_at number rows ≡ Some body)
-            ⊎ ((row.number ≡ number) × (row.body ≡ body))) → (body_at number (r ∷ rows) ≡ Some body)
+          ⊎ ((row.number ≡ number) × (row.body ≡ body))) → (body_at number (r ∷ rows) ≡ Some body)
           ⊎ ((row.number ≡ number) × (row.body ≡ body))
       go true h e later = inl (rw h (rw h at e))
       go false h e later = cases (later (rw h at e))
@@ -100,14 +100,14 @@ module _ (P : ℕ → List ℕ → Type 0) (Q : ℕ → Type 0) where
       covers_appended s t (text s.settings.profile order s.settings.sio s.settings.dpc s.settings.opc) fate settings
       left rows
       (λ users. let own : (s.settings.sio % 16 == 0) ≡ true =
-            eq-eqb (s.settings.sio % 16) 0 c.managed in let no : true ≡ false = sym own ∙ users in absurd cc) c
+      eq-eqb (s.settings.sio % 16) 0 c.managed in let no : true ≡ false = sym own ∙ users in absurd cc) c
 
   moved_covers : (test : Fate → Bool) (fate : Row → Fate) (s t : State) → test given_up ≡ false
       → t.settings ≡ s.settings → t.finished ≡ s.finished → t.rows ≡ moved test fate s.rows → Covers s → Covers t
   moved_covers test fate s t off settings left rows c =
       covers_kept s t settings left (rw rows (moved_length test fate s.rows))
-          (rw rows (moved_numbered test fate (given s) s.rows c.numbered))
-          (λ number. ap (body_at number) rows ∙ body_moved test fate (given s) number s.rows c.numbered)
+      (rw rows (moved_numbered test fate (given s) s.rows c.numbered))
+      (λ number. ap (body_at number) rows ∙ body_moved test fate (given s) number s.rows c.numbered)
       (rw rows (moved_stay given_up test off (given s) fate s.rows c.numbered)) c
 
   small : (Known : ℕ → Type 0) (May : Type 0) → KeptBy Known May (λ s t. Covers s → Covers t)
@@ -119,18 +119,18 @@ module _ (P : ℕ → List ℕ → Type 0) (Q : ℕ → Type 0) where
     leaves = λ blind n link s known at c. moved_covers (is_back_to n) _ s (left_by blind n link s) refl refl refl refl c;
     acknowledges = λ count n link s known at few g c.
         covers_kept s _ refl refl g.kept.count (g.kept.numbered (given s) c.numbered)
-            (g.kept.bodies (given s) c.numbered) (turned_stay given_up (is_unacked n) refl (Acked n) count s.rows) c;
+        (g.kept.bodies (given s) c.numbered) (turned_stay given_up (is_unacked n) refl (Acked n) count s.rows) c;
     gives_up = λ was_sent cause n link s known at g c.
         let off = cond_both was_sent (is_unacked n) (is_waiting n) (λ test. test given_up ≡ false) (λ e. refl) (λ e. refl) in
         covers_kept s _ refl refl g.kept.count (g.kept.numbered (given s) c.numbered)
-            (g.kept.bodies (given s) c.numbered)
-            (changed_stay given_up (cond was_sent (is_unacked n) (is_waiting n)) off (Discarded cause) s.rows) c;
+        (g.kept.bodies (given s) c.numbered)
+        (changed_stay given_up (cond was_sent (is_unacked n) (is_waiting n)) off (Discarded cause) s.rows) c;
     moves_off = λ told n link s known at c. moved_covers (is_on n) _ s (moved_over told n link s) refl refl refl refl c;
     answers = λ n link s known at c. covers_kept s (with_link n (answered_link link) s) refl refl refl c.numbered (λ number. refl) (λ number e. e) c;
     withdraws = λ count n link s known at g c.
         covers_kept s (withdrawn count n s) refl refl g.kept.count (g.kept.numbered (given s) c.numbered)
-            (g.kept.bodies (given s) c.numbered)
-            (turned_stay given_up (is_waiting n) refl (Discarded NoAnswerCame) count s.rows) c;
+        (g.kept.bodies (given s) c.numbered)
+        (turned_stay given_up (is_waiting n) refl (Discarded NoAnswerCame) count s.rows) c;
     declares = λ may home alternative s up can c. order_covers (Cbd home (code_for home alternative)) s
         (declared home alternative s) (Waiting alternative) refl refl refl c;
     releases = λ code s known c. moved_covers (is_back code) _ s (released code s) refl refl refl refl c;
@@ -155,9 +155,9 @@ module _ (P : ℕ → List ℕ → Type 0) (Q : ℕ → Type 0) where
     hears = λ n unit link e fits at g.
         let count = (part_of link.control (window_of n link s.rows) (head_of unit) (is_msu unit)).acked in
         covers_kept s _ refl refl g.kept.count (g.kept.numbered (given s) c.numbered)
-            (g.kept.bodies (given s) c.numbered) (turned_stay given_up (is_unacked n) refl (Acked n) count s.rows) c;
+        (g.kept.bodies (given s) c.numbered) (turned_stay given_up (is_unacked n) refl (Acked n) count s.rows) c;
     rises = λ n link e at u.
         covers_kept s _ refl refl u.kept.count (u.kept.numbered (given s) c.numbered)
-            (u.kept.bodies (given s) c.numbered)
-            (moved_stay given_up is_parked refl (given s) (all_with (Waiting n)) s.rows c.numbered) c;
+        (u.kept.bodies (given s) c.numbered)
+        (moved_stay given_up is_parked refl (given s) (all_with (Waiting n)) s.rows c.numbered) c;
   })

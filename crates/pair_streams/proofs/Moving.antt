@@ -97,83 +97,83 @@ grows_among z b old new (grown e q) m a = go (among_joined m old (z ∷ []) (sub
 
 module _ (s t f : State) (body : List ℕ) (fate : Fate) (rows : t.rows ≡ appended (given s) s.rows body fate)
     (links : t.links ≡ s.links) (new : (l : ℕ) → IsNew (accepted_on l f - acked_on l s) l (given s) s.rows body fate)
-    where
-  abbrev pub z : Message
-  z = new_message (given s) body
+  where
+    abbrev pub z : Message
+    z = new_message (given s) body
 
-  pub grows_on : (l : ℕ) → Grows z (is_on l fate) (pending l s f) (pending l t f)
-  grows_on l = subst (λ (q : List Message). Grows z (is_on l fate) (pending l s f) q) (rw (rows, links) refl)
-      (grows (accepted_on l f - acked_on l s) l (given s) s.rows body fate (new l))
+    pub grows_on : (l : ℕ) → Grows z (is_on l fate) (pending l s f) (pending l t f)
+    grows_on l = subst (λ (q : List Message). Grows z (is_on l fate) (pending l s f) q) (rw (rows, links) refl)
+        (grows (accepted_on l f - acked_on l s) l (given s) s.rows body fate (new l))
 
-  pub grows_aside : Grows z (is_parked fate) (aside s) (aside t)
-  grows_aside = subst (λ (q : List Message). Grows z (is_parked fate) (aside s) q) (rw rows refl) (go (is_parked fate) refl)
-    where
-      go : (b : Bool) → is_parked fate ≡ b → Grows z (is_parked fate) (aside s) (messages (parked (appended (given s) s.rows body fate)))
-      go true e = grown e (aside_joins 0 0 (given s) s.rows body fate e)
-      go false e = ungrown e (aside_apart 0 0 (given s) s.rows body fate e)
-
-  pub grows_back : (c : ℕ) → Grows z (is_back c fate) (back_by c s) (back_by c t)
-  grows_back c = subst (λ (q : List Message). Grows z (is_back c fate) (back_by c s) q) (rw rows refl) (go (is_back c fate) refl)
-    where
-      go : (b : Bool) → is_back c fate ≡ b → Grows z (is_back c fate) (back_by c s) (messages (standing (is_back c) (appended (given s) s.rows body fate)))
-      go true e = grown e (ap messages (appended_in (given s) s.rows body fate (is_back c) e) ∙ joined (standing (is_back c) s.rows) _)
-      go false e = ungrown e (ap messages (appended_out (given s) s.rows body fate (is_back c) e))
-
-  pub in_new : (m : Message) → In m (view t f) → In m (view s f) ⊎ (m ≡ z)
-  in_new m (stands_on l a) = go (grows_among z (is_on l fate) (pending l s f) (pending l t f) (grows_on l) m a)
-    where
-      go : Among m (pending l s f) ⊎ ((m ≡ z) × (is_on l fate ≡ true)) → In m (view s f) ⊎ (m ≡ z)
-      go (inl x) = inl (stands_on l x)
-      go (inr p) = inr p.0
-  in_new m (stands_aside a) = go (grows_among z (is_parked fate) (aside s) (aside t) grows_aside m a)
-    where
-      go : Among m (aside s) ⊎ ((m ≡ z) × (is_parked fate ≡ true)) → In m (view s f) ⊎ (m ≡ z)
-      go (inl x) = inl (stands_aside x)
-      go (inr p) = inr p.0
-
-  -- one that isn't of the stream, nor declares its code
-  module _ (stream : ℕ) (other : is_of stream z ≡ false) where
-    pub queue_stays : (place : Place) → those_of stream (queue_at place t f) ≡ those_of stream (queue_at place s f)
-    queue_stays (On l) = those_stay z stream other (is_on l fate) (pending l s f) (pending l t f) (grows_on l)
-    queue_stays (Changing to code via) =
-        those_joined stream (pending via t f) (back_by code t)
-        ∙ ap₂ (λ (x y : List Message). x ++ y)
-            (those_stay z stream other (is_on via fate) (pending via s f) (pending via t f) (grows_on via))
-            (those_stay z stream other (is_back code fate) (back_by code s) (back_by code t) (grows_back code))
-        ∙ sym (those_joined stream (pending via s f) (back_by code s))
-    queue_stays Nowhere = those_stay z stream other (is_parked fate) (aside s) (aside t) grows_aside
-
-    pub stands_stays : (place : Place) → Stands stream place s f → Stands stream place t f
-    stands_stays place old = record {
-      alone = λ l e. those_stay z stream other (is_on l fate) (pending l s f) (pending l t f) (grows_on l) ∙ old.alone l e;
-      none_aside = λ e. those_stay z stream other (is_parked fate) (aside s) (aside t) grows_aside ∙ old.none_aside e;
-    }
-
-    pub clear_grows : (code via : ℕ) → (Declares code z → ⊥) → Clear stream code via (view s f) → Clear stream code via (view t f)
-    clear_grows code via none old = record {
-      only = λ l d m a. only_case l d m (grows_among z (is_on l fate) (pending l s f) (pending l t f) (grows_on l) m a);
-      none_aside = λ m a. aside_case m (grows_among z (is_parked fate) (aside s) (aside t) grows_aside m a);
-      behind = clear_stays z stream code other (is_on via fate) (pending via s f) (pending via t f) (grows_on via) old.behind;
-    }
+    pub grows_aside : Grows z (is_parked fate) (aside s) (aside t)
+    grows_aside = subst (λ (q : List Message). Grows z (is_parked fate) (aside s) q) (rw rows refl) (go (is_parked fate) refl)
       where
-        only_case : (l : ℕ) → (via == l) ≡ false → (m : Message) → Among m (pending l s f) ⊎ ((m ≡ z) × (is_on l fate ≡ true)) → Declares code m → ⊥
-        only_case l d m (inl x) = old.only l d m x
-        only_case l d m (inr p) = λ e. none (subst (Declares code) p.0 e)
+        go : (b : Bool) → is_parked fate ≡ b → Grows z (is_parked fate) (aside s) (messages (parked (appended (given s) s.rows body fate)))
+        go true e = grown e (aside_joins 0 0 (given s) s.rows body fate e)
+        go false e = ungrown e (aside_apart 0 0 (given s) s.rows body fate e)
 
-        aside_case : (m : Message) → Among m (aside s) ⊎ ((m ≡ z) × (is_parked fate ≡ true)) → Declares code m → ⊥
-        aside_case m (inl x) = old.none_aside m x
-        aside_case m (inr p) = λ e. none (subst (Declares code) p.0 e)
+    pub grows_back : (c : ℕ) → Grows z (is_back c fate) (back_by c s) (back_by c t)
+    grows_back c = subst (λ (q : List Message). Grows z (is_back c fate) (back_by c s) q) (rw rows refl) (go (is_back c fate) refl)
+      where
+        go : (b : Bool) → is_back c fate ≡ b → Grows z (is_back c fate) (back_by c s) (messages (standing (is_back c) (appended (given s) s.rows body fate)))
+        go true e = grown e (ap messages (appended_in (given s) s.rows body fate (is_back c) e) ∙ joined (standing (is_back c) s.rows) _)
+        go false e = ungrown e (ap messages (appended_out (given s) s.rows body fate (is_back c) e))
 
-    module _ (offered got lost : ℕ → List Message) (w : Flows s f offered got lost) (low : stream < 16)
-        (same : place_of stream t.routing ≡ place_of stream s.routing)
-        (used : has_messages stream t.routing ≡ has_messages stream s.routing)
-        (none : (to code via : ℕ) → place_of stream s.routing ≡ Changing to code via → Declares code z → ⊥) where
-      pub apart_kept : Kept stream s t f f
-      apart_kept = record {
-        here_is = ap (λ (p : Place). those_of stream (queue_at p t f)) same ∙ queue_stays (place_of stream s.routing);
-        stands = subst (λ (p : Place). Stands stream p t f) (sym same) (stands_stays (place_of stream s.routing) (w.stands stream low));
-        used = used;
-        clear = λ to code via e. clear_grows code via (none to code via (sym same ∙ e)) (w.backing.clear stream low to code via (sym same ∙ e));
-        answered = λ to code via e n i a. those_stay z stream other (is_on via fate) (pending via s f) (pending via t f)
-            (grows_on via) ∙ w.backing.answered stream low to code via (sym same ∙ e) n i a;
+    pub in_new : (m : Message) → In m (view t f) → In m (view s f) ⊎ (m ≡ z)
+    in_new m (stands_on l a) = go (grows_among z (is_on l fate) (pending l s f) (pending l t f) (grows_on l) m a)
+      where
+        go : Among m (pending l s f) ⊎ ((m ≡ z) × (is_on l fate ≡ true)) → In m (view s f) ⊎ (m ≡ z)
+        go (inl x) = inl (stands_on l x)
+        go (inr p) = inr p.0
+    in_new m (stands_aside a) = go (grows_among z (is_parked fate) (aside s) (aside t) grows_aside m a)
+      where
+        go : Among m (aside s) ⊎ ((m ≡ z) × (is_parked fate ≡ true)) → In m (view s f) ⊎ (m ≡ z)
+        go (inl x) = inl (stands_aside x)
+        go (inr p) = inr p.0
+
+    -- one that isn't of the stream, nor declares its code
+    module _ (stream : ℕ) (other : is_of stream z ≡ false) where
+      pub queue_stays : (place : Place) → those_of stream (queue_at place t f) ≡ those_of stream (queue_at place s f)
+      queue_stays (On l) = those_stay z stream other (is_on l fate) (pending l s f) (pending l t f) (grows_on l)
+      queue_stays (Changing to code via) =
+          those_joined stream (pending via t f) (back_by code t)
+          ∙ ap₂ (λ (x y : List Message). x ++ y)
+          (those_stay z stream other (is_on via fate) (pending via s f) (pending via t f) (grows_on via))
+          (those_stay z stream other (is_back code fate) (back_by code s) (back_by code t) (grows_back code))
+          ∙ sym (those_joined stream (pending via s f) (back_by code s))
+      queue_stays Nowhere = those_stay z stream other (is_parked fate) (aside s) (aside t) grows_aside
+
+      pub stands_stays : (place : Place) → Stands stream place s f → Stands stream place t f
+      stands_stays place old = record {
+        alone = λ l e. those_stay z stream other (is_on l fate) (pending l s f) (pending l t f) (grows_on l) ∙ old.alone l e;
+        none_aside = λ e. those_stay z stream other (is_parked fate) (aside s) (aside t) grows_aside ∙ old.none_aside e;
       }
+
+      pub clear_grows : (code via : ℕ) → (Declares code z → ⊥) → Clear stream code via (view s f) → Clear stream code via (view t f)
+      clear_grows code via none old = record {
+        only = λ l d m a. only_case l d m (grows_among z (is_on l fate) (pending l s f) (pending l t f) (grows_on l) m a);
+        none_aside = λ m a. aside_case m (grows_among z (is_parked fate) (aside s) (aside t) grows_aside m a);
+        behind = clear_stays z stream code other (is_on via fate) (pending via s f) (pending via t f) (grows_on via) old.behind;
+      }
+        where
+          only_case : (l : ℕ) → (via == l) ≡ false → (m : Message) → Among m (pending l s f) ⊎ ((m ≡ z) × (is_on l fate ≡ true)) → Declares code m → ⊥
+          only_case l d m (inl x) = old.only l d m x
+          only_case l d m (inr p) = λ e. none (subst (Declares code) p.0 e)
+
+          aside_case : (m : Message) → Among m (aside s) ⊎ ((m ≡ z) × (is_parked fate ≡ true)) → Declares code m → ⊥
+          aside_case m (inl x) = old.none_aside m x
+          aside_case m (inr p) = λ e. none (subst (Declares code) p.0 e)
+
+      module _ (offered got lost : ℕ → List Message) (w : Flows s f offered got lost) (low : stream < 16)
+          (same : place_of stream t.routing ≡ place_of stream s.routing)
+          (used : has_messages stream t.routing ≡ has_messages stream s.routing)
+          (none : (to code via : ℕ) → place_of stream s.routing ≡ Changing to code via → Declares code z → ⊥) where
+        pub apart_kept : Kept stream s t f f
+        apart_kept = record {
+          here_is = ap (λ (p : Place). those_of stream (queue_at p t f)) same ∙ queue_stays (place_of stream s.routing);
+          stands = subst (λ (p : Place). Stands stream p t f) (sym same) (stands_stays (place_of stream s.routing) (w.stands stream low));
+          used = used;
+          clear = λ to code via e. clear_grows code via (none to code via (sym same ∙ e)) (w.backing.clear stream low to code via (sym same ∙ e));
+          answered = λ to code via e n i a. those_stay z stream other (is_on via fate) (pending via s f) (pending via t f)
+              (grows_on via) ∙ w.backing.answered stream low to code via (sym same ∙ e) n i a;
+        }

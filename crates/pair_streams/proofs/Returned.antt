@@ -153,9 +153,9 @@ module _ (code : ℕ) (s f : State) (sound : IsSound s) where
                 ∙ ap (λ (q : Place). those_of stream (queue_at q s f)) (sym is);
             stands = subst (λ (q : Place). Stands stream q gone f) (sym then_is)
                 (let old = subst (λ (q : Place). Stands stream q s f) is (w.stands stream low) in record {
-              alone = λ l e. queue_same l ∙ old.alone l e;
-              none_aside = λ e. aside_same stream ∙ old.none_aside e;
-            });
+                  alone = λ l e. queue_same l ∙ old.alone l e;
+                  none_aside = λ e. aside_same stream ∙ old.none_aside e;
+                });
             used = used_then stream low;
             clear = λ to c via e. added_clear s gone f (adds up) (messages (parked rows_turned)) (queues up)
                 (releases_aside code s f sound) (users_added up) (users_parked up) stream c via (adds_none via)
@@ -230,7 +230,7 @@ module _ (code : ℕ) (s f : State) (sound : IsSound s) where
     module _ (none_declared : (m : Message) → In m (view s f) → Declares code m → ⊥)
         (none_acked : (m : Message) → In m (view f s) → Acknowledges code m → ⊥)
         (empty : (stream : ℕ) → stream < 16 → (to via : ℕ) → place_of stream s.routing ≡ Changing to code via
-          → those_of stream (pending via s f) ≡ []) where
+        → those_of stream (pending via s f) ≡ []) where
       each_kept : (b : Bool) → is_up to_home s ≡ b → (stream : ℕ) → stream < 16 → Kept stream s gone f f
       each_kept b u stream low = go b u (place_of stream s.routing) refl
         where
@@ -262,7 +262,7 @@ module _ (code : ℕ) (s f : State) (sound : IsSound s) where
             (λ m i d. none_acked m i (subst (λ (n : ℕ). Acknowledges n m) (eqb-true c code same) d)),
           )
           go false other = inl (ap (λ (b : Bool). cond b Free (code_of c s.routing)) (sym other)
-                ∙ sym ((route.codes_alone s.routing c sound.routing few).back_code code) ∙ e)
+              ∙ sym ((route.codes_alone s.routing c sound.routing few).back_code code) ∙ e)
 
       pub releases_flow : Flows gone f offered got lost
       releases_flow = carried s gone f f offered got lost w (each_kept (is_up to_home s) refl) gone_freed

@@ -132,7 +132,7 @@ module _ (k : ℕ) (s t f g : State) (sound : IsSound s) (a : Rises k s t) (b : 
         none_here : has_messages stream s.routing ≡ false → here stream s f ≡ []
         none_here e = rest_none (got stream) (here stream s f)
             (subst (λ (x : List Message). Mixed (got stream ++ here stream s f) (lost stream) x) (w.unused stream low e)
-              (w.flow stream low)).0
+            (w.flow stream low)).0
 
         on_case : (m : ℕ) → place_of stream s.routing ≡ On m → (home used : Bool)
             → (stream % s.routing.links == k) ≡ home → has_messages stream s.routing ≡ used → Kept stream s t f g
@@ -155,21 +155,21 @@ module _ (k : ℕ) (s t f g : State) (sound : IsSound s) (a : Rises k s t) (b : 
             stays_on m is stays =
                 let other = not_settled m (subst (IsPlaced s.links) is (sound.placed stream low)) in
                 stays_kept (On m) m is (place_then
-                      ∙ ap (λ (q : Place). place_raised k (stream % s.routing.links) (has_messages stream s.routing) q)
-                    is ∙ stays) other (λ l. refl) refl (ap (those_of stream) (same_at m other)) (λ to c v e. absurd cc)
+                ∙ ap (λ (q : Place). place_raised k (stream % s.routing.links) (has_messages stream s.routing) q)
+                is ∙ stays) other (λ l. refl) refl (ap (those_of stream) (same_at m other)) (λ to c v e. absurd cc)
         on_case m is false used h u =
             let other = not_settled m (subst (IsPlaced s.links) is (sound.placed stream low)) in
             stays_kept (On m) m is (place_then
-                  ∙ ap (λ (q : Place). place_raised k (stream % s.routing.links) (has_messages stream s.routing) q) is
-                ∙ rw h refl) other (λ l. refl) refl (ap (those_of stream) (same_at m other)) (λ to c v e. absurd cc)
+            ∙ ap (λ (q : Place). place_raised k (stream % s.routing.links) (has_messages stream s.routing) q) is
+            ∙ rw h refl) other (λ l. refl) refl (ap (those_of stream) (same_at m other)) (λ to c v e. absurd cc)
 
         go : (p : Place) → place_of stream s.routing ≡ p → Kept stream s t f g
         go (On m) is = on_case m is (stream % s.routing.links == k) (has_messages stream s.routing) refl refl
         go (Changing to code via) is =
             let other = not_settled via (subst (IsPlaced s.links) is (sound.placed stream low)) in
             stays_kept (Changing to code via) via is
-                (place_then ∙ ap (λ (q : Place). place_raised k (stream % s.routing.links)
-                    (has_messages stream s.routing) q) is) other (λ l. refl) refl
+            (place_then ∙ ap (λ (q : Place). place_raised k (stream % s.routing.links)
+            (has_messages stream s.routing) q) is) other (λ l. refl) refl
             (ap₂ (λ (x y : List Message). those_of stream (x ++ y)) (same_at via other) (backs code)) (λ t c v e. cc)
         go Nowhere is =
             let stood = subst (λ (q : Place). Stands stream q s f) is (w.stands stream low) in

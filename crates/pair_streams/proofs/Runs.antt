@@ -84,8 +84,8 @@ module _ (stream : ℕ) (low : stream < 16) (s f : State) (near far : Past) (los
         → slice_get (standing test s.rows) at ≡ Some row → m.number ≡ row.number → ⊥
     acked_in test off at row there number =
         let row_is : row_of m.number s.rows ≡ Some row =
-            row_in_filter (given s) (λ (r : Row). test r.fate) s.rows at m.number row covers.numbered there (sym number)
-            in
+        row_in_filter (given s) (λ (r : Row). test r.fate) s.rows at m.number row covers.numbered there (sym number)
+        in
         let fate : Some row.fate ≡ Some (Acked link) = ap (option_map (λ (r : Row). r.fate)) (sym row_is) ∙ placed in
         let is : row.fate ≡ Acked link = cc in
         let no : true ≡ false = sym (filtered (λ (r : Row). test r.fate) s.rows at row there) ∙ ap test is ∙ off in
@@ -93,8 +93,8 @@ module _ (stream : ℕ) (low : stream < 16) (s f : State) (near far : Past) (los
 
     not_pending : (l : ℕ) → Among m (pending l s f) → ⊥
     not_pending l a = last (among_joined m (messages (drop count (unack l s.rows) ++ wait l s.rows))
-          (messages (held l s.rows)) (subst (λ (q : List Message). Among m q)
-          (joined (drop count (unack l s.rows) ++ wait l s.rows) (held l s.rows)) a))
+        (messages (held l s.rows)) (subst (λ (q : List Message). Among m q)
+        (joined (drop count (unack l s.rows) ++ wait l s.rows) (held l s.rows)) a))
       where
         count : ℕ
         count = accepted_on l f - acked_on l s
@@ -106,7 +106,7 @@ module _ (stream : ℕ) (low : stream < 16) (s f : State) (near far : Past) (los
 
         last : Among m (messages (drop count (unack l s.rows) ++ wait l s.rows)) ⊎ Among m (messages (held l s.rows)) → ⊥
         last (inl b) = first (among_joined m (messages (drop count (unack l s.rows))) (messages (wait l s.rows))
-              (subst (λ (q : List Message). Among m q) (joined (drop count (unack l s.rows)) (wait l s.rows)) b))
+            (subst (λ (q : List Message). Among m q) (joined (drop count (unack l s.rows)) (wait l s.rows)) b))
         last (inr b) = let r = row_among m (held l s.rows) b in acked_in (is_held l) refl r.place r.row r.there r.number_is
 
     not_aside : Among m (aside s) → ⊥
@@ -173,7 +173,7 @@ module _ (stream : ℕ) (low : stream < 16) (s f : State) (near far : Past) (los
       all_of : far.got stream ++ here stream s f ≡ near.offered stream
       all_of = mixed_none (far.got stream ++ here stream s f) (near.offered stream)
           (subst (λ (l : List Message). Mixed (far.got stream ++ here stream s f) l (near.offered stream)) whole
-            (w.flow stream low))
+          (w.flow stream low))
 
   -- and where some is
   pub arrives_in_part : ArrivesInPart stream near far s f
@@ -187,7 +187,7 @@ module _ (stream : ℕ) (low : stream < 16) (s f : State) (near far : Past) (los
       got_or_lost : here stream s f ≡ [] → (m : Message) → IsIn m (near.offered stream) → IsIn m (far.got stream) ⊎ (place m.number s.rows ≡ Some given_up)
       got_or_lost none m offered = go
           (mixed_among m (far.got stream ++ here stream s f) (lost stream) (near.offered stream) (w.flow stream low)
-            (among_in m (near.offered stream) offered.0 offered.1))
+          (among_in m (near.offered stream) offered.0 offered.1))
         where
           go : Among m (far.got stream ++ here stream s f) ⊎ Among m (lost stream) → IsIn m (far.got stream) ⊎ (place m.number s.rows ≡ Some given_up)
           go (inl a) = inl (is_in m (far.got stream) (subst (Among m) (ap (λ (q : List Message). far.got stream ++ q) none ∙ append-nil (far.got stream)) a))
@@ -244,14 +244,14 @@ module _ (emergencies : Bool) (ma mb : Method) (one : IsOneMethod ma mb) where
       where
         shown : (end : End) → IsSafe emergencies (Act end event)
             → Keeps g (Act end event) (shows (Answered (answer_to (at_end g.world end) event))
-              (with_end g.world end (after (at_end g.world end) event)))
+            (with_end g.world end (after (at_end g.world end) event)))
         shown A sound = asked_streams (seen A g) h.near_sound v A event own sound
         shown B sound = streams_back _ (asked_streams (seen B g) h_b.near_sound v_b B event own sound)
 
         go : (known full : Bool) → Keeps g (Act end event)
             (cond known (cond full exhausted
-                (shows (Answered (answer_to (at_end g.world end) event))
-              (with_end g.world end (after (at_end g.world end) event)))) impossible)
+            (shows (Answered (answer_to (at_end g.world end) event))
+            (with_end g.world end (after (at_end g.world end) event)))) impossible)
         go true true = tt
         go true false = shown end sound
         go false full = tt
@@ -265,7 +265,7 @@ module _ (emergencies : Bool) (ma mb : Method) (one : IsOneMethod ma mb) where
     abbrev EmitKeeps : (end : End) (k : ℕ) → Answer → Type 0
     EmitKeeps end k answer = Streams emergencies
         (seen A (passed g (Emit end k) (Answered answer)
-            (with_sent (with_end g.world end (after (at_end g.world end) (Next k))) end k (Answered answer))))
+        (with_sent (with_end g.world end (after (at_end g.world end) (Next k))) end k (Answered answer))))
 
     emit_a : (k : ℕ) → k < length g.world.a.state.links → (b : Bool) → is_up k g.world.a.state ≡ b → EmitKeeps A k (answer_to g.world.a (Next k))
     emit_a k few true e =
@@ -278,10 +278,10 @@ module _ (emergencies : Bool) (ma mb : Method) (one : IsOneMethod ma mb) where
     emit_b k few true e =
         let at = is_at_up k g.world.b.state e in
         subst (EmitKeeps B k) (sym (moving.answers_sent mb ma (seen B g) h_b k few at.0 at.1))
-            (streams_back _ (sends_streams mb ma one_b (seen B g) h_b v_b k _ few at.0 at.1))
+        (streams_back _ (sends_streams mb ma one_b (seen B g) h_b v_b k _ few at.0 at.1))
     emit_b k few false e =
         subst (EmitKeeps B k) (sym (ap (λ (o : SetOutcome). o.answer) (moving.next_refused k g.world.b.state e).1))
-            (streams_back _ (sends_none mb ma one_b (seen B g) h_b v_b k _ e))
+        (streams_back _ (sends_none mb ma one_b (seen B g) h_b v_b k _ e))
 
     emit_at : (end : End) (k : ℕ) → k < length g.world.a.state.links → EmitKeeps end k (answer_to (at_end g.world end) (Next k))
     emit_at A k few = emit_a k few (is_up k g.world.a.state) refl
@@ -292,9 +292,9 @@ module _ (emergencies : Bool) (ma mb : Method) (one : IsOneMethod ma mb) where
       where
         go : (known : Bool) → has_link g.world k ≡ known → (full : Bool)
             → Keeps g (Emit end k) (sends_on end k
-              (cond known (cond full exhausted
-                (shows (Answered (answer_to (at_end g.world end) (Next k)))
-              (with_end g.world end (after (at_end g.world end) (Next k))))) impossible))
+            (cond known (cond full exhausted
+            (shows (Answered (answer_to (at_end g.world end) (Next k)))
+            (with_end g.world end (after (at_end g.world end) (Next k))))) impossible))
         go true e true = tt
         go true e false = emit_at end k (ltb-true k (link_count g.world.a.state) e)
         go false e full = tt
@@ -309,7 +309,7 @@ module _ (emergencies : Bool) (ma mb : Method) (one : IsOneMethod ma mb) where
 
         go : (known within : Bool) → Keeps g (Lose end k place)
             (cond known (cond within (shows Lost (with_line g.world end k (without place (line_to g.world end k))))
-                impossible) impossible)
+            impossible) impossible)
         go true true = lost end
         go true false = tt
         go false within = tt
@@ -324,32 +324,32 @@ module _ (emergencies : Bool) (ma mb : Method) (one : IsOneMethod ma mb) where
       heard_a : units_on k g.world.to_a ≡ unit ∷ rest → (link : LinkState) → IsAt k link Up g.world.a.state
           → ArriveKeeps A k (unit ∷ rest)
           (shows (Answered (answer_to g.world.a (Heard k unit)))
-            (with_end (with_line g.world A k rest) A (after g.world.a (Heard k unit))))
+          (with_end (with_line g.world A k rest) A (after g.world.a (Heard k unit))))
       heard_a front link at =
           subst (λ (answer : Answer). Streams emergencies
-                (seen A (with_past A (past_arrived k (unit ∷ rest) (g.b.sent k) (Answered answer) g.a)
-                  (with_end (with_line g.world A k rest) A (after g.world.a (Heard k unit))) g)))
+          (seen A (with_past A (past_arrived k (unit ∷ rest) (g.b.sent k) (Answered answer) g.a)
+          (with_end (with_line g.world A k rest) A (after g.world.a (Heard k unit))) g)))
           (sym (moving.answers_heard ma mb one (seen A g) h k few unit rest front link at))
           (hears_streams ma mb one (seen A g) h v k few unit rest front link at)
 
       heard_b : units_on k g.world.to_b ≡ unit ∷ rest → (link : LinkState) → IsAt k link Up g.world.b.state
           → ArriveKeeps B k (unit ∷ rest)
           (shows (Answered (answer_to g.world.b (Heard k unit)))
-            (with_end (with_line g.world B k rest) B (after g.world.b (Heard k unit))))
+          (with_end (with_line g.world B k rest) B (after g.world.b (Heard k unit))))
       heard_b front link at =
           let few_b : k < length g.world.b.state.links = omega (arith, few, h.far_links) in
           subst (λ (answer : Answer). Streams emergencies
-                (seen A (with_past B (past_arrived k (unit ∷ rest) (g.a.sent k) (Answered answer) g.b)
-                  (with_end (with_line g.world B k rest) B (after g.world.b (Heard k unit))) g)))
+          (seen A (with_past B (past_arrived k (unit ∷ rest) (g.a.sent k) (Answered answer) g.b)
+          (with_end (with_line g.world B k rest) B (after g.world.b (Heard k unit))) g)))
           (sym (moving.answers_heard mb ma one_b (seen B g) h_b k few_b unit rest front link at))
           (streams_back _ (hears_streams mb ma one_b (seen B g) h_b v_b k few_b unit rest front link at))
 
       reach_a : units_on k g.world.to_a ≡ unit ∷ rest → (rising : Bool) → is_up k g.world.a.state ≡ rising → (known full : Bool)
           → ArriveKeeps A k (unit ∷ rest)
-              (cond rising (cond known (cond full exhausted
-                    (shows (Answered (answer_to g.world.a (Heard k unit)))
-                (with_end (with_line g.world A k rest) A (after g.world.a (Heard k unit))))) impossible)
-              (shows Lost (with_line g.world A k rest)))
+          (cond rising (cond known (cond full exhausted
+          (shows (Answered (answer_to g.world.a (Heard k unit)))
+          (with_end (with_line g.world A k rest) A (after g.world.a (Heard k unit))))) impossible)
+          (shows Lost (with_line g.world A k rest)))
       reach_a front true e true true = tt
       reach_a front true e true false = let at = is_at_up k g.world.a.state e in heard_a front at.0 at.1
       reach_a front true e false full = tt
@@ -357,10 +357,10 @@ module _ (emergencies : Bool) (ma mb : Method) (one : IsOneMethod ma mb) where
 
       reach_b : units_on k g.world.to_b ≡ unit ∷ rest → (rising : Bool) → is_up k g.world.b.state ≡ rising → (known full : Bool)
           → ArriveKeeps B k (unit ∷ rest)
-              (cond rising (cond known (cond full exhausted
-                    (shows (Answered (answer_to g.world.b (Heard k unit)))
-                (with_end (with_line g.world B k rest) B (after g.world.b (Heard k unit))))) impossible)
-              (shows Lost (with_line g.world B k rest)))
+          (cond rising (cond known (cond full exhausted
+          (shows (Answered (answer_to g.world.b (Heard k unit)))
+          (with_end (with_line g.world B k rest) B (after g.world.b (Heard k unit))))) impossible)
+          (shows Lost (with_line g.world B k rest)))
       reach_b front true e true true = tt
       reach_b front true e true false = let at = is_at_up k g.world.b.state e in heard_b front at.0 at.1
       reach_b front true e false full = tt

@@ -127,8 +127,8 @@ module _ (fsn n : ℕ) (link : LinkState) (s f : State) (sound : IsSound s) (at 
   backs c =
       ap (λ (rows : List Row). messages (standing (is_back c) rows)) (rows_then fsn n link s f sound at r)
       ∙ ap messages (moved_same (is_on n) (is_back c) (all_with (fate_on (target s.links)))
-            (turned (is_unacked n) (Acked n) (reached_by fsn n link s.rows) s.rows)
-          (λ row. target_not_back c (target s.links)) (λ fate e. on_not_back n c fate e))
+      (turned (is_unacked n) (Acked n) (reached_by fsn n link s.rows) s.rows)
+      (λ row. target_not_back c (target s.links)) (λ fate e. on_not_back n c fate e))
       ∙ ap messages (turned_same (is_unacked n) (is_back c) (Acked n) refl (λ fate e. sent_not_back n c fate e) (reached_by fsn n link s.rows) s.rows)
 
   module _ (stream : ℕ) (low : stream < 16) where
@@ -277,21 +277,23 @@ module _ (fsn n : ℕ) (link : LinkState) (s f : State) (sound : IsSound s) (at 
       on_kept : place_of stream s.routing ≡ On n → (to : Option ℕ) → target s.links ≡ to → Kept stream s after f f
       on_kept is None e =
           let then_is : place_of stream after.routing ≡ Nowhere = place_then
-              ∙ ap₂ (λ (t : Option ℕ) (q : Place). place_settled n t q) e is ∙ rw (itself n) refl in
+          ∙ ap₂ (λ (t : Option ℕ) (q : Place). place_settled n t q) e is ∙ rw (itself n) refl in
           record {
             here_is = ap (λ (q : Place). those_of stream (queue_at q after f)) then_is
                 ∙ goes_aside (On n) is (itself n) refl (λ l d. d) None e
                 ∙ ap (λ (q : Place). those_of stream (queue_at q s f)) (sym is);
             stands = subst (λ (q : Place). Stands stream q after f) (sym then_is)
-                (record { alone = λ l d. goes_on (On n) is (itself n) refl (λ l d. d) None e l;
-                    none_aside = λ d. absurd cc });
+                (record {
+                  alone = λ l d. goes_on (On n) is (itself n) refl (λ l d. d) None e l;
+                  none_aside = λ d. absurd cc;
+                });
             used = used_then;
             clear = λ t c v g. absurd (let never : Nowhere ≡ Changing t c v = sym then_is ∙ g in cc);
             answered = λ t c v g m i a. absurd (let never : Nowhere ≡ Changing t c v = sym then_is ∙ g in cc);
           }
       on_kept is (Some to) e =
           let then_is : place_of stream after.routing ≡ On to = place_then
-              ∙ ap₂ (λ (t : Option ℕ) (q : Place). place_settled n t q) e is ∙ rw (itself n) refl in
+          ∙ ap₂ (λ (t : Option ℕ) (q : Place). place_settled n t q) e is ∙ rw (itself n) refl in
           record {
             here_is = ap (λ (q : Place). those_of stream (queue_at q after f)) then_is
                 ∙ at_target (On n) is (itself n) refl (λ l d. d) to e
@@ -317,7 +319,7 @@ module _ (fsn n : ℕ) (link : LinkState) (s f : State) (sound : IsSound s) (at 
       via_kept to code is None e = absurd (has_target to code n is e)
       via_kept to code is (Some t) e =
           let then_is : place_of stream after.routing ≡ Changing to code t = place_then
-              ∙ ap₂ (λ (o : Option ℕ) (q : Place). place_settled n o q) e is ∙ rw (itself n) refl in
+          ∙ ap₂ (λ (o : Option ℕ) (q : Place). place_settled n o q) e is ∙ rw (itself n) refl in
           let before = w.backing.clear stream low to code n is in
           let moves = at_target (Changing to code n) is (itself n) refl (λ l d. d) t e in
           record {
@@ -329,7 +331,7 @@ module _ (fsn n : ℕ) (link : LinkState) (s f : State) (sound : IsSound s) (at 
                 ∙ ap (λ (q : Place). those_of stream (queue_at q s f)) (sym is);
             stands = subst (λ (q : Place). Stands stream q after f) (sym then_is)
                 (stands_then (Changing to code n) is (itself n) refl (λ l d. d) t e (Changing to code t) refl
-                  (λ l. refl));
+                (λ l. refl));
             used = used_then;
             clear = λ a c v g.
                 let same : Changing to code t ≡ Changing a c v = sym then_is ∙ g in
@@ -341,8 +343,8 @@ module _ (fsn n : ℕ) (link : LinkState) (s f : State) (sound : IsSound s) (at 
                 let code_is : code ≡ c = cc in
                 let via_is : t ≡ v = cc in
                 subst (λ (k : ℕ). those_of stream (pending k after f) ≡ []) via_is
-                    (moves ∙ w.backing.answered stream low to code n is m i
-                      (subst (λ (k : ℕ). Acknowledges k m) (sym code_is) x));
+                (moves ∙ w.backing.answered stream low to code n is m i
+                (subst (λ (k : ℕ). Acknowledges k m) (sym code_is) x));
           }
         where
           moved_clear : Clear stream code n (view s f) → Clear stream code t (view after f)

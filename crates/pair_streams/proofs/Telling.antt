@@ -60,8 +60,8 @@ module _ (emergencies : Bool) (ma mb : Method) (one : IsOneMethod ma mb) where
           subst (λ (answer : Answer). OrdersTell g (Arrive A k) (Answered answer))
           (sym (moving.answers_heard ma mb one (seen A g) h k few unit rest front link at))
           (subst (λ (line : List SignalUnit). FrontTells line
-                  (moving.report ma mb one (seen A g) h k few unit rest front link at).took g.world.a.state g.b)
-              (sym front) (hears_tells ma mb one (seen A g) h v.ordered.both k few unit rest front link at))
+          (moving.report ma mb one (seen A g) h k few unit rest front link at).took g.world.a.state g.b)
+          (sym front) (hears_tells ma mb one (seen A g) h v.ordered.both k few unit rest front link at))
 
       heard_b : units_on k g.world.to_b ≡ unit ∷ rest → (link : LinkState) → IsAt k link Up g.world.b.state
           → OrdersTell g (Arrive B k) (Answered (answer_to g.world.b (Heard k unit)))
@@ -70,15 +70,15 @@ module _ (emergencies : Bool) (ma mb : Method) (one : IsOneMethod ma mb) where
           subst (λ (answer : Answer). OrdersTell g (Arrive B k) (Answered answer))
           (sym (moving.answers_heard mb ma one_b (seen B g) h_b k few_b unit rest front link at))
           (subst (λ (line : List SignalUnit). FrontTells line
-                  (moving.report mb ma one_b (seen B g) h_b k few_b unit rest front link at).took g.world.b.state g.a)
-              (sym front) (hears_tells mb ma one_b (seen B g) h_b v_b.ordered.both k few_b unit rest front link at))
+          (moving.report mb ma one_b (seen B g) h_b k few_b unit rest front link at).took g.world.b.state g.a)
+          (sym front) (hears_tells mb ma one_b (seen B g) h_b v_b.ordered.both k few_b unit rest front link at))
 
       reach_a : units_on k g.world.to_a ≡ unit ∷ rest → (rising : Bool) → is_up k g.world.a.state ≡ rising → (known full : Bool)
           → Tells g (Arrive A k) (cond rising
-                (cond known (cond full exhausted
-                  (shows (Answered (answer_to g.world.a (Heard k unit)))
-                (with_end (with_line g.world A k rest) A (after g.world.a (Heard k unit))))) impossible)
-              (shows Lost (with_line g.world A k rest)))
+          (cond known (cond full exhausted
+          (shows (Answered (answer_to g.world.a (Heard k unit)))
+          (with_end (with_line g.world A k rest) A (after g.world.a (Heard k unit))))) impossible)
+          (shows Lost (with_line g.world A k rest)))
       reach_a front true e true true = tt
       reach_a front true e true false = let at = is_at_up k g.world.a.state e in heard_a front at.0 at.1
       reach_a front true e false full = tt
@@ -86,10 +86,10 @@ module _ (emergencies : Bool) (ma mb : Method) (one : IsOneMethod ma mb) where
 
       reach_b : units_on k g.world.to_b ≡ unit ∷ rest → (rising : Bool) → is_up k g.world.b.state ≡ rising → (known full : Bool)
           → Tells g (Arrive B k) (cond rising
-                (cond known (cond full exhausted
-                  (shows (Answered (answer_to g.world.b (Heard k unit)))
-                (with_end (with_line g.world B k rest) B (after g.world.b (Heard k unit))))) impossible)
-              (shows Lost (with_line g.world B k rest)))
+          (cond known (cond full exhausted
+          (shows (Answered (answer_to g.world.b (Heard k unit)))
+          (with_end (with_line g.world B k rest) B (after g.world.b (Heard k unit))))) impossible)
+          (shows Lost (with_line g.world B k rest)))
       reach_b front true e true true = tt
       reach_b front true e true false = let at = is_at_up k g.world.b.state e in heard_b front at.0 at.1
       reach_b front true e false full = tt

@@ -67,7 +67,7 @@ module _ (s t f : State) (adds : ℕ → List Message) (adds_aside : List Messag
     none_aside = λ m a d. aside_case m d (among_joined m (aside s) adds_aside (subst (Among m) aside_is a));
     behind = subst (ClearBehind stream code) (sym (queues via))
         (clear_joined stream code (pending via s f) (adds via) old.behind none
-          (clear_none stream code (adds via) (λ m a d. users_declare code m (users via m a) d)));
+        (clear_none stream code (adds via) (λ m a d. users_declare code m (users via m a) d)));
   }
     where
       on_case : (l : ℕ) → (via == l) ≡ false → (m : Message) → Declares code m → Among m (pending l s f) ⊎ Among m (adds l) → ⊥
@@ -134,9 +134,9 @@ module _ (blind : Bool) (k : ℕ) (link : LinkState) (s f : State) (sound : IsSo
       none_turned off =
           ap (those_of stream) (turned_filter (is_back_to k) other goes s.rows)
           ∙ picked stream P (λ row. false) s.rows
-              (each_so (λ row. IsBackOf s.routing row row.fate)
-                (λ row. is_of stream (record { number = row.number; body = row.body }) ≡ true → P row ≡ false)
-              (λ row b own. off_row off row row.fate b own) s.rows sound.backs)
+          (each_so (λ row. IsBackOf s.routing row row.fate)
+          (λ row. is_of stream (record { number = row.number; body = row.body }) ≡ true → P row ≡ false)
+          (λ row b own. off_row off row row.fate b own) s.rows sound.backs)
           ∙ ap (those_of stream) (never_picked s.rows)
 
       -- all of this one, where the test tells so
@@ -167,10 +167,10 @@ module _ (blind : Bool) (k : ℕ) (link : LinkState) (s f : State) (sound : IsSo
         all_turned b e =
             ap (those_of stream) (turned_filter (is_back_to k) other goes s.rows)
             ∙ picked stream P (λ row. is_back code row.fate && b) s.rows
-                (each_so (λ row. IsBackOf s.routing row row.fate)
-                  (λ row. is_of stream (record { number = row.number; body = row.body }) ≡ true
-                  → P row ≡ (is_back code row.fate && b)) (λ row back own. on_row b e row row.fate back own) s.rows
-                sound.backs)
+            (each_so (λ row. IsBackOf s.routing row row.fate)
+            (λ row. is_of stream (record { number = row.number; body = row.body }) ≡ true
+            → P row ≡ (is_back code row.fate && b)) (λ row back own. on_row b e row row.fate back own) s.rows
+            sound.backs)
             ∙ and_so stream (is_back code) b s.rows
 
     -- a link gains all that stood back of a stream that came from it, and nothing of others
@@ -229,7 +229,7 @@ module _ (blind : Bool) (k : ℕ) (link : LinkState) (s f : State) (sound : IsSo
         ap (λ (rows : List Row). those_of stream (messages rows)) (moved_more (is_back_to k) (is_back code) goes s.rows (λ fate e. not_both fate e coded.0))
         ∙ ap (those_of stream) (joined (standing (is_back code) s.rows) (standing (is_back code) rows_turned))
         ∙ joins_none stream (back_by code s) (messages (standing (is_back code) rows_turned))
-            (none_turned stream low (is_back code) (ap (λ (p : Place). turns p k) is ∙ off))
+        (none_turned stream low (is_back code) (ap (λ (p : Place). turns p k) is ∙ off))
       where
         not_both : (fate : Fate) → is_back_to k fate ≡ true → home_of code ≡ to → is_back code fate ≡ false
         not_both (Back c) e h = apart c code (λ same. false_true (to == k) off (ap (λ (n : ℕ). n == k) (sym h ∙ ap home_of (sym same)) ∙ e))
@@ -267,9 +267,9 @@ module _ (blind : Bool) (k : ℕ) (link : LinkState) (s f : State) (sound : IsSo
           here_is = ap (λ (q : Place). those_of stream (queue_at q left f)) then_is ∙ queue_is ∙ ap (λ (q : Place). those_of stream (queue_at q s f)) (sym is);
           stands = subst (λ (q : Place). Stands stream q left f) (sym then_is)
               (let old = subst (λ (q : Place). Stands stream q s f) is (w.stands stream low) in record {
-            alone = λ l e. queue_same stream low l (none l) ∙ old.alone l e;
-            none_aside = λ e. aside_same stream low ∙ old.none_aside e;
-          });
+                alone = λ l e. queue_same stream low l (none l) ∙ old.alone l e;
+                none_aside = λ e. aside_same stream low ∙ old.none_aside e;
+              });
           used = (route.alone s.routing stream sound.routing low).left_messages k;
           clear = λ to code via e. added_clear s left f adds (messages (parked rows_turned))
               (leaves_queues blind k link s f sound at) (leaves_aside blind k link s f sound at) users_added
@@ -287,8 +287,8 @@ module _ (blind : Bool) (k : ℕ) (link : LinkState) (s f : State) (sound : IsSo
             ap (those_of stream) (leaves_queues blind k link s f sound at via)
             ∙ those_joined stream (pending via s f) (adds via)
             ∙ ap (λ (x : List Message). those_of stream (pending via s f) ++ x)
-                (adds_all stream low to code via is on via
-                  ∙ ap (λ (b : Bool). cond b (those_of stream (back_by code s)) []) (itself via))
+            (adds_all stream low to code via is on via
+            ∙ ap (λ (b : Bool). cond b (those_of stream (back_by code s)) []) (itself via))
             ∙ sym (those_joined stream (pending via s f) (back_by code s))
 
         turned_kept : Kept stream s left f f
@@ -296,11 +296,11 @@ module _ (blind : Bool) (k : ℕ) (link : LinkState) (s f : State) (sound : IsSo
           here_is = ap (λ (q : Place). those_of stream (queue_at q left f)) on_via ∙ at_via ∙ ap (λ (q : Place). those_of stream (queue_at q s f)) (sym is);
           stands = subst (λ (q : Place). Stands stream q left f) (sym on_via)
               (let old = subst (λ (q : Place). Stands stream q s f) is (w.stands stream low) in record {
-            alone = λ l e. queue_same stream low l
-                (adds_all stream low to code via is on l
-                  ∙ ap (λ (b : Bool). cond b (those_of stream (back_by code s)) []) e) ∙ old.alone l e;
-            none_aside = λ e. aside_same stream low ∙ old.none_aside refl;
-          });
+                alone = λ l e. queue_same stream low l
+                    (adds_all stream low to code via is on l
+                    ∙ ap (λ (b : Bool). cond b (those_of stream (back_by code s)) []) e) ∙ old.alone l e;
+                none_aside = λ e. aside_same stream low ∙ old.none_aside refl;
+              });
           used = (route.alone s.routing stream sound.routing low).left_messages k;
           clear = λ t c v e. absurd (let no : On via ≡ Changing t c v = sym on_via ∙ e in cc);
           answered = λ t c v e n i a. absurd (let no : On via ≡ Changing t c v = sym on_via ∙ e in cc);
@@ -314,8 +314,8 @@ module _ (blind : Bool) (k : ℕ) (link : LinkState) (s f : State) (sound : IsSo
           back_case to code via is false off = stays_kept (Changing to code via) is off (rw off refl)
               (those_joined stream (pending via left f) (back_by code left)
               ∙ ap₂ (λ (x y : List Message). x ++ y)
-                  (queue_same stream low via (adds_none stream low (ap (λ (q : Place). turns q k) is ∙ off) via))
-                  (back_stays stream low to code via is off)
+              (queue_same stream low via (adds_none stream low (ap (λ (q : Place). turns q k) is ∙ off) via))
+              (back_stays stream low to code via is off)
               ∙ sym (those_joined stream (pending via s f) (back_by code s)))
 
           go : (p : Place) → place_of stream s.routing ≡ p → Kept stream s left f f

@@ -104,8 +104,12 @@ checkpoint_sound s t =
     }
 
 pub checkpoints : (s : State) → Checkpoints s
-checkpoints s = record { given_same = given_stays s; counts_same = counts_stay s; sound = checkpoint_sound s;
-      kept = λ number t. stays_found number s.rows (at_most_one (given s) number s.rows t.numbered) }
+checkpoints s = record {
+  given_same = given_stays s;
+  counts_same = counts_stay s;
+  sound = checkpoint_sound s;
+  kept = λ number t. stays_found number s.rows (at_most_one (given s) number s.rows t.numbered);
+}
 
 -- WHAT THE ROWS ARE, by their numbers in order and what is found under each
 rebuilt_on : (given : ℕ) (all rows : List Row) → IsNumbered given all
@@ -121,7 +125,7 @@ pub rows_are : (given : ℕ) (rows : List Row) → IsNumbered given rows → reb
 rows_are given rows numbered =
     rebuilt_on given rows rows numbered
     (λ i row e. row_in_filter given (λ row. true) rows i row.number row numbered
-      (ap (λ (xs : List Row). slice_get xs i) (filter_all rows) ∙ e) refl)
+    (ap (λ (xs : List Row). slice_get xs i) (filter_all rows) ∙ e) refl)
   where
     filter_all : (rows : List Row) → filter (λ row. true) rows ≡ rows
     filter_all [] = refl

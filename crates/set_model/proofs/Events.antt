@@ -89,13 +89,17 @@ module _ (l : ℕ) (test : Fate → Bool) (to : Fate) (rows new : List Row) (i :
       let unacked : (k : ℕ) → test (Acked k) ≡ false = λ k. grind (arith, goes (Acked k)) in
       let last = i.before (λ f. is_unacked l f || is_waiting l f) (is_held l) (λ f e u. goes f e) (λ f e h. grind arith) in
       let none : (other : Fate → Bool) → other to ≡ false
-          → ((f : Fate) → (is_unacked l f || is_waiting l f) ≡ true → other f ≡ false)
-          → standing other new ≡ standing other rows = λ other o w. i.same other o (λ f e. w f (goes f e)) in
-      record { kept = grind (arith, total_is, same_numbers);
-            held_same = none (is_held l) (grind arith) (λ f e. grind arith);
-          parked_same = none is_parked (grind arith) (λ f e. grind arith);
-          back_same = none stands_back (grind arith) (λ f e. grind arith); order_kept = order; last_kept = last;
-          others = λ n d. untouched n rows new (none (is_on n) (grind arith) (λ f e. grind arith)) }
+      → ((f : Fate) → (is_unacked l f || is_waiting l f) ≡ true → other f ≡ false)
+      → standing other new ≡ standing other rows = λ other o w. i.same other o (λ f e. w f (goes f e)) in
+      record {
+        kept = grind (arith, total_is, same_numbers);
+        held_same = none (is_held l) (grind arith) (λ f e. grind arith);
+        parked_same = none is_parked (grind arith) (λ f e. grind arith);
+        back_same = none stands_back (grind arith) (λ f e. grind arith);
+        order_kept = order;
+        last_kept = last;
+        others = λ n d. untouched n rows new (none (is_on n) (grind arith) (λ f e. grind arith));
+      }
 
   ends_on : is_unfinished to ≡ false → ChangesOn l rows new
   ends_on done = changes_on (grind arith) (i.before (is_unacked l) (is_waiting l) (λ f e u. grind arith) (λ f e w. grind arith))
@@ -112,7 +116,7 @@ pub sent : (l : ℕ) (rows : List Row) → Sent l rows (turned (is_waiting l) (U
 sent l rows =
     let first = first_sent l rows (itself l) in
     let changed = changes_on l (is_waiting l) (Unacked l) rows _ (turned_there (is_waiting l) (Unacked l) 1 rows)
-        (λ f e. grind arith) (grind arith) (λ o. (first o).0) in
+    (λ f e. grind arith) (grind arith) (λ o. (first o).0) in
     record { in_place = changed; wait_is = turned_left (is_waiting l) (Unacked l) refl 1 rows; unack_is = λ o. (first o).1 }
 
 -- AN ACKNOWLEDGEMENT.
@@ -156,8 +160,11 @@ withdrawn_wait count l rows = turned_left (is_waiting l) (Discarded NoAnswer) re
 pub empty_link : (l : ℕ) (rows : List Row) → on l rows ≡ [] → IsEmptyLink l rows
 empty_link l rows none = let kind =
     λ (test : Fate → Bool) (w : (f : Fate) → test f ≡ true → is_on l f ≡ true). none_within test (is_on l) w rows none
-    in record { unack_none = kind (is_unacked l) (λ f e. grind arith);
-      wait_none = kind (is_waiting l) (λ f e. grind arith); held_none = kind (is_held l) (λ f e. grind arith) }
+    in record {
+      unack_none = kind (is_unacked l) (λ f e. grind arith);
+      wait_none = kind (is_waiting l) (λ f e. grind arith);
+      held_none = kind (is_held l) (λ f e. grind arith);
+    }
 
 pub record Left (l : ℕ) (to : Fate) (rows new : List Row) : Type 0 where
   pub kept : Kept rows new

@@ -37,8 +37,16 @@ alone_more : (n : ℕ) (s t : State) (come : List Row) → slice_get t.links n �
     → held n t.rows ≡ held n s.rows ++ held n come → (is_up n s ≡ false → wait n come ≡ [])
     → (is_up n s ≡ true → held n come ≡ []) → LeavesAlone n s t
 alone_more n s t come link sent waits holds no_wait no_held =
-    record { link_same = link; unack_same = sent; more = wait n come; wait_more = waits; none_more = no_wait;
-      later = held n come; held_later = holds; none_later = no_held }
+    record {
+      link_same = link;
+      unack_same = sent;
+      more = wait n come;
+      wait_more = waits;
+      none_more = no_wait;
+      later = held n come;
+      held_later = holds;
+      none_later = no_held;
+    }
 
 -- a new message comes to wait for the link, or to be held for it
 alone_appended : (n : ℕ) (body : List ℕ) (fate : Fate) (s : State) (routing : Routing) → is_unacked n fate ≡ false
@@ -54,8 +62,8 @@ alone_moved : (n : ℕ) (test : Fate → Bool) (fate : Row → Fate) (s : State)
     → slice_get links n ≡ slice_get s.links n → ((f : Fate) → test f ≡ true → is_on n f ≡ false)
     → ((x : Row) → is_unacked n (fate x) ≡ false)
     → (link_is_up (slice_get links n) ≡ false → (x : Row) → is_waiting n (fate x) ≡ false)
-        → (link_is_up (slice_get links n) ≡ true → (x : Row) → is_held n (fate x) ≡ false)
-        → LeavesAlone n s (record s { links = links; rows = moved test fate s.rows; routing = routing })
+    → (link_is_up (slice_get links n) ≡ true → (x : Row) → is_held n (fate x) ≡ false)
+    → LeavesAlone n s (record s { links = links; rows = moved test fate s.rows; routing = routing })
 alone_moved n test fate s links routing same off unsent waits holds =
     alone_more n s _ (map (fated fate) (standing test s.rows)) same (grind (arith, moved_same))
     (grind (arith, moved_more)) (grind (arith, moved_more)) (λ e. grind (arith, fated_none, waits))
@@ -64,28 +72,59 @@ alone_moved n test fate s links routing same off unsent waits holds =
 pub leaves_alone : (n : ℕ) (s : State) (event : Event) → (Concerns event n s → ⊥) → LeavesAlone n s (step s event).state
 leaves_alone n s event free =
     let alone_by = λ (s t : State) (links : slice_get t.links n ≡ slice_get s.links n) (u : Untouched n s.rows t.rows).
-        alone_more n s t [] links u.unack_same (grind (arith, append-nil, u)) (grind (arith, append-nil, u)) (λ e. refl)
-        (λ e. refl) in
+    alone_more n s t [] links u.unack_same (grind (arith, append-nil, u)) (grind (arith, append-nil, u)) (λ e. refl)
+    (λ e. refl) in
     let alone_then : (a b c : State) → LeavesAlone n a b → LeavesAlone n b c
-        → LeavesAlone n a c = λ a b c p q.
-        record { link_same = grind arith; unack_same = grind arith; more = p.more ++ q.more;
-          wait_more = grind (arith, append_assoc); none_more = λ e. grind arith; later = p.later ++ q.later;
-        held_later = grind (arith, append_assoc); none_later = λ e. grind arith } in
+    → LeavesAlone n a c = λ a b c p q.
+    record {
+      link_same = grind arith;
+      unack_same = grind arith;
+      more = p.more ++ q.more;
+      wait_more = grind (arith, append_assoc);
+      none_more = λ e. grind arith;
+      later = p.later ++ q.later;
+      held_later = grind (arith, append_assoc);
+      none_later = λ e. grind arith;
+    } in
     let off = λ (m : ℕ) (known : Concerns event m s). apart m n (λ same. free (subst (λ (k : ℕ). Concerns event k s) same known)) in
     let concerned = λ (by : Event) (m : ℕ) (u : State) (e : event ≡ by) (known : Concerns by m u). subst (λ (v : Event). Concerns v m u) (sym e) known in
     -- what waits for a link that is up waits for no other
     let up_waits : (to m : ℕ) (u : State) → is_up to u ≡ true → is_up m u ≡ false
-        → is_waiting m (Waiting to) ≡ false = λ to m u up down. grind (arith, nat_tests) in
+    → is_waiting m (Waiting to) ≡ false = λ to m u up down. grind (arith, nat_tests) in
     let off_waits = λ (links new : List LinkState) (same : slice_get new n ≡ slice_get links n)
-        (down : link_is_up (slice_get new n) ≡ false). not_on_waiting n (fate_on (target links))
-        (target_off links n (rw same at down)) in
+    (down : link_is_up (slice_get new n) ≡ false). not_on_waiting n (fate_on (target links))
+    (target_off links n (rw same at down)) in
     let target_unheld : (to : Option ℕ) → is_held n (fate_on to) ≡ false = λ to. grind arith in
     let apart_from = λ (m : ℕ) (rows new : List Row) (g : ChangesOn m rows new). g.others in
     let risen = λ (m : ℕ) (rows new : List Row) (u : Unparked m rows new). u.others in
     step_walks s (LeavesAlone n) (LeavesAlone n s) event
-        (search (apart_from, risen, up_waits, alternative_up, alone_moved, back_not_on, code_back, home_back, on_other,
-            apart_back, not_sent, off_waits, target_unheld, alone_then, alone_by, untouched, alone_appended,
-        offered_out, up_not_held, down_not_waiting, off, concerned, inl, get_set_other, eqb-false) depth 7)
+    (search (
+      apart_from,
+      risen,
+      up_waits,
+      alternative_up,
+      alone_moved,
+      back_not_on,
+      code_back,
+      home_back,
+      on_other,
+      apart_back,
+      not_sent,
+      off_waits,
+      target_unheld,
+      alone_then,
+      alone_by,
+      untouched,
+      alone_appended,
+      offered_out,
+      up_not_held,
+      down_not_waiting,
+      off,
+      concerned,
+      inl,
+      get_set_other,
+      eqb-false,
+    ) depth 7)
 
 -- THE WINDOW.
 pub numbers-drop : (d : ℕ) (rows : List Row) → numbers (drop d rows) ≡ drop d (numbers rows)

@@ -22,8 +22,15 @@ get_set_same xs n x few = slice_get-get_or (slice_set xs n x) n x (omega (arith,
 
 pub get_set_other : {X : Type 0} (xs : List X) (n m : ℕ) (x : X) → n ≢ m → slice_get (slice_set xs n x) m ≡ slice_get xs m
 get_set_other xs n m x other =
-    grind (arith, slice_get-get_or (slice_set xs n x) m x, slice_get-get_or xs m x, slice_get_past (slice_set xs n x) m,
-      slice_get_past xs m, get_or-set_other xs n m x x (λ e. other (sym e)), length_set xs n x)
+    grind (
+      arith,
+      slice_get-get_or (slice_set xs n x) m x,
+      slice_get-get_or xs m x,
+      slice_get_past (slice_set xs n x) m,
+      slice_get_past xs m,
+      get_or-set_other xs n m x x (λ e. other (sym e)),
+      length_set xs n x,
+    )
 
 pub set_same : {X : Type 0} (xs : List X) (n : ℕ) (x : X) → slice_get xs n ≡ Some x → slice_set xs n x ≡ xs
 set_same xs n x there = grind (arith, set-get_or xs n x, get_or_from_slice_get)

@@ -58,7 +58,7 @@ coded_at r stream sound to code via e = subst (IsCoded r) e (at_place (IsCoded r
 -- where a stream on its way back by a code of which nothing moves stays on it
 pub stood : (test : Fate → Bool) (old new : Routing)
     → ((k : ℕ) → k < 16 → (code via : ℕ) → test (Back code) ≡ false → place_of k old ≡ Changing (home_of code) code via
-      → (via' : ℕ) × (place_of k new ≡ Changing (home_of code) code via')) → (x : Row) (f : Fate) → not (test f) ≡ true
+    → (via' : ℕ) × (place_of k new ≡ Changing (home_of code) code via')) → (x : Row) (f : Fate) → not (test f) ≡ true
     → IsBackOf old x f → IsBackOf new x f
 stood test old new stays x f out b = grind arith
 
@@ -98,7 +98,7 @@ module _ (p q : Fate → Bool) where
 pub first_sent : (l : ℕ) (rows : List Row) → (l == l) ≡ true → IsInOrder l rows
     → IsInOrder l (turned (is_waiting l) (Unacked l) 1 rows)
     × (unack l (turned (is_waiting l) (Unacked l) 1 rows) ≡ unack l rows
-      ++ map (with_fate (Unacked l)) (take 1 (wait l rows)))
+    ++ map (with_fate (Unacked l)) (take 1 (wait l rows)))
 first_sent l [] s o = (tt, refl)
 first_sent l (x ∷ rows) s o = grind (arith, first_sent l rows s o.1)
 

@@ -22,9 +22,11 @@ settled_empty s n link sound there settled = empty_link n s.rows ((sound.links n
 -- what is acknowledged on the way changes no target
 module _ (fsn n : ℕ) (link : LinkState) (s : State) (there : slice_get s.links n ≡ Some link) (reasonable : is_reasonable fsn n link s.rows ≡ true) where
   settled_rows : (settled (Upto fsn) n link s).rows ≡ moved (is_on n) (all_with (fate_on (target s.links))) (arrived (reached_by fsn n link s.rows) n s.rows)
-  settled_rows = rw (reasonable,
-        ap target_of (map_set_same (λ (l : LinkState). has_phase_up l.phase) s.links n link
-        (acknowledged_link (reached_by fsn n link s.rows) link) there refl)) refl
+  settled_rows = rw (
+    reasonable,
+    ap target_of (map_set_same (λ (l : LinkState). has_phase_up l.phase) s.links n link
+        (acknowledged_link (reached_by fsn n link s.rows) link) there refl),
+  ) refl
 
   pub moves_the_rest : MovesTheRest fsn n link s
   moves_the_rest = let acks = acknowledged n (reached_by fsn n link s.rows) s.rows in search settled_rows
@@ -50,4 +52,4 @@ module _ (fsn n : ℕ) (link : LinkState) (s : State) (there : slice_get s.links
   diverts_the_rest sound down =
       let t = sound.links n link there in
       subst (DivertsTo (target s.links) (rest_of n (reached_by fsn n link s.rows) s.rows) s.rows) (sym settled_rows)
-          (diverts_by (reached_by fsn n link s.rows) s.rows t.in_order t.held_last (target s.links) (no_target down))
+      (diverts_by (reached_by fsn n link s.rows) s.rows t.in_order t.held_last (target s.links) (no_target down))

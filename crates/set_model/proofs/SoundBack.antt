@@ -31,26 +31,26 @@ moved_sound : (s : State) (links : List LinkState) (routing : Routing) (test : F
     → IsSound s → length links ≡ length s.links → IsRouting routing → routing.links ≡ s.routing.links
     → back (map (fated fate) (standing test s.rows)) ≡ []
     → ((k : ℕ) → k < 16 → Follows links test (place_of k s.routing) (place_of k routing))
-        → ((code : ℕ) → code_of code routing ≡ Asked → link_is_up (slice_get links (home_of code)) ≡ true)
-        → ((k : ℕ) (other : LinkState) → slice_get links k ≡ Some other → has_phase_up other.phase ≡ true
-          → parked (moved test fate s.rows) ≡ [])
+    → ((code : ℕ) → code_of code routing ≡ Asked → link_is_up (slice_get links (home_of code)) ≡ true)
+    → ((k : ℕ) (other : LinkState) → slice_get links k ≡ Some other → has_phase_up other.phase ≡ true
+    → parked (moved test fate s.rows) ≡ [])
     → ((k : ℕ) (other : LinkState) → slice_get links k ≡ Some other
-          → IsSoundLink s.settings k other (moved test fate s.rows))
-        → IsSound (record s { links = links; routing = routing; rows = moved test fate s.rows })
+    → IsSoundLink s.settings k other (moved test fate s.rows))
+    → IsSound (record s { links = links; routing = routing; rows = moved test fate s.rows })
 moved_sound s links routing test fate t long sound same gone follows homes aside each =
     let kept = each_filter (λ row. IsBackOf s.routing row row.fate) (λ row. IsBackOf routing row row.fate)
-        (λ row. not (test row.fate)) (λ x. stood test s.routing routing (λ k few. (follows k few).stays) x x.fate)
-        (back s.rows) (each_filter (λ row. IsBackOf s.routing row row.fate) (λ row. IsBackOf s.routing row row.fate)
-          (λ row. stands_back row.fate) (λ x e b. b) s.rows t.backs) in
+    (λ row. not (test row.fate)) (λ x. stood test s.routing routing (λ k few. (follows k few).stays) x x.fate)
+    (back s.rows) (each_filter (λ row. IsBackOf s.routing row row.fate) (λ row. IsBackOf s.routing row row.fate)
+    (λ row. stands_back row.fate) (λ x e b. b) s.rows t.backs) in
     let backs : AreBack routing (moved test fate s.rows) = backs_of routing (moved test fate s.rows) (rw (moved_off test stands_back fate s.rows gone) kept) in
     let order : IsAscending (numbers (back (moved test fate s.rows))) =
-        rw (moved_off test stands_back fate s.rows gone)
-        (ascends_filter (λ (row : Row). not (test row.fate)) (back s.rows) t.back_order) in
+    rw (moved_off test stands_back fate s.rows gone)
+    (ascends_filter (λ (row : Row). not (test row.fate)) (back s.rows) t.back_order) in
     let placed = λ (k : ℕ) (few : k < 16). (follows k few).placed in
     let runs = λ (n : ℕ) (link : LinkState) (there : slice_get links n ≡ Some link)
-        (up : has_phase_up link.phase ≡ true) (k : ℕ) (few : k < 16). (follows k few).runs n link there up in
+    (up : has_phase_up link.phase ≡ true) (k : ℕ) (few : k < 16). (follows k few).runs n link there up in
     let numbered = numbered_on (all_finished s.finished) s.rows (moved test fate s.rows) (moved_length test fate s.rows)
-        (moved_numbered test fate (given s) s.rows t.numbered) in
+    (moved_numbered test fate (given s) s.rows t.numbered) in
     search (numbered, moved_fit)
 
 -- A LINK COMES UP.
@@ -62,14 +62,17 @@ rises_sound n link s at t =
     let e = settled_empty s n link t at.there at.phase_is in
     let one : IsSoundLink s.settings n risen new = grind (arith, before_none) in
     moved_sound s _ (raised n s.routing) is_parked (all_with (Waiting n)) t (length-set s.links n risen)
-        (raised_sound n s.routing (omega (arith, within s.links n link at.there, t.count, t.routed)) t.routing) refl
-        (fated_none stands_back (all_with (Waiting n)) (λ x. refl) (standing is_parked s.rows))
+    (raised_sound n s.routing (omega (arith, within s.links n link at.there, t.count, t.routed)) t.routing) refl
+    (fated_none stands_back (all_with (Waiting n)) (λ x. refl) (standing is_parked s.rows))
     (λ k few. let a = (alone s.routing k t.routing few).raised_place n in let stays =
-          placed_set s.links n link risen (place_of k s.routing) at.there refl (t.placed k few)
-        in record { placed = rw a (grind (arith, stays, get_set_same s.links n risen (within s.links n link at.there)));
-          runs = λ j other there up. rw a (grind arith); stays = λ code via of e. grind (arith, a) })
+    placed_set s.links n link risen (place_of k s.routing) at.there refl (t.placed k few)
+    in record {
+      placed = rw a (grind (arith, stays, get_set_same s.links n risen (within s.links n link at.there)));
+      runs = λ j other there up. rw a (grind arith);
+      stays = λ code via of e. grind (arith, a);
+    })
     (λ code asked. up_after s.links n link risen at.there (λ up. refl) (home_of code) (t.homes_up code asked))
-        (λ k other there up. u.parked_none) (links_set s.settings s.links n risen s.rows new one u.others t.links)
+    (λ k other there up. u.parked_none) (links_set s.settings s.links n risen s.rows new one u.others t.links)
 
 -- A LINK IS LEFT BY ITS MESSAGES.
 module _ (told : Bool) (n : ℕ) (link : LinkState) (s : State) (at : IsAt n link Down s) (t : IsSound s) where
@@ -79,18 +82,18 @@ module _ (told : Bool) (n : ℕ) (link : LinkState) (s : State) (at : IsAt n lin
       let l = t.links n link at.there in
       let m = left n (fate_on (target s.links)) s.rows (target_off s.links n (grind arith)) (grind arith) in
       let stays : has_phase_up link.phase ≡ true
-          → has_phase_up (settled_link told link).phase ≡ true =
-          false_true (has_phase_up link.phase) (ap has_phase_up at.phase_is) in
+      → has_phase_up (settled_link told link).phase ≡ true =
+      false_true (has_phase_up link.phase) (ap has_phase_up at.phase_is) in
       let below : IfSome (target s.links) (λ r. r < s.routing.links) = grind (arith, target_up, within) in
       moved_sound s _ (settled n (target s.links) s.routing) (is_on n) (all_with (fate_on (target s.links))) t
-          (length-set s.links n (settled_link told link)) (settled_sound n (target s.links) s.routing below t.routing)
-          refl (fated_none stands_back (all_with (fate_on (target s.links))) (λ x. grind arith)
-            (standing (is_on n) s.rows))
+      (length-set s.links n (settled_link told link)) (settled_sound n (target s.links) s.routing below t.routing)
+      refl (fated_none stands_back (all_with (fate_on (target s.links))) (λ x. grind arith)
+      (standing (is_on n) s.rows))
       -- a link that is up was so before, so there is a target; and a stream on its way back has a home that is up
       (λ k few. let a = (alone s.routing k t.routing few).settled_place n (target s.links) in let stood =
-            t.placed k few in let away : (home code via : ℕ) → place_of k s.routing ≡ Changing home code via
-          → (target s.links) ≡ None → ⊥ =
-          λ home code via e none. grind (arith, nat_tests, coded_at, none_up) in record {
+      t.placed k few in let away : (home code via : ℕ) → place_of k s.routing ≡ Changing home code via
+      → (target s.links) ≡ None → ⊥ =
+      λ home code via e none. grind (arith, nat_tests, coded_at, none_up) in record {
         placed = rw a (grind (arith, nat_tests, target_up, get_set_other, stood, away));
         runs = up_before s.links n link (settled_link told link) at.there (λ e. absurd cc)
             (λ j old here up. let runs = t.all_run j old here up k few in rw a (grind (arith, none_up, runs)));
@@ -98,17 +101,17 @@ module _ (told : Bool) (n : ℕ) (link : LinkState) (s : State) (at : IsAt n lin
       })
       (λ code asked. up_after s.links n link (settled_link told link) at.there stays (home_of code) (t.homes_up code asked))
       (up_before s.links n link (settled_link told link) at.there (λ e. absurd cc)
-            (λ k old here up. moved_same (is_on n) is_parked (all_with (fate_on (target s.links))) s.rows
-            (λ x. grind (arith, none_up)) (λ f e. grind arith) ∙ t.none_aside k old here up))
+      (λ k old here up. moved_same (is_on n) is_parked (all_with (fate_on (target s.links))) s.rows
+      (λ x. grind (arith, none_up)) (λ f e. grind arith) ∙ t.none_aside k old here up))
       (each_set (λ k other. IsSoundLink s.settings k other
-              (moved (is_on n) (all_with (fate_on (target s.links))) s.rows)) s.links n (settled_link told link)
-          (grind arith) (λ k other d here. let out =
-            λ (is_down : has_phase_up other.phase ≡ false). target_off s.links k (ap link_is_up here ∙ is_down)
-          in link_moved s.settings k other (is_on n) (all_with (fate_on (target s.links))) s.routing s.rows t.backs
-          (on_other k n (apart_back n k d))
+      (moved (is_on n) (all_with (fate_on (target s.links))) s.rows)) s.links n (settled_link told link)
+      (grind arith) (λ k other d here. let out =
+      λ (is_down : has_phase_up other.phase ≡ false). target_off s.links k (ap link_is_up here ∙ is_down)
+      in link_moved s.settings k other (is_on n) (all_with (fate_on (target s.links))) s.routing s.rows t.backs
+      (on_other k n (apart_back n k d))
       (λ x. not_sent k (target s.links)) (λ u x. grind arith)
-          (λ f x e b. not_on_waiting k (fate_on (target s.links)) (out f)) (λ e x f b. out (grind (arith, e)))
-          (t.links k other here)))
+      (λ f x e b. not_on_waiting k (fate_on (target s.links)) (out f)) (λ e x f b. out (grind (arith, e)))
+      (t.links k other here)))
 
 -- where a message goes whose stream runs on a link: to wait for it if it's up, else to be held for it
 pub up_not_held : (s : State) (k : ℕ) → is_up k s ≡ true → (p : Place) → is_held k (fate_at p s) ≡ false
@@ -141,22 +144,22 @@ module _ (blind : Bool) (n : ℕ) (link : LinkState) (s : State) (at : IsAt n li
   pub leaves : IsSound (left_by blind n link s)
   leaves =
       let mid_links = links_set s.settings s.links n (left_link blind link) s.rows s.rows
-          (let l = t.links n link at.there in grind arith) (λ k d. untouched k s.rows s.rows refl) t.links in
+      (let l = t.links n link at.there in grind arith) (λ k d. untouched k s.rows s.rows refl) t.links in
       let sound = left_sound n s.routing t.routing in
       moved_sound s mid.links mid.routing (is_back_to n) fate t (length-set s.links n (left_link blind link)) sound refl
-          (gone stands_back (λ via p. grind arith))
+      (gone stands_back (λ via p. grind arith))
       (λ k few. let stays = placed_set s.links n link (left_link blind link) (place_of k s.routing) at.there refl
-            (t.placed k few) in let a = (alone s.routing k t.routing few).left_place n in
+      (t.placed k few) in let a = (alone s.routing k t.routing few).left_place n in
       let runs = up_before s.links n link (left_link blind link) at.there (λ e. absurd cc)
-          (λ j old here up. t.all_run j old here up k few) in grind (arith, stays, a, runs))
+      (λ j old here up. t.all_run j old here up k few) in grind (arith, stays, a, runs))
       (λ code e. grind (arith, nat_tests, (codes_alone s.routing code t.routing (grind arith)).left_code n, t.homes_up code, get_set_other))
       (up_before s.links n link (left_link blind link) at.there (λ e. absurd cc)
-            (λ k old here up. grind (arith, nat_tests, moved_more, gone, t.none_aside k old here up)))
+      (λ k old here up. grind (arith, nat_tests, moved_more, gone, t.none_aside k old here up)))
       (λ k other there. link_moved s.settings k other (is_back_to n) fate s.routing s.rows t.backs
-            (λ f e. back_not_on k f (home_back n f e)) (λ x. offered_out k _ mid)
-          (λ u x. up_not_held mid k (ap link_is_up there ∙ u) _)
-          (λ d x e b. down_not_waiting mid k (ap link_is_up there ∙ d) _)
-          (λ e x f b. grind (arith, nat_tests, goes x f b)) (mid_links k other there))
+      (λ f e. back_not_on k f (home_back n f e)) (λ x. offered_out k _ mid)
+      (λ u x. up_not_held mid k (ap link_is_up there ∙ u) _)
+      (λ d x e b. down_not_waiting mid k (ap link_is_up there ∙ d) _)
+      (λ e x f b. grind (arith, nat_tests, goes x f b)) (mid_links k other there))
 
 -- A DECLARATION.
 -- the link that it goes out on is up
@@ -172,13 +175,22 @@ declares home alternative s up may t =
     let sound = asked_sound home alternative s.routing (below home up) (below alternative out) t.routing in
     appended_sound s runs t sound refl _ (Waiting alternative) (grind arith) (λ k link there. grind (arith, nat_tests, out)) tt
     (λ k few. let p = t.placed k few in let a =
-          (alone s.routing k t.routing few).asked_place home alternative
-        in record { placed = rw a (grind (arith, p, out));
-          runs = λ n link at rising. let runs = t.all_run n link at rising k few in rw a (grind (arith, runs));
-        stays = λ code via of e. grind (arith, nat_tests, a) })
-    (λ code e. grind (arith, nat_tests,
-            (codes_alone s.routing code t.routing (grind arith)).asked_code home alternative, up, t.routing.at_most_16,
-        below home up, below alternative out, t.homes_up code))
+    (alone s.routing k t.routing few).asked_place home alternative
+    in record {
+      placed = rw a (grind (arith, p, out));
+      runs = λ n link at rising. let runs = t.all_run n link at rising k few in rw a (grind (arith, runs));
+      stays = λ code via of e. grind (arith, nat_tests, a);
+    })
+    (λ code e. grind (
+      arith,
+      nat_tests,
+      (codes_alone s.routing code t.routing (grind arith)).asked_code home alternative,
+      up,
+      t.routing.at_most_16,
+      below home up,
+      below alternative out,
+      t.homes_up code,
+    ))
 
 -- WHAT STOOD BACK WAITS FOR ITS HOME.
 module _ (code : ℕ) (s : State) (t : IsSound s) where
@@ -186,23 +198,25 @@ module _ (code : ℕ) (s : State) (t : IsSound s) where
   pub none_back : is_up (home_of code) s ≡ false → moved (is_back code) (all_with (Waiting (home_of code))) s.rows ≡ s.rows
   none_back down = moved_nothing (is_back code) (all_with (Waiting (home_of code))) s.rows
       (none_standing (λ row. IsBackOf s.routing row row.fate) (is_back code)
-        (λ x e b. grind (arith, nat_tests, coded_at, t.homes_up)) s.rows t.backs)
+      (λ x e b. grind (arith, nat_tests, coded_at, t.homes_up)) s.rows t.backs)
 
   -- and none comes to a link that isn't up
   pub releases : IsSound (released code s)
   releases =
       let sound = back_sound code s.routing t.routing in
       moved_sound s s.links (given_back code s.routing) (is_back code) (all_with (Waiting (home_of code))) t refl sound
-          refl (fated_none stands_back (all_with (Waiting (home_of code))) (λ x. refl) (standing (is_back code) s.rows))
+      refl (fated_none stands_back (all_with (Waiting (home_of code))) (λ x. refl) (standing (is_back code) s.rows))
       (λ k few. let there = t.placed k few in let a =
-            (alone s.routing k t.routing few).back_place code
-          in record { placed = rw a (grind (arith, nat_tests, there, coded_at, t.homes_up));
-            runs = λ n link at up. let runs = t.all_run n link at up k few in rw a (grind (arith, runs));
-          stays = λ c via of f. grind (arith, a) })
+      (alone s.routing k t.routing few).back_place code
+      in record {
+        placed = rw a (grind (arith, nat_tests, there, coded_at, t.homes_up));
+        runs = λ n link at up. let runs = t.all_run n link at up k few in rw a (grind (arith, runs));
+        stays = λ c via of f. grind (arith, a);
+      })
       (λ c e. grind (arith, nat_tests, (codes_alone s.routing c t.routing (grind arith)).back_code code, t.homes_up c))
       (λ k other there up. moved_same (is_back code) is_parked (all_with (Waiting (home_of code))) s.rows (λ x. refl)
-            (λ f e. back_not_parked f (code_back code f e)) ∙ t.none_aside k other there up)
+      (λ f e. back_not_parked f (code_back code f e)) ∙ t.none_aside k other there up)
       (λ k other there. link_moved s.settings k other (is_back code) (all_with (Waiting (home_of code))) s.routing
-            s.rows t.backs (λ f e. back_not_on k f (code_back code f e)) (λ x. refl) (λ u x. refl)
-          (λ d x e b. grind (arith, nat_tests, coded_at, t.homes_up))
-          (λ d x e b. grind (arith, nat_tests, coded_at, t.homes_up)) (t.links k other there))
+      s.rows t.backs (λ f e. back_not_on k f (code_back code f e)) (λ x. refl) (λ u x. refl)
+      (λ d x e b. grind (arith, nat_tests, coded_at, t.homes_up))
+      (λ d x e b. grind (arith, nat_tests, coded_at, t.homes_up)) (t.links k other there))

@@ -112,9 +112,9 @@ changes n link link' s new t there same unsettled g profile few counted method r
     let stays = up_after s.links n link link' there (λ e. up ∙ e) in
     let links = links_set s.settings s.links n link' s.rows new one g.others t.links in
     let backs = backs_of s.routing new
-        (subst (AreBack s.routing) (sym g.back_same)
-          (each_filter (λ row. IsBackOf s.routing row row.fate) (λ row. IsBackOf s.routing row row.fate)
-          (λ row. stands_back row.fate) (λ x e b. b) s.rows t.backs)) in
+    (subst (AreBack s.routing) (sym g.back_same)
+    (each_filter (λ row. IsBackOf s.routing row row.fate) (λ row. IsBackOf s.routing row row.fate)
+    (λ row. stands_back row.fate) (λ x e b. b) s.rows t.backs)) in
     let numbered = numbered_on (all_finished s.finished) s.rows new g.kept.count (g.kept.numbered (given s) t.numbered) in
     search (length-set, numbered, g.kept.fit s.settings.profile, placed_set, t.placed, t.homes_up, backs, g.back_same)
 
@@ -138,16 +138,16 @@ pub link_moved : (m : Settings) (k : ℕ) (link : LinkState) (test : Fate → Bo
     → ((x : Row) → is_unacked k (fate x) ≡ false)
     → (has_phase_up link.phase ≡ true → (x : Row) → is_held k (fate x) ≡ false)
     → (has_phase_up link.phase ≡ false → (x : Row) → test x.fate ≡ true → IsBackOf routing x x.fate
-          → is_waiting k (fate x) ≡ false)
-        → (has_phase_settled link.phase ≡ true → (x : Row) → test x.fate ≡ true → IsBackOf routing x x.fate
-          → is_on k (fate x) ≡ false) → IsSoundLink m k link rows → IsSoundLink m k link (moved test fate rows)
+    → is_waiting k (fate x) ≡ false)
+    → (has_phase_settled link.phase ≡ true → (x : Row) → test x.fate ≡ true → IsBackOf routing x x.fate
+    → is_on k (fate x) ≡ false) → IsSoundLink m k link rows → IsSoundLink m k link (moved test fate rows)
 link_moved m k link test fate routing rows backs off sent holds waits gone l =
     let none = λ (other : Fate → Bool)
-        (so : (x : Row) → test x.fate ≡ true → IsBackOf routing x x.fate → other (fate x) ≡ false). gone_none test fate
-        (λ row. IsBackOf routing row row.fate) other so rows backs in
+    (so : (x : Row) → test x.fate ≡ true → IsBackOf routing x x.fate → other (fate x) ≡ false). gone_none test fate
+    (λ row. IsBackOf routing row row.fate) other so rows backs in
     link_more m k link rows (map (fated fate) (standing test rows)) (none (is_unacked k) (λ x e b. sent x))
-        (λ u. none (is_held k) (λ x e b. holds u x)) (λ d. none (is_waiting k) (waits d)) (λ e. none (is_on k) (gone e))
-        _ (others_stay test (is_on k) fate rows off) l
+    (λ u. none (is_held k) (λ x e b. holds u x)) (λ d. none (is_waiting k) (waits d)) (λ e. none (is_on k) (gone e))
+    _ (others_stay test (is_on k) fate rows off) l
 
 -- WHAT IS ACKNOWLEDGED OR GIVEN UP on a link that was left.
 pub acknowledges : (count n : ℕ) (link : LinkState) (s : State) → IsAt n link Down s → IsSound s → IsSound (acknowledged_by count n link s)
@@ -155,8 +155,8 @@ acknowledges count n link s at t =
     let l = t.links n link at.there in
     let a = acknowledged n count s.rows in
     changes n link _ s _ t at.there refl (ap has_phase_settled at.phase_is) a.in_place l.profile
-        (grind (arith, length-drop, a.unack_is, l.window)) l.counted l.method
-        (false_true (has_phase_up link.phase) (ap has_phase_up at.phase_is))
+    (grind (arith, length-drop, a.unack_is, l.window)) l.counted l.method
+    (false_true (has_phase_up link.phase) (ap has_phase_up at.phase_is))
 
 pub gives_up : (test : Fate → Bool) (cause : DiscardCause) (n : ℕ) (link : LinkState) (s : State)
     → ChangesOn n s.rows (changed test (Discarded cause) s.rows) → IsAt n link Down s → IsSound s
@@ -165,11 +165,11 @@ gives_up test cause n link s g at t =
     let l = t.links n link at.there in
     let fewer = (turned_there test (Discarded cause) (length s.rows) s.rows).fewer (is_unacked n) refl in
     let sound = changes n link link s (changed test (Discarded cause) s.rows) t at.there refl
-        (ap has_phase_settled at.phase_is) g l.profile (omega (arith, l.window, fewer)) l.counted l.method
-        (false_true (has_phase_up link.phase) (ap has_phase_up at.phase_is)) in
+    (ap has_phase_settled at.phase_is) g l.profile (omega (arith, l.window, fewer)) l.counted l.method
+    (false_true (has_phase_up link.phase) (ap has_phase_up at.phase_is)) in
     subst (λ (links : List LinkState). IsSound
-          (record s { links = links; rows = changed test (Discarded cause) s.rows })) (set_same s.links n link at.there)
-        sound
+    (record s { links = links; rows = changed test (Discarded cause) s.rows })) (set_same s.links n link at.there)
+    sound
 
 -- WHAT IS GIVEN UP of what waits, before it's sent.
 pub withdraws : (count n : ℕ) (link : LinkState) (s : State) → IsAt n link Up s
@@ -178,27 +178,40 @@ withdraws count n link s at g t =
     let l = t.links n link at.there in
     let same = withdrawn_unack count n s.rows in
     let sound = changes n link link s (withdrawn count n s).rows t at.there refl (ap has_phase_settled at.phase_is) g
-        l.profile (rw same l.window) l.counted l.method (λ u. rw same (l.in_range u)) in
+    l.profile (rw same l.window) l.counted l.method (λ u. rw same (l.in_range u)) in
     subst (λ (links : List LinkState). IsSound (record s { links = links; rows = (withdrawn count n s).rows })) (set_same s.links n link at.there) sound
 
 -- A LATE ORDER is answered: the link stands where it stood.
 placed_same : (links : List LinkState) (n : ℕ) (link link' : LinkState) (place : Place) → slice_get links n ≡ Some link
     → link'.phase ≡ link.phase → IsPlaced links place → IsPlaced (slice_set links n link') place
 placed_same links n link link' Nowhere there same p = tt
-placed_same links n link link' (On l) there same p =
-    (cond (n == l) link' p.0, grind (arith, nat_tests, get_set_same, get_set_other, within, p.1),
-      grind (arith, nat_tests, p.1, p.2))
-placed_same links n link link' (Changing to code l) there same p =
-    (cond (n == l) link' p.0, grind (arith, nat_tests, get_set_same, get_set_other, within, p.1),
-      grind (arith, nat_tests, p.1, p.2))
+placed_same links n link link' (On l) there same p = (
+  cond (n == l) link' p.0,
+  grind (arith, nat_tests, get_set_same, get_set_other, within, p.1),
+  grind (arith, nat_tests, p.1, p.2),
+)
+placed_same links n link link' (Changing to code l) there same p = (
+  cond (n == l) link' p.0,
+  grind (arith, nat_tests, get_set_same, get_set_other, within, p.1),
+  grind (arith, nat_tests, p.1, p.2),
+)
 
 pub answers : (n : ℕ) (link : LinkState) (s : State) → IsAt n link Settled s → IsSound s → IsSound (with_link n (answered_link link) s)
 answers n link s at t =
     let new = answered_link link in
     let l = t.links n link at.there in
     let one : IsSoundLink s.settings n new s.rows =
-        record { profile = l.profile; window = l.window; counted = l.counted; method = l.method; in_order = l.in_order;
-          held_last = l.held_last; none_held = l.none_held; in_range = l.in_range; settled = l.settled } in
+    record {
+      profile = l.profile;
+      window = l.window;
+      counted = l.counted;
+      method = l.method;
+      in_order = l.in_order;
+      held_last = l.held_last;
+      none_held = l.none_held;
+      in_range = l.in_range;
+      settled = l.settled;
+    } in
     record {
       managed = t.managed;
       routing = t.routing;
@@ -223,13 +236,20 @@ module _ (n : ℕ) (link : LinkState) (s : State) (at : IsAt n link Up s) (t : I
       let choice = choice_in n link s in
       -- how many are unacknowledged then
       let counts : (c : Choice) → choice ≡ c → (length (unack n s.rows) ≤ length (unack n (rows_sent c n s.rows)))
-          × (c ≡ first → length (unack n (rows_sent c n s.rows)) ≡ length (unack n s.rows) + 1)
-          × (length (unack n (rows_sent c n s.rows)) ≤ most_unacked link.profile)
-      = λ c e. grind (arith, first_chosen (octets_in (unack n s.rows)) link.control (window_of n link s.rows),
-            length-map, length-append, length-take, (sent n s.rows).unack_is l.in_order, l.window) in
+      × (c ≡ first → length (unack n (rows_sent c n s.rows)) ≡ length (unack n s.rows) + 1)
+      × (length (unack n (rows_sent c n s.rows)) ≤ most_unacked link.profile)
+      = λ c e. grind (
+        arith,
+        first_chosen (octets_in (unack n s.rows)) link.control (window_of n link s.rows),
+        length-map,
+        length-append,
+        length-take,
+        (sent n s.rows).unack_is l.in_order,
+        l.window,
+      ) in
       let c = counts choice refl in
       changes n link _ s _ t at.there refl (ap has_phase_settled at.phase_is) (sent_by choice n s.rows) l.profile c.2
-          (grind (arith, l.counted)) (grind (arith, l.method)) (λ u. grind (arith, c, l.in_range, length-map))
+      (grind (arith, l.counted)) (grind (arith, l.method)) (λ u. grind (arith, c, l.in_range, length-map))
 
   -- HEARING.
   pub hears_sound : (unit : SignalUnit) → IsSound (controlled unit n s link)
@@ -238,9 +258,14 @@ module _ (n : ℕ) (link : LinkState) (s : State) (at : IsAt n link Up s) (t : I
       let a = acknowledged n (part_in unit n link s).acked s.rows in
       changes n link _ s _ t at.there refl (ap has_phase_settled at.phase_is) a.in_place l.profile (grind (arith, length-drop, a.unack_is, l.window))
       (expected_heard link.control (window_of n link s.rows) (header_in unit) (is_msu unit) link.accepted l.counted)
-          (grind (arith, l.method)) (λ u. grind
-            (arith, range_heard link.control (window_of n link s.rows) (header_in unit) (is_msu unit)
-            (grind (arith, length-map, l.in_range)), a.unack_is, length-drop, length-map))
+      (grind (arith, l.method)) (λ u. grind (
+        arith,
+        range_heard link.control (window_of n link s.rows) (header_in unit) (is_msu unit)
+            (grind (arith, length-map, l.in_range)),
+        a.unack_is,
+        length-drop,
+        length-map,
+      ))
 
 -- WHERE A STREAM RUNS, as links and streams change, and what stands back by a code of which nothing moves.
 pub record Follows (links : List LinkState) (test : Fate → Bool) (was is : Place) : Type 0 where
@@ -253,31 +278,31 @@ module _ (s : State) (routing : Routing) (t : IsSound s) (sound : IsRouting rout
   -- for one that isn't settled, or parked while none is up
   pub appended_sound : (body : List ℕ) (fate : Fate) → length body ≤ longest_body s.settings.profile
       → ((k : ℕ) (link : LinkState) → slice_get s.links k ≡ Some link → (is_unacked k fate ≡ false)
-        × (has_phase_up link.phase ≡ true → (is_held k fate || is_parked fate) ≡ false)
+      × (has_phase_up link.phase ≡ true → (is_held k fate || is_parked fate) ≡ false)
       × (has_phase_up link.phase ≡ false → is_waiting k fate ≡ false)
       × (has_phase_settled link.phase ≡ true → is_on k fate ≡ false))
       → IsBackOf s.routing (new_row (length s.rows) body fate) fate
       → ((k : ℕ) → k < 16 → Follows s.links (λ f. false) (place_of k s.routing) (place_of k routing))
       → ((code : ℕ) → code_of code routing ≡ Asked → is_up (home_of code) s ≡ true)
-          → IsSound (record s { rows = appended (given s) s.rows body fate; routing = routing })
+      → IsSound (record s { rows = appended (given s) s.rows body fate; routing = routing })
   appended_sound body fate fits opened is_back follows homes =
       let links = λ (k : ℕ) (other : LinkState) (there : slice_get s.links k ≡ Some other). link_more s.settings k other
-          s.rows (new_row (given s) body fate ∷ []) (let o = opened k other there in grind arith)
-          (λ u. let o = opened k other there in grind arith) (λ d. let o = opened k other there in grind arith)
-          (λ e. let o = opened k other there in grind arith) s.rows refl (t.links k other there) in
+      s.rows (new_row (given s) body fate ∷ []) (let o = opened k other there in grind arith)
+      (λ u. let o = opened k other there in grind arith) (λ d. let o = opened k other there in grind arith)
+      (λ e. let o = opened k other there in grind arith) s.rows refl (t.links k other there) in
       let backs = each_so (λ row. IsBackOf s.routing row row.fate) (λ row. IsBackOf routing row row.fate)
-          (λ x. stood (λ f. false) s.routing routing (λ k few. (follows k few).stays) x x.fate refl)
-          (appended (given s) s.rows body fate) (each_append _ s.rows _ t.backs (is_back, tt)) in
+      (λ x. stood (λ f. false) s.routing routing (λ k few. (follows k few).stays) x x.fate refl)
+      (appended (given s) s.rows body fate) (each_append _ s.rows _ t.backs (is_back, tt)) in
       let runs = λ (n : ℕ) (link : LinkState) (there : slice_get s.links n ≡ Some link)
-          (up : has_phase_up link.phase ≡ true) (k : ℕ) (few : k < 16). (follows k few).runs n link there up in
+      (up : has_phase_up link.phase ≡ true) (k : ℕ) (few : k < 16). (follows k few).runs n link there up in
       let placed = λ (k : ℕ) (few : k < 16). (follows k few).placed in
       let aside : (k : ℕ) (other : LinkState) → slice_get s.links k ≡ Some other → has_phase_up other.phase ≡ true
-          → parked (appended (given s) s.rows body fate) ≡ [] = λ k other there rising. let o =
-          opened k other there in grind (arith, appended_out) in
+      → parked (appended (given s) s.rows body fate) ≡ [] = λ k other there rising. let o =
+      opened k other there in grind (arith, appended_out) in
       let fit : AreFit s.settings.profile (appended (given s) s.rows body fate) = each_append _ s.rows _ t.fit (fits, tt) in
       let more : given (record s { rows = appended (given s) s.rows body fate; routing = routing }) ≡ given s + 1 = grind (arith, length-append) in
       let numbered : IsNumbered (given (record s { rows = appended (given s) s.rows body fate; routing = routing }))
-          (appended (given s) s.rows body fate) = rw more (numbered_appended (given s) s.rows body fate t.numbered) in
+      (appended (given s) s.rows body fate) = rw more (numbered_appended (given s) s.rows body fate t.numbered) in
       let back_order = ascends_appended (given s) (λ row. stands_back row.fate) s.rows body fate t.numbered t.back_order in
       search (numbered, back_order)
 
@@ -285,7 +310,7 @@ module _ (s : State) (routing : Routing) (t : IsSound s) (sound : IsRouting rout
 pub queues : (order : Order) (s : State) → IsSound s → IsSound (queued order s)
 queues order s t =
     appended_sound s s.routing t t.routing refl _ (fate_on (target s.links)) (grind arith)
-        (λ k link there. grind (arith, nat_tests, target_up, none_up)) (grind arith)
+    (λ k link there. grind (arith, nat_tests, target_up, none_up)) (grind arith)
     (λ k few. record { placed = t.placed k few; runs = λ n link there up. t.all_run n link there up k few; stays = λ code via e is. (via, is) }) t.homes_up
 
 -- AN OFFER goes where its stream runs.
@@ -298,8 +323,10 @@ offers s event body e free t =
     let placed = t.placed stream low in
     let same = λ (k : ℕ) (few : k < 16). (alone s.routing k t.routing few).accepted_place stream in
     appended_sound s (accepted stream s.routing) t (accepted_sound stream s.routing t.routing) refl body
-        (fate_at (place_of stream s.routing) s) fits.0 (λ k link there. grind (arith, nat_tests, placed, t.all_run))
-        (grind (arith, free, low, coded_at))
-    (λ k few. rw (same k few) (record
-            { placed = t.placed k few; runs = λ n link there up. t.all_run n link there up k few;
-          stays = λ code via e is. (via, is) })) t.homes_up
+    (fate_at (place_of stream s.routing) s) fits.0 (λ k link there. grind (arith, nat_tests, placed, t.all_run))
+    (grind (arith, free, low, coded_at))
+    (λ k few. rw (same k few) (record {
+      placed = t.placed k few;
+      runs = λ n link there up. t.all_run n link there up k few;
+      stays = λ code via e is. (via, is);
+    })) t.homes_up

@@ -35,8 +35,22 @@ use Rattle.set_model.proofs.Order.{ascends_appended, none_standing}
 use Rattle.set_model.proofs.Places.{false_true, itself, code_back, home_back}
 
 -- THE STEP.
-pub ruleset sounds = (with_inbox, queues, leaves, acknowledges, gives_up, moves_off_sound, answers, withdraws, declares,
-      releases, offers, sends_sound, hears_sound, rises_sound)
+pub ruleset sounds = (
+  with_inbox,
+  queues,
+  leaves,
+  acknowledges,
+  gives_up,
+  moves_off_sound,
+  answers,
+  withdraws,
+  declares,
+  releases,
+  offers,
+  sends_sound,
+  hears_sound,
+  rises_sound,
+)
 
 small : (Known : ℕ → Type 0) (May : Type 0) → KeptBy Known May (λ s u. IsSound s → IsSound u)
 small Known May = search sounds
@@ -93,15 +107,22 @@ record Less (stream : ℕ) (place : Place) (xs ys : List Row) : Type 0 where
 -- where one gets the fate it's finished, or stays where it is
 pub stream_turned : (stream : ℕ) (place : Place) (test : Fate → Bool) (fate : Fate)
     → ((f : Fate) → test f ≡ true → is_unfinished fate ≡ true → (is_unfinished f ≡ true)
-      × (stands_at place f ≡ stands_at place fate)) → (used : Bool) (n : ℕ) (rows : List Row)
+    × (stands_at place f ≡ stands_at place fate)) → (used : Bool) (n : ℕ) (rows : List Row)
     → IsSoundStream stream place used rows → IsSoundStream stream place used (turned test fate n rows)
 stream_turned stream place test fate fits used n rows t =
     let less = where_turned test fate (Less stream place) (grind arith)
-    (λ x xs ys p. record { above = λ k a. grind (arith, p.above k); ascends = λ a. grind (arith, p.above x.number);
-            none = λ e. grind arith; none_away = λ e. grind arith })
-    (λ x xs ys h p. record { above = λ k a. grind (arith, fits, p.above k);
-            ascends = λ a. grind (arith, fits, p.above x.number); none = λ e. grind (arith, fits);
-        none_away = λ e. grind (arith, fits) }) n rows in
+    (λ x xs ys p. record {
+      above = λ k a. grind (arith, p.above k);
+      ascends = λ a. grind (arith, p.above x.number);
+      none = λ e. grind arith;
+      none_away = λ e. grind arith;
+    })
+    (λ x xs ys h p. record {
+      above = λ k a. grind (arith, fits, p.above k);
+      ascends = λ a. grind (arith, fits, p.above x.number);
+      none = λ e. grind (arith, fits);
+      none_away = λ e. grind (arith, fits);
+    }) n rows in
     grind arith
 
 -- A NEW MESSAGE has a number above all others.
@@ -146,8 +167,8 @@ none_turns : (test : Fate → Bool) (fate : Row → Fate) (s t : State)
     → IsSound s → RunsStraight s → RunsStraight t
 none_turns test fate s t w rows routing sound r =
     let none = none_within test stands_back w s.rows
-        (none_standing (λ row. IsBackOf s.routing row row.fate) stands_back
-          (λ x e b. grind (arith, never_changing, r.none_open)) s.rows sound.backs) in
+    (none_standing (λ row. IsBackOf s.routing row row.fate) stands_back
+    (λ x e b. grind (arith, never_changing, r.none_open)) s.rows sound.backs) in
     let same = rows ∙ moved_nothing test fate s.rows none in
     record { none_open = rw routing r.none_open; together = λ k low. rw (same, routing) (r.together k low) }
 
@@ -157,9 +178,9 @@ offers_straight s body t none r k few =
     let place = place_of (stream_of body) s.routing in
     let a = alone s.routing k t.routing few in
     rw (a.accepted_place (stream_of body), a.accepted_messages (stream_of body))
-        (stream_appended (given s) k (place_of k s.routing) (has_messages k s.routing)
-          ((k == stream_of body) || has_messages k s.routing) s.rows body (fate_at place s) t.numbered (r k few)
-        (λ e. grind (arith, nat_tests)) (λ e. grind arith))
+    (stream_appended (given s) k (place_of k s.routing) (has_messages k s.routing)
+    ((k == stream_of body) || has_messages k s.routing) s.rows body (fate_at place s) t.numbered (r k few)
+    (λ e. grind (arith, nat_tests)) (λ e. grind arith))
 
 -- A LINK COMES UP.
 stream_risen : (n : ℕ) (rows : List Row) (k home : ℕ) (used : Bool) (place : Place)
@@ -171,12 +192,12 @@ stream_risen n rows k home used Nowhere away p =
 stream_risen n rows k home used (Changing to code via) away p = absurd (away to code via refl)
 stream_risen n rows k home used (On l) away p =
     let remains = stream_moves k (On l) (On l) is_parked (Waiting n) false (λ f e. grind arith) refl
-        (λ f e. grind arith) (λ e. absurd cc) (λ e f h. h) used rows p in
+    (λ f e. grind arith) (λ e. absurd cc) (λ e f h. h) used rows p in
     cond_both ((home == n) && not used) (On n) (On l) (λ (at : Place). IsSoundStream k at used (moved is_parked (all_with (Waiting n)) rows))
     -- one with no live message can run anywhere
     (λ e. let away = filter_within (is_astray k (On n)) (is_live k) (λ x e. grind arith)
-          (moved is_parked (all_with (Waiting n)) rows) in let none =
-        remains.unused (grind arith) in grind (arith, away, none)) (λ e. remains)
+    (moved is_parked (all_with (Waiting n)) rows) in let none =
+    remains.unused (grind arith) in grind (arith, away, none)) (λ e. remains)
 
 -- A LINK IS LEFT BY ITS MESSAGES.
 moves_off_straight : (n : ℕ) (s : State) → IsSound s → NoneOpen s.routing → AreTogether s → (k : ℕ) → k < 16
@@ -187,10 +208,10 @@ moves_off_straight n s t none r k low =
     let a = alone s.routing k t.routing low in
     let never = λ (to code via : ℕ). never_changing k to code via s.routing t.routing none in
     rw (a.settled_place n (target s.links), a.settled_messages n (target s.links))
-        (stream_moves k (place_of k s.routing) (place_settled n (target s.links) (place_of k s.routing)) (is_on n)
-          (fate_on (target s.links)) (runs_on n (place_of k s.routing)) (λ f e. grind arith) (grind arith)
-        (λ f e. grind (arith, nat_tests, never)) (λ e. grind arith) (λ e f h. grind (arith, nat_tests, never))
-        (has_messages k s.routing) s.rows (r k low))
+    (stream_moves k (place_of k s.routing) (place_settled n (target s.links) (place_of k s.routing)) (is_on n)
+    (fate_on (target s.links)) (runs_on n (place_of k s.routing)) (λ f e. grind arith) (grind arith)
+    (λ f e. grind (arith, nat_tests, never)) (λ e. grind arith) (λ e f h. grind (arith, nat_tests, never))
+    (has_messages k s.routing) s.rows (r k low))
 
 rises_straight : (n : ℕ) (s : State) → IsSound s → NoneOpen s.routing → AreTogether s → (k : ℕ) → k < 16
     → IsSoundStream k (place_of k (raised n s.routing)) (has_messages k (raised n s.routing))
@@ -198,8 +219,8 @@ rises_straight : (n : ℕ) (s : State) → IsSound s → NoneOpen s.routing → 
 rises_straight n s t none r k low =
     let a = alone s.routing k t.routing low in
     rw (a.raised_place n, a.raised_messages n)
-        (stream_risen n s.rows k (k % s.routing.links) (has_messages k s.routing) (place_of k s.routing)
-          (λ to code via. never_changing k to code via s.routing t.routing none) (r k low))
+    (stream_risen n s.rows k (k % s.routing.links) (has_messages k s.routing) (place_of k s.routing)
+    (λ to code via. never_changing k to code via s.routing t.routing none) (r k low))
 
 -- THE STEP.
 abbrev StaysStraight : State → State → Type 0
@@ -209,36 +230,50 @@ pub step_straight : (s : State) (event : Event) → BeginsNone event → IsSound
 step_straight s event begins t r =
     let stood = r.together in
     let leaves_straight = λ (blind : Bool) (n : ℕ) (link : LinkState) (s : State) (t : IsSound s) (r : RunsStraight s).
-        none_turns (is_back_to n) _ s (left_by blind n link s) (home_back n) refl
-        (left_quiet n s.routing t.routing r.none_open) t r in
+    none_turns (is_back_to n) _ s (left_by blind n link s) (home_back n) refl
+    (left_quiet n s.routing t.routing r.none_open) t r in
     let releases_straight = λ (code : ℕ) (s : State) (t : IsSound s) (r : RunsStraight s). none_turns (is_back code)
-        (all_with (Waiting (home_of code))) s (released code s) (code_back code) refl
-        (back_quiet code s.routing t.routing r.none_open) t r in
+    (all_with (Waiting (home_of code))) s (released code s) (code_back code) refl
+    (back_quiet code s.routing t.routing r.none_open) t r in
     -- an order is of no stream
     let queues_straight : (order : Order) (s : State) → IsSound s → AreTogether s
-        → AreTogether (queued order s) =
-        λ order s t r k low. stream_appended (given s) k (place_of k s.routing) (has_messages k s.routing)
-        (has_messages k s.routing) s.rows _ (fate_on (target s.links)) t.numbered (r k low)
-        (λ e. grind (arith, t.managed)) (λ e. e) in
+    → AreTogether (queued order s) =
+    λ order s t r k low. stream_appended (given s) k (place_of k s.routing) (has_messages k s.routing)
+    (has_messages k s.routing) s.rows _ (fate_on (target s.links)) t.numbered (r k low)
+    (λ e. grind (arith, t.managed)) (λ e. e) in
     let sends_straight : (choice : Choice) (n : ℕ) (s : State) → AreTogether s → (k : ℕ) → k < 16
-        → IsSoundStream k (place_of k s.routing) (has_messages k s.routing) (rows_sent choice n s.rows) =
-        λ choice n s r k low. let turns =
-        stream_turned k (place_of k s.routing) (is_waiting n) (Unacked n) (λ f e alive. grind arith)
-        (has_messages k s.routing) 1 s.rows (r k low) in grind arith in
+    → IsSoundStream k (place_of k s.routing) (has_messages k s.routing) (rows_sent choice n s.rows) =
+    λ choice n s r k low. let turns =
+    stream_turned k (place_of k s.routing) (is_waiting n) (Unacked n) (λ f e alive. grind arith)
+    (has_messages k s.routing) 1 s.rows (r k low) in grind arith in
     let stream_finishes = λ (k : ℕ) (place : Place) (test : Fate → Bool) (fate : Fate)
-        (done : is_unfinished fate ≡ false). stream_turned k place test fate
-        (λ f e alive. false_true (is_unfinished fate) done alive) in
+    (done : is_unfinished fate ≡ false). stream_turned k place test fate
+    (λ f e alive. false_true (is_unfinished fate) done alive) in
     let rests : (a b : State) → IsSound a × RunsStraight a → StaysStraight a b → IsSound b
-        × RunsStraight b = λ a b q then. then q.0 q.1.none_open q.1.together in
+    × RunsStraight b = λ a b q then. then q.0 q.1.none_open q.1.together in
     let then_straight : (a b c : State) → StaysStraight a b → StaysStraight b c → StaysStraight a c = λ a b c p q sound none r. rests b c (p sound none r) q in
     let sends : (n : ℕ) (link : LinkState) (u : State) → StaysStraight s u → IsAt n link Up u
-        → IsSound (next n u link).state × RunsStraight (next n u link).state = λ n link u keeps at.
+    → IsSound (next n u link).state × RunsStraight (next n u link).state = λ n link u keeps at.
     let now = keeps t r.none_open r.together in
     (sends_sound n link u at now.0, record { none_open = now.1.none_open; together = λ k low. sends_straight (choice_in n link u) n u now.1.together k low }) in
     let begins_none : (u : State) → (BeginsNone event → ⊥) → IsSound u × RunsStraight u = λ u may. absurd (may begins) in
     (step_walks s StaysStraight (λ u. IsSound u × RunsStraight u) event
-          (search (sounds, leaves_straight, releases_straight, queues_straight, stream_finishes, moves_off_straight,
-            offers_straight, sends_straight, rises_straight, then_straight, rests, sends, begins_none, stood))).1
+    (search (
+      sounds,
+      leaves_straight,
+      releases_straight,
+      queues_straight,
+      stream_finishes,
+      moves_off_straight,
+      offers_straight,
+      sends_straight,
+      rises_straight,
+      then_straight,
+      rests,
+      sends,
+      begins_none,
+      stood,
+    ))).1
 
 -- WHAT EVERY STEP DOES. The first of it tells where the rest holds: of each step that is named.
 pub step_laws : (s : State) (event : Event) → (step s event ≡ stepped s event)

@@ -63,23 +63,33 @@ pub step_grows : (s : State) (event : Event) → Grows (is_offer event ≡ false
 step_grows s event =
     let grows_then : (Free : Type 0) (a b c : State) → Grows Free a b → Grows Free b c → Grows Free a c = λ Free a b c p q. grind arith in
     let grows_kept : (Free : Type 0) (s t : State) → t.settings ≡ s.settings → t.finished ≡ s.finished
-        → Kept s.rows t.rows → Grows Free s t = λ Free s t same gone k. let bodies =
-        k.bodies (given s) in let numbered = k.numbered (given s) in grind (arith, bodies, numbered) in
+    → Kept s.rows t.rows → Grows Free s t = λ Free s t same gone k. let bodies =
+    k.bodies (given s) in let numbered = k.numbered (given s) in grind (arith, bodies, numbered) in
     let none_offered : (body : List ℕ) → event ≡ Offer body → is_offer event ≡ false
-        → (service_indicator body == 0) ≡ true =
-        λ body e other. absurd (let no : true ≡ false = sym (ap is_offer e) ∙ other in cc) in
+    → (service_indicator body == 0) ≡ true =
+    λ body e other. absurd (let no : true ≡ false = sym (ap is_offer e) ∙ other in cc) in
     -- an order is the management's
     let order_managed : (order : Order) (settings : Settings) → IsManaged settings
-        → (service_indicator (text settings.profile order settings.sio settings.dpc settings.opc) == 0) ≡ true =
-        λ order settings m. grind arith in
+    → (service_indicator (text settings.profile order settings.sio settings.dpc settings.opc) == 0) ≡ true =
+    λ order settings m. grind arith in
     -- where a message goes that is moved, or whose stream runs there, it isn't acknowledged
     let target_open : (to : Option ℕ) → was_acked (fate_on to) ≡ false = λ to. grind arith in
     let fate_open : (p : Place) (s : State) → was_acked (fate_at p s) ≡ false = λ p s. grind arith in
     let kept_on = λ (n : ℕ) (rows new : List Row) (g : ChangesOn n rows new). g.kept in
     let same = λ (rows : List Row). (acknowledged 0 0 rows).kept in
     step_walks s (Grows (is_offer event ≡ false)) (Grows (is_offer event ≡ false) s) event
-        (search (kept_on, grows_then, grows_kept, grows_appended, moved_kept, same, target_open, order_managed,
-            fate_open, none_offered))
+    (search (
+      kept_on,
+      grows_then,
+      grows_kept,
+      grows_appended,
+      moved_kept,
+      same,
+      target_open,
+      order_managed,
+      fate_open,
+      none_offered,
+    ))
 
 pub keeps_messages : (s : State) (event : Event) → IsNumbered (given s) s.rows → KeepsMessages s (step s event).state
 keeps_messages s event numbered = (step_grows s event).keeps numbered
@@ -135,39 +145,62 @@ module _ (more : ℕ) (s : State) (rows : List Row) (routing : Routing) (inbox :
       → link'.accepted ≤ link.accepted + more
       → GrowBy more s (record s { links = slice_set s.links n link'; rows = rows; routing = routing })
   grow_set n link link' phase at sent accepted =
-      record { each = each_set (λ m new. (old : LinkState) × (slice_get s.links m ≡ Some old)
-          × (new.acked + length (unack m rows) ≤ old.acked + length (unack m s.rows) + more)
-      × (new.accepted ≤ old.accepted + more)) s.links n link' (link, at.there, sent, accepted)
-      (λ m other d there. (other, there, omega (arith, few m), omega arith)) }
+      record {
+        each = each_set (λ m new. (old : LinkState) × (slice_get s.links m ≡ Some old)
+            × (new.acked + length (unack m rows) ≤ old.acked + length (unack m s.rows) + more)
+            × (new.accepted ≤ old.accepted + more)) s.links n link' (link, at.there, sent, accepted)
+            (λ m other d there. (other, there, omega (arith, few m), omega arith));
+      }
 
 step_counts : (s : State) (event : Event) → GrowBy 1 s (step s event).state
 step_counts s event =
     let grow_then : (more : ℕ) (s t u : State) → GrowBy more s t → GrowBy 0 t u
-        → GrowBy more s u = λ more s t u p q.
-        record { each = λ n new at. let y = q.each n new at in let x =
-          p.each n y.0 y.1 in (x.0, x.1, omega (arith, x.2, y.2), omega (arith, x.3, y.3)) } in
+    → GrowBy more s u = λ more s t u p q.
+    record {
+      each = λ n new at. let y = q.each n new at in let x =
+          p.each n y.0 y.1 in (x.0, x.1, omega (arith, x.2, y.2), omega (arith, x.3, y.3));
+    } in
     let grow_first : (more : ℕ) (s t u : State) → GrowBy 0 s t → GrowBy more t u
-        → GrowBy more s u = λ more s t u p q.
-        record { each = λ n new at. let y = q.each n new at in let x =
-          p.each n y.0 y.1 in (x.0, x.1, omega (arith, x.2, y.2), omega (arith, x.3, y.3)) } in
+    → GrowBy more s u = λ more s t u p q.
+    record {
+      each = λ n new at. let y = q.each n new at in let x =
+          p.each n y.0 y.1 in (x.0, x.1, omega (arith, x.2, y.2), omega (arith, x.3, y.3));
+    } in
     let few_sent : (choice : Choice) (m n : ℕ) (rows : List Row)
-        → length (unack m (rows_sent choice n rows)) ≤ length (unack m rows) + 1 =
-        λ choice m n rows. grind (arith, few_turned (is_waiting n) (is_unacked m) (Unacked n) 1 rows) in
+    → length (unack m (rows_sent choice n rows)) ≤ length (unack m rows) + 1 =
+    λ choice m n rows. grind (arith, few_turned (is_waiting n) (is_unacked m) (Unacked n) 1 rows) in
     -- a move makes no unacknowledged ones, and what is acknowledged was sent
     let few_moved : (test : Fate → Bool) (fate : Row → Fate) (m : ℕ) (rows : List Row)
-        → ((row : Row) → is_unacked m (fate row) ≡ false)
-        → length (unack m (moved test fate rows)) ≤ length (unack m rows) =
-        λ test fate m rows none. grind (arith, filter-append, fated_none, append-nil, filter_comm, fewer_filter) in
+    → ((row : Row) → is_unacked m (fate row) ≡ false)
+    → length (unack m (moved test fate rows)) ≤ length (unack m rows) =
+    λ test fate m rows none. grind (arith, filter-append, fated_none, append-nil, filter_comm, fewer_filter) in
     let acked_at_most : (more c n count : ℕ) (rows : List Row) → count ≤ length (unack n rows)
-        → c + count + length (unack n (turned (is_unacked n) (Acked n) count rows)) ≤ c + length (unack n rows) + more =
-        λ more c n count rows fits. grind (arith, turned_left, length-drop) in
+    → c + count + length (unack n (turned (is_unacked n) (Acked n) count rows)) ≤ c + length (unack n rows) + more =
+    λ more c n count rows fits. grind (arith, turned_left, length-drop) in
     let at_most : (a b more : ℕ) → a ≤ b → a ≤ b + more = λ a b more few. omega arith in
     let sum_at_most : (d c a b more : ℕ) → d ≤ c → a ≤ b + more → d + a ≤ c + b + more = λ d c a b more e few. omega arith in
     let one_low : (a more : ℕ) (b : Bool) → 1 ≤ more → a + one_if b ≤ a + more = λ a more b some. grind arith in
     let fewer = λ (m count : ℕ) (test : Fate → Bool) (fate : Fate) (rows : List Row). (turned_there test fate count rows).fewer (is_unacked m) in
     step_walks s (GrowBy 0) (GrowBy 1 s) event
-        (search (le_refl, zero-le, grow_then, grow_first, grow_rows, grow_set, acked_at_most, few_moved, appended_out,
-            not_sent, offered_out, few_sent, acked_few, arith, at_most, sum_at_most, one_low))
+    (search (
+      le_refl,
+      zero-le,
+      grow_then,
+      grow_first,
+      grow_rows,
+      grow_set,
+      acked_at_most,
+      few_moved,
+      appended_out,
+      not_sent,
+      offered_out,
+      few_sent,
+      acked_few,
+      arith,
+      at_most,
+      sum_at_most,
+      one_low,
+    ))
 
 pub step_at_most : (s : State) (event : Event) (k : ℕ → WholeNumbers) → AreAtMost k s → AreAtMost (λ n. one_more (k n)) (step s event).state
 step_at_most s event k few n link there = let g = (step_counts s event).each n link there in let f = few n g.0 g.1 in grind (arith, f, g)

@@ -52,14 +52,16 @@ Touches order n = (link_of order ≡ n) ⊎ ((link code : ℕ) × (order ≡ Cba
 module _ (Known : ℕ → Type 0) (May : Type 0) (R : State → State → Type 0) (k : KeptBy Known May R) where
   -- settling
   both_given_up : (cause : DiscardCause) (n : ℕ) (link : LinkState) (s : State) → Known n → IsAt n link Down s
-      → R s (record s { rows = changed (is_waiting n) (Discarded cause)
-          (changed (is_unacked n) (Discarded cause) s.rows) })
+      → R s (record s {
+        rows = changed (is_waiting n) (Discarded cause)
+            (changed (is_unacked n) (Discarded cause) s.rows);
+      })
   both_given_up cause n link s known at =
       let mid : State = record s { rows = changed (is_unacked n) (Discarded cause) s.rows } in
       k.after s mid (record mid { rows = changed (is_waiting n) (Discarded cause) mid.rows })
-          (k.gives_up true cause n link s known at (given_up n true cause s.rows))
-          (k.gives_up false cause n link mid known (record { there = at.there; phase_is = at.phase_is })
-            (given_up n false cause mid.rows))
+      (k.gives_up true cause n link s known at (given_up n true cause s.rows))
+      (k.gives_up false cause n link mid known (record { there = at.there; phase_is = at.phase_is })
+      (given_up n false cause mid.rows))
 
   off : (told : Bool) (n : ℕ) (link : LinkState) (s mid : State) → Known n → R s mid → IsAt n link Down mid → R s (moved_over told n link mid)
   off told n link s mid known r at = k.after s mid (moved_over told n link mid) r (k.moves_off told n link mid known at)
@@ -83,15 +85,17 @@ module _ (Known : ℕ → Type 0) (May : Type 0) (R : State → State → Type 0
   over_walks reached n link Up s known at =
       let told = queued (Coa n (last_accepted link)) (left_by false n link s) in
       k.after s told _ (k.after s _ told (k.leaves false n link s known at)
-            (k.queues (Coa n (last_accepted link)) (left_by false n link s)))
-          (settle_walks reached n (left_link false link) told known
-            (record { there = get_set_same s.links n (left_link false link) (within s.links n link at.there);
-              phase_is = refl }))
+      (k.queues (Coa n (last_accepted link)) (left_by false n link s)))
+      (settle_walks reached n (left_link false link) told known
+      (record {
+        there = get_set_same s.links n (left_link false link) (within s.links n link at.there);
+        phase_is = refl;
+      }))
   over_walks reached n link Down s known at = settle_walks reached n link s known at
   over_walks reached n link Settled s known at =
       let told = queued (reply_of n link) s in
       k.after s told (with_link n (answered_link link) told) (k.queues (reply_of n link) s)
-          (k.answers n link told known (record { there = at.there; phase_is = at.phase_is }))
+      (k.answers n link told known (record { there = at.there; phase_is = at.phase_is }))
 
   answer_walks : (reached : Reached) (n : ℕ) (link : LinkState) (phase : Phase) (s : State) → Known n
       → IsAt n link phase s → R s (answered reached n link phase s).state
@@ -103,8 +107,8 @@ module _ (Known : ℕ → Type 0) (May : Type 0) (R : State → State → Type 0
   declare_walks may home alternative (suc n) s up =
       cond_both (can_declare home alternative s) (declared home alternative s) s (λ (u : State). R s (declared_from home (suc alternative) n u))
       (λ e. k.after s (declared home alternative s) _ (k.declares may home alternative s up e)
-            (declare_walks may home (suc alternative) n (declared home alternative s) up))
-          (λ e. declare_walks may home (suc alternative) n s up)
+      (declare_walks may home (suc alternative) n (declared home alternative s) up))
+      (λ e. declare_walks may home (suc alternative) n s up)
 
   pub release_walks : (code n : ℕ) (s : State) → ((c : ℕ) → code ≤ c → c < code + n → Known (home_of c)) → R s (released_from code n s)
   release_walks code zero s known = k.same s
@@ -122,7 +126,7 @@ module _ (Known : ℕ → Type 0) (May : Type 0) (R : State → State → Type 0
 
   pub takes_walks : (body : Option (List ℕ)) (s : State)
       → ((b : List ℕ) → body ≡ Some b → (o : Order) → order_of s.settings.profile b ≡ Some o → (n : ℕ) → Touches o n
-        → Known n) → R s (takes body s).state
+      → Known n) → R s (takes body s).state
   takes_walks None s known = grind arith
   takes_walks (Some body) s known = let by = obeyed_walks (order_of s.settings.profile body) s (known body refl) in grind arith
 
@@ -153,11 +157,11 @@ module _ (s : State) (R : State → State → Type 0) (S : State → Type 0) whe
   hear_walks n unit link w fits at =
       let part = part_in unit n link s in
       let either : (accept : Bool) (unit : SignalUnit) (b : List ℕ) → brought accept unit ≡ Some b → (o : Order)
-          → order_of s.settings.profile b ≡ Some o → (m : ℕ) → Touches o m → BringsAbout s.settings.profile m unit
-          ⊎ BringsBackTo s.settings.profile m unit = λ accept unit b e o f m touches. grind arith in
+      → order_of s.settings.profile b ≡ Some o → (m : ℕ) → Touches o m → BringsAbout s.settings.profile m unit
+      ⊎ BringsBackTo s.settings.profile m unit = λ accept unit b e o f m touches. grind arith in
       w.rests _ (controls unit n s link).state (w.hears n unit link refl fits at (acknowledged n part.acked s.rows).in_place)
       (takes_walks (λ m. Concerns (Heard n unit) m s) (BeginsNone (Heard n unit) → ⊥) R w.small
-            (brought part.accept unit) _ (λ b e o f m g. inr (either part.accept unit b e o f m g)))
+      (brought part.accept unit) _ (λ b e o f m g. inr (either part.accept unit b e o f m g)))
 
   rise_walks : (n : ℕ) (link : LinkState) → WalkedBy s (UpEvent n) R S → slice_get s.links n ≡ Some link → S (rises n s link.phase).state
   rise_walks n link w there = let rise = λ (at : IsAt n link Settled s). w.rises n link refl at (unparked n s.rows) in grind (arith, rise)
@@ -166,27 +170,27 @@ module _ (s : State) (R : State → State → Type 0) (S : State → Type 0) whe
       → IsAt n link Up s → S (falls blind n s link).state
   fall_walks event blind n link w known at =
       w.rests s _ w.unmoved (w.small.after s (left_by blind n link s) _ (w.small.leaves blind n link s known at)
-            (w.small.queues (leaving_order blind n link) (left_by blind n link s)))
+      (w.small.queues (leaving_order blind n link) (left_by blind n link s)))
 
   pub step_walks : (event : Event) → WalkedBy s event R S → S (step s event).state
   unfolding step
   step_walks Take w = take_walks w s.inbox refl
   step_walks (NoAnswer n) w =
       let settle = λ (link : LinkState) (at : IsAt n link Down s). w.rests s (settled Unanswered n link s) w.unmoved
-          (settle_walks (λ m. Concerns (NoAnswer n) m s) (BeginsNone (NoAnswer n) → ⊥) R w.small Unanswered n link s
-            refl at) in
+      (settle_walks (λ m. Concerns (NoAnswer n) m s) (BeginsNone (NoAnswer n) → ⊥) R w.small Unanswered n link s
+      refl at) in
       grind (arith, settle)
   step_walks (BackTimeout n) w =
       let release = w.rests s _ w.unmoved
-          (release_walks (λ m. Concerns (BackTimeout n) m s) (BeginsNone (BackTimeout n) → ⊥) R w.small (code_for n 0)
-            16 s (λ c low high. omega (arith, low, high))) in
+      (release_walks (λ m. Concerns (BackTimeout n) m s) (BeginsNone (BackTimeout n) → ⊥) R w.small (code_for n 0)
+      16 s (λ c low high. omega (arith, low, high))) in
       grind (arith, release)
   step_walks (DownEvent n) w = in_walks n _ w.unmoved (λ link at. fall_walks (DownEvent n) false n link w refl at)
   step_walks (DownBlind n) w = in_walks n _ w.unmoved (λ link at. fall_walks (DownBlind n) true n link w refl at)
   step_walks (Next n) w = in_walks n _ w.unmoved (λ link at.
       let count = leading (is_overtaken s) (wait n s.rows) in
       w.sends n link (cleared n s) refl (w.small.withdraws count n link s refl at (withdrawn_rows count n s.rows))
-          (record { there = at.there; phase_is = at.phase_is }) (sent_by _ n (cleared n s).rows))
+      (record { there = at.there; phase_is = at.phase_is }) (sent_by _ n (cleared n s).rows))
   step_walks event w = grind (arith, hear_walks, rise_walks, declare_walks)
 
 -- The sealed step is its cases.

@@ -19,7 +19,7 @@ ghost use Rattle.term_model.specs.Machines.{
 };
 
 use crate::inside::Inside;
-use l2_align::{AlignIn, Monitor, Outcome, NORMAL_PROVING};
+use l2_align::{AlignIn, Monitor, NORMAL_PROVING, Outcome};
 use l2_flow::FlowIn;
 use l2_monitors::{Aerm, Suerm};
 use l2_state::{Indication, StateIn, Switch};

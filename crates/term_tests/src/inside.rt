@@ -234,7 +234,10 @@ fn comes_into_service(inside: &mut Inside) -> bool {
     let end = inside.align(AlignIn::T4);
     let quiet = inside.state(StateIn::Complete).is_none();
     let ready = inside.state_now() == State::Ready;
-    end == Some(Outcome::Complete) && quiet && ready && inside.state(StateIn::Fisu) == Some(Indication::Up)
+    end == Some(Outcome::Complete)
+        && quiet
+        && ready
+        && inside.state(StateIn::Fisu) == Some(Indication::Up)
 }
 
 /// It's up, and may be blind, once the set has said so.
