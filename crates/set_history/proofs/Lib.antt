@@ -1,2 +1,4 @@
-pub mod Telling
-pub mod Heads
+pub mod Codes
+pub mod Numbers
+pub mod Parts
+pub mod Histories

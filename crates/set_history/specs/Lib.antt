@@ -1,3 +1,3 @@
-pub mod Head
-pub mod Kept
+pub mod Forms
 pub mod Told
+pub mod Written

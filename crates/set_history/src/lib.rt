@@ -1,11 +1,14 @@
 //! The history of a set, in as much memory as its entries tell.
 //!
-//! An entry by itself has room for two units of 273 octets of body. A [`History`] keeps a record of 24 octets of each,
-//! and the octets of all bodies one after another:
+//! An entry by itself has room for two units of 273 octets of body. A [`History`] keeps its entries as octets, one
+//! behind another, each in as many as it tells:
 //!
 //! ```text
-//! records   | who, Offer of 5, Accepted 0 | who, Next, Sent a unit of 5 | who, Find 0, Found |
-//! octets    | 85 01 80 00 30              | 85 01 80 00 30              |                    |
+//!         who | asked                  | answered                        a user's Offer of 5 octets, Accepted as 7
+//!    00    03 | 05  85 01 80 00 30     | 07
+//!    B3    00 | 00                     | 7F 10 00 06  05  85 01 80 00 30 a terminal's Next, Sent an MSU of 5
+//!    22    03 | 07                     | 02                              a user's Find of 7, Found Unacked on link 0
+//!    ^ 0 to 10: what was asked, and 16 times 0 to 6: what was answered, and 128 for a terminal
 //! ```
 //!
 //! Contracts see the list of entries. Whoever reads it goes from the first to the last by a [`Reader`], and sees each
@@ -14,11 +17,12 @@
 //! This crate decides nothing and waits for nothing; [`History::reserve`] alone takes memory, and what is read may.
 #![tactic(auto)]
 
+mod forms;
 mod history;
-mod numbers;
+mod octets;
 mod reader;
-mod record;
 mod told;
+mod writing;
 
 pub use history::History;
 pub use reader::Reader;

@@ -1,5 +1,5 @@
 //! A history from its first entry to its last.
-use super::record::Record;
+use super::octets::Octets;
 use super::told::Told;
 use set_events::Entry;
 use std::alloc::{AllocError, Global};
@@ -8,42 +8,44 @@ use std::marker::Model;
 /// A history that is read in order. Contracts see the entries that are left.
 #[derive(Drop)]
 pub struct Reader<'a> {
-    pub(crate) records: &'a [Record],
     pub(crate) octets: &'a [u8],
+    pub(crate) len: usize,
 }
 
 impl<'a> Model for Reader<'a> {
     ghost use Rattle.std.specs.Prelude.{List};
     ghost use Rattle.set_events.specs.declared.history.Entry.{Entry as SetEntry};
-    ghost use Rattle.set_history.specs.Told.{told, AreAll};
+    ghost use Rattle.set_history.specs.Told.{entries_told};
 
     ghost Value = { List SetEntry };
 
-    ghost view = { λ r. told r.records.now r.octets.now };
-
-    ghost invariant = { λ r. AreAll r.records.now r.octets.now };
+    ghost view = { λ r. entries_told r.len r.octets.now };
 }
 
 impl<'a> Reader<'a> {
     ghost use Rattle.std.specs.Prelude.{◌≡◌, ◌<◌, ◌^◌, [], ◌∷◌, length, IfOk, MatchOption};
 
     /// The next entry, which is the first of those that are left; `None` where none is.
+    #[tactic(auto, using(crate::proofs::Histories::first_told))]
     pub fn next(&mut self) -> Option<Told<'a>>
         ensures { MatchOption result (self.old ≡ []) (λ told. self.old ≡ told ∷ self.new) }
     {
-        let (record, records) = self.records.split_first()?;
-        let octets = self.octets;
-        self.records = records;
-        self.octets = &octets[record.size()..];
-        Some(Told { record, octets })
+        let others = self.len.checked_sub(1)?;
+        let mut octets = Octets { left: self.octets };
+        let told = octets.entry();
+        *self = Reader {
+            octets: octets.left,
+            len: others,
+        };
+        Some(told)
     }
 
     /// How many entries are left.
-    #[tactic(auto, using(crate::proofs::Telling::length_told))]
+    #[tactic(auto, using(crate::proofs::Histories::length_told))]
     pub fn len(&self) -> usize
         ensures { result ≡ length self.now }
     {
-        self.records.len()
+        self.len
     }
 
     /// The same once more, from its next entry on.
@@ -51,8 +53,8 @@ impl<'a> Reader<'a> {
         ensures { result ≡ self.now }
     {
         Reader {
-            records: self.records,
             octets: self.octets,
+            len: self.len,
         }
     }
 
