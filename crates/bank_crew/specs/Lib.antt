@@ -1,5 +1,6 @@
 pub mod Carrying
 pub mod Counts
+pub mod Doors
 pub mod Ends
 pub mod Faults
 pub mod Jobs

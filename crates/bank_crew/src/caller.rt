@@ -13,7 +13,6 @@ use std::alloc::Global;
 use std::marker::{Model, PhantomData};
 use std::snapshot::Snapshot;
 use std::sync::Wait;
-use std::sync::ledger::Ledger;
 
 /// With fewer receipts a seat forgets none.
 const FEW: usize = 1_024;
@@ -28,16 +27,15 @@ pub(crate) struct Forgetting<S> {
 /// A seat whose receipts that lie before a checkpoint are forgotten now and then: when there are twice as many as it had
 /// after the last time, so that this takes each call the same time. Contracts see the seat, and all that was asked there.
 #[derive(Drop)]
-pub(crate) struct Caller<C: Opening, M: Ledger, O: Ledger, A: Ledger, S: Seat<C, M, O, A> + Drop> {
+pub(crate) struct Caller<O: Opening, S: Seat<O> + Drop> {
     seat: S,
     forgettings: Vec<Forgetting<S>>,
     /// With so many receipts it's time for the next.
     many: usize,
-    set: PhantomData<(C, M, O, A)>,
+    set: PhantomData<O>,
 }
 
-impl<C: Opening, M: Ledger, O: Ledger, A: Ledger, S: Seat<C, M, O, A> + Drop> Model
-    for Caller<C, M, O, A, S> {
+impl<O: Opening, S: Seat<O> + Drop> Model for Caller<O, S> {
     ghost use Rattle.bank_crew.specs.Seats.{CallerState};
 
     ghost Value = { CallerState };
@@ -50,15 +48,9 @@ impl<C: Opening, M: Ledger, O: Ledger, A: Ledger, S: Seat<C, M, O, A> + Drop> Mo
     ghost invariant = { λ c. length (joined S.state c.forgettings.items) ≡ (S.state c.seat).forgotten.calls };
 }
 
-impl<C: Opening, M: Ledger, O: Ledger, A: Ledger, S: Seat<C, M, O, A> + Drop> Caller<
-    C,
-    M,
-    O,
-    A,
-    S,
-> {
+impl<O: Opening, S: Seat<O> + Drop> Caller<O, S> {
     /// A seat at which nothing was asked yet.
-    pub(crate) fn new(alloc: Global, seat: S) -> Caller<C, M, O, A, S>
+    pub(crate) fn new(alloc: Global, seat: S) -> Caller<O, S>
         requires receipts { (S.state seat).receipts ≡ [] }
         requires forgotten { (S.state seat).forgotten.calls ≡ 0 }
         ensures seat { result.seat ≡ S.state seat }
@@ -97,7 +89,7 @@ impl<C: Opening, M: Ledger, O: Ledger, A: Ledger, S: Seat<C, M, O, A> + Drop> Ca
 
     /// Forgets what lies before the last checkpoint, where there are many receipts. Where memory is refused all are kept
     /// until there are twice as many.
-    fn forget<R: Wait>(&mut self, rt: &R, set: &LinkSet<C, M, O, A>)
+    fn forget<R: Wait>(&mut self, rt: &R, set: &LinkSet<O>)
         ensures who { self.new.seat.who ≡ self.old.seat.who }
         ensures all { self.new.all ≡ self.old.all }
     {
@@ -109,7 +101,7 @@ impl<C: Opening, M: Ledger, O: Ledger, A: Ledger, S: Seat<C, M, O, A> + Drop> Ca
     }
 
     /// Forgets what lies before the last checkpoint.
-    fn forget_now<R: Wait>(&mut self, rt: &R, set: &LinkSet<C, M, O, A>) -> Result<(), SetFault>
+    fn forget_now<R: Wait>(&mut self, rt: &R, set: &LinkSet<O>) -> Result<(), SetFault>
         ensures who { self.new.seat.who ≡ self.old.seat.who }
         ensures all { self.new.all ≡ self.old.all }
     {
@@ -122,7 +114,7 @@ impl<C: Opening, M: Ledger, O: Ledger, A: Ledger, S: Seat<C, M, O, A> + Drop> Ca
     }
 }
 
-impl<C: Opening, M: Ledger, O: Ledger, A: Ledger> Caller<C, M, O, A, UserSeat<C, M, O, A>> {
+impl<O: Opening> Caller<O, UserSeat<O>> {
     /// The user's number, 0 to 63.
     pub(crate) fn number(&self) -> u16
         ensures { self.now.seat.who ≡ User result }
@@ -134,7 +126,7 @@ impl<C: Opening, M: Ledger, O: Ledger, A: Ledger> Caller<C, M, O, A, UserSeat<C,
     pub(crate) fn offer<R: Wait>(
         &mut self,
         rt: &R,
-        set: &LinkSet<C, M, O, A>,
+        set: &LinkSet<O>,
         octets: &[u8],
     ) -> Result<Answer, SetFault>
         ensures who { self.new.seat.who ≡ self.old.seat.who }
@@ -146,11 +138,7 @@ impl<C: Opening, M: Ledger, O: Ledger, A: Ledger> Caller<C, M, O, A, UserSeat<C,
     }
 
     /// Takes the oldest message that was heard for users.
-    pub(crate) fn take<R: Wait>(
-        &mut self,
-        rt: &R,
-        set: &LinkSet<C, M, O, A>,
-    ) -> Result<Answer, SetFault>
+    pub(crate) fn take<R: Wait>(&mut self, rt: &R, set: &LinkSet<O>) -> Result<Answer, SetFault>
         ensures who { self.new.seat.who ≡ self.old.seat.who }
         ensures calls { Calls self.old.seat.who Take result self.old.all self.new.all }
     {
@@ -163,7 +151,7 @@ impl<C: Opening, M: Ledger, O: Ledger, A: Ledger> Caller<C, M, O, A, UserSeat<C,
     pub(crate) fn find<R: Wait>(
         &mut self,
         rt: &R,
-        set: &LinkSet<C, M, O, A>,
+        set: &LinkSet<O>,
         number: u64,
     ) -> Result<Answer, SetFault>
         ensures who { self.new.seat.who ≡ self.old.seat.who }
@@ -175,7 +163,7 @@ impl<C: Opening, M: Ledger, O: Ledger, A: Ledger> Caller<C, M, O, A, UserSeat<C,
     }
 }
 
-impl<C: Opening, M: Ledger, O: Ledger, A: Ledger> Caller<C, M, O, A, TermSeat<C, M, O, A>> {
+impl<O: Opening> Caller<O, TermSeat<O>> {
     /// The number of the terminal's link, 0 to 15.
     pub(crate) fn link(&self) -> u8
         ensures { self.now.seat.who ≡ Terminal result }
@@ -187,7 +175,7 @@ impl<C: Opening, M: Ledger, O: Ledger, A: Ledger> Caller<C, M, O, A, TermSeat<C,
     pub(crate) fn step<R: Wait, F: FnOnce()>(
         &mut self,
         rt: &R,
-        set: &LinkSet<C, M, O, A>,
+        set: &LinkSet<O>,
         event: &EventRef<'_>,
         reply: &mut Reply,
         held: F,

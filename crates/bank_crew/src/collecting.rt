@@ -14,22 +14,14 @@ use set_events::{Answer, SetFault};
 use set_shared::{LinkSet, Opening};
 use std::alloc::Global;
 use std::sync::Wait;
-use std::sync::ledger::Ledger;
 use std::time::Clock;
 
 /// Asks so often for the oldest message that was heard, and keeps each one.
-pub(crate) fn collect_often<
-    C: Opening,
-    M: Ledger,
-    O: Ledger,
-    A: Ledger,
-    G: LinkManager,
-    R: Wait + Clock,
->(
+pub(crate) fn collect_often<O: Opening, G: LinkManager, R: Wait + Clock>(
     rt: &R,
     alloc: Global,
-    set: &LinkSet<C, M, O, A>,
-    caller: &mut UserCaller<C, M, O, A>,
+    set: &LinkSet<O>,
+    caller: &mut UserCaller<O>,
     times: u32,
     orders: &Orders<G>,
 ) -> Result<UserReport, UserFault>
@@ -53,10 +45,10 @@ pub(crate) fn collect_often<
 }
 
 /// Asks for the oldest message that was heard, and keeps it.
-fn collect_one<C: Opening, M: Ledger, O: Ledger, A: Ledger, G: LinkManager, R: Wait + Clock>(
+fn collect_one<O: Opening, G: LinkManager, R: Wait + Clock>(
     rt: &R,
-    set: &LinkSet<C, M, O, A>,
-    caller: &mut UserCaller<C, M, O, A>,
+    set: &LinkSet<O>,
+    caller: &mut UserCaller<O>,
     orders: &Orders<G>,
     report: &mut UserReport,
 ) -> Result<(), UserFault>

@@ -12,7 +12,6 @@ use super::user::JobOf;
 use link_term::TermFault;
 use set_shared::{Opening, TermSeat, UserSeat};
 use std::alloc::{AllocError, Global};
-use std::sync::ledger::Ledger;
 use std::thread::{Promise, PromisedHandle, Scope, Threads};
 use std::vec::IntoIter;
 
@@ -24,31 +23,31 @@ pub(crate) struct Ended<S: Drop, T: Drop> {
 }
 
 /// A user's seat, and what the user reports, or why it ended early.
-pub(crate) type UserEnd<C, M, O, A> = Ended<UserSeat<C, M, O, A>, Result<UserReport, UserFault>>;
+pub(crate) type UserEnd<O> = Ended<UserSeat<O>, Result<UserReport, UserFault>>;
 
 /// A terminal's seat, and what its turns came to, or why they ended early.
-pub(crate) type TermEnd<C, M, O, A> = Ended<TermSeat<C, M, O, A>, Result<ShiftReport, TermFault>>;
+pub(crate) type TermEnd<O> = Ended<TermSeat<O>, Result<ShiftReport, TermFault>>;
 
 /// The thread of a user.
-pub(crate) type UserThread<C, M, O, A> = PromisedHandle<UserEnd<C, M, O, A>, JobOf>;
+pub(crate) type UserThread<O> = PromisedHandle<UserEnd<O>, JobOf>;
 
 /// The thread of a terminal.
-pub(crate) type TermThread<C, M, O, A> = PromisedHandle<TermEnd<C, M, O, A>, ShiftOf>;
+pub(crate) type TermThread<O> = PromisedHandle<TermEnd<O>, ShiftOf>;
 
 /// The threads of a set's users and terminals, and the seats of the terminals that have no line.
 #[derive(Drop)]
-pub(crate) struct Crew<C: Opening, M: Ledger, O: Ledger, A: Ledger> {
-    pub(crate) users: Vec<UserThread<C, M, O, A>>,
-    pub(crate) terminals: Vec<TermThread<C, M, O, A>>,
-    pub(crate) idle: IntoIter<TermSeat<C, M, O, A>, Global>,
+pub(crate) struct Crew<O: Opening> {
+    pub(crate) users: Vec<UserThread<O>>,
+    pub(crate) terminals: Vec<TermThread<O>>,
+    pub(crate) idle: IntoIter<TermSeat<O>, Global>,
 }
 
 /// The seats of a set, and what was gathered beside them.
 #[derive(Drop)]
-pub(crate) struct Gathered<C: Opening, M: Ledger, O: Ledger, A: Ledger> {
-    pub(crate) users: Vec<UserSeat<C, M, O, A>>,
+pub(crate) struct Gathered<O: Opening> {
+    pub(crate) users: Vec<UserSeat<O>>,
     pub(crate) user_ends: Vec<Result<UserReport, UserFault>>,
-    pub(crate) terminals: Vec<TermSeat<C, M, O, A>>,
+    pub(crate) terminals: Vec<TermSeat<O>>,
     pub(crate) reports: Vec<Result<ShiftReport, TermFault>>,
 }
 
@@ -59,13 +58,9 @@ struct Back<S: Drop, T: Drop> {
     told: Vec<T>,
 }
 
-impl<C: Opening, M: Ledger, O: Ledger, A: Ledger> Crew<C, M, O, A> {
+impl<O: Opening> Crew<O> {
     /// Waits for the users and then for the terminals, whose seats stand before the idle ones.
-    pub(crate) fn gather<R: Threads>(
-        self,
-        rt: &R,
-        alloc: Global,
-    ) -> Result<Gathered<C, M, O, A>, CrewFault>
+    pub(crate) fn gather<R: Threads>(self, rt: &R, alloc: Global) -> Result<Gathered<O>, CrewFault>
         ensures users { IfOk result (λ all. AreKept KeepsJob
             (map (λ thread. thread.promise) self.users.items) all.users.items all.user_ends.items) }
         ensures terminals { IfOk result (λ all. GathersTerminals

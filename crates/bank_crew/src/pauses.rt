@@ -2,7 +2,6 @@
 
 use set_shared::{LinkSet, Opening};
 use std::sync::Wait;
-use std::sync::ledger::Ledger;
 
 /// When a user or a terminal takes checkpoints: each time that so much more was done.
 #[derive(Drop)]
@@ -20,12 +19,7 @@ impl Pauses {
 
     /// A checkpoint, where one is due when so much is done. Where memory is refused all stays, and the next one makes up
     /// for it.
-    pub(crate) fn pause<C: Opening, M: Ledger, O: Ledger, A: Ledger, R: Wait>(
-        &mut self,
-        rt: &R,
-        set: &LinkSet<C, M, O, A>,
-        done: u64,
-    ) {
+    pub(crate) fn pause<O: Opening, R: Wait>(&mut self, rt: &R, set: &LinkSet<O>, done: u64) {
         if self.are_due(done) {
             let _ = set.checkpoint(rt);
         }

@@ -19,19 +19,19 @@ use link_term::{Door, Faults};
 use set_events::{AnswerRef, EventRef, Reply, SetFault};
 use set_shared::{LinkSet, Opening, TermSeat};
 use std::alloc::Global;
+use std::marker::Model;
 use std::sync::Wait;
-use std::sync::ledger::Ledger;
 
 /// A terminal's own seat at a set that threads share. Each step takes the set's lock, passes the gate's `inside`
 /// under it, and leaves its entry among the seat's receipts. Those are all that this door made, but for what the seat
 /// forgot, and for what level 3 asks between two steps where links are managed: that streams come back to a link that came
 /// up, and that an answer didn't come. The lock may be waited for.
 #[derive(Drop)]
-pub struct SeatDoor<'a, C: Opening, M: Ledger, O: Ledger, A: Ledger, R: Wait, G: LinkManager> {
+pub struct SeatDoor<'a, O: Opening, R: Wait, G: LinkManager> {
     rt: &'a R,
-    set: &'a LinkSet<C, M, O, A>,
+    set: &'a LinkSet<O>,
     number: u16,
-    caller: Caller<C, M, O, A, TermSeat<C, M, O, A>>,
+    caller: Caller<O, TermSeat<O>>,
     gate: &'a G,
     managed: Option<Managed>,
     awaited: Awaited,
@@ -41,37 +41,38 @@ pub struct SeatDoor<'a, C: Opening, M: Ledger, O: Ledger, A: Ledger, R: Wait, G:
     answered: Answered,
     carried: Carried,
     pauses: Pauses,
-    ghost is_counted: { answered ≡ answered_in (link_in caller.seat.who) caller.all },
-    ghost is_carried: { carried ≡ carried_in managed (link_in caller.seat.who) caller.all },
-    ghost is_marked: { are_marks (link_in caller.seat.who) caller.all marks ≡ true },
 }
 
-impl<'a, C: Opening, M: Ledger, O: Ledger, A: Ledger, R: Wait, G: LinkManager> SeatDoor<
-    'a,
-    C,
-    M,
-    O,
-    A,
-    R,
-    G,
-> {
+impl<'a, O: Opening, R: Wait, G: LinkManager> Model for SeatDoor<'a, O, R, G> {
+    ghost use Rattle.bank_crew.specs.Doors.{DoorState};
+
+    ghost Value = { DoorState };
+
+    ghost use Rattle.bank_crew.specs.Doors.{IsCounted, door_state};
+
+    ghost view = { λ d. door_state d.caller d.marks d.faults d.managed };
+
+    ghost invariant = { λ d. IsCounted (door_state d.caller d.marks d.faults d.managed) d.answered d.carried };
+}
+
+impl<'a, O: Opening, R: Wait, G: LinkManager> SeatDoor<'a, O, R, G> {
     /// The door of this seat's link, at its set, whose number is only told to the gate. Its link is the seat's, which
     /// made no step yet, and what it makes are the seat's receipts, with those that it forgets. With `every` a checkpoint of
     /// the set is taken after so many of the door's steps each.
     pub fn new(
         rt: &'a R,
         alloc: Global,
-        set: &'a LinkSet<C, M, O, A>,
+        set: &'a LinkSet<O>,
         number: u16,
-        seat: TermSeat<C, M, O, A>,
+        seat: TermSeat<O>,
         gate: &'a G,
         managed: Option<Managed>,
         every: Option<u64>,
-    ) -> SeatDoor<'a, C, M, O, A, R, G>
+    ) -> SeatDoor<'a, O, R, G>
         requires receipts { seat.receipts ≡ [] }
         requires forgotten { seat.forgotten.calls ≡ 0 }
-        ensures seat { result.caller.seat ≡ seat }
-        ensures made { result.caller.all ≡ [] }
+        ensures seat { result.seat ≡ seat }
+        ensures made { result.all ≡ [] }
         ensures marks { result.marks ≡ [] }
         ensures faults { result.faults ≡ [] }
         ensures managed { result.managed ≡ managed }
@@ -94,38 +95,38 @@ impl<'a, C: Opening, M: Ledger, O: Ledger, A: Ledger, R: Wait, G: LinkManager> S
 
     /// What the set answered to the steps that were made through the door.
     pub fn answered(&self) -> Answered
-        ensures { result ≡ answered_in (link_in self.now.caller.seat.who) self.now.caller.all }
+        ensures { result ≡ answered_in (link_in self.now.seat.who) self.now.all }
     {
         self.answered
     }
 
     /// What the link carried by those steps.
     pub fn carried(&self) -> Carried
-        ensures carried { result ≡ carried_in self.now.managed (link_in self.now.caller.seat.who) self.now.caller.all }
-        ensures marks { are_marks (link_in self.now.caller.seat.who) self.now.caller.all self.now.marks ≡ true }
+        ensures carried { result ≡ carried_in self.now.managed (link_in self.now.seat.who) self.now.all }
+        ensures marks { are_marks (link_in self.now.seat.who) self.now.all self.now.marks ≡ true }
     {
         self.carried
     }
 
     /// The seat: what it forgot, and its receipts, are the steps that were made through the door.
-    pub fn into_seat(self) -> TermSeat<C, M, O, A>
-        ensures seat { result ≡ self.entry.caller.seat }
-        ensures all { AreAll result self.entry.caller.all }
+    pub fn into_seat(self) -> TermSeat<O>
+        ensures seat { result ≡ self.entry.seat }
+        ensures all { AreAll result self.entry.all }
     {
         self.caller.into_seat()
     }
 
     /// One step, which this mark tells: its answer is put into the reply.
     fn ask(&mut self, event: &EventRef<'_>, reply: &mut Reply, mark: u8) -> Result<(), SetFault>
-        requires own { IsOwn self.old.caller.seat.who (event_in event.now) }
+        requires own { IsOwn self.old.seat.who (event_in event.now) }
         requires fits { HasFitUnit event.now }
-        requires mark { is_mark (link_in self.old.caller.seat.who) (event_in event.now) mark ≡ true }
-        ensures ok { OnOk result ((self.new.caller.all ≡ self.old.caller.all
-            ++ record { who = self.old.caller.seat.who; event = event_in event.now; answer = reply.new } ∷ [])
+        requires mark { is_mark (link_in self.old.seat.who) (event_in event.now) mark ≡ true }
+        ensures ok { OnOk result ((self.new.all ≡ self.old.all
+            ++ record { who = self.old.seat.who; event = event_in event.now; answer = reply.new } ∷ [])
             × (self.new.marks ≡ self.old.marks ++ mark ∷ [])) }
-        ensures err { OnErr result ((self.new.caller.all ≡ self.old.caller.all)
+        ensures err { OnErr result ((self.new.all ≡ self.old.all)
             × (self.new.marks ≡ self.old.marks)) }
-        ensures who { self.new.caller.seat.who ≡ self.old.caller.seat.who }
+        ensures who { self.new.seat.who ≡ self.old.seat.who }
         ensures faults { self.new.faults ≡ self.old.faults }
         ensures managed { self.new.managed ≡ self.old.managed }
     {
@@ -144,9 +145,9 @@ impl<'a, C: Opening, M: Ledger, O: Ledger, A: Ledger, R: Wait, G: LinkManager> S
 
     /// Level 3 hears this answer, and may ask something of its own; it's no matter that memory is refused to that.
     fn follow(&mut self, event: &EventRef<'_>, answer: &AnswerRef<'_>)
-        ensures made { of_turns self.new.managed self.new.marks self.new.caller.all
-            ≡ of_turns self.old.managed self.old.marks self.old.caller.all }
-        ensures who { self.new.caller.seat.who ≡ self.old.caller.seat.who }
+        ensures made { of_turns self.new.managed self.new.marks self.new.all
+            ≡ of_turns self.old.managed self.old.marks self.old.all }
+        ensures who { self.new.seat.who ≡ self.old.seat.who }
         ensures faults { self.new.faults ≡ self.old.faults }
         ensures managed { self.new.managed ≡ self.old.managed }
     {
@@ -166,11 +167,11 @@ impl<'a, C: Opening, M: Ledger, O: Ledger, A: Ledger, R: Wait, G: LinkManager> S
     #[inline(never)]
     fn ask_more(&mut self, question: &EventRef<'_>)
         requires managed { IsSome self.old.managed }
-        requires question { is_question (link_in self.old.caller.seat.who) (event_in question.now) ≡ true }
+        requires question { is_question (link_in self.old.seat.who) (event_in question.now) ≡ true }
         requires fits { HasFitUnit question.now }
-        ensures made { of_turns self.new.managed self.new.marks self.new.caller.all
-            ≡ of_turns self.old.managed self.old.marks self.old.caller.all }
-        ensures who { self.new.caller.seat.who ≡ self.old.caller.seat.who }
+        ensures made { of_turns self.new.managed self.new.marks self.new.all
+            ≡ of_turns self.old.managed self.old.marks self.old.all }
+        ensures who { self.new.seat.who ≡ self.old.seat.who }
         ensures faults { self.new.faults ≡ self.old.faults }
         ensures managed { self.new.managed ≡ self.old.managed }
     {
@@ -187,16 +188,15 @@ impl<'a, C: Opening, M: Ledger, O: Ledger, A: Ledger, R: Wait, G: LinkManager> S
     }
 }
 
-impl<'a, C: Opening, M: Ledger, O: Ledger, A: Ledger, R: Wait, G: LinkManager> Door
-    for SeatDoor<'a, C, M, O, A, R, G> {
+impl<'a, O: Opening, R: Wait, G: LinkManager> Door for SeatDoor<'a, O, R, G> {
     ghost use Rattle.std.specs.Prelude.{◌≡◌, refl};
     ghost use Rattle.std.proofs.Common.{◌∙◌};
     ghost use Rattle.bank_crew.specs.Managing.{of_turns};
     ghost use Rattle.bank_crew.specs.Seats.{link_in};
 
-    ghost number = { λ door. link_in door.caller.seat.who };
+    ghost number = { λ door. link_in door.seat.who };
 
-    ghost made = { λ door. of_turns door.managed door.marks door.caller.all };
+    ghost made = { λ door. of_turns door.managed door.marks door.all };
 
     ghost faults = { λ door. door.faults };
 

@@ -4,7 +4,7 @@ ghost use Rattle.std.specs.Vec.Iter.{into_iter_items};
 ghost use Rattle.set_events.specs.declared.event.Actor.TheVariants.{User, Terminal};
 ghost use Rattle.set_ledger.specs.Ending.{IsFaithful};
 ghost use Rattle.set_ledger.specs.Seats.{new_seats};
-ghost use Rattle.set_ledger.specs.Totals.{AreParts, Names};
+ghost use Rattle.set_ledger.specs.Totals.{AreParts};
 ghost use Rattle.set_events.specs.declared.config.SetConfig.{SetConfig};
 ghost use Rattle.set_model.specs.State.{settings_of};
 ghost use Rattle.bank_crew.specs.Ends.{IsClosedAs, IsDone, IsEndOf, task_of};
@@ -27,7 +27,7 @@ use std::alloc::Global;
 use std::marker::Brand;
 use std::snapshot::Snapshot;
 use std::sync::Wait;
-use std::sync::ledger::{Blank, Ledger};
+use std::sync::ledger::Blank;
 use std::thread;
 use std::thread::{Scope, Threads};
 use std::time::Clock;
@@ -35,10 +35,10 @@ use std::vec::IntoIter;
 
 /// The seats of a set, with what is to be done at them.
 #[derive(Drop)]
-struct Seats<C: Opening, M: Ledger, O: Ledger, A: Ledger, L: Drop> {
-    users: Vec<UserSeat<C, M, O, A>>,
+struct Seats<O: Opening, L: Drop> {
+    users: Vec<UserSeat<O>>,
     jobs: Vec<Job>,
-    terminals: Vec<TermSeat<C, M, O, A>>,
+    terminals: Vec<TermSeat<O>>,
     lines: Vec<L>,
 }
 
@@ -64,29 +64,23 @@ pub fn one_set<
         octets: Blank::new(users),
         acknowledged: Blank::new(links),
     };
-    run_set::<Brand, Brand, Brand, Brand, L, G, R>(rt, alloc, work, blanks)
+    run_set::<Brand, L, G, R>(rt, alloc, work, blanks)
 }
 
 /// [`one_set`], with these blanks for the set's ledgers.
 fn run_set<
-    C: Opening + Send + Sync,
-    M: Ledger + Send + Sync,
-    O: Ledger + Send + Sync,
-    A: Ledger + Send + Sync,
+    O: Opening + Send + Sync,
     L: Line + Drop + Send,
     G: LinkManager + Drop + Send + Sync,
     R: Threads + Wait + Clock + Sync,
 >(rt: &R, alloc: Global, work: Work<L, G>, blanks: Blanks) -> Result<SetEnd, CrewFault>
-    requires calls { Names blanks.calls C.name C.parts }
-    requires messages { Names blanks.messages M.name M.parts }
-    requires octets { Names blanks.octets O.name O.parts }
-    requires acknowledged { Names blanks.acknowledged A.name A.parts }
-    requires parts { AreParts C.parts M.parts O.parts A.parts work.users work.config.links }
-    requires opening { settings_of work.config ≡ C.settings }
+    requires blanks { blanks ≡ O.blanks }
+    requires parts { AreParts O.blanks work.users work.config.links }
+    requires opening { settings_of work.config ≡ O.settings }
     ensures { IfOk result (IsDone (task_of work.config work.users (vec_len work.lines) (map duty_of work.jobs.items) work.orders.plan)) }
 {
     let config = work.config;
-    match LinkSet::<C, M, O, A>::create(alloc, &config, work.users, blanks) {
+    match LinkSet::<O>::create(alloc, &config, work.users, blanks) {
         Ok(opened) => run_opened(rt, alloc, opened, work),
         Err(_) => Err(CrewFault::NoMemory),
     }
@@ -94,17 +88,14 @@ fn run_set<
 
 /// Runs the terminals and users of a set that was opened, and closes it.
 fn run_opened<
-    C: Opening + Send + Sync,
-    M: Ledger + Send + Sync,
-    O: Ledger + Send + Sync,
-    A: Ledger + Send + Sync,
+    O: Opening + Send + Sync,
     L: Line + Drop + Send,
     G: LinkManager + Drop + Send + Sync,
     R: Threads + Wait + Clock + Sync,
->(rt: &R, alloc: Global, opened: Opened<C, M, O, A>, work: Work<L, G>) -> Result<SetEnd, CrewFault>
+>(rt: &R, alloc: Global, opened: Opened<O>, work: Work<L, G>) -> Result<SetEnd, CrewFault>
     requires users { opened.users.items ≡ new_seats User work.users }
     requires terminals { opened.terminals.items ≡ new_seats Terminal work.config.links }
-    requires opening { settings_of work.config ≡ C.settings }
+    requires opening { settings_of work.config ≡ O.settings }
     ensures { IfOk result (IsDone (task_of work.config work.users (vec_len work.lines) (map duty_of work.jobs.items) work.orders.plan)) }
 {
     let Opened {
@@ -132,11 +123,8 @@ fn run_opened<
 }
 
 /// What a set came to whose seats are gathered: it was opened with the settings that its type tells.
-fn end_set<C: Opening, M: Ledger, O: Ledger, A: Ledger>(
-    set: LinkSet<C, M, O, A>,
-    gathered: Gathered<C, M, O, A>,
-) -> Result<SetEnd, CrewFault>
-    ensures closed { (config : SetConfig) → settings_of config ≡ C.settings → IfOk result (IsEndOf config) }
+fn end_set<O: Opening>(set: LinkSet<O>, gathered: Gathered<O>) -> Result<SetEnd, CrewFault>
+    ensures closed { (config : SetConfig) → settings_of config ≡ O.settings → IfOk result (IsEndOf config) }
     ensures users { IfOk result (λ end. (end.users.items ≡ gathered.user_ends.items)
         × All (IsFaithful end.closed.base.books end.closed.history.items) gathered.users.items) }
     ensures terminals { IfOk result (λ end. All (IsFaithful end.closed.base.books end.closed.history.items) gathered.terminals.items) }
@@ -157,12 +145,12 @@ fn end_set<C: Opening, M: Ledger, O: Ledger, A: Ledger>(
 }
 
 /// Closes a set whose seats are gathered.
-fn close<C: Opening, M: Ledger, O: Ledger, A: Ledger>(
-    set: LinkSet<C, M, O, A>,
-    users: Vec<UserSeat<C, M, O, A>>,
-    terminals: Vec<TermSeat<C, M, O, A>>,
+fn close<O: Opening>(
+    set: LinkSet<O>,
+    users: Vec<UserSeat<O>>,
+    terminals: Vec<TermSeat<O>>,
 ) -> Result<Closed, CrewFault>
-    ensures closed { (config : SetConfig) → settings_of config ≡ C.settings → IfOk result (IsClosedAs config) }
+    ensures closed { (config : SetConfig) → settings_of config ≡ O.settings → IfOk result (IsClosedAs config) }
     ensures users { IfOk result (λ closed. All (IsFaithful closed.base.books closed.history.items) users.items) }
     ensures terminals { IfOk result (λ closed. All (IsFaithful closed.base.books closed.history.items) terminals.items) }
 {
@@ -175,20 +163,17 @@ fn close<C: Opening, M: Ledger, O: Ledger, A: Ledger>(
 /// Runs each user with its job and each terminal with its line, in threads of their own, until all have ended. A seat
 /// without a job or a line comes back as it is.
 fn run_seats<
-    C: Opening + Send + Sync,
-    M: Ledger + Send + Sync,
-    O: Ledger + Send + Sync,
-    A: Ledger + Send + Sync,
+    O: Opening + Send + Sync,
     L: Line + Drop + Send,
     G: LinkManager + Drop + Send + Sync,
     R: Threads + Wait + Clock + Sync,
 >(
     rt: &R,
     alloc: Global,
-    set: &LinkSet<C, M, O, A>,
-    seats: Seats<C, M, O, A, L>,
+    set: &LinkSet<O>,
+    seats: Seats<O, L>,
     orders: &Orders<G>,
-) -> Result<Gathered<C, M, O, A>, CrewFault>
+) -> Result<Gathered<O>, CrewFault>
     requires users { AreNew User 0 seats.users.items }
     requires terminals { AreNew Terminal 0 seats.terminals.items }
     ensures users { IfOk result (λ all.
@@ -199,7 +184,7 @@ fn run_seats<
     thread::scope(
         thread::scope_env(),
         rt,
-        |scope| -> Result<Gathered<C, M, O, A>, CrewFault>
+        |scope| -> Result<Gathered<O>, CrewFault>
             requires users { AreNew User 0 seats.users.items }
             requires terminals { AreNew Terminal 0 seats.terminals.items }
             ensures users { IfOk result (λ all.
@@ -219,10 +204,7 @@ fn run_seats<
 fn start_all<
     's,
     'e: 's,
-    C: Opening + Send + Sync + 's,
-    M: Ledger + Send + Sync + 's,
-    O: Ledger + Send + Sync + 's,
-    A: Ledger + Send + Sync + 's,
+    O: Opening + Send + Sync + 's,
     L: Line + Drop + Send + 's,
     G: LinkManager + Drop + Send + Sync + 's,
     R: Threads + Wait + Clock + Sync + 's,
@@ -230,10 +212,10 @@ fn start_all<
     scope: &'s Scope<'s, &'e ()>,
     rt: &'s R,
     alloc: Global,
-    set: &'s LinkSet<C, M, O, A>,
-    seats: Seats<C, M, O, A, L>,
+    set: &'s LinkSet<O>,
+    seats: Seats<O, L>,
     orders: &'s Orders<G>,
-) -> Result<Crew<C, M, O, A>, CrewFault>
+) -> Result<Crew<O>, CrewFault>
     requires users { AreNew User 0 seats.users.items }
     requires terminals { AreNew Terminal 0 seats.terminals.items }
     ensures users { IfOk result (λ crew. PromiseJobs (length seats.users.items) (map duty_of seats.jobs.items)
@@ -261,10 +243,7 @@ fn start_all<
 fn start_terminals<
     's,
     'e: 's,
-    C: Opening + Send + Sync + 's,
-    M: Ledger + Send + Sync + 's,
-    O: Ledger + Send + Sync + 's,
-    A: Ledger + Send + Sync + 's,
+    O: Opening + Send + Sync + 's,
     L: Line + Drop + Send + 's,
     G: LinkManager + Drop + Send + Sync + 's,
     R: Threads + Wait + Clock + Sync + 's,
@@ -272,11 +251,11 @@ fn start_terminals<
     scope: &'s Scope<'s, &'e ()>,
     rt: &'s R,
     alloc: Global,
-    set: &'s LinkSet<C, M, O, A>,
-    seats: &mut IntoIter<TermSeat<C, M, O, A>, Global>,
+    set: &'s LinkSet<O>,
+    seats: &mut IntoIter<TermSeat<O>, Global>,
     lines: Vec<L>,
     orders: &'s Orders<G>,
-) -> Result<Vec<TermThread<C, M, O, A>>, CrewFault>
+) -> Result<Vec<TermThread<O>>, CrewFault>
     requires { AreNew Terminal 0 (into_iter_items seats.old) }
     ensures { IfOk result (λ threads. PromiseShifts (vec_len lines) (length (into_iter_items seats.old))
         orders.now.plan (map (λ thread. thread.promise) threads.items) (into_iter_items seats.new)) }
@@ -308,21 +287,18 @@ fn start_terminals<
 fn start_users<
     's,
     'e: 's,
-    C: Opening + Send + Sync + 's,
-    M: Ledger + Send + Sync + 's,
-    O: Ledger + Send + Sync + 's,
-    A: Ledger + Send + Sync + 's,
+    O: Opening + Send + Sync + 's,
     G: LinkManager + Drop + Send + Sync + 's,
     R: Threads + Wait + Clock + Sync + 's,
 >(
     scope: &'s Scope<'s, &'e ()>,
     rt: &'s R,
     alloc: Global,
-    set: &'s LinkSet<C, M, O, A>,
-    seats: Vec<UserSeat<C, M, O, A>>,
+    set: &'s LinkSet<O>,
+    seats: Vec<UserSeat<O>>,
     jobs: Vec<Job>,
     orders: &'s Orders<G>,
-) -> Result<Vec<UserThread<C, M, O, A>>, CrewFault>
+) -> Result<Vec<UserThread<O>>, CrewFault>
     requires { AreNew User 0 seats.items }
     ensures { IfOk result (λ threads. PromiseJobs (length seats.items) (map duty_of jobs.items)
         (map (λ thread. thread.promise) threads.items)) }

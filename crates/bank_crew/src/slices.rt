@@ -11,25 +11,14 @@ use line_ring::Line;
 use link_term::{Command, Door, Gate, TermFault, TermReport, Terminal};
 use set_shared::{LinkSet, Opening};
 use std::sync::Wait;
-use std::sync::ledger::Ledger;
 
 /// How many turns a managed terminal takes before it's told anew what to do.
 const SLICE: u64 = 256;
 
 /// Turns by slices, each behind what the gate orders, until it ends them, or all turns of the plan were taken.
-pub(crate) fn managed_turns<
-    C: Opening,
-    M: Ledger,
-    O: Ledger,
-    A: Ledger,
-    D: Door,
-    L: Line,
-    T: Gate,
-    G: LinkManager,
-    R: Wait,
->(
+pub(crate) fn managed_turns<O: Opening, D: Door, L: Line, T: Gate, G: LinkManager, R: Wait>(
     rt: &R,
-    set: &LinkSet<C, M, O, A>,
+    set: &LinkSet<O>,
     orders: &Orders<G>,
     link: u8,
     terminal: &mut Terminal<D, L, T>,

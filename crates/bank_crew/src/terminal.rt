@@ -19,7 +19,6 @@ use link_term::{Command, Door, Gate, TermFault, TermReport, Terminal};
 use set_shared::{LinkSet, Opening, TermSeat};
 use std::alloc::Global;
 use std::sync::Wait;
-use std::sync::ledger::Ledger;
 use std::thread::Promise;
 
 /// What the thread of the terminal of this link promises: its seat's entries are those of this plan's turns.
@@ -29,7 +28,7 @@ pub(crate) struct ShiftOf {
     pub(crate) plan: Plan,
 }
 
-impl<C: Opening, M: Ledger, O: Ledger, A: Ledger> Promise<TermEnd<C, M, O, A>> for ShiftOf {
+impl<O: Opening> Promise<TermEnd<O>> for ShiftOf {
     ghost use Rattle.bank_crew.specs.Keeping.{KeepsShift};
 
     ghost kept_by = { KeepsShift };
@@ -37,37 +36,19 @@ impl<C: Opening, M: Ledger, O: Ledger, A: Ledger> Promise<TermEnd<C, M, O, A>> f
 
 /// A terminal's seat at its set, and the line over which it runs.
 #[derive(Drop)]
-pub(crate) struct TermShift<
-    'a,
-    C: Opening,
-    M: Ledger,
-    O: Ledger,
-    A: Ledger,
-    L: Line + Drop,
-    G: LinkManager,
-    R: Wait,
-> {
+pub(crate) struct TermShift<'a, O: Opening, L: Line + Drop, G: LinkManager, R: Wait> {
     pub(crate) rt: &'a R,
     pub(crate) alloc: Global,
-    pub(crate) set: &'a LinkSet<C, M, O, A>,
-    pub(crate) seat: TermSeat<C, M, O, A>,
+    pub(crate) set: &'a LinkSet<O>,
+    pub(crate) seat: TermSeat<O>,
     pub(crate) line: L,
     pub(crate) orders: &'a Orders<G>,
 }
 
-impl<
-    'a,
-    C: Opening,
-    M: Ledger,
-    O: Ledger,
-    A: Ledger,
-    L: Line + Drop,
-    G: LinkManager,
-    R: Wait,
-> TermShift<'a, C, M, O, A, L, G, R> {
+impl<'a, O: Opening, L: Line + Drop, G: LinkManager, R: Wait> TermShift<'a, O, L, G, R> {
     /// The terminal of the seat's link is told to come up in an emergency, and takes all its turns over the line. After
     /// a fault its seat comes back too.
-    pub(crate) fn work(self) -> TermEnd<C, M, O, A>
+    pub(crate) fn work(self) -> TermEnd<O>
         requires receipts { self.seat.receipts ≡ [] }
         requires forgotten { self.seat.forgotten.calls ≡ 0 }
         ensures who { result.seat.who ≡ self.entry.seat.who }
@@ -114,19 +95,9 @@ impl<
 }
 
 /// The turns of a plan: by slices where links are managed.
-fn planned_turns<
-    C: Opening,
-    M: Ledger,
-    O: Ledger,
-    A: Ledger,
-    D: Door,
-    L: Line,
-    T: Gate,
-    G: LinkManager,
-    R: Wait,
->(
+fn planned_turns<O: Opening, D: Door, L: Line, T: Gate, G: LinkManager, R: Wait>(
     rt: &R,
-    set: &LinkSet<C, M, O, A>,
+    set: &LinkSet<O>,
     orders: &Orders<G>,
     link: u8,
     terminal: &mut Terminal<D, L, T>,

@@ -18,7 +18,6 @@ use set_shared::{LinkSet, Opening, UserSeat};
 use std::alloc::Global;
 use std::snapshot::Snapshot;
 use std::sync::Wait;
-use std::sync::ledger::Ledger;
 use std::thread;
 use std::thread::Promise;
 use std::time::{Clock, Duration};
@@ -30,45 +29,29 @@ pub(crate) struct JobOf {
     pub(crate) job: Snapshot<Job>,
 }
 
-impl<C: Opening, M: Ledger, O: Ledger, A: Ledger> Promise<UserEnd<C, M, O, A>> for JobOf {
+impl<O: Opening> Promise<UserEnd<O>> for JobOf {
     ghost use Rattle.bank_crew.specs.Keeping.{KeepsJob};
 
     ghost kept_by = { KeepsJob };
 }
 
 /// A user's seat, with all that was asked at it.
-pub(crate) type UserCaller<C, M, O, A> = Caller<C, M, O, A, UserSeat<C, M, O, A>>;
+pub(crate) type UserCaller<O> = Caller<O, UserSeat<O>>;
 
 /// A user's seat at its set, and the job that is to be done there.
 #[derive(Drop)]
-pub(crate) struct UserShift<
-    'a,
-    C: Opening,
-    M: Ledger,
-    O: Ledger,
-    A: Ledger,
-    G: LinkManager,
-    R: Wait + Clock,
-> {
+pub(crate) struct UserShift<'a, O: Opening, G: LinkManager, R: Wait + Clock> {
     pub(crate) rt: &'a R,
     pub(crate) alloc: Global,
-    pub(crate) set: &'a LinkSet<C, M, O, A>,
-    pub(crate) seat: UserSeat<C, M, O, A>,
+    pub(crate) set: &'a LinkSet<O>,
+    pub(crate) seat: UserSeat<O>,
     pub(crate) job: Job,
     pub(crate) orders: &'a Orders<G>,
 }
 
-impl<'a, C: Opening, M: Ledger, O: Ledger, A: Ledger, G: LinkManager, R: Wait + Clock> UserShift<
-    'a,
-    C,
-    M,
-    O,
-    A,
-    G,
-    R,
-> {
+impl<'a, O: Opening, G: LinkManager, R: Wait + Clock> UserShift<'a, O, G, R> {
     /// The user does its job. It ends at the first fault of the set, or at a number that was accepted and isn't found.
-    pub(crate) fn work(self) -> UserEnd<C, M, O, A>
+    pub(crate) fn work(self) -> UserEnd<O>
         requires receipts { self.seat.receipts ≡ [] }
         requires forgotten { self.seat.forgotten.calls ≡ 0 }
         ensures who { result.seat.who ≡ self.entry.seat.who }
@@ -91,11 +74,11 @@ impl<'a, C: Opening, M: Ledger, O: Ledger, A: Ledger, G: LinkManager, R: Wait + 
 }
 
 /// Does this job.
-fn do_job<C: Opening, M: Ledger, O: Ledger, A: Ledger, G: LinkManager, R: Wait + Clock>(
+fn do_job<O: Opening, G: LinkManager, R: Wait + Clock>(
     rt: &R,
     alloc: Global,
-    set: &LinkSet<C, M, O, A>,
-    caller: &mut UserCaller<C, M, O, A>,
+    set: &LinkSet<O>,
+    caller: &mut UserCaller<O>,
     job: &Job,
     orders: &Orders<G>,
 ) -> Result<UserReport, UserFault>
@@ -124,10 +107,10 @@ fn nothing_kept(alloc: Global, ended: Result<(), UserFault>) -> Result<UserRepor
 }
 
 /// Offers all of these bodies, and finds each one that was accepted.
-fn offer_all<C: Opening, M: Ledger, O: Ledger, A: Ledger, G: LinkManager, R: Wait + Clock>(
+fn offer_all<O: Opening, G: LinkManager, R: Wait + Clock>(
     rt: &R,
-    set: &LinkSet<C, M, O, A>,
-    caller: &mut UserCaller<C, M, O, A>,
+    set: &LinkSet<O>,
+    caller: &mut UserCaller<O>,
     bodies: &[Vec<u8>],
     orders: &Orders<G>,
 ) -> Result<(), UserFault>
@@ -147,10 +130,10 @@ fn offer_all<C: Opening, M: Ledger, O: Ledger, A: Ledger, G: LinkManager, R: Wai
 }
 
 /// Offers a message of these octets, and finds it where it was accepted.
-fn offer_one<C: Opening, M: Ledger, O: Ledger, A: Ledger, G: LinkManager, R: Wait + Clock>(
+fn offer_one<O: Opening, G: LinkManager, R: Wait + Clock>(
     rt: &R,
-    set: &LinkSet<C, M, O, A>,
-    caller: &mut UserCaller<C, M, O, A>,
+    set: &LinkSet<O>,
+    caller: &mut UserCaller<O>,
     octets: &[u8],
     orders: &Orders<G>,
 ) -> Result<(), UserFault>
@@ -166,10 +149,10 @@ fn offer_one<C: Opening, M: Ledger, O: Ledger, A: Ledger, G: LinkManager, R: Wai
 }
 
 /// Finds the message that was accepted under this number.
-fn find_one<C: Opening, M: Ledger, O: Ledger, A: Ledger, G: LinkManager, R: Wait + Clock>(
+fn find_one<O: Opening, G: LinkManager, R: Wait + Clock>(
     rt: &R,
-    set: &LinkSet<C, M, O, A>,
-    caller: &mut UserCaller<C, M, O, A>,
+    set: &LinkSet<O>,
+    caller: &mut UserCaller<O>,
     number: u64,
     orders: &Orders<G>,
 ) -> Result<(), UserFault>
@@ -181,10 +164,10 @@ fn find_one<C: Opening, M: Ledger, O: Ledger, A: Ledger, G: LinkManager, R: Wait
 }
 
 /// Asks so often for the oldest message that was heard.
-fn take_often<C: Opening, M: Ledger, O: Ledger, A: Ledger, G: LinkManager, R: Wait + Clock>(
+fn take_often<O: Opening, G: LinkManager, R: Wait + Clock>(
     rt: &R,
-    set: &LinkSet<C, M, O, A>,
-    caller: &mut UserCaller<C, M, O, A>,
+    set: &LinkSet<O>,
+    caller: &mut UserCaller<O>,
     times: u32,
     orders: &Orders<G>,
 ) -> Result<(), UserFault>
@@ -203,10 +186,10 @@ fn take_often<C: Opening, M: Ledger, O: Ledger, A: Ledger, G: LinkManager, R: Wa
 }
 
 /// Asks for the oldest message that was heard.
-fn take_one<C: Opening, M: Ledger, O: Ledger, A: Ledger, G: LinkManager, R: Wait + Clock>(
+fn take_one<O: Opening, G: LinkManager, R: Wait + Clock>(
     rt: &R,
-    set: &LinkSet<C, M, O, A>,
-    caller: &mut UserCaller<C, M, O, A>,
+    set: &LinkSet<O>,
+    caller: &mut UserCaller<O>,
     orders: &Orders<G>,
 ) -> Result<(), UserFault>
     ensures who { caller.new.seat.who ≡ caller.old.seat.who }

@@ -15,7 +15,7 @@ use set_ledger::{
 };
 use std::alloc::{Allocator, Global};
 use std::marker::Brand;
-use std::sync::ledger::{Blank, Ledger};
+use std::sync::ledger::Blank;
 use std::test::Fail;
 use test_refusing::Refusing;
 
@@ -70,7 +70,7 @@ fn is_right(refusing: &Refusing<Global>, alloc: Global) -> bool {
         return false;
     };
     for _ in 0..TRIES {
-        match goes::<Brand, Brand, Brand, Brand>(refusing, alloc, &config, blanks()) {
+        match goes::<Brand>(refusing, alloc, &config, blanks()) {
             Try::Right => return true,
             Try::Refused => {}
             Try::Wrong => return false,
@@ -79,23 +79,20 @@ fn is_right(refusing: &Refusing<Global>, alloc: Global) -> bool {
     false
 }
 
-fn goes<C: Opening, M: Ledger, O: Ledger, A: Ledger>(
+fn goes<O: Opening>(
     refusing: &Refusing<Global>,
     alloc: Global,
     config: &SetConfig,
     blanks: Blanks,
 ) -> Try
-    requires calls { (blanks.calls.name ≡ C.name) × (blanks.calls.parts ≡ C.parts) }
-    requires messages { (blanks.messages.name ≡ M.name) × (blanks.messages.parts ≡ M.parts) }
-    requires octets { (blanks.octets.name ≡ O.name) × (blanks.octets.parts ≡ O.parts) }
-    requires acknowledged { (blanks.acknowledged.name ≡ A.name) × (blanks.acknowledged.parts ≡ A.parts) }
-    requires parts { AreParts C.parts M.parts O.parts A.parts 1 config.now.links }
-    requires opening { settings_of config.now ≡ C.settings }
+    requires blanks { blanks ≡ O.blanks }
+    requires parts { AreParts O.blanks 1 config.now.links }
+    requires opening { settings_of config.now ≡ O.settings }
 {
     let Some(mut twin) = opened(alloc) else {
         return Try::Wrong;
     };
-    match Held::<C, M, O, A, &Refusing<Global>>::open(refusing, config, 1, blanks) {
+    match Held::<O, &Refusing<Global>>::open(refusing, config, 1, blanks) {
         Ok(opened) => told(is_asked(alloc, opened, &mut twin)),
         Err(CreateFault::NoMemory) if refusing.blocks() == 0 => Try::Refused,
         Err(_) => Try::Wrong,
@@ -107,9 +104,9 @@ fn told(is_right: bool) -> Try {
 }
 
 /// The seats make their steps, and forget them once a checkpoint was made.
-fn is_asked<C: Opening, M: Ledger, O: Ledger, A: Ledger, G: Allocator + Copy>(
+fn is_asked<O: Opening, G: Allocator + Copy>(
     alloc: Global,
-    opened: Opened<C, M, O, A, G>,
+    opened: Opened<O, G>,
     twin: &mut SetCore,
 ) -> bool {
     let Opened {
@@ -126,11 +123,11 @@ fn is_asked<C: Opening, M: Ledger, O: Ledger, A: Ledger, G: Allocator + Copy>(
 }
 
 /// The seat whose the event is makes the step, and the twin answers the same.
-fn goes_alike<C: Opening, M: Ledger, O: Ledger, A: Ledger, G: Allocator + Copy>(
+fn goes_alike<O: Opening, G: Allocator + Copy>(
     alloc: Global,
-    held: &mut Held<C, M, O, A, G>,
-    users: &mut [UserSeat<C, M, O, A, G>],
-    terminals: &mut [TermSeat<C, M, O, A, G>],
+    held: &mut Held<O, G>,
+    users: &mut [UserSeat<O, G>],
+    terminals: &mut [TermSeat<O, G>],
     twin: &mut SetCore,
     ask: Ask,
 ) -> bool {
@@ -162,8 +159,8 @@ fn answers(twin: &mut SetCore, who: Actor, event: &Event, reply: &Reply) -> bool
 
 /// The seat makes the step, and has a receipt more; while that is refused, the set is as its twin, of which nothing was
 /// asked yet, and the seat as it was.
-fn steps<C: Opening, M: Ledger, O: Ledger, A: Ledger, G: Allocator + Copy, S: Seat<C, M, O, A>>(
-    held: &mut Held<C, M, O, A, G>,
+fn steps<O: Opening, G: Allocator + Copy, S: Seat<O>>(
+    held: &mut Held<O, G>,
     seat: &mut S,
     twin: &SetCore,
     event: &Event,
@@ -210,10 +207,7 @@ fn is_own(who: Actor, event: &Event) -> bool
 }
 
 /// All readers of the set tell what its twin's do, and the ledgers' books say the same.
-fn are_held_alike<C: Opening, M: Ledger, O: Ledger, A: Ledger, G: Allocator + Copy>(
-    held: &Held<C, M, O, A, G>,
-    twin: &SetCore,
-) -> bool {
+fn are_held_alike<O: Opening, G: Allocator + Copy>(held: &Held<O, G>, twin: &SetCore) -> bool {
     let (totals, books) = (held.totals(), twin.books());
     are_alike(held.core(), twin)
         && held.users() == 1
@@ -225,17 +219,11 @@ fn are_held_alike<C: Opening, M: Ledger, O: Ledger, A: Ledger, G: Allocator + Co
 }
 
 /// Both make what they hold their base; while that is refused, the set is as its twin.
-fn is_based<C: Opening, M: Ledger, O: Ledger, A: Ledger, G: Allocator + Copy>(
-    held: &mut Held<C, M, O, A, G>,
-    twin: &mut SetCore,
-) -> bool {
+fn is_based<O: Opening, G: Allocator + Copy>(held: &mut Held<O, G>, twin: &mut SetCore) -> bool {
     makes_base(held, twin) && bases(twin) && are_held_alike(held, twin)
 }
 
-fn makes_base<C: Opening, M: Ledger, O: Ledger, A: Ledger, G: Allocator + Copy>(
-    held: &mut Held<C, M, O, A, G>,
-    twin: &SetCore,
-) -> bool {
+fn makes_base<O: Opening, G: Allocator + Copy>(held: &mut Held<O, G>, twin: &SetCore) -> bool {
     for _ in 0..TRIES {
         match held.checkpoint() {
             Ok(()) => return true,
@@ -246,10 +234,10 @@ fn makes_base<C: Opening, M: Ledger, O: Ledger, A: Ledger, G: Allocator + Copy>(
     false
 }
 
-fn all_forget<C: Opening, M: Ledger, O: Ledger, A: Ledger, G: Allocator + Copy>(
-    held: &Held<C, M, O, A, G>,
-    users: &mut [UserSeat<C, M, O, A, G>],
-    terminals: &mut [TermSeat<C, M, O, A, G>],
+fn all_forget<O: Opening, G: Allocator + Copy>(
+    held: &Held<O, G>,
+    users: &mut [UserSeat<O, G>],
+    terminals: &mut [TermSeat<O, G>],
 ) -> bool {
     for seat in users.iter_mut() {
         if !forgets(held, seat) {
@@ -265,10 +253,7 @@ fn all_forget<C: Opening, M: Ledger, O: Ledger, A: Ledger, G: Allocator + Copy>(
 }
 
 /// The seat forgets all its receipts, and nothing of its share; while that is refused, it is as it was.
-fn forgets<C: Opening, M: Ledger, O: Ledger, A: Ledger, G: Allocator + Copy, S: Seat<C, M, O, A>>(
-    held: &Held<C, M, O, A, G>,
-    seat: &mut S,
-) -> bool {
+fn forgets<O: Opening, G: Allocator + Copy, S: Seat<O>>(held: &Held<O, G>, seat: &mut S) -> bool {
     let (share, receipts) = (seat.share(), seat.receipts().len());
     for _ in 0..TRIES {
         match forget(held, seat) {

@@ -1,8 +1,10 @@
 -- WHAT A SET WAS OPENED WITH, and what it stays from then on.
 use Rattle.std.specs.Prelude.{◌≡◌, ◌≤◌, List, [], ◌∷◌}
+use Rattle.std.specs.declared.sync.ledger.Blank.{Blank}
 use Rattle.l2_units.specs.declared.profile.Profile.TheVariants.{Narrow}
 use Rattle.set_events.specs.declared.config.Method.TheVariants.{Basic}
 use Rattle.set_events.specs.declared.history.Entry.{Entry}
+use Rattle.set_ledger.specs.declared.share.Blanks.{Blanks}
 use Rattle.set_model.specs.Checkpoint.{checkpointed}
 use Rattle.set_model.specs.State.{Settings, opened_with}
 use Rattle.set_model.specs.History.{Base, LinkSet, IsLegal, after, books_of, entries_in, longest_history, no_books}
@@ -38,5 +40,11 @@ pub record IsSetOf (settings : Settings) (set : LinkSet) : Type 0 where
   pub short : entries_in set ≤ longest_history
 
 -- where nobody picks: no set has them
+abbrev pub no_blank : Blank
+no_blank = record { marker = record {}; name = 0; parts = 0 }
+
+abbrev pub no_blanks : Blanks
+no_blanks = record { calls = no_blank; messages = no_blank; octets = no_blank; acknowledged = no_blank }
+
 abbrev pub no_settings : Settings
 no_settings = record { set = 0; links = 0; method = Basic; profile = Narrow; sio = 0; dpc = 0; opc = 0 }

@@ -1,12 +1,12 @@
 -- THE TOTALS of a set: what its ledgers' books say, which is what its history adds up to.
 use Rattle.std.specs.Prelude.{◌≡◌, ◌+◌, ◌*◌, ◌≤◌, ℕ, [], Vec, vec_len, vec_capacity}
-use Rattle.std.specs.declared.sync.ledger.Blank.{Blank}
 use Rattle.set_events.specs.declared.answer.Answer.{Answer}
 use Rattle.set_events.specs.declared.event.Actor.{Actor}
 use Rattle.set_events.specs.declared.event.Actor.TheVariants.{User, Terminal}
 use Rattle.set_events.specs.declared.event.Event.{Event}
 use Rattle.set_model.specs.History.{LinkSet, books_in, entries_in, longest_history}
 use Rattle.set_model.specs.Step.{messages_in, octets_of}
+use Rattle.set_ledger.specs.declared.share.Blanks.{Blanks}
 use Rattle.set_ledger.specs.declared.share.SeatShare.{SeatShare}
 use Rattle.set_ledger.specs.Seats.{acked_in}
 
@@ -50,17 +50,13 @@ pub record Gains (old : LinkSet) (who : Actor) (event : Event) (answer : Answer)
   pub few_octets : (books_in new).octets ≤ 273 * longest_history
   pub few_acknowledged : acked_in new ≤ longest_history
 
--- this blank is of the ledger of that name, cut into so many parts
-abbrev pub Names : Blank → ℕ → ℕ → Type 0
-Names blank name parts = (blank.name ≡ name) × (blank.parts ≡ parts)
-
 -- each seat has one part of each ledger that it moves: calls are everybody's, messages and octets the users',
 -- acknowledgements the terminals'
-pub record AreParts (calls messages octets acknowledged : ℕ) (users links : ℕ) : Type 0 where
-  pub calls_cut : calls ≡ users + links
-  pub messages_cut : messages ≡ users
-  pub octets_cut : octets ≡ users
-  pub acknowledged_cut : acknowledged ≡ links
+pub record AreParts (blanks : Blanks) (users links : ℕ) : Type 0 where
+  pub calls_cut : blanks.calls.parts ≡ users + links
+  pub messages_cut : blanks.messages.parts ≡ users
+  pub octets_cut : blanks.octets.parts ≡ users
+  pub acknowledged_cut : blanks.acknowledged.parts ≡ links
 
 -- nothing yet, and room for so many
 pub record IsRoom {T Z : Type 0} (seats : Vec T Z) (many : ℕ) : Type 0 where

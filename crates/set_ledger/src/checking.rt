@@ -7,13 +7,9 @@ use super::opening::Opening;
 use super::seat::{Seat, TermSeat, UserSeat};
 use set_events::{Actor, Books};
 use set_history::{Reader, Told};
-use std::sync::ledger::Ledger;
 
 /// Whether these are one seat for each of so many users, and no other.
-pub(crate) fn are_users<C: Opening, M: Ledger, O: Ledger, A: Ledger>(
-    seats: &[UserSeat<C, M, O, A>],
-    users: u16,
-) -> bool
+pub(crate) fn are_users<O: Opening>(seats: &[UserSeat<O>], users: u16) -> bool
     ensures { result ≡ are_seats (λ seat. seat) User users seats.now }
 {
     if seats.len() != usize::from(users) {
@@ -21,16 +17,13 @@ pub(crate) fn are_users<C: Opening, M: Ledger, O: Ledger, A: Ledger>(
     }
     let mut all = true;
     for number in 0..users {
-        all = all && has_seat_of::<C, M, O, A, UserSeat<C, M, O, A>>(seats, Actor::User(number));
+        all = all && has_seat_of::<O, UserSeat<O>>(seats, Actor::User(number));
     }
     all
 }
 
 /// Whether these are one seat for the terminal of each of so many links, and no other.
-pub(crate) fn are_terminals<C: Opening, M: Ledger, O: Ledger, A: Ledger>(
-    seats: &[TermSeat<C, M, O, A>],
-    links: u8,
-) -> bool
+pub(crate) fn are_terminals<O: Opening>(seats: &[TermSeat<O>], links: u8) -> bool
     ensures { result ≡ are_seats (λ seat. seat) Terminal links seats.now }
 {
     if seats.len() != usize::from(links) {
@@ -38,16 +31,13 @@ pub(crate) fn are_terminals<C: Opening, M: Ledger, O: Ledger, A: Ledger>(
     }
     let mut all = true;
     for link in 0..links {
-        all = all && has_seat_of::<C, M, O, A, TermSeat<C, M, O, A>>(seats, Actor::Terminal(link));
+        all = all && has_seat_of::<O, TermSeat<O>>(seats, Actor::Terminal(link));
     }
     all
 }
 
 /// Whether one of these seats is this actor's.
-fn has_seat_of<C: Opening, M: Ledger, O: Ledger, A: Ledger, S: Seat<C, M, O, A>>(
-    seats: &[S],
-    who: Actor,
-) -> bool
+fn has_seat_of<O: Opening, S: Seat<O>>(seats: &[S], who: Actor) -> bool
     ensures { result ≡ has_seat S.state who seats.now }
 {
     for seat in seats {
@@ -60,7 +50,7 @@ fn has_seat_of<C: Opening, M: Ledger, O: Ledger, A: Ledger, S: Seat<C, M, O, A>>
 
 /// Whether the receipts of each of these seats end with its entries of the history since a base, in order, and those
 /// before them are, with what it forgot, as many as the base's books say.
-pub(crate) fn are_faithful<C: Opening, M: Ledger, O: Ledger, A: Ledger, S: Seat<C, M, O, A>>(
+pub(crate) fn are_faithful<O: Opening, S: Seat<O>>(
     books: &Books,
     history: &Reader<'_>,
     seats: &[S],

@@ -6,12 +6,12 @@ ghost use Rattle.set_ledger.specs.Openings.{IsBaseOf};
 
 use super::checking::{are_faithful, are_terminals, are_users};
 use super::held::{Held, Rest};
-use super::opening::Opening;
+use super::opening::{Acknowledged, Calls, Messages, Octets, Opening};
 use super::seat::{TermSeat, UserSeat};
 use set_core::Base;
 use set_events::{Books, Counts, SetConfig};
 use set_history::History;
-use std::sync::ledger::{Ledger, Share};
+use std::sync::ledger::Share;
 
 /// A set that came to its end, with its totals.
 #[derive(Drop)]
@@ -30,23 +30,23 @@ pub struct Closed {
 
 /// A set that didn't come to its end, and the seats that were handed in.
 #[derive(Drop)]
-pub struct Back<C: Opening, M: Ledger, O: Ledger, A: Ledger> {
-    pub held: Held<C, M, O, A>,
-    pub users: Vec<UserSeat<C, M, O, A>>,
-    pub terminals: Vec<TermSeat<C, M, O, A>>,
+pub struct Back<O: Opening> {
+    pub held: Held<O>,
+    pub users: Vec<UserSeat<O>>,
+    pub terminals: Vec<TermSeat<O>>,
 }
 
 /// Why a set can't end. It is handed back with all seats.
 #[derive(Drop)]
-pub enum EndFault<C: Opening, M: Ledger, O: Ledger, A: Ledger> {
+pub enum EndFault<O: Opening> {
     /// 1: a seat of the set isn't there. It's tested first.
-    Missing(Back<C, M, O, A>),
+    Missing(Back<O>),
     /// 2: the receipts of a seat don't end with its entries of the history, or aren't, with those that it forgot, as many
     /// as its calls.
-    Strange(Back<C, M, O, A>),
+    Strange(Back<O>),
 }
 
-impl<C: Opening, M: Ledger, O: Ledger, A: Ledger> EndFault<C, M, O, A> {
+impl<O: Opening> EndFault<O> {
     /// The fault's number: 1 a seat is missing, 2 its receipts are strange.
     pub fn number(&self) -> u8
         ensures missing { (back : _) → self.now ≡ EndFault.Missing back → result ≡ 1 }
@@ -59,7 +59,7 @@ impl<C: Opening, M: Ledger, O: Ledger, A: Ledger> EndFault<C, M, O, A> {
     }
 }
 
-impl<C: Opening, M: Ledger, O: Ledger, A: Ledger> Held<C, M, O, A> {
+impl<O: Opening> Held<O> {
     /// Ends a set with all its seats: the history is legal from its base, each seat's receipts end with its entries in
     /// order, and the totals are the sums of the shares. The configuration is that which the set was opened with, by the
     /// settings of its type, and the base is one that legal histories lead to from there. It takes no memory.
@@ -70,17 +70,17 @@ impl<C: Opening, M: Ledger, O: Ledger, A: Ledger> Held<C, M, O, A> {
     /// as its calls before the base.
     pub fn end(
         self,
-        users: Vec<UserSeat<C, M, O, A>>,
-        terminals: Vec<TermSeat<C, M, O, A>>,
-    ) -> Result<Closed, EndFault<C, M, O, A>>
+        users: Vec<UserSeat<O>>,
+        terminals: Vec<TermSeat<O>>,
+    ) -> Result<Closed, EndFault<O>>
         ensures complete { OnOk result
             (is_complete self.users self.links users.items terminals.items ≡ true) }
         ensures closed { IfOk result (λ closed.
             IsClosed users.items terminals.items closed.base closed.history.items
             closed.books closed.counts) }
         ensures base { IfOk result (λ closed. closed.base ≡ self.set.base) }
-        ensures opened { IfOk result (λ closed. IsBaseOf C.settings closed.base) }
-        ensures opening { IfOk result (λ closed. settings_of closed.config ≡ C.settings) }
+        ensures opened { IfOk result (λ closed. IsBaseOf O.settings closed.base) }
+        ensures opening { IfOk result (λ closed. settings_of closed.config ≡ O.settings) }
         ensures history { IfOk result (λ closed. closed.history.items ≡ self.set.history) }
         ensures back { IfErr result (λ fault. fault ≡
             (if is_complete self.users self.links users.items terminals.items
@@ -108,44 +108,32 @@ impl<C: Opening, M: Ledger, O: Ledger, A: Ledger> Held<C, M, O, A> {
     }
 
     /// Whether there is one seat for each user and each link of the set, and no other.
-    fn has_all_seats(
-        &self,
-        users: &[UserSeat<C, M, O, A>],
-        terminals: &[TermSeat<C, M, O, A>],
-    ) -> bool
+    fn has_all_seats(&self, users: &[UserSeat<O>], terminals: &[TermSeat<O>]) -> bool
         ensures { result ≡ is_complete self.now.users self.now.links users.now terminals.now }
     {
         are_users(users, self.users) && are_terminals(terminals, self.links)
     }
 
     /// Whether the receipts of each seat end with its entries of the history, in order.
-    fn are_faithful(
-        &self,
-        users: &[UserSeat<C, M, O, A>],
-        terminals: &[TermSeat<C, M, O, A>],
-    ) -> bool
+    fn are_faithful(&self, users: &[UserSeat<O>], terminals: &[TermSeat<O>]) -> bool
         ensures { IsTrue result
             ↔ AreFaithful self.now.set.base.books self.now.set.history users.now terminals.now }
     {
         let books = self.core.base().books();
         let history = self.core.history();
-        are_faithful::<C, M, O, A, UserSeat<C, M, O, A>>(&books, &history, users)
-            && are_faithful::<C, M, O, A, TermSeat<C, M, O, A>>(&books, &history, terminals)
+        are_faithful::<O, UserSeat<O>>(&books, &history, users)
+            && are_faithful::<O, TermSeat<O>>(&books, &history, terminals)
     }
 
     /// The end of a set whose seats are all there.
-    fn closed(
-        self,
-        users: Vec<UserSeat<C, M, O, A>>,
-        terminals: Vec<TermSeat<C, M, O, A>>,
-    ) -> Closed
+    fn closed(self, users: Vec<UserSeat<O>>, terminals: Vec<TermSeat<O>>) -> Closed
         requires complete { is_complete self.users self.links users.items terminals.items ≡ true }
         requires faithful { AreFaithful self.set.base.books self.set.history users.items terminals.items }
         ensures closed { IsClosed users.items terminals.items result.base
             result.history.items result.books result.counts }
         ensures base { result.base ≡ self.set.base }
-        ensures opened { IsBaseOf C.settings result.base }
-        ensures opening { settings_of result.config ≡ C.settings }
+        ensures opened { IsBaseOf O.settings result.base }
+        ensures opening { settings_of result.config ≡ O.settings }
         ensures history { result.history.items ≡ self.set.history }
     {
         self.core.replays();
@@ -186,11 +174,11 @@ impl<C: Opening, M: Ledger, O: Ledger, A: Ledger> Held<C, M, O, A> {
 }
 
 /// Takes the users' seats apart: their parts of the ledgers, together.
-fn merge_users<C: Opening, M: Ledger, O: Ledger, A: Ledger>(
-    seats: Vec<UserSeat<C, M, O, A>>,
-    calls: &mut Share<C>,
-    messages: &mut Share<M>,
-    octets: &mut Share<O>,
+fn merge_users<O: Opening>(
+    seats: Vec<UserSeat<O>>,
+    calls: &mut Share<Calls<O>>,
+    messages: &mut Share<Messages<O>>,
+    octets: &mut Share<Octets<O>>,
 )
     ensures calls { IsMerged (λ share. share.calls) seats.items
         calls.old.parts calls.old.amount calls.new.parts calls.new.amount }
@@ -205,10 +193,10 @@ fn merge_users<C: Opening, M: Ledger, O: Ledger, A: Ledger>(
 }
 
 /// Takes the terminals' seats apart: their parts of the ledgers, together.
-fn merge_terminals<C: Opening, M: Ledger, O: Ledger, A: Ledger>(
-    seats: Vec<TermSeat<C, M, O, A>>,
-    calls: &mut Share<C>,
-    acknowledged: &mut Share<A>,
+fn merge_terminals<O: Opening>(
+    seats: Vec<TermSeat<O>>,
+    calls: &mut Share<Calls<O>>,
+    acknowledged: &mut Share<Acknowledged<O>>,
 )
     ensures calls { IsMerged (λ share. share.calls) seats.items
         calls.old.parts calls.old.amount calls.new.parts calls.new.amount }

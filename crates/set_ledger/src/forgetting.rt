@@ -11,21 +11,16 @@ use super::share::{Forgotten, count_messages, count_octets};
 use set_core::SetFault;
 use set_history::{History, Reader, Told};
 use std::alloc::{AllocError, Allocator};
-use std::sync::ledger::Ledger;
 
 /// A seat forgets the receipts of its calls before the set's base, and keeps what they added up to: a set's history has
 /// no entry of them any more, and [`Held::end`] holds the others against it, as before. The share stays. Where there are
 /// such calls it takes time by how many receipts there are, and meanwhile memory by how many stay.
 ///
 /// Fault: 1 [`SetFault::NoMemory`], only where memory was refused; the seat is then as it was.
-pub fn forget<
-    C: Opening,
-    M: Ledger,
-    O: Ledger,
-    A: Ledger,
-    G: Allocator + Copy,
-    S: Seat<C, M, O, A>,
->(held: &Held<C, M, O, A, G>, seat: &mut S) -> Result<(), SetFault>
+pub fn forget<O: Opening, G: Allocator + Copy, S: Seat<O>>(
+    held: &Held<O, G>,
+    seat: &mut S,
+) -> Result<(), SetFault>
     ensures forgets { OnOk result (Forgets
         (calls_at (S.state seat.old).who held.now.set.base.books - (S.state seat.old).forgotten.calls)
         (S.state seat.old) (S.state seat.new)) }

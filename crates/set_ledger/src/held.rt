@@ -5,16 +5,16 @@ ghost use Rattle.set_model.specs.History.{based, new_set};
 ghost use Rattle.set_model.specs.State.{settings_of};
 ghost use Rattle.set_ledger.specs.Openings.{IsBaseOf, IsSetOf};
 ghost use Rattle.set_ledger.specs.Seats.{new_seats, no_share};
-ghost use Rattle.set_ledger.specs.Totals.{AreTotals, AreParts, IsRoom, Names};
+ghost use Rattle.set_ledger.specs.Totals.{AreTotals, AreParts, IsRoom};
 
-use super::opening::Opening;
+use super::opening::{Acknowledged, Calls, Messages, Octets, Opening};
 use super::seat::{TermSeat, UserSeat, put_terminals, put_users};
 use super::share::{Blanks, SeatShare};
 use set_core::{SetCore, SetFault};
 use set_events::SetConfig;
 use std::alloc::{AllocFailed, Allocator, Global};
 use std::marker::Model;
-use std::sync::ledger::{Book, Ledger, Share};
+use std::sync::ledger::{Book, Share};
 use thiserror::Error;
 
 /// The most users of a set.
@@ -25,18 +25,18 @@ pub const MOST_USERS: u16 = 64;
 /// Of every value it holds that the totals are what the set's history adds up to since its opening ([`Held::totals`]), and
 /// that legal histories lead to its base from what its type says that it was opened with ([`Held::replays`]).
 #[derive(Drop)]
-pub struct Held<C: Opening, M: Ledger, O: Ledger, A: Ledger, G: Allocator = Global> {
+pub struct Held<O: Opening, G: Allocator = Global> {
     pub(crate) core: SetCore<G>,
     pub(crate) users: u16,
     pub(crate) links: u8,
-    pub(crate) calls: Book<C>,
-    pub(crate) messages: Book<M>,
-    pub(crate) octets: Book<O>,
-    pub(crate) acknowledged: Book<A>,
-    pub(crate) rest: Rest<C, M, O, A>,
+    pub(crate) calls: Book<Calls<O>>,
+    pub(crate) messages: Book<Messages<O>>,
+    pub(crate) octets: Book<Octets<O>>,
+    pub(crate) acknowledged: Book<Acknowledged<O>>,
+    pub(crate) rest: Rest<O>,
 }
 
-impl<C: Opening, M: Ledger, O: Ledger, A: Ledger, G: Allocator> Model for Held<C, M, O, A, G> {
+impl<O: Opening, G: Allocator> Model for Held<O, G> {
     ghost use Rattle.set_ledger.specs.Totals.{HeldState};
 
     ghost Value = { HeldState };
@@ -55,17 +55,17 @@ impl<C: Opening, M: Ledger, O: Ledger, A: Ledger, G: Allocator> Model for Held<C
 
     ghost invariant = { λ h. AreTotals (totals_of
         h.calls.total h.messages.total h.octets.total h.acknowledged.total) h.core
-        × AreParts C.parts M.parts O.parts A.parts h.users h.links
-        × IsBaseOf C.settings h.core.base };
+        × AreParts O.blanks h.users h.links
+        × IsBaseOf O.settings h.core.base };
 }
 
 /// What is left of the ledgers once each seat has its parts: none, and no amount.
 #[derive(Drop)]
-pub(crate) struct Rest<C: Opening, M: Ledger, O: Ledger, A: Ledger> {
-    pub(crate) calls: Share<C>,
-    pub(crate) messages: Share<M>,
-    pub(crate) octets: Share<O>,
-    pub(crate) acknowledged: Share<A>,
+pub(crate) struct Rest<O: Opening> {
+    pub(crate) calls: Share<Calls<O>>,
+    pub(crate) messages: Share<Messages<O>>,
+    pub(crate) octets: Share<Octets<O>>,
+    pub(crate) acknowledged: Share<Acknowledged<O>>,
     pub(crate) ghost no_parts: { (calls.parts ≡ 0) × (messages.parts ≡ 0)
         × (octets.parts ≡ 0) × (acknowledged.parts ≡ 0) },
     pub(crate) ghost no_amount: { (calls.amount ≡ 0) × (messages.amount ≡ 0)
@@ -85,16 +85,16 @@ pub enum CreateFault {
 
 /// A set that was opened, and its seats.
 #[derive(Drop)]
-pub struct Opened<C: Opening, M: Ledger, O: Ledger, A: Ledger, G: Allocator = Global> {
+pub struct Opened<O: Opening, G: Allocator = Global> {
     /// The set.
-    pub held: Held<C, M, O, A, G>,
+    pub held: Held<O, G>,
     /// A seat for each user, 0, 1, ..
-    pub users: Vec<UserSeat<C, M, O, A, G>, G>,
+    pub users: Vec<UserSeat<O, G>, G>,
     /// A seat for the terminal of each link, 0, 1, ..
-    pub terminals: Vec<TermSeat<C, M, O, A, G>, G>,
+    pub terminals: Vec<TermSeat<O, G>, G>,
 }
 
-impl<C: Opening, M: Ledger, O: Ledger, A: Ledger, G: Allocator + Copy> Held<C, M, O, A, G> {
+impl<O: Opening, G: Allocator + Copy> Held<O, G> {
     /// Opens a set as this configuration has it, for so many users: the set, a seat for each user, and one for
     /// the terminal of each link. From nothing the totals and the shares are 0. The configuration's settings are those
     /// that the type tells.
@@ -106,15 +106,10 @@ impl<C: Opening, M: Ledger, O: Ledger, A: Ledger, G: Allocator + Copy> Held<C, M
         config: &SetConfig,
         users: u16,
         blanks: Blanks,
-    ) -> Result<Opened<C, M, O, A, G>, CreateFault>
-        requires calls { (0 < users) × (users ≤ 64) → Names blanks.calls C.name C.parts }
-        requires messages { (0 < users) × (users ≤ 64) → Names blanks.messages M.name M.parts }
-        requires octets { (0 < users) × (users ≤ 64) → Names blanks.octets O.name O.parts }
-        requires acknowledged { (0 < users) × (users ≤ 64)
-            → Names blanks.acknowledged A.name A.parts }
-        requires parts { (0 < users) × (users ≤ 64)
-            → AreParts C.parts M.parts O.parts A.parts users config.now.links }
-        requires opening { (0 < users) × (users ≤ 64) → settings_of config.now ≡ C.settings }
+    ) -> Result<Opened<O, G>, CreateFault>
+        requires blanks { (0 < users) × (users ≤ 64) → blanks ≡ O.blanks }
+        requires parts { (0 < users) × (users ≤ 64) → AreParts O.blanks users config.now.links }
+        requires opening { (0 < users) × (users ≤ 64) → settings_of config.now ≡ O.settings }
         ensures held { IfOk result (λ opened. opened.held ≡ record {
           users = users;
           links = config.now.links;
@@ -174,7 +169,7 @@ impl<C: Opening, M: Ledger, O: Ledger, A: Ledger, G: Allocator + Copy> Held<C, M
     /// A law: whenever the set is lent, it's one of the settings that its type tells: legal histories, with a checkpoint
     /// after each, lead from their opening to its base, and its history to what it holds.
     pub fn replays(&self)
-        ensures { IsSetOf C.settings self.now.set }
+        ensures { IsSetOf O.settings self.now.set }
     {
         self.core.replays();
     }
@@ -182,7 +177,7 @@ impl<C: Opening, M: Ledger, O: Ledger, A: Ledger, G: Allocator + Copy> Held<C, M
     /// How many users have a seat.
     pub fn users(&self) -> u16
         ensures value { result ≡ self.now.users }
-        ensures parts { result ≡ M.parts }
+        ensures parts { result ≡ O.blanks.messages.parts }
     {
         self.users
     }
@@ -190,25 +185,18 @@ impl<C: Opening, M: Ledger, O: Ledger, A: Ledger, G: Allocator + Copy> Held<C, M
     /// How many links' terminals have a seat.
     pub fn links(&self) -> u8
         ensures value { result ≡ self.now.links }
-        ensures parts { result ≡ A.parts }
+        ensures parts { result ≡ O.blanks.acknowledged.parts }
     {
         self.links
     }
 }
 
 /// A new set, and room for its seats.
-fn room_for<C: Opening, M: Ledger, O: Ledger, A: Ledger, G: Allocator + Copy>(
+fn room_for<O: Opening, G: Allocator + Copy>(
     alloc: G,
     config: &SetConfig,
     users: u16,
-) -> Result<
-    (
-        SetCore<G>,
-        Vec<UserSeat<C, M, O, A, G>, G>,
-        Vec<TermSeat<C, M, O, A, G>, G>,
-    ),
-    SetFault,
->
+) -> Result<(SetCore<G>, Vec<UserSeat<O, G>, G>, Vec<TermSeat<O, G>, G>), SetFault>
     ensures core { IfOk result (λ room. room.0 ≡ new_set config.now) }
     ensures users { IfOk result (λ room. IsRoom room.1 users) }
     ensures terminals { IfOk result (λ room. IsRoom room.2 config.now.links) }
@@ -220,32 +208,29 @@ fn room_for<C: Opening, M: Ledger, O: Ledger, A: Ledger, G: Allocator + Copy>(
 }
 
 /// A new set with its seats, for which there is room.
-fn with_seats<C: Opening, M: Ledger, O: Ledger, A: Ledger, G: Allocator + Copy>(
+fn with_seats<O: Opening, G: Allocator + Copy>(
     core: SetCore<G>,
     users: u16,
     links: u8,
     blanks: Blanks,
-    user_seats: Vec<UserSeat<C, M, O, A, G>, G>,
-    term_seats: Vec<TermSeat<C, M, O, A, G>, G>,
-) -> Opened<C, M, O, A, G>
+    user_seats: Vec<UserSeat<O, G>, G>,
+    term_seats: Vec<TermSeat<O, G>, G>,
+) -> Opened<O, G>
     requires few { (users ≤ 64) × (links ≤ 16) }
     requires new { AreTotals no_share core }
-    requires opening { IsBaseOf C.settings core.base }
-    requires calls { Names blanks.calls C.name C.parts }
-    requires messages { Names blanks.messages M.name M.parts }
-    requires octets { Names blanks.octets O.name O.parts }
-    requires acknowledged { Names blanks.acknowledged A.name A.parts }
-    requires parts { AreParts C.parts M.parts O.parts A.parts users links }
+    requires opening { IsBaseOf O.settings core.base }
+    requires blanks { blanks ≡ O.blanks }
+    requires parts { AreParts O.blanks users links }
     requires user_room { IsRoom user_seats users }
     requires term_room { IsRoom term_seats links }
     ensures held { result.held ≡ record { users = users; links = links; totals = no_share; set = core } }
     ensures users { result.users.items ≡ new_seats User users }
     ensures terminals { result.terminals.items ≡ new_seats Terminal links }
 {
-    let (call_book, mut calls) = blanks.calls.open::<C>();
-    let (message_book, mut messages) = blanks.messages.open::<M>();
-    let (octet_book, mut octets) = blanks.octets.open::<O>();
-    let (acked_book, mut acknowledged) = blanks.acknowledged.open::<A>();
+    let (call_book, mut calls) = blanks.calls.open::<Calls<O>>();
+    let (message_book, mut messages) = blanks.messages.open::<Messages<O>>();
+    let (octet_book, mut octets) = blanks.octets.open::<Octets<O>>();
+    let (acked_book, mut acknowledged) = blanks.acknowledged.open::<Acknowledged<O>>();
     let mut user_seats = user_seats;
     put_users(
         &mut user_seats,

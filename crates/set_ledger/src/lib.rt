@@ -15,12 +15,11 @@
 //! terminals  TermSeat 0, 1, ..     calls, acknowledged messages   /
 //! ```
 //!
-//! Each ledger is named by a type parameter: `C` of calls, `M` of messages, `O` of octets, `A` of
-//! acknowledgements. Whoever opens a set picks the names anew, for a function that is generic over them, so a seat of
-//! another set doesn't compile: "expected `&mut UserSeat<C, M, O, A>`, found `&mut UserSeat<D, N, P, B>`". `C` tells the
-//! settings that the set was opened with, too ([`Opening`]): a value under a lock has no name in a contract, but its type
-//! has one. The fields of `Held` and of the seats are private here, and [`Seat`] is sealed, so no other crate makes or
-//! changes a seat, or makes a receipt: "the trait bound `OtherSeat: Step<C, M, O, A>` is not satisfied".
+//! A set has one type parameter `O`, which tells what it was opened with ([`Opening`]): the blanks that name its four
+//! ledgers, and its settings. A value under a lock has no name in a contract, but its type has one. Whoever opens a set
+//! picks both anew, for a function that is generic over `O`, so a seat of another set doesn't compile: "expected `&mut
+//! UserSeat<O>`, found `&mut UserSeat<P>`". The fields of `Held` and of the seats are private here, and [`Seat`] is sealed,
+//! so no other crate makes or changes a seat, or makes a receipt: "the trait bound `OtherSeat: Step<O>` is not satisfied".
 //!
 //! A set and its seats take memory of an allocator `G`, by default the program's. A set that ends is one over the program's.
 //!

@@ -1,19 +1,61 @@
-//! What a set was opened with, as its type tells it.
+//! What a set was opened with, as its type tells it, and the four ledgers that it names so.
 
-use std::marker::Brand;
+use std::marker::{Brand, PhantomData};
 use std::sync::ledger::Ledger;
 
-/// The ledger of a set's calls, which tells contracts what the set was opened with, too: a value under a lock has no name
-/// there, but its type has. Whoever opens a set picks both.
-pub trait Opening: Ledger {
+/// What a set was opened with, as its type tells contracts: a value under a lock has no name there, but its type has.
+/// Whoever opens a set picks it.
+pub trait Opening {
+    ghost use Rattle.set_ledger.specs.declared.share.Blanks.{Blanks};
     ghost use Rattle.set_model.specs.State.{Settings};
 
-    /// What the set was opened with.
+    /// The blanks of its four ledgers, which name those.
+    ghost blanks: { Blanks };
+
+    /// Its configuration's settings.
     ghost settings: { Settings };
 }
 
 impl Opening for Brand {
-    ghost use Rattle.set_ledger.specs.Openings.{no_settings};
+    ghost use Rattle.set_ledger.specs.Openings.{no_blanks, no_settings};
+
+    ghost blanks = { no_blanks };
 
     ghost settings = { no_settings };
+}
+
+/// The ledger of a set's calls.
+pub(crate) struct Calls<O>(PhantomData<O>);
+
+/// The ledger of its accepted messages.
+pub(crate) struct Messages<O>(PhantomData<O>);
+
+/// The ledger of their octets.
+pub(crate) struct Octets<O>(PhantomData<O>);
+
+/// The ledger of its acknowledged messages.
+pub(crate) struct Acknowledged<O>(PhantomData<O>);
+
+impl<O: Opening> Ledger for Calls<O> {
+    ghost name = { O.blanks.calls.name };
+
+    ghost parts = { O.blanks.calls.parts };
+}
+
+impl<O: Opening> Ledger for Messages<O> {
+    ghost name = { O.blanks.messages.name };
+
+    ghost parts = { O.blanks.messages.parts };
+}
+
+impl<O: Opening> Ledger for Octets<O> {
+    ghost name = { O.blanks.octets.name };
+
+    ghost parts = { O.blanks.octets.parts };
+}
+
+impl<O: Opening> Ledger for Acknowledged<O> {
+    ghost name = { O.blanks.acknowledged.name };
+
+    ghost parts = { O.blanks.acknowledged.parts };
 }

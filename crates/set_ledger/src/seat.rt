@@ -10,20 +10,20 @@ ghost use Rattle.set_ledger.specs.Totals.{IsRoom};
 use super::forgetting::forget_first;
 use super::held::Held;
 use super::making::make;
-use super::opening::Opening;
+use super::opening::{Acknowledged, Calls, Messages, Octets, Opening};
 use super::share::{Forgotten, NOTHING_FORGOTTEN, Part, SeatShare};
 use super::stepping::Step;
 use set_core::SetFault;
 use set_events::{Actor, EventRef, Reply};
 use set_history::{History, Reader};
 use std::alloc::{AllocError, Allocator, Global};
-use std::marker::{Model, PhantomData};
-use std::sync::ledger::{Ledger, Share};
+use std::marker::Model;
+use std::sync::ledger::Share;
 
 /// A seat at a set: its actor, its share of the totals, and a receipt for each step that it made, but for those that it
 /// forgot. It's sealed: users' and terminals' seats are the only ones, whose fields are private, and [`step_in`] and
 /// [`super::forget`] alone change one.
-pub trait Seat<C: Opening, M: Ledger, O: Ledger, A: Ledger>: Step<C, M, O, A> {
+pub trait Seat<O: Opening>: Step<O> {
     /// Who asks.
     fn actor(&self) -> Actor
         ensures { result ≡ (Self.state self.now).who };
@@ -44,19 +44,18 @@ pub trait Seat<C: Opening, M: Ledger, O: Ledger, A: Ledger>: Step<C, M, O, A> {
 
 /// A user's seat. Only [`step_in`] and [`forget`] change it.
 #[derive(Drop)]
-pub struct UserSeat<C: Opening, M: Ledger, O: Ledger, A: Ledger, G: Allocator = Global> {
+pub struct UserSeat<O: Opening, G: Allocator = Global> {
     number: u16,
-    pub(crate) calls: Part<C>,
-    pub(crate) messages: Part<M>,
-    pub(crate) octets: Part<O>,
+    pub(crate) calls: Part<Calls<O>>,
+    pub(crate) messages: Part<Messages<O>>,
+    pub(crate) octets: Part<Octets<O>>,
     receipts: History<G>,
     forgotten: Forgotten,
     /// What the receipts take memory from.
     alloc: G,
-    set: PhantomData<A>,
 }
 
-impl<C: Opening, M: Ledger, O: Ledger, A: Ledger, G: Allocator> Model for UserSeat<C, M, O, A, G> {
+impl<O: Opening, G: Allocator> Model for UserSeat<O, G> {
     ghost use Rattle.set_ledger.specs.Seats.{SeatState};
 
     ghost Value = { SeatState };
@@ -72,18 +71,17 @@ impl<C: Opening, M: Ledger, O: Ledger, A: Ledger, G: Allocator> Model for UserSe
 
 /// The seat of a link's terminal. Only [`step_in`] and [`forget`] change it.
 #[derive(Drop)]
-pub struct TermSeat<C: Opening, M: Ledger, O: Ledger, A: Ledger, G: Allocator = Global> {
+pub struct TermSeat<O: Opening, G: Allocator = Global> {
     link: u8,
-    pub(crate) calls: Part<C>,
-    pub(crate) acknowledged: Part<A>,
+    pub(crate) calls: Part<Calls<O>>,
+    pub(crate) acknowledged: Part<Acknowledged<O>>,
     receipts: History<G>,
     forgotten: Forgotten,
     /// What the receipts take memory from.
     alloc: G,
-    set: PhantomData<(M, O)>,
 }
 
-impl<C: Opening, M: Ledger, O: Ledger, A: Ledger, G: Allocator> Model for TermSeat<C, M, O, A, G> {
+impl<O: Opening, G: Allocator> Model for TermSeat<O, G> {
     ghost use Rattle.set_ledger.specs.Seats.{SeatState};
 
     ghost Value = { SeatState };
@@ -97,8 +95,7 @@ impl<C: Opening, M: Ledger, O: Ledger, A: Ledger, G: Allocator> Model for TermSe
         × AddsUp (term_state s.link s.calls.told s.acknowledged.told s.forgotten s.receipts.items) };
 }
 
-impl<C: Opening, M: Ledger, O: Ledger, A: Ledger, G: Allocator + Copy> Step<C, M, O, A>
-    for UserSeat<C, M, O, A, G> {
+impl<O: Opening, G: Allocator + Copy> Step<O> for UserSeat<O, G> {
     ghost state = { λ s. s };
 
     fn reserve(&mut self, event: &EventRef<'_>) -> Result<(), AllocError> {
@@ -107,7 +104,7 @@ impl<C: Opening, M: Ledger, O: Ledger, A: Ledger, G: Allocator + Copy> Step<C, M
 
     fn step<H: Allocator + Copy>(
         &mut self,
-        held: &mut Held<C, M, O, A, H>,
+        held: &mut Held<O, H>,
         event: &EventRef<'_>,
         reply: &mut Reply,
     ) -> Result<(), SetFault> {
@@ -128,8 +125,7 @@ impl<C: Opening, M: Ledger, O: Ledger, A: Ledger, G: Allocator + Copy> Step<C, M
     }
 }
 
-impl<C: Opening, M: Ledger, O: Ledger, A: Ledger, G: Allocator + Copy> Seat<C, M, O, A>
-    for UserSeat<C, M, O, A, G> {
+impl<O: Opening, G: Allocator + Copy> Seat<O> for UserSeat<O, G> {
     fn actor(&self) -> Actor {
         Actor::User(self.number)
     }
@@ -152,8 +148,7 @@ impl<C: Opening, M: Ledger, O: Ledger, A: Ledger, G: Allocator + Copy> Seat<C, M
     }
 }
 
-impl<C: Opening, M: Ledger, O: Ledger, A: Ledger, G: Allocator + Copy> Step<C, M, O, A>
-    for TermSeat<C, M, O, A, G> {
+impl<O: Opening, G: Allocator + Copy> Step<O> for TermSeat<O, G> {
     ghost state = { λ s. s };
 
     fn reserve(&mut self, event: &EventRef<'_>) -> Result<(), AllocError> {
@@ -162,7 +157,7 @@ impl<C: Opening, M: Ledger, O: Ledger, A: Ledger, G: Allocator + Copy> Step<C, M
 
     fn step<H: Allocator + Copy>(
         &mut self,
-        held: &mut Held<C, M, O, A, H>,
+        held: &mut Held<O, H>,
         event: &EventRef<'_>,
         reply: &mut Reply,
     ) -> Result<(), SetFault> {
@@ -183,8 +178,7 @@ impl<C: Opening, M: Ledger, O: Ledger, A: Ledger, G: Allocator + Copy> Step<C, M
     }
 }
 
-impl<C: Opening, M: Ledger, O: Ledger, A: Ledger, G: Allocator + Copy> Seat<C, M, O, A>
-    for TermSeat<C, M, O, A, G> {
+impl<O: Opening, G: Allocator + Copy> Seat<O> for TermSeat<O, G> {
     fn actor(&self) -> Actor {
         Actor::Terminal(self.link)
     }
@@ -207,7 +201,7 @@ impl<C: Opening, M: Ledger, O: Ledger, A: Ledger, G: Allocator + Copy> Seat<C, M
     }
 }
 
-impl<C: Opening, M: Ledger, O: Ledger, A: Ledger, G: Allocator + Copy> UserSeat<C, M, O, A, G> {
+impl<O: Opening, G: Allocator + Copy> UserSeat<O, G> {
     /// The user's number, 0 to 63.
     pub fn number(&self) -> u16
         ensures who { self.now.who ≡ User result }
@@ -219,9 +213,9 @@ impl<C: Opening, M: Ledger, O: Ledger, A: Ledger, G: Allocator + Copy> UserSeat<
     /// The parts of a seat that is given up with its receipts go back to these.
     pub(crate) fn give_back(
         self,
-        calls: &mut Share<C>,
-        messages: &mut Share<M>,
-        octets: &mut Share<O>,
+        calls: &mut Share<Calls<O>>,
+        messages: &mut Share<Messages<O>>,
+        octets: &mut Share<Octets<O>>,
     )
         ensures calls { Returns calls.old.parts calls.old.amount self.share.calls calls.new.parts
             calls.new.amount }
@@ -236,7 +230,7 @@ impl<C: Opening, M: Ledger, O: Ledger, A: Ledger, G: Allocator + Copy> UserSeat<
     }
 }
 
-impl<C: Opening, M: Ledger, O: Ledger, A: Ledger, G: Allocator + Copy> TermSeat<C, M, O, A, G> {
+impl<O: Opening, G: Allocator + Copy> TermSeat<O, G> {
     /// The number of the terminal's link, 0 to 15.
     pub fn link(&self) -> u8
         ensures who { self.now.who ≡ Terminal result }
@@ -246,7 +240,11 @@ impl<C: Opening, M: Ledger, O: Ledger, A: Ledger, G: Allocator + Copy> TermSeat<
     }
 
     /// The parts of a seat that is given up with its receipts go back to these.
-    pub(crate) fn give_back(self, calls: &mut Share<C>, acknowledged: &mut Share<A>)
+    pub(crate) fn give_back(
+        self,
+        calls: &mut Share<Calls<O>>,
+        acknowledged: &mut Share<Acknowledged<O>>,
+    )
         ensures calls { Returns calls.old.parts calls.old.amount self.share.calls calls.new.parts
             calls.new.amount }
         ensures acknowledged { Returns acknowledged.old.parts acknowledged.old.amount
@@ -259,7 +257,7 @@ impl<C: Opening, M: Ledger, O: Ledger, A: Ledger, G: Allocator + Copy> TermSeat<
 
 /// Makes room for the receipt of a step by this event: done before the set is lent, the step takes none for it. The seat
 /// stays as it is. It fails only where memory was refused.
-pub fn reserve_receipt<C: Opening, M: Ledger, O: Ledger, A: Ledger, S: Seat<C, M, O, A>>(
+pub fn reserve_receipt<O: Opening, S: Seat<O>>(
     seat: &mut S,
     event: &EventRef<'_>,
 ) -> Result<(), AllocError>
@@ -274,15 +272,8 @@ pub fn reserve_receipt<C: Opening, M: Ledger, O: Ledger, A: Ledger, S: Seat<C, M
 ///
 /// Faults: 2 [`SetFault::Exhausted`] only where the history has 2^48 entries; 1 [`SetFault::NoMemory`] only
 /// where memory was refused. After a fault the set and the seat are as they were.
-pub fn step_in<
-    C: Opening,
-    M: Ledger,
-    O: Ledger,
-    A: Ledger,
-    G: Allocator + Copy,
-    S: Seat<C, M, O, A>,
->(
-    held: &mut Held<C, M, O, A, G>,
+pub fn step_in<O: Opening, G: Allocator + Copy, S: Seat<O>>(
+    held: &mut Held<O, G>,
     seat: &mut S,
     event: &EventRef<'_>,
     reply: &mut Reply,
@@ -305,12 +296,12 @@ pub fn step_in<
 }
 
 /// Puts the seats of the users 0, 1, .. into this room, each with one part of each ledger that it moves.
-pub(crate) fn put_users<C: Opening, M: Ledger, O: Ledger, A: Ledger, G: Allocator + Copy>(
-    seats: &mut Vec<UserSeat<C, M, O, A, G>, G>,
+pub(crate) fn put_users<O: Opening, G: Allocator + Copy>(
+    seats: &mut Vec<UserSeat<O, G>, G>,
     users: u16,
-    calls: &mut Share<C>,
-    messages: &mut Share<M>,
-    octets: &mut Share<O>,
+    calls: &mut Share<Calls<O>>,
+    messages: &mut Share<Messages<O>>,
+    octets: &mut Share<Octets<O>>,
 )
     requires room { IsRoom seats.old users }
     requires range { users ≤ 64 }
@@ -333,7 +324,6 @@ pub(crate) fn put_users<C: Opening, M: Ledger, O: Ledger, A: Ledger, G: Allocato
             receipts: History::new(alloc),
             forgotten: NOTHING_FORGOTTEN,
             alloc,
-            set: PhantomData,
         };
         seats.push_reserved(seat);
     }
@@ -341,11 +331,11 @@ pub(crate) fn put_users<C: Opening, M: Ledger, O: Ledger, A: Ledger, G: Allocato
 
 /// Puts the seats of the terminals of the links 0, 1, .. into this room, each with one part of each ledger that it
 /// moves.
-pub(crate) fn put_terminals<C: Opening, M: Ledger, O: Ledger, A: Ledger, G: Allocator + Copy>(
-    seats: &mut Vec<TermSeat<C, M, O, A, G>, G>,
+pub(crate) fn put_terminals<O: Opening, G: Allocator + Copy>(
+    seats: &mut Vec<TermSeat<O, G>, G>,
     links: u8,
-    calls: &mut Share<C>,
-    acknowledged: &mut Share<A>,
+    calls: &mut Share<Calls<O>>,
+    acknowledged: &mut Share<Acknowledged<O>>,
 )
     requires room { IsRoom seats.old links }
     requires range { links ≤ 16 }
@@ -365,7 +355,6 @@ pub(crate) fn put_terminals<C: Opening, M: Ledger, O: Ledger, A: Ledger, G: Allo
             receipts: History::new(alloc),
             forgotten: NOTHING_FORGOTTEN,
             alloc,
-            set: PhantomData,
         };
         seats.push_reserved(seat);
     }

@@ -10,10 +10,9 @@ use super::opening::Opening;
 use set_core::SetFault;
 use set_events::{EventRef, Reply};
 use std::alloc::{AllocError, Allocator};
-use std::sync::ledger::Ledger;
 
 /// What makes steps at a set, and has a receipt for each, but for the first ones, which it forgot.
-pub trait Step<C: Opening, M: Ledger, O: Ledger, A: Ledger> {
+pub trait Step<O: Opening> {
     ghost use Rattle.set_ledger.specs.Seats.{SeatState};
 
     /// What contracts see of it.
@@ -26,7 +25,7 @@ pub trait Step<C: Opening, M: Ledger, O: Ledger, A: Ledger> {
     /// `step_in`.
     fn step<G: Allocator + Copy>(
         &mut self,
-        held: &mut Held<C, M, O, A, G>,
+        held: &mut Held<O, G>,
         event: &EventRef<'_>,
         reply: &mut Reply,
     ) -> Result<(), SetFault>

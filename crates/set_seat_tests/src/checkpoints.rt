@@ -10,14 +10,13 @@ use set_shared::{Blanks, Closed, LinkSet, Opened, Opening, Seat, TermSeat, UserS
 use std::alloc::Global;
 use std::marker::Brand;
 use std::sync::Wait;
-use std::sync::ledger::Ledger;
 use std::test::Fail;
 
 /// A user's message is accepted under this number.
-pub(crate) fn accepts<C: Opening, M: Ledger, O: Ledger, A: Ledger, R: Wait>(
+pub(crate) fn accepts<O: Opening, R: Wait>(
     rt: &R,
-    set: &LinkSet<C, M, O, A>,
-    seat: &mut UserSeat<C, M, O, A>,
+    set: &LinkSet<O>,
+    seat: &mut UserSeat<O>,
     number: u64,
 ) -> bool {
     match set.offer(rt, seat, &MESSAGE) {
@@ -27,10 +26,10 @@ pub(crate) fn accepts<C: Opening, M: Ledger, O: Ledger, A: Ledger, R: Wait>(
 }
 
 /// The message of this number is finished, and left the set.
-fn is_finished<C: Opening, M: Ledger, O: Ledger, A: Ledger, R: Wait>(
+fn is_finished<O: Opening, R: Wait>(
     rt: &R,
-    set: &LinkSet<C, M, O, A>,
-    seat: &mut UserSeat<C, M, O, A>,
+    set: &LinkSet<O>,
+    seat: &mut UserSeat<O>,
     number: u64,
 ) -> bool {
     match set.find(rt, seat, number) {
@@ -53,11 +52,7 @@ fn acknowledging() -> Unit {
 }
 
 /// The link comes up, sends what waits, and hears that it arrived: three steps of its terminal.
-fn sends_it<C: Opening, M: Ledger, O: Ledger, A: Ledger, R: Wait>(
-    rt: &R,
-    set: &LinkSet<C, M, O, A>,
-    seat: &mut TermSeat<C, M, O, A>,
-) -> bool {
+fn sends_it<O: Opening, R: Wait>(rt: &R, set: &LinkSet<O>, seat: &mut TermSeat<O>) -> bool {
     let link = seat.link();
     let up = set.term_step(rt, seat, &Event::Up { link });
     let sent = set.term_step(rt, seat, &Event::Next { link });
@@ -87,11 +82,11 @@ fn ends_well(closed: Option<Closed>) -> bool {
 }
 
 /// What is asked for with one of each seat: whether it's answered so.
-fn with_both<C: Opening, M: Ledger, O: Ledger, A: Ledger, R: Wait>(
+fn with_both<O: Opening, R: Wait>(
     rt: &R,
-    set: &LinkSet<C, M, O, A>,
-    users: &mut [UserSeat<C, M, O, A>],
-    terminals: &mut [TermSeat<C, M, O, A>],
+    set: &LinkSet<O>,
+    users: &mut [UserSeat<O>],
+    terminals: &mut [TermSeat<O>],
 ) -> bool {
     let (Some(user), Some(terminal)) = (users.first_mut(), terminals.first_mut()) else {
         return false;
@@ -105,20 +100,17 @@ fn with_both<C: Opening, M: Ledger, O: Ledger, A: Ledger, R: Wait>(
 }
 
 /// One user and the terminal of one link, and a checkpoint between the user's calls.
-fn one_of_each<C: Opening, M: Ledger, O: Ledger, A: Ledger, R: Wait>(
+fn one_of_each<O: Opening, R: Wait>(
     rt: &R,
     alloc: Global,
     config: &SetConfig,
     blanks: Blanks,
 ) -> Result<(), Fail>
-    requires calls { (blanks.calls.name ≡ C.name) × (blanks.calls.parts ≡ C.parts) }
-    requires messages { (blanks.messages.name ≡ M.name) × (blanks.messages.parts ≡ M.parts) }
-    requires octets { (blanks.octets.name ≡ O.name) × (blanks.octets.parts ≡ O.parts) }
-    requires acknowledged { (blanks.acknowledged.name ≡ A.name) × (blanks.acknowledged.parts ≡ A.parts) }
-    requires parts { AreParts C.parts M.parts O.parts A.parts 1 config.now.links }
-    requires opening { settings_of config.now ≡ C.settings }
+    requires blanks { blanks ≡ O.blanks }
+    requires parts { AreParts O.blanks 1 config.now.links }
+    requires opening { settings_of config.now ≡ O.settings }
 {
-    let Ok(opened) = LinkSet::<C, M, O, A>::create(alloc, config, 1, blanks) else {
+    let Ok(opened) = LinkSet::<O>::create(alloc, config, 1, blanks) else {
         return Err(Fail::from("not opened"));
     };
     let Opened {
@@ -133,5 +125,5 @@ fn one_of_each<C: Opening, M: Ledger, O: Ledger, A: Ledger, R: Wait>(
 #[test]
 fn receipts_end_with_the_entries_since_a_checkpoint(rt: HostRuntime) -> Result<(), Fail> {
     let config = config_of()?;
-    one_of_each::<Brand, Brand, Brand, Brand, HostRuntime>(&rt, rt.alloc(), &config, blanks_of(1))
+    one_of_each::<Brand, HostRuntime>(&rt, rt.alloc(), &config, blanks_of(1))
 }

@@ -12,15 +12,10 @@ use std::alloc::Global;
 use std::cell::Cell;
 use std::marker::Brand;
 use std::sync::Wait;
-use std::sync::ledger::Ledger;
 use std::test::Fail;
 
 /// A terminal tells that its link is up, and what it was handed is called under the lock.
-fn rises<C: Opening, M: Ledger, O: Ledger, A: Ledger, R: Wait>(
-    rt: &R,
-    set: &LinkSet<C, M, O, A>,
-    seat: &mut TermSeat<C, M, O, A>,
-) -> bool {
+fn rises<O: Opening, R: Wait>(rt: &R, set: &LinkSet<O>, seat: &mut TermSeat<O>) -> bool {
     let called = Cell::new(false);
     let event = EventRef::Up { link: seat.link() };
     let mut reply = Reply::new();
@@ -39,11 +34,11 @@ fn is_whole(closed: Option<Closed>) -> bool {
 }
 
 /// The set is closed without one of its seats: it comes back with the others.
-fn comes_back<C: Opening, M: Ledger, O: Ledger, A: Ledger>(
-    set: LinkSet<C, M, O, A>,
-    users: Vec<UserSeat<C, M, O, A>>,
-    terminals: Vec<TermSeat<C, M, O, A>>,
-) -> Option<Back<C, M, O, A>> {
+fn comes_back<O: Opening>(
+    set: LinkSet<O>,
+    users: Vec<UserSeat<O>>,
+    terminals: Vec<TermSeat<O>>,
+) -> Option<Back<O>> {
     match set.close(users, terminals) {
         Err(EndFault::Missing(back)) => Some(back),
         _ => None,
@@ -51,10 +46,7 @@ fn comes_back<C: Opening, M: Ledger, O: Ledger, A: Ledger>(
 }
 
 /// With the seat that was kept beside the one that came back, the set ends.
-fn ends_with<C: Opening, M: Ledger, O: Ledger, A: Ledger>(
-    back: Back<C, M, O, A>,
-    kept: UserSeat<C, M, O, A>,
-) -> bool {
+fn ends_with<O: Opening>(back: Back<O>, kept: UserSeat<O>) -> bool {
     let Back {
         held,
         mut users,
@@ -67,10 +59,10 @@ fn ends_with<C: Opening, M: Ledger, O: Ledger, A: Ledger>(
 }
 
 /// A seat is kept back: the set comes back with the others, and ends once all are there.
-fn ends_once_complete<C: Opening, M: Ledger, O: Ledger, A: Ledger>(
-    set: LinkSet<C, M, O, A>,
-    users: Vec<UserSeat<C, M, O, A>>,
-    terminals: Vec<TermSeat<C, M, O, A>>,
+fn ends_once_complete<O: Opening>(
+    set: LinkSet<O>,
+    users: Vec<UserSeat<O>>,
+    terminals: Vec<TermSeat<O>>,
 ) -> bool {
     let mut users = users;
     let Some(kept) = users.pop() else {
@@ -83,11 +75,11 @@ fn ends_once_complete<C: Opening, M: Ledger, O: Ledger, A: Ledger>(
 }
 
 /// Each user offers a message and finds it, and each terminal tells that its link is up.
-fn all_call<C: Opening, M: Ledger, O: Ledger, A: Ledger, R: Wait>(
+fn all_call<O: Opening, R: Wait>(
     rt: &R,
-    set: &LinkSet<C, M, O, A>,
-    users: &mut [UserSeat<C, M, O, A>],
-    terminals: &mut [TermSeat<C, M, O, A>],
+    set: &LinkSet<O>,
+    users: &mut [UserSeat<O>],
+    terminals: &mut [TermSeat<O>],
 ) -> bool {
     for seat in users.iter_mut() {
         if !offers(rt, set, seat) {
@@ -103,20 +95,17 @@ fn all_call<C: Opening, M: Ledger, O: Ledger, A: Ledger, R: Wait>(
 }
 
 /// Two users and the terminal of one link, in one thread.
-fn two_users<C: Opening, M: Ledger, O: Ledger, A: Ledger, R: Wait>(
+fn two_users<O: Opening, R: Wait>(
     rt: &R,
     alloc: Global,
     config: &SetConfig,
     blanks: Blanks,
 ) -> Result<(), Fail>
-    requires calls { (blanks.calls.name ≡ C.name) × (blanks.calls.parts ≡ C.parts) }
-    requires messages { (blanks.messages.name ≡ M.name) × (blanks.messages.parts ≡ M.parts) }
-    requires octets { (blanks.octets.name ≡ O.name) × (blanks.octets.parts ≡ O.parts) }
-    requires acknowledged { (blanks.acknowledged.name ≡ A.name) × (blanks.acknowledged.parts ≡ A.parts) }
-    requires parts { AreParts C.parts M.parts O.parts A.parts 2 config.now.links }
-    requires opening { settings_of config.now ≡ C.settings }
+    requires blanks { blanks ≡ O.blanks }
+    requires parts { AreParts O.blanks 2 config.now.links }
+    requires opening { settings_of config.now ≡ O.settings }
 {
-    let Ok(opened) = LinkSet::<C, M, O, A>::create(alloc, config, 2, blanks) else {
+    let Ok(opened) = LinkSet::<O>::create(alloc, config, 2, blanks) else {
         return Err(Fail::from("not opened"));
     };
     let Opened {
@@ -132,14 +121,14 @@ fn two_users<C: Opening, M: Ledger, O: Ledger, A: Ledger, R: Wait>(
 #[test]
 fn a_set_ends_once_all_seats_are_back(rt: HostRuntime) -> Result<(), Fail> {
     let config = config_of()?;
-    two_users::<Brand, Brand, Brand, Brand, HostRuntime>(&rt, rt.alloc(), &config, blanks_of(2))
+    two_users::<Brand, HostRuntime>(&rt, rt.alloc(), &config, blanks_of(2))
 }
 
 /// A set isn't opened for so many users.
 fn is_refused(alloc: Global, config: &SetConfig, users: u16) -> bool
     requires { (users ≡ 0) ⊎ (64 < users) }
 {
-    match LinkSet::<Brand, Brand, Brand, Brand>::create(alloc, config, users, blanks_of(1)) {
+    match LinkSet::<Brand>::create(alloc, config, users, blanks_of(1)) {
         Ok(_) => false,
         Err(fault) => fault == CreateFault::Users && fault.number() == 2,
     }

@@ -10,15 +10,10 @@ use set_shared::{Blanks, Closed, Forgotten, LinkSet, Opened, Opening, Seat, Seat
 use std::alloc::Global;
 use std::marker::Brand;
 use std::sync::Wait;
-use std::sync::ledger::Ledger;
 use std::test::Fail;
 
 /// The seat has so many receipts, and forgot those of so many offers of five octets each.
-fn has<C: Opening, M: Ledger, O: Ledger, A: Ledger>(
-    seat: &UserSeat<C, M, O, A>,
-    receipts: usize,
-    forgotten: u64,
-) -> bool {
+fn has<O: Opening>(seat: &UserSeat<O>, receipts: usize, forgotten: u64) -> bool {
     let are = Forgotten {
         calls: forgotten,
         messages: forgotten,
@@ -28,10 +23,7 @@ fn has<C: Opening, M: Ledger, O: Ledger, A: Ledger>(
 }
 
 /// The seat's share is that of so many offers.
-fn has_share<C: Opening, M: Ledger, O: Ledger, A: Ledger>(
-    seat: &UserSeat<C, M, O, A>,
-    offers: u64,
-) -> bool {
+fn has_share<O: Opening>(seat: &UserSeat<O>, offers: u64) -> bool {
     let share = SeatShare {
         calls: offers,
         messages: offers,
@@ -42,10 +34,10 @@ fn has_share<C: Opening, M: Ledger, O: Ledger, A: Ledger>(
 }
 
 /// A message is accepted under this number, which is kept; behind a checkpoint it's forgotten, and the share stays.
-fn forgets_behind_a_checkpoint<C: Opening, M: Ledger, O: Ledger, A: Ledger, R: Wait>(
+fn forgets_behind_a_checkpoint<O: Opening, R: Wait>(
     rt: &R,
-    set: &LinkSet<C, M, O, A>,
-    seat: &mut UserSeat<C, M, O, A>,
+    set: &LinkSet<O>,
+    seat: &mut UserSeat<O>,
     number: u64,
 ) -> bool {
     let offers = number.saturating_add(1);
@@ -60,10 +52,10 @@ fn forgets_behind_a_checkpoint<C: Opening, M: Ledger, O: Ledger, A: Ledger, R: W
 }
 
 /// So over three checkpoints, and what comes behind the last one is kept.
-fn over_three_checkpoints<C: Opening, M: Ledger, O: Ledger, A: Ledger, R: Wait>(
+fn over_three_checkpoints<O: Opening, R: Wait>(
     rt: &R,
-    set: &LinkSet<C, M, O, A>,
-    users: &mut [UserSeat<C, M, O, A>],
+    set: &LinkSet<O>,
+    users: &mut [UserSeat<O>],
 ) -> bool {
     let Some(seat) = users.first_mut() else {
         return false;
@@ -90,20 +82,17 @@ fn ends_well(closed: Option<Closed>) -> bool {
 }
 
 /// One user, and a link whose terminal asks nothing.
-fn one_user<C: Opening, M: Ledger, O: Ledger, A: Ledger, R: Wait>(
+fn one_user<O: Opening, R: Wait>(
     rt: &R,
     alloc: Global,
     config: &SetConfig,
     blanks: Blanks,
 ) -> Result<(), Fail>
-    requires calls { (blanks.calls.name ≡ C.name) × (blanks.calls.parts ≡ C.parts) }
-    requires messages { (blanks.messages.name ≡ M.name) × (blanks.messages.parts ≡ M.parts) }
-    requires octets { (blanks.octets.name ≡ O.name) × (blanks.octets.parts ≡ O.parts) }
-    requires acknowledged { (blanks.acknowledged.name ≡ A.name) × (blanks.acknowledged.parts ≡ A.parts) }
-    requires parts { AreParts C.parts M.parts O.parts A.parts 1 config.now.links }
-    requires opening { settings_of config.now ≡ C.settings }
+    requires blanks { blanks ≡ O.blanks }
+    requires parts { AreParts O.blanks 1 config.now.links }
+    requires opening { settings_of config.now ≡ O.settings }
 {
-    let Ok(opened) = LinkSet::<C, M, O, A>::create(alloc, config, 1, blanks) else {
+    let Ok(opened) = LinkSet::<O>::create(alloc, config, 1, blanks) else {
         return Err(Fail::from("not opened"));
     };
     let Opened {
@@ -118,5 +107,5 @@ fn one_user<C: Opening, M: Ledger, O: Ledger, A: Ledger, R: Wait>(
 #[test]
 fn a_seat_forgets_what_lies_before_a_checkpoint(rt: HostRuntime) -> Result<(), Fail> {
     let config = config_of()?;
-    one_user::<Brand, Brand, Brand, Brand, HostRuntime>(&rt, rt.alloc(), &config, blanks_of(1))
+    one_user::<Brand, HostRuntime>(&rt, rt.alloc(), &config, blanks_of(1))
 }

@@ -5,7 +5,7 @@ use set_events::{Answer, Method, SetConfig};
 use set_ledger::Blanks;
 use set_shared::{Closed, LinkSet, Opening, TermSeat, UserSeat};
 use std::sync::Wait;
-use std::sync::ledger::{Blank, Ledger};
+use std::sync::ledger::Blank;
 use std::test::Fail;
 
 /// The octets of a message of stream 3.
@@ -47,10 +47,10 @@ pub(crate) fn holds(fact: bool) -> Result<(), Fail> {
 }
 
 /// A user offers a message, and finds it as soon as it was accepted.
-pub(crate) fn offers<C: Opening, M: Ledger, O: Ledger, A: Ledger, R: Wait>(
+pub(crate) fn offers<O: Opening, R: Wait>(
     rt: &R,
-    set: &LinkSet<C, M, O, A>,
-    seat: &mut UserSeat<C, M, O, A>,
+    set: &LinkSet<O>,
+    seat: &mut UserSeat<O>,
 ) -> bool {
     match set.offer(rt, seat, &MESSAGE) {
         Ok(Answer::Accepted { number }) => {
@@ -62,10 +62,10 @@ pub(crate) fn offers<C: Opening, M: Ledger, O: Ledger, A: Ledger, R: Wait>(
 
 /// What a set came to, if all its seats are there. What it hands back where they aren't is let go here alone: that's dear to
 /// prove.
-pub(crate) fn closed<C: Opening, M: Ledger, O: Ledger, A: Ledger>(
-    set: LinkSet<C, M, O, A>,
-    users: Vec<UserSeat<C, M, O, A>>,
-    terminals: Vec<TermSeat<C, M, O, A>>,
+pub(crate) fn closed<O: Opening>(
+    set: LinkSet<O>,
+    users: Vec<UserSeat<O>>,
+    terminals: Vec<TermSeat<O>>,
 ) -> Option<Closed> {
     match set.close(users, terminals) {
         Ok(closed) => Some(closed),

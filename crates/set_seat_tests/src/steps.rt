@@ -8,15 +8,10 @@ use set_events::{Actor, AnswerRef, Body, EventRef, Reply, SetConfig};
 use set_ledger::{Blanks, Closed, Held, Opened, Opening, Seat, TermSeat, UserSeat, step_in};
 use std::alloc::Global;
 use std::marker::Brand;
-use std::sync::ledger::Ledger;
 use std::test::Fail;
 
 /// The seat's offer of these octets is accepted under number 0.
-fn is_accepted<C: Opening, M: Ledger, O: Ledger, A: Ledger>(
-    held: &mut Held<C, M, O, A>,
-    seat: &mut UserSeat<C, M, O, A>,
-    body: Body,
-) -> bool {
+fn is_accepted<O: Opening>(held: &mut Held<O>, seat: &mut UserSeat<O>, body: Body) -> bool {
     let _ = seat.number();
     let mut reply = Reply::new();
     match step_in(
@@ -33,11 +28,7 @@ fn is_accepted<C: Opening, M: Ledger, O: Ledger, A: Ledger>(
 }
 
 /// User 0 offers a message: the receipt and the share tell it.
-fn is_received<C: Opening, M: Ledger, O: Ledger, A: Ledger>(
-    alloc: Global,
-    held: &mut Held<C, M, O, A>,
-    seat: &mut UserSeat<C, M, O, A>,
-) -> bool {
+fn is_received<O: Opening>(alloc: Global, held: &mut Held<O>, seat: &mut UserSeat<O>) -> bool {
     let Ok(body) = Body::from_slice(alloc, &MESSAGE) else {
         return false;
     };
@@ -47,10 +38,10 @@ fn is_received<C: Opening, M: Ledger, O: Ledger, A: Ledger>(
 }
 
 /// So does the first user.
-fn first_is_received<C: Opening, M: Ledger, O: Ledger, A: Ledger>(
+fn first_is_received<O: Opening>(
     alloc: Global,
-    held: &mut Held<C, M, O, A>,
-    users: &mut [UserSeat<C, M, O, A>],
+    held: &mut Held<O>,
+    users: &mut [UserSeat<O>],
 ) -> bool {
     match users.first_mut() {
         Some(seat) => is_received(alloc, held, seat),
@@ -64,10 +55,10 @@ fn is_one_message(closed: &Closed) -> bool {
 }
 
 /// Whether the set ends, with this message alone.
-fn ends_well<C: Opening, M: Ledger, O: Ledger, A: Ledger>(
-    held: Held<C, M, O, A>,
-    users: Vec<UserSeat<C, M, O, A>>,
-    terminals: Vec<TermSeat<C, M, O, A>>,
+fn ends_well<O: Opening>(
+    held: Held<O>,
+    users: Vec<UserSeat<O>>,
+    terminals: Vec<TermSeat<O>>,
 ) -> bool {
     match held.end(users, terminals) {
         Ok(closed) => is_one_message(&closed),
@@ -76,19 +67,12 @@ fn ends_well<C: Opening, M: Ledger, O: Ledger, A: Ledger>(
 }
 
 /// One user offers one message: the receipt, the share and the end tell it.
-fn one_message<C: Opening, M: Ledger, O: Ledger, A: Ledger>(
-    alloc: Global,
-    config: &SetConfig,
-    blanks: Blanks,
-) -> Result<(), Fail>
-    requires calls { (blanks.calls.name ≡ C.name) × (blanks.calls.parts ≡ C.parts) }
-    requires messages { (blanks.messages.name ≡ M.name) × (blanks.messages.parts ≡ M.parts) }
-    requires octets { (blanks.octets.name ≡ O.name) × (blanks.octets.parts ≡ O.parts) }
-    requires acknowledged { (blanks.acknowledged.name ≡ A.name) × (blanks.acknowledged.parts ≡ A.parts) }
-    requires parts { AreParts C.parts M.parts O.parts A.parts 1 config.now.links }
-    requires opening { settings_of config.now ≡ C.settings }
+fn one_message<O: Opening>(alloc: Global, config: &SetConfig, blanks: Blanks) -> Result<(), Fail>
+    requires blanks { blanks ≡ O.blanks }
+    requires parts { AreParts O.blanks 1 config.now.links }
+    requires opening { settings_of config.now ≡ O.settings }
 {
-    let Ok(opened) = Held::<C, M, O, A>::open(alloc, config, 1, blanks) else {
+    let Ok(opened) = Held::<O>::open(alloc, config, 1, blanks) else {
         return Err(Fail::from("not opened"));
     };
     let Opened {
@@ -104,5 +88,5 @@ fn one_message<C: Opening, M: Ledger, O: Ledger, A: Ledger>(
 #[test]
 fn a_step_has_its_receipt(rt: HostRuntime) -> Result<(), Fail> {
     let config = config_of()?;
-    one_message::<Brand, Brand, Brand, Brand>(rt.alloc(), &config, blanks_of(1))
+    one_message::<Brand>(rt.alloc(), &config, blanks_of(1))
 }

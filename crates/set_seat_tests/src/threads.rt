@@ -9,16 +9,15 @@ use set_shared::{Blanks, Closed, LinkSet, Opened, Opening, TermSeat, UserSeat};
 use std::alloc::Global;
 use std::marker::Brand;
 use std::sync::Wait;
-use std::sync::ledger::Ledger;
 use std::test::Fail;
 use std::thread;
 use std::thread::{JoinHandle, Threads};
 
 /// A user offers a body of 274 octets, one more than a message has: it's refused, whatever room an entry has for it.
-fn refuses_a_long_one<C: Opening, M: Ledger, O: Ledger, A: Ledger, R: Wait>(
+fn refuses_a_long_one<O: Opening, R: Wait>(
     rt: &R,
-    set: &LinkSet<C, M, O, A>,
-    seat: &mut UserSeat<C, M, O, A>,
+    set: &LinkSet<O>,
+    seat: &mut UserSeat<O>,
 ) -> bool {
     match set.offer(rt, seat, &[0x85; 274]) {
         Ok(Answer::Refused { why }) => why == Refusal::TooLong,
@@ -27,11 +26,7 @@ fn refuses_a_long_one<C: Opening, M: Ledger, O: Ledger, A: Ledger, R: Wait>(
 }
 
 /// A user offers a hundred messages, and finds each one as soon as it was accepted.
-fn offers_hundred<C: Opening, M: Ledger, O: Ledger, A: Ledger, R: Wait>(
-    rt: &R,
-    set: &LinkSet<C, M, O, A>,
-    seat: &mut UserSeat<C, M, O, A>,
-) -> bool {
+fn offers_hundred<O: Opening, R: Wait>(rt: &R, set: &LinkSet<O>, seat: &mut UserSeat<O>) -> bool {
     for _message in 0..100u8 {
         if !offers(rt, set, seat) {
             return false;
@@ -41,11 +36,11 @@ fn offers_hundred<C: Opening, M: Ledger, O: Ledger, A: Ledger, R: Wait>(
 }
 
 /// The same by a user's own seat, which offers one that is too long first. Where an answer is another: `None`.
-fn offers_all<C: Opening, M: Ledger, O: Ledger, A: Ledger, R: Wait>(
+fn offers_all<O: Opening, R: Wait>(
     rt: &R,
-    set: &LinkSet<C, M, O, A>,
-    seat: UserSeat<C, M, O, A>,
-) -> Option<UserSeat<C, M, O, A>> {
+    set: &LinkSet<O>,
+    seat: UserSeat<O>,
+) -> Option<UserSeat<O>> {
     let mut seat = seat;
     if refuses_a_long_one(rt, set, &mut seat) && offers_hundred(rt, set, &mut seat) {
         Some(seat)
@@ -55,31 +50,19 @@ fn offers_all<C: Opening, M: Ledger, O: Ledger, A: Ledger, R: Wait>(
 }
 
 /// Whether a terminal is told what is to be sent.
-fn asks<C: Opening, M: Ledger, O: Ledger, A: Ledger, R: Wait>(
-    rt: &R,
-    set: &LinkSet<C, M, O, A>,
-    seat: &mut TermSeat<C, M, O, A>,
-) -> bool {
+fn asks<O: Opening, R: Wait>(rt: &R, set: &LinkSet<O>, seat: &mut TermSeat<O>) -> bool {
     let event = Event::Next { link: seat.link() };
     matches!(set.term_step(rt, seat, &event), Ok(Answer::Sent { .. }))
 }
 
 /// A terminal brings its link up.
-fn rises<C: Opening, M: Ledger, O: Ledger, A: Ledger, R: Wait>(
-    rt: &R,
-    set: &LinkSet<C, M, O, A>,
-    seat: &mut TermSeat<C, M, O, A>,
-) -> bool {
+fn rises<O: Opening, R: Wait>(rt: &R, set: &LinkSet<O>, seat: &mut TermSeat<O>) -> bool {
     let event = Event::Up { link: seat.link() };
     matches!(set.term_step(rt, seat, &event), Ok(Answer::Done))
 }
 
 /// A terminal asks 400 times for what is to be sent, and is told each time.
-fn asks_often<C: Opening, M: Ledger, O: Ledger, A: Ledger, R: Wait>(
-    rt: &R,
-    set: &LinkSet<C, M, O, A>,
-    seat: &mut TermSeat<C, M, O, A>,
-) -> bool {
+fn asks_often<O: Opening, R: Wait>(rt: &R, set: &LinkSet<O>, seat: &mut TermSeat<O>) -> bool {
     for _turn in 0..400u16 {
         if !asks(rt, set, seat) {
             return false;
@@ -89,11 +72,11 @@ fn asks_often<C: Opening, M: Ledger, O: Ledger, A: Ledger, R: Wait>(
 }
 
 /// A terminal brings its link up, and sends. Where it isn't told what: `None`.
-fn sends_all<C: Opening, M: Ledger, O: Ledger, A: Ledger, R: Wait>(
+fn sends_all<O: Opening, R: Wait>(
     rt: &R,
-    set: &LinkSet<C, M, O, A>,
-    seat: TermSeat<C, M, O, A>,
-) -> Option<TermSeat<C, M, O, A>> {
+    set: &LinkSet<O>,
+    seat: TermSeat<O>,
+) -> Option<TermSeat<O>> {
     let mut seat = seat;
     if rises(rt, set, &mut seat) && asks_often(rt, set, &mut seat) {
         Some(seat)
@@ -118,23 +101,17 @@ fn all_of<T: Drop, R: Threads + Wait>(
 }
 
 /// Each seat in a thread of its own; those that come back. One that finds no thread or no memory doesn't.
-fn run<
-    C: Opening + Send + Sync,
-    M: Ledger + Send + Sync,
-    O: Ledger + Send + Sync,
-    A: Ledger + Send + Sync,
-    R: Threads + Wait + Sync,
->(
+fn run<O: Opening + Send + Sync, R: Threads + Wait + Sync>(
     rt: &R,
     alloc: Global,
-    set: &LinkSet<C, M, O, A>,
-    users: Vec<UserSeat<C, M, O, A>>,
-    terminals: Vec<TermSeat<C, M, O, A>>,
-) -> (Vec<UserSeat<C, M, O, A>>, Vec<TermSeat<C, M, O, A>>) {
+    set: &LinkSet<O>,
+    users: Vec<UserSeat<O>>,
+    terminals: Vec<TermSeat<O>>,
+) -> (Vec<UserSeat<O>>, Vec<TermSeat<O>>) {
     thread::scope(
         thread::scope_env(),
         rt,
-        |scope| -> (Vec<UserSeat<C, M, O, A>>, Vec<TermSeat<C, M, O, A>>) {
+        |scope| -> (Vec<UserSeat<O>>, Vec<TermSeat<O>>) {
             let mut user_threads = Vec::new(alloc);
             for seat in users {
                 if let Ok(started) = scope.spawn(move || offers_all(rt, set, seat)) {
@@ -174,21 +151,17 @@ fn ends_well(closed: Option<Closed>) -> bool {
 }
 
 /// Four users beside the terminal of one link.
-fn four_users<
-    C: Opening + Send + Sync,
-    M: Ledger + Send + Sync,
-    O: Ledger + Send + Sync,
-    A: Ledger + Send + Sync,
-    R: Threads + Wait + Sync,
->(rt: &R, alloc: Global, config: &SetConfig, blanks: Blanks) -> Result<(), Fail>
-    requires calls { (blanks.calls.name ≡ C.name) × (blanks.calls.parts ≡ C.parts) }
-    requires messages { (blanks.messages.name ≡ M.name) × (blanks.messages.parts ≡ M.parts) }
-    requires octets { (blanks.octets.name ≡ O.name) × (blanks.octets.parts ≡ O.parts) }
-    requires acknowledged { (blanks.acknowledged.name ≡ A.name) × (blanks.acknowledged.parts ≡ A.parts) }
-    requires parts { AreParts C.parts M.parts O.parts A.parts 4 config.now.links }
-    requires opening { settings_of config.now ≡ C.settings }
+fn four_users<O: Opening + Send + Sync, R: Threads + Wait + Sync>(
+    rt: &R,
+    alloc: Global,
+    config: &SetConfig,
+    blanks: Blanks,
+) -> Result<(), Fail>
+    requires blanks { blanks ≡ O.blanks }
+    requires parts { AreParts O.blanks 4 config.now.links }
+    requires opening { settings_of config.now ≡ O.settings }
 {
-    let Ok(opened) = LinkSet::<C, M, O, A>::create(alloc, config, 4, blanks) else {
+    let Ok(opened) = LinkSet::<O>::create(alloc, config, 4, blanks) else {
         return Err(Fail::from("not opened"));
     };
     let Opened {
@@ -203,5 +176,5 @@ fn four_users<
 #[test]
 fn four_users_beside_a_terminal(rt: HostRuntime) -> Result<(), Fail> {
     let config = config_of()?;
-    four_users::<Brand, Brand, Brand, Brand, HostRuntime>(&rt, rt.alloc(), &config, blanks_of(4))
+    four_users::<Brand, HostRuntime>(&rt, rt.alloc(), &config, blanks_of(4))
 }

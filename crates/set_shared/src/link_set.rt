@@ -6,7 +6,7 @@ ghost use Rattle.set_events.specs.Lent.{HasFitUnit, event_in};
 ghost use Rattle.set_events.specs.Owners.{IsOwn};
 ghost use Rattle.set_ledger.specs.Openings.{IsBaseOf};
 ghost use Rattle.set_ledger.specs.Seats.{Forgets, Receives, new_seats};
-ghost use Rattle.set_ledger.specs.Totals.{AreParts, HeldState, Names};
+ghost use Rattle.set_ledger.specs.Totals.{AreParts, HeldState};
 ghost use Rattle.set_ledger.specs.Ending.{is_complete, AreFaithful, IsClosed};
 ghost use Rattle.set_model.specs.State.{settings_of};
 ghost use Rattle.set_shared.specs.Asking.{IsAnswered, IsFull};
@@ -18,19 +18,18 @@ use set_ledger::{
 };
 use std::alloc::Global;
 use std::marker::Model;
-use std::sync::ledger::Ledger;
 use std::sync::{Mutex, Wait};
 
 /// A link set that threads share. Contracts see how many seats it has; of what stands under its lock they know
 /// what every `Held` keeps.
 #[derive(Drop)]
-pub struct LinkSet<C: Opening, M: Ledger, O: Ledger, A: Ledger> {
-    held: Mutex<Held<C, M, O, A>>,
+pub struct LinkSet<O: Opening> {
+    held: Mutex<Held<O>>,
     users: u16,
     links: u8,
 }
 
-impl<C: Opening, M: Ledger, O: Ledger, A: Ledger> Model for LinkSet<C, M, O, A> {
+impl<O: Opening> Model for LinkSet<O> {
     ghost use Rattle.set_shared.specs.Seating.{Seating};
 
     ghost Value = { Seating };
@@ -39,21 +38,21 @@ impl<C: Opening, M: Ledger, O: Ledger, A: Ledger> Model for LinkSet<C, M, O, A> 
 
     ghost view = { λ s. record { users = s.users; links = s.links } };
 
-    ghost invariant = { λ s. (s.users ≡ M.parts) × (s.links ≡ A.parts) };
+    ghost invariant = { λ s. (s.users ≡ O.blanks.messages.parts) × (s.links ≡ O.blanks.acknowledged.parts) };
 }
 
 /// A set that was opened, and its seats.
 #[derive(Drop)]
-pub struct Opened<C: Opening, M: Ledger, O: Ledger, A: Ledger> {
+pub struct Opened<O: Opening> {
     /// The set.
-    pub set: LinkSet<C, M, O, A>,
+    pub set: LinkSet<O>,
     /// A seat for each user, 0, 1, ..
-    pub users: Vec<UserSeat<C, M, O, A>>,
+    pub users: Vec<UserSeat<O>>,
     /// A seat for the terminal of each link, 0, 1, ..
-    pub terminals: Vec<TermSeat<C, M, O, A>>,
+    pub terminals: Vec<TermSeat<O>>,
 }
 
-impl<C: Opening, M: Ledger, O: Ledger, A: Ledger> LinkSet<C, M, O, A> {
+impl<O: Opening> LinkSet<O> {
     /// Opens a set as this configuration has it, for so many users: the set, a seat for each user, and one for the
     /// terminal of each link. The configuration's settings are those that the type tells, so what is shared is a set of
     /// theirs: no other stands under a lock of this type.
@@ -65,14 +64,10 @@ impl<C: Opening, M: Ledger, O: Ledger, A: Ledger> LinkSet<C, M, O, A> {
         config: &SetConfig,
         users: u16,
         blanks: Blanks,
-    ) -> Result<Opened<C, M, O, A>, CreateFault>
-        requires calls { (0 < users) × (users ≤ 64) → Names blanks.calls C.name C.parts }
-        requires messages { (0 < users) × (users ≤ 64) → Names blanks.messages M.name M.parts }
-        requires octets { (0 < users) × (users ≤ 64) → Names blanks.octets O.name O.parts }
-        requires acknowledged { (0 < users) × (users ≤ 64) → Names blanks.acknowledged A.name A.parts }
-        requires parts { (0 < users) × (users ≤ 64)
-            → AreParts C.parts M.parts O.parts A.parts users config.now.links }
-        requires opening { (0 < users) × (users ≤ 64) → settings_of config.now ≡ C.settings }
+    ) -> Result<Opened<O>, CreateFault>
+        requires blanks { (0 < users) × (users ≤ 64) → blanks ≡ O.blanks }
+        requires parts { (0 < users) × (users ≤ 64) → AreParts O.blanks users config.now.links }
+        requires opening { (0 < users) × (users ≤ 64) → settings_of config.now ≡ O.settings }
         ensures set { IfOk result (λ opened. opened.set ≡ record { users = users; links = config.now.links }) }
         ensures users { IfOk result (λ opened. opened.users.items ≡ new_seats User users) }
         ensures terminals { IfOk result (λ opened. opened.terminals.items ≡ new_seats Terminal config.now.links) }
@@ -89,7 +84,7 @@ impl<C: Opening, M: Ledger, O: Ledger, A: Ledger> LinkSet<C, M, O, A> {
     }
 
     /// A set that threads share, of one that isn't under a lock: as [`LinkSet::close`] hands it back.
-    pub fn of(held: Held<C, M, O, A>) -> LinkSet<C, M, O, A>
+    pub fn of(held: Held<O>) -> LinkSet<O>
         ensures { result ≡ record { users = held.users; links = held.links } }
     {
         let users = held.users();
@@ -108,12 +103,12 @@ impl<C: Opening, M: Ledger, O: Ledger, A: Ledger> LinkSet<C, M, O, A> {
     pub fn offer<R: Wait>(
         &self,
         rt: &R,
-        seat: &mut UserSeat<C, M, O, A>,
+        seat: &mut UserSeat<O>,
         octets: &[u8],
     ) -> Result<Answer, SetFault>
         ensures receipt { IfOk result (λ answer. Receives seat.old (Offer octets.now) answer seat.new) }
-        ensures answer { IfOk result (IsAnswered C.settings (Offer octets.now)) }
-        ensures exhausted { result ≡ Err SetFault.Exhausted → IsFull C.settings }
+        ensures answer { IfOk result (IsAnswered O.settings (Offer octets.now)) }
+        ensures exhausted { result ≡ Err SetFault.Exhausted → IsFull O.settings }
         ensures err { OnErr result (seat.new ≡ seat.old) }
     {
         // a user's number is below 64
@@ -125,10 +120,10 @@ impl<C: Opening, M: Ledger, O: Ledger, A: Ledger> LinkSet<C, M, O, A> {
     ///
     /// Faults, after which the seat is as it was: 2 [`SetFault::Exhausted`] only where the set's history has 2^48 entries;
     /// 1 [`SetFault::NoMemory`] only where memory was refused.
-    pub fn take<R: Wait>(&self, rt: &R, seat: &mut UserSeat<C, M, O, A>) -> Result<Answer, SetFault>
+    pub fn take<R: Wait>(&self, rt: &R, seat: &mut UserSeat<O>) -> Result<Answer, SetFault>
         ensures receipt { IfOk result (λ answer. Receives seat.old Take answer seat.new) }
-        ensures answer { IfOk result (IsAnswered C.settings Take) }
-        ensures exhausted { result ≡ Err SetFault.Exhausted → IsFull C.settings }
+        ensures answer { IfOk result (IsAnswered O.settings Take) }
+        ensures exhausted { result ≡ Err SetFault.Exhausted → IsFull O.settings }
         ensures err { OnErr result (seat.new ≡ seat.old) }
     {
         // a user's number is below 64
@@ -143,12 +138,12 @@ impl<C: Opening, M: Ledger, O: Ledger, A: Ledger> LinkSet<C, M, O, A> {
     pub fn find<R: Wait>(
         &self,
         rt: &R,
-        seat: &mut UserSeat<C, M, O, A>,
+        seat: &mut UserSeat<O>,
         number: u64,
     ) -> Result<Answer, SetFault>
         ensures receipt { IfOk result (λ answer. Receives seat.old (Find number) answer seat.new) }
-        ensures answer { IfOk result (IsAnswered C.settings (Find number)) }
-        ensures exhausted { result ≡ Err SetFault.Exhausted → IsFull C.settings }
+        ensures answer { IfOk result (IsAnswered O.settings (Find number)) }
+        ensures exhausted { result ≡ Err SetFault.Exhausted → IsFull O.settings }
         ensures err { OnErr result (seat.new ≡ seat.old) }
     {
         // a user's number is below 64
@@ -163,13 +158,13 @@ impl<C: Opening, M: Ledger, O: Ledger, A: Ledger> LinkSet<C, M, O, A> {
     pub fn term_step<R: Wait>(
         &self,
         rt: &R,
-        seat: &mut TermSeat<C, M, O, A>,
+        seat: &mut TermSeat<O>,
         event: &Event,
     ) -> Result<Answer, SetFault>
         requires { IsOwn seat.old.who event.now }
         ensures receipt { IfOk result (λ answer. Receives seat.old event.now answer seat.new) }
-        ensures answer { IfOk result (IsAnswered C.settings event.now) }
-        ensures exhausted { result ≡ Err SetFault.Exhausted → IsFull C.settings }
+        ensures answer { IfOk result (IsAnswered O.settings event.now) }
+        ensures exhausted { result ≡ Err SetFault.Exhausted → IsFull O.settings }
         ensures err { OnErr result (seat.new ≡ seat.old) }
     {
         self.answer_to(rt, seat, &EventRef::of(event))
@@ -180,7 +175,7 @@ impl<C: Opening, M: Ledger, O: Ledger, A: Ledger> LinkSet<C, M, O, A> {
     pub fn term_step_held<R: Wait, F: FnOnce()>(
         &self,
         rt: &R,
-        seat: &mut TermSeat<C, M, O, A>,
+        seat: &mut TermSeat<O>,
         event: &EventRef<'_>,
         reply: &mut Reply,
         held: F,
@@ -189,8 +184,8 @@ impl<C: Opening, M: Ledger, O: Ledger, A: Ledger> LinkSet<C, M, O, A> {
         requires fits { HasFitUnit event.now }
         requires callable { F.IsAlwaysCallable held }
         ensures receipt { OnOk result (Receives seat.old (event_in event.now) reply.new seat.new) }
-        ensures answer { OnOk result (IsAnswered C.settings (event_in event.now) reply.new) }
-        ensures exhausted { result ≡ Err SetFault.Exhausted → IsFull C.settings }
+        ensures answer { OnOk result (IsAnswered O.settings (event_in event.now) reply.new) }
+        ensures exhausted { result ≡ Err SetFault.Exhausted → IsFull O.settings }
         ensures err { OnErr result (seat.new ≡ seat.old) }
     {
         reserve_receipt(seat, event)?;
@@ -216,7 +211,7 @@ impl<C: Opening, M: Ledger, O: Ledger, A: Ledger> LinkSet<C, M, O, A> {
     }
 
     /// One step, and its answer by itself. The seat has room for its receipt before the lock is taken.
-    fn answer_to<R: Wait, S: Seat<C, M, O, A>>(
+    fn answer_to<R: Wait, S: Seat<O>>(
         &self,
         rt: &R,
         seat: &mut S,
@@ -225,8 +220,8 @@ impl<C: Opening, M: Ledger, O: Ledger, A: Ledger> LinkSet<C, M, O, A> {
         requires own { IsOwn (S.state seat.old).who (event_in event.now) }
         requires fits { HasFitUnit event.now }
         ensures receipt { IfOk result (λ answer. Receives (S.state seat.old) (event_in event.now) answer (S.state seat.new)) }
-        ensures answer { IfOk result (IsAnswered C.settings (event_in event.now)) }
-        ensures exhausted { result ≡ Err SetFault.Exhausted → IsFull C.settings }
+        ensures answer { IfOk result (IsAnswered O.settings (event_in event.now)) }
+        ensures exhausted { result ≡ Err SetFault.Exhausted → IsFull O.settings }
         ensures err { OnErr result (S.state seat.new ≡ S.state seat.old) }
     {
         reserve_receipt(seat, event)?;
@@ -239,7 +234,7 @@ impl<C: Opening, M: Ledger, O: Ledger, A: Ledger> LinkSet<C, M, O, A> {
     /// [`set_ledger::forget`]: those that are gone are its first. Which checkpoint was the last isn't said here.
     ///
     /// Fault: 1 [`SetFault::NoMemory`], only where memory was refused; the seat is then as it was.
-    pub fn forget<R: Wait, S: Seat<C, M, O, A>>(&self, rt: &R, seat: &mut S) -> Result<(), SetFault>
+    pub fn forget<R: Wait, S: Seat<O>>(&self, rt: &R, seat: &mut S) -> Result<(), SetFault>
         ensures forgets { OnOk result ((many : ℕ) × Forgets many (S.state seat.old) (S.state seat.new)) }
         ensures fault { IfErr result (λ fault. fault ≡ SetFault.NoMemory) }
         ensures err { OnErr result (S.state seat.new ≡ S.state seat.old) }
@@ -258,15 +253,15 @@ impl<C: Opening, M: Ledger, O: Ledger, A: Ledger> LinkSet<C, M, O, A> {
     /// what stands before those, with what it forgot, isn't as many as its calls before the base.
     pub fn close(
         self,
-        users: Vec<UserSeat<C, M, O, A>>,
-        terminals: Vec<TermSeat<C, M, O, A>>,
-    ) -> Result<Closed, EndFault<C, M, O, A>>
+        users: Vec<UserSeat<O>>,
+        terminals: Vec<TermSeat<O>>,
+    ) -> Result<Closed, EndFault<O>>
         ensures complete { OnOk result (is_complete self.users self.links users.items terminals.items ≡ true) }
         ensures closed { IfOk result (λ closed.
             IsClosed users.items terminals.items closed.base closed.history.items
             closed.books closed.counts) }
-        ensures opened { IfOk result (λ closed. IsBaseOf C.settings closed.base) }
-        ensures config { IfOk result (λ closed. settings_of closed.config ≡ C.settings) }
+        ensures opened { IfOk result (λ closed. IsBaseOf O.settings closed.base) }
+        ensures config { IfOk result (λ closed. settings_of closed.config ≡ O.settings) }
         ensures back { IfErr result (λ fault. (held : HeldState) × (held.users ≡ self.users) × (held.links ≡ self.links)
             × (fault ≡ (if is_complete self.users self.links users.items terminals.items
             then EndFault.Strange else EndFault.Missing) (record { held = held; users = users; terminals = terminals }))
@@ -282,8 +277,8 @@ impl<C: Opening, M: Ledger, O: Ledger, A: Ledger> LinkSet<C, M, O, A> {
 }
 
 /// One step at what stands under the lock, as `step_in` makes it.
-fn ask<C: Opening, M: Ledger, O: Ledger, A: Ledger, S: Seat<C, M, O, A>>(
-    held: &mut Held<C, M, O, A>,
+fn ask<O: Opening, S: Seat<O>>(
+    held: &mut Held<O>,
     seat: &mut S,
     event: &EventRef<'_>,
     reply: &mut Reply,
@@ -291,8 +286,8 @@ fn ask<C: Opening, M: Ledger, O: Ledger, A: Ledger, S: Seat<C, M, O, A>>(
     requires own { IsOwn (S.state seat.old).who (event_in event.now) }
     requires fits { HasFitUnit event.now }
     ensures receipt { OnOk result (Receives (S.state seat.old) (event_in event.now) reply.new (S.state seat.new)) }
-    ensures answer { OnOk result (IsAnswered C.settings (event_in event.now) reply.new) }
-    ensures exhausted { result ≡ Err SetFault.Exhausted → IsFull C.settings }
+    ensures answer { OnOk result (IsAnswered O.settings (event_in event.now) reply.new) }
+    ensures exhausted { result ≡ Err SetFault.Exhausted → IsFull O.settings }
     ensures err { OnErr result (S.state seat.new ≡ S.state seat.old) }
 {
     held.replays();

@@ -11,7 +11,7 @@ use set_shared::{
 use std::alloc::Global;
 use std::marker::Brand;
 use std::sync::Wait;
-use std::sync::ledger::{Blank, Ledger};
+use std::sync::ledger::Blank;
 use std::test::Fail;
 
 /// The octets of a message of stream 3.
@@ -71,10 +71,7 @@ struct Seen {
     receipts: (usize, usize),
 }
 
-fn seen_of<C: Opening, M: Ledger, O: Ledger, A: Ledger>(
-    user: &UserSeat<C, M, O, A>,
-    terminal: &TermSeat<C, M, O, A>,
-) -> Seen {
+fn seen_of<O: Opening>(user: &UserSeat<O>, terminal: &TermSeat<O>) -> Seen {
     Seen {
         user: user.share(),
         terminal: terminal.share(),
@@ -89,11 +86,11 @@ fn is_done(answer: Result<Answer, SetFault>) -> Result<(), SetFault> {
     }
 }
 
-fn calls<C: Opening, M: Ledger, O: Ledger, A: Ledger, R: Wait>(
+fn calls<O: Opening, R: Wait>(
     rt: &R,
-    set: &LinkSet<C, M, O, A>,
-    user: &mut UserSeat<C, M, O, A>,
-    terminal: &mut TermSeat<C, M, O, A>,
+    set: &LinkSet<O>,
+    user: &mut UserSeat<O>,
+    terminal: &mut TermSeat<O>,
     call: Call,
 ) -> Result<(), SetFault> {
     let link = terminal.link();
@@ -113,11 +110,11 @@ fn calls<C: Opening, M: Ledger, O: Ledger, A: Ledger, R: Wait>(
 }
 
 /// The call is made, again where it was refused: the seats are then as they were.
-fn goes<C: Opening, M: Ledger, O: Ledger, A: Ledger, R: Wait>(
+fn goes<O: Opening, R: Wait>(
     rt: &R,
-    set: &LinkSet<C, M, O, A>,
-    user: &mut UserSeat<C, M, O, A>,
-    terminal: &mut TermSeat<C, M, O, A>,
+    set: &LinkSet<O>,
+    user: &mut UserSeat<O>,
+    terminal: &mut TermSeat<O>,
     call: Call,
 ) -> bool {
     let before = seen_of(user, terminal);
@@ -136,11 +133,11 @@ fn is_all(seen: Seen) -> bool {
     user && seen.terminal.calls == 2 && seen.receipts == (0, 0)
 }
 
-fn all_go<C: Opening, M: Ledger, O: Ledger, A: Ledger, R: Wait>(
+fn all_go<O: Opening, R: Wait>(
     rt: &R,
-    set: &LinkSet<C, M, O, A>,
-    users: &mut [UserSeat<C, M, O, A>],
-    terminals: &mut [TermSeat<C, M, O, A>],
+    set: &LinkSet<O>,
+    users: &mut [UserSeat<O>],
+    terminals: &mut [TermSeat<O>],
 ) -> bool {
     let (Some(user), Some(terminal)) = (users.first_mut(), terminals.first_mut()) else {
         return false;
@@ -153,30 +150,19 @@ fn all_go<C: Opening, M: Ledger, O: Ledger, A: Ledger, R: Wait>(
     is_all(seen_of(user, terminal))
 }
 
-fn came<C: Opening, M: Ledger, O: Ledger, A: Ledger, R: Wait>(
-    rt: &R,
-    alloc: Global,
-    config: &SetConfig,
-    blanks: Blanks,
-) -> Came
-    requires calls { (blanks.calls.name ≡ C.name) × (blanks.calls.parts ≡ C.parts) }
-    requires messages { (blanks.messages.name ≡ M.name) × (blanks.messages.parts ≡ M.parts) }
-    requires octets { (blanks.octets.name ≡ O.name) × (blanks.octets.parts ≡ O.parts) }
-    requires acknowledged { (blanks.acknowledged.name ≡ A.name) × (blanks.acknowledged.parts ≡ A.parts) }
-    requires parts { AreParts C.parts M.parts O.parts A.parts 1 config.now.links }
-    requires opening { settings_of config.now ≡ C.settings }
+fn came<O: Opening, R: Wait>(rt: &R, alloc: Global, config: &SetConfig, blanks: Blanks) -> Came
+    requires blanks { blanks ≡ O.blanks }
+    requires parts { AreParts O.blanks 1 config.now.links }
+    requires opening { settings_of config.now ≡ O.settings }
 {
-    match LinkSet::<C, M, O, A>::create(alloc, config, 1, blanks) {
+    match LinkSet::<O>::create(alloc, config, 1, blanks) {
         Ok(opened) => went(rt, opened),
         Err(CreateFault::NoMemory) => Came::Refused,
         Err(_) => Came::Wrong,
     }
 }
 
-fn went<C: Opening, M: Ledger, O: Ledger, A: Ledger, R: Wait>(
-    rt: &R,
-    opened: Opened<C, M, O, A>,
-) -> Came {
+fn went<O: Opening, R: Wait>(rt: &R, opened: Opened<O>) -> Came {
     let Opened {
         set,
         mut users,
@@ -195,12 +181,7 @@ fn a_refused_allocation_leaves_a_shared_set(rt: HostRuntime) -> Result<(), Fail>
     let Some(config) = config() else {
         return Err(Fail::from("no set has these settings"));
     };
-    let first = came::<Brand, Brand, Brand, Brand, HostRuntime>(&rt, rt.alloc(), &config, blanks());
-    let second = came::<Brand, Brand, Brand, Brand, HostRuntime>(
-        &rt,
-        rt.alloc(),
-        &config,
-        blanks(),
-    );
+    let first = came::<Brand, HostRuntime>(&rt, rt.alloc(), &config, blanks());
+    let second = came::<Brand, HostRuntime>(&rt, rt.alloc(), &config, blanks());
     holds(is_right(first, second))
 }

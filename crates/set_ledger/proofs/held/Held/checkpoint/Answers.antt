@@ -11,5 +11,5 @@ invariant_of-self-2 g c =
     let is = c.in_ok-checkpoint.ensures in (
       totals_stay _ old c.checkpoint.new.self is.books is.entries c.self.invariant.0,
       c.self.invariant.1,
-      subst (λ (set : LinkSet). IsBaseOf g.C.Opening.settings set.base) (sym is.ok) (checkpoints g.C.Opening.settings old c.self.invariant.2 c.replays.ensures.legal c.replays.ensures.agrees),
+      subst (λ (set : LinkSet). IsBaseOf g.O.Opening.settings set.base) (sym is.ok) (checkpoints g.O.Opening.settings old c.self.invariant.2 c.replays.ensures.legal c.replays.ensures.agrees),
     )

@@ -40,4 +40,4 @@ pub with_seats-requires-clause-parts : goal.with_seats-requires-clause-parts
 with_seats-requires-clause-parts g c = c.requires.parts (few_users c.args.users c.if-users-eq0.false c.if-users-gt-MOST_USERS.false)
 
 pub with_seats-requires-clause-opening : goal.with_seats-requires-clause-opening
-with_seats-requires-clause-opening g c = opens g.C.Opening.settings c.in_ok-core.core.base (ap (λ (set : LinkSet). set.base) c.in_ok-core.ensures.core ∙ ap opening_with (c.requires.opening (few_users c.args.users c.if-users-eq0.false c.if-users-gt-MOST_USERS.false)))
+with_seats-requires-clause-opening g c = opens g.O.Opening.settings c.in_ok-core.core.base (ap (λ (set : LinkSet). set.base) c.in_ok-core.ensures.core ∙ ap opening_with (c.requires.opening (few_users c.args.users c.if-users-eq0.false c.if-users-gt-MOST_USERS.false)))

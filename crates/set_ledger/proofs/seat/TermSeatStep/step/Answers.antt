@@ -26,7 +26,7 @@ pub invariant_of-held : goal.invariant_of-held
 invariant_of-held g c = (
   term_totals c.self.inside.link _ _ _ _ _ _ (event_in c.args.event.now) c.make.new.reply c.in-Ok.gained c.held.inside.core c.make.new.core c.held.invariant.0 c.in-Ok.ensures.gains c.gain.ensures.total c.gain-in-Ok.ensures.total,
   c.held.invariant.1,
-  subst (IsBaseOf g.C.Opening.settings) (sym c.in-Ok.ensures.step.base_is) c.held.invariant.2,
+  subst (IsBaseOf g.O.Opening.settings) (sym c.in-Ok.ensures.step.base_is) c.held.invariant.2,
 )
 
 pub returns-in-Ok-clause-step : goal.returns-in-Ok-clause-step

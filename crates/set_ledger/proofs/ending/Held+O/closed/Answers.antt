@@ -5,16 +5,16 @@ use Rattle.set_ledger.specs.Openings.{IsBaseOf}
 use Rattle.set_ledger.specs.Totals.{HeldState}
 use Rattle.set_ledger.proofs.Closing.{complete_lengths, whole_sum, whole_sums, closes}
 use Rattle.set_ledger.proofs.Telling.{settings_told}
-use Rattle.set_ledger.proofs.ending.Held+C+M+O+A.closed.Goals as goal
+use Rattle.set_ledger.proofs.ending.Held+O.closed.Goals as goal
 
 pub returns-clause-base : goal.returns-clause-base
 returns-clause-base g c = c.into_base_and_history-base.ensures.base ∙ ap (λ (h : HeldState). h.set.base) c.self.view_is
 
 pub returns-clause-opened : goal.returns-clause-opened
-returns-clause-opened g c = subst (IsBaseOf g.C.Opening.settings) (sym c.into_base_and_history-base.ensures.base) c.self.invariant.2
+returns-clause-opened g c = subst (IsBaseOf g.O.Opening.settings) (sym c.into_base_and_history-base.ensures.base) c.self.invariant.2
 
 pub returns-clause-opening : goal.returns-clause-opening
-returns-clause-opening g c = settings_told c.config-config.result.now c.self.inside.core.base g.C.Opening.settings c.config-config.ensures c.self.invariant.2
+returns-clause-opening g c = settings_told c.config-config.result.now c.self.inside.core.base g.O.Opening.settings c.config-config.ensures c.self.invariant.2
 
 -- all seats are there, so together they have every part of each ledger
 pub returns-clause-closed : goal.returns-clause-closed

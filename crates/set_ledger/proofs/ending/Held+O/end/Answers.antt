@@ -1,7 +1,7 @@
 use Rattle.std.proofs.Common.{refl, true, false}
 use Rattle.set_ledger.proofs.Closing.{complete_as, faithful_as}
 use Rattle.set_ledger.proofs.Searching.{not_both}
-use Rattle.set_ledger.proofs.ending.Held+C+M+O+A.end.Goals as goal
+use Rattle.set_ledger.proofs.ending.Held+O.end.Goals as goal
 
 pub returns-then-not-has_all_seats-clause-back : goal.returns-then-not-has_all_seats-clause-back
 returns-then-not-has_all_seats-clause-back g c = rw (complete_as c.args.self.users c.args.self.links c.args.users.items c.deref.result.now c.args.terminals.items c.deref-2.result.now c.has_all_seats.result false c.has_all_seats.ensures c.deref.ensures.value c.deref-2.ensures.value c.if-not-has_all_seats.true) refl
