@@ -1,7 +1,6 @@
 //! A terminal's turns where its link is managed.
 ghost use Rattle.std.specs.Prelude.{◌≡◌, ◌≤◌, ◌^◌, false, OnOk};
-ghost use Rattle.link_term.specs.Looking.{seen};
-ghost use Rattle.link_term.specs.Standing.{standing};
+ghost use Rattle.link_term.specs.Standing.{stands};
 ghost use Rattle.bank_crew.specs.Shifts.{Slice, Slices};
 
 use super::manager::{LinkManager, LinkOrder};
@@ -23,14 +22,9 @@ pub(crate) fn managed_turns<O: Opening, D: Door, L: Line, T: Gate, G: LinkManage
     link: u8,
     terminal: &mut Terminal<D, L, T>,
 ) -> Result<TermReport, TermFault>
-    requires failed { terminal.old.works.failed ≡ false }
+    requires failed { terminal.old.failed ≡ false }
     ensures turns { Slices orders.now.plan.turns result
-        (standing terminal.old.works.receiver terminal.old.works.inside (D.made terminal.old.door) (D.faults terminal.old.door)
-        (seen (L.taken_so_far terminal.old.line) (L.waiting terminal.old.line) (L.put_so_far terminal.old.line)
-        (L.free terminal.old.line)))
-        (standing terminal.new.works.receiver terminal.new.works.inside (D.made terminal.new.door) (D.faults terminal.new.door)
-        (seen (L.taken_so_far terminal.new.line) (L.waiting terminal.new.line) (L.put_so_far terminal.new.line)
-        (L.free terminal.new.line))) }
+        (stands D.Door L.Line terminal.old) (stands D.Door L.Line terminal.new) }
     ensures number { D.number terminal.new.door ≡ D.number terminal.old.door }
     ensures door { D.is_same terminal.old.door terminal.new.door }
 {
@@ -67,18 +61,13 @@ fn one_slice<D: Door, L: Line, T: Gate>(
     order: LinkOrder,
     turns: u64,
 ) -> Result<TermReport, TermFault>
-    requires failed { terminal.old.works.failed ≡ false }
+    requires failed { terminal.old.failed ≡ false }
     requires few { turns ≤ 2 ^ 32 }
     ensures turns { Slice order turns result
-        (standing terminal.old.works.receiver terminal.old.works.inside (D.made terminal.old.door) (D.faults terminal.old.door)
-        (seen (L.taken_so_far terminal.old.line) (L.waiting terminal.old.line) (L.put_so_far terminal.old.line)
-        (L.free terminal.old.line)))
-        (standing terminal.new.works.receiver terminal.new.works.inside (D.made terminal.new.door) (D.faults terminal.new.door)
-        (seen (L.taken_so_far terminal.new.line) (L.waiting terminal.new.line) (L.put_so_far terminal.new.line)
-        (L.free terminal.new.line))) }
+        (stands D.Door L.Line terminal.old) (stands D.Door L.Line terminal.new) }
     ensures number { D.number terminal.new.door ≡ D.number terminal.old.door }
     ensures door { D.is_same terminal.old.door terminal.new.door }
-    ensures goes_on { OnOk result (terminal.new.works.failed ≡ false) }
+    ensures goes_on { OnOk result (terminal.new.failed ≡ false) }
 {
     match order {
         LinkOrder::Run | LinkOrder::End => {}

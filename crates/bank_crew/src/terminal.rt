@@ -1,9 +1,8 @@
 //! What a terminal's thread does.
 ghost use Rattle.std.specs.Prelude.{◌≡◌, ◌≤◌, ◌^◌, false, List, [], Ok, OnOk};
-ghost use Rattle.link_term.specs.Looking.{seen};
 ghost use Rattle.set_events.specs.declared.history.Entry.{Entry};
 ghost use Rattle.bank_crew.specs.Seats.{AreAll, link_in};
-ghost use Rattle.link_term.specs.Standing.{standing};
+ghost use Rattle.link_term.specs.Standing.{stands};
 ghost use Rattle.bank_crew.specs.Shifts.{AfterHalf, DoesShift, Halves, Turns, TurnsBy, TurnsOf, both, is_to_fail, with_first};
 
 use super::crew::{Ended, TermEnd};
@@ -102,14 +101,9 @@ fn planned_turns<O: Opening, D: Door, L: Line, T: Gate, G: LinkManager, R: Wait>
     link: u8,
     terminal: &mut Terminal<D, L, T>,
 ) -> Result<TermReport, TermFault>
-    requires failed { terminal.old.works.failed ≡ false }
+    requires failed { terminal.old.failed ≡ false }
     ensures turns { TurnsOf orders.now.plan link result
-        (standing terminal.old.works.receiver terminal.old.works.inside (D.made terminal.old.door) (D.faults terminal.old.door)
-        (seen (L.taken_so_far terminal.old.line) (L.waiting terminal.old.line) (L.put_so_far terminal.old.line)
-        (L.free terminal.old.line)))
-        (standing terminal.new.works.receiver terminal.new.works.inside (D.made terminal.new.door) (D.faults terminal.new.door)
-        (seen (L.taken_so_far terminal.new.line) (L.waiting terminal.new.line) (L.put_so_far terminal.new.line)
-        (L.free terminal.new.line))) }
+        (stands D.Door L.Line terminal.old) (stands D.Door L.Line terminal.new) }
     ensures number { D.number terminal.new.door ≡ D.number terminal.old.door }
     ensures door { D.is_same terminal.old.door terminal.new.door }
 {
@@ -125,14 +119,9 @@ fn all_turns<D: Door, L: Line, G: Gate>(
     link: u8,
     plan: &Plan,
 ) -> Result<TermReport, TermFault>
-    requires failed { terminal.old.works.failed ≡ false }
+    requires failed { terminal.old.failed ≡ false }
     ensures turns { TurnsBy (is_to_fail plan.now.fail link) plan.now.turns result
-        (standing terminal.old.works.receiver terminal.old.works.inside (D.made terminal.old.door) (D.faults terminal.old.door)
-        (seen (L.taken_so_far terminal.old.line) (L.waiting terminal.old.line) (L.put_so_far terminal.old.line)
-        (L.free terminal.old.line)))
-        (standing terminal.new.works.receiver terminal.new.works.inside (D.made terminal.new.door) (D.faults terminal.new.door)
-        (seen (L.taken_so_far terminal.new.line) (L.waiting terminal.new.line) (L.put_so_far terminal.new.line)
-        (L.free terminal.new.line))) }
+        (stands D.Door L.Line terminal.old) (stands D.Door L.Line terminal.new) }
     ensures number { D.number terminal.new.door ≡ D.number terminal.old.door }
     ensures door { D.is_same terminal.old.door terminal.new.door }
 {
@@ -148,15 +137,10 @@ fn both_halves<D: Door, L: Line, G: Gate>(
     terminal: &mut Terminal<D, L, G>,
     turns: u64,
 ) -> Result<TermReport, TermFault>
-    requires failed { terminal.old.works.failed ≡ false }
+    requires failed { terminal.old.failed ≡ false }
     requires few { turns ≤ 2 ^ 32 }
     ensures turns { Halves turns result
-        (standing terminal.old.works.receiver terminal.old.works.inside (D.made terminal.old.door) (D.faults terminal.old.door)
-        (seen (L.taken_so_far terminal.old.line) (L.waiting terminal.old.line) (L.put_so_far terminal.old.line)
-        (L.free terminal.old.line)))
-        (standing terminal.new.works.receiver terminal.new.works.inside (D.made terminal.new.door) (D.faults terminal.new.door)
-        (seen (L.taken_so_far terminal.new.line) (L.waiting terminal.new.line) (L.put_so_far terminal.new.line)
-        (L.free terminal.new.line))) }
+        (stands D.Door L.Line terminal.old) (stands D.Door L.Line terminal.new) }
     ensures number { D.number terminal.new.door ≡ D.number terminal.old.door }
     ensures door { D.is_same terminal.old.door terminal.new.door }
 {
@@ -172,15 +156,10 @@ fn after_half<D: Door, L: Line, G: Gate>(
     turns: u64,
     first: TermReport,
 ) -> Result<TermReport, TermFault>
-    requires failed { terminal.old.works.failed ≡ false }
+    requires failed { terminal.old.failed ≡ false }
     requires few { turns ≤ 2 ^ 32 }
     ensures turns { AfterHalf turns (Ok first) result
-        (standing terminal.old.works.receiver terminal.old.works.inside (D.made terminal.old.door) (D.faults terminal.old.door)
-        (seen (L.taken_so_far terminal.old.line) (L.waiting terminal.old.line) (L.put_so_far terminal.old.line)
-        (L.free terminal.old.line)))
-        (standing terminal.new.works.receiver terminal.new.works.inside (D.made terminal.new.door) (D.faults terminal.new.door)
-        (seen (L.taken_so_far terminal.new.line) (L.waiting terminal.new.line) (L.put_so_far terminal.new.line)
-        (L.free terminal.new.line))) }
+        (stands D.Door L.Line terminal.old) (stands D.Door L.Line terminal.new) }
     ensures number { D.number terminal.new.door ≡ D.number terminal.old.door }
     ensures door { D.is_same terminal.old.door terminal.new.door }
 {
@@ -194,18 +173,13 @@ pub(crate) fn so_many<D: Door, L: Line, G: Gate>(
     terminal: &mut Terminal<D, L, G>,
     turns: u64,
 ) -> Result<TermReport, TermFault>
-    requires failed { terminal.old.works.failed ≡ false }
+    requires failed { terminal.old.failed ≡ false }
     requires few { turns ≤ 2 ^ 32 }
     ensures turns { Turns turns result
-        (standing terminal.old.works.receiver terminal.old.works.inside (D.made terminal.old.door) (D.faults terminal.old.door)
-        (seen (L.taken_so_far terminal.old.line) (L.waiting terminal.old.line) (L.put_so_far terminal.old.line)
-        (L.free terminal.old.line)))
-        (standing terminal.new.works.receiver terminal.new.works.inside (D.made terminal.new.door) (D.faults terminal.new.door)
-        (seen (L.taken_so_far terminal.new.line) (L.waiting terminal.new.line) (L.put_so_far terminal.new.line)
-        (L.free terminal.new.line))) }
+        (stands D.Door L.Line terminal.old) (stands D.Door L.Line terminal.new) }
     ensures number { D.number terminal.new.door ≡ D.number terminal.old.door }
     ensures door { D.is_same terminal.old.door terminal.new.door }
-    ensures goes_on { OnOk result (terminal.new.works.failed ≡ false) }
+    ensures goes_on { OnOk result (terminal.new.failed ≡ false) }
 {
     terminal.run(turns)
 }

@@ -1,4 +1,6 @@
--- Step 5 of a turn, as it's carried out.
+-- STEP 5 OF A TURN, as its calls carry it out: each choice of a unit comes to what `term_model` says of it, with the bits
+-- that were appended and what the tap was told. Each lemma is one record rebuilt, by a test that is rewritten (`subst`) or
+-- by a talk that went before; no induction. Uses Talking.
 use Rattle.std.proofs.Common.{refl, sym, subst, ap, ◌≡◌, ◌∙◌, true, false, nat_lt, length, List, [], ◌∷◌, ◌++◌, Some, None, Result, Ok, Err, if◌then◌else◌}
 use Rattle.l2_units.specs.declared.unit.Unit.{Unit as SignalUnit}
 use Rattle.l2_units.specs.Grammar.{head_of}
@@ -13,7 +15,7 @@ use Rattle.term_model.specs.Talk.{Talk, done, ask, and_then}
 use Rattle.term_model.specs.Terminal.{Terminal}
 use Rattle.link_term.specs.declared.counts.Filling.{Filling}
 use Rattle.link_term.specs.Filling.{FillsBits, Fills, Taps}
-use Rattle.link_term.specs.Talking.{Gains}
+use Rattle.link_term.specs.Talking.{Asked, AtDoor, Gains}
 use Rattle.link_term.proofs.Talking.{gains_none, gains_asked, gains_joined, breaks_at_last}
 
 -- eight bits or more are left
@@ -57,14 +59,18 @@ fills_then talk next filling made mid made' t after tells tap tap' first fills =
 
 -- which may break off
 pub sends_then : (talk : Talk Terminal) (next : Terminal → Talk Filled) (result : Result Filling SetFault)
-    (made mid made' : List Entry) (faults faults_mid faults' : List SetFault) (t after : Terminal)
-    {T : Type 0} (tells : T → SignalUnit → T → Type 0) (tap tap' : T) → Gains talk made mid t → faults_mid ≡ faults
-    → Fills (next t) result mid made' faults_mid faults' after tells tap tap'
-    → Fills (and_then talk next) result made made' faults faults' after tells tap tap'
-sends_then talk next (Ok it) made mid made' faults faults_mid faults' t after tells tap tap' first same second =
-    (fills_then talk next it made mid made' t after tells tap tap' first second.0, second.1 ∙ same)
-sends_then talk next (Err fault) made mid made' faults faults_mid faults' t after tells tap tap' first same second =
-    (breaks_at_last talk next made mid made' t first second.0, second.1 ∙ ap (λ (fs : List SetFault). fs ++ fault ∷ []) same, second.2)
+    (before mid : Asked) (t : Terminal) (after : AtDoor) {T : Type 0} (tells : T → SignalUnit → T → Type 0) (tap tap' : T)
+    → Gains talk before.made mid.made t → mid.faults ≡ before.faults → Fills (next t) result mid after tells tap tap'
+    → Fills (and_then talk next) result before after tells tap tap'
+sends_then talk next (Ok it) before mid t after tells tap tap' first same second = (
+  fills_then talk next it before.made mid.made after.asked.made t after.inside tells tap tap' first second.0,
+  second.1 ∙ same,
+)
+sends_then talk next (Err fault) before mid t after tells tap tap' first same second = (
+  breaks_at_last talk next before.made mid.made after.asked.made t first second.0,
+  second.1 ∙ ap (λ (fs : List SetFault). fs ++ fault ∷ []) same,
+  second.2,
+)
 
 -- an event is asked, and the choice is made by the answer
 pub asked_first : (event : Event) (more : Answer → Talk Filled) (who : Actor) (answer : Answer) (filling : Filling)

@@ -1,4 +1,6 @@
--- The bits of an octet, mark by mark.
+-- THE BITS OF AN OCTET, mark by mark: `hear_bits` feeds up to the first mark, hears it, and calls itself on the bits that are
+-- left, so each of its returns joins the first mark to what its call tells of the others. The induction is that recursion;
+-- `marks-append` of `l2_bits` joins the marks, Talking the talks. The last part leads from bits to a receiver's octets.
 use Rattle.std.proofs.Common.{sym, ap, subst, ◌≡◌, ◌∙◌, ℕ, Bool, List, [], ◌∷◌, ◌++◌, Some, None, Result, Ok, Err, append_assoc, append-nil}
 use Rattle.std.proofs.lemmas.Grind.{flat_map-append}
 use Rattle.l2_bits.specs.declared.deframing.Deframer.{Deframer}
@@ -15,8 +17,8 @@ use Rattle.term_model.specs.Terminal.{Terminal}
 use Rattle.link_term.specs.declared.counts.MarkCounts.{MarkCounts}
 use Rattle.link_term.specs.Octets.{counts_of, Fed, FedSome, HearsBits, BreaksBits, Hears}
 use Rattle.link_term.specs.Turning.{HearsOctet}
-use Rattle.link_term.specs.Talking.{Gains, Breaks}
-use Rattle.link_term.proofs.Talking.{gains_none, gains_joined, breaks_at_first, breaks_at_last}
+use Rattle.link_term.specs.Talking.{AtDoor, Gains, Breaks}
+use Rattle.link_term.proofs.Talking.{gains_joined, breaks_at_first, breaks_at_last}
 
 -- all bits were fed, and gave no mark
 pub fed_none : (past bits rest : List Bool) (deframer : Deframer) → rest ≡ [] → FeedsUpTo past bits rest deframer None
@@ -38,46 +40,39 @@ fed_one past bits rest deframer last mark marks feeds fed = record {
       (append_assoc past feeds.taken rest ∙ ap (λ (b : List Bool). past ++ b) (sym feeds.split)) fed.stands;
 }
 
-pub hears_none : (past bits rest : List Bool) (deframer : Deframer) (t : Terminal) (made : List Entry) (counts : MarkCounts)
-    → rest ≡ [] → FeedsUpTo past bits rest deframer None → counts ≡ counts_of []
-    → HearsBits past bits t counts made made t deframer
-hears_none past bits rest deframer t made counts none feeds is = record {
-  marks = [];
-  fed = fed_none past bits rest deframer none feeds;
-  gains = gains_none t made;
-  counts_are = is;
-}
-
-module _ (past bits rest : List Bool) (deframer last : Deframer) (mark : Mark) (t u : Terminal) (made mid made' : List Entry)
+module _ (past bits rest : List Bool) (deframer last : Deframer) (mark : Mark) (before : AtDoor)
     (feeds : FeedsUpTo past bits rest deframer (Some mark)) where
   -- the first mark was heard, and the others after it
-  pub hears_one : (later counts : MarkCounts) (after : Terminal) → Gains (marked mark t) made mid u
+  pub hears_one : (mid after : AtDoor) (later counts : MarkCounts)
+      → Gains (marked mark before.inside) before.asked.made mid.asked.made mid.inside
       → ((marks : List Mark) → later ≡ counts_of marks → counts ≡ counts_of (mark ∷ marks))
-      → HearsBits (past ++ feeds.taken) rest u later mid made' after last
-      → HearsBits past bits t counts made made' after last
-  hears_one later counts after first counted hears = record {
+      → HearsBits (past ++ feeds.taken) rest mid later after last → HearsBits past bits before counts after last
+  hears_one mid after later counts first counted hears = record {
     marks = mark ∷ hears.marks;
     fed = fed_one past bits rest deframer last mark hears.marks feeds hears.fed;
-    gains = gains_joined (marked mark t) (λ v. all_marked hears.marks v) made mid made' u after first hears.gains;
+    gains = gains_joined (marked mark before.inside) (λ v. all_marked hears.marks v) before.asked.made mid.asked.made
+        after.asked.made mid.inside after.inside first hears.gains;
     counts_are = counted hears.marks hears.counts_are;
   }
 
   -- the first mark was heard, and a later one broke off
-  pub breaks_later : Gains (marked mark t) made mid u → BreaksBits (past ++ feeds.taken) rest u mid made' last
-      → BreaksBits past bits t made made' last
-  breaks_later first broke = record {
+  pub breaks_later : (mid : AtDoor) (made' : List Entry)
+      → Gains (marked mark before.inside) before.asked.made mid.asked.made mid.inside
+      → BreaksBits (past ++ feeds.taken) rest mid made' last → BreaksBits past bits before made' last
+  breaks_later mid made' first broke = record {
     marks = mark ∷ broke.marks;
     fed = fed_one past bits rest deframer last mark broke.marks feeds broke.fed;
-    breaks = breaks_at_last (marked mark t) (λ v. all_marked broke.marks v) made mid made' u first broke.breaks;
+    breaks = breaks_at_last (marked mark before.inside) (λ v. all_marked broke.marks v) before.asked.made mid.asked.made
+        made' mid.inside first broke.breaks;
   }
 
   -- the first mark broke off
-  pub breaks_now : Breaks (marked mark t) made made' → FedSome (past ++ feeds.taken) rest last
-      → BreaksBits past bits t made made' last
-  breaks_now breaks some = record {
+  pub breaks_now : (made' : List Entry) → Breaks (marked mark before.inside) before.asked.made made'
+      → FedSome (past ++ feeds.taken) rest last → BreaksBits past bits before made' last
+  breaks_now made' breaks some = record {
     marks = mark ∷ some.marks;
     fed = fed_one past bits rest deframer last mark some.marks feeds some.fed;
-    breaks = breaks_at_first (marked mark t) (λ v. all_marked some.marks v) made made' breaks;
+    breaks = breaks_at_first (marked mark before.inside) (λ v. all_marked some.marks v) before.asked.made made' breaks;
   }
 
 -- the octets of a good unit, by another name
@@ -92,11 +87,10 @@ same_breaks kind octets octets' t made made' is breaks = subst (λ o. Breaks (ma
 -- A WHOLE OCTET.
 
 -- whether or not the door failed, all bits were fed
-pub all_fed : (past bits : List Bool) (t after : Terminal) (result : Result MarkCounts SetFault) (made made' : List Entry)
-    (faults faults' : List SetFault) (deframer : Deframer)
-    → Hears past bits t result made made' faults faults' after deframer → StandsFor (past ++ bits) deframer
-all_fed past bits t after (Ok counts) made made' faults faults' deframer hears = hears.0.fed.stands
-all_fed past bits t after (Err fault) made made' faults faults' deframer hears = hears.0.fed.stands
+pub all_fed : (past bits : List Bool) (before : AtDoor) (result : Result MarkCounts SetFault) (after : AtDoor)
+    (deframer : Deframer) → Hears past bits before result after deframer → StandsFor (past ++ bits) deframer
+all_fed past bits before (Ok counts) after deframer hears = hears.0.fed.stands
+all_fed past bits before (Err fault) after deframer hears = hears.0.fed.stands
 
 one_octet_more : (taken : List ℕ) (octet : ℕ) → line_bits (taken ++ octet ∷ []) ≡ line_bits taken ++ bits_of 8 octet
 one_octet_more taken octet =
@@ -108,11 +102,10 @@ octet_taken taken taken' octet bits deframer is same stands =
     subst (λ o. StandsFor (line_bits o) deframer) (sym is) (subst (λ b. StandsFor b deframer) (sym (one_octet_more taken octet))
     (subst (λ b. StandsFor (line_bits taken ++ b) deframer) same stands))
 
-pub octet_heard : (past past' bits bits' : List Bool) (t after : Terminal) (result : Result MarkCounts SetFault)
-    (made made' : List Entry) (faults faults' : List SetFault) (deframer : Deframer) → past ≡ past' → bits ≡ bits'
-    → Hears past bits t result made made' faults faults' after deframer
-    → HearsOctet past' bits' t result made made' faults faults' after
-octet_heard past past' bits bits' t after (Ok counts) made made' faults faults' deframer same is hears = (
+pub octet_heard : (past past' bits bits' : List Bool) (before : AtDoor) (result : Result MarkCounts SetFault) (after : AtDoor)
+    (deframer : Deframer) → past ≡ past' → bits ≡ bits' → Hears past bits before result after deframer
+    → HearsOctet past' bits' before result after
+octet_heard past past' bits bits' before (Ok counts) after deframer same is hears = (
   record {
     marks = hears.0.marks;
     are = subst (λ p. AreMarks p bits' hears.0.marks) same (subst (λ b. AreMarks past b hears.0.marks) is hears.0.fed.are);
@@ -121,7 +114,7 @@ octet_heard past past' bits bits' t after (Ok counts) made made' faults faults' 
   },
   hears.1,
 )
-octet_heard past past' bits bits' t after (Err fault) made made' faults faults' deframer same is hears = (
+octet_heard past past' bits bits' before (Err fault) after deframer same is hears = (
   record {
     marks = hears.0.marks;
     are = subst (λ p. AreMarks p bits' hears.0.marks) same (subst (λ b. AreMarks past b hears.0.marks) is hears.0.fed.are);

@@ -1,4 +1,6 @@
--- No input of a machine changes which link a terminal is of.
+-- WHAT NO INPUT CHANGES: which link a terminal is of, and what is left to send; and that a message which is sent asks nothing
+-- of the set. By cases on what the machines' tables answer, with no induction. The calls of `machines`, `hearing` and
+-- `choosing` are given these lemmas, so that their clauses `at` and `bits` prove themselves.
 use Rattle.std.proofs.Common.{refl, ap, ◌≡◌, ◌∙◌, ℕ, Bool, true, false, Option, Some, None}
 use Rattle.l2_monitors.specs.Suerm.{Kept}
 use Rattle.l2_align.specs.declared.align.State.{State as AlignState}

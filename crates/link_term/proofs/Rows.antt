@@ -1,4 +1,6 @@
--- Rows of talks, one after another, as a loop carries them out.
+-- ROWS OF TALKS, one after another, as the loops over the commands and over the timers carry them out. A loop keeps that
+-- what is left of its row completes the whole, whatever comes of it (`Completes`): so there is one lemma for a talk more,
+-- one for a talk that broke off, and one for the end, and no induction but the loop's own. Uses Talking.
 use Rattle.std.proofs.Common.{refl, sym, subst, ◌≡◌, List, [], ◌∷◌, ◌++◌, map, Result, Ok}
 use Rattle.std.specs.Result.{IsErrAnd}
 use Rattle.set_events.specs.declared.history.Entry.{Entry}
@@ -8,63 +10,57 @@ use Rattle.term_model.specs.Terminal.{Terminal, no_commands}
 use Rattle.term_model.specs.declared.command.Commands.{Commands}
 use Rattle.term_model.specs.Obeying.{commanded}
 use Rattle.link_term.specs.Orders.{every_command, obeys_all}
-use Rattle.link_term.specs.Talking.{Gains, Breaks, Talks}
+use Rattle.link_term.specs.Talking.{Asked, Gains, Breaks, Talks}
 use Rattle.link_term.proofs.Talking.{gains_none, talks_then, talks_broken}
 
 -- what is left of a row completes the whole
 abbrev pub Completes : {X : Type 0} → (X → Terminal → Talk Terminal) → List X → List X → Terminal → Terminal
-    → List Entry → List Entry → List SetFault → List SetFault → Type 0
-Completes step all rest t₀ t made₀ made faults₀ faults =
-    (result : Result (Unit {0}) SetFault) (made' : List Entry) (faults' : List SetFault) (after : Terminal)
-    → Talks (in_turn (map step rest) t) result made made' faults faults' after
-    → Talks (in_turn (map step all) t₀) result made₀ made' faults₀ faults' after
+    → Asked → Asked → Type 0
+Completes step all rest t₀ t start so_far =
+    (result : Result (Unit {0}) SetFault) (end : Asked) (after : Terminal)
+    → Talks (in_turn (map step rest) t) result so_far end after
+    → Talks (in_turn (map step all) t₀) result start end after
 
 -- one more of them went
 pub one_more : {X : Type 0} (step : X → Terminal → Talk Terminal) (all rest later : List X) (x : X) (t₀ t u : Terminal)
-    (made₀ made mid : List Entry) (faults₀ faults faults_mid : List SetFault) → rest ≡ x ∷ later
-    → Completes step all rest t₀ t made₀ made faults₀ faults → Gains (step x t) made mid u → faults_mid ≡ faults
-    → Completes step all later t₀ u made₀ mid faults₀ faults_mid
-one_more step all rest later x t₀ t u made₀ made mid faults₀ faults faults_mid is completes gains same =
-    λ result made' faults' after talks. completes result made' faults' after
-    (subst (λ r. Talks (in_turn (map step r) t) result made made' faults faults' after) (sym is)
-    (talks_then (step x t) (λ v. in_turn (map step later) v) result made mid made' faults faults_mid faults' u (λ done. after)
-    gains same talks))
+    (start so_far now : Asked) → rest ≡ x ∷ later → Completes step all rest t₀ t start so_far
+    → Gains (step x t) so_far.made now.made u → now.faults ≡ so_far.faults → Completes step all later t₀ u start now
+one_more step all rest later x t₀ t u start so_far now is completes gains same =
+    λ result end after talks. completes result end after
+    (subst (λ r. Talks (in_turn (map step r) t) result so_far end after) (sym is)
+    (talks_then (step x t) (λ v. in_turn (map step later) v) result so_far now end u (λ done. after) gains same talks))
 
 -- one of them broke off
 pub one_broken : {X : Type 0} (step : X → Terminal → Talk Terminal) (all rest later : List X) (x : X) (t₀ t after : Terminal)
-    (made₀ made made' : List Entry) (faults₀ faults faults' : List SetFault) (result : Result (Unit {0}) SetFault)
-    (fault : SetFault) → rest ≡ x ∷ later
-    → Completes step all rest t₀ t made₀ made faults₀ faults → IsErrAnd result (λ e. e ≡ fault)
-    → Breaks (step x t) made made' → faults' ≡ faults ++ fault ∷ []
-    → Talks (in_turn (map step all) t₀) result made₀ made' faults₀ faults' after
-one_broken step all rest later x t₀ t after made₀ made made' faults₀ faults faults' result fault is completes told breaks same =
-    completes result made' faults' after
-    (subst (λ r. Talks (in_turn (map step r) t) result made made' faults faults' after) (sym is)
-    (talks_broken (step x t) (λ v. in_turn (map step later) v) result fault made made' faults faults' (λ done. after)
-    told breaks same))
+    (start so_far end : Asked) (result : Result (Unit {0}) SetFault) (fault : SetFault) → rest ≡ x ∷ later
+    → Completes step all rest t₀ t start so_far → IsErrAnd result (λ e. e ≡ fault)
+    → Breaks (step x t) so_far.made end.made → end.faults ≡ so_far.faults ++ fault ∷ []
+    → Talks (in_turn (map step all) t₀) result start end after
+one_broken step all rest later x t₀ t after start so_far end result fault is completes told breaks same =
+    completes result end after
+    (subst (λ r. Talks (in_turn (map step r) t) result so_far end after) (sym is)
+    (talks_broken (step x t) (λ v. in_turn (map step later) v) result fault so_far end (λ done. after) told breaks same))
 
 -- none is left
 pub none_left : {X : Type 0} (step : X → Terminal → Talk Terminal) (all rest : List X) (t₀ t : Terminal)
-    (made₀ made : List Entry) (faults₀ faults : List SetFault) → rest ≡ []
-    → Completes step all rest t₀ t made₀ made faults₀ faults
-    → Talks (in_turn (map step all) t₀) (Ok tt) made₀ made faults₀ faults t
-none_left step all rest t₀ t made₀ made faults₀ faults is completes =
-    completes (Ok tt) made faults t
-    (subst (λ r. Talks (in_turn (map step r) t) (Ok tt) made made faults faults t) (sym is)
-    (gains_none t made, refl))
+    (start so_far : Asked) → rest ≡ [] → Completes step all rest t₀ t start so_far
+    → Talks (in_turn (map step all) t₀) (Ok tt) start so_far t
+none_left step all rest t₀ t start so_far is completes =
+    completes (Ok tt) so_far t
+    (subst (λ r. Talks (in_turn (map step r) t) (Ok tt) so_far so_far t) (sym is) (gains_none t so_far.made, refl))
 
 -- the commands that waited, each where it was given
 pub commands_taken : (commands : Commands) (t u after : Terminal) (result : Result (Unit {0}) SetFault)
-    (made made' : List Entry) (faults faults' : List SetFault)
-    → commands ≡ t.commands → u ≡ record t { commands = no_commands }
-    → Talks (obeys_all commands every_command u) result made made' faults faults' after
-    → Talks (commanded t) result made made' faults faults' after
-commands_taken commands t u after result made made' faults faults' were taken talks =
-    subst (λ c. Talks (obeys_all c every_command (record t { commands = no_commands })) result made made' faults faults' after) were
-    (subst (λ v. Talks (obeys_all commands every_command v) result made made' faults faults' after) taken talks)
+    (start end : Asked) → commands ≡ t.commands → u ≡ record t { commands = no_commands }
+    → Talks (obeys_all commands every_command u) result start end after → Talks (commanded t) result start end after
+commands_taken commands t u after result start end were taken talks =
+    subst (λ c. Talks (obeys_all c every_command (record t { commands = no_commands })) result start end after) were
+    (subst (λ v. Talks (obeys_all commands every_command v) result start end after) taken talks)
 
 -- none was given
 pub none_given : (commands : Commands) (t : Terminal) (made : List Entry) (faults : List SetFault) → commands ≡ no_commands
-    → Talks (obeys_all commands every_command t) (Ok tt) made made faults faults t
+    → Talks (obeys_all commands every_command t) (Ok tt) (record { made = made; faults = faults })
+    (record { made = made; faults = faults }) t
 none_given commands t made faults none =
-    subst (λ c. Talks (obeys_all c every_command t) (Ok tt) made made faults faults t) (sym none) (gains_none t made, refl)
+    let at : Asked = record { made = made; faults = faults } in
+    subst (λ c. Talks (obeys_all c every_command t) (Ok tt) at at t) (sym none) (gains_none t made, refl)

@@ -1,4 +1,6 @@
--- The steps of a turn, one after another.
+-- THE STEPS OF A TURN, one after another, up to a whole turn (`TurnsOnce`), or to one that a fault or a unit of the wide
+-- profile broke off (`TurnFails`): the talk of each step is joined to those before it, and a fault ends the joined talk where
+-- it ended the step's. No induction: by cases on a result and on what was chosen. Uses Talking.
 use Rattle.std.proofs.Common.{refl, sym, ap, subst, ◌≡◌, ◌∙◌, ℕ, Bool, true, false, List, [], ◌∷◌, ◌++◌, Option, Some, None, Result, Ok, Err, IfErr, IfSome, IsNone, append-nil, if◌then◌else◌}
 use mathlib.Core.List.{IsPrefix}
 use Rattle.std.specs.Option.{option_to_list}
@@ -22,60 +24,65 @@ use Rattle.link_term.specs.declared.fault.TermFault.{TermFault}
 use Rattle.link_term.specs.Faults.{fault_of}
 use Rattle.link_term.specs.Filling.{FillsBits, Taps, filling_of, with_unit}
 use Rattle.link_term.specs.Standing.{Standing}
-use Rattle.link_term.specs.Talking.{Gains, Breaks}
+use Rattle.link_term.specs.Talking.{AtDoor, Gains, Breaks}
 use Rattle.link_term.specs.Turning.{HearsMarks, BreaksMarks, from_marks, Steps, BrokenSteps, StepsTo, PutsOut, TurnsOnce, TurnBreaks, TurnFails, by_fault, by_profile}
 use Rattle.link_term.proofs.Talking.{gains_joined, breaks_at_first, breaks_at_last}
 
 -- the call that answers a fault of the door tells that one
-pub steps_broken : (past : List Bool) (octet : Option ℕ) (t after : Terminal) (result : Result Turned SetFault) (fault : SetFault)
-    (made made' : List Entry) (faults faults' : List SetFault) {T : Type 0} (tells : T → SignalUnit → T → Type 0) (tap tap' : T)
-    → IsErrAnd result (λ e. e ≡ fault) → BrokenSteps past octet t made made' → faults' ≡ faults ++ fault ∷ [] → tap' ≡ tap
-    → StepsTo past octet t result made made' faults faults' after tells tap tap'
-steps_broken past octet t after (Ok turned) fault made made' faults faults' tells tap tap' is broke told none = absurd is
-steps_broken past octet t after (Err other) fault made made' faults faults' tells tap tap' is broke told none =
-    (broke, told ∙ ap (λ (f : SetFault). faults ++ f ∷ []) (sym is), none)
+pub steps_broken : (past : List Bool) (octet : Option ℕ) (before after : AtDoor) (result : Result Turned SetFault)
+    (fault : SetFault) {T : Type 0} (tells : T → SignalUnit → T → Type 0) (tap tap' : T) → IsErrAnd result (λ e. e ≡ fault)
+    → BrokenSteps past octet before after.asked.made → after.asked.faults ≡ before.asked.faults ++ fault ∷ []
+    → tap' ≡ tap → StepsTo past octet before result after tells tap tap'
+steps_broken past octet before after (Ok turned) fault tells tap tap' is broke told none = absurd is
+steps_broken past octet before after (Err other) fault tells tap tap' is broke told none =
+    (broke, told ∙ ap (λ (f : SetFault). before.asked.faults ++ f ∷ []) (sym is), none)
 
 -- a fault at a mark
-pub broken_marks : (past : List Bool) (octet : Option ℕ) (t : Terminal) (made made' : List Entry)
-    → BreaksMarks past (bits_in octet) t made made' → BrokenSteps past octet t made made'
-broken_marks past octet t made made' broke = record {
+pub broken_marks : (past : List Bool) (octet : Option ℕ) (before : AtDoor) (made' : List Entry)
+    → BreaksMarks past (bits_in octet) before made' → BrokenSteps past octet before made'
+broken_marks past octet before made' broke = record {
   marks = broke.marks;
   gives = broke.are;
-  breaks = breaks_at_first (all_marked broke.marks t) (λ v. and_then (timed v) (λ w. filled w)) made made' broke.breaks;
+  breaks = breaks_at_first (all_marked broke.marks before.inside) (λ v. and_then (timed v) (λ w. filled w))
+      before.asked.made made' broke.breaks;
 }
 
-module _ (past : List Bool) (octet : Option ℕ) (t u : Terminal) (counts : MarkCounts) (made mid : List Entry)
-    (heard : HearsMarks past (bits_in octet) t counts made mid u) where
+module _ (past : List Bool) (octet : Option ℕ) (before mid : AtDoor) (counts : MarkCounts)
+    (heard : HearsMarks past (bits_in octet) before counts mid) where
   -- at the end of a timer
-  pub broken_timers : (made' : List Entry) → Breaks (timed u) mid made' → BrokenSteps past octet t made made'
+  pub broken_timers : (made' : List Entry) → Breaks (timed mid.inside) mid.asked.made made'
+      → BrokenSteps past octet before made'
   broken_timers made' broke = record {
     marks = heard.marks;
     gives = heard.are;
-    breaks = breaks_at_last (all_marked heard.marks t) (λ v. and_then (timed v) (λ w. filled w)) made mid made' u heard.gains
-        (breaks_at_first (timed u) (λ w. filled w) mid made' broke);
+    breaks = breaks_at_last (all_marked heard.marks before.inside) (λ v. and_then (timed v) (λ w. filled w))
+        before.asked.made mid.asked.made made' mid.inside heard.gains
+        (breaks_at_first (timed mid.inside) (λ w. filled w) mid.asked.made made' broke);
   }
 
   -- at what is sent next
-  pub broken_choice : (v : Terminal) (later made' : List Entry) → Gains (timed u) mid later v → Breaks (filled v) later made'
-      → BrokenSteps past octet t made made'
+  pub broken_choice : (v : Terminal) (later made' : List Entry) → Gains (timed mid.inside) mid.asked.made later v
+      → Breaks (filled v) later made' → BrokenSteps past octet before made'
   broken_choice v later made' timers broke = record {
     marks = heard.marks;
     gives = heard.are;
-    breaks = breaks_at_last (all_marked heard.marks t) (λ v. and_then (timed v) (λ w. filled w)) made mid made' u heard.gains
-        (breaks_at_last (timed u) (λ w. filled w) mid later made' v timers broke);
+    breaks = breaks_at_last (all_marked heard.marks before.inside) (λ v. and_then (timed v) (λ w. filled w))
+        before.asked.made mid.asked.made made' mid.inside heard.gains
+        (breaks_at_last (timed mid.inside) (λ w. filled w) mid.asked.made later made' v timers broke);
   }
 
   -- nowhere
-  pub steps_went : (v after : Terminal) (filling : Filling) (later made' : List Entry)
-      {T : Type 0} (tells : T → SignalUnit → T → Type 0) (tap tap' : T) → Gains (timed u) mid later v
-      → FillsBits (filled v) filling later made' after tells tap tap'
-      → Steps past octet t (record { marks = counts; filling = filling }) made made' after tells tap tap'
-  steps_went v after filling later made' tells tap tap' timers fills = record {
+  pub steps_went : (v : Terminal) (filling : Filling) (later : List Entry) (after : AtDoor)
+      {T : Type 0} (tells : T → SignalUnit → T → Type 0) (tap tap' : T) → Gains (timed mid.inside) mid.asked.made later v
+      → FillsBits (filled v) filling later after.asked.made after.inside tells tap tap'
+      → Steps past octet before (record { marks = counts; filling = filling }) after tells tap tap'
+  steps_went v filling later after tells tap tap' timers fills = record {
     marks = heard.marks;
     gives = heard.are;
     chosen = fills.chosen;
-    gains = gains_joined (all_marked heard.marks t) (λ v. and_then (timed v) (λ w. filled w)) made mid made' u fills.chosen
-        heard.gains (gains_joined (timed u) (λ w. filled w) mid later made' v fills.chosen timers fills.gains);
+    gains = gains_joined (all_marked heard.marks before.inside) (λ v. and_then (timed v) (λ w. filled w))
+        before.asked.made mid.asked.made after.asked.made mid.inside fills.chosen heard.gains
+        (gains_joined (timed mid.inside) (λ w. filled w) mid.asked.made later after.asked.made v fills.chosen timers fills.gains);
     appends = fills.appends;
     after_is = fills.after_is;
     counts_are = heard.counts_are;
@@ -130,12 +137,14 @@ breaks_at_command before after broke took gave same =
     }
 
 -- a fault later on
-pub breaks_after : (before after : Standing) (octet : Option ℕ) (u : Terminal) (mid : List Entry)
-    → Gains (commanded before.inside) before.made mid u → BrokenSteps (line_bits before.taken) octet u mid after.made
-    → after.taken ≡ before.taken ++ option_to_list octet → after.line.given ≡ before.line.given ++ option_to_list octet
-    → after.line.put ≡ before.line.put → TurnBreaks before after
-breaks_after before after octet u mid obeyed broke took gave same =
-    let all = breaks_at_last (commanded before.inside) (λ v. from_marks broke.marks v) before.made mid after.made u obeyed broke.breaks in record {
+pub breaks_after : (before after : Standing) (octet : Option ℕ) (mid : AtDoor)
+    → Gains (commanded before.inside) before.made mid.asked.made mid.inside
+    → BrokenSteps (line_bits before.taken) octet mid after.made → after.taken ≡ before.taken ++ option_to_list octet
+    → after.line.given ≡ before.line.given ++ option_to_list octet → after.line.put ≡ before.line.put
+    → TurnBreaks before after
+breaks_after before after octet mid obeyed broke took gave same =
+    let all = breaks_at_last (commanded before.inside) (λ v. from_marks broke.marks v) before.made mid.asked.made after.made
+    mid.inside obeyed broke.breaks in record {
       octet = octet;
       entries = all.entries;
       last = all.last;
@@ -146,71 +155,84 @@ breaks_after before after octet u mid obeyed broke took gave same =
       put_is = same;
     }
 
--- none
-pub turn_went : (before after : Standing) (octet : Option ℕ) (u v : Terminal) (turned : Turned) (mid : List Entry)
-    (put_mid : List ℕ) {T : Type 0} (tells : T → SignalUnit → T → Type 0) (tap tap' : T)
-    → Gains (commanded before.inside) before.made mid u
-    → Steps (line_bits before.taken) octet u turned mid after.made v tells tap tap'
-    → PutsOut v after.inside put_mid after.line.put after.line.free → put_mid ≡ before.line.put
-    → after.taken ≡ before.taken ++ option_to_list octet → after.line.given ≡ before.line.given ++ option_to_list octet
-    → (octet ≡ None → before.line.waiting ≡ []) → (turned.filling ≡ Filling.Wide → ⊥) → after.faults ≡ before.faults
-    → (turns : TurnsOnce before turned after) × Taps tells turns.turn.chosen.unit tap tap'
-turn_went before after octet u v turned mid put_mid tells tap tap' obeyed steps puts same took gave none not quiet =
-    let all = gains_joined (commanded before.inside) (λ w. from_marks steps.marks w) before.made mid after.made u steps.chosen obeyed steps.gains in (
-      record {
-        octet = octet;
-        entries = all.entries;
-        out = put_of puts.has_room v.bits;
-        marks = steps.marks;
-        turn = record {
-          gives = steps.gives;
-          chosen = steps.chosen;
-          went = all.went;
-          narrow = narrow_of steps.chosen turned.filling steps.filling_is not;
-          puts = record {
-            bits = v.bits;
-            appends = steps.appends;
-            has_room = puts.has_room;
-            put_is = refl;
-            after_is = puts.after_is ∙ ap (λ (w : Terminal). record w { bits = left_of puts.has_room v.bits }) steps.after_is;
-          };
-        };
-        taken_is = took;
-        made_is = all.made_is;
-        no_fault = quiet;
-        given_is = gave;
-        put_is = puts.put_is ∙ ap (λ (p : List ℕ). p ++ put_of puts.has_room v.bits) same;
-        none_waited = none;
-        was_full = puts.was_full;
-        counts_are = steps.counts_are;
-        filling_is = steps.filling_is;
-      },
-      steps.told,
-    )
+-- STEPS 1 TO 5 WENT: the commands, then the octet's marks, timers and the choice; nothing was put yet
+pub record FiveSteps (before : Standing) (turned : Turned) (after : Standing) (last : AtDoor) {T : Type 0}
+    (tells : T → SignalUnit → T → Type 0) (tap tap' : T) : Type 0 where
+  pub octet : Option ℕ
+  pub mid : AtDoor
+  pub obeyed : Gains (commanded before.inside) before.made mid.asked.made mid.inside
+  pub steps : Steps (line_bits before.taken) octet mid turned last tells tap tap'
+  pub taken_is : after.taken ≡ before.taken ++ option_to_list octet
+  pub given_is : after.line.given ≡ before.line.given ++ option_to_list octet
+  pub made_is : after.made ≡ last.asked.made
+  pub no_fault : after.faults ≡ before.faults
 
--- a unit of the wide profile was given
-pub turn_wide : (before after : Standing) (octet : Option ℕ) (u : Terminal) (turned : Turned) (mid : List Entry)
-    {T : Type 0} (tells : T → SignalUnit → T → Type 0) (tap tap' : T) → Gains (commanded before.inside) before.made mid u
-    → Steps (line_bits before.taken) octet u turned mid after.made after.inside tells tap tap'
-    → after.line.put ≡ before.line.put → after.taken ≡ before.taken ++ option_to_list octet
-    → after.line.given ≡ before.line.given ++ option_to_list octet
-    → turned.filling ≡ Filling.Wide → after.faults ≡ before.faults
-    → TurnFails TermFault.Profile before after × (tap' ≡ tap)
-turn_wide before after octet u turned mid tells tap tap' obeyed steps same took gave is none =
-    let all = gains_joined (commanded before.inside) (λ w. from_marks steps.marks w) before.made mid after.made u steps.chosen obeyed steps.gains in
-    let wide = wide_of steps.chosen turned.filling steps.filling_is is in (
-      by_profile refl none (record {
-        octet = octet;
-        entries = all.entries;
-        turn = record { marks = steps.marks; gives = steps.gives; chosen = steps.chosen; went = all.went; wide = wide };
-        taken_is = took;
-        made_is = all.made_is;
-        given_is = gave;
-        put_is = same;
-        after_is = steps.unchanged wide;
-      }),
-      steps.untold wide,
-    )
+module _ (before : Standing) (turned : Turned) (after : Standing) (last : AtDoor) {T : Type 0}
+    (tells : T → SignalUnit → T → Type 0) (tap tap' : T) (went : FiveSteps before turned after last tells tap tap') where
+  steps : Steps (line_bits before.taken) went.octet went.mid turned last tells tap tap'
+  steps = went.steps
+
+  all_gains : Gains (and_then (commanded before.inside) (λ w. from_marks steps.marks w)) before.made after.made steps.chosen
+  all_gains = subst (λ m. Gains (and_then (commanded before.inside) (λ w. from_marks steps.marks w)) before.made m steps.chosen)
+      (sym went.made_is)
+      (gains_joined (commanded before.inside) (λ w. from_marks steps.marks w) before.made went.mid.asked.made last.asked.made
+      went.mid.inside steps.chosen went.obeyed steps.gains)
+
+  -- and the sixth
+  pub turn_went : (put_mid : List ℕ) → PutsOut last.inside after.inside put_mid after.line.put after.line.free
+      → put_mid ≡ before.line.put → (went.octet ≡ None → before.line.waiting ≡ [])
+      → (turned.filling ≡ Filling.Wide → ⊥)
+      → (turns : TurnsOnce before turned after) × Taps tells turns.turn.chosen.unit tap tap'
+  turn_went put_mid puts same none not = (
+    record {
+      octet = went.octet;
+      entries = all_gains.entries;
+      out = put_of puts.has_room last.inside.bits;
+      marks = steps.marks;
+      turn = record {
+        gives = steps.gives;
+        chosen = steps.chosen;
+        went = all_gains.went;
+        narrow = narrow_of steps.chosen turned.filling steps.filling_is not;
+        puts = record {
+          bits = last.inside.bits;
+          appends = steps.appends;
+          has_room = puts.has_room;
+          put_is = refl;
+          after_is = puts.after_is
+              ∙ ap (λ (w : Terminal). record w { bits = left_of puts.has_room last.inside.bits }) steps.after_is;
+        };
+      };
+      taken_is = went.taken_is;
+      made_is = all_gains.made_is;
+      no_fault = went.no_fault;
+      given_is = went.given_is;
+      put_is = puts.put_is ∙ ap (λ (p : List ℕ). p ++ put_of puts.has_room last.inside.bits) same;
+      none_waited = none;
+      was_full = puts.was_full;
+      counts_are = steps.counts_are;
+      filling_is = steps.filling_is;
+    },
+    steps.told,
+  )
+
+  -- a unit of the wide profile was given
+  pub turn_wide : after.inside ≡ last.inside → after.line.put ≡ before.line.put → turned.filling ≡ Filling.Wide
+      → TurnFails TermFault.Profile before after × (tap' ≡ tap)
+  turn_wide inside same is =
+      let wide = wide_of steps.chosen turned.filling steps.filling_is is in (
+        by_profile refl went.no_fault (record {
+          octet = went.octet;
+          entries = all_gains.entries;
+          turn = record { marks = steps.marks; gives = steps.gives; chosen = steps.chosen; went = all_gains.went; wide = wide };
+          taken_is = went.taken_is;
+          made_is = all_gains.made_is;
+          given_is = went.given_is;
+          put_is = same;
+          after_is = inside ∙ steps.unchanged wide;
+        }),
+        steps.untold wide,
+      )
 
 -- what the line gave
 pub took : (octet : Option ℕ) (given given' waiting waiting' : List ℕ)

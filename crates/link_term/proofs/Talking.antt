@@ -1,5 +1,8 @@
--- Talks carried out at a door, one after another.
-use Rattle.std.proofs.Common.{refl, sym, ap, ◌≡◌, ◌∙◌, List, [], ◌∷◌, ◌++◌, append_assoc, append-nil, Result, Ok, Err}
+-- TALKS CARRIED OUT AT A DOOR, one after another: what the calls of one step gained, or where they broke off, is that of the
+-- whole step. By cases on the result; no induction here, since `term_model` has proved that talks follow each other
+-- (`joins`, `breaks_first`, `breaks_later`). Used by each function that asks the set twice, and by Rows, Feeding, Choices
+-- and SixSteps.
+use Rattle.std.proofs.Common.{sym, ap, ◌≡◌, ◌∙◌, List, [], ◌∷◌, ◌++◌, append_assoc, append-nil, refl, Result, Ok, Err}
 use Rattle.std.specs.Result.{IsErrAnd}
 use Rattle.set_events.specs.declared.answer.Answer.{Answer}
 use Rattle.set_events.specs.declared.event.Actor.{Actor}
@@ -8,7 +11,7 @@ use Rattle.set_events.specs.declared.history.Entry.{Entry}
 use Rattle.set_events.specs.declared.fault.SetFault.{SetFault}
 use Rattle.term_model.specs.Talk.{Talk, done, ask, and_then}
 use Rattle.term_model.proofs.Talks.{joins, ends_the_same, breaks_first, breaks_later}
-use Rattle.link_term.specs.Talking.{Gains, Breaks, TalksTo}
+use Rattle.link_term.specs.Talking.{Asked, Gains, Breaks, TalksTo}
 
 -- nothing is asked
 pub gains_none : {A : Type 0} (a : A) (made : List Entry) → Gains (done a) made made a
@@ -26,14 +29,6 @@ gains_asked event more who answer made mid made' outcome is gains =
       went = (refl, gains.went);
     }
 
--- and nothing more
-pub gains_answered : {A : Type 0} (event : Event) (outcomes : Answer → A) (who : Actor) (answer : Answer)
-    (made made' : List Entry)
-    → made' ≡ made ++ record { who = who; event = event; answer = answer } ∷ []
-    → Gains (ask event (λ answer. done (outcomes answer))) made made' (outcomes answer)
-gains_answered event outcomes who answer made made' is =
-    record { entries = record { who = who; event = event; answer = answer } ∷ []; made_is = is; went = (refl, refl) }
-
 -- two talks, one after the other
 pub gains_joined : {A B : Type 0} (talk : Talk A) (next : A → Talk B) (made mid made' : List Entry) (a : A) (b : B)
     → Gains talk made mid a → Gains (next a) mid made' b → Gains (and_then talk next) made made' b
@@ -43,25 +38,6 @@ gains_joined talk next made mid made' a b first second = record {
       ∙ append_assoc made first.entries second.entries;
   went = joins talk next first.entries second.entries a b first.went second.went;
 }
-
--- the event that is asked gets a fault
-pub breaks_asked : {A : Type 0} (event : Event) (more : Answer → Talk A) (made made' : List Entry)
-    → made' ≡ made → Breaks (ask event more) made made'
-breaks_asked event more made made' is =
-    record { entries = []; last = event; made_is = is ∙ sym (append-nil made); broke_off = refl }
-
--- a fault after the answer
-pub breaks_answered : {A : Type 0} (event : Event) (more : Answer → Talk A) (who : Actor) (answer : Answer)
-    (made mid made' : List Entry)
-    → mid ≡ made ++ record { who = who; event = event; answer = answer } ∷ []
-    → Breaks (more answer) mid made' → Breaks (ask event more) made made'
-breaks_answered event more who answer made mid made' is breaks =
-    let entry : Entry = record { who = who; event = event; answer = answer } in record {
-      entries = entry ∷ breaks.entries;
-      last = breaks.last;
-      made_is = breaks.made_is ∙ ap (λ (m : List Entry). m ++ breaks.entries) is ∙ append_assoc made (entry ∷ []) breaks.entries;
-      broke_off = (refl, breaks.broke_off);
-    }
 
 -- a fault in the first talk
 pub breaks_at_first : {A B : Type 0} (talk : Talk A) (next : A → Talk B) (made made' : List Entry)
@@ -87,31 +63,30 @@ breaks_at_last talk next made mid made' a first second = record {
 -- THE SAME OF TALKS THAT MAY BREAK OFF.
 
 -- the first talk went, and the second may break off
-pub talks_then : {A B R : Type 0} (talk : Talk A) (next : A → Talk B) (result : Result R SetFault)
-    (made mid made' : List Entry) (faults faults_mid faults' : List SetFault) (a : A) (outcome : R → B)
-    → Gains talk made mid a → faults_mid ≡ faults
-    → TalksTo (next a) result mid made' faults_mid faults' outcome
-    → TalksTo (and_then talk next) result made made' faults faults' outcome
-talks_then talk next (Ok it) made mid made' faults faults_mid faults' a outcome first same second =
-    (gains_joined talk next made mid made' a (outcome it) first second.0, second.1 ∙ same)
-talks_then talk next (Err fault) made mid made' faults faults_mid faults' a outcome first same second =
-    (breaks_at_last talk next made mid made' a first second.0, second.1 ∙ ap (λ (fs : List SetFault). fs ++ fault ∷ []) same)
+pub talks_then : {A B R : Type 0} (talk : Talk A) (next : A → Talk B) (result : Result R SetFault) (before mid after : Asked)
+    (a : A) (outcome : R → B) → Gains talk before.made mid.made a → mid.faults ≡ before.faults
+    → TalksTo (next a) result mid after outcome → TalksTo (and_then talk next) result before after outcome
+talks_then talk next (Ok it) before mid after a outcome first same second =
+    (gains_joined talk next before.made mid.made after.made a (outcome it) first second.0, second.1 ∙ same)
+talks_then talk next (Err fault) before mid after a outcome first same second = (
+  breaks_at_last talk next before.made mid.made after.made a first second.0,
+  second.1 ∙ ap (λ (fs : List SetFault). fs ++ fault ∷ []) same,
+)
 
 -- the first talk broke off
 pub talks_broken : {A B R : Type 0} (talk : Talk A) (next : A → Talk B) (result : Result R SetFault) (fault : SetFault)
-    (made made' : List Entry) (faults faults' : List SetFault) (outcome : R → B)
-    → IsErrAnd result (λ e. e ≡ fault) → Breaks talk made made' → faults' ≡ faults ++ fault ∷ []
-    → TalksTo (and_then talk next) result made made' faults faults' outcome
-talks_broken talk next (Ok it) fault made made' faults faults' outcome is breaks told = absurd is
-talks_broken talk next (Err other) fault made made' faults faults' outcome is breaks told =
-    (breaks_at_first talk next made made' breaks, told ∙ ap (λ (f : SetFault). faults ++ f ∷ []) (sym is))
+    (before after : Asked) (outcome : R → B) → IsErrAnd result (λ e. e ≡ fault) → Breaks talk before.made after.made
+    → after.faults ≡ before.faults ++ fault ∷ [] → TalksTo (and_then talk next) result before after outcome
+talks_broken talk next (Ok it) fault before after outcome is breaks told = absurd is
+talks_broken talk next (Err other) fault before after outcome is breaks told = (
+  breaks_at_first talk next before.made after.made breaks,
+  told ∙ ap (λ (f : SetFault). before.faults ++ f ∷ []) (sym is),
+)
 
 -- nothing follows
-pub talks_ended : {A R : Type 0} (talk : Talk A) (result : Result R SetFault)
-    (made made' : List Entry) (faults faults' : List SetFault) (outcome : R → A)
-    → TalksTo talk result made made' faults faults' outcome
-    → TalksTo (and_then talk (λ b. done b)) result made made' faults faults' outcome
-talks_ended talk (Ok it) made made' faults faults' outcome talks = (
+pub talks_ended : {A R : Type 0} (talk : Talk A) (result : Result R SetFault) (before after : Asked) (outcome : R → A)
+    → TalksTo talk result before after outcome → TalksTo (and_then talk (λ b. done b)) result before after outcome
+talks_ended talk (Ok it) before after outcome talks = (
   record {
     entries = talks.0.entries;
     made_is = talks.0.made_is;
@@ -119,5 +94,5 @@ talks_ended talk (Ok it) made made' faults faults' outcome talks = (
   },
   talks.1,
 )
-talks_ended talk (Err fault) made made' faults faults' outcome talks =
-    (breaks_at_first talk (λ b. done b) made made' talks.0, talks.1)
+talks_ended talk (Err fault) before after outcome talks =
+    (breaks_at_first talk (λ b. done b) before.made after.made talks.0, talks.1)

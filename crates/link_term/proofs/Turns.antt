@@ -1,4 +1,7 @@
--- One turn more, and its counts.
+-- TURNS ONE AFTER ANOTHER, and their counts, for the loop of `Terminal::run`: it keeps `RanSo`, that the turns so far are a run
+-- but for the cause. None so far (`ran_none`), one more (`ran_more`), all of them (`ran_all`), and one that failed behind
+-- those that went whole (`run_failed`). Inductions over lists alone, for sums and for what each turn saw of the line; uses
+-- `runs_join` of `term_model`.
 use Rattle.std.proofs.Common.{refl, sym, ap, subst, arith, ◌≡◌, ◌∙◌, ℕ, ◌+◌, ◌≤◌, ◌<◌, Bool, true, false, List, [], ◌∷◌, ◌++◌, length, Option, Some, None, Result, Ok, Err, IfErr, append_assoc, append-nil, length-append}
 use Rattle.std.proofs.lemmas.Grind.{flat_map-append}
 use Rattle.std.specs.List.{flat_map}

@@ -8,7 +8,7 @@ use Rattle.term_model.specs.Choosing.{Filled, sent_by, serves, up_first}
 use Rattle.term_model.specs.OctetOut.{Appends}
 use Rattle.term_model.specs.Talk.{Talk, ask, and_then}
 use Rattle.term_model.specs.Terminal.{Terminal}
-use Rattle.link_term.specs.Talking.{Gains, Breaks}
+use Rattle.link_term.specs.Talking.{Asked, AtDoor, Gains, Breaks}
 use Rattle.link_term.specs.declared.counts.Filling.{Filling}
 
 -- in service: Up first, where it was refused
@@ -46,8 +46,9 @@ pub record FillsBits (talk : Talk Filled) (filling : Filling) (made made' : List
   pub told : Taps tells chosen.unit tap tap'
   pub untold : chosen.narrow ≡ false → tap' ≡ tap
 
-abbrev pub Fills : {T : Type 0} → Talk Filled → Result Filling SetFault → List Entry → List Entry
-    → List SetFault → List SetFault → Terminal → (T → SignalUnit → T → Type 0) → T → T → Type 0
-Fills talk result made made' faults faults' after tells tap tap' = MatchResult result
-    (λ filling. FillsBits talk filling made made' after tells tap tap' × (faults' ≡ faults))
-    (λ fault. Breaks talk made made' × (faults' ≡ faults ++ fault ∷ []) × (tap' ≡ tap))
+abbrev pub Fills : {T : Type 0} → Talk Filled → Result Filling SetFault → Asked → AtDoor
+    → (T → SignalUnit → T → Type 0) → T → T → Type 0
+Fills talk result before after tells tap tap' = MatchResult result
+    (λ filling. FillsBits talk filling before.made after.asked.made after.inside tells tap tap'
+    × (after.asked.faults ≡ before.faults))
+    (λ fault. Breaks talk before.made after.asked.made × (after.asked.faults ≡ before.faults ++ fault ∷ []) × (tap' ≡ tap))

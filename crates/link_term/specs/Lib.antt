@@ -6,6 +6,7 @@ pub mod Filling
 pub mod Octets
 pub mod Standing
 pub mod Turning
+pub mod Taking
 pub mod Failing
 pub mod Looking
 pub mod Running

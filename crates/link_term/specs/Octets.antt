@@ -8,9 +8,8 @@ use Rattle.set_events.specs.declared.history.Entry.{Entry}
 use Rattle.set_events.specs.declared.fault.SetFault.{SetFault}
 use Rattle.term_model.specs.Hearing.{all_marked}
 use Rattle.term_model.specs.Runs.{counted, is_good, is_bad, is_sixteen}
-use Rattle.term_model.specs.Terminal.{Terminal}
 use Rattle.link_term.specs.declared.counts.MarkCounts.{MarkCounts}
-use Rattle.link_term.specs.Talking.{Gains, Breaks}
+use Rattle.link_term.specs.Talking.{AtDoor, Gains, Breaks}
 
 -- how many marks of each kind these are
 abbrev pub counts_of : List Mark → MarkCounts
@@ -28,21 +27,21 @@ pub record FedSome (past bits : List Bool) (deframer : Deframer) : Type 0 where
   pub fed : Fed past bits marks deframer
 
 -- the marks of these bits were heard, in order
-pub record HearsBits (past bits : List Bool) (before : Terminal) (counts : MarkCounts) (made made' : List Entry)
-    (after : Terminal) (deframer : Deframer) : Type 0 where
+pub record HearsBits (past bits : List Bool) (before : AtDoor) (counts : MarkCounts) (after : AtDoor)
+    (deframer : Deframer) : Type 0 where
   pub marks : List Mark
   pub fed : Fed past bits marks deframer
-  pub gains : Gains (all_marked marks before) made made' after
+  pub gains : Gains (all_marked marks before.inside) before.asked.made after.asked.made after.inside
   pub counts_are : counts ≡ counts_of marks
 
 -- a fault broke that off; all the bits were fed
-pub record BreaksBits (past bits : List Bool) (before : Terminal) (made made' : List Entry) (deframer : Deframer) : Type 0 where
+pub record BreaksBits (past bits : List Bool) (before : AtDoor) (made' : List Entry) (deframer : Deframer) : Type 0 where
   pub marks : List Mark
   pub fed : Fed past bits marks deframer
-  pub breaks : Breaks (all_marked marks before) made made'
+  pub breaks : Breaks (all_marked marks before.inside) before.asked.made made'
 
-abbrev pub Hears : List Bool → List Bool → Terminal → Result MarkCounts SetFault → List Entry → List Entry
-    → List SetFault → List SetFault → Terminal → Deframer → Type 0
-Hears past bits before result made made' faults faults' after deframer = MatchResult result
-    (λ counts. HearsBits past bits before counts made made' after deframer × (faults' ≡ faults))
-    (λ fault. BreaksBits past bits before made made' deframer × (faults' ≡ faults ++ fault ∷ []))
+abbrev pub Hears : List Bool → List Bool → AtDoor → Result MarkCounts SetFault → AtDoor → Deframer → Type 0
+Hears past bits before result after deframer = MatchResult result
+    (λ counts. HearsBits past bits before counts after deframer × (after.asked.faults ≡ before.asked.faults))
+    (λ fault. BreaksBits past bits before after.asked.made deframer
+    × (after.asked.faults ≡ before.asked.faults ++ fault ∷ []))

@@ -24,57 +24,56 @@ use Rattle.link_term.specs.Failing.{HasBroken}
 use Rattle.link_term.specs.Filling.{filling_of, Taps}
 use Rattle.link_term.specs.Octets.{counts_of}
 use Rattle.link_term.specs.Standing.{Standing}
-use Rattle.link_term.specs.Talking.{Gains, Breaks}
+use Rattle.link_term.specs.Talking.{AtDoor, Gains, Breaks}
 
 -- the marks of these bits were heard, in order, or up to a fault
-pub record HearsMarks (past bits : List Bool) (before : Terminal) (counts : MarkCounts) (made made' : List Entry)
-    (after : Terminal) : Type 0 where
+pub record HearsMarks (past bits : List Bool) (before : AtDoor) (counts : MarkCounts) (after : AtDoor) : Type 0 where
   pub marks : List Mark
   pub are : AreMarks past bits marks
-  pub gains : Gains (all_marked marks before) made made' after
+  pub gains : Gains (all_marked marks before.inside) before.asked.made after.asked.made after.inside
   pub counts_are : counts ≡ counts_of marks
 
-pub record BreaksMarks (past bits : List Bool) (before : Terminal) (made made' : List Entry) : Type 0 where
+pub record BreaksMarks (past bits : List Bool) (before : AtDoor) (made' : List Entry) : Type 0 where
   pub marks : List Mark
   pub are : AreMarks past bits marks
-  pub breaks : Breaks (all_marked marks before) made made'
+  pub breaks : Breaks (all_marked marks before.inside) before.asked.made made'
 
-abbrev pub HearsOctet : List Bool → List Bool → Terminal → Result MarkCounts SetFault → List Entry → List Entry
-    → List SetFault → List SetFault → Terminal → Type 0
-HearsOctet past bits before result made made' faults faults' after = MatchResult result
-    (λ counts. HearsMarks past bits before counts made made' after × (faults' ≡ faults))
-    (λ fault. BreaksMarks past bits before made made' × (faults' ≡ faults ++ fault ∷ []))
+abbrev pub HearsOctet : List Bool → List Bool → AtDoor → Result MarkCounts SetFault → AtDoor → Type 0
+HearsOctet past bits before result after = MatchResult result
+    (λ counts. HearsMarks past bits before counts after × (after.asked.faults ≡ before.asked.faults))
+    (λ fault. BreaksMarks past bits before after.asked.made × (after.asked.faults ≡ before.asked.faults ++ fault ∷ []))
 
 -- steps 3 to 5: the marks of a turn's octet, timers, what is sent next
 abbrev pub from_marks : List Mark → Terminal → Talk Filled
 from_marks marks t = and_then (all_marked marks t) (λ t. and_then (timed t) (λ t. filled t))
 
 -- THESE STEPS went, and the unit that was chosen, if any, was appended; so many marks were heard
-pub record Steps (past : List Bool) (octet : Option ℕ) (before : Terminal) (turned : Turned) (made made' : List Entry)
-    (after : Terminal) {T : Type 0} (tells : T → SignalUnit → T → Type 0) (tap tap' : T) : Type 0 where
+pub record Steps (past : List Bool) (octet : Option ℕ) (before : AtDoor) (turned : Turned) (after : AtDoor)
+    {T : Type 0} (tells : T → SignalUnit → T → Type 0) (tap tap' : T) : Type 0 where
   pub marks : List Mark
   pub gives : GivesMarks past octet marks
   pub chosen : Filled
-  pub gains : Gains (from_marks marks before) made made' chosen
-  pub appends : Appends chosen.unit chosen.after.bits after.bits
-  pub after_is : after ≡ record chosen.after { bits = after.bits }
+  pub gains : Gains (from_marks marks before.inside) before.asked.made after.asked.made chosen
+  pub appends : Appends chosen.unit chosen.after.bits after.inside.bits
+  pub after_is : after.inside ≡ record chosen.after { bits = after.inside.bits }
   pub counts_are : turned.marks ≡ counts_of marks
   pub filling_is : turned.filling ≡ filling_of chosen
-  pub unchanged : chosen.narrow ≡ false → after ≡ chosen.after
+  pub unchanged : chosen.narrow ≡ false → after.inside ≡ chosen.after
   pub told : Taps tells chosen.unit tap tap'
   pub untold : chosen.narrow ≡ false → tap' ≡ tap
 
 -- a fault broke them off
-pub record BrokenSteps (past : List Bool) (octet : Option ℕ) (before : Terminal) (made made' : List Entry) : Type 0 where
+pub record BrokenSteps (past : List Bool) (octet : Option ℕ) (before : AtDoor) (made' : List Entry) : Type 0 where
   pub marks : List Mark
   pub gives : GivesMarks past octet marks
-  pub breaks : Breaks (from_marks marks before) made made'
+  pub breaks : Breaks (from_marks marks before.inside) before.asked.made made'
 
-abbrev pub StepsTo : {T : Type 0} → List Bool → Option ℕ → Terminal → Result Turned SetFault → List Entry → List Entry
-    → List SetFault → List SetFault → Terminal → (T → SignalUnit → T → Type 0) → T → T → Type 0
-StepsTo past octet before result made made' faults faults' after tells tap tap' = MatchResult result
-    (λ turned. Steps past octet before turned made made' after tells tap tap' × (faults' ≡ faults))
-    (λ fault. BrokenSteps past octet before made made' × (faults' ≡ faults ++ fault ∷ []) × (tap' ≡ tap))
+abbrev pub StepsTo : {T : Type 0} → List Bool → Option ℕ → AtDoor → Result Turned SetFault → AtDoor
+    → (T → SignalUnit → T → Type 0) → T → T → Type 0
+StepsTo past octet before result after tells tap tap' = MatchResult result
+    (λ turned. Steps past octet before turned after tells tap tap' × (after.asked.faults ≡ before.asked.faults))
+    (λ fault. BrokenSteps past octet before after.asked.made
+    × (after.asked.faults ≡ before.asked.faults ++ fault ∷ []) × (tap' ≡ tap))
 
 -- STEP 6: the next octet was put, or the line is full and it stays
 pub record PutsOut (before after : Terminal) (put put' : List ℕ) (free : ℕ) : Type 0 where

@@ -6,7 +6,7 @@ ghost use Rattle.l2_units.specs.Grammar.{IsHeadOf, head_of};
 ghost use Rattle.l2_units.specs.Lent.{body_in, unit_in};
 ghost use Rattle.link_term.specs.declared.counts.Filling.TheVariants.{Chosen};
 ghost use Rattle.link_term.specs.Filling.{next_asked, served, Fills, FillsBits};
-ghost use Rattle.link_term.specs.Talking.{Talks};
+ghost use Rattle.link_term.specs.Talking.{Talks, asked, at_door};
 ghost use Rattle.set_events.specs.Lent.{answer_in, body_in as body_of_answer};
 ghost use Rattle.set_events.specs.declared.history.Entry.{Entry};
 ghost use Rattle.term_model.specs.Choosing.{chosen, counts_sent, filled, given, held_back, is_narrow, sends, sends_fisu, sends_status, sent_by, serves, up_first};
@@ -32,9 +32,8 @@ pub(crate) fn fill<D: Door, T: Tap>(
     tap: &mut T,
 ) -> Result<Filling, SetFault>
     requires { D.number door.old ≡ inside.old.link }
-    ensures fills { Fills (filled inside.old) result (D.made door.old) (D.made door.new)
-        (D.faults door.old) (D.faults door.new) inside.new
-        T.told tap.old tap.new }
+    ensures fills { Fills (filled inside.old) result (asked D.Door door.old)
+        (at_door D.Door inside.new door.new) T.told tap.old tap.new }
     ensures at { D.number door.new ≡ inside.new.link }
     ensures number { D.number door.new ≡ D.number door.old }
     ensures door { D.is_same door.old door.new }
@@ -54,9 +53,8 @@ fn choose<D: Door, T: Tap>(
 ) -> Result<Filling, SetFault>
     requires at { D.number door.old ≡ inside.old.link }
     requires short { length inside.old.bits < 8 }
-    ensures sends { Fills (chosen inside.old.state inside.old) result (D.made door.old)
-        (D.made door.new) (D.faults door.old) (D.faults door.new) inside.new
-        T.told tap.old tap.new }
+    ensures sends { Fills (chosen inside.old.state inside.old) result (asked D.Door door.old)
+        (at_door D.Door inside.new door.new) T.told tap.old tap.new }
     ensures at { D.number door.new ≡ inside.new.link }
     ensures number { D.number door.new ≡ D.number door.old }
     ensures door { D.is_same door.old door.new }
@@ -134,9 +132,8 @@ fn serve<D: Door, T: Tap>(
 ) -> Result<Filling, SetFault>
     requires at { D.number door.old ≡ inside.old.link }
     requires short { length inside.old.bits < 8 }
-    ensures sends { Fills (served paused inside.old) result (D.made door.old) (D.made door.new)
-        (D.faults door.old) (D.faults door.new) inside.new
-        T.told tap.old tap.new }
+    ensures sends { Fills (served paused inside.old) result (asked D.Door door.old)
+        (at_door D.Door inside.new door.new) T.told tap.old tap.new }
     ensures at { D.number door.new ≡ inside.new.link }
     ensures number { D.number door.new ≡ D.number door.old }
     ensures door { D.is_same door.old door.new }
@@ -148,8 +145,7 @@ fn serve<D: Door, T: Tap>(
 /// The set is asked for Up, unless it has said Done.
 fn ask_up_first<D: Door>(inside: &mut Inside, door: &mut D) -> Result<(), SetFault>
     requires { D.number door.old ≡ inside.old.link }
-    ensures talks { Talks (up_first inside.old) result (D.made door.old) (D.made door.new)
-        (D.faults door.old) (D.faults door.new) inside.new }
+    ensures talks { Talks (up_first inside.old) result (asked D.Door door.old) (asked D.Door door.new) inside.new }
     ensures at { D.number door.new ≡ inside.new.link }
     ensures number { D.number door.new ≡ D.number door.old }
     ensures door { D.is_same door.old door.new }
@@ -172,9 +168,8 @@ fn serve_up<D: Door, T: Tap>(
 ) -> Result<Filling, SetFault>
     requires at { D.number door.old ≡ inside.old.link }
     requires short { length inside.old.bits < 8 }
-    ensures sends { Fills (serves paused inside.old) result (D.made door.old) (D.made door.new)
-        (D.faults door.old) (D.faults door.new) inside.new
-        T.told tap.old tap.new }
+    ensures sends { Fills (serves paused inside.old) result (asked D.Door door.old)
+        (at_door D.Door inside.new door.new) T.told tap.old tap.new }
     ensures at { D.number door.new ≡ inside.new.link }
     ensures number { D.number door.new ≡ D.number door.old }
     ensures door { D.is_same door.old door.new }
@@ -204,9 +199,8 @@ fn ask_next<D: Door, T: Tap>(
 ) -> Result<Filling, SetFault>
     requires at { D.number door.old ≡ inside.old.link }
     requires short { length inside.old.bits < 8 }
-    ensures sends { Fills (next_asked inside.old) result (D.made door.old) (D.made door.new)
-        (D.faults door.old) (D.faults door.new) inside.new
-        T.told tap.old tap.new }
+    ensures sends { Fills (next_asked inside.old) result (asked D.Door door.old)
+        (at_door D.Door inside.new door.new) T.told tap.old tap.new }
     ensures at { D.number door.new ≡ inside.new.link }
     ensures number { D.number door.new ≡ D.number door.old }
     ensures door { D.is_same door.old door.new }

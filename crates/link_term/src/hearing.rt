@@ -3,7 +3,7 @@ ghost use Rattle.std.specs.Prelude.{◌≡◌, ◌≤◌, Some, None, length};
 ghost use Rattle.l2_bits.specs.Deframing.{marked as mark_of};
 ghost use Rattle.l2_units.specs.Lent.{body_in, unit_in};
 ghost use Rattle.link_term.specs.Reading.{brings, status_heard, report_heard, told_heard};
-ghost use Rattle.link_term.specs.Talking.{Talks};
+ghost use Rattle.link_term.specs.Talking.{Talks, asked};
 ghost use Rattle.set_events.specs.Lent.{answer_in};
 ghost use Rattle.term_model.specs.Hearing.{
   marked,
@@ -37,8 +37,8 @@ pub(crate) fn mark<D: Door>(
     octets: &[u8],
 ) -> Result<(), SetFault>
     requires { D.number door.old ≡ inside.old.link }
-    ensures talks { Talks (marked (mark_of kind octets.now) inside.old) result (D.made door.old)
-        (D.made door.new) (D.faults door.old) (D.faults door.new) inside.new }
+    ensures talks { Talks (marked (mark_of kind octets.now) inside.old) result (asked D.Door door.old)
+        (asked D.Door door.new) inside.new }
     ensures at { D.number door.new ≡ inside.new.link }
     ensures number { D.number door.new ≡ D.number door.old }
     ensures door { D.is_same door.old door.new }
@@ -55,8 +55,7 @@ pub(crate) fn mark<D: Door>(
 /// A mark that brings no readable unit is an error, and no more.
 fn damaged<D: Door>(inside: &mut Inside, door: &mut D) -> Result<(), SetFault>
     requires { D.number door.old ≡ inside.old.link }
-    ensures talks { Talks (brings None inside.old) result (D.made door.old) (D.made door.new)
-        (D.faults door.old) (D.faults door.new) inside.new }
+    ensures talks { Talks (brings None inside.old) result (asked D.Door door.old) (asked D.Door door.new) inside.new }
     ensures at { D.number door.new ≡ inside.new.link }
     ensures number { D.number door.new ≡ D.number door.old }
     ensures door { D.is_same door.old door.new }
@@ -73,8 +72,8 @@ fn readable<D: Door>(
 ) -> Result<(), SetFault>
     requires at { D.number door.old ≡ inside.old.link }
     requires few { length (body_in unit.now) ≤ 273 }
-    ensures talks { Talks (brings (Some (unit_in unit.now)) inside.old) result (D.made door.old) (D.made door.new)
-        (D.faults door.old) (D.faults door.new) inside.new }
+    ensures talks { Talks (brings (Some (unit_in unit.now)) inside.old) result (asked D.Door door.old)
+        (asked D.Door door.new) inside.new }
     ensures at { D.number door.new ≡ inside.new.link }
     ensures number { D.number door.new ≡ D.number door.old }
     ensures door { D.is_same door.old door.new }
@@ -87,8 +86,7 @@ fn readable<D: Door>(
 #[tactic(auto, using(crate::proofs::Links::judged_link))]
 fn judge<D: Door>(inside: &mut Inside, door: &mut D, error: bool) -> Result<(), SetFault>
     requires { D.number door.old ≡ inside.old.link }
-    ensures talks { Talks (judged error inside.old) result (D.made door.old) (D.made door.new)
-        (D.faults door.old) (D.faults door.new) inside.new }
+    ensures talks { Talks (judged error inside.old) result (asked D.Door door.old) (asked D.Door door.new) inside.new }
     ensures at { D.number door.new ≡ inside.new.link }
     ensures number { D.number door.new ≡ D.number door.old }
     ensures door { D.is_same door.old door.new }
@@ -110,8 +108,8 @@ fn hear<D: Door>(
 ) -> Result<(), SetFault>
     requires at { D.number door.old ≡ inside.old.link }
     requires few { length (body_in unit.now) ≤ 273 }
-    ensures talks { Talks (heard (Some (unit_in unit.now)) inside.old) result (D.made door.old) (D.made door.new)
-        (D.faults door.old) (D.faults door.new) inside.new }
+    ensures talks { Talks (heard (Some (unit_in unit.now)) inside.old) result (asked D.Door door.old)
+        (asked D.Door door.new) inside.new }
     ensures at { D.number door.new ≡ inside.new.link }
     ensures number { D.number door.new ≡ D.number door.old }
     ensures door { D.is_same door.old door.new }
@@ -128,8 +126,8 @@ fn tell_machines<D: Door>(
     unit: &UnitRef<'_>,
 ) -> Result<(), SetFault>
     requires { D.number door.old ≡ inside.old.link }
-    ensures talks { Talks (machines_hear (unit_in unit.now) inside.old) result (D.made door.old)
-        (D.made door.new) (D.faults door.old) (D.faults door.new) inside.new }
+    ensures talks { Talks (machines_hear (unit_in unit.now) inside.old) result (asked D.Door door.old)
+        (asked D.Door door.new) inside.new }
     ensures at { D.number door.new ≡ inside.new.link }
     ensures number { D.number door.new ≡ D.number door.old }
     ensures door { D.is_same door.old door.new }
@@ -144,8 +142,8 @@ fn tell_machines<D: Door>(
 /// A status: alignment hears it, then link state control, then flow control (Q.703 7.3, 8.2, 9.3).
 fn hear_status<D: Door>(inside: &mut Inside, door: &mut D, status: Status) -> Result<(), SetFault>
     requires { D.number door.old ≡ inside.old.link }
-    ensures talks { Talks (status_heard status inside.old) result (D.made door.old)
-        (D.made door.new) (D.faults door.old) (D.faults door.new) inside.new }
+    ensures talks { Talks (status_heard status inside.old) result (asked D.Door door.old)
+        (asked D.Door door.new) inside.new }
     ensures at { D.number door.new ≡ inside.new.link }
     ensures number { D.number door.new ≡ D.number door.old }
     ensures door { D.is_same door.old door.new }
@@ -158,8 +156,8 @@ fn hear_status<D: Door>(inside: &mut Inside, door: &mut D, status: Status) -> Re
 /// Busy is flow control's, in every state of the link (Q.703 9.3, own).
 fn tell_flow<D: Door>(inside: &mut Inside, door: &mut D, status: Status) -> Result<(), SetFault>
     requires { D.number door.old ≡ inside.old.link }
-    ensures talks { Talks (flow_hears status inside.old) result (D.made door.old) (D.made door.new)
-        (D.faults door.old) (D.faults door.new) inside.new }
+    ensures talks { Talks (flow_hears status inside.old) result (asked D.Door door.old)
+        (asked D.Door door.new) inside.new }
     ensures at { D.number door.new ≡ inside.new.link }
     ensures number { D.number door.new ≡ D.number door.old }
     ensures door { D.is_same door.old door.new }
@@ -179,8 +177,8 @@ fn tell_set<D: Door>(
 ) -> Result<(), SetFault>
     requires at { D.number door.old ≡ inside.old.link }
     requires few { length (body_in unit.now) ≤ 273 }
-    ensures talks { Talks (set_hears (unit_in unit.now) inside.old) result (D.made door.old) (D.made door.new)
-        (D.faults door.old) (D.faults door.new) inside.new }
+    ensures talks { Talks (set_hears (unit_in unit.now) inside.old) result (asked D.Door door.old)
+        (asked D.Door door.new) inside.new }
     ensures at { D.number door.new ≡ inside.new.link }
     ensures number { D.number door.new ≡ D.number door.old }
     ensures door { D.is_same door.old door.new }
@@ -200,8 +198,8 @@ fn tell_heard<D: Door>(
 ) -> Result<(), SetFault>
     requires at { D.number door.old ≡ inside.old.link }
     requires few { length (body_in unit.now) ≤ 273 }
-    ensures talks { Talks (told_heard (unit_in unit.now) inside.old) result (D.made door.old) (D.made door.new)
-        (D.faults door.old) (D.faults door.new) inside.new }
+    ensures talks { Talks (told_heard (unit_in unit.now) inside.old) result (asked D.Door door.old)
+        (asked D.Door door.new) inside.new }
     ensures at { D.number door.new ≡ inside.new.link }
     ensures number { D.number door.new ≡ D.number door.old }
     ensures door { D.is_same door.old door.new }
@@ -224,8 +222,8 @@ fn report<D: Door>(
     bsn: u16,
 ) -> Result<(), SetFault>
     requires { D.number door.old ≡ inside.old.link }
-    ensures talks { Talks (reported (answer_in answer.now) bsn inside.old) result (D.made door.old)
-        (D.made door.new) (D.faults door.old) (D.faults door.new) inside.new }
+    ensures talks { Talks (reported (answer_in answer.now) bsn inside.old) result (asked D.Door door.old)
+        (asked D.Door door.new) inside.new }
     ensures at { D.number door.new ≡ inside.new.link }
     ensures number { D.number door.new ≡ D.number door.old }
     ensures door { D.is_same door.old door.new }
@@ -250,8 +248,8 @@ fn obey_report<D: Door>(
     bsn: u16,
 ) -> Result<(), SetFault>
     requires { D.number door.old ≡ inside.old.link }
-    ensures talks { Talks (report_heard report bsn inside.old) result (D.made door.old)
-        (D.made door.new) (D.faults door.old) (D.faults door.new) inside.new }
+    ensures talks { Talks (report_heard report bsn inside.old) result (asked D.Door door.old)
+        (asked D.Door door.new) inside.new }
     ensures at { D.number door.new ≡ inside.new.link }
     ensures number { D.number door.new ≡ D.number door.old }
     ensures door { D.is_same door.old door.new }
@@ -269,8 +267,8 @@ fn tell_acks<D: Door>(
     bsn: u16,
 ) -> Result<(), SetFault>
     requires { D.number door.old ≡ inside.old.link }
-    ensures talks { Talks (acks report bsn inside.old) result (D.made door.old)
-        (D.made door.new) (D.faults door.old) (D.faults door.new) inside.new }
+    ensures talks { Talks (acks report bsn inside.old) result (asked D.Door door.old)
+        (asked D.Door door.new) inside.new }
     ensures at { D.number door.new ≡ inside.new.link }
     ensures number { D.number door.new ≡ D.number door.old }
     ensures door { D.is_same door.old door.new }
@@ -289,8 +287,7 @@ fn tell_faults<D: Door>(
     fault: Option<ControlFault>,
 ) -> Result<(), SetFault>
     requires { D.number door.old ≡ inside.old.link }
-    ensures talks { Talks (faults fault inside.old) result (D.made door.old) (D.made door.new)
-        (D.faults door.old) (D.faults door.new) inside.new }
+    ensures talks { Talks (faults fault inside.old) result (asked D.Door door.old) (asked D.Door door.new) inside.new }
     ensures at { D.number door.new ≡ inside.new.link }
     ensures number { D.number door.new ≡ D.number door.old }
     ensures door { D.is_same door.old door.new }

@@ -3,7 +3,7 @@ ghost use Rattle.std.specs.Prelude.{◌≡◌, Some, if◌then◌else◌, IfOk};
 ghost use Rattle.set_events.specs.Lent.{HasFitUnit, event_in};
 ghost use Rattle.set_events.specs.declared.event.Event.TheVariants.{Down, DownBlind};
 ghost use Rattle.l2_state.specs.declared.signals.Indication.TheVariants.{Down as ToldDown};
-ghost use Rattle.link_term.specs.Talking.{Talks};
+ghost use Rattle.link_term.specs.Talking.{Talks, asked};
 ghost use Rattle.term_model.specs.Machines.{asks_up, asks_down, tells, state_in, align_in, flow_in};
 
 use super::door::Door;
@@ -20,8 +20,7 @@ use term_core::Inside;
 #[tactic(auto, using(crate::proofs::Links::risen_link, crate::proofs::Links::risen_bits))]
 pub(crate) fn ask_up<D: Door>(inside: &mut Inside, door: &mut D) -> Result<(), SetFault>
     requires { D.number door.old ≡ inside.old.link }
-    ensures talks { Talks (asks_up inside.old) result (D.made door.old) (D.made door.new)
-        (D.faults door.old) (D.faults door.new) inside.new }
+    ensures talks { Talks (asks_up inside.old) result (asked D.Door door.old) (asked D.Door door.new) inside.new }
     ensures at { D.number door.new ≡ inside.new.link }
     ensures number { D.number door.new ≡ D.number door.old }
     ensures door { D.is_same door.old door.new }
@@ -52,8 +51,8 @@ fn down_event(inside: &Inside) -> EventRef<'static>
 #[inline(never)]
 fn ask_down<D: Door>(inside: &mut Inside, door: &mut D, cause: Cause) -> Result<(), SetFault>
     requires { D.number door.old ≡ inside.old.link }
-    ensures talks { Talks (asks_down cause inside.old) result (D.made door.old) (D.made door.new)
-        (D.faults door.old) (D.faults door.new) inside.new }
+    ensures talks { Talks (asks_down cause inside.old) result (asked D.Door door.old)
+        (asked D.Door door.new) inside.new }
     ensures at { D.number door.new ≡ inside.new.link }
     ensures number { D.number door.new ≡ D.number door.old }
     ensures door { D.is_same door.old door.new }
@@ -72,8 +71,8 @@ pub(crate) fn leave<D: Door>(
     cause: Cause,
 ) -> Result<(), SetFault>
     requires { D.number door.old ≡ inside.old.link }
-    ensures talks { Talks (tells (Some (ToldDown cause)) inside.old) result (D.made door.old)
-        (D.made door.new) (D.faults door.old) (D.faults door.new) inside.new }
+    ensures talks { Talks (tells (Some (ToldDown cause)) inside.old) result (asked D.Door door.old)
+        (asked D.Door door.new) inside.new }
     ensures at { D.number door.new ≡ inside.new.link }
     ensures number { D.number door.new ≡ D.number door.old }
     ensures door { D.is_same door.old door.new }
@@ -94,8 +93,8 @@ pub(crate) fn input_state<D: Door>(
     input: StateIn,
 ) -> Result<(), SetFault>
     requires { D.number door.old ≡ inside.old.link }
-    ensures talks { Talks (state_in input inside.old) result (D.made door.old) (D.made door.new)
-        (D.faults door.old) (D.faults door.new) inside.new }
+    ensures talks { Talks (state_in input inside.old) result (asked D.Door door.old)
+        (asked D.Door door.new) inside.new }
     ensures at { D.number door.new ≡ inside.new.link }
     ensures number { D.number door.new ≡ D.number door.old }
     ensures door { D.is_same door.old door.new }
@@ -115,8 +114,8 @@ pub(crate) fn input_align<D: Door>(
     input: AlignIn,
 ) -> Result<(), SetFault>
     requires { D.number door.old ≡ inside.old.link }
-    ensures talks { Talks (align_in input inside.old) result (D.made door.old) (D.made door.new)
-        (D.faults door.old) (D.faults door.new) inside.new }
+    ensures talks { Talks (align_in input inside.old) result (asked D.Door door.old)
+        (asked D.Door door.new) inside.new }
     ensures at { D.number door.new ≡ inside.new.link }
     ensures number { D.number door.new ≡ D.number door.old }
     ensures door { D.is_same door.old door.new }
@@ -135,8 +134,7 @@ pub(crate) fn input_flow<D: Door>(
     input: FlowIn,
 ) -> Result<(), SetFault>
     requires { D.number door.old ≡ inside.old.link }
-    ensures talks { Talks (flow_in input inside.old) result (D.made door.old) (D.made door.new)
-        (D.faults door.old) (D.faults door.new) inside.new }
+    ensures talks { Talks (flow_in input inside.old) result (asked D.Door door.old) (asked D.Door door.new) inside.new }
     ensures at { D.number door.new ≡ inside.new.link }
     ensures number { D.number door.new ≡ D.number door.old }
     ensures door { D.is_same door.old door.new }

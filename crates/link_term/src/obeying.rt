@@ -1,7 +1,7 @@
 //! The commands that waited (Q.703 7.2, 9.2, 12.1).
 ghost use Rattle.std.specs.Prelude.{◌≡◌};
 ghost use Rattle.link_term.specs.Orders.{is_among, every_command, obeys, obeys_among, obeys_all};
-ghost use Rattle.link_term.specs.Talking.{Talks};
+ghost use Rattle.link_term.specs.Talking.{Talks, asked};
 ghost use Rattle.term_model.specs.Obeying.{commanded};
 
 use super::door::Door;
@@ -26,8 +26,7 @@ static ORDER: [Command; 6] = [
 /// The commands that waited are obeyed, each once.
 pub(crate) fn obey<D: Door>(inside: &mut Inside, door: &mut D) -> Result<(), SetFault>
     requires { D.number door.old ≡ inside.old.link }
-    ensures talks { Talks (commanded inside.old) result (D.made door.old) (D.made door.new)
-        (D.faults door.old) (D.faults door.new) inside.new }
+    ensures talks { Talks (commanded inside.old) result (asked D.Door door.old) (asked D.Door door.new) inside.new }
     ensures at { D.number door.new ≡ inside.new.link }
     ensures number { D.number door.new ≡ D.number door.old }
     ensures door { D.is_same door.old door.new }
@@ -44,8 +43,8 @@ fn obey_given<D: Door>(
     commands: Commands,
 ) -> Result<(), SetFault>
     requires { D.number door.old ≡ inside.old.link }
-    ensures talks { Talks (obeys_all commands every_command inside.old) result (D.made door.old)
-        (D.made door.new) (D.faults door.old) (D.faults door.new) inside.new }
+    ensures talks { Talks (obeys_all commands every_command inside.old) result (asked D.Door door.old)
+        (asked D.Door door.new) inside.new }
     ensures at { D.number door.new ≡ inside.new.link }
     ensures number { D.number door.new ≡ D.number door.old }
     ensures door { D.is_same door.old door.new }
@@ -64,8 +63,8 @@ fn obey_each<D: Door>(
     order: &[Command],
 ) -> Result<(), SetFault>
     requires { D.number door.old ≡ inside.old.link }
-    ensures talks { Talks (obeys_all commands order.now inside.old) result (D.made door.old)
-        (D.made door.new) (D.faults door.old) (D.faults door.new) inside.new }
+    ensures talks { Talks (obeys_all commands order.now inside.old) result (asked D.Door door.old)
+        (asked D.Door door.new) inside.new }
     ensures at { D.number door.new ≡ inside.new.link }
     ensures number { D.number door.new ≡ D.number door.old }
     ensures door { D.is_same door.old door.new }
@@ -84,8 +83,8 @@ fn obey_if<D: Door>(
     command: Command,
 ) -> Result<(), SetFault>
     requires { D.number door.old ≡ inside.old.link }
-    ensures talks { Talks (obeys_among commands command inside.old) result (D.made door.old)
-        (D.made door.new) (D.faults door.old) (D.faults door.new) inside.new }
+    ensures talks { Talks (obeys_among commands command inside.old) result (asked D.Door door.old)
+        (asked D.Door door.new) inside.new }
     ensures at { D.number door.new ≡ inside.new.link }
     ensures number { D.number door.new ≡ D.number door.old }
     ensures door { D.is_same door.old door.new }
@@ -113,8 +112,7 @@ fn contains(commands: Commands, command: Command) -> bool
 /// A command is obeyed. Blind is for the next failure, and lost while the link isn't up at the set (own).
 fn obey_one<D: Door>(inside: &mut Inside, door: &mut D, command: Command) -> Result<(), SetFault>
     requires { D.number door.old ≡ inside.old.link }
-    ensures talks { Talks (obeys command inside.old) result (D.made door.old) (D.made door.new)
-        (D.faults door.old) (D.faults door.new) inside.new }
+    ensures talks { Talks (obeys command inside.old) result (asked D.Door door.old) (asked D.Door door.new) inside.new }
     ensures at { D.number door.new ≡ inside.new.link }
     ensures number { D.number door.new ≡ D.number door.old }
     ensures door { D.is_same door.old door.new }

@@ -2,6 +2,7 @@
 ghost use Rattle.std.specs.Prelude.{◌≡◌, ◌≤◌, List, Bool, length, IfOk};
 ghost use Rattle.l2_bits.specs.Deframing.{StandsFor, rest_of};
 ghost use Rattle.link_term.specs.Octets.{FedSome, Hears};
+ghost use Rattle.link_term.specs.Talking.{at_door};
 
 use super::counts::MarkCounts;
 use super::door::Door;
@@ -22,8 +23,8 @@ pub(crate) fn hear_bits<D: Door>(
     requires at { D.number door.old ≡ inside.old.link }
     requires few { length (rest_of rest.old) ≤ 8 }
     ensures hears { (past : List Bool) → StandsFor past deframer.old
-        → Hears past (rest_of rest.old) inside.old result (D.made door.old) (D.made door.new)
-        (D.faults door.old) (D.faults door.new) inside.new deframer.new }
+        → Hears past (rest_of rest.old) (at_door D.Door inside.old door.old) result
+        (at_door D.Door inside.new door.new) deframer.new }
     ensures at { D.number door.new ≡ inside.new.link }
     ensures number { D.number door.new ≡ D.number door.old }
     ensures door { D.is_same door.old door.new }

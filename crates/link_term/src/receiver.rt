@@ -2,6 +2,7 @@
 ghost use Rattle.std.specs.Prelude.{◌≡◌, [], ◌∷◌, ◌++◌};
 ghost use Rattle.l2_bits.specs.LineBits.{bits_of, line_bits};
 ghost use Rattle.link_term.specs.Turning.{HearsOctet};
+ghost use Rattle.link_term.specs.Talking.{at_door};
 
 use super::counts::MarkCounts;
 use super::door::Door;
@@ -53,8 +54,8 @@ impl Receiver {
         reply: &mut Reply,
     ) -> Result<MarkCounts, SetFault>
         requires { D.number door.old ≡ inside.old.link }
-        ensures hears { HearsOctet (line_bits self.old) (bits_of 8 octet) inside.old result
-            (D.made door.old) (D.made door.new) (D.faults door.old) (D.faults door.new) inside.new }
+        ensures hears { HearsOctet (line_bits self.old) (bits_of 8 octet) (at_door D.Door inside.old door.old) result
+            (at_door D.Door inside.new door.new) }
         ensures taken { self.new ≡ self.old ++ octet ∷ [] }
         ensures at { D.number door.new ≡ inside.new.link }
         ensures number { D.number door.new ≡ D.number door.old }

@@ -1,12 +1,9 @@
 //! A terminal with its door, its line and its gate.
-ghost use Rattle.std.specs.Prelude.{◌≡◌, ◌+◌, ◌^◌, ◌<◌, ◌≤◌, [], true, false, IfOk, IfErr, OnOk, OnErr};
-ghost use Rattle.link_term.specs.Turning.{TurnsOnce, TurnFails, one_if_chosen};
-ghost use Rattle.link_term.specs.Looking.{seen};
-ghost use Rattle.link_term.specs.Standing.{standing};
+ghost use Rattle.std.specs.Prelude.{◌≡◌, ◌+◌, ◌^◌, ◌<◌, ◌≤◌, [], false};
 ghost use Rattle.link_term.specs.Running.{Runs, RunFails};
+ghost use Rattle.link_term.specs.Taking.{TakesTurns};
+ghost use Rattle.link_term.specs.Turning.{TurnsOnce, TurnFails, one_if_chosen};
 ghost use Rattle.term_model.specs.Runs.{cause_or_0};
-ghost use Rattle.link_term.specs.declared.counts.Turned.{Turned as WasTurned};
-ghost use Rattle.link_term.specs.declared.fault.TermFault.TheVariants.{Failed};
 ghost use Rattle.term_model.specs.Terminal.{opened, told};
 
 use super::counts::{Filling, Turned};
@@ -14,10 +11,12 @@ use super::door::{Door, Gate};
 use super::fault::TermFault;
 use super::works::Works;
 use line_ring::Line;
+use std::marker::Model;
 use term_model::{Command, TermReport, Timers};
 
 /// A signalling terminal of one link (Q.703 7 to 12): its works, the door of the link's set, one end of a line, and a
-/// gate. It takes no memory; a turn waits only where the door does.
+/// gate. It takes no memory; a turn waits only where the door does. Contracts see its door and its line, its inside, the
+/// octets that it took, and whether a turn was broken off.
 #[derive(Drop)]
 pub struct Terminal<D: Door, L: Line, G: Gate> {
     door: D,
@@ -26,7 +25,17 @@ pub struct Terminal<D: Door, L: Line, G: Gate> {
     /// The number of its set, which is told to the gate alone.
     set: u16,
     works: Works,
-    ghost at: { D.number door ≡ works.inside.link },
+}
+
+impl<D: Door, L: Line, G: Gate> Model for Terminal<D, L, G> {
+    ghost use Rattle.std.specs.Prelude.{◌≡◌};
+    ghost use Rattle.link_term.specs.Standing.{TerminalState, lent};
+
+    ghost Value = { TerminalState D L };
+
+    ghost view = { λ t. lent t.works t.door t.line };
+
+    ghost invariant = { λ t. D.number t.door ≡ t.works.inside.link };
 }
 
 impl<D: Door, L: Line, G: Gate> Terminal<D, L, G> {
@@ -34,11 +43,11 @@ impl<D: Door, L: Line, G: Gate> Terminal<D, L, G> {
     /// was taken from the line by it, and one flag is left to send.
     pub fn new(door: D, line: L, gate: G, set: u16, link: u8, lengths: Timers) -> Terminal<D, L, G>
         requires { D.number door ≡ link }
-        ensures inside { result.works.inside ≡ opened link lengths }
-        ensures taken { result.works.receiver ≡ [] }
         ensures door { result.door ≡ door }
         ensures line { result.line ≡ line }
-        ensures failed { result.works.failed ≡ false }
+        ensures inside { result.inside ≡ opened link lengths }
+        ensures taken { result.taken ≡ [] }
+        ensures failed { result.failed ≡ false }
     {
         Terminal {
             door,
@@ -51,48 +60,23 @@ impl<D: Door, L: Line, G: Gate> Terminal<D, L, G> {
 
     /// A command, which is obeyed in the next turn; it's no matter that it was given before.
     pub fn command(&mut self, command: Command)
-        ensures inside { self.new.works.inside ≡ told command self.old.works.inside }
-        ensures taken { self.new.works.receiver ≡ self.old.works.receiver }
-        ensures door { self.new.door ≡ self.old.door }
-        ensures line { self.new.line ≡ self.old.line }
-        ensures failed { self.new.works.failed ≡ self.old.works.failed }
+        ensures { self.new ≡ record self.old { inside = told command self.old.inside } }
     {
         self.works.command(command);
     }
 
-    /// One turn, an octet time: commands, one octet in, marks, timers, what is sent next, one octet out.
+    /// One turn, an octet time: commands, one octet in, marks, timers, what is sent next, one octet out. Tells what it did.
     ///
     /// Faults, where the door answered so: 1 [`TermFault::NoMemory`], 3 [`TermFault::Exhausted`]; 4 [`TermFault::Profile`]
     /// where it gave a unit that has a number of more than seven bits, whose entry stays with the door. The turn was broken off
     /// there, and nothing was put. After one, 2 [`TermFault::Failed`], and nothing is done.
-    pub fn turn(&mut self) -> Result<(), TermFault>
-        ensures turns { IfOk result (λ done. (turned : WasTurned) × (self.old.works.failed ≡ false) × TurnsOnce
-            (standing self.old.works.receiver self.old.works.inside (D.made self.old.door) (D.faults self.old.door)
-            (seen (L.taken_so_far self.old.line) (L.waiting self.old.line) (L.put_so_far self.old.line)
-            (L.free self.old.line)))
-            turned
-            (standing self.new.works.receiver self.new.works.inside (D.made self.new.door) (D.faults self.new.door)
-            (seen (L.taken_so_far self.new.line) (L.waiting self.new.line) (L.put_so_far self.new.line)
-            (L.free self.new.line)))) }
-        ensures breaks { self.old.works.failed ≡ false → IfErr result (λ fault. TurnFails fault
-            (standing self.old.works.receiver self.old.works.inside (D.made self.old.door) (D.faults self.old.door)
-            (seen (L.taken_so_far self.old.line) (L.waiting self.old.line) (L.put_so_far self.old.line)
-            (L.free self.old.line)))
-            (standing self.new.works.receiver self.new.works.inside (D.made self.new.door) (D.faults self.new.door)
-            (seen (L.taken_so_far self.new.line) (L.waiting self.new.line) (L.put_so_far self.new.line)
-            (L.free self.new.line)))) }
-        ensures failed { self.old.works.failed ≡ true → (result ≡ Err Failed)
-            × (self.new.door ≡ self.old.door)
-            × (self.new.line ≡ self.old.line) × (self.new.works.inside ≡ self.old.works.inside)
-            × (self.new.works.receiver ≡ self.old.works.receiver) }
-        ensures fails { OnErr result (self.new.works.failed ≡ true) }
-        ensures goes_on { OnOk result (self.new.works.failed ≡ false) }
-        ensures number { D.number self.new.door ≡ D.number self.old.door }
-        ensures door { D.is_same self.old.door self.new.door }
-        ensures same { L.is_same self.old.line self.new.line }
+    pub fn turn(&mut self) -> Result<Turned, TermFault>
+        ensures turns { TakesTurns D.Door L.Line TurnsOnce TurnFails self.old result self.new }
     {
-        self.take_turn()?;
-        Ok(())
+        if !self.works.has_failed() {
+            self.gate.outside(self.set, self.works.link());
+        }
+        self.works.turn(&mut self.door, &mut self.line)
     }
 
     /// So many turns, one after another, at most 2^32: what they counted, and why the link failed last. Each took an octet
@@ -101,37 +85,15 @@ impl<D: Door, L: Line, G: Gate> Terminal<D, L, G> {
     /// Faults as of [`Terminal::turn`]: the turns before the one that was broken off went whole, and it's the last.
     pub fn run(&mut self, turns: u64) -> Result<TermReport, TermFault>
         requires { turns ≤ 2 ^ 32 }
-        ensures runs { IfOk result (λ report. (self.old.works.failed ≡ false) × Runs turns
-            (standing self.old.works.receiver self.old.works.inside (D.made self.old.door) (D.faults self.old.door)
-            (seen (L.taken_so_far self.old.line) (L.waiting self.old.line) (L.put_so_far self.old.line)
-            (L.free self.old.line)))
-            report
-            (standing self.new.works.receiver self.new.works.inside (D.made self.new.door) (D.faults self.new.door)
-            (seen (L.taken_so_far self.new.line) (L.waiting self.new.line) (L.put_so_far self.new.line)
-            (L.free self.new.line)))) }
-        ensures breaks { self.old.works.failed ≡ false → IfErr result (λ fault. RunFails fault turns
-            (standing self.old.works.receiver self.old.works.inside (D.made self.old.door) (D.faults self.old.door)
-            (seen (L.taken_so_far self.old.line) (L.waiting self.old.line) (L.put_so_far self.old.line)
-            (L.free self.old.line)))
-            (standing self.new.works.receiver self.new.works.inside (D.made self.new.door) (D.faults self.new.door)
-            (seen (L.taken_so_far self.new.line) (L.waiting self.new.line) (L.put_so_far self.new.line)
-            (L.free self.new.line)))) }
-        ensures failed { self.old.works.failed ≡ true → (result ≡ Err Failed)
-            × (self.new.door ≡ self.old.door)
-            × (self.new.line ≡ self.old.line) × (self.new.works.inside ≡ self.old.works.inside)
-            × (self.new.works.receiver ≡ self.old.works.receiver) }
-        ensures fails { OnErr result (self.new.works.failed ≡ true) }
-        ensures goes_on { OnOk result (self.new.works.failed ≡ false) }
-        ensures number { D.number self.new.door ≡ D.number self.old.door }
-        ensures door { D.is_same self.old.door self.new.door }
-        ensures same { L.is_same self.old.line self.new.line }
+        ensures runs { TakesTurns D.Door L.Line (Runs turns) (λ fault before after. RunFails fault turns before after)
+            self.old result self.new }
     {
-        if self.works.failed {
+        if self.works.has_failed() {
             return Err(TermFault::Failed);
         }
         let mut report = NO_TURNS;
         for _turn in 0..turns {
-            report = and_one(report, self.take_turn()?);
+            report = and_one(report, self.turn()?);
         }
         Ok(TermReport {
             cause: last_cause(&self.works),
@@ -145,39 +107,6 @@ impl<D: Door, L: Line, G: Gate> Terminal<D, L, G> {
         ensures line { result.1 ≡ self.line }
     {
         (self.door, self.line, self.gate)
-    }
-
-    /// [`Terminal::turn`], which tells what it did.
-    fn take_turn(&mut self) -> Result<Turned, TermFault>
-        ensures turns { IfOk result (λ turned. (self.old.works.failed ≡ false) × TurnsOnce
-            (standing self.old.works.receiver self.old.works.inside (D.made self.old.door) (D.faults self.old.door)
-            (seen (L.taken_so_far self.old.line) (L.waiting self.old.line) (L.put_so_far self.old.line)
-            (L.free self.old.line)))
-            turned
-            (standing self.new.works.receiver self.new.works.inside (D.made self.new.door) (D.faults self.new.door)
-            (seen (L.taken_so_far self.new.line) (L.waiting self.new.line) (L.put_so_far self.new.line)
-            (L.free self.new.line)))) }
-        ensures breaks { self.old.works.failed ≡ false → IfErr result (λ fault. TurnFails fault
-            (standing self.old.works.receiver self.old.works.inside (D.made self.old.door) (D.faults self.old.door)
-            (seen (L.taken_so_far self.old.line) (L.waiting self.old.line) (L.put_so_far self.old.line)
-            (L.free self.old.line)))
-            (standing self.new.works.receiver self.new.works.inside (D.made self.new.door) (D.faults self.new.door)
-            (seen (L.taken_so_far self.new.line) (L.waiting self.new.line) (L.put_so_far self.new.line)
-            (L.free self.new.line)))) }
-        ensures failed { self.old.works.failed ≡ true → (result ≡ Err Failed)
-            × (self.new.door ≡ self.old.door)
-            × (self.new.line ≡ self.old.line) × (self.new.works.inside ≡ self.old.works.inside)
-            × (self.new.works.receiver ≡ self.old.works.receiver) }
-        ensures fails { OnErr result (self.new.works.failed ≡ true) }
-        ensures goes_on { OnOk result (self.new.works.failed ≡ false) }
-        ensures number { D.number self.new.door ≡ D.number self.old.door }
-        ensures door { D.is_same self.old.door self.new.door }
-        ensures same { L.is_same self.old.line self.new.line }
-    {
-        if !self.works.failed {
-            self.gate.outside(self.set, self.works.link());
-        }
-        self.works.turn(&mut self.door, &mut self.line)
     }
 }
 

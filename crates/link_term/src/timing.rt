@@ -1,7 +1,7 @@
 //! An octet time goes by (Q.703 12.3).
 ghost use Rattle.std.specs.Prelude.{◌≡◌};
 ghost use Rattle.link_term.specs.Orders.{end_told, ends, ends_all};
-ghost use Rattle.link_term.specs.Talking.{Talks};
+ghost use Rattle.link_term.specs.Talking.{Talks, asked};
 ghost use Rattle.term_model.specs.Timing.{timed};
 
 use super::door::Door;
@@ -26,8 +26,7 @@ static TIMERS: [Timer; 7] = [
 /// All timers that run are lessened, and then each that has nothing left is told where it belongs, T1 to T7.
 pub(crate) fn end_timers<D: Door>(inside: &mut Inside, door: &mut D) -> Result<(), SetFault>
     requires { D.number door.old ≡ inside.old.link }
-    ensures talks { Talks (timed inside.old) result (D.made door.old) (D.made door.new)
-        (D.faults door.old) (D.faults door.new) inside.new }
+    ensures talks { Talks (timed inside.old) result (asked D.Door door.old) (asked D.Door door.new) inside.new }
     ensures at { D.number door.new ≡ inside.new.link }
     ensures number { D.number door.new ≡ D.number door.old }
     ensures door { D.is_same door.old door.new }
@@ -43,8 +42,8 @@ pub(crate) fn end_timers<D: Door>(inside: &mut Inside, door: &mut D) -> Result<(
 /// The ends of these timers, in order.
 fn end_each<D: Door>(inside: &mut Inside, door: &mut D, timers: &[Timer]) -> Result<(), SetFault>
     requires { D.number door.old ≡ inside.old.link }
-    ensures talks { Talks (ends_all timers.now inside.old) result (D.made door.old)
-        (D.made door.new) (D.faults door.old) (D.faults door.new) inside.new }
+    ensures talks { Talks (ends_all timers.now inside.old) result (asked D.Door door.old)
+        (asked D.Door door.new) inside.new }
     ensures at { D.number door.new ≡ inside.new.link }
     ensures number { D.number door.new ≡ D.number door.old }
     ensures door { D.is_same door.old door.new }
@@ -58,8 +57,7 @@ fn end_each<D: Door>(inside: &mut Inside, door: &mut D, timers: &[Timer]) -> Res
 /// The end of this timer, where it has nothing left.
 fn end<D: Door>(inside: &mut Inside, door: &mut D, timer: Timer) -> Result<(), SetFault>
     requires { D.number door.old ≡ inside.old.link }
-    ensures talks { Talks (ends timer inside.old) result (D.made door.old) (D.made door.new)
-        (D.faults door.old) (D.faults door.new) inside.new }
+    ensures talks { Talks (ends timer inside.old) result (asked D.Door door.old) (asked D.Door door.new) inside.new }
     ensures at { D.number door.new ≡ inside.new.link }
     ensures number { D.number door.new ≡ D.number door.old }
     ensures door { D.is_same door.old door.new }
@@ -73,8 +71,8 @@ fn end<D: Door>(inside: &mut Inside, door: &mut D, timer: Timer) -> Result<(), S
 /// The machine whose timer it is hears that it has ended.
 fn tell_end<D: Door>(inside: &mut Inside, door: &mut D, timer: Timer) -> Result<(), SetFault>
     requires { D.number door.old ≡ inside.old.link }
-    ensures talks { Talks (end_told timer inside.old) result (D.made door.old) (D.made door.new)
-        (D.faults door.old) (D.faults door.new) inside.new }
+    ensures talks { Talks (end_told timer inside.old) result (asked D.Door door.old)
+        (asked D.Door door.new) inside.new }
     ensures at { D.number door.new ≡ inside.new.link }
     ensures number { D.number door.new ≡ D.number door.old }
     ensures door { D.is_same door.old door.new }

@@ -4,9 +4,10 @@ ghost use Rattle.std.specs.Option.{option_to_list};
 ghost use Rattle.l2_bits.specs.LineBits.{line_bits};
 ghost use Rattle.link_term.specs.declared.counts.Filling.TheVariants.{Wide};
 ghost use Rattle.link_term.specs.Filling.{Taps};
-ghost use Rattle.link_term.specs.Looking.{seen};
-ghost use Rattle.link_term.specs.Standing.{standing};
-ghost use Rattle.link_term.specs.Turning.{HearsOctet, StepsTo, PutsOut, TurnsOnce, TurnFails};
+ghost use Rattle.link_term.specs.Standing.{standing_at};
+ghost use Rattle.link_term.specs.Taking.{TurnsTapped};
+ghost use Rattle.link_term.specs.Talking.{at_door};
+ghost use Rattle.link_term.specs.Turning.{HearsOctet, StepsTo, PutsOut, TurnFails};
 ghost use Rattle.term_model.specs.OctetIn.{bits_in};
 
 use super::choosing::fill;
@@ -34,22 +35,12 @@ pub(crate) fn take_turn<D: Door, L: Line, T: Tap>(
     tap: &mut T,
 ) -> Result<Turned, TermFault>
     requires { D.number door.old ≡ inside.old.link }
-    ensures turns { IfOk result (λ turned. (turns : TurnsOnce
-        (standing receiver.old inside.old (D.made door.old) (D.faults door.old)
-        (seen (L.taken_so_far line.old) (L.waiting line.old) (L.put_so_far line.old)
-        (L.free line.old)))
-        turned
-        (standing receiver.new inside.new (D.made door.new) (D.faults door.new)
-        (seen (L.taken_so_far line.new) (L.waiting line.new) (L.put_so_far line.new)
-        (L.free line.new))))
-        × Taps T.told turns.turn.chosen.unit tap.old tap.new) }
+    ensures turns { IfOk result (λ turned. TurnsTapped (λ unit. Taps T.told unit tap.old tap.new)
+        (standing_at D.Door L.Line receiver.old inside.old door.old line.old) turned
+        (standing_at D.Door L.Line receiver.new inside.new door.new line.new)) }
     ensures fails { IfErr result (λ fault. TurnFails fault
-        (standing receiver.old inside.old (D.made door.old) (D.faults door.old)
-        (seen (L.taken_so_far line.old) (L.waiting line.old) (L.put_so_far line.old)
-        (L.free line.old)))
-        (standing receiver.new inside.new (D.made door.new) (D.faults door.new)
-        (seen (L.taken_so_far line.new) (L.waiting line.new) (L.put_so_far line.new)
-        (L.free line.new)))
+        (standing_at D.Door L.Line receiver.old inside.old door.old line.old)
+        (standing_at D.Door L.Line receiver.new inside.new door.new line.new)
         × (tap.new ≡ tap.old)) }
     ensures at { D.number door.new ≡ inside.new.link }
     ensures number { D.number door.new ≡ D.number door.old }
@@ -96,9 +87,8 @@ pub(crate) fn from_octet<D: Door, T: Tap>(
     tap: &mut T,
 ) -> Result<Turned, SetFault>
     requires { D.number door.old ≡ inside.old.link }
-    ensures steps { StepsTo (line_bits receiver.old) octet inside.old result
-        (D.made door.old) (D.made door.new) (D.faults door.old) (D.faults door.new) inside.new
-        T.told tap.old tap.new }
+    ensures steps { StepsTo (line_bits receiver.old) octet (at_door D.Door inside.old door.old) result
+        (at_door D.Door inside.new door.new) T.told tap.old tap.new }
     ensures taken { receiver.new ≡ receiver.old ++ option_to_list octet }
     ensures at { D.number door.new ≡ inside.new.link }
     ensures number { D.number door.new ≡ D.number door.old }
@@ -119,8 +109,8 @@ fn hear_octet<D: Door>(
     octet: Option<u8>,
 ) -> Result<MarkCounts, SetFault>
     requires { D.number door.old ≡ inside.old.link }
-    ensures hears { HearsOctet (line_bits receiver.old) (bits_in octet) inside.old result
-        (D.made door.old) (D.made door.new) (D.faults door.old) (D.faults door.new) inside.new }
+    ensures hears { HearsOctet (line_bits receiver.old) (bits_in octet) (at_door D.Door inside.old door.old) result
+        (at_door D.Door inside.new door.new) }
     ensures taken { receiver.new ≡ receiver.old ++ option_to_list octet }
     ensures at { D.number door.new ≡ inside.new.link }
     ensures number { D.number door.new ≡ D.number door.old }

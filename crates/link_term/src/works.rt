@@ -1,10 +1,9 @@
 //! A terminal without its surroundings: its door and its line are lent to it for a turn.
-ghost use Rattle.std.specs.Prelude.{◌≡◌, [], true, false, IfOk, IfErr, OnOk, OnErr};
-ghost use Rattle.link_term.specs.declared.fault.TermFault.TheVariants.{Failed};
+ghost use Rattle.std.specs.Prelude.{◌≡◌, [], false, OnErr};
 ghost use Rattle.link_term.specs.Filling.{Taps};
-ghost use Rattle.link_term.specs.Looking.{seen};
-ghost use Rattle.link_term.specs.Standing.{standing};
+ghost use Rattle.link_term.specs.Standing.{lent};
 ghost use Rattle.link_term.specs.States.{aligning_as, is_paused, state_of};
+ghost use Rattle.link_term.specs.Taking.{TakesTurns, TurnsTapped};
 ghost use Rattle.link_term.specs.Turning.{TurnsOnce, TurnFails};
 ghost use Rattle.term_model.specs.Terminal.{opened, told};
 
@@ -19,6 +18,7 @@ use l2_state::State;
 use l2_units::Cause;
 use line_ring::Line;
 use set_events::Reply;
+use std::marker::Model;
 use term_core::Inside;
 use term_model::{Command, Timers};
 
@@ -40,15 +40,24 @@ pub enum TermState {
 }
 
 /// What a terminal is made of, but for its door and its line, which are lent to it turn by turn: the machines, timers
-/// and bits of its inside, and the receiver of its line (Q.703 2 to 12). Some 1,000 octets; it takes no memory.
+/// and bits of its inside, and the receiver of its line (Q.703 2 to 12). Some 1,000 octets; it takes no memory. Contracts
+/// see the inside, the octets that were taken, and whether a turn was broken off.
 #[derive(Drop)]
 pub struct Works {
-    pub(crate) inside: Inside,
-    pub(crate) receiver: Receiver,
+    inside: Inside,
+    receiver: Receiver,
     /// Where the door's answers are put: it's made once, so that a turn clears no room for one.
     reply: Reply,
     /// A turn was broken off.
-    pub(crate) failed: bool,
+    failed: bool,
+}
+
+impl Model for Works {
+    ghost use Rattle.link_term.specs.Standing.{WorksState};
+
+    ghost Value = { WorksState };
+
+    ghost view = { λ w. record { inside = w.inside; taken = w.receiver; failed = w.failed } };
 }
 
 impl Works {
@@ -56,7 +65,7 @@ impl Works {
     /// taken from a line, and one flag is left to send.
     pub fn new(link: u8, lengths: Timers) -> Works
         ensures inside { result.inside ≡ opened link lengths }
-        ensures taken { result.receiver ≡ [] }
+        ensures taken { result.taken ≡ [] }
         ensures failed { result.failed ≡ false }
     {
         Works {
@@ -69,9 +78,7 @@ impl Works {
 
     /// A command, which is obeyed in the next turn; it's no matter that it was given before.
     pub fn command(&mut self, command: Command)
-        ensures inside { self.new.inside ≡ told command self.old.inside }
-        ensures taken { self.new.receiver ≡ self.old.receiver }
-        ensures failed { self.new.failed ≡ self.old.failed }
+        ensures { self.new ≡ record self.old { inside = told command self.old.inside } }
     {
         self.inside.command(command);
     }
@@ -88,29 +95,8 @@ impl Works {
         line: &mut L,
     ) -> Result<Turned, TermFault>
         requires { D.number door.old ≡ self.old.inside.link }
-        ensures turns { IfOk result (λ turned. (self.old.failed ≡ false) × TurnsOnce
-            (standing self.old.receiver self.old.inside (D.made door.old) (D.faults door.old)
-            (seen (L.taken_so_far line.old) (L.waiting line.old) (L.put_so_far line.old)
-            (L.free line.old)))
-            turned
-            (standing self.new.receiver self.new.inside (D.made door.new) (D.faults door.new)
-            (seen (L.taken_so_far line.new) (L.waiting line.new) (L.put_so_far line.new)
-            (L.free line.new)))) }
-        ensures breaks { self.old.failed ≡ false → IfErr result (λ fault. TurnFails fault
-            (standing self.old.receiver self.old.inside (D.made door.old) (D.faults door.old)
-            (seen (L.taken_so_far line.old) (L.waiting line.old) (L.put_so_far line.old)
-            (L.free line.old)))
-            (standing self.new.receiver self.new.inside (D.made door.new) (D.faults door.new)
-            (seen (L.taken_so_far line.new) (L.waiting line.new) (L.put_so_far line.new)
-            (L.free line.new)))) }
-        ensures failed { self.old.failed ≡ true → (result ≡ Err Failed)
-            × (door.new ≡ door.old) × (line.new ≡ line.old) × (self.new ≡ self.old) }
-        ensures fails { OnErr result (self.new.failed ≡ true) }
-        ensures goes_on { OnOk result (self.new.failed ≡ false) }
-        ensures at { D.number door.new ≡ self.new.inside.link }
-        ensures number { D.number door.new ≡ D.number door.old }
-        ensures door { D.is_same door.old door.new }
-        ensures same { L.is_same line.old line.new }
+        ensures turns { TakesTurns D.Door L.Line TurnsOnce TurnFails (lent self.old door.old line.old) result
+            (lent self.new door.new line.new) }
     {
         self.turn_tapped(door, line, &mut NoTap)
     }
@@ -123,31 +109,9 @@ impl Works {
         tap: &mut T,
     ) -> Result<Turned, TermFault>
         requires { D.number door.old ≡ self.old.inside.link }
-        ensures turns { IfOk result (λ turned. (self.old.failed ≡ false) × (turns : TurnsOnce
-            (standing self.old.receiver self.old.inside (D.made door.old) (D.faults door.old)
-            (seen (L.taken_so_far line.old) (L.waiting line.old) (L.put_so_far line.old)
-            (L.free line.old)))
-            turned
-            (standing self.new.receiver self.new.inside (D.made door.new) (D.faults door.new)
-            (seen (L.taken_so_far line.new) (L.waiting line.new) (L.put_so_far line.new)
-            (L.free line.new))))
-            × Taps T.told turns.turn.chosen.unit tap.old tap.new) }
-        ensures breaks { self.old.failed ≡ false → IfErr result (λ fault. TurnFails fault
-            (standing self.old.receiver self.old.inside (D.made door.old) (D.faults door.old)
-            (seen (L.taken_so_far line.old) (L.waiting line.old) (L.put_so_far line.old)
-            (L.free line.old)))
-            (standing self.new.receiver self.new.inside (D.made door.new) (D.faults door.new)
-            (seen (L.taken_so_far line.new) (L.waiting line.new) (L.put_so_far line.new)
-            (L.free line.new)))) }
-        ensures failed { self.old.failed ≡ true → (result ≡ Err Failed)
-            × (door.new ≡ door.old) × (line.new ≡ line.old) × (self.new ≡ self.old) }
+        ensures turns { TakesTurns D.Door L.Line (TurnsTapped (λ unit. Taps T.told unit tap.old tap.new)) TurnFails
+            (lent self.old door.old line.old) result (lent self.new door.new line.new) }
         ensures untold { OnErr result (tap.new ≡ tap.old) }
-        ensures fails { OnErr result (self.new.failed ≡ true) }
-        ensures goes_on { OnOk result (self.new.failed ≡ false) }
-        ensures at { D.number door.new ≡ self.new.inside.link }
-        ensures number { D.number door.new ≡ D.number door.old }
-        ensures door { D.is_same door.old door.new }
-        ensures same { L.is_same line.old line.new }
     {
         if self.failed {
             return Err(TermFault::Failed);
@@ -166,6 +130,13 @@ impl Works {
                 Err(fault)
             }
         }
+    }
+
+    /// Whether a turn was broken off.
+    pub(crate) fn has_failed(&self) -> bool
+        ensures { result ≡ self.now.failed }
+    {
+        self.failed
     }
 
     /// The number of its link at the set.

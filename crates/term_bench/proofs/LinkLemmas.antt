@@ -41,10 +41,10 @@ at_parts t t' heard heard' waiting waiting' counts counts' failed failed' a b c 
     the_link t heard waiting counts failed = record { terminal = t; heard = heard; waiting = waiting; counts = counts; failed = failed }
 
 -- new works are those of a new link
-pub new_at : (works : Works) (lengths : Timers) (link : ℕ) → works.inside ≡ opened link lengths → works.receiver ≡ []
+pub new_at : (works : Works) (lengths : Timers) (link : ℕ) → works.inside ≡ opened link lengths → works.taken ≡ []
     → works.failed ≡ false → at_link works 0 0 no_counts ≡ new_link lengths link
 new_at works lengths link inside taken failed =
-    at_parts works.inside (opened link lengths) works.receiver [] (bits_of 0 0) [] no_counts no_counts works.failed false inside taken (bits_of-zero 0) refl failed
+    at_parts works.inside (opened link lengths) works.taken [] (bits_of 0 0) [] no_counts no_counts works.failed false inside taken (bits_of-zero 0) refl failed
 
 -- one link more
 pub links_more : (lengths : Timers) (links : List AtLink) (link : AtLink) (n : ℕ) → links ≡ new_links lengths n
@@ -83,7 +83,7 @@ counts_are counts counts' turned marks unit one heard filled =
 -- the turn of its works is the link's
 pub takes_turn : (link octet : ℕ) (set set' : LinkSet) (heard : ℕ) (works works' : Works) (bits waiting : ℕ) (counts counts' : TurnCounts)
     (turned : Turned) (unit : Option SignalUnit) (turn : Turn)
-    → Takes link octet set set' heard works.receiver works'.receiver works.inside works'.inside turn.put turned unit
+    → Takes link octet set set' heard works.taken works'.taken works.inside works'.inside turn.put turned unit
     → works.failed ≡ false → works'.failed ≡ false → CountsOne counts turned counts'
     → turn.messages ≡ heard → turn.sent ≡ one_if_chosen turned.filling
     → turn.before ≡ word_of works.inside → turn.after ≡ word_of works'.inside
@@ -99,7 +99,7 @@ takes_turn link octet set set' heard works works' bits waiting counts counts' tu
     narrow = takes.narrow;
     unit_is = takes.unit_is;
     puts = takes.puts;
-    at_is = at_parts works'.inside works'.inside works'.receiver (works.receiver ++ octet ∷ []) (bits_of waiting bits) (bits_of waiting bits)
+    at_is = at_parts works'.inside works'.inside works'.taken (works.taken ++ octet ∷ []) (bits_of waiting bits) (bits_of waiting bits)
         counts' (counts_after counts takes.marks unit) works'.failed works.failed refl takes.taken_is refl
         (counts_are counts counts' turned takes.marks unit one takes.marks_are takes.filling_is) (goes_on ∙ sym went);
   };

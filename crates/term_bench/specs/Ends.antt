@@ -26,7 +26,7 @@ pub record AtLink : Type 0 where
 abbrev pub at_link : Works → ℕ → ℕ → TurnCounts → AtLink
 at_link works bits waiting counts = record {
   terminal = works.inside;
-  heard = works.receiver;
+  heard = works.taken;
   waiting = bits_of waiting bits;
   counts = counts;
   failed = works.failed;

@@ -219,8 +219,8 @@ fn take_octet<T: Tap>(
     requires link { door.old.link ≡ works.old.inside.link }
     requires heard { door.old.heard ≡ 0 }
     ensures takes { IfOk result (λ out. (works.old.failed ≡ false) × (unit : Option SignalUnit)
-        × Takes door.old.link octet door.old.set door.new.set door.new.heard works.old.receiver
-        works.new.receiver works.old.inside works.new.inside out.0 out.1 unit
+        × Takes door.old.link octet door.old.set door.new.set door.new.heard works.old.taken
+        works.new.taken works.old.inside works.new.inside out.0 out.1 unit
         × Taps T.told unit tap.old tap.new) }
     ensures same { GoesOn door.old.link door.new.link door.old.set door.new.set door.old.heard
         door.new.heard }

@@ -5,12 +5,12 @@ pub returns-in_err-input_state-clause-talks : goal.returns-in_err-input_state-cl
 returns-in_err-input_state-clause-talks g c =
     let first = c.in_ok-input_align.ensures.talks in
     let second = c.in_err-input_state.ensures.talks in
-    talks_then _ _ _ _ _ _ _ _ _ _ _ first.0 first.1
-    (talks_broken _ _ _ _ _ _ _ _ _ c.from_residual-in_err-input_state.ensures.1 second.0 second.1)
+    talks_then _ _ _ _ _ _ _ _ first.0 first.1
+    (talks_broken _ _ _ _ _ _ _ c.from_residual-in_err-input_state.ensures.1 second.0 second.1)
 
 pub returns-clause-talks : goal.returns-clause-talks
 returns-clause-talks g c =
     let first = c.in_ok-input_align.ensures.talks in
     let second = c.in_ok-input_state.ensures.talks in
-    talks_then _ _ _ _ _ _ _ _ _ _ _ first.0 first.1
-    (talks_then _ _ _ _ _ _ _ _ _ _ _ second.0 second.1 c.tell_flow.ensures.talks)
+    talks_then _ _ _ _ _ _ _ _ first.0 first.1
+    (talks_then _ _ _ _ _ _ _ _ second.0 second.1 c.tell_flow.ensures.talks)

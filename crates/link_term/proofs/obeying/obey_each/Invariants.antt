@@ -1,5 +1,6 @@
 use Rattle.std.proofs.Common.{◌≡◌, drop}
 use Rattle.link_term.specs.Orders.{obeys_among}
+use Rattle.link_term.specs.Talking.{asked}
 use Rattle.link_term.proofs.Rows.{Completes}
 use Rattle.link_term.proofs.obeying.obey_each.Given as goal
 
@@ -10,5 +11,5 @@ invariant-loop-command g l = record {
   number : g.D.Door.number l.door ≡ g.D.Door.number l.initial.door;
   door : g.D.Door.is_same l.initial.door l.door;
   completes : Completes (obeys_among l.commands) l.order (drop l.command-index l.order) l.initial.inside l.inside
-      (g.D.Door.made l.initial.door) (g.D.Door.made l.door) (g.D.Door.faults l.initial.door) (g.D.Door.faults l.door);
+      (asked g.D.Door l.initial.door) (asked g.D.Door l.door);
 }

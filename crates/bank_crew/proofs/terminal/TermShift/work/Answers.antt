@@ -14,9 +14,8 @@ use Rattle.bank_crew.proofs.terminal.TermShift.work.Goals as goal
 pub returns-clause-shift : goal.returns-clause-shift
 returns-clause-shift g c =
     let new = c.new-terminal.ensures in
-    let first = c.command.ensures in
-    let second = c.command-2.ensures in
-    let door = second.door ∙ first.door ∙ new.door in
+    let commanded = c.command-2.ensures ∙ ap (λ it. record it { inside = told Start it.inside }) c.command.ensures in
+    let door = ap (λ it. it.door) commanded ∙ new.door in
     let out = c.into_parts-door.result.0 in
     let all = out.caller.all in
     let plan = c.args.self.orders.now.plan in
@@ -26,8 +25,8 @@ returns-clause-shift g c =
       all,
       c.into_seat-seat.ensures.all,
       shift_of _ (link_in c.args.self.seat.who) c.link-link.result c.planned_turns-report.result _ _ _ c.into_tape-tape.result out.marks _ _ _ c.planned_turns-report.ensures.turns
-          (second.taken ∙ first.taken ∙ new.taken)
-          (second.inside ∙ ap (told Start) (first.inside ∙ ap (told Emergency) new.inside))
+          (ap (λ it. it.taken) commanded ∙ new.taken)
+          (ap (λ it. it.inside) commanded ∙ ap (λ it. told Start (told Emergency it)) new.inside)
           (ap (λ it. of_turns it.managed it.marks it.caller.all) door ∙ none_of_turns c.new-door.result.managed c.new-door.result.caller.all c.new-door.result.marks c.new-door.ensures.made c.new-door.ensures.marks)
           (ap (λ it. it.faults) door ∙ c.new-door.ensures.faults)
           (sym (ap link_in c.link-link.ensures.who))
@@ -36,6 +35,6 @@ returns-clause-shift g c =
           c.reported-told.ensures
           (c.answered.ensures ∙ ap (λ n. answered_in n all) number)
           (c.carried.ensures.carried ∙ ap (λ (m : Option Managed). carried_in m (link_in out.caller.seat.who) all) managed ∙ ap (λ n. carried_in plan.managed n all) number)
-          (ap (λ it. it.put) (second.line ∙ first.line ∙ new.line) ∙ c.new-line.ensures.put)
+          (ap (λ it. it.line.put) commanded ∙ ap (λ it. it.put) new.line ∙ c.new-line.ensures.put)
           (subst (IsTape plan.keeps c.into_tape-tape.result) (ap (λ it. it.put) c.into_parts-door.ensures.line) c.into_tape-tape.ensures),
     )

@@ -14,9 +14,9 @@ pub invariant_of-self : goal.invariant_of-self
 invariant_of-self g c =
     let hears = c.hear_bits-heard.ensures.hears (line_bits c.self.inside.taken) c.self.invariant in
     octet_taken c.self.inside.taken c.note.new.self c.args.octet _ _ c.note.ensures c.new.ensures
-    (all_fed _ _ _ _ _ _ _ _ _ _ hears)
+    (all_fed _ _ _ _ _ _ hears)
 
 pub returns-clause-hears : goal.returns-clause-hears
 returns-clause-hears g c =
     let hears = c.hear_bits-heard.ensures.hears (line_bits c.self.inside.taken) c.self.invariant in
-    octet_heard _ _ _ _ _ _ _ _ _ _ _ _ (ap line_bits c.self.view_is) c.new.ensures hears
+    octet_heard _ _ _ _ _ _ _ _ (ap line_bits c.self.view_is) c.new.ensures hears
