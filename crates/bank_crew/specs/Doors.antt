@@ -23,8 +23,12 @@ abbrev pub door_state : CallerState → List ℕ → List SetFault → Option Ma
 door_state caller marks faults managed =
     record { seat = caller.seat; all = caller.all; marks = marks; faults = faults; managed = managed }
 
--- IT COUNTS what was made, and each entry has its mark
+-- each entry has its mark
+abbrev pub IsMarked : DoorState → Type 0
+IsMarked door = are_marks (link_in door.seat.who) door.all door.marks ≡ true
+
+-- IT COUNTS what was made
 pub record IsCounted (door : DoorState) (answered : Answered) (carried : Carried) : Type 0 where
   pub answered_is : answered ≡ answered_in (link_in door.seat.who) door.all
   pub carried_is : carried ≡ carried_in door.managed (link_in door.seat.who) door.all
-  pub marked : are_marks (link_in door.seat.who) door.all door.marks ≡ true
+  pub marked : IsMarked door

@@ -4,7 +4,8 @@ ghost use Rattle.set_events.specs.Lent.{HasFitUnit, event_in};
 ghost use Rattle.set_events.specs.Owners.{IsOwn};
 ghost use Rattle.bank_crew.specs.Carrying.{carried_in};
 ghost use Rattle.bank_crew.specs.Counts.{answered_in};
-ghost use Rattle.bank_crew.specs.Managing.{are_marks, is_mark, is_question, of_turns};
+ghost use Rattle.bank_crew.specs.Doors.{IsMarked};
+ghost use Rattle.bank_crew.specs.Managing.{is_mark, is_question, of_turns};
 ghost use Rattle.bank_crew.specs.Seats.{AreAll, link_in};
 
 use super::caller::Caller;
@@ -103,7 +104,7 @@ impl<'a, O: Opening, R: Wait, G: LinkManager> SeatDoor<'a, O, R, G> {
     /// What the link carried by those steps.
     pub fn carried(&self) -> Carried
         ensures carried { result ≡ carried_in self.now.managed (link_in self.now.seat.who) self.now.all }
-        ensures marks { are_marks (link_in self.now.seat.who) self.now.all self.now.marks ≡ true }
+        ensures marks { IsMarked self.now }
     {
         self.carried
     }

@@ -1,23 +1,28 @@
+use Rattle.std.proofs.Common.{◌≡◌, subst, sym, true}
 use Rattle.set_events.specs.Lent.{event_in}
+use Rattle.bank_crew.specs.Doors.{DoorState}
+use Rattle.bank_crew.specs.Managing.{is_mark}
+use Rattle.bank_crew.specs.Seats.{link_in}
 use Rattle.bank_crew.proofs.Counting.{step_carried, step_counted, step_fits, step_marked}
 use Rattle.bank_crew.proofs.seat_door.SeatDoor.ask.Goals as goal
 
 -- src/seat_door.rt
 pub with-self-requires : goal.with-self-requires
 with-self-requires g c =
-    step_fits _ (event_in c.args.event.now) c.step.new.reply c.args.self.now.caller.all c.step.new.self.all c.args.self.now.answered c.in_ok-step.ensures.ok c.args.self.now.is_counted c.count.result c.count.ensures.calls c.count.ensures.few
+    step_fits _ (event_in c.args.event.now) c.step.new.reply c.self.inside.caller.all c.step.new.self.all c.self.inside.answered c.in_ok-step.ensures.ok c.self.invariant.answered_is c.count.result c.count.ensures.calls c.count.ensures.few
 
 pub invariant_of-self-2 : goal.invariant_of-self-2
 invariant_of-self-2 g c =
-    let who = c.args.self.now.caller.seat.who in
-    let old = c.args.self.now.caller.all in
+    let who = c.self.inside.caller.seat.who in
+    let old = c.self.inside.caller.all in
     let new = c.step.new.self.all in
     let event = event_in c.args.event.now in
     let made = c.in_ok-step.ensures.ok in
-    let counts = c.args.self.now.answered in
-    let counted = c.args.self.now.is_counted in
+    let counts = c.self.inside.answered in
+    let counted = c.self.invariant.answered_is in
+    let mark : is_mark (link_in who) event c.args.mark ≡ true = subst (λ (d : DoorState). is_mark (link_in d.seat.who) event c.args.mark ≡ true) (sym c.self.view_is) c.requires.mark in
     record {
-      is_counted = step_counted who event c.step.new.reply old new counts made counted c.step.new.self.seat.who c.link-link.result c.with-self.result c.step.ensures.who c.link-link.ensures (rw c.get-answer.ensures.value at c.with-self.ensures);
-      is_carried = step_carried who event c.step.new.reply old new counts made counted c.args.self.now.managed c.args.self.now.carried c.with-self-2.result c.step.new.self.seat.who c.link-link.result c.step.ensures.who c.link-link.ensures c.args.self.now.is_carried (rw c.get-answer.ensures.value at c.with-self-2.ensures);
-      is_marked = step_marked who event c.step.new.reply old new counts made counted c.args.self.now.marks c.note.new.self c.args.mark c.step.new.self.seat.who c.step.ensures.who c.args.self.now.is_marked c.requires.mark c.note.ensures;
+      answered_is = step_counted who event c.step.new.reply old new counts made counted c.step.new.self.seat.who c.link-link.result c.with-self.result c.step.ensures.who c.link-link.ensures (rw c.get-answer.ensures.value at c.with-self.ensures);
+      carried_is = step_carried who event c.step.new.reply old new counts made counted c.self.inside.managed c.self.inside.carried c.with-self-2.result c.step.new.self.seat.who c.link-link.result c.step.ensures.who c.link-link.ensures c.self.invariant.carried_is (rw c.get-answer.ensures.value at c.with-self-2.ensures);
+      marked = step_marked who event c.step.new.reply old new counts made counted c.self.inside.marks c.note.new.self c.args.mark c.step.new.self.seat.who c.step.ensures.who c.self.invariant.marked mark c.note.ensures;
     }

@@ -3,6 +3,7 @@ use Rattle.set_events.specs.Lent.{event_in}
 use Rattle.set_events.specs.Owners.{IsOwn}
 use Rattle.set_events.specs.declared.event.Actor.{Actor}
 use Rattle.set_events.specs.declared.event.Actor.TheVariants.{Terminal}
+use Rattle.bank_crew.specs.Doors.{DoorState, IsMarked}
 use Rattle.bank_crew.specs.Seats.{link_in}
 use Rattle.bank_crew.proofs.Marking.{stepped}
 use Rattle.bank_crew.proofs.seat_door.SeatDoorDoor.step.Goals as goal
@@ -10,10 +11,12 @@ use Rattle.bank_crew.proofs.seat_door.SeatDoorDoor.step.Goals as goal
 -- src/seat_door.rt
 pub ask-requires-clause-own : goal.ask-requires-clause-own
 ask-requires-clause-own g c =
-    subst (λ (who : Actor). IsOwn who (event_in c.args.event.now)) (sym (c.link.ensures ∙ ap Terminal (sym (ap link_in c.link.ensures)))) c.requires.own
+    let who = sym (ap (λ (d : DoorState). d.seat.who) c.self.view_is) ∙ c.link.ensures in
+    subst (λ (who : Actor). IsOwn who (event_in c.args.event.now)) (sym (who ∙ ap Terminal (sym (ap link_in who)))) c.requires.own
 
 pub returns-in-Ok-clause-ok : goal.returns-in-Ok-clause-ok
 returns-in-Ok-clause-ok g c =
-    stepped c.args.self.now.caller.seat.who (event_in c.args.event.now) c.ask.new.reply c.args.self.now.managed c.ask.new.self.managed c.follow.new.self.managed c.args.self.now.caller.all c.ask.new.self.caller.all c.follow.new.self.caller.all
+    let who = sym (ap (λ (d : DoorState). d.seat.who) c.self.view_is) ∙ c.link.ensures in
+    stepped c.args.self.now.seat.who (event_in c.args.event.now) c.ask.new.reply c.args.self.now.managed c.ask.new.self.managed c.follow.new.self.managed c.args.self.now.all c.ask.new.self.all c.follow.new.self.all
     c.args.self.now.marks c.ask.new.self.marks c.follow.new.self.marks c.args.self.now.faults c.follow.new.self.faults
-    c.in-Ok.ensures.ok c.ask.ensures.managed c.follow.ensures.made c.args.self.now.is_marked (c.link.ensures ∙ ap Terminal (sym (ap link_in c.link.ensures))) (c.follow.ensures.faults ∙ c.ask.ensures.faults)
+    c.in-Ok.ensures.ok c.ask.ensures.managed c.follow.ensures.made (subst IsMarked c.self.view_is c.self.invariant.marked) (who ∙ ap Terminal (sym (ap link_in who))) (c.follow.ensures.faults ∙ c.ask.ensures.faults)

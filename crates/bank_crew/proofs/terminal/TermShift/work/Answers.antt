@@ -17,24 +17,24 @@ returns-clause-shift g c =
     let commanded = c.command-2.ensures ∙ ap (λ it. record it { inside = told Start it.inside }) c.command.ensures in
     let door = ap (λ it. it.door) commanded ∙ new.door in
     let out = c.into_parts-door.result.0 in
-    let all = out.caller.all in
+    let all = out.all in
     let plan = c.args.self.orders.now.plan in
     let managed : out.managed ≡ plan.managed = ap (λ it. it.managed) c.into_parts-door.ensures.door ∙ c.planned_turns-report.ensures.door ∙ ap (λ it. it.managed) door ∙ c.new-door.ensures.managed in
-    let number = ap (λ it. link_in it.caller.seat.who) c.into_parts-door.ensures.door ∙ c.planned_turns-report.ensures.number ∙ ap (λ it. link_in it.caller.seat.who) door
+    let number = ap (λ it. link_in it.seat.who) c.into_parts-door.ensures.door ∙ c.planned_turns-report.ensures.number ∙ ap (λ it. link_in it.seat.who) door
     ∙ ap (λ seat. link_in seat.who) c.new-door.ensures.seat ∙ ap link_in c.link-link.ensures.who in (
       all,
       c.into_seat-seat.ensures.all,
       shift_of _ (link_in c.args.self.seat.who) c.link-link.result c.planned_turns-report.result _ _ _ c.into_tape-tape.result out.marks _ _ _ c.planned_turns-report.ensures.turns
           (ap (λ it. it.taken) commanded ∙ new.taken)
           (ap (λ it. it.inside) commanded ∙ ap (λ it. told Start (told Emergency it)) new.inside)
-          (ap (λ it. of_turns it.managed it.marks it.caller.all) door ∙ none_of_turns c.new-door.result.managed c.new-door.result.caller.all c.new-door.result.marks c.new-door.ensures.made c.new-door.ensures.marks)
+          (ap (λ it. of_turns it.managed it.marks it.all) door ∙ none_of_turns c.new-door.result.managed c.new-door.result.all c.new-door.result.marks c.new-door.ensures.made c.new-door.ensures.marks)
           (ap (λ it. it.faults) door ∙ c.new-door.ensures.faults)
           (sym (ap link_in c.link-link.ensures.who))
           (ap (λ (n : ℕ). are_marks n all out.marks) (sym number) ∙ c.carried.ensures.marks)
-          (ap (λ (m : Option Managed). of_turns m out.marks all) (sym managed) ∙ ap (λ it. of_turns it.managed it.marks it.caller.all) c.into_parts-door.ensures.door)
+          (ap (λ (m : Option Managed). of_turns m out.marks all) (sym managed) ∙ ap (λ it. of_turns it.managed it.marks it.all) c.into_parts-door.ensures.door)
           c.reported-told.ensures
           (c.answered.ensures ∙ ap (λ n. answered_in n all) number)
-          (c.carried.ensures.carried ∙ ap (λ (m : Option Managed). carried_in m (link_in out.caller.seat.who) all) managed ∙ ap (λ n. carried_in plan.managed n all) number)
+          (c.carried.ensures.carried ∙ ap (λ (m : Option Managed). carried_in m (link_in out.seat.who) all) managed ∙ ap (λ n. carried_in plan.managed n all) number)
           (ap (λ it. it.line.put) commanded ∙ ap (λ it. it.put) new.line ∙ c.new-line.ensures.put)
           (subst (IsTape plan.keeps c.into_tape-tape.result) (ap (λ it. it.put) c.into_parts-door.ensures.line) c.into_tape-tape.ensures),
     )
