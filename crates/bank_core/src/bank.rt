@@ -8,7 +8,7 @@ ghost use Rattle.bank_core.specs.Room.{IsRoomFor};
 
 use super::fault::BankFault;
 use super::running::Running;
-use bank_crew::{Job, LinkManager, Orders, Plan, Work};
+use bank_crew::{Assignment, Job, LinkManager, Plan, Work};
 use l2_units::Profile;
 use line_ring::Line;
 use set_events::SetConfig;
@@ -114,7 +114,7 @@ impl Bank {
         gate: G,
         plan: Plan,
     ) -> Result<Vec<Work<L, G>>, BankFault>
-        ensures works { IfOk result (λ works. map (λ work. task_of work.config work.users (vec_len work.lines) (map duty_of work.jobs.items) work.orders.plan) works.items
+        ensures works { IfOk result (λ works. map (λ work. task_of work.config work.users (vec_len work.lines) (map duty_of work.jobs.items) work.assignment.plan) works.items
             ≡ tasks_from self.users plan self.configs
             (map (λ of_set. vec_len of_set) lines.items) (map (λ of_set. map duty_of of_set.items) jobs.items)) }
         ensures fault { IfErr result CannotStart }
@@ -135,7 +135,7 @@ impl Bank {
         plan: Plan,
     ) -> Result<Vec<Work<L, G>>, BankFault>
         requires { IsRoomFor (length self.configs) room }
-        ensures works { IfOk result (λ works. map (λ work. task_of work.config work.users (vec_len work.lines) (map duty_of work.jobs.items) work.orders.plan) works.items
+        ensures works { IfOk result (λ works. map (λ work. task_of work.config work.users (vec_len work.lines) (map duty_of work.jobs.items) work.assignment.plan) works.items
             ≡ tasks_from self.users plan self.configs
             (map (λ of_set. vec_len of_set) lines.items) (map (λ of_set. map duty_of of_set.items) jobs.items)) }
         ensures fault { IfErr result CannotStart }
@@ -150,7 +150,7 @@ impl Bank {
         let mut works = room;
         let mut configs = configs.into_iter();
         while let Some(config) = configs.next() {
-            let orders = Orders {
+            let assignment = Assignment {
                 set: config.set,
                 gate: gate.clone()?,
                 plan,
@@ -160,7 +160,7 @@ impl Bank {
                 users,
                 lines: lines.next().unwrap_or(Vec::new(alloc)),
                 jobs: jobs.next().unwrap_or(Vec::new(alloc)),
-                orders,
+                assignment,
             });
         }
         Ok(works)

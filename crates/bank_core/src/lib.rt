@@ -26,8 +26,8 @@ mod summing;
 
 pub use bank::Bank;
 pub use bank_crew::{
-    Answered, Carried, CrewFault, Job, LinkManager, LinkOrder, Managed, Plan, SetEnd, ShiftReport,
-    UserFault, UserReport,
+    Answered, Carried, CrewFault, Instruction, Job, LinkManager, Managed, Plan, SetEnd,
+    ShiftReport, UserFault, UserReport,
 };
 pub use fault::BankFault;
 pub use running::{Running, sort_out};

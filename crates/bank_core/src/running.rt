@@ -81,7 +81,7 @@ impl Running {
         G: LinkManager + Drop + Send + Sync + 'static,
         R: Threads + Wait + Clock + Copy + Send + Sync + 'static,
     >(rt: &R, alloc: Global, works: Vec<Work<L, G>>) -> Result<Running, BankFault>
-        ensures running { IfOk result (λ running. running ≡ map (λ work. task_of work.config work.users (vec_len work.lines) (map duty_of work.jobs.items) work.orders.plan) works.items) }
+        ensures running { IfOk result (λ running. running ≡ map (λ work. task_of work.config work.users (vec_len work.lines) (map duty_of work.jobs.items) work.assignment.plan) works.items) }
         ensures fault { IfErr result CannotStart }
     {
         match room_for(alloc, works.len()) {
@@ -173,7 +173,7 @@ fn start_each<
 ) -> Result<(), BankFault>
     requires room { IsRoomFor (length works.items) threads.old }
     ensures started { OnOk result (map (λ thread. promised thread.promise) threads.new.items
-        ≡ map (λ work. task_of work.config work.users (vec_len work.lines) (map duty_of work.jobs.items) work.orders.plan) works.items) }
+        ≡ map (λ work. task_of work.config work.users (vec_len work.lines) (map duty_of work.jobs.items) work.assignment.plan) works.items) }
     ensures few { OnOk result (vec_len threads.new ≡ length works.items) }
     ensures fault { IfErr result CannotStart }
 {
@@ -190,7 +190,7 @@ fn start_one<
     R: Threads + Wait + Clock + Copy + Send + Sync + 'static,
 >(rt: &R, alloc: Global, work: Work<L, G>) -> Result<SetThread, BankFault>
     ensures started { IfOk result (λ thread. promised thread.promise ≡ task_of work.config work.users (vec_len work.lines)
-        (map duty_of work.jobs.items) work.orders.plan) }
+        (map duty_of work.jobs.items) work.assignment.plan) }
     ensures fault { IfErr result CannotStart }
 {
     let own = *rt;
@@ -199,7 +199,7 @@ fn start_one<
         users: work.users,
         lines: work.lines.len(),
         jobs: Snapshot::of(&work.jobs),
-        plan: work.orders.plan,
+        plan: work.assignment.plan,
     };
     match thread::spawn_with(rt, end, move || one_set(&own, alloc, work)) {
         Ok(thread) => Ok(thread),

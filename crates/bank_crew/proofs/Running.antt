@@ -6,7 +6,7 @@ use Rattle.set_events.specs.declared.fault.SetFault.{SetFault}
 use Rattle.set_events.specs.declared.history.Entry.{Entry}
 use Rattle.term_model.specs.Terminal.{Terminal, opened, told}
 use Rattle.term_model.specs.declared.command.Command.TheVariants.{Emergency, Start}
-use Rattle.bank_crew.specs.declared.manager.LinkOrder.{LinkOrder}
+use Rattle.bank_crew.specs.declared.manager.Instruction.{Instruction}
 use Rattle.bank_crew.specs.declared.plan.Managed.{Managed}
 use Rattle.bank_crew.specs.declared.plan.Plan.{Plan}
 use Rattle.bank_crew.specs.declared.report.Answered.{Answered}
@@ -64,10 +64,10 @@ shift_of plan link number counts ended answered carried tape marks before after 
     })
 
 -- A SLICE more.
-pub slice_more : (most turns : ℕ) (order : LinkOrder) (counted report total : TermReport) (ended : Result TermReport TermFault) (before between after : Standing) → 0 < turns → turns ≤ most → Slice order turns (Ok report) before between
+pub slice_more : (most turns : ℕ) (instruction : Instruction) (counted report total : TermReport) (ended : Result TermReport TermFault) (before between after : Standing) → 0 < turns → turns ≤ most → Slice instruction turns (Ok report) before between
     → total ≡ both counted report → SlicesFrom (most - turns) total ended between after → SlicesFrom most counted ended before after
-slice_more most turns order counted report total ended before between after some few slice is rest =
-    one_more most turns order counted report ended before between after some few slice (subst (λ (t : TermReport). SlicesFrom (most - turns) t ended between after) is rest)
+slice_more most turns instruction counted report total ended before between after some few slice is rest =
+    one_more most turns instruction counted report ended before between after some few slice (subst (λ (t : TermReport). SlicesFrom (most - turns) t ended between after) is rest)
 
 -- THE TURNS where links are managed
 pub managed_so : (managed : Option Managed) (it : Managed) (fails : Bool) (turns : ℕ) (ended : Result TermReport TermFault) (before after : Standing) → managed ≡ Some it → Slices turns ended before after → TurnsWhere managed fails turns ended before after

@@ -11,7 +11,7 @@ use Rattle.link_term.specs.declared.fault.TermFault.{TermFault}
 use Rattle.link_term.specs.Looking.{Seen}
 use Rattle.link_term.specs.Running.{Runs, RunFails}
 use Rattle.link_term.specs.Standing.{Standing, standing}
-use Rattle.bank_crew.specs.declared.manager.LinkOrder.{LinkOrder}
+use Rattle.bank_crew.specs.declared.manager.Instruction.{Instruction}
 use Rattle.bank_crew.specs.declared.plan.Managed.{Managed}
 use Rattle.bank_crew.specs.declared.plan.Plan.{Plan}
 use Rattle.bank_crew.specs.declared.report.ShiftReport.{ShiftReport}
@@ -70,27 +70,27 @@ TurnsBy true = Halves
 TurnsBy false = Turns
 
 -- WHAT IS ORDERED of a terminal between two slices of its turns
-abbrev pub told_by : LinkOrder → Terminal → Terminal
-told_by LinkOrder.Run t = t
-told_by LinkOrder.Start t = told Start (told Emergency t)
-told_by LinkOrder.Stop t = told Stop t
-told_by LinkOrder.End t = t
+abbrev pub told_by : Instruction → Terminal → Terminal
+told_by Instruction.Run t = t
+told_by Instruction.Start t = told Start (told Emergency t)
+told_by Instruction.Stop t = told Stop t
+told_by Instruction.End t = t
 
-abbrev pub ordered : LinkOrder → Standing → Standing
-ordered order t = record t { inside = told_by order t.inside }
+abbrev pub instructed : Instruction → Standing → Standing
+instructed instruction t = record t { inside = told_by instruction t.inside }
 
 -- A SLICE: so many turns, behind an order
-abbrev pub Slice : LinkOrder → ℕ → Result TermReport TermFault → Standing → Standing → Type 0
-Slice order turns ended before after = Turns turns ended (ordered order before) after
+abbrev pub Slice : Instruction → ℕ → Result TermReport TermFault → Standing → Standing → Type 0
+Slice instruction turns ended before after = Turns turns ended (instructed instruction before) after
 
 -- slices one after another, each of at least one turn and all together of so many at most; what they counted is added to
 -- what was counted before, up to the first that a fault broke off
 pub data SlicesFrom : ℕ → TermReport → Result TermReport TermFault → Standing → Standing → Type 0 where
   no_more : (most : ℕ) (counted : TermReport) (at : Standing) → SlicesFrom most counted (Ok counted) at at
-  broken_off : (most turns : ℕ) (order : LinkOrder) (counted : TermReport) (fault : TermFault) (before after : Standing)
-      → turns ≤ most → Slice order turns (Err fault) before after → SlicesFrom most counted (Err fault) before after
-  one_more : (most turns : ℕ) (order : LinkOrder) (counted report : TermReport) (ended : Result TermReport TermFault)
-      (before between after : Standing) → 0 < turns → turns ≤ most → Slice order turns (Ok report) before between
+  broken_off : (most turns : ℕ) (instruction : Instruction) (counted : TermReport) (fault : TermFault) (before after : Standing)
+      → turns ≤ most → Slice instruction turns (Err fault) before after → SlicesFrom most counted (Err fault) before after
+  one_more : (most turns : ℕ) (instruction : Instruction) (counted report : TermReport) (ended : Result TermReport TermFault)
+      (before between after : Standing) → 0 < turns → turns ≤ most → Slice instruction turns (Ok report) before between
       → SlicesFrom (most - turns) (both counted report) ended between after → SlicesFrom most counted ended before after
 
 abbrev pub no_turns : TermReport

@@ -3,9 +3,9 @@ ghost use Rattle.std.specs.Prelude.{◌≡◌, [], IfOk, OnOk};
 ghost use Rattle.std.specs.Option.{option_map, option_to_list};
 ghost use Rattle.bank_crew.specs.Jobs.{bodies_of, ended_by, kept_by, taken_in, Takes, TakesOne};
 
+use super::assignment::Assignment;
 use super::fault::UserFault;
 use super::manager::LinkManager;
-use super::orders::Orders;
 use super::pauses::Pauses;
 use super::report::UserReport;
 use super::user::{UserCaller, end_of_call, wait_to_call};
@@ -23,19 +23,19 @@ pub(crate) fn collect_often<O: Opening, G: LinkManager, R: Wait + Clock>(
     set: &LinkSet<O>,
     caller: &mut UserCaller<O>,
     times: u32,
-    orders: &Orders<G>,
+    assignment: &Assignment<G>,
 ) -> Result<UserReport, UserFault>
     requires none { caller.old.all ≡ [] }
     ensures who { caller.new.seat.who ≡ caller.old.seat.who }
     ensures takes { Takes caller.old.seat.who times (ended_by result) [] caller.new.all }
     ensures kept { IfOk result (λ report. kept_by report ≡ taken_in caller.new.all) }
 {
-    let mut pauses = Pauses::of(orders.plan.checkpoint.map(u64::from));
+    let mut pauses = Pauses::of(assignment.plan.checkpoint.map(u64::from));
     let mut report = UserReport {
         taken: Vec::new(alloc),
     };
     for _time in 0..times {
-        if let Err(fault) = collect_one(rt, set, caller, orders, &mut report) {
+        if let Err(fault) = collect_one(rt, set, caller, assignment, &mut report) {
             return Err(fault);
         }
         let asked = caller.share().calls;
@@ -49,7 +49,7 @@ fn collect_one<O: Opening, G: LinkManager, R: Wait + Clock>(
     rt: &R,
     set: &LinkSet<O>,
     caller: &mut UserCaller<O>,
-    orders: &Orders<G>,
+    assignment: &Assignment<G>,
     report: &mut UserReport,
 ) -> Result<(), UserFault>
     ensures who { caller.new.seat.who ≡ caller.old.seat.who }
@@ -60,7 +60,7 @@ fn collect_one<O: Opening, G: LinkManager, R: Wait + Clock>(
     if report.taken.reserve(1).is_err() {
         return Err(UserFault::NoMemory);
     }
-    wait_to_call(rt, orders, caller.number());
+    wait_to_call(rt, assignment, caller.number());
     let answered = caller.take(rt, set);
     let ended = end_of_call(&answered);
     if let Some(body) = body_taken(answered) {

@@ -15,6 +15,7 @@
 //! no seat is missing then is shown by tests (`bank_tests`). Nothing is promised of who gets on, or when.
 #![tactic(auto)]
 
+mod assignment;
 mod caller;
 mod carried;
 mod collecting;
@@ -22,7 +23,6 @@ mod crew;
 mod end;
 mod fault;
 mod manager;
-mod orders;
 mod pauses;
 mod plan;
 mod questions;
@@ -34,12 +34,12 @@ mod terminal;
 mod user;
 mod work;
 
+pub use assignment::Assignment;
 pub use carried::Carried;
 pub use crew::{ask_for_stack, why_unstarted};
 pub use end::SetEnd;
 pub use fault::{CrewFault, UserFault};
-pub use manager::{LinkManager, LinkOrder};
-pub use orders::Orders;
+pub use manager::{Instruction, LinkManager};
 pub use plan::{Job, Managed, Plan};
 pub use report::{Answered, ShiftReport, UserReport};
 pub use seat_door::SeatDoor;

@@ -5,7 +5,7 @@ use set_events::{AnswerRef, Counts, EventRef};
 
 /// What a link's terminal is told before its next turns.
 #[derive(Clone, Copy, Debug, PartialEq, Eq)]
-pub enum LinkOrder {
+pub enum Instruction {
     /// Nothing.
     Run,
     /// To come up in an emergency, if it's out of service.
@@ -26,7 +26,7 @@ pub trait LinkManager: Gate {
     fn answered(&self, set: u16, link: u8, event: &EventRef<'_>, answer: &AnswerRef<'_>);
 
     /// What the terminal of this link is told now, when so many of its set's messages stand in each place.
-    fn order(&self, set: u16, link: u8, counts: &Counts) -> LinkOrder;
+    fn instruct(&self, set: u16, link: u8, counts: &Counts) -> Instruction;
 
     /// The terminal of this link takes no more turns.
     fn ended(&self, set: u16, link: u8);
@@ -40,8 +40,8 @@ impl LinkManager for OpenGate {
 
     fn answered(&self, _set: u16, _link: u8, _event: &EventRef<'_>, _answer: &AnswerRef<'_>) {}
 
-    fn order(&self, _set: u16, _link: u8, _counts: &Counts) -> LinkOrder {
-        LinkOrder::Run
+    fn instruct(&self, _set: u16, _link: u8, _counts: &Counts) -> Instruction {
+        Instruction::Run
     }
 
     fn ended(&self, _set: u16, _link: u8) {}

@@ -11,11 +11,11 @@ ghost use Rattle.bank_crew.specs.Ends.{IsClosedAs, IsDone, IsEndOf, task_of};
 ghost use Rattle.bank_crew.specs.Jobs.{duty_of};
 ghost use Rattle.bank_crew.specs.Keeping.{AreNew, AreTerminals, AreUsers, PromiseJobs, PromiseShifts};
 
+use super::assignment::Assignment;
 use super::crew::{Crew, Gathered, TermThread, UserThread, start_thread};
 use super::end::SetEnd;
 use super::fault::CrewFault;
 use super::manager::LinkManager;
-use super::orders::Orders;
 use super::plan::Job;
 use super::terminal::{ShiftOf, TermShift};
 use super::user::{JobOf, UserShift};
@@ -54,7 +54,7 @@ pub fn one_set<
     G: LinkManager + Drop + Send + Sync,
     R: Threads + Wait + Clock + Sync,
 >(rt: &R, alloc: Global, work: Work<L, G>) -> Result<SetEnd, CrewFault>
-    ensures { IfOk result (IsDone (task_of work.config work.users (vec_len work.lines) (map duty_of work.jobs.items) work.orders.plan)) }
+    ensures { IfOk result (IsDone (task_of work.config work.users (vec_len work.lines) (map duty_of work.jobs.items) work.assignment.plan)) }
 {
     let users = u64::from(work.users);
     let links = u64::from(work.config.links);
@@ -77,7 +77,7 @@ fn run_set<
     requires blanks { blanks ≡ O.blanks }
     requires parts { AreParts O.blanks work.users work.config.links }
     requires opening { settings_of work.config ≡ O.settings }
-    ensures { IfOk result (IsDone (task_of work.config work.users (vec_len work.lines) (map duty_of work.jobs.items) work.orders.plan)) }
+    ensures { IfOk result (IsDone (task_of work.config work.users (vec_len work.lines) (map duty_of work.jobs.items) work.assignment.plan)) }
 {
     let config = work.config;
     match LinkSet::<O>::create(alloc, &config, work.users, blanks) {
@@ -96,7 +96,7 @@ fn run_opened<
     requires users { opened.users.items ≡ new_seats User work.users }
     requires terminals { opened.terminals.items ≡ new_seats Terminal work.config.links }
     requires opening { settings_of work.config ≡ O.settings }
-    ensures { IfOk result (IsDone (task_of work.config work.users (vec_len work.lines) (map duty_of work.jobs.items) work.orders.plan)) }
+    ensures { IfOk result (IsDone (task_of work.config work.users (vec_len work.lines) (map duty_of work.jobs.items) work.assignment.plan)) }
 {
     let Opened {
         set,
@@ -108,7 +108,7 @@ fn run_opened<
         users: _,
         lines,
         jobs,
-        orders,
+        assignment,
     } = work;
     let seats = Seats {
         users,
@@ -116,7 +116,7 @@ fn run_opened<
         terminals,
         lines,
     };
-    match run_seats(rt, alloc, &set, seats, &orders) {
+    match run_seats(rt, alloc, &set, seats, &assignment) {
         Ok(gathered) => end_set(set, gathered),
         Err(fault) => Err(fault),
     }
@@ -172,14 +172,14 @@ fn run_seats<
     alloc: Global,
     set: &LinkSet<O>,
     seats: Seats<O, L>,
-    orders: &Orders<G>,
+    assignment: &Assignment<G>,
 ) -> Result<Gathered<O>, CrewFault>
     requires users { AreNew User 0 seats.users.items }
     requires terminals { AreNew Terminal 0 seats.terminals.items }
     ensures users { IfOk result (λ all.
         AreUsers (length seats.users.items) (map duty_of seats.jobs.items) all.users.items all.user_ends.items) }
     ensures terminals { IfOk result (λ all. AreTerminals (vec_len seats.lines) (length seats.terminals.items)
-        orders.now.plan all.terminals.items all.reports.items) }
+        assignment.now.plan all.terminals.items all.reports.items) }
 {
     thread::scope(
         thread::scope_env(),
@@ -190,9 +190,9 @@ fn run_seats<
             ensures users { IfOk result (λ all.
                 AreUsers (length seats.users.items) (map duty_of seats.jobs.items) all.users.items all.user_ends.items) }
             ensures terminals { IfOk result (λ all. AreTerminals (vec_len seats.lines) (length seats.terminals.items)
-                orders.entry.now.plan all.terminals.items all.reports.items) }
+                assignment.entry.now.plan all.terminals.items all.reports.items) }
         {
-            match start_all(scope, rt, alloc, set, seats, orders) {
+            match start_all(scope, rt, alloc, set, seats, assignment) {
                 Ok(crew) => crew.gather(rt, alloc),
                 Err(fault) => Err(fault),
             }
@@ -214,14 +214,14 @@ fn start_all<
     alloc: Global,
     set: &'s LinkSet<O>,
     seats: Seats<O, L>,
-    orders: &'s Orders<G>,
+    assignment: &'s Assignment<G>,
 ) -> Result<Crew<O>, CrewFault>
     requires users { AreNew User 0 seats.users.items }
     requires terminals { AreNew Terminal 0 seats.terminals.items }
     ensures users { IfOk result (λ crew. PromiseJobs (length seats.users.items) (map duty_of seats.jobs.items)
         (map (λ thread. thread.promise) crew.users.items)) }
     ensures terminals { IfOk result (λ crew. PromiseShifts (vec_len seats.lines) (length seats.terminals.items)
-        orders.now.plan (map (λ thread. thread.promise) crew.terminals.items) (into_iter_items crew.idle)) }
+        assignment.now.plan (map (λ thread. thread.promise) crew.terminals.items) (into_iter_items crew.idle)) }
 {
     let Seats {
         users,
@@ -230,8 +230,8 @@ fn start_all<
         lines,
     } = seats;
     let mut left = terminals.into_iter();
-    let terminals = start_terminals(scope, rt, alloc, set, &mut left, lines, orders)?;
-    let users = start_users(scope, rt, alloc, set, users, jobs, orders)?;
+    let terminals = start_terminals(scope, rt, alloc, set, &mut left, lines, assignment)?;
+    let users = start_users(scope, rt, alloc, set, users, jobs, assignment)?;
     Ok(Crew {
         users,
         terminals,
@@ -254,11 +254,11 @@ fn start_terminals<
     set: &'s LinkSet<O>,
     seats: &mut IntoIter<TermSeat<O>, Global>,
     lines: Vec<L>,
-    orders: &'s Orders<G>,
+    assignment: &'s Assignment<G>,
 ) -> Result<Vec<TermThread<O>>, CrewFault>
     requires { AreNew Terminal 0 (into_iter_items seats.old) }
     ensures { IfOk result (λ threads. PromiseShifts (vec_len lines) (length (into_iter_items seats.old))
-        orders.now.plan (map (λ thread. thread.promise) threads.items) (into_iter_items seats.new)) }
+        assignment.now.plan (map (λ thread. thread.promise) threads.items) (into_iter_items seats.new)) }
 {
     let mut threads = Vec::new(alloc);
     let mut lines = lines.into_iter();
@@ -268,7 +268,7 @@ fn start_terminals<
         };
         let promise = ShiftOf {
             link: seat.link(),
-            plan: orders.plan,
+            plan: assignment.plan,
         };
         let shift = TermShift {
             rt,
@@ -276,7 +276,7 @@ fn start_terminals<
             set,
             seat,
             line,
-            orders,
+            assignment,
         };
         start_thread(scope, alloc, &mut threads, promise, move || shift.work())?;
     }
@@ -297,7 +297,7 @@ fn start_users<
     set: &'s LinkSet<O>,
     seats: Vec<UserSeat<O>>,
     jobs: Vec<Job>,
-    orders: &'s Orders<G>,
+    assignment: &'s Assignment<G>,
 ) -> Result<Vec<UserThread<O>>, CrewFault>
     requires { AreNew User 0 seats.items }
     ensures { IfOk result (λ threads. PromiseJobs (length seats.items) (map duty_of jobs.items)
@@ -318,7 +318,7 @@ fn start_users<
             set,
             seat,
             job,
-            orders,
+            assignment,
         };
         start_thread(scope, alloc, &mut threads, promise, move || shift.work())?;
     }

@@ -3,8 +3,8 @@ ghost use Rattle.std.specs.Prelude.{◌≡◌, ◌≤◌, ◌^◌, false, OnOk};
 ghost use Rattle.link_term.specs.Standing.{stands};
 ghost use Rattle.bank_crew.specs.Shifts.{Slice, Slices};
 
-use super::manager::{LinkManager, LinkOrder};
-use super::orders::Orders;
+use super::assignment::Assignment;
+use super::manager::{Instruction, LinkManager};
 use super::terminal::{one_report, so_many};
 use line_ring::Line;
 use link_term::{Command, Door, Gate, TermFault, TermReport, Terminal};
@@ -14,29 +14,31 @@ use std::sync::Wait;
 /// How many turns a managed terminal takes before it's told anew what to do.
 const SLICE: u64 = 256;
 
-/// Turns by slices, each behind what the gate orders, until it ends them, or all turns of the plan were taken.
+/// Turns by slices, each behind what the manager instructs, until it ends them, or all turns of the plan were taken.
 pub(crate) fn managed_turns<O: Opening, D: Door, L: Line, T: Gate, G: LinkManager, R: Wait>(
     rt: &R,
     set: &LinkSet<O>,
-    orders: &Orders<G>,
+    assignment: &Assignment<G>,
     link: u8,
     terminal: &mut Terminal<D, L, T>,
 ) -> Result<TermReport, TermFault>
     requires failed { terminal.old.failed ≡ false }
-    ensures turns { Slices orders.now.plan.turns result
+    ensures turns { Slices assignment.now.plan.turns result
         (stands D.Door L.Line terminal.old) (stands D.Door L.Line terminal.new) }
     ensures number { D.number terminal.new.door ≡ D.number terminal.old.door }
     ensures door { D.is_same terminal.old.door terminal.new.door }
 {
     let mut counted = NO_TURNS;
-    let mut left = orders.plan.turns;
+    let mut left = assignment.plan.turns;
     while left > 0 {
-        let order = orders.gate.order(orders.set, link, &set.counts(rt));
-        if order == LinkOrder::End {
+        let instruction = assignment
+            .gate
+            .instruct(assignment.set, link, &set.counts(rt));
+        if instruction == Instruction::End {
             return Ok(counted);
         }
         let turns = left.min(SLICE);
-        match one_slice(terminal, order, turns) {
+        match one_slice(terminal, instruction, turns) {
             Ok(more) => counted = one_report(counted, more),
             Err(fault) => return Err(fault),
         }
@@ -55,27 +57,27 @@ const NO_TURNS: TermReport = TermReport {
     cause: 0,
 };
 
-/// What is ordered, and so many turns.
+/// What is instructed, and so many turns.
 fn one_slice<D: Door, L: Line, T: Gate>(
     terminal: &mut Terminal<D, L, T>,
-    order: LinkOrder,
+    instruction: Instruction,
     turns: u64,
 ) -> Result<TermReport, TermFault>
     requires failed { terminal.old.failed ≡ false }
     requires few { turns ≤ 2 ^ 32 }
-    ensures turns { Slice order turns result
+    ensures turns { Slice instruction turns result
         (stands D.Door L.Line terminal.old) (stands D.Door L.Line terminal.new) }
     ensures number { D.number terminal.new.door ≡ D.number terminal.old.door }
     ensures door { D.is_same terminal.old.door terminal.new.door }
     ensures goes_on { OnOk result (terminal.new.failed ≡ false) }
 {
-    match order {
-        LinkOrder::Run | LinkOrder::End => {}
-        LinkOrder::Start => {
+    match instruction {
+        Instruction::Run | Instruction::End => {}
+        Instruction::Start => {
             terminal.command(Command::Emergency);
             terminal.command(Command::Start);
         }
-        LinkOrder::Stop => terminal.command(Command::Stop),
+        Instruction::Stop => terminal.command(Command::Stop),
     }
     so_many(terminal, turns)
 }

@@ -5,9 +5,9 @@ ghost use Rattle.bank_crew.specs.Seats.{AreAll, link_in};
 ghost use Rattle.link_term.specs.Standing.{stands};
 ghost use Rattle.bank_crew.specs.Shifts.{AfterHalf, DoesShift, Halves, Turns, TurnsBy, TurnsOf, both, is_to_fail, with_first};
 
+use super::assignment::{Assignment, Lent};
 use super::crew::{Ended, TermEnd};
 use super::manager::LinkManager;
-use super::orders::{Lent, Orders};
 use super::plan::Plan;
 use super::report::reported;
 use super::seat_door::SeatDoor;
@@ -41,7 +41,7 @@ pub(crate) struct TermShift<'a, O: Opening, L: Line + Drop, G: LinkManager, R: W
     pub(crate) set: &'a LinkSet<O>,
     pub(crate) seat: TermSeat<O>,
     pub(crate) line: L,
-    pub(crate) orders: &'a Orders<G>,
+    pub(crate) assignment: &'a Assignment<G>,
 }
 
 impl<'a, O: Opening, L: Line + Drop, G: LinkManager, R: Wait> TermShift<'a, O, L, G, R> {
@@ -52,7 +52,7 @@ impl<'a, O: Opening, L: Line + Drop, G: LinkManager, R: Wait> TermShift<'a, O, L
         requires forgotten { self.seat.forgotten.calls ≡ 0 }
         ensures who { result.seat.who ≡ self.entry.seat.who }
         ensures shift { (all : List Entry) × AreAll result.seat all
-            × DoesShift self.entry.orders.now.plan (link_in self.entry.seat.who) result.told all }
+            × DoesShift self.entry.assignment.now.plan (link_in self.entry.seat.who) result.told all }
     {
         let TermShift {
             rt,
@@ -60,29 +60,31 @@ impl<'a, O: Opening, L: Line + Drop, G: LinkManager, R: Wait> TermShift<'a, O, L
             set,
             seat,
             line,
-            orders,
+            assignment,
         } = self;
         let link = seat.link();
-        let plan = &orders.plan;
+        let plan = &assignment.plan;
         let (managed, every) = (plan.managed, plan.steps_between());
         let door = SeatDoor::new(
             rt,
             alloc,
             set,
-            orders.set,
+            assignment.set,
             seat,
-            &orders.gate,
+            &assignment.gate,
             managed,
             every,
         );
-        let gate = Lent { gate: &orders.gate };
+        let gate = Lent {
+            gate: &assignment.gate,
+        };
         let keeps = plan.keeps;
         let line = TapedLine::new(line, Tape::new(alloc, keeps));
-        let mut terminal = Terminal::new(door, line, gate, orders.set, link, plan.timers);
+        let mut terminal = Terminal::new(door, line, gate, assignment.set, link, plan.timers);
         terminal.command(Command::Emergency);
         terminal.command(Command::Start);
-        let report = planned_turns(rt, set, orders, link, &mut terminal);
-        orders.gate.ended(orders.set, link);
+        let report = planned_turns(rt, set, assignment, link, &mut terminal);
+        assignment.gate.ended(assignment.set, link);
         let (door, line, _gate) = terminal.into_parts();
         let tape = line.into_tape(keeps);
         let told = reported(report, door.answered(), door.carried(), tape);
@@ -97,19 +99,19 @@ impl<'a, O: Opening, L: Line + Drop, G: LinkManager, R: Wait> TermShift<'a, O, L
 fn planned_turns<O: Opening, D: Door, L: Line, T: Gate, G: LinkManager, R: Wait>(
     rt: &R,
     set: &LinkSet<O>,
-    orders: &Orders<G>,
+    assignment: &Assignment<G>,
     link: u8,
     terminal: &mut Terminal<D, L, T>,
 ) -> Result<TermReport, TermFault>
     requires failed { terminal.old.failed ≡ false }
-    ensures turns { TurnsOf orders.now.plan link result
+    ensures turns { TurnsOf assignment.now.plan link result
         (stands D.Door L.Line terminal.old) (stands D.Door L.Line terminal.new) }
     ensures number { D.number terminal.new.door ≡ D.number terminal.old.door }
     ensures door { D.is_same terminal.old.door terminal.new.door }
 {
-    match orders.plan.managed {
-        None => all_turns(terminal, link, &orders.plan),
-        Some(_) => managed_turns(rt, set, orders, link, terminal),
+    match assignment.plan.managed {
+        None => all_turns(terminal, link, &assignment.plan),
+        Some(_) => managed_turns(rt, set, assignment, link, terminal),
     }
 }
 

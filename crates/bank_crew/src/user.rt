@@ -4,12 +4,12 @@ ghost use Rattle.set_events.specs.declared.history.Entry.{Entry};
 ghost use Rattle.bank_crew.specs.Seats.{AreAll};
 ghost use Rattle.bank_crew.specs.Jobs.{Does, DoesJob, duty_of, ended_by, Finds, kept_by, Offers, OffersOne, Takes, TakesOne, end_of_call, end_of_find, number_of};
 
+use super::assignment::Assignment;
 use super::caller::Caller;
 use super::collecting::collect_often;
 use super::crew::{Ended, UserEnd};
 use super::fault::UserFault;
 use super::manager::LinkManager;
-use super::orders::Orders;
 use super::pauses::Pauses;
 use super::plan::Job;
 use super::report::UserReport;
@@ -46,7 +46,7 @@ pub(crate) struct UserShift<'a, O: Opening, G: LinkManager, R: Wait + Clock> {
     pub(crate) set: &'a LinkSet<O>,
     pub(crate) seat: UserSeat<O>,
     pub(crate) job: Job,
-    pub(crate) orders: &'a Orders<G>,
+    pub(crate) assignment: &'a Assignment<G>,
 }
 
 impl<'a, O: Opening, G: LinkManager, R: Wait + Clock> UserShift<'a, O, G, R> {
@@ -64,10 +64,10 @@ impl<'a, O: Opening, G: LinkManager, R: Wait + Clock> UserShift<'a, O, G, R> {
             set,
             seat,
             job,
-            orders,
+            assignment,
         } = self;
         let mut caller = Caller::new(alloc, seat);
-        let told = do_job(rt, alloc, set, &mut caller, &job, orders);
+        let told = do_job(rt, alloc, set, &mut caller, &job, assignment);
         let seat = caller.into_seat();
         Ended { seat, told }
     }
@@ -80,16 +80,19 @@ fn do_job<O: Opening, G: LinkManager, R: Wait + Clock>(
     set: &LinkSet<O>,
     caller: &mut UserCaller<O>,
     job: &Job,
-    orders: &Orders<G>,
+    assignment: &Assignment<G>,
 ) -> Result<UserReport, UserFault>
     requires none { caller.old.all ≡ [] }
     ensures who { caller.new.seat.who ≡ caller.old.seat.who }
     ensures job { DoesJob caller.old.seat.who (duty_of job.now) result caller.new.all }
 {
     match job {
-        Job::Offer { bodies } => nothing_kept(alloc, offer_all(rt, set, caller, bodies, orders)),
-        Job::Take { times } => nothing_kept(alloc, take_often(rt, set, caller, *times, orders)),
-        Job::Collect { times } => collect_often(rt, alloc, set, caller, *times, orders),
+        Job::Offer { bodies } => nothing_kept(
+            alloc,
+            offer_all(rt, set, caller, bodies, assignment),
+        ),
+        Job::Take { times } => nothing_kept(alloc, take_often(rt, set, caller, *times, assignment)),
+        Job::Collect { times } => collect_often(rt, alloc, set, caller, *times, assignment),
     }
 }
 
@@ -112,15 +115,15 @@ fn offer_all<O: Opening, G: LinkManager, R: Wait + Clock>(
     set: &LinkSet<O>,
     caller: &mut UserCaller<O>,
     bodies: &[Vec<u8>],
-    orders: &Orders<G>,
+    assignment: &Assignment<G>,
 ) -> Result<(), UserFault>
     ensures who { caller.new.seat.who ≡ caller.old.seat.who }
     ensures offers { Offers caller.old.seat.who (map (λ body. body.items) bodies.now) result
         caller.old.all caller.new.all }
 {
-    let mut pauses = Pauses::of(orders.plan.checkpoint.map(u64::from));
+    let mut pauses = Pauses::of(assignment.plan.checkpoint.map(u64::from));
     for body in bodies {
-        if let Err(fault) = offer_one(rt, set, caller, body, orders) {
+        if let Err(fault) = offer_one(rt, set, caller, body, assignment) {
             return Err(fault);
         }
         let accepted = caller.share().messages;
@@ -135,15 +138,15 @@ fn offer_one<O: Opening, G: LinkManager, R: Wait + Clock>(
     set: &LinkSet<O>,
     caller: &mut UserCaller<O>,
     octets: &[u8],
-    orders: &Orders<G>,
+    assignment: &Assignment<G>,
 ) -> Result<(), UserFault>
     ensures who { caller.new.seat.who ≡ caller.old.seat.who }
     ensures offers { OffersOne caller.old.seat.who octets.now result caller.old.all caller.new.all }
 {
-    wait_to_call(rt, orders, caller.number());
+    wait_to_call(rt, assignment, caller.number());
     let offered = caller.offer(rt, set, octets);
     match number_of(&offered) {
-        Some(number) => find_one(rt, set, caller, number, orders),
+        Some(number) => find_one(rt, set, caller, number, assignment),
         None => end_of_call(&offered),
     }
 }
@@ -154,12 +157,12 @@ fn find_one<O: Opening, G: LinkManager, R: Wait + Clock>(
     set: &LinkSet<O>,
     caller: &mut UserCaller<O>,
     number: u64,
-    orders: &Orders<G>,
+    assignment: &Assignment<G>,
 ) -> Result<(), UserFault>
     ensures who { caller.new.seat.who ≡ caller.old.seat.who }
     ensures finds { Finds caller.old.seat.who number result caller.old.all caller.new.all }
 {
-    wait_to_call(rt, orders, caller.number());
+    wait_to_call(rt, assignment, caller.number());
     end_of_find(&caller.find(rt, set, number))
 }
 
@@ -169,14 +172,14 @@ fn take_often<O: Opening, G: LinkManager, R: Wait + Clock>(
     set: &LinkSet<O>,
     caller: &mut UserCaller<O>,
     times: u32,
-    orders: &Orders<G>,
+    assignment: &Assignment<G>,
 ) -> Result<(), UserFault>
     ensures who { caller.new.seat.who ≡ caller.old.seat.who }
     ensures takes { Takes caller.old.seat.who times result caller.old.all caller.new.all }
 {
-    let mut pauses = Pauses::of(orders.plan.checkpoint.map(u64::from));
+    let mut pauses = Pauses::of(assignment.plan.checkpoint.map(u64::from));
     for _time in 0..times {
-        if let Err(fault) = take_one(rt, set, caller, orders) {
+        if let Err(fault) = take_one(rt, set, caller, assignment) {
             return Err(fault);
         }
         let asked = caller.share().calls;
@@ -190,12 +193,12 @@ fn take_one<O: Opening, G: LinkManager, R: Wait + Clock>(
     rt: &R,
     set: &LinkSet<O>,
     caller: &mut UserCaller<O>,
-    orders: &Orders<G>,
+    assignment: &Assignment<G>,
 ) -> Result<(), UserFault>
     ensures who { caller.new.seat.who ≡ caller.old.seat.who }
     ensures takes { TakesOne caller.old.seat.who result caller.old.all caller.new.all }
 {
-    wait_to_call(rt, orders, caller.number());
+    wait_to_call(rt, assignment, caller.number());
     end_of_call(&caller.take(rt, set))
 }
 
@@ -203,13 +206,17 @@ fn take_one<O: Opening, G: LinkManager, R: Wait + Clock>(
 const PAUSE: u64 = 1;
 
 /// Waits where the gate stands, and as long as it holds this user up where links are managed.
-pub(crate) fn wait_to_call<G: LinkManager, R: Wait + Clock>(rt: &R, orders: &Orders<G>, user: u16) {
-    orders.gate.user(orders.set, user);
-    if orders.plan.managed.is_none() {
+pub(crate) fn wait_to_call<G: LinkManager, R: Wait + Clock>(
+    rt: &R,
+    assignment: &Assignment<G>,
+    user: u16,
+) {
+    assignment.gate.user(assignment.set, user);
+    if assignment.plan.managed.is_none() {
         return;
     }
     for _ in rt.forever() {
-        if !orders.gate.holds_up(orders.set, user) {
+        if !assignment.gate.holds_up(assignment.set, user) {
             break;
         }
         thread::sleep(rt, Duration::from_millis(PAUSE));

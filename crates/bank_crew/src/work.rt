@@ -1,8 +1,8 @@
 //! What the thread of one set is to do.
 ghost use Rattle.std.specs.Prelude.{◌<◌, ◌≤◌};
 
+use super::assignment::Assignment;
 use super::manager::LinkManager;
-use super::orders::Orders;
 use super::plan::Job;
 use line_ring::Line;
 use set_events::SetConfig;
@@ -19,6 +19,6 @@ pub struct Work<L: Line + Drop, G: LinkManager> {
     /// The job of each user, by the users' numbers.
     pub jobs: Vec<Job>,
     /// What holds for all its terminals and users.
-    pub orders: Orders<G>,
+    pub assignment: Assignment<G>,
     pub ghost users_in_range: { (0 < users) × (users ≤ 64) },
 }

@@ -7,7 +7,7 @@ use bank_core::{Running, SetEnd};
 use bank_traffic::TrafficEnds;
 use line_ring::RingLine;
 use set_events::{AnswerRef, EventRef, Method, Took};
-use set_history::Told;
+use set_history::EntryRef;
 use std::alloc::Global;
 use std::sync::Wait;
 use std::test::Fail;
@@ -78,7 +78,7 @@ fn joined<R: Threads + Wait>(
 }
 
 /// The link on which a unit was heard, and what it brought, if this entry is one.
-fn took(told: &Told<'_>) -> Option<(u8, Took)> {
+fn took(told: &EntryRef<'_>) -> Option<(u8, Took)> {
     match (told.asked(), told.answered()) {
         (EventRef::Heard { link, .. }, AnswerRef::Heard { report }) => Some((link, report.took)),
         _ => None,

@@ -4,7 +4,7 @@
 use super::openings::{
     are_legal, bank_of, configs_of, ends_of, holds, loops_of, offers_of, plan_of,
 };
-use bank_crew::{LinkManager, LinkOrder};
+use bank_crew::{Instruction, LinkManager};
 use link_term::Gate;
 use set_events::{AnswerRef, Counts, EventRef, Method};
 use std::alloc::{AllocError, Global};
@@ -183,8 +183,8 @@ impl LinkManager for MeetingGate {
 
     fn answered(&self, _set: u16, _link: u8, _event: &EventRef<'_>, _answer: &AnswerRef<'_>) {}
 
-    fn order(&self, _set: u16, _link: u8, _counts: &Counts) -> LinkOrder {
-        LinkOrder::Run
+    fn instruct(&self, _set: u16, _link: u8, _counts: &Counts) -> Instruction {
+        Instruction::Run
     }
 
     fn ended(&self, _set: u16, _link: u8) {}

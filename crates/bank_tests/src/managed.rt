@@ -1,6 +1,6 @@
 //! What the gates of two banks order of a link that they manage.
 use super::openings::holds;
-use bank_crew::{LinkManager, LinkOrder};
+use bank_crew::{Instruction, LinkManager};
 use bank_traffic::{PaceGate, Traffic, gates_of};
 use link_term::Gate;
 use set_events::{AnswerRef, Counts, EventRef, Refusal};
@@ -54,11 +54,11 @@ fn is_started_again(
 ) -> bool {
     far.answered(0, 0, &EventRef::Up { link: 0 }, &AnswerRef::Done);
     pass(near, far, REST);
-    let runs = far.order(0, 0, &NOTHING) == LinkOrder::Run;
+    let runs = far.instruct(0, 0, &NOTHING) == Instruction::Run;
     far.answered(0, 0, event, answer);
-    let rests = far.order(0, 0, &NOTHING) == LinkOrder::Run;
+    let rests = far.instruct(0, 0, &NOTHING) == Instruction::Run;
     pass(near, far, REST);
-    runs && rests && far.order(0, 0, &NOTHING) == LinkOrder::Start
+    runs && rests && far.instruct(0, 0, &NOTHING) == Instruction::Start
 }
 
 #[test]

@@ -7,7 +7,7 @@ use bank_traffic::{Traffic, TrafficEnds, run_traffic};
 use l2_units::UnitRef;
 use set_core::audit_history_from;
 use set_events::{AnswerRef, EventRef, Took};
-use set_history::Told;
+use set_history::EntryRef;
 use std::alloc::Global;
 use std::sync::Wait;
 use std::test::Fail;
@@ -35,7 +35,7 @@ impl Next {
 }
 
 /// The body of a message that was accepted from the line, if this entry is one.
-fn heard<'a>(told: &Told<'a>) -> Option<&'a [u8]> {
+fn heard<'a>(told: &EntryRef<'a>) -> Option<&'a [u8]> {
     match (told.asked(), told.answered()) {
         (
             EventRef::Heard {
@@ -55,7 +55,7 @@ fn heard<'a>(told: &Told<'a>) -> Option<&'a [u8]> {
 }
 
 /// The body of a message that was taken by a user, if this entry is one.
-fn taken<'a>(told: &Told<'a>) -> Option<&'a [u8]> {
+fn taken<'a>(told: &EntryRef<'a>) -> Option<&'a [u8]> {
     match told.answered() {
         AnswerRef::Taken { body } => Some(body),
         _ => None,
@@ -63,7 +63,7 @@ fn taken<'a>(told: &Told<'a>) -> Option<&'a [u8]> {
 }
 
 /// Where this entry is a message that was heard or taken, it's its user's next one.
-fn is_next(told: &Told<'_>, next_heard: &mut Next, next_taken: &mut Next) -> bool {
+fn is_next(told: &EntryRef<'_>, next_heard: &mut Next, next_taken: &mut Next) -> bool {
     if let Some(body) = heard(told) {
         return next_heard.is(body);
     }

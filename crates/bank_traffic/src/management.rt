@@ -3,7 +3,7 @@
 use super::asked::Traffic;
 use super::pace::{PaceGate, pace_gates};
 use super::watch::SetWatch;
-use bank_core::{LinkManager, LinkOrder};
+use bank_core::{Instruction, LinkManager};
 use l2_units::UnitRef;
 use set_events::{AnswerRef, Counts, EventRef, Took};
 use std::alloc::{AllocError, Global};
@@ -103,27 +103,27 @@ impl LinkManager for PaceGate {
         }
     }
 
-    fn order(&self, set: u16, link: u8, counts: &Counts) -> LinkOrder {
+    fn instruct(&self, set: u16, link: u8, counts: &Counts) -> Instruction {
         let Some(watch) = self.watch(set) else {
-            return LinkOrder::Run;
+            return Instruction::Run;
         };
         if self.is_near() {
             self.settle(watch, open_in(counts));
         }
         if watch.is_over(self.is_near()) {
-            return LinkOrder::End;
+            return Instruction::End;
         }
         let Some(at) = watch.at(link, self.is_near()) else {
-            return LinkOrder::Run;
+            return Instruction::Run;
         };
         let turn = self.turn(set, link);
         if self.fails(link) && watch.stops(at, self.messages(), turn, open_in(counts)) {
-            return LinkOrder::Stop;
+            return Instruction::Stop;
         }
         if at.is_rested(turn) {
-            return LinkOrder::Start;
+            return Instruction::Start;
         }
-        LinkOrder::Run
+        Instruction::Run
     }
 
     fn ended(&self, set: u16, link: u8) {

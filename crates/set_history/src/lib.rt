@@ -12,18 +12,18 @@
 //! ```
 //!
 //! Contracts see the list of entries. Whoever reads it goes from the first to the last by a [`Reader`], and sees each
-//! entry ([`Told`]) where it's kept, without a copy.
+//! entry ([`EntryRef`]) where it's kept, without a copy.
 //!
 //! This crate decides nothing and waits for nothing; [`History::reserve`] alone takes memory, and what is read may.
 #![tactic(auto)]
 
+mod entry_ref;
 mod forms;
 mod history;
 mod octets;
 mod reader;
-mod told;
 mod writing;
 
+pub use entry_ref::EntryRef;
 pub use history::History;
 pub use reader::Reader;
-pub use told::Told;

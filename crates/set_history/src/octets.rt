@@ -2,8 +2,8 @@
 ghost use Rattle.std.specs.Prelude.{◌≡◌};
 ghost use Rattle.l2_units.specs.Grammar.{wide_header};
 
+use super::entry_ref::EntryRef;
 use super::forms::{fate_of, refusal_of, report_of};
-use super::told::Told;
 use l2_units::{Header, LONGEST_BODY, Status, UnitRef};
 use set_events::{Actor, AnswerRef, EventRef};
 use std::marker::Model;
@@ -33,12 +33,12 @@ impl<'a> Octets<'a> {
     ghost use Rattle.set_history.specs.Told.{answer_told, behind_answer, entry_told, behind_entry};
 
     /// The entry that stands first.
-    pub(crate) fn entry(&mut self) -> Told<'a>
+    pub(crate) fn entry(&mut self) -> EntryRef<'a>
         ensures value { result ≡ entry_told self.old }
         ensures behind { self.new ≡ behind_entry self.old }
     {
         let first = self.octet();
-        Told {
+        EntryRef {
             who: self.who(first >= 128),
             asked: self.event(first % 16),
             answered: self.answer(first / 16 % 8),

@@ -1,6 +1,6 @@
 //! A history from its first entry to its last.
+use super::entry_ref::EntryRef;
 use super::octets::Octets;
-use super::told::Told;
 use set_events::Entry;
 use std::alloc::{AllocError, Global};
 use std::marker::Model;
@@ -27,7 +27,7 @@ impl<'a> Reader<'a> {
 
     /// The next entry, which is the first of those that are left; `None` where none is.
     #[tactic(auto, using(crate::proofs::Histories::first_told))]
-    pub fn next(&mut self) -> Option<Told<'a>>
+    pub fn next(&mut self) -> Option<EntryRef<'a>>
         ensures { MatchOption result (self.old ≡ []) (λ told. self.old ≡ told ∷ self.new) }
     {
         let others = self.len.checked_sub(1)?;

@@ -6,7 +6,7 @@ ghost use Rattle.set_ledger.specs.Ending.{has_seat, are_seats, calls_at, is_by, 
 use super::opening::Opening;
 use super::seat::{Seat, TermSeat, UserSeat};
 use set_events::{Actor, Books};
-use set_history::{Reader, Told};
+use set_history::{EntryRef, Reader};
 
 /// Whether these are one seat for each of so many users, and no other.
 pub(crate) fn are_users<O: Opening>(seats: &[UserSeat<O>], users: u16) -> bool
@@ -132,7 +132,7 @@ fn are_all(history: Reader<'_>, who: Actor, receipts: Reader<'_>) -> bool
 }
 
 /// Whether the next receipt is of this entry. It's read then.
-fn is_next(receipts: &mut Reader<'_>, entry: &Told<'_>) -> bool
+fn is_next(receipts: &mut Reader<'_>, entry: &EntryRef<'_>) -> bool
     ensures next { IsTrue result → receipts.old ≡ entry.now ∷ receipts.new }
     ensures other { (rest : _) → receipts.old ≡ entry.now ∷ rest → IsTrue result }
 {

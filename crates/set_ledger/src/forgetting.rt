@@ -9,7 +9,7 @@ use super::opening::Opening;
 use super::seat::Seat;
 use super::share::{Forgotten, count_messages, count_octets};
 use set_core::SetFault;
-use set_history::{History, Reader, Told};
+use set_history::{EntryRef, History, Reader};
 use std::alloc::{AllocError, Allocator};
 
 /// A seat forgets the receipts of its calls before the set's base, and keeps what they added up to: a set's history has
@@ -78,7 +78,7 @@ fn count_first(before: Forgotten, entries: &mut Reader<'_>, many: u64) -> Forgot
 }
 
 /// One entry more.
-fn count(before: Forgotten, told: &Told<'_>) -> Forgotten
+fn count(before: Forgotten, told: &EntryRef<'_>) -> Forgotten
     requires { IsCountable (with_entry before told.now) }
     ensures { result ≡ with_entry before told.now }
 {

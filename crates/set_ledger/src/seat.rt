@@ -11,7 +11,7 @@ use super::forgetting::forget_first;
 use super::held::Held;
 use super::making::make;
 use super::opening::{Acknowledged, Calls, Messages, Octets, Opening};
-use super::share::{Forgotten, NOTHING_FORGOTTEN, Part, SeatShare};
+use super::share::{Forgotten, NOTHING_FORGOTTEN, SeatShare, Stake};
 use super::stepping::Step;
 use set_core::SetFault;
 use set_events::{Actor, EventRef, Reply};
@@ -46,9 +46,9 @@ pub trait Seat<O: Opening>: Step<O> {
 #[derive(Drop)]
 pub struct UserSeat<O: Opening, G: Allocator = Global> {
     number: u16,
-    pub(crate) calls: Part<Calls<O>>,
-    pub(crate) messages: Part<Messages<O>>,
-    pub(crate) octets: Part<Octets<O>>,
+    pub(crate) calls: Stake<Calls<O>>,
+    pub(crate) messages: Stake<Messages<O>>,
+    pub(crate) octets: Stake<Octets<O>>,
     receipts: History<G>,
     forgotten: Forgotten,
     /// What the receipts take memory from.
@@ -73,8 +73,8 @@ impl<O: Opening, G: Allocator> Model for UserSeat<O, G> {
 #[derive(Drop)]
 pub struct TermSeat<O: Opening, G: Allocator = Global> {
     link: u8,
-    pub(crate) calls: Part<Calls<O>>,
-    pub(crate) acknowledged: Part<Acknowledged<O>>,
+    pub(crate) calls: Stake<Calls<O>>,
+    pub(crate) acknowledged: Stake<Acknowledged<O>>,
     receipts: History<G>,
     forgotten: Forgotten,
     /// What the receipts take memory from.
@@ -318,9 +318,9 @@ pub(crate) fn put_users<O: Opening, G: Allocator + Copy>(
     for number in 0..users {
         let seat = UserSeat {
             number,
-            calls: Part::cut(calls),
-            messages: Part::cut(messages),
-            octets: Part::cut(octets),
+            calls: Stake::cut(calls),
+            messages: Stake::cut(messages),
+            octets: Stake::cut(octets),
             receipts: History::new(alloc),
             forgotten: NOTHING_FORGOTTEN,
             alloc,
@@ -350,8 +350,8 @@ pub(crate) fn put_terminals<O: Opening, G: Allocator + Copy>(
     for link in 0..links {
         let seat = TermSeat {
             link,
-            calls: Part::cut(calls),
-            acknowledged: Part::cut(acknowledged),
+            calls: Stake::cut(calls),
+            acknowledged: Stake::cut(acknowledged),
             receipts: History::new(alloc),
             forgotten: NOTHING_FORGOTTEN,
             alloc,

@@ -50,20 +50,20 @@ pub struct Blanks {
 
 /// A seat's one part of a ledger, and the plain number that tells its amount.
 #[derive(Drop)]
-pub(crate) struct Part<L: Ledger> {
+pub(crate) struct Stake<L: Ledger> {
     pub(crate) told: u64,
     share: Share<L>,
     ghost is_told: { (share.parts ≡ 1) × (share.amount ≡ told) },
 }
 
-impl<L: Ledger> Part<L> {
+impl<L: Ledger> Stake<L> {
     /// One of these parts, with no amount.
-    pub(crate) fn cut(from: &mut Share<L>) -> Part<L>
+    pub(crate) fn cut(from: &mut Share<L>) -> Stake<L>
         requires { (0 < from.old.parts) × (from.old.amount ≡ 0) }
         ensures told { result.told ≡ 0 }
         ensures left { (from.new.amount ≡ 0) × (from.new.parts + 1 ≡ from.old.parts) }
     {
-        Part {
+        Stake {
             told: 0,
             share: from.split_off(1, 0),
         }

@@ -5,7 +5,7 @@ use line_ring::Line;
 use link_term::{Command, Door, Faults, OpenGate, SetFault, Terminal, Timers};
 use set_core::{SetCore, audit_history};
 use set_events::{Actor, Answer, Body, Event, EventRef, Method, Reply, SetConfig};
-use set_history::{Reader, Told};
+use set_history::{EntryRef, Reader};
 use std::alloc::Global;
 use std::test::Fail;
 
@@ -207,7 +207,7 @@ enum Counted {
 }
 
 /// Whether this entry is counted.
-fn is_counted(told: &Told<'_>, what: Counted) -> bool {
+fn is_counted(told: &EntryRef<'_>, what: Counted) -> bool {
     match (told.asked(), what) {
         (EventRef::Up { .. }, Counted::AskedUp) => true,
         (EventRef::Up { .. }, Counted::Up) => matches!(told.answer(), Answer::Done),

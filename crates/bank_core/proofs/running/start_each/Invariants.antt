@@ -6,6 +6,6 @@ use Rattle.bank_core.specs.Promises.{promised}
 use Rattle.bank_core.proofs.running.start_each.Given as goal
 
 abbrev pub invariant-loop-work : goal.invariant-loop-work
-invariant-loop-work g l = (map (λ thread. promised thread.promise) l.threads.items ≡ map (λ work. task_of work.config work.users (vec_len work.lines) (map duty_of work.jobs.items) work.orders.plan) l.yielded)
+invariant-loop-work g l = (map (λ thread. promised thread.promise) l.threads.items ≡ map (λ work. task_of work.config work.users (vec_len work.lines) (map duty_of work.jobs.items) work.assignment.plan) l.yielded)
     × (vec_len l.threads ≡ length l.yielded)
     × (vec_len l.fn.works ≤ vec_capacity l.threads)

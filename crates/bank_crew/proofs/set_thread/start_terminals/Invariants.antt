@@ -7,7 +7,7 @@ use Rattle.bank_crew.proofs.set_thread.start_terminals.Given as goal
 -- the seats that are left are new, and numbered on; each line that was taken has a thread
 abbrev pub invariant-loop-line : goal.invariant-loop-line
 invariant-loop-line g l = AreNew Terminal (length l.threads.items) (into_iter_items l.seats)
-    × AreShifts 0 l.fn.orders.plan (map (λ thread. thread.promise) l.threads.items)
+    × AreShifts 0 l.fn.assignment.plan (map (λ thread. thread.promise) l.threads.items)
     × (length l.threads.items + length (into_iter_items l.seats) ≡ length (into_iter_items l.initial.seats))
     × (length l.threads.items + into_iter_len l.lines ≡ vec_len l.fn.lines)
 

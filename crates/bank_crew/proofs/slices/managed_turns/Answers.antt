@@ -12,7 +12,7 @@ returns-in-Err-clause-door g c = g.met.D.Door.same_on _ _ _ c.loop-left.invarian
 
 pub returns-in-Err-clause-turns : goal.returns-in-Err-clause-turns
 returns-in-Err-clause-turns g c =
-    c.loop-left.invariant.4 _ _ (broken_off _ c.min-turns.result c.order-order.result _ c.in-Err.fault _ _ (omega (arith, c.min-turns.ensures)) c.in-Err.ensures.turns)
+    c.loop-left.invariant.4 _ _ (broken_off _ c.min-turns.result c.instruct-instruction.result _ c.in-Err.fault _ _ (omega (arith, c.min-turns.ensures)) c.in-Err.ensures.turns)
 
 pub loop-left-preserved : goal.loop-left-preserved
 loop-left-preserved g c =
@@ -21,7 +21,7 @@ loop-left-preserved g c =
       c.in-Ok.ensures.goes_on,
       c.one_slice.ensures.number ∙ kept.2,
       g.met.D.Door.same_on _ _ _ kept.3 c.one_slice.ensures.door,
-      (λ ended after rest. kept.4 ended after (slice_more _ c.min-turns.result c.order-order.result _ c.in-Ok.more c.one_report-counted.result ended _ _ after
+      (λ ended after rest. kept.4 ended after (slice_more _ c.min-turns.result c.instruct-instruction.result _ c.in-Ok.more c.one_report-counted.result ended _ _ after
           (omega (arith, c.min-turns.ensures, c.loop-left-test.true)) (omega (arith, c.min-turns.ensures)) c.in-Ok.ensures.turns c.one_report-counted.ensures rest)),
     )
 

@@ -18,7 +18,7 @@ loop-config-preserved g c =
     let jobs = taken (λ of_set. map duty_of of_set.items) [] (into_iter_items c.loop-config.jobs) c.next-in-Some-2.result (into_iter_items c.next-in-Some-2.new.self) c.new-in-Some.result c.unwrap_or-in-Some.result c.next-in-Some-2.ensures.items
     (λ none. ran_out _ _ c.next-in-Some-2.result _ _ c.next-in-Some-2.ensures.cases kept.3 none) c.unwrap_or-in-Some.ensures (ap (map duty_of) c.new-in-Some.ensures.items) in
     let left = first_task c.args.self.users c.self.inside.users (ap (λ bank. bank.users) c.self.view_is) c.args.plan c.in-Some.config (into_iter_items c.next.new.self) (into_iter_items c.loop-config.configs) _ _ _ _ _ _ c.in-Some.ensures.items lines.0 lines.1 jobs.0 jobs.1 in (
-      put_one (λ work. task_of work.config work.users (vec_len work.lines) (map duty_of work.jobs.items) work.orders.plan) c.loop-config.works.items c.push_reserved.new.self.items _ _ _ _ c.push_reserved.ensures.items left kept.0,
+      put_one (λ work. task_of work.config work.users (vec_len work.lines) (map duty_of work.jobs.items) work.assignment.plan) c.loop-config.works.items c.push_reserved.new.self.items _ _ _ _ c.push_reserved.ensures.items left kept.0,
       omega (arith, c.in-Some.ensures.len, ap length c.in-Some.ensures.items, kept.1),
       omega (arith, c.next-in-Some.ensures.len, ap length c.next-in-Some.ensures.items, length-append (option_to_list c.next-in-Some.result) (into_iter_items c.next-in-Some.new.self), kept.2),
       omega (arith, c.next-in-Some-2.ensures.len, ap length c.next-in-Some-2.ensures.items, length-append (option_to_list c.next-in-Some-2.result) (into_iter_items c.next-in-Some-2.new.self), kept.3),

@@ -8,7 +8,7 @@ use Rattle.bank_core.proofs.bank.Bank.put_works.Given as goal
 
 -- what is left completes it
 abbrev pub invariant-loop-config : goal.invariant-loop-config
-invariant-loop-config g l = (map (λ work. task_of work.config work.users (vec_len work.lines) (map duty_of work.jobs.items) work.orders.plan) l.works.items ++ tasks_from l.fn.self.users l.fn.plan (into_iter_items l.configs)
+invariant-loop-config g l = (map (λ work. task_of work.config work.users (vec_len work.lines) (map duty_of work.jobs.items) work.assignment.plan) l.works.items ++ tasks_from l.fn.self.users l.fn.plan (into_iter_items l.configs)
     (map (λ of_set. vec_len of_set) (into_iter_items l.lines)) (map (λ of_set. map duty_of of_set.items) (into_iter_items l.jobs))
     ≡ tasks_from l.fn.self.users l.fn.plan l.fn.self.configs (map (λ of_set. vec_len of_set) l.fn.lines.items) (map (λ of_set. map duty_of of_set.items) l.fn.jobs.items))
     × (into_iter_len l.configs ≡ length (into_iter_items l.configs))

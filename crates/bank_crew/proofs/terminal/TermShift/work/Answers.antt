@@ -18,7 +18,7 @@ returns-clause-shift g c =
     let door = ap (λ it. it.door) commanded ∙ new.door in
     let out = c.into_parts-door.result.0 in
     let all = out.all in
-    let plan = c.args.self.orders.now.plan in
+    let plan = c.args.self.assignment.now.plan in
     let managed : out.managed ≡ plan.managed = ap (λ it. it.managed) c.into_parts-door.ensures.door ∙ c.planned_turns-report.ensures.door ∙ ap (λ it. it.managed) door ∙ c.new-door.ensures.managed in
     let number = ap (λ it. link_in it.seat.who) c.into_parts-door.ensures.door ∙ c.planned_turns-report.ensures.number ∙ ap (λ it. link_in it.seat.who) door
     ∙ ap (λ seat. link_in seat.who) c.new-door.ensures.seat ∙ ap link_in c.link-link.ensures.who in (

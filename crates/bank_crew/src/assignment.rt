@@ -6,7 +6,7 @@ use link_term::Gate;
 
 /// What holds for all terminals and users of one set.
 #[derive(Drop)]
-pub struct Orders<G: LinkManager> {
+pub struct Assignment<G: LinkManager> {
     /// The number of the set, which is told to the gate alone.
     pub set: u16,
     /// What each terminal and user passes before it asks the set, and after it, and who manages the links of a plan that

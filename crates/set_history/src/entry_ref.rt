@@ -5,13 +5,13 @@ use std::marker::Model;
 
 /// An entry of a history, where it's kept. Contracts see the entry.
 #[derive(Drop)]
-pub struct Told<'a> {
+pub struct EntryRef<'a> {
     pub(crate) who: Actor,
     pub(crate) asked: EventRef<'a>,
     pub(crate) answered: AnswerRef<'a>,
 }
 
-impl<'a> Model for Told<'a> {
+impl<'a> Model for EntryRef<'a> {
     ghost use Rattle.std.specs.Prelude.{◌≤◌, length};
     ghost use Rattle.set_events.specs.declared.history.Entry.{Entry as SetEntry};
     ghost use Rattle.set_events.specs.Lent.{HasFitUnit, answer_in, body_in, event_in};
@@ -23,7 +23,7 @@ impl<'a> Model for Told<'a> {
     ghost invariant = { λ t. HasFitUnit t.asked × (length (body_in t.answered) ≤ 273) };
 }
 
-impl<'a> Told<'a> {
+impl<'a> EntryRef<'a> {
     ghost use Rattle.std.specs.Prelude.{◌≡◌, ◌≤◌, ◌↔◌, IfOk, IsTrue, length};
     ghost use Rattle.set_events.specs.Lent.{HasFitUnit, answer_in, body_in, event_in};
 
@@ -85,7 +85,7 @@ impl<'a> Told<'a> {
     }
 
     /// Whether both are the same, octet by octet. It takes no memory.
-    pub fn same(&self, other: &Told<'_>) -> bool
+    pub fn same(&self, other: &EntryRef<'_>) -> bool
         ensures { IsTrue result ↔ (self.now ≡ other.now) }
     {
         self.who().same(other.who())
