@@ -12,8 +12,8 @@
 //! What stands under the lock has no name outside, so a call says of the set only what its seat shows: the receipt that
 //! was made there and nowhere else. What they come to together is known when all seats are back: [`LinkSet::close`].
 //!
-//! [`LinkSet::checkpoint`] keeps the history short, and [`LinkSet::forget`] a seat's receipts, 24 octets a call and the
-//! bodies.
+//! [`LinkSet::checkpoint`] keeps the history short, and [`LinkSet::forget`] a seat's receipts, which take as much as the
+//! entries.
 //!
 //! The calls that take the lock may wait for it, and nothing is promised of who gets it, or when.
 #![tactic(auto)]
