@@ -122,7 +122,7 @@ module _ (mx my : Method) (p : Two) (h : HoldsOf mx my p) (k : ℕ) where
         (goes_on mx my p h (Next k) l tt (next_follows l k p.near (no_other k l d)))
 
     pub emits_up : HoldsOf mx my (record p { near = after; near_past = sent_past; out = joined_on k sent_unit p.out })
-    emits_up = event_holds mx my p h (Next k) tt sent_past (joined_on k sent_unit p.out) p.back (length_set p.out k _) refl (λ l. go l (k == l) refl)
+    emits_up = event_holds mx my p h (Next k) sent_past (joined_on k sent_unit p.out) p.back (length_set p.out k _) refl (λ l. go l (k == l) refl)
       where
         go : (l : ℕ) (b : Bool) → (k == l) ≡ b
             → Tied l mx my (side l after sent_past) (side l p.far p.far_past) (units_on l (joined_on k sent_unit p.out))
@@ -138,7 +138,7 @@ module _ (mx my : Method) (p : Two) (h : HoldsOf mx my p) (k : ℕ) where
   pub emits_not : is_up k p.near ≡ false → HoldsOf mx my (record p { near = after; near_past = sent_past })
   emits_not e =
       let same : after ≡ p.near = ap (λ (o : Outcome). o.state) (next_refused k p.near e).1 in
-      event_holds mx my p h (Next k) tt sent_past p.out p.back refl refl
+      event_holds mx my p h (Next k) sent_past p.out p.back refl refl
       (λ l. like l mx my _ (side l after sent_past) _ _ _ _ _ _
       (same_side same (ap (λ (more : List Message). added_at k more p.near_past.sent l)
       (nothing_sent k p.near after same) ∙ added_none k l p.near_past.sent) refl) refl refl refl (h.ties l))
@@ -207,7 +207,7 @@ module _ (mx my : Method) (one : IsOneMethod mx my) (p : Two) (h : HoldsOf mx my
       (goes_on mx my p h (Heard k unit) l d (heard_follows l k unit p.near d))
 
   pub hears_up : HoldsOf mx my (record p { near = hearer_then; near_past = heard_past; back = with_units k rest p.back })
-  hears_up = event_holds mx my p h (Heard k unit) tt heard_past p.out (with_units k rest p.back) refl (length_set p.back k rest) (λ l. go l (k == l) refl)
+  hears_up = event_holds mx my p h (Heard k unit) heard_past p.out (with_units k rest p.back) refl (length_set p.back k rest) (λ l. go l (k == l) refl)
     where
       go : (l : ℕ) (b : Bool) → (k == l) ≡ b
           → Tied l mx my (side l hearer_then heard_past) (side l p.far p.far_past) (units_on l p.out)
@@ -289,8 +289,8 @@ module _ (mx my : Method) (p : Two) (h : HoldsOf mx my p) (k : ℕ) (few : k < l
       let count = link_count_stays p.near (UpEvent k) in
       let far_count = link_count_stays p.far (UpEvent k) in
       record {
-        near_sound = step_sound p.near (UpEvent k) tt h.near_sound;
-        far_sound = step_sound p.far (UpEvent k) tt h.far_sound;
+        near_sound = step_sound p.near (UpEvent k) h.near_sound;
+        far_sound = step_sound p.far (UpEvent k) h.far_sound;
         near_method = ap (λ (s : Settings). s.method) (settings_stay p.near (UpEvent k)) ∙ h.near_method;
         far_method = ap (λ (s : Settings). s.method) (settings_stay p.far (UpEvent k)) ∙ h.far_method;
         profiles = ap (λ (s : Settings). s.profile) (settings_stay p.far (UpEvent k)) ∙ h.profiles

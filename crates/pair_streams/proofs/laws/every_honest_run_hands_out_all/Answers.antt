@@ -2,4 +2,4 @@ use Rattle.pair_streams.proofs.Handing.{every_honest_run_hands_out}
 use Rattle.pair_streams.proofs.laws.every_honest_run_hands_out_all.Goals as goal
 
 pub returns : goal.returns
-returns c a b steps asked honest = every_honest_run_hands_out a b steps asked honest
+returns c a b steps honest = every_honest_run_hands_out a b steps honest
