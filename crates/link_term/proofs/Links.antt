@@ -29,10 +29,10 @@ pub risen_link : (answer : Answer) (t : Terminal) → (risen answer t).link ≡ 
 risen_link Answer.Done t = refl
 risen_link _ t = refl
 
-fallen_link : (told : Option Told) (t : Terminal) → (fallen_if told t).link ≡ t.link
+fallen_link : (told : Option Indication) (t : Terminal) → (fallen_if told t).link ≡ t.link
 fallen_link None t = refl
-fallen_link (Some Told.Up) t = refl
-fallen_link (Some (Told.Down cause)) t = refl
+fallen_link (Some Indication.Up) t = refl
+fallen_link (Some (Indication.Down cause)) t = refl
 
 pub quiet_link : (t : Terminal) → (stops_quietly t).link ≡ t.link
 quiet_link t = fallen_link (state_row t.state StateIn.Stop).out.indication (after_state StateIn.Stop t) ∙ state_link StateIn.Stop t
@@ -74,10 +74,10 @@ pub risen_bits : (answer : Answer) (t : Terminal) → (risen answer t).bits ≡ 
 risen_bits Answer.Done t = refl
 risen_bits _ t = refl
 
-fallen_bits : (told : Option Told) (t : Terminal) → (fallen_if told t).bits ≡ t.bits
+fallen_bits : (told : Option Indication) (t : Terminal) → (fallen_if told t).bits ≡ t.bits
 fallen_bits None t = refl
-fallen_bits (Some Told.Up) t = refl
-fallen_bits (Some (Told.Down cause)) t = refl
+fallen_bits (Some Indication.Up) t = refl
+fallen_bits (Some (Indication.Down cause)) t = refl
 
 pub quiet_bits : (t : Terminal) → (stops_quietly t).bits ≡ t.bits
 quiet_bits t = fallen_bits (state_row t.state StateIn.Stop).out.indication (after_state StateIn.Stop t) ∙ state_bits StateIn.Stop t

@@ -26,4 +26,4 @@ pub record TakesTurns {D L A : Type 0} (d : set_door.Ghosts D) (l : line_end.Gho
 
 -- a turn where a tap looks on: of the unit that was appended, if any, this is so
 abbrev pub TurnsTapped : (Option SignalUnit → Type 0) → Standing → Turned → Standing → Type 0
-TurnsTapped Told before turned after = (turns : TurnsOnce before turned after) × Told turns.turn.chosen.unit
+TurnsTapped IsTold before turned after = (turns : TurnsOnce before turned after) × IsTold turns.turn.chosen.unit
