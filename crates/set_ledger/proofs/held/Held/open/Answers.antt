@@ -24,17 +24,8 @@ with_seats-requires-clause-new g c = rw c.in_ok-core.ensures.core (record {
   acknowledged_is = refl;
 })
 
-pub with_seats-requires-clause-calls : goal.with_seats-requires-clause-calls
-with_seats-requires-clause-calls g c = c.requires.calls (few_users c.args.users c.if-users-eq0.false c.if-users-gt-MOST_USERS.false)
-
-pub with_seats-requires-clause-messages : goal.with_seats-requires-clause-messages
-with_seats-requires-clause-messages g c = c.requires.messages (few_users c.args.users c.if-users-eq0.false c.if-users-gt-MOST_USERS.false)
-
-pub with_seats-requires-clause-octets : goal.with_seats-requires-clause-octets
-with_seats-requires-clause-octets g c = c.requires.octets (few_users c.args.users c.if-users-eq0.false c.if-users-gt-MOST_USERS.false)
-
-pub with_seats-requires-clause-acknowledged : goal.with_seats-requires-clause-acknowledged
-with_seats-requires-clause-acknowledged g c = c.requires.acknowledged (few_users c.args.users c.if-users-eq0.false c.if-users-gt-MOST_USERS.false)
+pub with_seats-requires-clause-blanks : goal.with_seats-requires-clause-blanks
+with_seats-requires-clause-blanks g c = c.requires.blanks (few_users c.args.users c.if-users-eq0.false c.if-users-gt-MOST_USERS.false)
 
 pub with_seats-requires-clause-parts : goal.with_seats-requires-clause-parts
 with_seats-requires-clause-parts g c = c.requires.parts (few_users c.args.users c.if-users-eq0.false c.if-users-gt-MOST_USERS.false)
