@@ -7,8 +7,8 @@ use Rattle.bank_crew.proofs.Counting.{step_carried, step_counted, step_fits, ste
 use Rattle.bank_crew.proofs.seat_door.SeatDoor.ask.Goals as goal
 
 -- src/seat_door.rt
-pub with-self-requires : goal.with-self-requires
-with-self-requires g c =
+pub with-self-inside-requires : goal.with-self-inside-requires
+with-self-inside-requires g c =
     step_fits _ (event_in c.args.event.now) c.step.new.reply c.self.inside.caller.all c.step.new.self.all c.self.inside.answered c.in_ok-step.ensures.ok c.self.invariant.answered_is c.count.result c.count.ensures.calls c.count.ensures.few
 
 pub invariant_of-self-2 : goal.invariant_of-self-2
@@ -22,7 +22,7 @@ invariant_of-self-2 g c =
     let counted = c.self.invariant.answered_is in
     let mark : is_mark (link_in who) event c.args.mark ≡ true = subst (λ (d : DoorState). is_mark (link_in d.seat.who) event c.args.mark ≡ true) (sym c.self.view_is) c.requires.mark in
     record {
-      answered_is = step_counted who event c.step.new.reply old new counts made counted c.step.new.self.seat.who c.link-link.result c.with-self.result c.step.ensures.who c.link-link.ensures (rw c.get-answer.ensures.value at c.with-self.ensures);
-      carried_is = step_carried who event c.step.new.reply old new counts made counted c.self.inside.managed c.self.inside.carried c.with-self-2.result c.step.new.self.seat.who c.link-link.result c.step.ensures.who c.link-link.ensures c.self.invariant.carried_is (rw c.get-answer.ensures.value at c.with-self-2.ensures);
+      answered_is = step_counted who event c.step.new.reply old new counts made counted c.step.new.self.seat.who c.link-link.result c.with-self-inside.result c.step.ensures.who c.link-link.ensures (rw c.get-answer.ensures.value at c.with-self-inside.ensures);
+      carried_is = step_carried who event c.step.new.reply old new counts made counted c.self.inside.managed c.self.inside.carried c.with-self-inside-2.result c.step.new.self.seat.who c.link-link.result c.step.ensures.who c.link-link.ensures c.self.invariant.carried_is (rw c.get-answer.ensures.value at c.with-self-inside-2.ensures);
       marked = step_marked who event c.step.new.reply old new counts made counted c.self.inside.marks c.note.new.self c.args.mark c.step.new.self.seat.who c.step.ensures.who c.self.invariant.marked mark c.note.ensures;
     }

@@ -1,11 +1,12 @@
-use Rattle.std.proofs.Common.{subst}
+use Rattle.std.proofs.Common.{◌∙◌, ap, subst}
 use Rattle.set_events.specs.Lent.{event_in}
-use Rattle.bank_crew.specs.Doors.{IsMarked}
+use Rattle.bank_crew.specs.Doors.{DoorState, IsMarked}
+use Rattle.bank_crew.specs.Managing.{of_turns}
 use Rattle.bank_crew.proofs.Marking.{questioned}
 use Rattle.bank_crew.proofs.seat_door.SeatDoor.ask_more.Goals as goal
 
 -- src/seat_door.rt
 pub returns-in-Ok-clause-made : goal.returns-in-Ok-clause-made
 returns-in-Ok-clause-made g c =
-    questioned c.args.self.now.seat.who (event_in c.args.question.now) c.ask.new.reply c.args.self.now.managed c.ask.new.self.managed c.args.self.now.all c.ask.new.self.all c.args.self.now.marks c.ask.new.self.marks
+    ap (λ (d : DoorState). of_turns d.managed d.marks d.all) c.self-2.view_is ∙ questioned c.args.self.now.seat.who (event_in c.args.question.now) c.ask.new.reply c.args.self.now.managed c.ask.new.self.managed c.args.self.now.all c.ask.new.self.all c.args.self.now.marks c.ask.new.self.marks
     c.in-Ok.ensures.ok c.ask.ensures.managed c.requires.managed (subst IsMarked c.self.view_is c.self.invariant.marked)

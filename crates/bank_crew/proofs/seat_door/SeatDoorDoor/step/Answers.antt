@@ -4,6 +4,7 @@ use Rattle.set_events.specs.Owners.{IsOwn}
 use Rattle.set_events.specs.declared.event.Actor.{Actor}
 use Rattle.set_events.specs.declared.event.Actor.TheVariants.{Terminal}
 use Rattle.bank_crew.specs.Doors.{DoorState, IsMarked}
+use Rattle.bank_crew.specs.Managing.{of_turns}
 use Rattle.bank_crew.specs.Seats.{link_in}
 use Rattle.bank_crew.proofs.Marking.{stepped}
 use Rattle.bank_crew.proofs.seat_door.SeatDoorDoor.step.Goals as goal
@@ -17,6 +18,7 @@ ask-requires-clause-own g c =
 pub returns-in-Ok-clause-ok : goal.returns-in-Ok-clause-ok
 returns-in-Ok-clause-ok g c =
     let who = sym (ap (λ (d : DoorState). d.seat.who) c.self.view_is) ∙ c.link.ensures in
-    stepped c.args.self.now.seat.who (event_in c.args.event.now) c.ask.new.reply c.args.self.now.managed c.ask.new.self.managed c.follow.new.self.managed c.args.self.now.all c.ask.new.self.all c.follow.new.self.all
+    let went = stepped c.args.self.now.seat.who (event_in c.args.event.now) c.ask.new.reply c.args.self.now.managed c.ask.new.self.managed c.follow.new.self.managed c.args.self.now.all c.ask.new.self.all c.follow.new.self.all
     c.args.self.now.marks c.ask.new.self.marks c.follow.new.self.marks c.args.self.now.faults c.follow.new.self.faults
-    c.in-Ok.ensures.ok c.ask.ensures.managed c.follow.ensures.made (subst IsMarked c.self.view_is c.self.invariant.marked) (who ∙ ap Terminal (sym (ap link_in who))) (c.follow.ensures.faults ∙ c.ask.ensures.faults)
+    c.in-Ok.ensures.ok c.ask.ensures.managed c.follow.ensures.made (subst IsMarked c.self.view_is c.self.invariant.marked) (who ∙ ap Terminal (sym (ap link_in who))) (c.follow.ensures.faults ∙ c.ask.ensures.faults) in
+    (ap (λ (d : DoorState). of_turns d.managed d.marks d.all) c.self-in-Ok.view_is ∙ went.0, ap (λ (d : DoorState). d.faults) c.self-in-Ok.view_is ∙ went.1)

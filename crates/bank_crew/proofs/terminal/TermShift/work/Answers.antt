@@ -14,8 +14,9 @@ use Rattle.bank_crew.proofs.terminal.TermShift.work.Goals as goal
 pub returns-clause-shift : goal.returns-clause-shift
 returns-clause-shift g c =
     let new = c.new-terminal.ensures in
-    let commanded = c.command-2.ensures ∙ ap (λ it. record it { inside = told Start it.inside }) c.command.ensures in
-    let door = ap (λ it. it.door) commanded ∙ new.door in
+    let first = c.command.ensures in
+    let second = c.command-2.ensures in
+    let door = ap (λ it. it.door) second ∙ ap (λ it. it.door) first ∙ new.door in
     let out = c.into_parts-door.result.0 in
     let all = out.all in
     let plan = c.args.self.assignment.now.plan in
@@ -25,8 +26,8 @@ returns-clause-shift g c =
       all,
       c.into_seat-seat.ensures.all,
       shift_of _ (link_in c.args.self.seat.who) c.link-link.result c.planned_turns-report.result _ _ _ c.into_tape-tape.result out.marks _ _ _ c.planned_turns-report.ensures.turns
-          (ap (λ it. it.taken) commanded ∙ new.taken)
-          (ap (λ it. it.inside) commanded ∙ ap (λ it. told Start (told Emergency it)) new.inside)
+          (ap (λ it. it.taken) second ∙ ap (λ it. it.taken) first ∙ new.taken)
+          (ap (λ it. it.inside) second ∙ ap (λ it. told Start it.inside) first ∙ ap (λ it. told Start (told Emergency it)) new.inside)
           (ap (λ it. of_turns it.managed it.marks it.all) door ∙ none_of_turns c.new-door.result.managed c.new-door.result.all c.new-door.result.marks c.new-door.ensures.made c.new-door.ensures.marks)
           (ap (λ it. it.faults) door ∙ c.new-door.ensures.faults)
           (sym (ap link_in c.link-link.ensures.who))
@@ -35,6 +36,6 @@ returns-clause-shift g c =
           c.reported-told.ensures
           (c.answered.ensures ∙ ap (λ n. answered_in n all) number)
           (c.carried.ensures.carried ∙ ap (λ (m : Option Managed). carried_in m (link_in out.seat.who) all) managed ∙ ap (λ n. carried_in plan.managed n all) number)
-          (ap (λ it. it.line.put) commanded ∙ ap (λ it. it.put) new.line ∙ c.new-line.ensures.put)
+          (ap (λ it. it.line.put) second ∙ ap (λ it. it.line.put) first ∙ ap (λ it. it.put) new.line ∙ c.new-line.ensures.put)
           (subst (IsTape plan.keeps c.into_tape-tape.result) (ap (λ it. it.put) c.into_parts-door.ensures.line) c.into_tape-tape.ensures),
     )
