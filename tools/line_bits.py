@@ -10,6 +10,19 @@ BLANKS = b" \t\r\n"
 HEX_DIGITS = b"0123456789abcdefABCDEF"
 
 
+class Profile(NamedTuple):
+    """How many numbers messages have, the octets before a unit's body and the most in it, and those of an order's FSN."""
+
+    numbers: int
+    front: int
+    longest: int
+    fsn: int
+
+
+NARROW = Profile(128, 3, 273, 1)
+WIDE = Profile(4096, 4, 272, 2)
+
+
 class Unit(NamedTuple):
     """A signal unit as it is read; `body` is the status field, or SIO and SIF."""
 
@@ -57,14 +70,25 @@ def length_indicator(body):
     return min(len(body), 63)
 
 
-def unit_of(octets):
+def front_of(profile, backward, forward, indicator):
+    """The octets before a body. A number stands with its indicator bit above it; the lowest octet is the first."""
+    if profile is WIDE:
+        return (backward | forward << 13 | indicator % 64 << 26).to_bytes(4, "little")
+    return bytes([backward, forward, indicator])
+
+
+def unit_of(octets, profile=NARROW):
     """The unit that octets without check octets stand for, or None."""
-    if len(octets) < 3 or octets[2] % 64 != length_indicator(octets[3:]) or len(octets) > 276:
+    if not profile.front <= len(octets) <= profile.front + profile.longest:
         return None
-    body = bytes(octets[3:])
+    body = bytes(octets[profile.front:])
+    front = int.from_bytes(octets[:4], "little") if profile is WIDE else octets[0] | octets[1] << 8 | octets[2] << 16
+    size = 2 * profile.numbers
+    backward, forward, indicator = front % size, front // size % size, front // size ** 2 % 64
+    if indicator != length_indicator(body):
+        return None
     kind = "fisu" if not body else "lssu" if len(body) < 3 else "msu"
-    backward, forward = octets[0], octets[1]
-    return Unit(kind, backward % 128, backward >> 7, forward % 128, forward >> 7, body)
+    return Unit(kind, backward % profile.numbers, backward // profile.numbers, forward % profile.numbers, forward // profile.numbers, body)
 
 
 def content_of(raw):

@@ -22,14 +22,14 @@ from collections import Counter, deque
 from functools import lru_cache
 from typing import NamedTuple, Optional
 
-from line_bits import Unit, check_octets, unit_of
+from line_bits import NARROW, WIDE, Unit, check_octets, unit_of
 
 NUMBER = rb"(0|[1-9][0-9]*)"
 HEX = rb"((?:[0-9a-fA-F]{2})+)"
 SHAPE = re.compile(rb"(together) N|(take) ([ab])|(offer) ([ab])(?: X)?|(emit|arrive|find) ([ab]) N"
                    rb"|(down|blind|noanswer|restore|backtimeout) ([ab]) N"
                    rb"|(lose) ([ab]) N N|(hear) ([ab]) N X".replace(b"N", NUMBER).replace(b"X", HEX))
-OPENING = re.compile(rb"set links=N method=(?:basic|cyclic:N:N) a=N b=N sio=([0-9a-fA-F]{2})".replace(b"N", NUMBER))
+OPENING = re.compile(rb"set links=N method=(?:basic|cyclic:N:N) a=N b=N sio=([0-9a-fA-F]{2})(?: profile=(narrow|wide))?".replace(b"N", NUMBER))
 PLACES = ("waiting", "unacked", "acked", "held", "parked", "back", "discarded")
 END_LINE = re.compile(r"end ([ab]) accepted=(\d+) " + " ".join(rf"{place}=(\d+)" for place in PLACES))
 REPORT = re.compile(r"heard acked=(\d+) took=(nothing|message|order|ignored) asked=([01]) resend=([01]) fault=([023])")
@@ -57,17 +57,19 @@ class Line(NamedTuple):
 
 
 def opening_of(text):
-    """How many links the first line gives the pair, or None where it's unreadable."""
+    """How many links the first line gives the pair, and its profile, or None where it's unreadable."""
     match = OPENING.fullmatch(text)
     if match is None:
         return None
     links, n1, n2, a, b = (int(word or 1) for word in match.groups()[:5])
-    fits = 1 <= links <= 16 and 1 <= n1 <= 127 and 1 <= n2 <= 34671 and a < 16384 and b < 16384
-    return links if fits and int(match[6], 16) % 16 == 0 else None
+    profile = WIDE if match[7] == b"wide" else NARROW
+    most = profile.numbers - 1
+    fits = 1 <= links <= 16 and 1 <= n1 <= most and 1 <= n2 <= most * profile.longest and a < 16384 and b < 16384
+    return (links, profile) if fits and int(match[6], 16) % 16 == 0 else None
 
 
 @lru_cache(1 << 16)
-def line_of(text):
+def line_of(text, profile=NARROW):
     """What a line after the first asks for, or None where it's unreadable."""
     match = SHAPE.fullmatch(text)
     if match is None:
@@ -76,7 +78,7 @@ def line_of(text):
     end = words.pop(0) if kind != "together" else None
     octets = bytes.fromhex(words.pop()) if kind in ("offer", "hear") and words else b""
     numbers = [int(word) for word in words]
-    if any(number >= 2 ** 64 for number in numbers) or kind == "hear" and unit_of(octets) is None:
+    if any(number >= 2 ** 64 for number in numbers) or kind == "hear" and unit_of(octets, profile) is None:
         return None
     return Line(kind, end, *(numbers + [None, None])[:2], octets)
 
@@ -85,13 +87,13 @@ def stream_of(body):
     return body[4] >> 4
 
 
-def order_of(body):
+def order_of(body, profile=NARROW):
     """The link and the name of the order that a body of the management stands for, or None."""
     if len(body) < 6:
         return None
-    names = {0: {0x12: "eco", 0x22: "eca"}, 1: {0x11: "coo", 0x21: "coa", 0x51: "cbd", 0x61: "cba"}}
-    name = names.get(len(body) - 6, {}).get(body[5])
-    return name and (body[4] >> 4, name)
+    told = {0x12: ("eco", 0), 0x22: ("eca", 0), 0x11: ("coo", profile.fsn), 0x21: ("coa", profile.fsn), 0x51: ("cbd", 1), 0x61: ("cba", 1)}
+    name, octets = told.get(body[5], (None, 0))
+    return (body[4] >> 4, name) if name and len(body) - 6 == octets else None
 
 
 class Link:
@@ -206,6 +208,7 @@ class Trace:
 
     def __init__(self):
         self.ends = None
+        self.profile = NARROW
         self.by_hand = False
         self.gave_up = False
         self.was_blind = False
@@ -226,7 +229,7 @@ class Trace:
             return None
         if self.ends is None:
             return None if opening_of(text) else "text"
-        line = line_of(text)
+        line = line_of(text, self.profile)
         return "text" if line is None else None if self.can(line) else "step"
 
     @staticmethod
@@ -254,11 +257,12 @@ class Trace:
     def open(self, text):
         """Takes a line that prints nothing."""
         if not self.is_remark(text):
-            self.ends = {name: End(opening_of(text)) for name in "ab"}
+            links, self.profile = opening_of(text)
+            self.ends = {name: End(links) for name in "ab"}
 
     def answered(self, text, answer):
         """Takes a line that prints, with what it printed."""
-        line = line_of(text)
+        line = line_of(text, self.profile)
         end = self.ends[line.end or "a"]
         getattr(self, "on_" + line.kind)(line, end, answer)
 
@@ -271,7 +275,7 @@ class Trace:
 
     def on_offer(self, line, end, answer):
         body = line.octets
-        refusal = 1 if len(body) < 5 else 2 if len(body) > 273 else 3 if body[0] % 16 == 0 else 0
+        refusal = 1 if len(body) < 5 else 2 if len(body) > self.profile.longest else 3 if body[0] % 16 == 0 else 0
         if refusal:
             expect(answer == f"refused {refusal}", f"an offer that is to be refused {refusal} isn't")
         elif answer == "refused 4":
@@ -310,21 +314,21 @@ class Trace:
             return
         octets = bytes.fromhex(answer.removeprefix("sent "))
         expect(answer == f"sent {octets.hex()}" and list(octets[-2:]) == check_octets(octets[:-2]), "check octets are wrong")
-        unit = unit_of(octets[:-2])
-        expect(unit and unit.kind != "lssu" and octets[2] < 64, "what is sent is no fill-in unit and no message")
-        expect(unit.bsn == (link.accepted - 1) % 128, "the BSN isn't the FSN last accepted")
+        unit = unit_of(octets[:-2], self.profile)
+        is_plain = self.profile is WIDE or octets[2] < 64
+        expect(unit and unit.kind != "lssu" and is_plain, "what is sent is no fill-in unit and no message")
+        expect(unit.bsn == (link.accepted - 1) % self.profile.numbers, "the BSN isn't the FSN last accepted")
         self.check_fsn(unit, link, end)
         self.ends[OTHER[line.end]].links[line.number].coming.append(unit)
 
-    @staticmethod
-    def check_fsn(unit, link, end):
+    def check_fsn(self, unit, link, end):
         """A message goes first under the next FSN, and again under its own; a fill-in unit has the last one."""
-        back = (len(link.sent) - unit.fsn) % 128
+        back = (len(link.sent) - unit.fsn) % self.profile.numbers
         if unit.kind == "fisu":
             expect(back == 1, "a fill-in unit hasn't the last FSN")
         elif back == 0:
-            expect(len(link.sent) - link.acked < 127, "128 messages are unacknowledged")
-            expect(unit.body in end.bodies or order_of(unit.body), "what is sent was never offered")
+            expect(len(link.sent) - link.acked < self.profile.numbers - 1, f"{self.profile.numbers} messages are unacknowledged")
+            expect(unit.body in end.bodies or order_of(unit.body, self.profile), "what is sent was never offered")
             link.sent.append(unit.body)
         else:
             expect(back <= len(link.sent) - link.acked, "what is sent again isn't unacknowledged")
@@ -343,7 +347,7 @@ class Trace:
         expect(answer == "lost", "a lost unit isn't answered lost")
 
     def on_hear(self, line, end, answer):
-        unit = unit_of(line.octets)
+        unit = unit_of(line.octets, self.profile)
         if end.links[line.number].phase != "up":
             expect(answer == "refused 5", "a link that isn't up hears")
         elif unit.kind == "lssu":
@@ -375,7 +379,7 @@ class Trace:
             end.inbox.append(body)
             end.heard.append(body)
             return "message"
-        number, name = order_of(body) or (16, None)
+        number, name = order_of(body, self.profile) or (16, None)
         if name == "cbd":  # acknowledged, whatever it speaks of
             end.rows += 1
             return "order"

@@ -2,6 +2,7 @@
 
 A `Walk` draws its lines from a random number generator. It holds each answer against a `Trace` at once.
 """
+from line_bits import WIDE, front_of
 from play_trace import OTHER, Trace, expect
 
 IDLE = "heard acked=0 took=nothing asked=0 resend=0 fault=0"
@@ -49,9 +50,12 @@ class Walk:
     def walk(self, steps):
         """The first line, most links up, and so many lines after it."""
         rng = self.rng
-        method = rng.choice(["basic", f"cyclic:{rng.choice([1, 2, 5, 127])}:{rng.choice([1, 30, 1000, 34671])}"])
+        is_wide = rng.random() < 0.3
+        limits = ([1, 2, 130, 4095], [1, 30, 1000, 1113840]) if is_wide else ([1, 2, 5, 127], [1, 30, 1000, 34671])
+        method = rng.choice(["basic", "cyclic:{}:{}".format(*map(rng.choice, limits))])
         codes = f"a={rng.randrange(16384)} b={rng.randrange(16384)} sio={rng.choice(['80', 'C0', '00'])}"
-        self.say(f"set links={self.links} method={method} {codes}".encode())
+        profile = " profile=wide" if is_wide else rng.choice(["", "", " profile=narrow"])
+        self.say(f"set links={self.links} method={method} {codes}{profile}".encode())
         for link in range(self.links):
             if link == self.spare or rng.random() < 0.8:
                 self.say(f"together {link}".encode())
@@ -96,28 +100,32 @@ class Walk:
         body = bytes([rng.choice([0x85, 0x83, 0xC1])]) + label + len(self.script).to_bytes(3, "big")
         if rng.random() < 0.1:
             body += rng.randbytes(rng.choice([53, 54, 55, 56, 57, 264, 265, rng.randrange(265)]))
-        refused = [b"", body[:4], bytes([0x80]) + body[1:], (body * 40)[:274]]
+        refused = [b"", body[:4], bytes([0x80]) + body[1:], (body * 40)[:self.trace.profile.longest + 1]]
         return rng.choice(refused) if rng.random() < 0.02 else body
 
     def hostile_unit(self, end, link):
         """A unit near what the link expects, or far from it, with a body of any kind."""
         rng, own = self.rng, self.trace.ends[end].links[link]
-        near = [own.accepted, own.accepted, own.accepted + rng.randint(-3, 3), rng.randrange(128)]
-        acked = [own.acked - 1, own.acked - 1, own.acked + rng.randint(-3, 3), rng.randrange(128)]
-        numbers = [rng.choice(choice) % 128 + 128 * (rng.random() < 0.8) for choice in (acked, near)]
+        profile, some = self.trace.profile, rng.randrange(self.trace.profile.numbers)
+        near = [own.accepted, own.accepted, own.accepted + rng.randint(-3, 3), some]
+        acked = [own.acked - 1, own.acked - 1, own.acked + rng.randint(-3, 3), some]
+        numbers = [rng.choice(choice) % profile.numbers + profile.numbers * (rng.random() < 0.8) for choice in (acked, near)]
         order = self.hostile_order(own)
-        message, rubbish = self.body()[:273], rng.randbytes(rng.randint(3, 273))
+        message, rubbish = self.body()[:profile.longest], rng.randbytes(rng.randint(3, profile.longest))
         status, cut = rng.randbytes(rng.randint(1, 2)), order[:rng.randint(3, 7)]
         body = rng.choice([b"", b"", status, order, order, order, cut, message, rubbish])
-        return bytes(numbers + [min(len(body), 63) + 64 * rng.choice([0, 0, 0, 1, 2, 3])]) + body
+        return front_of(profile, *numbers, min(len(body), 63) + 64 * rng.choice([0, 0, 0, 1, 2, 3])) + body
 
     def hostile_order(self, own):
         """An order for any link, with any number, with spare bits, or with octets too few or too many."""
         rng = self.rng
         heading = rng.choice([0x11, 0x21, 0x12, 0x22, 0x51, 0x61, rng.randrange(256)])
         place = rng.randrange(self.links + 1) % 16 << 4 | rng.randrange(2)
-        number = rng.choice([own.acked, rng.randrange(128)]) % 128 + 128 * rng.randrange(2)
-        content = rng.choice([b"", bytes([number]), bytes([number]), rng.randbytes(2)])
+        profile = self.trace.profile
+        number = rng.choice([own.acked, rng.randrange(128), rng.randrange(profile.numbers)]) % profile.numbers
+        number += profile.numbers * rng.randrange(16 if profile is WIDE else 2)
+        fsn = number.to_bytes(profile.fsn, "little")
+        content = rng.choice([b"", fsn, fsn, rng.randbytes(1), rng.randbytes(2)])
         return bytes([rng.choice([0x80, 0x00, 0xF0]), 1, 128, 0, place, heading]) + content
 
     def rude_line(self):
@@ -125,7 +133,8 @@ class Walk:
         link = self.rng.randrange(self.links)
         large = self.rng.choice([16, 255, 256, 65536, 2 ** 63, 2 ** 64 - 1, 2 ** 64, 10 ** 40])
         unit = self.hostile_unit("a", link)
-        wrong_length = unit[:2] + bytes([unit[2] ^ 1]) + unit[3:]
+        place, bit = (3, 4) if self.trace.profile is WIDE else (2, 1)
+        wrong_length = unit[:place] + bytes([unit[place] ^ bit]) + unit[place + 1:]
         return self.rng.choice([
             f"emit a {large}", f"hear b {large} {unit.hex()}", f"find a {large}", f"lose a {link} {large}",
             f"arrive b {large}", f"together {large}", f"noanswer b {large}", f"restore a {large}", f"hear a {link} {unit[:2].hex()}",
