@@ -6,7 +6,7 @@ use Rattle.text_base.specs.Figures.{number_of}
 use Rattle.mtpbank_words.specs.declared.advice.Input.{Input}
 use Rattle.mtpbank_words.specs.declared.advice.Input.TheVariants.{Units, Play, Decode, Capture, Ladder, Audit, Terminal, History}
 use Rattle.mtpbank_words.specs.declared.advice.RunOption.{RunOption}
-use Rattle.mtpbank_words.specs.declared.advice.RunOption.TheVariants.{Sets, Links, Users, Messages, Fail, Method, Turns, Checkpoint}
+use Rattle.mtpbank_words.specs.declared.advice.RunOption.TheVariants.{Sets, Links, Users, Messages, Fail, Method, Turns, Checkpoint, Noise, Seed}
 
 -- a word is shown on one line, with a dot for each control character
 abbrev pub plain : ℕ → ℕ
@@ -86,7 +86,9 @@ option_of word =
     else (if bytes_eq word (codes "--fail") then Some Fail
     else (if bytes_eq word (codes "--method") then Some Method
     else (if bytes_eq word (codes "--turns") then Some Turns
-    else (if bytes_eq word (codes "--checkpoint") then Some Checkpoint else None)))))))
+    else (if bytes_eq word (codes "--checkpoint") then Some Checkpoint
+    else (if bytes_eq word (codes "--noise") then Some Noise
+    else (if bytes_eq word (codes "--seed") then Some Seed else None)))))))))
 
 abbrev pub option_name : RunOption → List ℕ
 option_name Sets = codes "--sets"
@@ -97,6 +99,8 @@ option_name Fail = codes "--fail"
 option_name Method = codes "--method"
 option_name Turns = codes "--turns"
 option_name Checkpoint = codes "--checkpoint"
+option_name Noise = codes "--noise"
+option_name Seed = codes "--seed"
 
 abbrev pub range_text : RunOption → List ℕ
 range_text Sets = codes "a number from 1 to 16"
@@ -107,6 +111,8 @@ range_text Fail = codes "the number of a link, 0 to 15"
 range_text Method = codes "basic or cyclic"
 range_text Turns = codes "a number from 1 to 1000000"
 range_text Checkpoint = codes "a number from 1 to 1024"
+range_text Noise = codes "a number from 1 to 10000000"
+range_text Seed = codes "a number from 0 to 4294967295"
 
 -- a decimal number in this range, without leading zeros
 abbrev pub is_in : ℕ → ℕ → Option ℕ → Bool
@@ -126,10 +132,12 @@ fits Method value =
     if bytes_eq value (codes "basic") then true else bytes_eq value (codes "cyclic")
 fits Turns value = is_number_in 1 1000000 value
 fits Checkpoint value = is_number_in 1 1024 value
+fits Noise value = is_number_in 1 10000000 value
+fits Seed value = is_number_in 0 4294967295 value
 
 abbrev pub run_usage : List ℕ
 run_usage =
-    codes "\nusage: mtpbank run [--sets N] [--links L] [--users U] [--messages M] [--fail K] [--method WORD] [--turns T] [--checkpoint C] [--per-link]"
+    codes "\nusage: mtpbank run [--sets N] [--links L] [--users U] [--messages M] [--fail K] [--method WORD] [--turns T] [--checkpoint C] [--noise N] [--seed S] [--per-link] [--report] [--capture]"
 
 abbrev pub value_text : RunOption → List ℕ → List ℕ
 value_text option value =

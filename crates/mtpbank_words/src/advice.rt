@@ -9,7 +9,7 @@ use text_base::{is_word, read_number};
 
 /// The line with the usage of `run`, behind another.
 const RUN_USAGE: &[u8] = b"\nusage: mtpbank run [--sets N] [--links L] [--users U] [--messages M] \
-[--fail K] [--method WORD] [--turns T] [--checkpoint C] [--per-link]";
+[--fail K] [--method WORD] [--turns T] [--checkpoint C] [--noise N] [--seed S] [--per-link] [--report] [--capture]";
 
 /// A subcommand that reads standard input.
 #[derive(Clone, Copy, Debug, PartialEq, Eq)]
@@ -35,6 +35,8 @@ pub enum RunOption {
     Method,
     Turns,
     Checkpoint,
+    Noise,
+    Seed,
 }
 
 /// What is said of these words, which the program doesn't take, at most two lines without the last LF; `None`: what the
@@ -257,6 +259,10 @@ fn find_option(word: &[u8]) -> Option<RunOption>
         Some(RunOption::Turns)
     } else if is_word(word, b"--checkpoint") {
         Some(RunOption::Checkpoint)
+    } else if is_word(word, b"--noise") {
+        Some(RunOption::Noise)
+    } else if is_word(word, b"--seed") {
+        Some(RunOption::Seed)
     } else {
         None
     }
@@ -275,6 +281,8 @@ fn name(option: RunOption) -> &'static [u8]
         RunOption::Method => b"--method",
         RunOption::Turns => b"--turns",
         RunOption::Checkpoint => b"--checkpoint",
+        RunOption::Noise => b"--noise",
+        RunOption::Seed => b"--seed",
     }
 }
 
@@ -291,6 +299,8 @@ fn range(option: RunOption) -> &'static [u8]
         RunOption::Method => b"basic or cyclic",
         RunOption::Turns => b"a number from 1 to 1000000",
         RunOption::Checkpoint => b"a number from 1 to 1024",
+        RunOption::Noise => b"a number from 1 to 10000000",
+        RunOption::Seed => b"a number from 0 to 4294967295",
     }
 }
 
@@ -307,6 +317,8 @@ fn takes(option: RunOption, value: &[u8]) -> bool
         RunOption::Method => is_word(value, b"basic") || is_word(value, b"cyclic"),
         RunOption::Turns => is_within(1, 1_000_000, value),
         RunOption::Checkpoint => is_within(1, 1_024, value),
+        RunOption::Noise => is_within(1, 10_000_000, value),
+        RunOption::Seed => is_within(0, 4_294_967_295, value),
     }
 }
 

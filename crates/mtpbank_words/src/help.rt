@@ -199,7 +199,7 @@ A script without a line writes a file without a record.
 A fault ends the script: one line on standard error, with status 1; what was written before it stays, and is a capture of
 what was sent until then; where the first line is at fault nothing is written. The faults are those of `mtpbank play`:
   fault line N text, fault line N step, fault exhausted
-  fault read, fault write, fault memory";
+  fault read, fault long, fault write, fault memory";
 
 pub(crate) const LADDER_PAGE: &str = "\
 Standard input is a script, as that of `mtpbank play`. What is printed is a
@@ -228,7 +228,7 @@ number of the script's line, what happens at end a, what is under way, and what 
 Other words are the answers of `mtpbank play`. Two dots (..) stand where more doesn't fit. A fault ends the script: one
 line on standard error, with status 1; what was drawn before it stays. The faults are those of `mtpbank play`:
   fault line N text, fault line N step, fault exhausted
-  fault read, fault write, fault memory";
+  fault read, fault long, fault write, fault memory";
 
 pub(crate) const DECODE_HELP: &str = "\
 Each line of standard input is the octets of one unit, of two hexadecimal digits each and nothing between them:
@@ -368,17 +368,19 @@ All but run read standard input to its end, as in `mtpbank play < examples/chang
 how a script is written and what it prints, `mtpbank units --help` and `mtpbank decode --help` which digits are
 read and what is printed, `mtpbank capture --help` what the file holds, `mtpbank ladder --help` what the chart shows,
 `mtpbank history --help` and `mtpbank audit --help` how a history is, `mtpbank terminal --help` how one end is driven
-whose lines are yours, `mtpbank run --help` what runs in threads; with `-h` each is a page. A fault is one line on standard error, and what was printed before it stays:
+whose lines are yours, `mtpbank run --help` what runs in threads; with `-h` each is a page. A fault is one line on standard
+error, with --explain and three rows that show where, and what was printed before it stays:
   fault line N text, fault line N step               a line can't be read, or one of a script can't be done
   fault line N illegal                               an entry of a history is one that no set makes
   fault octet P                                      a character is no hexadecimal digit, or one is left over
   fault read, fault write, fault memory              standard input, standard output or memory failed
-  fault long                                         standard input has more than 2^24 octets, of which something is kept
+  fault long                                         standard input has more than 2^24 octets (units, decode, audit, terminal: 2^60)
   fault exhausted                                    the history of an end is full
   fault thread, fault close                          a thread couldn't be started, a set couldn't be closed
   fault user .., fault terminal ..                   this user or terminal of a run ended early
+  fault missing ..                                   a report's run didn't deliver this message in order
 A pipe behind standard output that nobody reads any more ends with status 1 too, and no line.
-The status is 0, or 1 after a fault, or 2 where the words of the command line are wrong.";
+The status is 0, or 1 after a fault, or 2 where the words of the command line are wrong (and after `fault link` of run).";
 
 pub(crate) const UNITS_HELP: &str = "\
 Two hexadecimal digits are an octet of the line, fed lowest bit first, with its flags, inserted zeros and check
@@ -430,8 +432,8 @@ Each of these lines prints one:
   accepted N          the message has number N; messages and orders of an end are counted together, from 0
   taken HEX           the message that was taken
   found waiting L, found unacked L, found acked L       to be sent, sent, acknowledged on link L
-  found held L        offered when link L was left, and waits until that is settled; what was sent on L or waited
-                      for it stays unacked or waiting there until then
+  found held L        offered when link L was left, or turned back there, and waits until that is settled; what was sent
+                      on L or waited for it stays unacked or waiting there until then
   found parked        no link can take it until one comes up
   found back C        its stream is on its way home; the message waits for the answer with code C, which is 16
                       times the number of the home plus that of the link the stream comes from

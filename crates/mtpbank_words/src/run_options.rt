@@ -231,7 +231,7 @@ fn with_ways<'a>(alloc: Global, command: Command<'a>) -> Result<Command<'a>, All
         alloc,
         "fail",
         "K",
-        "Link that fails half way, from 0 [none]",
+        "Link that is told to stop, from 0 [none]",
     );
     let failing = with_option(command, link)?;
     let method = option(alloc, "method", "WORD", "basic or cyclic [basic]");
@@ -240,7 +240,7 @@ fn with_ways<'a>(alloc: Global, command: Command<'a>) -> Result<Command<'a>, All
         alloc,
         "turns",
         "T",
-        "Most turns of a terminal, 1 to 1000000 [20000]",
+        "Most turns, 1 to 1000000 [20000, with --report 1000000]",
     );
     let timed = with_option(by_method, turns)?;
     let checkpoint = option(

@@ -225,7 +225,7 @@ fn a_run_without_the_link_that_fails(rt: HostRuntime) -> Result<(), Fail> {
 }
 
 const USAGE: &str = "\nusage: mtpbank run [--sets N] [--links L] [--users U] [--messages M] \
-[--fail K] [--method WORD] [--turns T] [--checkpoint C] [--per-link]";
+[--fail K] [--method WORD] [--turns T] [--checkpoint C] [--noise N] [--seed S] [--per-link] [--report] [--capture]";
 
 /// This is said of the words behind `run`, and the usage in a second line.
 fn says_of_run(alloc: Global, first: &str, second: &str, said: &str) -> Result<bool, AllocError> {
