@@ -14,6 +14,8 @@ use Rattle.bank_crew.specs.declared.report.ShiftReport.{ShiftReport}
 use Rattle.bank_crew.specs.declared.carried.Carried.{Carried}
 use Rattle.bank_crew.specs.Carrying.{carried_in}
 use Rattle.bank_crew.specs.Counts.{answered_in, reported}
+use Rattle.bank_crew.specs.declared.questions.Awaited.{Awaited}
+use Rattle.bank_crew.specs.Awaiting.{AsksWhere}
 use Rattle.bank_crew.specs.Managing.{are_marks, of_turns}
 use Rattle.line_tape.specs.Taping.{IsTape}
 use Rattle.link_term.specs.Standing.{Standing, standing}
@@ -37,11 +39,11 @@ by_first_half turns first fault before between is went =
     (first, between, went, subst (λ (f : Result TermReport TermFault). AfterHalf turns f (Err fault) between between) (sym is) (refl, refl))
 
 -- A SHIFT, from a new terminal on
-pub shift_of : (plan : Plan) (link number : ℕ) (counts : Result TermReport TermFault) (ended : Result ShiftReport TermFault) (answered : Answered) (carried : Carried) (tape : Option (List ℕ)) (marks : List ℕ) (before after : Standing) (made : List Entry)
+pub shift_of : (plan : Plan) (link number : ℕ) (counts : Result TermReport TermFault) (ended : Result ShiftReport TermFault) (answered : Answered) (carried : Carried) (tape : Option (List ℕ)) (marks : List ℕ) (awaited : Awaited) (before after : Standing) (made : List Entry)
     → TurnsOf plan number counts before after → before.taken ≡ [] → before.inside ≡ told Start (told Emergency (opened number plan.timers))
-    → before.made ≡ [] → before.faults ≡ [] → number ≡ link → are_marks number made marks ≡ true → of_turns plan.managed marks made ≡ after.made → ended ≡ reported answered carried tape counts
+    → before.made ≡ [] → before.faults ≡ [] → number ≡ link → are_marks number made marks ≡ true → AsksWhere plan.managed number made marks awaited → of_turns plan.managed marks made ≡ after.made → ended ≡ reported answered carried tape counts
     → answered ≡ answered_in number made → carried ≡ carried_in plan.managed number made → before.line.put ≡ [] → IsTape plan.keeps tape after.line.put → DoesShift plan link ended made
-shift_of plan link number counts ended answered carried tape marks before after made turned taken_is inside_is made_is faults_is same marked end_is told_is counted carries none taped =
+shift_of plan link number counts ended answered carried tape marks awaited before after made turned taken_is inside_is made_is faults_is same marked asks end_is told_is counted carries none taped =
     let new = told Start (told Emergency (opened number plan.timers)) in
     let start : before ≡ fresh number plan.timers before.line =
     ap (λ (t : List ℕ). standing t before.inside before.made before.faults before.line) taken_is
@@ -56,6 +58,8 @@ shift_of plan link number counts ended answered carried tape marks before after 
       turns = subst (λ (b : Standing). TurnsOf plan number counts b after) start turned;
       marks = marks;
       marks_are = marked;
+      awaited = awaited;
+      asks = asks;
       made_is = end_is;
       none_put = none;
       tape = tape;

@@ -17,6 +17,8 @@ use Rattle.bank_crew.specs.declared.plan.Plan.{Plan}
 use Rattle.bank_crew.specs.declared.report.ShiftReport.{ShiftReport}
 use Rattle.bank_crew.specs.Carrying.{carried_in}
 use Rattle.bank_crew.specs.Counts.{answered_in, reported}
+use Rattle.bank_crew.specs.declared.questions.Awaited.{Awaited}
+use Rattle.bank_crew.specs.Awaiting.{AsksWhere}
 use Rattle.bank_crew.specs.Managing.{are_marks, of_turns}
 use Rattle.line_tape.specs.Taping.{IsTape}
 use Rattle.bank_crew.specs.Seats.{AreCalls}
@@ -113,7 +115,8 @@ abbrev pub fresh : ℕ → Timers → Seen → Standing
 fresh link timers line = standing [] (told Start (told Emergency (opened link timers))) [] [] line
 
 -- A SHIFT: the turns of the plan over some line left these entries, or, where links are managed, those of them that level
--- 3 didn't ask for; what is reported of both; and the tape of what they put into the line, of which nothing was put before
+-- 3 didn't ask for, and it asked each of its own when it was due, whatever is awaited after; what is reported of both; and
+-- the tape of what they put into the line, of which nothing was put before
 pub record DoesShift (plan : Plan) (link : ℕ) (ended : Result ShiftReport TermFault) (made : List Entry) : Type 0 where
   pub line : Seen
   pub after : Standing
@@ -121,6 +124,8 @@ pub record DoesShift (plan : Plan) (link : ℕ) (ended : Result ShiftReport Term
   pub turns : TurnsOf plan link counts (fresh link plan.timers line) after
   pub marks : List ℕ
   pub marks_are : are_marks link made marks ≡ true
+  pub awaited : Awaited
+  pub asks : AsksWhere plan.managed link made marks awaited
   pub made_is : of_turns plan.managed marks made ≡ after.made
   pub none_put : line.put ≡ []
   pub tape : Option (List ℕ)
