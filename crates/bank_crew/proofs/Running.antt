@@ -19,7 +19,7 @@ use Rattle.bank_crew.specs.Awaiting.{AsksWhere}
 use Rattle.bank_crew.specs.Managing.{are_marks, of_turns}
 use Rattle.line_tape.specs.Taping.{IsTape}
 use Rattle.link_term.specs.Standing.{Standing, standing}
-use Rattle.bank_crew.specs.Shifts.{AfterHalf, DoesShift, Halves, Turns, Slices, SlicesFrom, one_more, TurnsOf, TurnsWhere, both, fresh, Slice}
+use Rattle.bank_crew.specs.Shifts.{AfterHalf, DoesShift, Halves, Turns, Slices, SlicesFrom, all_taken, one_more, TurnsOf, TurnsWhere, both, fresh, Slice}
 
 -- it went, or it failed
 pub either_way : (A : Type 0) (P : TermReport → Type 0) (Q : TermFault → Type 0) (result : Result TermReport TermFault) → IfOk result (λ report. A × P report) → IfErr result Q → MatchResult result P Q
@@ -68,10 +68,14 @@ shift_of plan link number counts ended answered carried tape marks awaited befor
     })
 
 -- A SLICE more.
-pub slice_more : (most turns : ℕ) (instruction : Instruction) (counted report total : TermReport) (ended : Result TermReport TermFault) (before between after : Standing) → 0 < turns → turns ≤ most → Slice instruction turns (Ok report) before between
-    → total ≡ both counted report → SlicesFrom (most - turns) total ended between after → SlicesFrom most counted ended before after
-slice_more most turns instruction counted report total ended before between after some few slice is rest =
-    one_more most turns instruction counted report ended before between after some few slice (subst (λ (t : TermReport). SlicesFrom (most - turns) t ended between after) is rest)
+pub slice_more : (may : Instruction → Type 0) (most turns : ℕ) (instruction : Instruction) (counted report total : TermReport) (ended : Result TermReport TermFault) (before between after : Standing) → may instruction → 0 < turns → turns ≤ most → Slice instruction turns (Ok report) before between
+    → total ≡ both counted report → SlicesFrom may (most - turns) total ended between after → SlicesFrom may most counted ended before after
+slice_more may most turns instruction counted report total ended before between after told some few slice is rest =
+    one_more most turns instruction counted report ended before between after told some few slice (subst (λ (t : TermReport). SlicesFrom may (most - turns) t ended between after) is rest)
+
+-- or none is left
+pub all_slices : (may : Instruction → Type 0) (most : ℕ) (counted : TermReport) (at : Standing) → most ≡ 0 → SlicesFrom may most counted (Ok counted) at at
+all_slices may most counted at none = subst (λ (n : ℕ). SlicesFrom may n counted (Ok counted) at at) (sym none) (all_taken counted at)
 
 -- THE TURNS where links are managed
 pub managed_so : (managed : Option Managed) (it : Managed) (fails : Bool) (turns : ℕ) (ended : Result TermReport TermFault) (before after : Standing) → managed ≡ Some it → Slices turns ended before after → TurnsWhere managed fails turns ended before after

@@ -85,22 +85,29 @@ instructed instruction t = record t { inside = told_by instruction t.inside }
 abbrev pub Slice : Instruction → ℕ → Result TermReport TermFault → Standing → Standing → Type 0
 Slice instruction turns ended before after = Turns turns ended (instructed instruction before) after
 
--- slices one after another, each of at least one turn and all together of so many at most; what they counted is added to
--- what was counted before, up to the first that a fault broke off
-pub data SlicesFrom : ℕ → TermReport → Result TermReport TermFault → Standing → Standing → Type 0 where
-  no_more : (most : ℕ) (counted : TermReport) (at : Standing) → SlicesFrom most counted (Ok counted) at at
+-- slices one after another, each of at least one turn and behind what may be instructed; what they counted is added to
+-- what was counted before, up to the first that a fault broke off. They end behind End, or when so many turns were taken
+pub data SlicesFrom (may : Instruction → Type 0) : ℕ → TermReport → Result TermReport TermFault → Standing → Standing → Type 0 where
+  all_taken : (counted : TermReport) (at : Standing) → SlicesFrom may 0 counted (Ok counted) at at
+  told_end : (most : ℕ) (counted : TermReport) (at : Standing) → may Instruction.End → SlicesFrom may most counted (Ok counted) at at
   broken_off : (most turns : ℕ) (instruction : Instruction) (counted : TermReport) (fault : TermFault) (before after : Standing)
-      → turns ≤ most → Slice instruction turns (Err fault) before after → SlicesFrom most counted (Err fault) before after
+      → may instruction → turns ≤ most → Slice instruction turns (Err fault) before after
+      → SlicesFrom may most counted (Err fault) before after
   one_more : (most turns : ℕ) (instruction : Instruction) (counted report : TermReport) (ended : Result TermReport TermFault)
-      (before between after : Standing) → 0 < turns → turns ≤ most → Slice instruction turns (Ok report) before between
-      → SlicesFrom (most - turns) (both counted report) ended between after → SlicesFrom most counted ended before after
+      (before between after : Standing) → may instruction → 0 < turns → turns ≤ most
+      → Slice instruction turns (Ok report) before between
+      → SlicesFrom may (most - turns) (both counted report) ended between after → SlicesFrom may most counted ended before after
 
 abbrev pub no_turns : TermReport
 no_turns = record { turns = 0; sent = 0; good = 0; bad = 0; sixteen = 0; cause = 0 }
 
--- SLICES of turns
+-- SLICES of turns, behind what may be instructed
+abbrev pub SlicesBy : (Instruction → Type 0) → ℕ → Result TermReport TermFault → Standing → Standing → Type 0
+SlicesBy may turns = SlicesFrom may turns no_turns
+
+-- and behind whatever was: nothing is promised of who manages links
 abbrev pub Slices : ℕ → Result TermReport TermFault → Standing → Standing → Type 0
-Slices turns = SlicesFrom turns no_turns
+Slices = SlicesBy (λ instruction. Unit {0})
 
 -- THE TURNS OF A SHIFT: by slices where links are managed
 abbrev pub TurnsWhere : Option Managed → Bool → ℕ → Result TermReport TermFault → Standing → Standing → Type 0

@@ -1,5 +1,6 @@
 //! Who manages the links of sets, and holds their users up.
 
+use super::assignment::Assignment;
 use link_term::{Gate, OpenGate};
 use set_events::{AnswerRef, Counts, EventRef};
 
@@ -45,4 +46,25 @@ impl LinkManager for OpenGate {
     }
 
     fn ended(&self, _set: u16, _link: u8) {}
+}
+
+/// Who instructs the terminals of one set: what may be answered stands for what was, so that turns are taken as it says.
+pub(crate) trait Instructing {
+    ghost use Rattle.std.specs.Prelude.{ℕ};
+    ghost use Rattle.bank_crew.specs.declared.manager.Instruction.{Instruction};
+
+    /// The terminal of this link may be instructed so.
+    ghost may: { Self → ℕ → Instruction → Type 0 };
+
+    /// What the terminal of this link is told now.
+    fn instruct(&self, link: u8, counts: &Counts) -> Instruction
+        ensures { may self.now link result };
+}
+
+impl<G: LinkManager> Instructing for Assignment<G> {
+    ghost may = { λ assignment link instruction. Unit {0} };
+
+    fn instruct(&self, link: u8, counts: &Counts) -> Instruction {
+        self.gate.instruct(self.set, link, counts)
+    }
 }
