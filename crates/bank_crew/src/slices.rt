@@ -3,7 +3,7 @@ ghost use Rattle.std.specs.Prelude.{◌≡◌, ◌≤◌, ◌^◌, false, OnOk};
 ghost use Rattle.link_term.specs.Standing.{stands};
 ghost use Rattle.bank_crew.specs.Shifts.{Slice, SlicesBy};
 
-use super::manager::{Instructing, Instruction};
+use super::manager::{Instruction, SetManager};
 use super::terminal::{one_report, so_many};
 use line_ring::Line;
 use link_term::{Command, Door, Gate, TermFault, TermReport, Terminal};
@@ -14,16 +14,16 @@ use std::sync::Wait;
 const SLICE: u64 = 256;
 
 /// Turns by slices, each behind what is instructed, until that ends them, or so many were taken.
-pub(crate) fn managed_turns<O: Opening, D: Door, L: Line, T: Gate, I: Instructing, R: Wait>(
+pub(crate) fn managed_turns<O: Opening, D: Door, L: Line, T: Gate, M: SetManager, R: Wait>(
     rt: &R,
     set: &LinkSet<O>,
-    manager: &I,
+    manager: &M,
     link: u8,
     turns: u64,
     terminal: &mut Terminal<D, L, T>,
 ) -> Result<TermReport, TermFault>
     requires failed { terminal.old.failed ≡ false }
-    ensures turns { SlicesBy (I.may manager.now link) turns result
+    ensures turns { SlicesBy (M.may manager.now link) turns result
         (stands D.Door L.Line terminal.old) (stands D.Door L.Line terminal.new) }
     ensures number { D.number terminal.new.door ≡ D.number terminal.old.door }
     ensures door { D.is_same terminal.old.door terminal.new.door }

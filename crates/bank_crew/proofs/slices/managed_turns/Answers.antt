@@ -6,7 +6,7 @@ use Rattle.bank_crew.proofs.slices.managed_turns.Goals as goal
 -- src/slices.rt
 pub returns-in-End-clause-turns : goal.returns-in-End-clause-turns
 returns-in-End-clause-turns g c =
-    c.loop-left.invariant.4 _ _ (told_end _ _ _ (subst (g.I.Instructing.may c.args.manager.now c.args.link) c.in-End.is c.instruct-instruction.ensures))
+    c.loop-left.invariant.4 _ _ (told_end _ _ _ (subst (g.M.SetManager.may c.args.manager.now c.args.link) c.in-End.is c.instruct-instruction.ensures))
 
 pub returns-in-Err-clause-door : goal.returns-in-Err-clause-door
 returns-in-Err-clause-door g c = g.met.D.Door.same_on _ _ _ c.loop-left.invariant.3 c.one_slice.ensures.door
