@@ -127,9 +127,9 @@ impl Bench {
     ///
     /// Faults: 3 [`TermFault::Exhausted`] where the link took 2^48 turns, tested first: nothing is done then; 2
     /// [`TermFault::Failed`] where a turn of it was broken off before: nothing is done either; 1
-    /// [`TermFault::NoMemory`] and 3 [`TermFault::Exhausted`], where the set told that fault, and 4
-    /// [`TermFault::Profile`], where it gave a unit of the wide profile: that breaks the turn off. It isn't counted, and
-    /// the bits that wait stay.
+    /// [`TermFault::NoMemory`] and 3 [`TermFault::Exhausted`] where the set told that fault, the latter exactly where
+    /// its history was full, and 4 [`TermFault::Profile`] where it gave a unit of the wide profile: that breaks the
+    /// turn off. It isn't counted, and the bits that wait stay.
     pub fn turn(&mut self, link: u8, octet: u8) -> Result<Turn, TermFault>
         requires { link < length self.old.links }
         ensures turns { IfOk result (λ turn. (unit : Option SignalUnit)

@@ -111,12 +111,12 @@ impl Door for SetDoor {
 
     ghost faults = { λ door. door.faults };
 
-    ghost is_same = { λ a b. GoesOn a.link b.link a.set b.set a.heard b.heard };
+    ghost is_same = { λ a b. GoesOn a.link b.link a.set b.set a.heard b.heard a.faults b.faults };
 
-    ghost same_self = { λ door. stands_still door.link door.set door.heard };
+    ghost same_self = { λ door. stands_still door.link door.set door.heard door.faults };
 
     ghost same_on = { λ first second third a b. goes_further first.link second.link third.link first.set
-        second.set third.set first.heard second.heard third.heard a b };
+        second.set third.set first.heard second.heard third.heard first.faults second.faults third.faults a b };
 
     fn link(&self) -> u8 {
         self.link

@@ -29,6 +29,6 @@ returns-in-Err-clause-breaks g c = λ working.
     let slot = c.new-slot.ensures in
     let broke = c.in-Err.ensures.turns in
     fails_by c.args.octet c.in-Err.fault c.args.works.now.taken c.turn_tapped.new.self.taken c.args.works.now.inside
-    c.turn_tapped.new.self.inside c.args.door.now.set.history c.turn_tapped.new.door.set.history c.turn_tapped.new.line.octet
-    c.turn_tapped.new.line.is_taken _ (broke.breaks working)
+    c.turn_tapped.new.self.inside _ _ c.args.door.now.set c.turn_tapped.new.door.set _ _ c.turn_tapped.new.line.octet
+    c.turn_tapped.new.line.is_taken _ (broke.breaks working) broke.door
     (ap (λ (b : Bool). if b then c.new-slot.result.octet ∷ [] else []) slot.taken) (broke.same ∙ slot.octet)

@@ -2,6 +2,7 @@ use Rattle.std.proofs.Common.{refl, subst, ap, ◌≡◌, ◌++◌, List}
 use Rattle.link_term.specs.declared.fault.TermFault.TheVariants.{Failed}
 use Rattle.set_events.specs.declared.history.Entry.{Entry}
 use Rattle.term_bench.specs.Ends.{AtLink, at_link}
+use Rattle.term_bench.specs.Going.{stands_still}
 use Rattle.term_bench.specs.Turns.{BreaksOff, TakesTurn}
 use Rattle.term_bench.specs.declared.door.SetDoor.{SetDoor}
 use Rattle.term_bench.specs.declared.turn.Turn.{Turn}
@@ -32,15 +33,19 @@ returns-in-Ok-clause-turns g c =
       took.3,
     )
 
+pub returns-then-self-ge-MOST_TURNS-clause-same : goal.returns-then-self-ge-MOST_TURNS-clause-same
+returns-then-self-ge-MOST_TURNS-clause-same g c =
+    let door = c.args.door.now in stands_still door.link door.set door.heard door.faults
+
 pub returns-in-Err-clause-breaks : goal.returns-in-Err-clause-breaks
 returns-in-Err-clause-breaks g c =
-    let was = c.args.door.now.set.history in
-    let made = c.take_octet.new.door.set.history in
+    let was = c.args.door.now.set in
+    let set = c.take_octet.new.door.set in
     let now : AtLink = at_link c.take_octet.new.works c.self.inside.bits c.self.inside.waiting c.self.inside.counts in
-    subst (λ (at : AtLink). (entries : List Entry) × (made ≡ was ++ entries) × BreaksOff c.args.octet c.in-Err.fault at now entries)
+    subst (λ (at : AtLink). (entries : List Entry) × (set.history ≡ was.history ++ entries) × BreaksOff c.args.octet c.in-Err.fault was set at now entries)
     c.self.view_is
     (breaks_off c.args.octet c.in-Err.fault c.self.inside.works c.take_octet.new.works c.self.inside.bits c.self.inside.waiting
-    c.self.inside.counts was made c.self.inside.works.failed refl
+    c.self.inside.counts was set c.self.inside.works.failed refl
     (λ failed. let nothing = c.in-Err.ensures.failed failed in (
       (let told = nothing.0 in let same : c.in-Err.fault ≡ Failed = cc told in same),
       nothing.1,
