@@ -23,9 +23,12 @@ write_ends-requires-clause-few g c =
     )
 
 pub returns-clause-text : goal.returns-clause-text
-returns-clause-text g c =
-    (c.ended-time.result, c.ended-time.ensures, runs_of c.args.traffic.now c.args.asked.0 c.args.asked.1 _ c.in-Ok.ends.near.items c.deref.result.now c.in-Ok.ends.far.items c.deref-2.result.now c.write_ends.result _ _
-    refl refl refl c.deref.ensures.value c.deref-2.ensures.value c.in-Ok.ensures.near c.in-Ok.ensures.far c.write_ends.ensures.text)
+returns-clause-text g c = (
+  c.ended-time.result,
+  c.ended-time.ensures,
+  runs_of c.args.traffic.now c.args.asked.0 c.args.asked.1 _ c.in-Ok.ends.near.items c.deref.result.now c.in-Ok.ends.far.items c.deref-2.result.now c.write_ends.result _ _
+      refl refl refl c.deref.ensures.value c.deref-2.ensures.value c.in-Ok.ensures.near c.in-Ok.ensures.far c.write_ends.ensures.text,
+)
 
 pub returns-clause-fault : goal.returns-clause-fault
 returns-clause-fault g c =
