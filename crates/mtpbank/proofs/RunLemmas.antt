@@ -1,11 +1,8 @@
 -- What a subcommand answers, with a fault of either text.
-use Rattle.std.specs.Prelude.{MatchResult}
-use Rattle.std.proofs.Common.{◌≡◌, ◌∙◌, refl, ap, subst, ℕ, List, Option, Some, None, Result, Ok, Err, IfSome}
+use Rattle.std.proofs.Common.{◌∙◌, refl, ap, ℕ, List, Option, Some, None, Result, Ok, Err, IfSome}
 use Rattle.text_printing.specs.declared.fault.Fault.{Fault}
 use Rattle.text_printing.specs.declared.fault.Fault.TheVariants.{Input, Memory, Read, Long, Write}
 use Rattle.text_printing.specs.Printing.{Printed, IsBegun, Prints}
-use Rattle.text_run.specs.Running.{CutsOff, WritesText}
-use Rattle.text_run.specs.declared.fault.RunFault.{RunFault}
 use Rattle.mtpbank.specs.declared.running.TextFault.{TextFault}
 use Rattle.mtpbank.specs.Running.{IsText, with_fault}
 
@@ -27,12 +24,3 @@ pub prints_all : {F : Type 0} (IsIt : List ℕ → Printed F → Type 0) (of : F
     → IfSome left (λ input. Prints ran (IsIt input) old new) → IfSome left (λ input. Prints (with_fault of ran) (IsText (IsIt input) of) old new)
 prints_all IsIt of ran None old new p = p
 prints_all IsIt of ran (Some input) old new p = prints (IsIt input) of ran old new p
-
--- a run in which no message is missing wrote its text
-pub ends_well : {T : Type 0} (IsIt : Option T → List ℕ → Type 0) (result : Result (Option T) (Fault RunFault)) (old new : Option (List ℕ))
-    → WritesText IsIt result old new → (missing : Option T) → result ≡ Ok missing → missing ≡ None → (text : List ℕ) × IsIt None text
-ends_well {T} IsIt result old new runs missing is none = (
-  runs.printed,
-  subst (λ (m : Option T). IsIt m runs.printed) none
-      (subst (λ (r : Result (Option T) (Fault RunFault)). MatchResult r (λ (answer : Option T). IsIt answer runs.printed) (CutsOff IsIt runs.printed)) is runs.ends),
-)

@@ -1,14 +1,8 @@
 -- WHAT EACH SUBCOMMAND MAKES OF AN INPUT.
-use Rattle.std.specs.Prelude.{◌≡◌, ◌≢◌, ◌⊎◌, ◌^◌, ℕ, List, None, Result, Ok, Err}
+use Rattle.std.specs.Prelude.{◌≡◌, ◌^◌, ℕ, List, Result, Ok, Err}
 use Rattle.std.specs.Option.{option_map}
 use Rattle.mtpbank_words.specs.declared.words.Words.{Words}
 use Rattle.mtpbank_words.specs.declared.words.Words.TheVariants.{Units, Play, PlayExplained, Decode, DecodeWide, Capture, Ladder, Audit, Terminal, TerminalExplained, HistoryOfA, HistoryOfB, Run}
-use Rattle.clap.specs.Values.{kind_of}
-use Rattle.clap.specs.declared.error.kind.ErrorKind.TheVariants.{DisplayHelp, DisplayVersion}
-use Rattle.mtpbank_words.specs.declared.run_words.RunWords.{RunWords}
-use Rattle.mtpbank_words.specs.declared.words.WordsFault.{WordsFault}
-use Rattle.mtpbank_words.specs.declared.words.WordsFault.TheVariants.{NoMemory, Words as WrongWords, Link, Said}
-use Rattle.text_run.specs.Asked.{IsTextAsked}
 use Rattle.text_printing.specs.declared.fault.Fault.{Fault}
 use Rattle.text_printing.specs.declared.fault.Fault.TheVariants.{Input, Memory, Read, Long, Write}
 use Rattle.text_printing.specs.Printing.{Printed}
@@ -72,27 +66,3 @@ with_fault of (Err Memory) = Err Memory
 with_fault of (Err Read) = Err Read
 with_fault of (Err Long) = Err Long
 with_fault of (Err Write) = Err Write
-
--- THE STATUS.
-
--- of what was done: 0, or 1 for a fault
-abbrev pub IsDone : ℕ → Type 0
-IsDone status = (status ≡ 0) ⊎ (status ≡ 1)
-
--- of a run: 0 only where it came to its end, as the words ask, with all that it printed, and no message is missing
-pub record EndsRun (words : RunWords) (status : ℕ) : Type 0 where
-  pub done : IsDone status
-  pub well : status ≡ 0 → (text : List ℕ) × IsTextAsked words None text
-
--- of wrong words: 2; what was asked to be shown may have been, or a fault
-abbrev pub EndsRefused : WordsFault → ℕ → Type 0
-EndsRefused NoMemory status = status ≡ 1
-EndsRefused (WrongWords error) status =
-    kind_of error ≢ DisplayHelp → kind_of error ≢ DisplayVersion → status ≡ 2
-EndsRefused Link status = status ≡ 2
-EndsRefused (Said said) status = status ≡ 2
-
-abbrev pub EndsAsAsked : Result Words WordsFault → ℕ → Type 0
-EndsAsAsked (Ok (Run words)) status = EndsRun words status
-EndsAsAsked (Ok words) status = IsDone status
-EndsAsAsked (Err fault) status = EndsRefused fault status

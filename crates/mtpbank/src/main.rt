@@ -8,27 +8,32 @@
 //! link set, whose lines are elsewhere. `run` reads nothing: it runs two banks in threads, and prints what they came to.
 #![tactic(auto)]
 
-ghost use Rattle.std.specs.Prelude.{◌≡◌, ◌≢◌, ◌⊎◌, Ok, Err, IsOk, IsErr};
+ghost use Rattle.std.specs.Prelude.{◌≡◌, ◌≢◌, IfErr, IfOk, IfSome, IsErr, IsOk, MatchOption, codes};
+ghost use Rattle.std.specs.IoError.{error_kind};
 ghost use Rattle.std.specs.Process.{exit_status};
+ghost use Rattle.std.specs.Vec.Iter.{into_iter_items};
 ghost use Rattle.clap.specs.Values.{kind_of};
-ghost use Rattle.mtpbank_words.specs.declared.words.Words.TheVariants.{Run};
-ghost use Rattle.mtpbank_words.specs.declared.words.WordsFault.TheVariants.{NoMemory, Words as WrongWords, Link, Said};
-ghost use Rattle.mtpbank.specs.Running.{EndsAsAsked, EndsRun, IsDone, ReadsInput};
-ghost use Rattle.clap.specs.declared.error.kind.ErrorKind.TheVariants.{DisplayHelp, DisplayVersion};
+ghost use Rattle.mtpbank_words.specs.CommandLine.{IsAsked, Refuses, words_in};
+ghost use Rattle.mtpbank.specs.Ending.{EndsAsAsked, EndsReading, EndsRun, EndsSaid, EndsWrong, IsDone, IsShown, Tells, status_of};
+ghost use Rattle.mtpbank.specs.Running.{ReadsInput};
 
+mod ending;
 mod running;
+mod telling;
 
+use ending::{Ended, Page, carry_out, carry_out_run};
 use mtpbank_words::{RunWords, Words, WordsFault, asked_by, not_unicode};
-use running::run;
+use std::alloc::Global;
+use std::env::Args;
 use std::fmt::Display;
 use std::io;
-use std::io::{Eprint, IsTerminal, Print};
+use std::io::{Eprint, ErrorKind, IsTerminal, Print};
 use std::process::ExitCode;
 use std::sync::Wait;
 use std::thread::Threads;
 use std::time::Clock;
-use text_printing::{Fault, Reader, Writer};
-use text_run::RunFault;
+use telling::say_line;
+use text_printing::{Reader, Sink, Source, Writer};
 
 /// The status of a fault of input, memory, reading or writing.
 const FAULT: u8 = 1;
@@ -37,76 +42,111 @@ const FAULT: u8 = 1;
 const WRONG: u8 = 2;
 
 fn main(rt: HostRuntime) -> ExitCode {
-    answered(&rt, &rt, asked(&rt))
+    let asked = asked(rt.alloc(), std::env::args(&rt));
+    let mut source = Reader::new(rt.reader());
+    let mut sink = Writer::new(io::writer(&rt));
+    answered(&rt, &rt, asked, &mut source, &mut sink)
 }
 
 /// Does what the words ask for, or tells what is wrong with them. What starts threads is the same runtime.
-fn answered<R: Threads + Wait + Clock + Eprint + Copy + Send + Sync + 'static>(
+fn answered<
+    R: Threads + Wait + Clock + Eprint + Copy + Send + Sync + 'static,
+    S: Source,
+    W: Sink + Page,
+>(
     rt: &HostRuntime,
     threads: &R,
     asked: Result<Words, WordsFault>,
+    source: &mut S,
+    sink: &mut W,
 ) -> ExitCode
-    ensures { EndsAsAsked asked (exit_status result) }
+    ensures { EndsAsAsked asked (S.left source.old) (W.written sink.old) (W.written sink.new) (W.unread sink.new) (exit_status result) }
 {
     match asked {
-        Ok(Words::Run(words)) => ran(rt, threads, &words),
-        Ok(words) => done(rt, words),
+        Ok(Words::Run(words)) => ran(rt, threads, &words, sink),
+        Ok(words) => done(rt, words, source, sink),
         Err(WordsFault::Words(error)) => said(rt, &error),
         Err(WordsFault::Link) => linkless(rt),
-        Err(WordsFault::Said(text)) => advised(rt, &text),
+        Err(WordsFault::Said(text)) => advised(&mut Writer::new(rt.stderr()), &text),
         Err(WordsFault::NoMemory) => told(rt, "fault memory"),
     }
 }
 
-/// What the words of the command line ask for.
-fn asked(rt: &HostRuntime) -> Result<Words, WordsFault> {
-    let alloc = rt.alloc();
-    let args = match std::env::args(rt) {
-        Ok(args) => args,
-        Err(error) if error.kind() == io::ErrorKind::InvalidData => return Err(not_unicode(alloc)),
+/// What the arguments of the command line ask for, the first of which is the program's own name, where they can be had.
+fn asked(alloc: Global, args: io::Result<Args>) -> Result<Words, WordsFault>
+    ensures asked { IfOk args (λ all. IfOk result (λ found. IsAsked found (words_in (into_iter_items all)))) }
+    ensures refused { IfOk args (λ all. IfErr result (λ fault. Refuses fault (words_in (into_iter_items all)))) }
+{
+    let all = match args {
+        Ok(all) => all,
+        Err(error) if error.kind() == ErrorKind::InvalidData => return Err(not_unicode(alloc)),
         Err(_) => return Err(WordsFault::NoMemory),
     };
-    let given: Vec<String> = args.collect(alloc)?;
+    let mut given: Vec<String> = Vec::new(alloc);
+    for word in all {
+        if given.push(word).is_err() {
+            return Err(WordsFault::NoMemory);
+        }
+    }
     asked_by(alloc, &given)
 }
 
 /// Says what is wrong with the words, on standard error and with status 2, or what they ask to be shown.
 fn said(rt: &HostRuntime, error: &clap::Error) -> ExitCode
-    ensures wrong { kind_of error.now ≢ DisplayHelp → kind_of error.now ≢ DisplayVersion
-        → exit_status result ≡ 2 }
+    ensures wrong { EndsWrong (kind_of error.now) (exit_status result) }
+    ensures shown { IsShown (kind_of error.now) → IsDone (exit_status result) }
 {
-    match error.print(rt) {
+    let printed = error.print(rt);
+    after(rt, error, printed)
+}
+
+/// Ends where what the library says was printed, or couldn't be: with 2 for wrong words, which are told by that; with 0 for
+/// what was asked to be shown, or with 1 and a line on standard error.
+fn after(rt: &HostRuntime, error: &clap::Error, printed: io::Result<()>) -> ExitCode
+    ensures { EndsSaid (kind_of error.now) (IsOk printed) (IsErr printed) (exit_status result) }
+{
+    match printed {
         Err(why) if !error.use_stderr() => unshown(rt, &why),
         _ => status_of(error),
     }
 }
 
-/// What was asked to be shown couldn't be: status 1, and a line on standard error, unless standard output is a pipe that
-/// nobody reads any more.
+/// What was asked to be shown couldn't be: status 1, and a line on standard error, if one is told.
 fn unshown(rt: &HostRuntime, why: &io::Error) -> ExitCode
     ensures { exit_status result ≡ 1 }
 {
-    if why.kind() == io::ErrorKind::BrokenPipe {
-        return ExitCode::from(FAULT);
+    match told_of_unshown(why) {
+        Some(line) => told(rt, line),
+        None => ExitCode::from(FAULT),
     }
-    told(rt, "fault write")
 }
 
-/// Says on standard error, with status 2, what is wrong with the words.
-fn advised(rt: &HostRuntime, text: &[u8]) -> ExitCode
-    ensures { exit_status result ≡ 2 }
+/// The line that tells why a text couldn't be shown; none where nobody reads any more what is printed.
+fn told_of_unshown(why: &io::Error) -> Option<&'static str>
+    ensures { MatchOption result (error_kind why.now ≡ ErrorKind.BrokenPipe)
+        (λ line. (error_kind why.now ≢ ErrorKind.BrokenPipe) × (line.now ≡ codes "fault write")) }
+{
+    if why.kind() == ErrorKind::BrokenPipe {
+        None
+    } else {
+        Some("fault write")
+    }
+}
+
+/// Says what is wrong with the words, with status 2.
+fn advised<W: Sink>(errors: &mut W, text: &[u8]) -> ExitCode
+    ensures status { exit_status result ≡ 2 }
+    ensures told { Tells text.now (W.written errors.old) (W.written errors.new) (W.failures errors.old) (W.failures errors.new) }
 {
     // where nobody hears it, the status still tells it
-    let _ = rt.stderr().write_all(text);
-    let _ = rt.stderr().write_all(b"\n");
+    let _ = say_line(errors, text);
     ExitCode::from(WRONG)
 }
 
 /// 2 for wrong words, 0 for what was asked to be shown.
 fn status_of(error: &clap::Error) -> ExitCode
-    ensures wrong { kind_of error.now ≢ DisplayHelp → kind_of error.now ≢ DisplayVersion
-        → exit_status result ≡ 2 }
-    ensures shown { kind_of error.now ≡ DisplayHelp → exit_status result ≡ 0 }
+    ensures wrong { EndsWrong (kind_of error.now) (exit_status result) }
+    ensures shown { IsShown (kind_of error.now) → exit_status result ≡ 0 }
 {
     ExitCode::from(error.exit_code() as u8)
 }
@@ -120,44 +160,45 @@ fn linkless(rt: &HostRuntime) -> ExitCode
     ExitCode::from(WRONG)
 }
 
-/// Does what the words ask for, with standard input and output.
-fn done(rt: &HostRuntime, words: Words) -> ExitCode
+/// Does what the words ask for, with this input and output.
+fn done<S: Source, W: Sink + Page>(
+    rt: &HostRuntime,
+    words: Words,
+    source: &mut S,
+    sink: &mut W,
+) -> ExitCode
     requires reads { ReadsInput words }
-    ensures { IsDone (exit_status result) }
+    ensures done { IsDone (exit_status result) }
+    ensures text { IfSome (S.left source.old) (λ input. EndsReading words input
+        (W.written sink.old) (W.written sink.new) (W.unread sink.new) (exit_status result)) }
 {
-    let mut source = Reader::new(rt.reader());
-    let mut sink = Writer::new(io::writer(rt));
-    let ran = run(rt.alloc(), words, &mut source, &mut sink);
-    ended(rt, ran, sink.is_closed())
+    let end = carry_out(rt.alloc(), words, source, sink);
+    ended(rt, end)
 }
 
 /// Runs two banks in threads, and prints what they came to; meanwhile it shows how far they are, where somebody looks.
-fn ran<R: Threads + Wait + Clock + Eprint + Copy + Send + Sync + 'static>(
+fn ran<R: Threads + Wait + Clock + Eprint + Copy + Send + Sync + 'static, W: Sink + Page>(
     rt: &HostRuntime,
     threads: &R,
     words: &RunWords,
+    sink: &mut W,
 ) -> ExitCode
-    ensures { EndsRun words.now (exit_status result) }
+    ensures { EndsRun words.now (W.written sink.old) (W.written sink.new) (W.unread sink.new) (exit_status result) }
 {
     let shows = rt.stderr().is_terminal();
-    let mut sink = Writer::new(io::writer(rt));
-    match text_run::run(threads, rt.alloc(), words, shows, &mut sink) {
-        Ok(Some(missing)) => told(rt, missing),
-        Ok(None) => ended::<RunFault>(rt, Ok(()), sink.is_closed()),
-        Err(fault) => ended(rt, Err(fault), sink.is_closed()),
-    }
+    let end = carry_out_run(threads, rt.alloc(), words, shows, sink);
+    ended(rt, end)
 }
 
-/// Ends with status 0, or with 1 and the fault in a line on standard error; no line where standard output is a pipe that
-/// nobody reads any more.
-fn ended<T: Display + Drop>(rt: &HostRuntime, ran: Result<(), Fault<T>>, unread: bool) -> ExitCode
-    ensures done { IsOk ran → exit_status result ≡ 0 }
-    ensures fault { IsErr ran → exit_status result ≡ 1 }
+/// Ends with status 0, or with 1 and what is told in a line on standard error.
+fn ended<T: Display + Drop>(rt: &HostRuntime, end: Ended<T>) -> ExitCode
+    ensures status { exit_status result ≡ status_of end }
+    ensures done { IsDone (exit_status result) }
 {
-    match ran {
-        Ok(()) => ExitCode::SUCCESS,
-        Err(_) if unread => ExitCode::from(FAULT),
-        Err(fault) => told(rt, fault),
+    match end {
+        Ended::Well => ExitCode::SUCCESS,
+        Ended::Told(it) => told(rt, it),
+        Ended::Untold => ExitCode::from(FAULT),
     }
 }
 

@@ -172,3 +172,10 @@ IsKind kind (Said said) = ⊥
 -- an error about a word that isn't taken, or about a value
 abbrev pub IsAboutWord : ErrorKind → Type 0
 IsAboutWord kind = (kind ≡ UnknownArgument) ⊎ (kind ≡ InvalidValue)
+
+-- all that can be said is said: an error about a word is the library's alone only where there is no advice
+abbrev pub SaysAll : WordsFault → List (List ℕ) → Type 0
+SaysAll NoMemory words = Unit {0}
+SaysAll (WrongWords error) words = IsAboutWord (kind_of error) → advice words ≡ None
+SaysAll Link words = Unit {0}
+SaysAll (Said said) words = advice words ≡ Some said.items

@@ -7,7 +7,7 @@ ghost use Rattle.clap.specs.Simple.{new_shape, shape_of};
 ghost use Rattle.clap.specs.declared.builder.command.Command.{out-Command};
 ghost use Rattle.clap.specs.Values.{kind_of};
 ghost use Rattle.mtpbank_words.specs.CommandLine.{program, without_subcommands, decode_shape, history_shape, play_shape, terminal_shape, words_in};
-ghost use Rattle.mtpbank_words.specs.CommandLine.{AreWrong, IsAboutWord, IsAsked, IsFound, IsKind, IsNotFound, IsRefused, IsWord, Refuses};
+ghost use Rattle.mtpbank_words.specs.CommandLine.{AreWrong, IsAboutWord, IsAsked, IsFound, IsKind, IsNotFound, IsRefused, IsWord, Refuses, SaysAll};
 
 use super::advice::advise;
 use super::help::{
@@ -84,10 +84,12 @@ impl From<AllocError> for WordsFault {
 /// out of its range or no method; 3 [`WordsFault::Link`] only where all these are right, but the link that is to fail
 /// isn't below the links. 4 [`WordsFault::Said`] as 2, of words of which more can be said than the library does
 /// (`specs/Advice.antt`): a word behind a subcommand that reads standard input, an end that is none, and behind `run` a
-/// value out of its range or a word that is no option.
+/// value out of its range or a word that is no option. An error about a word or a value comes as 2 only where there is
+/// nothing more to say.
 pub fn words_of<S: AsStr>(alloc: Global, words: &[S]) -> Result<Words, WordsFault>
     ensures asked { IfOk result (λ found. IsAsked found (map S.text words.now)) }
     ensures refused { IfErr result (λ fault. Refuses fault (map S.text words.now)) }
+    ensures advised { IfErr result (λ fault. SaysAll fault (map S.text words.now)) }
 {
     let mut command = command(alloc)?;
     match found_by(&mut command, words) {
@@ -98,7 +100,8 @@ pub fn words_of<S: AsStr>(alloc: Global, words: &[S]) -> Result<Words, WordsFaul
 
 /// What is said of these words, for which the library has this error: advice where they are wrong and there is some.
 fn with_advice<S: AsStr>(alloc: Global, words: &[S], error: clap::Error) -> WordsFault
-    ensures { IsRefused (map S.text words.now) → Refuses result (map S.text words.now) }
+    ensures refused { IsRefused (map S.text words.now) → Refuses result (map S.text words.now) }
+    ensures advised { SaysAll result (map S.text words.now) }
 {
     if !is_about_a_word(error.kind()) {
         return WordsFault::Words(error);
@@ -122,6 +125,7 @@ fn is_about_a_word(kind: ErrorKind) -> bool
 pub fn asked_by(alloc: Global, args: &[String]) -> Result<Words, WordsFault>
     ensures asked { IfOk result (λ found. IsAsked found (words_in args.now)) }
     ensures refused { IfErr result (λ fault. Refuses fault (words_in args.now)) }
+    ensures advised { IfErr result (λ fault. SaysAll fault (words_in args.now)) }
 {
     if args.is_empty() {
         return words_of(alloc, args);
@@ -262,10 +266,11 @@ fn refusal(alloc: Global) -> Result<clap::Error, AllocError>
     command(alloc)?.error(ErrorKind::InvalidSubcommand, "a word isn't Unicode")
 }
 
-/// Want of memory is no fault of the words.
+/// Want of memory is no fault of the words; any other error of the library is told as it is.
 fn fault_of(error: clap::Error) -> WordsFault
     ensures wrong { AreWrong result → kind_of error ≢ OutOfMemory }
     ensures kind { IsKind (kind_of error) result }
+    ensures told { kind_of error ≢ OutOfMemory → result ≡ WordsFault.Words error }
 {
     match error.kind() {
         ErrorKind::OutOfMemory => WordsFault::NoMemory,
