@@ -19,6 +19,11 @@ pub record IsRested (up : Bool) (out_since turn : ℕ) : Type 0 where
   pub out : up ≡ false
   pub long : out_since + 6400 ≤ turn
 
+-- A USER IS HELD UP where as many of its messages are on their way as may be (own): 64 of those that it offered, but for
+-- those that were heard or given up
+pub record IsHeldUp (offered heard given_up : ℕ) : Type 0 where
+  pub full : heard + given_up + 64 ≤ offered
+
 -- ALL IS DONE where the link that was to fail came back, if one was, all was offered, and each message is finished
 pub record IsAllDone (came_back offered_all : Bool) (unfinished : ℕ) : Type 0 where
   pub back : came_back ≡ true

@@ -111,6 +111,7 @@ impl LinkManager for PaceGate {
             return Instruction::Run;
         };
         if self.is_near() {
+            watch.give_up(counts.discarded);
             self.settle(watch, open_in(counts));
         }
         if watch.is_over(self.is_near()) {
