@@ -1,5 +1,8 @@
 //! What the gates of two banks know of sets whose links they manage.
 
+ghost use Rattle.std.specs.Prelude.{◌≡◌, ◌↔◌, IsTrue};
+ghost use Rattle.bank_traffic.specs.Managing.{IsAllDone, IsRested};
+
 use super::asked::Traffic;
 use std::alloc::{AllocError, Global};
 use std::sync::atomic::{AtomicBool, AtomicU64, Ordering};
@@ -68,8 +71,11 @@ impl LinkWatch {
 
     /// Whether it rested long enough in this turn to be started again.
     pub(crate) fn is_rested(&self, turn: u64) -> bool {
-        !self.up.load(Ordering::SeqCst)
-            && turn.saturating_sub(self.out_since.load(Ordering::SeqCst)) >= REST
+        is_rested(
+            self.up.load(Ordering::SeqCst),
+            self.out_since.load(Ordering::SeqCst),
+            turn,
+        )
     }
 }
 
@@ -218,10 +224,24 @@ impl SetWatch {
             Some(link) => link.came_back.load(Ordering::SeqCst),
             None => true,
         };
-        if came_back && open == 0 && self.has_offered_all(messages) {
+        if is_all_done(came_back, self.has_offered_all(messages), open) {
             self.quiet.store(true, Ordering::SeqCst);
         }
     }
+}
+
+/// Whether a link, up or out of service since that turn, rested long enough in this one to be started again.
+fn is_rested(up: bool, out_since: u64, turn: u64) -> bool
+    ensures { IsTrue result ↔ IsRested up out_since turn }
+{
+    !up && turn.saturating_sub(out_since) >= REST
+}
+
+/// Whether all is done: the link that was to fail came back, all was offered, and so many messages aren't finished.
+fn is_all_done(came_back: bool, offered_all: bool, unfinished: u64) -> bool
+    ensures { IsTrue result ↔ IsAllDone came_back offered_all unfinished }
+{
+    came_back && offered_all && unfinished == 0
 }
 
 fn counters(alloc: Global, many: u16) -> Result<Vec<AtomicU64>, AllocError> {
