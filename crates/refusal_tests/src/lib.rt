@@ -9,6 +9,8 @@
 #![tactic(auto)]
 
 #[cfg(test)]
+mod allocator;
+#[cfg(test)]
 mod lines;
 #[cfg(test)]
 mod script;
