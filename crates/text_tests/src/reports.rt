@@ -94,11 +94,9 @@ fn all_is_delivered_in_order_through_noise(rt: HostRuntime) -> Result<(), Fail> 
 /// The only link fails under traffic: what waits on it is given up, and users go on once it's back, so nothing waits at the end.
 #[test]
 fn users_go_on_where_messages_were_given_up(rt: HostRuntime) -> Result<(), Fail> {
-    let traffic = Traffic {
-        links: 1,
-        fail: Some(0),
-        ..traffic_of(600, 1_000_000, None)
-    };
+    let mut traffic = traffic_of(600, 1_000_000, None);
+    traffic.links = 1;
+    traffic.fail = Some(0);
     let (text, missing) = reported(&rt, rt.alloc(), &traffic)?;
     holds(
         missing.is_some()
