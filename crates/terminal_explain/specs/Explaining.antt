@@ -1,5 +1,5 @@
 -- THE TEXT OF `terminal` with explanations: what is said of a line that ends it with a fault.
-use Rattle.std.specs.Prelude.{◌≡◌, ℕ, Bool, List, Option, Some, None, Result, Ok, Err, unwrap_or}
+use Rattle.std.specs.Prelude.{◌≡◌, ℕ, Bool, List, [], ◌++◌, codes, Option, Some, None, Result, Ok, Err, unwrap_or}
 use Rattle.std.specs.Option.{option_map}
 use Rattle.script_mistakes.specs.declared.lines.Blame.{Blame}
 use Rattle.script_mistakes.specs.Blaming.{blamed_opening}
@@ -13,6 +13,7 @@ use Rattle.text_printing.specs.Printing.{Printed}
 use Rattle.terminal_text.specs.declared.fault.TerminalFault.{TerminalFault}
 use Rattle.terminal_text.specs.declared.fault.TerminalFault.TheVariants.{Text, Step}
 use Rattle.terminal_text.specs.declared.open_end.End.{End as EndState}
+use Rattle.terminal_text.specs.Faults.{fault_text}
 use Rattle.terminal_text.specs.Text.{MayRead, TerminalOutcome, at_the_end, second_in}
 use Rattle.text_lines.specs.declared.flaw.LineFlaw.TheVariants.{Long}
 use Rattle.text_lines.specs.Lines.{LineOutcome, prints, stops}
@@ -22,6 +23,14 @@ use Rattle.text_lines.specs.Talks.{IsTalkText, TalkRules}
 pub record Explained : Type 0 where
   pub fault : TerminalFault
   pub told : Option (List ℕ)
+
+-- what is shown of it: the fault's own text, and on lines behind it those that explain it
+abbrev pub lines_behind : Option (List ℕ) → List ℕ
+lines_behind None = []
+lines_behind (Some lines) = codes "\n" ++ lines
+
+abbrev pub explained_text : Explained → List ℕ
+explained_text e = fault_text e.fault ++ lines_behind e.told
 
 -- the word at fault of a line that can't be read: a first line is refused as a script's is, or since it's wide
 abbrev pub unread : Option Bool → List ℕ → Option Blame

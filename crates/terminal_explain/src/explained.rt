@@ -1,6 +1,7 @@
 //! An end under way, whose faults are explained.
-ghost use Rattle.std.specs.Prelude.{◌≡◌, IfOk, string_bytes};
+ghost use Rattle.std.specs.Prelude.{◌≡◌, IfOk, MatchResult, string_bytes};
 ghost use Rattle.std.specs.Option.{option_map};
+ghost use Rattle.text_printing.specs.declared.fault.Stop.TheVariants.{Input, Memory};
 ghost use Rattle.terminal_explain.specs.Explaining.{said, unread, IsExplanation};
 ghost use Rattle.script_mistakes.specs.Showing.{explanation};
 
@@ -86,7 +87,7 @@ impl TalkText for Explaining {
     }
 }
 
-/// The fault of this line with its explanation, or want of memory.
+/// The fault of this line with its explanation, or want of memory for that.
 fn explained(
     alloc: Global,
     is_second: Option<bool>,
@@ -95,7 +96,19 @@ fn explained(
 ) -> Stop<ExplainedTerminalFault>
     ensures { IsExplanation result is_second text.now fault }
 {
-    match explain_fault(alloc, is_second, text, fault) {
+    told_with(explain_fault(alloc, is_second, text, fault), fault)
+}
+
+/// The fault with the lines that explain it, if memory was there for them.
+fn told_with(
+    told: Result<Option<String>, AllocError>,
+    fault: TerminalFault,
+) -> Stop<ExplainedTerminalFault>
+    ensures { MatchResult told
+        (λ lines. result ≡ Input (record { fault = fault; told = option_map string_bytes lines }))
+        (λ want. result ≡ Memory) }
+{
+    match told {
         Ok(told) => Stop::Input(ExplainedTerminalFault { fault, told }),
         Err(want) => Stop::from(want),
     }

@@ -25,6 +25,11 @@ impl Model for ExplainedTerminalFault {
 }
 
 impl Display for ExplainedTerminalFault {
+    ghost use Rattle.std.specs.Prelude.{Some};
+    ghost use Rattle.terminal_explain.specs.Explaining.{explained_text};
+
+    ghost output = { λ e. Some (explained_text e) };
+
     fn fmt<W: fmt::Write>(&self, f: &mut fmt::Formatter<W>) -> fmt::Result {
         let fault = self.fault;
         match &self.told {

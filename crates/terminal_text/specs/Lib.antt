@@ -5,3 +5,4 @@ pub mod One
 pub mod Rows
 pub mod Hearing
 pub mod Looking
+pub mod Faults
