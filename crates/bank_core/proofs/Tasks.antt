@@ -1,6 +1,7 @@
 -- The tasks of a bank's sets, one after another.
-use Rattle.std.proofs.Common.{◌≡◌, ◌∙◌, ap, sym, ℕ, List, [], ◌∷◌, ◌++◌, append_assoc, map, drop}
+use Rattle.std.proofs.Common.{◌≡◌, ◌∙◌, ap, sym, subst, ℕ, List, [], ◌∷◌, ◌++◌, append_assoc, map, drop, All}
 use Rattle.std.proofs.lemmas.List.{map-append}
+use Rattle.std.proofs.lemmas.List.Elements.{All-push}
 use Rattle.set_events.specs.declared.config.SetConfig.{SetConfig}
 use Rattle.bank_crew.specs.declared.plan.Plan.{Plan}
 use Rattle.bank_crew.specs.Ends.{Task, task_of}
@@ -23,3 +24,7 @@ pub put_one : {W : Type 0} (task : W → Task) (works works' : List W) (work : W
 put_one {W} task works works' work rest whole left more left_is whole_is =
     ap (λ (ws : List W). map task ws ++ rest) more ∙ ap (λ (ts : List Task). ts ++ rest) (map-append task works (work ∷ []))
     ∙ append_assoc (map task works) (task work ∷ []) rest ∙ ap (λ (ts : List Task). map task works ++ ts) (sym left_is) ∙ whole_is
+
+-- what holds of all works and of one more
+pub all_pushed : {W : Type 0} (P : W → Type 0) (works works' : List W) (work : W) → works' ≡ works ++ work ∷ [] → All P works → P work → All P works'
+all_pushed P works works' work more all p = subst (All P) (sym more) (All-push P works work all p)

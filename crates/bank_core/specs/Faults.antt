@@ -21,6 +21,15 @@ fault_number Wide = 6
 abbrev pub IsNarrow : SetConfig → Type 0
 IsNarrow config = config.profile ≡ Narrow
 
+-- why no bank is made
+abbrev pub CannotMake : BankFault → Type 0
+CannotMake NoMemory = Unit {0}
+CannotMake Users = Unit {0}
+CannotMake Sets = Unit {0}
+CannotMake NoThread = ⊥
+CannotMake Unclosed = ⊥
+CannotMake Wide = Unit {0}
+
 -- why a set that was started doesn't come to its end
 abbrev pub EndsEarly : BankFault → Type 0
 EndsEarly NoMemory = Unit {0}

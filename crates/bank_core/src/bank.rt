@@ -3,7 +3,7 @@ ghost use Rattle.std.specs.Prelude.{◌≡◌, ◌<◌, ◌≤◌, ◌↔◌, �
 ghost use Rattle.bank_crew.specs.Ends.{task_of};
 ghost use Rattle.bank_crew.specs.Jobs.{duty_of};
 ghost use Rattle.bank_core.specs.Ends.{tasks_from};
-ghost use Rattle.bank_core.specs.Faults.{CannotStart, EndsEarly, IsNarrow};
+ghost use Rattle.bank_core.specs.Faults.{CannotMake, CannotStart, EndsEarly, IsNarrow};
 ghost use Rattle.bank_core.specs.Room.{IsRoomFor};
 
 use super::fault::BankFault;
@@ -57,6 +57,7 @@ impl Bank {
         ensures wide { (result ≡ Err BankFault.Wide) ↔ (((0 < users) × (users ≤ 64))
             × ((0 < length configs.now) × (length configs.now ≤ 16))
             × (All IsNarrow configs.now → ⊥)) }
+        ensures fault { IfErr result CannotMake }
     {
         if users == 0 || users > MOST_USERS {
             return Err(BankFault::Users);
@@ -117,6 +118,7 @@ impl Bank {
         ensures works { IfOk result (λ works. map (λ work. task_of work.config work.users (vec_len work.lines) (map duty_of work.jobs.items) work.assignment.plan) works.items
             ≡ tasks_from self.users plan self.configs
             (map (λ of_set. vec_len of_set) lines.items) (map (λ of_set. map duty_of of_set.items) jobs.items)) }
+        ensures numbers { IfOk result (λ works. All (λ work. work.assignment.set ≡ work.config.set) works.items) }
         ensures fault { IfErr result CannotStart }
     {
         match Vec::with_capacity(self.alloc, self.configs.len()) {
@@ -138,6 +140,7 @@ impl Bank {
         ensures works { IfOk result (λ works. map (λ work. task_of work.config work.users (vec_len work.lines) (map duty_of work.jobs.items) work.assignment.plan) works.items
             ≡ tasks_from self.users plan self.configs
             (map (λ of_set. vec_len of_set) lines.items) (map (λ of_set. map duty_of of_set.items) jobs.items)) }
+        ensures numbers { IfOk result (λ works. All (λ work. work.assignment.set ≡ work.config.set) works.items) }
         ensures fault { IfErr result CannotStart }
     {
         let Bank {

@@ -5,6 +5,7 @@ pub mod Configs
 pub mod Counting
 pub mod Doing
 pub mod Done
+pub mod Due
 pub mod Ending
 pub mod Keeping
 pub mod Marking

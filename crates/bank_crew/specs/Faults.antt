@@ -19,3 +19,9 @@ abbrev pub CannotStart : CrewFault → Type 0
 CannotStart CrewFault.NoMemory = Unit {0}
 CannotStart CrewFault.NoThread = Unit {0}
 CannotStart CrewFault.Unclosed = ⊥
+
+-- WHY A THREAD WASN'T STARTED: for want of memory where a stack was refused, and of a thread where one was given
+abbrev pub IsUnstarted : Type 0 → Type 0 → CrewFault → Type 0
+IsUnstarted refused given CrewFault.NoMemory = refused
+IsUnstarted refused given CrewFault.NoThread = given
+IsUnstarted refused given CrewFault.Unclosed = ⊥

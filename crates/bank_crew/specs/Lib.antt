@@ -1,3 +1,4 @@
+pub mod Awaiting
 pub mod Carrying
 pub mod Counts
 pub mod Doors

@@ -17,6 +17,8 @@ use Rattle.bank_crew.specs.declared.plan.Plan.{Plan}
 use Rattle.bank_crew.specs.declared.report.ShiftReport.{ShiftReport}
 use Rattle.bank_crew.specs.Carrying.{carried_in}
 use Rattle.bank_crew.specs.Counts.{answered_in, reported}
+use Rattle.bank_crew.specs.declared.questions.Awaited.{Awaited}
+use Rattle.bank_crew.specs.Awaiting.{AsksWhere}
 use Rattle.bank_crew.specs.Managing.{are_marks, of_turns}
 use Rattle.line_tape.specs.Taping.{IsTape}
 use Rattle.bank_crew.specs.Seats.{AreCalls}
@@ -83,22 +85,29 @@ instructed instruction t = record t { inside = told_by instruction t.inside }
 abbrev pub Slice : Instruction → ℕ → Result TermReport TermFault → Standing → Standing → Type 0
 Slice instruction turns ended before after = Turns turns ended (instructed instruction before) after
 
--- slices one after another, each of at least one turn and all together of so many at most; what they counted is added to
--- what was counted before, up to the first that a fault broke off
-pub data SlicesFrom : ℕ → TermReport → Result TermReport TermFault → Standing → Standing → Type 0 where
-  no_more : (most : ℕ) (counted : TermReport) (at : Standing) → SlicesFrom most counted (Ok counted) at at
+-- slices one after another, each of at least one turn and behind what may be instructed; what they counted is added to
+-- what was counted before, up to the first that a fault broke off. They end behind End, or when so many turns were taken
+pub data SlicesFrom (may : Instruction → Type 0) : ℕ → TermReport → Result TermReport TermFault → Standing → Standing → Type 0 where
+  all_taken : (counted : TermReport) (at : Standing) → SlicesFrom may 0 counted (Ok counted) at at
+  told_end : (most : ℕ) (counted : TermReport) (at : Standing) → may Instruction.End → SlicesFrom may most counted (Ok counted) at at
   broken_off : (most turns : ℕ) (instruction : Instruction) (counted : TermReport) (fault : TermFault) (before after : Standing)
-      → turns ≤ most → Slice instruction turns (Err fault) before after → SlicesFrom most counted (Err fault) before after
+      → may instruction → turns ≤ most → Slice instruction turns (Err fault) before after
+      → SlicesFrom may most counted (Err fault) before after
   one_more : (most turns : ℕ) (instruction : Instruction) (counted report : TermReport) (ended : Result TermReport TermFault)
-      (before between after : Standing) → 0 < turns → turns ≤ most → Slice instruction turns (Ok report) before between
-      → SlicesFrom (most - turns) (both counted report) ended between after → SlicesFrom most counted ended before after
+      (before between after : Standing) → may instruction → 0 < turns → turns ≤ most
+      → Slice instruction turns (Ok report) before between
+      → SlicesFrom may (most - turns) (both counted report) ended between after → SlicesFrom may most counted ended before after
 
 abbrev pub no_turns : TermReport
 no_turns = record { turns = 0; sent = 0; good = 0; bad = 0; sixteen = 0; cause = 0 }
 
--- SLICES of turns
+-- SLICES of turns, behind what may be instructed
+abbrev pub SlicesBy : (Instruction → Type 0) → ℕ → Result TermReport TermFault → Standing → Standing → Type 0
+SlicesBy may turns = SlicesFrom may turns no_turns
+
+-- and behind whatever was: nothing is promised of who manages links
 abbrev pub Slices : ℕ → Result TermReport TermFault → Standing → Standing → Type 0
-Slices turns = SlicesFrom turns no_turns
+Slices = SlicesBy (λ instruction. Unit {0})
 
 -- THE TURNS OF A SHIFT: by slices where links are managed
 abbrev pub TurnsWhere : Option Managed → Bool → ℕ → Result TermReport TermFault → Standing → Standing → Type 0
@@ -113,7 +122,8 @@ abbrev pub fresh : ℕ → Timers → Seen → Standing
 fresh link timers line = standing [] (told Start (told Emergency (opened link timers))) [] [] line
 
 -- A SHIFT: the turns of the plan over some line left these entries, or, where links are managed, those of them that level
--- 3 didn't ask for; what is reported of both; and the tape of what they put into the line, of which nothing was put before
+-- 3 didn't ask for, and it asked each of its own when it was due, whatever is awaited after; what is reported of both; and
+-- the tape of what they put into the line, of which nothing was put before
 pub record DoesShift (plan : Plan) (link : ℕ) (ended : Result ShiftReport TermFault) (made : List Entry) : Type 0 where
   pub line : Seen
   pub after : Standing
@@ -121,6 +131,8 @@ pub record DoesShift (plan : Plan) (link : ℕ) (ended : Result ShiftReport Term
   pub turns : TurnsOf plan link counts (fresh link plan.timers line) after
   pub marks : List ℕ
   pub marks_are : are_marks link made marks ≡ true
+  pub awaited : Awaited
+  pub asks : AsksWhere plan.managed link made marks awaited
   pub made_is : of_turns plan.managed marks made ≡ after.made
   pub none_put : line.put ≡ []
   pub tape : Option (List ℕ)

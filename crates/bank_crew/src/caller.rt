@@ -4,6 +4,7 @@ ghost use Rattle.set_events.specs.Lent.{HasFitUnit, event_in};
 ghost use Rattle.set_events.specs.Owners.{IsOwn};
 ghost use Rattle.set_events.specs.declared.event.Actor.TheVariants.{User, Terminal};
 ghost use Rattle.set_events.specs.declared.event.Event.TheVariants.{Offer, Take, Find};
+ghost use Rattle.set_shared.specs.Asking.{IsFull};
 ghost use Rattle.bank_crew.specs.Jobs.{Calls};
 ghost use Rattle.bank_crew.specs.Seats.{AreAll};
 
@@ -131,6 +132,7 @@ impl<O: Opening> Caller<O, UserSeat<O>> {
     ) -> Result<Answer, SetFault>
         ensures who { self.new.seat.who ≡ self.old.seat.who }
         ensures calls { Calls self.old.seat.who (Offer octets.now) result self.old.all self.new.all }
+        ensures exhausted { result ≡ Err SetFault.Exhausted → IsFull O.settings }
     {
         let answered = set.offer(rt, &mut self.seat, octets);
         self.forget(rt, set);
@@ -141,6 +143,7 @@ impl<O: Opening> Caller<O, UserSeat<O>> {
     pub(crate) fn take<R: Wait>(&mut self, rt: &R, set: &LinkSet<O>) -> Result<Answer, SetFault>
         ensures who { self.new.seat.who ≡ self.old.seat.who }
         ensures calls { Calls self.old.seat.who Take result self.old.all self.new.all }
+        ensures exhausted { result ≡ Err SetFault.Exhausted → IsFull O.settings }
     {
         let answered = set.take(rt, &mut self.seat);
         self.forget(rt, set);
@@ -156,6 +159,7 @@ impl<O: Opening> Caller<O, UserSeat<O>> {
     ) -> Result<Answer, SetFault>
         ensures who { self.new.seat.who ≡ self.old.seat.who }
         ensures calls { Calls self.old.seat.who (Find number) result self.old.all self.new.all }
+        ensures exhausted { result ≡ Err SetFault.Exhausted → IsFull O.settings }
     {
         let answered = set.find(rt, &mut self.seat, number);
         self.forget(rt, set);
@@ -187,6 +191,7 @@ impl<O: Opening> Caller<O, TermSeat<O>> {
         ensures ok { OnOk result (self.new.all ≡ self.old.all
             ++ record { who = self.old.seat.who; event = event_in event.now; answer = reply.new } ∷ []) }
         ensures err { OnErr result (self.new.all ≡ self.old.all) }
+        ensures exhausted { result ≡ Err SetFault.Exhausted → IsFull O.settings }
     {
         let answered = set.term_step_held(rt, &mut self.seat, event, reply, held);
         self.forget(rt, set);

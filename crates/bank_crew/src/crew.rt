@@ -1,7 +1,7 @@
 //! The threads of one set.
 ghost use Rattle.std.specs.Prelude.{◌≡◌, ◌++◌, [], ◌∷◌, map, IfErr, IfOk, OnOk};
 ghost use Rattle.std.specs.Vec.Iter.{into_iter_items};
-ghost use Rattle.bank_crew.specs.Faults.{CannotStart};
+ghost use Rattle.bank_crew.specs.Faults.{CannotStart, IsUnstarted};
 ghost use Rattle.bank_crew.specs.Keeping.{AreKept, GathersTerminals, KeepsJob};
 ghost use Rattle.bank_crew.specs.declared.fault.CrewFault.TheVariants.{NoMemory, NoThread};
 
@@ -59,8 +59,9 @@ struct Back<S: Drop, T: Drop> {
 }
 
 impl<O: Opening> Crew<O> {
-    /// Waits for the users and then for the terminals, whose seats stand before the idle ones.
+    /// Waits for the users and then for the terminals, whose seats stand before the idle ones. A fault is want of memory.
     pub(crate) fn gather<R: Threads>(self, rt: &R, alloc: Global) -> Result<Gathered<O>, CrewFault>
+        ensures fault { IfErr result (λ fault. fault ≡ NoMemory) }
         ensures users { IfOk result (λ all. AreKept KeepsJob
             (map (λ thread. thread.promise) self.users.items) all.users.items all.user_ends.items) }
         ensures terminals { IfOk result (λ all. GathersTerminals
@@ -122,12 +123,59 @@ pub(crate) fn start_thread<
     ensures fault { IfErr result CannotStart }
 {
     threads.reserve(1)?;
+    let started = spawn(scope, &alloc, promise, work)?;
+    threads.push_reserved(started);
+    Ok(())
+}
+
+/// Starts a thread that does this until it ends. Where it can't be started a stack is asked for, to tell why.
+///
+/// Faults: [`CrewFault::NoMemory`] where that was refused, [`CrewFault::NoThread`] where it was given.
+fn spawn<
+    's,
+    'e: 's,
+    A: Stacks,
+    P: Promise<T> + Drop,
+    T: Send + Drop + 's,
+    F: FnOnce() -> T + Send + Drop + 's,
+>(
+    scope: &'s Scope<'s, &'e ()>,
+    stacks: &A,
+    promise: P,
+    work: F,
+) -> Result<PromisedHandle<T, P>, CrewFault>
+    requires runs { F.pre work }
+    requires keeps { (end : T) → F.post work end → P.kept_by promise end }
+    ensures started { IfOk result (λ thread. thread.promise ≡ promise) }
+    ensures fault { IfErr result (IsUnstarted (A.refuses stacks.now) (A.gives stacks.now)) }
+{
     match scope.spawn_with(promise, work) {
-        Ok(started) => {
-            threads.push_reserved(started);
-            Ok(())
-        }
-        Err(_) => Err(why_unstarted(&ask_for_stack(alloc))),
+        Ok(started) => Ok(started),
+        Err(_) => Err(why_unstarted(&stacks.ask())),
+    }
+}
+
+/// Who is asked for the memory of a thread's stack.
+trait Stacks {
+    /// One may be refused.
+    ghost refuses: { Self → Type 0 };
+
+    /// One may be given.
+    ghost gives: { Self → Type 0 };
+
+    /// Asks for one, which is given back with the answer.
+    fn ask(&self) -> Result<Vec<u8>, AllocError>
+        ensures refused { IfErr result (λ _. refuses self.now) }
+        ensures given { IfOk result (λ _. gives self.now) };
+}
+
+impl Stacks for Global {
+    ghost refuses = { λ alloc. Unit {0} };
+
+    ghost gives = { λ alloc. Unit {0} };
+
+    fn ask(&self) -> Result<Vec<u8>, AllocError> {
+        ask_for_stack(*self)
     }
 }
 

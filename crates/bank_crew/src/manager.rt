@@ -1,5 +1,7 @@
 //! Who manages the links of sets, and holds their users up.
+ghost use Rattle.std.specs.Prelude.{◌≡◌, false};
 
+use super::assignment::Assignment;
 use link_term::{Gate, OpenGate};
 use set_events::{AnswerRef, Counts, EventRef};
 
@@ -45,4 +47,38 @@ impl LinkManager for OpenGate {
     }
 
     fn ended(&self, _set: u16, _link: u8) {}
+}
+
+/// Who manages the links of one set. What it may answer stands for what it did, so that its word is kept.
+pub(crate) trait SetManager {
+    ghost use Rattle.std.specs.Prelude.{ℕ};
+    ghost use Rattle.bank_crew.specs.declared.manager.Instruction.{Instruction};
+
+    /// The terminal of this link may be instructed so.
+    ghost may: { Self → ℕ → Instruction → Type 0 };
+
+    /// This user may be held up no more.
+    ghost lets: { Self → ℕ → Type 0 };
+
+    /// What the terminal of this link is told now.
+    fn instruct(&self, link: u8, counts: &Counts) -> Instruction
+        ensures { may self.now link result };
+
+    /// Whether this user is to wait yet.
+    fn holds_up(&self, user: u16) -> bool
+        ensures { result ≡ false → lets self.now user };
+}
+
+impl<G: LinkManager> SetManager for Assignment<G> {
+    ghost may = { λ assignment link instruction. Unit {0} };
+
+    ghost lets = { λ assignment user. Unit {0} };
+
+    fn instruct(&self, link: u8, counts: &Counts) -> Instruction {
+        self.gate.instruct(self.set, link, counts)
+    }
+
+    fn holds_up(&self, user: u16) -> bool {
+        self.gate.holds_up(self.set, user)
+    }
 }

@@ -1,6 +1,8 @@
 //! What level 3 asks of a set when time has passed, counted by what a link's terminal asks (Q.704 5.7, 6.4).
-ghost use Rattle.std.specs.Prelude.{◌≡◌, true, IfSome};
-ghost use Rattle.set_events.specs.Lent.{HasFitUnit, event_in};
+ghost use Rattle.std.specs.Prelude.{◌≡◌, true, IfSome, option_map};
+ghost use Rattle.set_events.specs.Lent.{HasFitUnit, answer_in, event_in};
+ghost use Rattle.set_events.specs.declared.event.Event.TheVariants.{Up};
+ghost use Rattle.bank_crew.specs.Awaiting.{asked_behind, awaited_behind, awaited_by, is_unsettled};
 ghost use Rattle.bank_crew.specs.Managing.{is_question};
 
 use super::report::{tells_up, was_done};
@@ -34,7 +36,11 @@ impl Awaited {
         event: &EventRef<'_>,
         answer: &AnswerRef<'_>,
     ) -> Option<EventRef<'static>>
-        ensures { IfSome result (λ question. (is_question link (event_in question) ≡ true) × HasFitUnit question) }
+        ensures awaited { self.new ≡ awaited_behind link (event_in event.now) (answer_in answer.now) self.old }
+        ensures asked { option_map event_in result
+            ≡ asked_behind link (event_in event.now) (answer_in answer.now) self.old }
+        ensures question { IfSome result (λ question.
+            (is_question link (event_in question) ≡ true) × HasFitUnit question) }
     {
         if tells_up(link, event) {
             return self.behind_up(link, answer);
@@ -48,8 +54,12 @@ impl Awaited {
         Some(EventRef::BackTimeout { link })
     }
 
+    /// What is asked behind this answer to an Up of the link.
     fn behind_up(&mut self, link: u8, answer: &AnswerRef<'_>) -> Option<EventRef<'static>>
-        ensures { IfSome result (λ question. (is_question link (event_in question) ≡ true) × HasFitUnit question) }
+        ensures awaited { self.new ≡ awaited_behind link (Up link) (answer_in answer.now) self.old }
+        ensures asked { option_map event_in result ≡ asked_behind link (Up link) (answer_in answer.now) self.old }
+        ensures question { IfSome result (λ question.
+            (is_question link (event_in question) ≡ true) × HasFitUnit question) }
     {
         if was_done(answer) {
             *self = Awaited::NOTHING;
@@ -67,7 +77,9 @@ impl Awaited {
     }
 
     /// The set gave this answer to a question.
-    pub(crate) fn hear(&mut self, question: &EventRef<'_>, answer: &AnswerRef<'_>) {
+    pub(crate) fn hear(&mut self, question: &EventRef<'_>, answer: &AnswerRef<'_>)
+        ensures { self.new ≡ awaited_by (event_in question.now) (answer_in answer.now) self.old }
+    {
         if let (EventRef::Restore { .. }, AnswerRef::Done) = (question, answer) {
             self.units = Some(0);
         }
@@ -75,7 +87,9 @@ impl Awaited {
 }
 
 /// Whether the set refused, since it isn't settled what the far end has.
-fn is_unsettled(answer: &AnswerRef<'_>) -> bool {
+fn is_unsettled(answer: &AnswerRef<'_>) -> bool
+    ensures { result ≡ is_unsettled (answer_in answer.now) }
+{
     matches!(
         answer,
         AnswerRef::Refused {

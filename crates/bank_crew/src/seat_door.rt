@@ -1,10 +1,11 @@
 //! The door of a set that threads share.
 ghost use Rattle.std.specs.Prelude.{◌≡◌, true, [], ◌∷◌, ◌++◌, IsSome, OnOk, OnErr};
-ghost use Rattle.set_events.specs.Lent.{HasFitUnit, event_in};
+ghost use Rattle.set_events.specs.Lent.{HasFitUnit, answer_in, event_in};
 ghost use Rattle.set_events.specs.Owners.{IsOwn};
 ghost use Rattle.bank_crew.specs.Carrying.{carried_in};
 ghost use Rattle.bank_crew.specs.Counts.{answered_in};
-ghost use Rattle.bank_crew.specs.Doors.{IsMarked};
+ghost use Rattle.bank_crew.specs.Awaiting.{nothing};
+ghost use Rattle.bank_crew.specs.Doors.{Asked, Follows, IsMarked, IsRefused, Unasked};
 ghost use Rattle.bank_crew.specs.Managing.{is_mark, is_question, of_turns};
 ghost use Rattle.bank_crew.specs.Seats.{AreAll, link_in};
 
@@ -26,7 +27,7 @@ use std::sync::Wait;
 /// A terminal's own seat at a set that threads share. Each step takes the set's lock, passes the gate's `inside`
 /// under it, and leaves its entry among the seat's receipts. Those are all that this door made, but for what the seat
 /// forgot, and for what level 3 asks between two steps where links are managed: that streams come back to a link that came
-/// up, and that an answer didn't come. The lock may be waited for.
+/// up, and that an answer didn't come, each when it's due and only then. The lock may be waited for.
 #[derive(Drop)]
 pub struct SeatDoor<'a, O: Opening, R: Wait, G: LinkManager> {
     rt: &'a R,
@@ -51,9 +52,9 @@ impl<'a, O: Opening, R: Wait, G: LinkManager> Model for SeatDoor<'a, O, R, G> {
 
     ghost use Rattle.bank_crew.specs.Doors.{IsCounted, door_state};
 
-    ghost view = { λ d. door_state d.caller d.marks d.faults d.managed };
+    ghost view = { λ d. door_state d.caller d.marks d.faults d.managed d.awaited };
 
-    ghost invariant = { λ d. IsCounted (door_state d.caller d.marks d.faults d.managed) d.answered d.carried };
+    ghost invariant = { λ d. IsCounted (door_state d.caller d.marks d.faults d.managed d.awaited) d.answered d.carried };
 }
 
 impl<'a, O: Opening, R: Wait, G: LinkManager> SeatDoor<'a, O, R, G> {
@@ -77,6 +78,7 @@ impl<'a, O: Opening, R: Wait, G: LinkManager> SeatDoor<'a, O, R, G> {
         ensures marks { result.marks ≡ [] }
         ensures faults { result.faults ≡ [] }
         ensures managed { result.managed ≡ managed }
+        ensures awaited { result.awaited ≡ nothing }
     {
         SeatDoor {
             rt,
@@ -130,6 +132,7 @@ impl<'a, O: Opening, R: Wait, G: LinkManager> SeatDoor<'a, O, R, G> {
         ensures who { self.new.seat.who ≡ self.old.seat.who }
         ensures faults { self.new.faults ≡ self.old.faults }
         ensures managed { self.new.managed ≡ self.old.managed }
+        ensures awaited { self.new.awaited ≡ self.old.awaited }
     {
         let link = self.caller.link();
         let (set, gate) = (self.number, self.gate);
@@ -144,8 +147,12 @@ impl<'a, O: Opening, R: Wait, G: LinkManager> SeatDoor<'a, O, R, G> {
         Ok(())
     }
 
-    /// Level 3 hears this answer, and may ask something of its own; it's no matter that memory is refused to that.
-    fn follow(&mut self, event: &EventRef<'_>, answer: &AnswerRef<'_>)
+    /// Level 3 hears this answer, and asks what is due behind it, unless memory is refused to that.
+    fn follow(&mut self, event: &EventRef<'_>, answer: &AnswerRef<'_>) -> Result<(), SetFault>
+        ensures ok { OnOk result (Follows self.old.managed (event_in event.now) (answer_in answer.now)
+            self.old self.new) }
+        ensures err { OnErr result (IsRefused self.old.managed (event_in event.now) (answer_in answer.now)
+            self.old self.new) }
         ensures made { of_turns self.new.managed self.new.marks self.new.all
             ≡ of_turns self.old.managed self.old.marks self.old.all }
         ensures who { self.new.seat.who ≡ self.old.seat.who }
@@ -153,23 +160,25 @@ impl<'a, O: Opening, R: Wait, G: LinkManager> SeatDoor<'a, O, R, G> {
         ensures managed { self.new.managed ≡ self.old.managed }
     {
         let Some(_) = self.managed else {
-            return;
+            return Ok(());
         };
         let link = self.caller.link();
         self.gate.answered(self.number, link, event, answer);
         let Some(question) = self.awaited.question(link, event, answer) else {
-            return;
+            return Ok(());
         };
-        self.ask_more(&question);
+        self.ask_more(&question)
     }
 
     /// Asks what level 3 asks of its own. That is seldom, so the answer's place is made for it, in this function's own
     /// frame.
     #[inline(never)]
-    fn ask_more(&mut self, question: &EventRef<'_>)
+    fn ask_more(&mut self, question: &EventRef<'_>) -> Result<(), SetFault>
         requires managed { IsSome self.old.managed }
         requires question { is_question (link_in self.old.seat.who) (event_in question.now) ≡ true }
         requires fits { HasFitUnit question.now }
+        ensures asked { OnOk result (Asked (event_in question.now) self.old self.new) }
+        ensures unasked { OnErr result (Unasked self.old self.new) }
         ensures made { of_turns self.new.managed self.new.marks self.new.all
             ≡ of_turns self.old.managed self.old.marks self.old.all }
         ensures who { self.new.seat.who ≡ self.old.seat.who }
@@ -183,8 +192,9 @@ impl<'a, O: Opening, R: Wait, G: LinkManager> SeatDoor<'a, O, R, G> {
                 let answer = reply.get();
                 self.gate.answered(self.number, link, question, &answer);
                 self.awaited.hear(question, &answer);
+                Ok(())
             }
-            Err(_) => {}
+            Err(fault) => Err(fault),
         }
     }
 }
@@ -192,6 +202,7 @@ impl<'a, O: Opening, R: Wait, G: LinkManager> SeatDoor<'a, O, R, G> {
 impl<'a, O: Opening, R: Wait, G: LinkManager> Door for SeatDoor<'a, O, R, G> {
     ghost use Rattle.std.specs.Prelude.{◌≡◌, refl};
     ghost use Rattle.std.proofs.Common.{◌∙◌};
+    ghost use Rattle.bank_crew.specs.Doors.{AskedDue};
     ghost use Rattle.bank_crew.specs.Managing.{of_turns};
     ghost use Rattle.bank_crew.specs.Seats.{link_in};
 
@@ -201,11 +212,11 @@ impl<'a, O: Opening, R: Wait, G: LinkManager> Door for SeatDoor<'a, O, R, G> {
 
     ghost faults = { λ door. door.faults };
 
-    ghost is_same = { λ first second. second.managed ≡ first.managed };
+    ghost is_same = { λ first second. (second.managed ≡ first.managed) × (AskedDue first → AskedDue second) };
 
-    ghost same_self = { λ door. refl };
+    ghost same_self = { λ door. (refl, λ due. due) };
 
-    ghost same_on = { λ first second third a b. b ∙ a };
+    ghost same_on = { λ first second third a b. (b.0 ∙ a.0, λ due. b.1 (a.1 due)) };
 
     fn link(&self) -> u8 {
         self.caller.link()
@@ -216,7 +227,8 @@ impl<'a, O: Opening, R: Wait, G: LinkManager> Door for SeatDoor<'a, O, R, G> {
         self.caller.link();
         match self.ask(event, reply, 1) {
             Ok(()) => {
-                self.follow(event, &reply.get());
+                // it's no matter that memory is refused to level 3
+                let _ = self.follow(event, &reply.get());
                 self.pauses
                     .pause(self.rt, self.set, self.caller.share().calls);
                 Ok(())

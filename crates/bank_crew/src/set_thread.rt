@@ -1,5 +1,5 @@
 //! What a set's thread does.
-ghost use Rattle.std.specs.Prelude.{◌≡◌, ◌<◌, ◌≤◌, ◌↔◌, [], length, map, vec_len, All, IsTrue, IfOk};
+ghost use Rattle.std.specs.Prelude.{◌≡◌, ◌<◌, ◌≤◌, ◌↔◌, [], length, map, vec_len, All, IsTrue, IfErr, IfOk};
 ghost use Rattle.std.specs.Vec.Iter.{into_iter_items};
 ghost use Rattle.set_events.specs.declared.event.Actor.TheVariants.{User, Terminal};
 ghost use Rattle.set_ledger.specs.Ending.{IsFaithful};
@@ -8,7 +8,9 @@ ghost use Rattle.set_ledger.specs.Totals.{AreParts};
 ghost use Rattle.set_events.specs.declared.config.SetConfig.{SetConfig};
 ghost use Rattle.set_model.specs.State.{settings_of};
 ghost use Rattle.bank_crew.specs.Ends.{IsClosedAs, IsDone, IsEndOf, task_of};
+ghost use Rattle.bank_crew.specs.Faults.{CannotStart};
 ghost use Rattle.bank_crew.specs.Jobs.{duty_of};
+ghost use Rattle.bank_crew.specs.declared.fault.CrewFault.TheVariants.{Unclosed};
 ghost use Rattle.bank_crew.specs.Keeping.{AreNew, AreTerminals, AreUsers, PromiseJobs, PromiseShifts};
 
 use super::assignment::Assignment;
@@ -129,6 +131,7 @@ fn end_set<O: Opening>(set: LinkSet<O>, gathered: Gathered<O>) -> Result<SetEnd,
         × All (IsFaithful end.closed.base.books end.closed.history.items) gathered.users.items) }
     ensures terminals { IfOk result (λ end. All (IsFaithful end.closed.base.books end.closed.history.items) gathered.terminals.items) }
     ensures reports { IfOk result (λ end. end.reports.items ≡ gathered.reports.items) }
+    ensures unclosed { IfErr result (λ fault. fault ≡ Unclosed) }
 {
     let Gathered {
         users,
@@ -153,6 +156,7 @@ fn close<O: Opening>(
     ensures closed { (config : SetConfig) → settings_of config ≡ O.settings → IfOk result (IsClosedAs config) }
     ensures users { IfOk result (λ closed. All (IsFaithful closed.base.books closed.history.items) users.items) }
     ensures terminals { IfOk result (λ closed. All (IsFaithful closed.base.books closed.history.items) terminals.items) }
+    ensures unclosed { IfErr result (λ fault. fault ≡ Unclosed) }
 {
     match set.close(users, terminals) {
         Ok(closed) => Ok(closed),
@@ -180,6 +184,7 @@ fn run_seats<
         AreUsers (length seats.users.items) (map duty_of seats.jobs.items) all.users.items all.user_ends.items) }
     ensures terminals { IfOk result (λ all. AreTerminals (vec_len seats.lines) (length seats.terminals.items)
         assignment.now.plan all.terminals.items all.reports.items) }
+    ensures fault { IfErr result CannotStart }
 {
     thread::scope(
         thread::scope_env(),
@@ -191,6 +196,7 @@ fn run_seats<
                 AreUsers (length seats.users.items) (map duty_of seats.jobs.items) all.users.items all.user_ends.items) }
             ensures terminals { IfOk result (λ all. AreTerminals (vec_len seats.lines) (length seats.terminals.items)
                 assignment.entry.now.plan all.terminals.items all.reports.items) }
+            ensures fault { IfErr result CannotStart }
         {
             match start_all(scope, rt, alloc, set, seats, assignment) {
                 Ok(crew) => crew.gather(rt, alloc),
@@ -222,6 +228,7 @@ fn start_all<
         (map (λ thread. thread.promise) crew.users.items)) }
     ensures terminals { IfOk result (λ crew. PromiseShifts (vec_len seats.lines) (length seats.terminals.items)
         assignment.now.plan (map (λ thread. thread.promise) crew.terminals.items) (into_iter_items crew.idle)) }
+    ensures fault { IfErr result CannotStart }
 {
     let Seats {
         users,
@@ -257,8 +264,9 @@ fn start_terminals<
     assignment: &'s Assignment<G>,
 ) -> Result<Vec<TermThread<O>>, CrewFault>
     requires { AreNew Terminal 0 (into_iter_items seats.old) }
-    ensures { IfOk result (λ threads. PromiseShifts (vec_len lines) (length (into_iter_items seats.old))
+    ensures shifts { IfOk result (λ threads. PromiseShifts (vec_len lines) (length (into_iter_items seats.old))
         assignment.now.plan (map (λ thread. thread.promise) threads.items) (into_iter_items seats.new)) }
+    ensures fault { IfErr result CannotStart }
 {
     let mut threads = Vec::new(alloc);
     let mut lines = lines.into_iter();
@@ -300,8 +308,9 @@ fn start_users<
     assignment: &'s Assignment<G>,
 ) -> Result<Vec<UserThread<O>>, CrewFault>
     requires { AreNew User 0 seats.items }
-    ensures { IfOk result (λ threads. PromiseJobs (length seats.items) (map duty_of jobs.items)
+    ensures jobs { IfOk result (λ threads. PromiseJobs (length seats.items) (map duty_of jobs.items)
         (map (λ thread. thread.promise) threads.items)) }
+    ensures fault { IfErr result CannotStart }
 {
     let mut seats = seats.into_iter();
     let mut jobs = jobs.into_iter();

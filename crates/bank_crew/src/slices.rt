@@ -1,10 +1,9 @@
 //! A terminal's turns where its link is managed.
 ghost use Rattle.std.specs.Prelude.{◌≡◌, ◌≤◌, ◌^◌, false, OnOk};
 ghost use Rattle.link_term.specs.Standing.{stands};
-ghost use Rattle.bank_crew.specs.Shifts.{Slice, Slices};
+ghost use Rattle.bank_crew.specs.Shifts.{Slice, SlicesBy};
 
-use super::assignment::Assignment;
-use super::manager::{Instruction, LinkManager};
+use super::manager::{Instruction, SetManager};
 use super::terminal::{one_report, so_many};
 use line_ring::Line;
 use link_term::{Command, Door, Gate, TermFault, TermReport, Terminal};
@@ -14,27 +13,26 @@ use std::sync::Wait;
 /// How many turns a managed terminal takes before it's told anew what to do.
 const SLICE: u64 = 256;
 
-/// Turns by slices, each behind what the manager instructs, until it ends them, or all turns of the plan were taken.
-pub(crate) fn managed_turns<O: Opening, D: Door, L: Line, T: Gate, G: LinkManager, R: Wait>(
+/// Turns by slices, each behind what is instructed, until that ends them, or so many were taken.
+pub(crate) fn managed_turns<O: Opening, D: Door, L: Line, T: Gate, M: SetManager, R: Wait>(
     rt: &R,
     set: &LinkSet<O>,
-    assignment: &Assignment<G>,
+    manager: &M,
     link: u8,
+    turns: u64,
     terminal: &mut Terminal<D, L, T>,
 ) -> Result<TermReport, TermFault>
     requires failed { terminal.old.failed ≡ false }
-    ensures turns { Slices assignment.now.plan.turns result
+    ensures turns { SlicesBy (M.may manager.now link) turns result
         (stands D.Door L.Line terminal.old) (stands D.Door L.Line terminal.new) }
     ensures number { D.number terminal.new.door ≡ D.number terminal.old.door }
     ensures door { D.is_same terminal.old.door terminal.new.door }
 {
     let mut counted = NO_TURNS;
-    let mut left = assignment.plan.turns;
+    let mut left = turns;
     while left > 0 {
-        let instruction = assignment
-            .gate
-            .instruct(assignment.set, link, &set.counts(rt));
-        if instruction == Instruction::End {
+        let instruction = manager.instruct(link, &set.counts(rt));
+        if let Instruction::End = instruction {
             return Ok(counted);
         }
         let turns = left.min(SLICE);

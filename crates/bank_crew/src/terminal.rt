@@ -111,7 +111,7 @@ fn planned_turns<O: Opening, D: Door, L: Line, T: Gate, G: LinkManager, R: Wait>
 {
     match assignment.plan.managed {
         None => all_turns(terminal, link, &assignment.plan),
-        Some(_) => managed_turns(rt, set, assignment, link, terminal),
+        Some(_) => managed_turns(rt, set, assignment, link, assignment.plan.turns, terminal),
     }
 }
 

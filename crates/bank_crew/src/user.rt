@@ -9,7 +9,7 @@ use super::caller::Caller;
 use super::collecting::collect_often;
 use super::crew::{Ended, UserEnd};
 use super::fault::UserFault;
-use super::manager::LinkManager;
+use super::manager::{LinkManager, SetManager};
 use super::pauses::Pauses;
 use super::plan::Job;
 use super::report::UserReport;
@@ -212,15 +212,22 @@ pub(crate) fn wait_to_call<G: LinkManager, R: Wait + Clock>(
     user: u16,
 ) {
     assignment.gate.user(assignment.set, user);
-    if assignment.plan.managed.is_none() {
-        return;
+    if assignment.plan.managed.is_some() {
+        wait_as_held(rt, assignment, user);
     }
+}
+
+/// Waits as long as this user is held up.
+fn wait_as_held<M: SetManager, R: Wait + Clock>(rt: &R, manager: &M, user: u16)
+    ensures { M.lets manager.now user }
+{
     for _ in rt.forever() {
-        if !assignment.gate.holds_up(assignment.set, user) {
-            break;
+        if !manager.holds_up(user) {
+            return;
         }
         thread::sleep(rt, Duration::from_millis(PAUSE));
     }
+    unreachable!()
 }
 
 /// The number under which an offer was accepted.

@@ -1,3 +1,4 @@
+pub mod Lines
 pub mod Passing
 pub mod Tasks
 pub mod Plans

@@ -1,3 +1,4 @@
+pub mod Managing
 pub mod Noise
 pub mod Opening
 pub mod Sides

@@ -1,6 +1,8 @@
 -- NOISE ON A LINE: what passes of the octets that are put into it.
-use Rattle.std.specs.Prelude.{◌==◌, ◌<◌, nat_lt, ◌+◌, ◌-◌, ◌*◌, ◌%◌, ◌^◌, ℕ, List, [], ◌∷◌, ◌++◌, Option, None, Some, if◌then◌else◌}
+use Rattle.std.specs.Prelude.{◌==◌, ◌<◌, nat_lt, ◌+◌, ◌-◌, ◌*◌, ◌%◌, ◌^◌, ℕ, List, [], ◌∷◌, ◌++◌, map, Option, None, Some, if◌then◌else◌}
+use Rattle.bank_traffic.specs.declared.asked.Traffic.{Traffic}
 use Rattle.bank_traffic.specs.declared.noise.Noise.{Noise}
+use Rattle.bank_traffic.specs.Opening.{numbers_below}
 
 -- a draw behind another: a linear congruential generator modulo 2^32
 abbrev pub drawn : ℕ → ℕ
@@ -40,3 +42,22 @@ noise_behind noise (octet ∷ octets) = noise_behind (behind noise) octets
 abbrev pub every_of : Option ℕ → ℕ
 every_of None = 0
 every_of (Some every) = every
+
+-- THE SEED OF A LINE: the traffic's, and 40,503 more for each line before it, modulo 2^32. The lines of a set are numbered from 32
+-- times its number, two for each link: what end a puts, and then what end b does
+abbrev pub line_number : ℕ → ℕ → ℕ → ℕ
+line_number set link end = set * 32 + link * 2 + end
+
+abbrev pub seed_of : ℕ → ℕ → ℕ
+seed_of seed line = (seed + line * 40503 % 2 ^ 32) % 2 ^ 32
+
+-- the noise on what this end of a link puts, 0 for a and 1 for b
+abbrev pub noise_on : Traffic → ℕ → ℕ → ℕ → Noise
+noise_on traffic set link end = first_noise (every_of traffic.noise) (seed_of traffic.seed (line_number set link end))
+
+-- on what this end of each link of a set puts, and of each set
+abbrev pub set_noises : Traffic → ℕ → ℕ → List Noise
+set_noises traffic end set = map (λ link. noise_on traffic set link end) (numbers_below traffic.links)
+
+abbrev pub all_noises : Traffic → ℕ → List (List Noise)
+all_noises traffic end = map (set_noises traffic end) (numbers_below traffic.sets)

@@ -1,5 +1,8 @@
 //! How the gates of two banks manage their links, and hold users up.
 
+ghost use Rattle.std.specs.Prelude.{◌≡◌};
+ghost use Rattle.bank_traffic.specs.Managing.{open_in, stream_brought};
+
 use super::asked::Traffic;
 use super::pace::{PaceGate, pace_gates};
 use super::watch::SetWatch;
@@ -108,6 +111,7 @@ impl LinkManager for PaceGate {
             return Instruction::Run;
         };
         if self.is_near() {
+            watch.give_up(counts.discarded);
             self.settle(watch, open_in(counts));
         }
         if watch.is_over(self.is_near()) {
@@ -168,7 +172,9 @@ impl PaceGate {
 }
 
 /// How many messages aren't finished.
-fn open_in(counts: &Counts) -> u64 {
+fn open_in(counts: &Counts) -> u64
+    ensures { result ≡ open_in counts.now }
+{
     counts
         .waiting
         .saturating_add(counts.unacked)
@@ -178,7 +184,9 @@ fn open_in(counts: &Counts) -> u64 {
 }
 
 /// The stream of the message that a unit brings.
-fn stream_of(unit: &UnitRef<'_>) -> u8 {
+fn stream_of(unit: &UnitRef<'_>) -> u8
+    ensures { result ≡ stream_brought unit.now }
+{
     match unit {
         UnitRef::Msu { body, .. } => match body.get(4) {
             Some(octet) => *octet / 16,

@@ -1,8 +1,10 @@
 //! What two banks are opened with.
-ghost use Rattle.std.specs.Prelude.{◌≡◌, ◌<◌, ◌≤◌, ◌^◌, ℕ, true, [], ◌∷◌, map, vec_len, IfOk};
+ghost use Rattle.std.specs.Prelude.{◌≡◌, ◌<◌, ◌≤◌, ◌^◌, true, [], ◌∷◌, map, vec_len, IfOk};
+ghost use Rattle.std.specs.List.{AllZip};
 ghost use Rattle.bank_crew.specs.Jobs.{collects, duty_of, takes};
 ghost use Rattle.bank_traffic.specs.Opening.{AreConfigs, body_of, each_set, method_of, near_jobs, numbers_below};
-ghost use Rattle.bank_traffic.specs.Noise.{every_of, first_noise};
+ghost use Rattle.bank_traffic.specs.Noise.{all_noises, noise_on, set_noises};
+ghost use Rattle.line_ring.specs.Rings.{AreJoined};
 ghost use Rattle.bank_traffic.specs.Sides.{duties, line_counts};
 ghost use Rattle.l2_units.specs.declared.profile.Profile.TheVariants.{Narrow};
 ghost use Rattle.set_events.specs.Method.{is_method};
@@ -64,6 +66,12 @@ pub(crate) struct Lines {
 pub(crate) fn lines_of(alloc: Global, traffic: &Traffic) -> Result<Lines, AllocError>
     ensures near { IfOk result (λ lines. line_counts lines.near ≡ each_set traffic.now.sets traffic.now.links) }
     ensures far { IfOk result (λ lines. line_counts lines.far ≡ each_set traffic.now.sets traffic.now.links) }
+    ensures near_noise { IfOk result (λ lines. map (λ of_set. map (λ own. own.first) of_set.items) lines.near.items
+        ≡ all_noises traffic.now 0) }
+    ensures far_noise { IfOk result (λ lines. map (λ of_set. map (λ own. own.first) of_set.items) lines.far.items
+        ≡ all_noises traffic.now 1) }
+    ensures joined { IfOk result (λ lines.
+        AllZip (λ a b. AllZip (λ x y. AreJoined x.line y.line) a.items b.items) lines.near.items lines.far.items) }
 {
     let mut lines = Lines {
         near: Vec::new(alloc),
@@ -86,6 +94,9 @@ type SetLines = Vec<NoisyLine<RingLine>>;
 fn set_lines(alloc: Global, traffic: &Traffic, set: u16) -> Result<(SetLines, SetLines), AllocError>
     ensures near { IfOk result (λ lines. vec_len lines.0 ≡ traffic.now.links) }
     ensures far { IfOk result (λ lines. vec_len lines.1 ≡ traffic.now.links) }
+    ensures near_noise { IfOk result (λ lines. map (λ own. own.first) lines.0.items ≡ set_noises traffic.now 0 set) }
+    ensures far_noise { IfOk result (λ lines. map (λ own. own.first) lines.1.items ≡ set_noises traffic.now 1 set) }
+    ensures joined { IfOk result (λ lines. AllZip (λ a b. AreJoined a.line b.line) lines.0.items lines.1.items) }
 {
     let mut near = Vec::new(alloc);
     let mut far = Vec::new(alloc);
@@ -101,7 +112,7 @@ fn set_lines(alloc: Global, traffic: &Traffic, set: u16) -> Result<(SetLines, Se
 
 /// The noise on what this end of a link puts, 0 for a and 1 for b: each has draws of its own.
 fn noise_of(traffic: &Traffic, set: u16, link: u8, end: u8) -> Noise
-    ensures { (line : ℕ) × (result ≡ first_noise (every_of traffic.now.noise) line) }
+    ensures { result ≡ noise_on traffic.now set link end }
 {
     let line = u32::from(set) * 32 + u32::from(link) * 2 + u32::from(end);
     let seed = traffic.seed.wrapping_add(line.wrapping_mul(40_503));

@@ -1,9 +1,9 @@
 //! Traffic between the ends of sets, for so many turns of their terminals.
-ghost use Rattle.std.specs.Prelude.{◌≡◌, ◌<◌, ◌≤◌, ◌^◌, None, Some, IfOk, IfErr, if◌then◌else◌};
+ghost use Rattle.std.specs.Prelude.{◌≡◌, ◌<◌, ◌≤◌, ◌^◌, None, Some, Ok, IfOk, IfErr, if◌then◌else◌};
 ghost use Rattle.bank_core.specs.Ends.{AreEnds};
 ghost use Rattle.bank_core.specs.Faults.{EndsEarly};
 ghost use Rattle.bank_traffic.specs.Opening.{AreConfigs, AreEndsOf, AreTasks, IsPlan, each_set, far_end, far_jobs, links_managed, method_of, near_end};
-ghost use Rattle.bank_traffic.specs.Sides.{duties, line_counts, tasks_in};
+ghost use Rattle.bank_traffic.specs.Sides.{TellsNearFirst, duties, line_counts, tasks_in};
 
 use super::asked::Traffic;
 use super::management::gates_of;
@@ -249,6 +249,17 @@ fn joined<R: Threads + Wait>(rt: &R, near: Running, far: Running) -> Result<Traf
 {
     let near_ends = near.join(rt);
     let far_ends = far.join(rt);
+    both_of(near_ends, far_ends)
+}
+
+/// What both banks came to; or the fault of the ends a, or else that of the ends b.
+fn both_of(
+    near_ends: Result<Vec<SetEnd>, BankFault>,
+    far_ends: Result<Vec<SetEnd>, BankFault>,
+) -> Result<TrafficEnds, BankFault>
+    ensures ends { IfOk result (λ ends. (near_ends ≡ Ok ends.near) × (far_ends ≡ Ok ends.far)) }
+    ensures fault { IfErr result (TellsNearFirst near_ends far_ends) }
+{
     Ok(TrafficEnds {
         near: near_ends?,
         far: far_ends?,

@@ -1,5 +1,8 @@
 //! What the gates of two banks know of sets whose links they manage.
 
+ghost use Rattle.std.specs.Prelude.{◌≡◌, ◌↔◌, IsTrue};
+ghost use Rattle.bank_traffic.specs.Managing.{IsAllDone, IsHeldUp, IsRested};
+
 use super::asked::Traffic;
 use std::alloc::{AllocError, Global};
 use std::sync::atomic::{AtomicBool, AtomicU64, Ordering};
@@ -68,8 +71,11 @@ impl LinkWatch {
 
     /// Whether it rested long enough in this turn to be started again.
     pub(crate) fn is_rested(&self, turn: u64) -> bool {
-        !self.up.load(Ordering::SeqCst)
-            && turn.saturating_sub(self.out_since.load(Ordering::SeqCst)) >= REST
+        is_rested(
+            self.up.load(Ordering::SeqCst),
+            self.out_since.load(Ordering::SeqCst),
+            turn,
+        )
     }
 }
 
@@ -80,6 +86,8 @@ pub(crate) struct SetWatch {
     links: Vec<LinkWatch>,
     /// The messages of each stream that end b accepted.
     heard: Vec<AtomicU64>,
+    /// The messages of all streams that end a gave up.
+    given_up: AtomicU64,
     /// The calls of each user at end a.
     calls: Vec<AtomicU64>,
     /// The calls of the user at end b.
@@ -102,6 +110,7 @@ impl SetWatch {
         Ok(SetWatch {
             links,
             heard: counters(alloc, 16)?,
+            given_up: AtomicU64::new(0),
             calls: counters(alloc, traffic.users)?,
             takes: AtomicU64::new(0),
             quiet: AtomicBool::new(false),
@@ -114,6 +123,11 @@ impl SetWatch {
     pub(crate) fn at(&self, link: u8, is_near: bool) -> Option<&LinkWatch> {
         let far = if is_near { 0 } else { 1 };
         self.links.get(usize::from(link) * 2 + far)
+    }
+
+    /// End a gave up so many messages until now: no user waits for them.
+    pub(crate) fn give_up(&self, many: u64) {
+        self.given_up.store(many, Ordering::SeqCst);
     }
 
     /// A user is about to call.
@@ -179,7 +193,7 @@ impl SetWatch {
         };
         // it offers a message, and then finds it
         let offered = read(calls).saturating_sub(1) / 2;
-        offered >= read(heard).saturating_add(WINDOW)
+        is_held_up(offered, read(heard), read(&self.given_up))
     }
 
     /// Whether the user at end b is to wait before the call that it's about to make.
@@ -218,10 +232,31 @@ impl SetWatch {
             Some(link) => link.came_back.load(Ordering::SeqCst),
             None => true,
         };
-        if came_back && open == 0 && self.has_offered_all(messages) {
+        if is_all_done(came_back, self.has_offered_all(messages), open) {
             self.quiet.store(true, Ordering::SeqCst);
         }
     }
+}
+
+/// Whether a link, up or out of service since that turn, rested long enough in this one to be started again.
+fn is_rested(up: bool, out_since: u64, turn: u64) -> bool
+    ensures { IsTrue result ↔ IsRested up out_since turn }
+{
+    !up && turn.saturating_sub(out_since) >= REST
+}
+
+/// Whether a user waits: so many messages that it offered are neither heard nor given up as may be on their way.
+fn is_held_up(offered: u64, heard: u64, given_up: u64) -> bool
+    ensures { IsTrue result ↔ IsHeldUp offered heard given_up }
+{
+    offered.saturating_sub(heard).saturating_sub(given_up) >= WINDOW
+}
+
+/// Whether all is done: the link that was to fail came back, all was offered, and so many messages aren't finished.
+fn is_all_done(came_back: bool, offered_all: bool, unfinished: u64) -> bool
+    ensures { IsTrue result ↔ IsAllDone came_back offered_all unfinished }
+{
+    came_back && offered_all && unfinished == 0
 }
 
 fn counters(alloc: Global, many: u16) -> Result<Vec<AtomicU64>, AllocError> {

@@ -1,5 +1,5 @@
 -- WHAT AN AUDITOR HAS HEARD of a history that is told item by item.
-use Rattle.std.specs.Prelude.{◌≡◌, ◌≤◌, ◌+◌, ◌*◌, ℕ, List, [], ◌∷◌, ◌++◌, length, Option, Some, None, slice_index}
+use Rattle.std.specs.Prelude.{◌≡◌, ◌≤◌, ◌+◌, ◌*◌, ℕ, true, List, [], ◌∷◌, ◌++◌, length, Option, Some, None, slice_index}
 use Rattle.history_audit.specs.declared.auditor.Finding.{Finding}
 use Rattle.history_audit.specs.declared.auditor.Finding.TheVariants.{Right, WrongAnswer, NoSuchActor}
 use Rattle.history_audit.specs.FirstWrong.{IsFirstWrong, answer_at}
@@ -42,6 +42,16 @@ pub record HasHeard (opening : State) (items : List Item) (h : Hearing) : Type 0
   pub messages : h.books.messages ≡ (books_over (unasked opening) items).messages
   pub octets : h.books.octets ≡ (books_over (unasked opening) items).octets
   pub entries : h.entries ≡ length (entries_among items)
+
+-- THE LAST ANSWER, behind an item that a set makes: to an entry its own, and a checkpoint is asked nothing
+abbrev pub answer_after : Item → Answer → Answer
+answer_after (Entered entry) last = entry.answer
+answer_after Checkpoint last = last
+
+-- memory is wanted only for a checkpoint, and for an entry whose actor is one that a set has
+abbrev pub MayWant : Item → Type 0
+MayWant (Entered entry) = is_actor entry.who ≡ true
+MayWant Checkpoint = Unit {0}
 
 abbrev pub IsEntry : Item → Type 0
 IsEntry (Entered entry) = Unit {0}

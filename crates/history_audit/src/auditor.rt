@@ -52,13 +52,13 @@ impl Model for Auditor {
 }
 
 impl Auditor {
-    ghost use Rattle.std.specs.Prelude.{◌≡◌, ◌≤◌, ◌↔◌, [], List, IfOk, IfErr, MatchResult, length};
+    ghost use Rattle.std.specs.Prelude.{◌≡◌, ◌≤◌, ◌↔◌, [], true, List, Ok, Err, IfOk, IfErr, OnOk, MatchResult, length};
     ghost use Rattle.history_items.specs.Items.{books_over, entries_among};
     ghost use Rattle.history_items.specs.declared.item.Item.{Item};
     ghost use Rattle.history_items.specs.declared.item.Item.TheVariants.{Entered, Checkpoint};
     ghost use Rattle.set_model.specs.History.{longest_history};
     ghost use Rattle.set_model.specs.State.{State, new_state};
-    ghost use Rattle.history_audit.specs.Hearing.{HasHeard, IsEntry, IsFound, unasked};
+    ghost use Rattle.history_audit.specs.Hearing.{HasHeard, IsEntry, IsFound, MayWant, answer_after, unasked};
 
     /// Before the first item of a set that was opened with this configuration.
     ///
@@ -84,11 +84,14 @@ impl Auditor {
     /// Hears the next item: an entry is held against what a set answers then, a checkpoint is taken.
     ///
     /// Faults: 2 [`SetFault::Exhausted`] exactly where it's an entry behind 2^48 others, tested first;
-    /// 1 [`SetFault::NoMemory`] only where memory was refused. After a fault it has heard what it had heard before.
+    /// 1 [`SetFault::NoMemory`] only where memory was refused. After a fault it has heard what it had heard before, but of
+    /// the last answer nothing is said.
     pub fn hear(&mut self, item: &Item) -> Result<Finding, SetFault>
         ensures found { (opening : State) (items : List Item) → HasHeard opening items self.old
             → MatchResult result (λ finding. IsFound opening items item.now finding self.new)
             (λ fault. HasHeard opening items self.new) }
+        ensures answer { result ≡ Ok Finding.Right → self.new.answer ≡ answer_after item.now self.old.answer }
+        ensures memory { result ≡ Err SetFault.NoMemory → MayWant item.now }
         ensures exhausted { (result ≡ Err SetFault.Exhausted)
             ↔ (IsEntry item.now × (longest_history ≤ self.old.entries)) }
     {
@@ -103,6 +106,8 @@ impl Auditor {
         ensures found { (opening : State) (items : List Item) → HasHeard opening items self.old
             → MatchResult result (λ finding. IsFound opening items (Entered entry.now) finding self.new)
             (λ fault. HasHeard opening items self.new) }
+        ensures answer { result ≡ Ok Finding.Right → self.new.answer ≡ entry.now.answer }
+        ensures memory { result ≡ Err SetFault.NoMemory → is_actor entry.now.who ≡ true }
         ensures exhausted { (result ≡ Err SetFault.Exhausted) ↔ (longest_history ≤ self.old.entries) }
     {
         if self.entries >= LONGEST_HISTORY {
@@ -127,13 +132,14 @@ impl Auditor {
         ensures found { (opening : State) (items : List Item) → HasHeard opening items self.old
             → MatchResult result (λ finding. IsFound opening items Checkpoint finding self.new)
             (λ fault. HasHeard opening items self.new) }
+        ensures answer { OnOk result (self.new.answer ≡ self.old.answer) }
         ensures fault { IfErr result (λ fault. fault ≡ SetFault.NoMemory) }
     {
         self.core = self.core.kept()?;
         Ok(Finding::Right)
     }
 
-    /// What a set answers to the last entry, where its actor is one that a set has.
+    /// What a set answers to the last entry, where its actor is one that a set has; a checkpoint changes nothing of it.
     pub fn answer(&self) -> Answer
         ensures { result ≡ self.now.answer }
     {

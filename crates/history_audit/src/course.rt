@@ -1,7 +1,8 @@
 //! What the lines of a history have come to.
-ghost use Rattle.std.specs.Prelude.{◌≡◌, Some, true};
+ghost use Rattle.std.specs.Prelude.{◌≡◌, Err, None, Some, false, true};
 ghost use Rattle.history_text.specs.Telling.{Told, told_next, with_item, with_line};
 ghost use Rattle.text_lines.specs.Flaws.{flaw_of};
+ghost use Rattle.text_printing.specs.declared.fault.Stop.TheVariants.{Input};
 ghost use Rattle.history_audit.specs.Reading.{IsNoted, IsRead, IsTold, StandsFor, is_legal, opened_by, passed_over};
 
 use super::auditor::{Auditor, Finding};
@@ -68,7 +69,8 @@ pub(crate) fn tell_line(
 
 /// Reads the configuration.
 fn open(alloc: Global, number: u64, line: &[u8]) -> Result<Course, Stop<AuditFault>>
-    ensures { IsTold result number line.now (opened_by line.now) }
+    ensures told { IsTold result number line.now (opened_by line.now) }
+    ensures unread { opened_by line.now ≡ None → result ≡ Err (Input (AuditFault.Text number (flaw_of line.now))) }
 {
     let Some(config) = read_config(line) else {
         return Err(Stop::Input(unread(number, line)));
@@ -94,7 +96,23 @@ fn tell_next(
     ensures { (told : Told) → StandsFor told (Some course.old)
         → IsRead result number line.now (told_next number course.old.profile told line.now) (Some course.new) }
 {
-    if place.read(alloc, course.profile, line)? {
+    let is_item = place.read(alloc, course.profile, line)?;
+    tell_read(course, place, is_item, number, line)
+}
+
+/// The item that was read in this place, if the line of this number is one. That it's none takes no memory to say.
+fn tell_read(
+    course: &mut Course,
+    place: &LinePlace,
+    is_item: bool,
+    number: u64,
+    line: &[u8],
+) -> Result<(), Stop<AuditFault>>
+    ensures item { is_item ≡ true → (told : Told) → StandsFor told (Some course.old)
+        → IsNoted result (with_item number told place.now) (Some course.new) }
+    ensures unread { is_item ≡ false → result ≡ Err (Input (AuditFault.Text number (flaw_of line.now))) }
+{
+    if is_item {
         tell_item(course, number, place.item())
     } else {
         Err(Stop::Input(unread(number, line)))

@@ -24,6 +24,7 @@ impl<L: Line + Drop> TapedLine<L> {
     pub fn new(line: L, tape: Tape) -> TapedLine<L>
         requires { Keeps tape [] }
         ensures line { result.line ≡ line }
+        ensures tape { result.tape ≡ tape }
         ensures put { result.put ≡ [] }
     {
         let before = Snapshot::of(&line);
@@ -46,6 +47,7 @@ impl<L: Line + Drop> TapedLine<L> {
 impl<L: Line + Drop> Line for TapedLine<L> {
     ghost use Rattle.std.specs.Prelude.{◌≡◌, refl};
     ghost use Rattle.std.proofs.Common.{◌∙◌};
+    ghost use Rattle.line_tape.specs.Taping.{GoesOn, goes_further, stands_still};
 
     ghost put_so_far = { λ end. end.put };
 
@@ -55,11 +57,16 @@ impl<L: Line + Drop> Line for TapedLine<L> {
 
     ghost waiting = { λ end. L.waiting end.line };
 
-    ghost is_same = { λ first second. L.is_same first.line second.line × (second.before ≡ first.before) };
+    ghost is_same = { λ first second. L.is_same first.line second.line × (second.before ≡ first.before)
+        × GoesOn first.tape first.put second.tape second.put };
 
-    ghost same_self = { λ end. (L.same_self end.line, refl) };
+    ghost same_self = { λ end. (L.same_self end.line, refl, stands_still end.tape end.put) };
 
-    ghost same_on = { λ first second third a b. (L.same_on first.line second.line third.line a.0 b.0, b.1 ∙ a.1) };
+    ghost same_on = { λ first second third a b. (
+      L.same_on first.line second.line third.line a.0 b.0,
+      b.1 ∙ a.1,
+      goes_further first.tape first.put second.tape second.put third.tape third.put a.2 b.2,
+    ) };
 
     fn put(&mut self, octet: u8) -> Result<(), Full> {
         match self.line.put(octet) {

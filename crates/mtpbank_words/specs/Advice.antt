@@ -174,13 +174,35 @@ abbrev pub said_of : Option RunOption → List ℕ → Option (List ℕ)
 said_of None word = word_text word
 said_of (Some option) word = None
 
+-- A WORD OF RUN: a flag, or one of its options with the value behind it; the library tells any other that begins with -.
+abbrev pub is_flag : List ℕ → Bool
+is_flag word =
+    if bytes_eq word (codes "--per-link") then true
+    else (if bytes_eq word (codes "--report") then true else bytes_eq word (codes "--capture"))
+
+abbrev pub is_there : Option RunOption → Bool
+is_there None = false
+is_there (Some option) = true
+
+abbrev pub is_known_with : Option ℕ → List ℕ → Bool
+is_known_with None word = is_flag word
+is_known_with (Some place) word = is_there (option_of (take place word))
+
+abbrev pub is_known : List ℕ → Bool
+is_known word = is_known_with (position is_equals word) word
+
+abbrev pub goes_on : Option RunOption → List ℕ → Bool
+goes_on None word = is_known word
+goes_on (Some option) word = true
+
 -- what is said of the first word that is wrong; an option that wants a value stands before them, or none
 abbrev pub run_advice : Option RunOption → List (List ℕ) → Option (List ℕ)
 run_advice before [] = None
 run_advice (Some option) (value ∷ words) =
     if fits option value then run_advice None words else Some (value_text option value)
 run_advice None (word ∷ words) =
-    option_or (said_of (option_of word) word) (run_advice (option_of word) words)
+    option_or (said_of (option_of word) word)
+    (if goes_on (option_of word) word then run_advice (option_of word) words else None)
 
 -- THE ADVICE
 abbrev pub told_of_input : Option Input → List (List ℕ) → Option (List ℕ)

@@ -1,7 +1,7 @@
 //! What is said of words that the program doesn't take, where more can be said than the library does.
 ghost use Rattle.std.specs.Prelude.{◌≡◌, ◌++◌, ◌<◌, IfOk, None, OnOk, length, map, position};
 ghost use Rattle.std.specs.Option.{ForSome, option_map};
-ghost use Rattle.mtpbank_words.specs.Advice.{advice, end_text, fits, history_advice, input_advice, input_of, input_text, is_equals, is_number_in, is_operand, name_of, option_name, option_of, option_text, plain, range_text, run_advice, run_usage, usage_of, value_text, without_flag, word_text};
+ghost use Rattle.mtpbank_words.specs.Advice.{advice, end_text, fits, history_advice, input_advice, input_of, input_text, is_equals, is_flag, is_known, is_number_in, is_operand, name_of, option_name, option_of, option_text, plain, range_text, run_advice, run_usage, usage_of, value_text, without_flag, word_text};
 
 use std::alloc::{AllocError, Global};
 use std::convert::AsStr;
@@ -205,6 +205,9 @@ fn advise_run<S: AsStr>(alloc: Global, words: &[S]) -> Result<Option<Vec<u8>>, A
                     if let Some(said) = advise_word(alloc, word)? {
                         return Ok(Some(said));
                     }
+                    if !is_known(word) {
+                        return Ok(None);
+                    }
                 }
             },
         }
@@ -229,6 +232,23 @@ fn advise_word(alloc: Global, word: &[u8]) -> Result<Option<Vec<u8>>, AllocError
         }
         _ => Ok(None),
     }
+}
+
+/// Whether the word is a flag of `run`, or one of its options with the value behind it.
+fn is_known(word: &[u8]) -> bool
+    ensures { result ≡ is_known word.now }
+{
+    match find_equals(word) {
+        Some(place) => find_option(&word[..place]).is_some(),
+        None => is_flag(word),
+    }
+}
+
+/// Whether the word is a flag of `run`.
+fn is_flag(word: &[u8]) -> bool
+    ensures { result ≡ is_flag word.now }
+{
+    is_word(word, b"--per-link") || is_word(word, b"--report") || is_word(word, b"--capture")
 }
 
 /// The place of the first `=`.

@@ -54,7 +54,7 @@ and answered is printed, an entry a line, in the order in which it was:
   terminal L ..       what happens to link L there: next is a unit that is sent, hear one that arrives
 `mtpbank audit --help` says how each line is written. A script without a line prints nothing.
 A fault ends the script: one line on standard error, with status 1, and no history is printed, of which `mtpbank audit`
-behind a pipe says `fault line 1 text`. The faults are those of `mtpbank play`:
+behind a pipe says `fault line 1 text`. The faults are those of `mtpbank play`, whose --explain says more:
   fault line N text, fault line N step, fault exhausted
   fault read, fault long, fault write, fault memory";
 
@@ -86,7 +86,9 @@ Each further line prints events and then its answer, so whoever drives the end r
                       a command that is obeyed in the link's next turn: done. start and emergency of a link that the set
                       has left and not settled: refused 7, and nothing is done. Those given before one turn are obeyed
                       in the order emergency, start, busy, ease, blind, stop, in whatever order they were given: a link
-                      that was out and is told to stop and to start before one turn stays out, and no event tells it
+                      that was out and is told to stop and to start before one turn stays out, and no event tells it.
+                      Proving takes 65,536 turns, 4,096 after emergency; SIB goes out from busy until ease; after blind
+                      the link stays up, and its next failure is told without an FSN (ECO)
   octets L HEX        a turn for each octet: octets L HEX, the octets that went out, as many
   hear L UNIT [xN]    a unit stands on the line, N times (1 to 2^20), with check octets, inserted zeros and a flag
                       behind: turns K, how many turns were taken. UNIT is 1 to 276 octets without check octets, or
@@ -127,7 +129,7 @@ A fault ends it: one line on standard error, with status 1; what was printed bef
   fault memory        memory is wanted; or a link took 2^48 turns, or the set was asked 2^48 times
   fault read, fault write
   fault long          standard input has more than 2^60 octets
-With --explain more lines come behind that of a line's fault, on standard error: what is wanted there, the line, and a caret
+With --explain more lines come behind that of a line's fault on standard error: what is wanted, the line, and a caret
 under the word at fault, or right behind the line where a word is missing, as `mtpbank play --explain` has them:
   fault line 3 text
   line 3: octets wants a link, and octets of two hexadecimal digits
@@ -196,8 +198,9 @@ Q.703 Annex A: a header of six octets, the low octet of each pair first, with th
 the BIB, the FSN and the FIB so too, and the length in nine. The records say so, and Wireshark reads them without any
 setting; of the FSN in a COO or COA it shows the low seven bits.
 A script without a line writes a file without a record.
-A fault ends the script: one line on standard error, with status 1; what was written before it stays, and is a capture of
-what was sent until then; where the first line is at fault nothing is written. The faults are those of `mtpbank play`:
+A fault ends the script: one line on standard error, with status 1; what was written before it stays, and is a capture
+of what was sent until then; where the first line is at fault nothing is written. The faults are those of `mtpbank
+play`, whose --explain says more:
   fault line N text, fault line N step, fault exhausted
   fault read, fault long, fault write, fault memory";
 
@@ -212,7 +215,7 @@ Standard input is a script, as `mtpbank play --help` says. Standard output is a 
 number of the script's line, what happens at end a, what is under way, and what happens at end b.
   --1-->|, |<--1--    at the side of an end: a unit goes out on link 1 from there, or arrives there
   IAM #4 fsn=1 ..     which unit it is: a message's name in the ISDN user part, or MSU; #4, the number under which its
-                      sender accepted it, while that has it unacknowledged on the link; its FSN, BSN and stream. An order
+                      sender accepted it, while that has it unacknowledged on the link; its FSN, BSN, stream. An order
                       is told as COO #3 link 1 fsn=0, and a fill-in unit as FISU
   --1--x, x--1--      a unit is lost on its way to that end, by lose or because the link isn't up there
   --1..>, <..1--      a unit that nobody sent is heard (hear)
@@ -226,7 +229,8 @@ number of the script's line, what happens at end a, what is under way, and what 
   held+3 parked-1     so many messages more or fewer stand so at that end: held for a link that isn't settled, parked
                       where no link is up, back while their stream is on its way home, discarded for good
 Other words are the answers of `mtpbank play`. Two dots (..) stand where more doesn't fit. A fault ends the script: one
-line on standard error, with status 1; what was drawn before it stays. The faults are those of `mtpbank play`:
+line on standard error, with status 1; what was drawn before it stays. The faults are those of `mtpbank play`, whose
+--explain says more:
   fault line N text, fault line N step, fault exhausted
   fault read, fault long, fault write, fault memory";
 
@@ -249,9 +253,9 @@ Behind that stands what the unit carries:
                       there are too few or too many
 The last two octets are check octets where they are right for those before them, or where only those before them are
 a unit. From length indicator 63 on, a unit with wrong check octets looks like a longer one without them.
-With --wide the units are those of the wide profile (own): their header has four octets, the lowest first, and in them,
-lowest bit first, the BSN in 12 bits, the BIB, the FSN in 12 bits, the FIB and the length indicator in six; a COO or
-COA has its FSN in 12 bits.
+With --wide the units are those of the wide profile (no standard's): their header has four octets, the lowest first,
+and in them, lowest bit first, the BSN in 12 bits, the BIB, the FSN in 12 bits, the FIB and the length indicator in
+six; a COO or COA has its FSN in 12 bits.
 A fault ends the input: one line on standard error, with status 1; what was printed before it stays.
   fault line N text   line N, from 1 and with those passed over, isn't octets in hexadecimal. Behind it stands what else
                       is wrong: more than 4,096 octets, a carriage return or a space at its end, a tab, a space before
@@ -364,23 +368,20 @@ Where the link of --fail isn't one of the links it's `fault link`, with status
 2, as other wrong words have it.";
 
 pub(crate) const HELP: &str = "\
-All but run read standard input to its end, as in `mtpbank play < examples/changeover.play`. `mtpbank play --help` says
-how a script is written and what it prints, `mtpbank units --help` and `mtpbank decode --help` which digits are
-read and what is printed, `mtpbank capture --help` what the file holds, `mtpbank ladder --help` what the chart shows,
-`mtpbank history --help` and `mtpbank audit --help` how a history is, `mtpbank terminal --help` how one end is driven
-whose lines are yours, `mtpbank run --help` what runs in threads; with `-h` each is a page. A fault is one line on standard
-error, with --explain and three rows that show where, and what was printed before it stays:
+All but run read standard input to its end, as in `mtpbank play < examples/changeover.play`. `mtpbank play --help` is
+the manual of play, and so with each subcommand; with `-h` it's a page. A fault is one line on standard error (three
+more with --explain of play and terminal), and what was printed before it stays:
   fault line N text, fault line N step               a line can't be read, or one of a script can't be done
   fault line N illegal                               an entry of a history is one that no set makes
   fault octet P                                      a character is no hexadecimal digit, or one is left over
   fault read, fault write, fault memory              standard input, standard output or memory failed
-  fault long                                         standard input has more than 2^24 octets (units, decode, audit, terminal: 2^60)
+  fault long                                         a script has more than 2^24 octets, another input more than 2^60
   fault exhausted                                    the history of an end is full
   fault thread, fault close                          a thread couldn't be started, a set couldn't be closed
   fault user .., fault terminal ..                   this user or terminal of a run ended early
   fault missing ..                                   a report's run didn't deliver this message in order
 A pipe behind standard output that nobody reads any more ends with status 1 too, and no line.
-The status is 0, or 1 after a fault, or 2 where the words of the command line are wrong (and after `fault link` of run).";
+The status is 0, or 1 after a fault, or 2 where the words of the command line are wrong (`fault link` too).";
 
 pub(crate) const UNITS_HELP: &str = "\
 Two hexadecimal digits are an octet of the line, fed lowest bit first, with its flags, inserted zeros and check
@@ -422,7 +423,7 @@ messages are unacknowledged, bodies have 272 octets at most, and a cycle is forc
                       from
   down E L            link L fails at end E, which tells the other what it accepted (COO)
   blind E L           link L fails at end E, which can't tell what it accepted (ECO)
-  noanswer E L        end E had no answer to the changeover of link L
+  noanswer E L        end E had no answer to the changeover of link L: what was sent on it or waits there is discarded
   restore E L         end E asks the streams whose home is link L back to it, from each other link that is up (CBD)
   backtimeout E L     end E had no answer to the changeback to link L
 Words are separated by one space, numbers are decimal without leading zeros, and lines end in LF.
@@ -454,14 +455,15 @@ Each of these lines prints one:
                       still in use, and for backtimeout no code of link L is in use
 The last two lines count the users' messages of each end by where they stand.
 
-The high digit of a message's fifth octet is its stream, whose home is link stream modulo the number of links;
-where that link wasn't up or has failed, the stream runs on another one. A changeover of link 1 is `down a 1`,
-after which an order waits on the lowest link that is up; `emit a 0` and `arrive b 0`, where b leaves link 1 too;
-`emit b 0` and `arrive a 0`, which carry b's answer. Link 1 is settled then, and what b hasn't accepted waits at
-a for link 0, in order. Where no link is up the order is parked, and goes out on the first that comes up; if that
-is link 1 itself, after noanswer, b leaves it again. When link 1 comes up again, its streams that have had
-messages stay on link 0, until `restore a 1` asks them back: an order waits on link 0 behind all that waits there,
-and what is offered then is found back. When b's answer has come, it waits for link 1, in order.
+A label is four octets, the lowest first: DPC + 2^14 OPC + 2^28 SLS. The SLS, the high digit of a message's fifth
+octet, is its stream, whose home is link stream modulo the number of links; where that link wasn't up or has failed,
+the stream runs on another one. A changeover of link 1 is `down a 1`, after which an order waits on the lowest link
+that is up; `emit a 0` and `arrive b 0`, where b leaves link 1 too; `emit b 0` and `arrive a 0`, which carry b's
+answer. Link 1 is settled then, and what b hasn't accepted waits at a for link 0, in order. Where no link is up the
+order is parked, and goes out on the first that comes up; if that is link 1 itself, after noanswer, the order is
+discarded there. When link 1 comes up again, its streams that have had messages stay on link 0, until `restore a 1`
+asks them back: an order waits on link 0 behind all that waits there, and what is offered then is found back. When b's
+answer has come, it waits for link 1, in order.
 
 A fault ends the script: one line on standard error, with status 1; what was printed before it stays.
   fault line N text   line N, from 1 and with remarks, can't be read: a word that isn't known, too few or too many
@@ -473,11 +475,11 @@ A fault ends the script: one line on standard error, with status 1; what was pri
   fault read          standard input failed
   fault long          standard input has more than 2^24 octets
   fault write, fault memory, fault exhausted (a history has 2^48 entries)
-With --explain more lines come behind that of a line's fault, on standard error: what is wanted there, the script's line,
+With --explain more lines come behind that of a line's fault on standard error: what is wanted there, the script's line,
 and a caret under the word at fault, or right behind the line where a word is missing:
   fault line 3 text
   line 3: offer wants an end, a or b, and octets of two hexadecimal digits
     offer
          ^
-A long line is cut around the caret, where two dots stand, and an octet that is no printable character of ASCII is shown as
-one; a line of more than 4,096 octets isn't shown.";
+A long line is cut around the caret, where two dots stand, and an octet that is no printable character of ASCII is
+shown as one; a line of more than 4,096 octets isn't shown.";

@@ -1,5 +1,5 @@
 -- What a call gave, beside what the definition says.
-use Rattle.std.specs.Prelude.{◌≡◌, ◌≢◌, ◌≤◌, true, false, ℕ, List, length, slice_get, Option, Some, None, Result, MatchResult}
+use Rattle.std.specs.Prelude.{◌≡◌, ◌≢◌, ◌<◌, ◌≤◌, true, false, ℕ, List, length, slice_get, Option, Some, None, Result, MatchResult}
 use Rattle.set_events.specs.declared.config.SetConfig.{SetConfig}
 use Rattle.set_events.specs.declared.event.Event.{Event}
 use Rattle.set_model.specs.History.{LinkSet, new_set}
@@ -45,9 +45,15 @@ FailsToBegin Exhausted a b = ⊥
 FailsToBegin Links a b = a.links ≢ b.links
 FailsToBegin Profile a b = (a.links ≡ b.links) × (a.profile ≢ b.profile)
 
--- the fault of a step says what the definition says, unless memory was wanted
+-- a step that can be done: it isn't impossible, and no history is full
+abbrev pub CanBeDone : Outcome → Type 0
+CanBeDone (shows shown w) = Unit {0}
+CanBeDone impossible = ⊥
+CanBeDone exhausted = ⊥
+
+-- the fault of a step says what the definition says; memory is wanted only of a step that can be done
 abbrev pub Fails : PlayFault → Outcome → Type 0
-Fails NoMemory outcome = Unit {0}
+Fails NoMemory outcome = CanBeDone outcome
 Fails (Impossible place) outcome = (place ≡ 0) × (outcome ≡ impossible)
 Fails Exhausted outcome = outcome ≡ exhausted
 Fails Links outcome = ⊥
@@ -76,9 +82,16 @@ fault_at place Exhausted = Exhausted
 fault_at place Links = Links
 fault_at place Profile = Profile
 
--- what steps led to, one after another, says what the definition says, unless memory was wanted
+-- the first step can be done, or there is none
+abbrev pub BeginsWell : Played → Type 0
+BeginsWell (leads_to w) = Unit {0}
+BeginsWell (stops_at place) = 0 < place
+BeginsWell (is_full_at place) = 0 < place
+
+-- what steps led to, one after another, says what the definition says; where memory is wanted, each step up to then can
+-- be done, the first at least
 abbrev pub FailsAlong : PlayFault → Played → Type 0
-FailsAlong NoMemory outcome = Unit {0}
+FailsAlong NoMemory outcome = BeginsWell outcome
 FailsAlong (Impossible place) outcome = outcome ≡ stops_at place
 FailsAlong Exhausted outcome = (place : ℕ) × (outcome ≡ is_full_at place)
 FailsAlong Links outcome = ⊥
@@ -108,9 +121,9 @@ abbrev pub IsPlayed : Result World PlayFault → SetConfig → SetConfig → Lis
 IsPlayed result a b steps =
     MatchResult result (λ world. LeadsTo a b steps world) (λ fault. FailsToPlay fault a b steps)
 
--- an event at one set
+-- an event at one set: whether its history is full is tested before any memory is wanted
 abbrev pub FailsAt : SetFault → LinkSet → Type 0
-FailsAt SetNoMemory set = Unit {0}
+FailsAt SetNoMemory set = is_full set ≡ false
 FailsAt SetExhausted set = is_full set ≡ true
 
 pub record IsAnswered (old : LinkSet) (event : Event) (shown : Shown) (new : LinkSet) : Type 0 where

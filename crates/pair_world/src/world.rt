@@ -16,6 +16,9 @@ use set_events::{Actor, AnswerRef, Counts, EventRef, SetConfig};
 use std::alloc::{Allocator, Global};
 use std::marker::Model;
 
+/// The most entries of a history, 2^48.
+const LONGEST_HISTORY: u64 = 0x1_0000_0000_0000;
+
 /// Two ends with the same links and one profile, and the units under way to each on each link, oldest first.
 ///
 /// A set takes some thousands of octets and a world is handed on with each step, so the sets stay where they are.
@@ -40,11 +43,11 @@ impl<G: Allocator> Model for World<G> {
 }
 
 impl<G: Allocator + Copy> World<G> {
-    ghost use Rattle.std.specs.Prelude.{◌≡◌, ◌<◌, ◌^◌, ◌↔◌, IfErr, IfSome, IsTrue, OnOk, MatchResult, is_some, true};
+    ghost use Rattle.std.specs.Prelude.{◌≡◌, ◌<◌, ◌^◌, ◌↔◌, ◌||◌, IfErr, IfSome, IsTrue, OnOk, MatchResult, is_some, true};
     ghost use Rattle.set_model.specs.Rows.{total_of};
     ghost use Rattle.set_model.specs.State.{is_up};
     ghost use Rattle.set_model.specs.History.{new_set};
-    ghost use Rattle.pair_model.specs.World.{world_of, carried_out, done_by, asks, acts, has_actor, with_sent, emits, arrives, loses, has_link, rises, at_end, line_to, counts_at};
+    ghost use Rattle.pair_model.specs.World.{world_of, carried_out, is_full, done_by, asks, acts, has_actor, with_sent, emits, arrives, loses, has_link, rises, at_end, line_to, counts_at};
     ghost use Rattle.pair_model.specs.Run.{begun, played_from, HoldsAlong};
     ghost use Rattle.pair_model.specs.Promises.{IsHonestRun, IsQuietRun, IsSoundRun, KeepsLinks};
     ghost use Rattle.pair_changeover.specs.Diverted.{ChangesOver};
@@ -89,7 +92,7 @@ impl<G: Allocator + Copy> World<G> {
     ///
     /// Faults: 2 [`PlayFault::Impossible`], with the place 0, and 3 [`PlayFault::Exhausted`] exactly where the step
     /// is, and an impossible step is that whether a history is full or not; 1 [`PlayFault::NoMemory`] only where
-    /// memory was refused. A fault gives the world up.
+    /// memory was refused to a step that is neither. A fault gives the world up.
     pub fn step(mut self, step: &Step) -> Result<(World<G>, Shown), PlayFault>
         ensures { IsStepped result (carried_out self step.now) }
     {
@@ -114,7 +117,7 @@ impl<G: Allocator + Copy> World<G> {
     ///
     /// Faults: 4 [`PlayFault::Links`] exactly where the configurations differ in links, tested first, then
     /// 5 [`PlayFault::Profile`] exactly where they differ in their profile, whatever the steps are; then 2 [`PlayFault::Impossible`] and 3 [`PlayFault::Exhausted`] exactly where a step is, with
-    /// the place of the first one; 1 [`PlayFault::NoMemory`] only where memory was refused.
+    /// the place of the first one, unless memory was refused before it; 1 [`PlayFault::NoMemory`] only where memory was refused.
     ///
     /// Of every honest run, one in which no unit is heard that wasn't sent, it's proved here that each link keeps what
     /// passes on it, in both directions and after every step (`KeepsLinks`). And of every sound run, in which besides no
@@ -196,7 +199,8 @@ impl<G: Allocator + Copy> World<G> {
         are_done(self.counts(End::A)) && are_done(self.counts(End::B))
     }
 
-    /// Carries out these steps, one after another; after a fault the world isn't to be used again.
+    /// Carries out these steps, one after another; after a fault the world isn't to be used again. Memory is wanted only of a
+    /// step that can be done.
     fn carry_out_all(&mut self, steps: &[Step]) -> Result<(), PlayFault>
         ensures { AreCarriedOut result (played_from 0 self.old steps.now) self.new }
     {
@@ -417,6 +421,9 @@ impl<G: Allocator + Copy> World<G> {
         if !self.holds_link(link) || !self.a.is_settled(link) || !self.b.is_settled(link) {
             return Err(PlayFault::Impossible { place: 0 });
         }
+        if self.is_full_at_an_end() {
+            return Err(PlayFault::Exhausted);
+        }
         let who = Actor::Terminal(link);
         let up = EventRef::Up { link };
         apply(&mut *self.a, who, &up, shown)?;
@@ -425,6 +432,13 @@ impl<G: Allocator + Copy> World<G> {
         self.to_b.clear(link);
         shown.set_up();
         Ok(())
+    }
+
+    /// Whether the history of either end is full.
+    fn is_full_at_an_end(&self) -> bool
+        ensures { result ≡ (is_full self.now.a || is_full self.now.b) }
+    {
+        self.a.entries() >= LONGEST_HISTORY || self.b.entries() >= LONGEST_HISTORY
     }
 }
 

@@ -25,7 +25,7 @@ mistake_text Space = codes "one space stands between two words, and none before 
 mistake_text CarriageReturn = codes "a line ends in LF alone, and this word has a CR"
 mistake_text NotPrintable =
     codes "words are printable characters of ASCII, and this one has another octet"
-mistake_text Surplus = codes "the line has no further word here"
+mistake_text Surplus = codes "the line ends before this word"
 mistake_text UnknownWord = codes "no line of a script begins with this word"
 mistake_text SecondSet = codes "set is the first line, and no other"
 mistake_text TogetherWants = codes "together wants a link"
@@ -36,11 +36,11 @@ mistake_text OnLinkWants = codes "this word wants an end, a or b, and a link beh
 mistake_text LoseWants = codes "lose wants an end, a or b, a link, and the place of a unit"
 mistake_text HearWants = codes "hear wants an end, a or b, a link, and the octets of a unit"
 mistake_text End = codes "an end is a or b"
-mistake_text Link = codes "a link is a number below 2^64, in decimal without leading zeros"
+mistake_text Link = codes "a link is a number from 0, in decimal without leading zeros"
 mistake_text Number = codes "a number is below 2^64, in decimal without leading zeros"
 mistake_text OddDigits = codes "octets have two hexadecimal digits each, and one digit is left over"
 mistake_text NotHexadecimal =
-    codes "octets have two hexadecimal digits each, and this is no such digit"
+    codes "octets have two hexadecimal digits each, and this word has something else"
 mistake_text UnitShort = codes "a unit has 3 octets at least"
 mistake_text WideUnitShort = codes "a unit of a wide set has 4 octets at least"
 mistake_text UnitLong = codes "a unit has 276 octets at most"
@@ -50,7 +50,7 @@ mistake_text WideUnitLength =
     codes "the length indicator, the high six bits of a wide unit's fourth octet, isn't that of what follows, without check octets"
 mistake_text NoSuchLink = codes "the set has no link of this number; its links are counted from 0"
 mistake_text NotSettled =
-    codes "a link comes up where it's settled at both ends, and this one isn't"
+    codes "together wants a link that is up at neither end, and no changeover of it open"
 mistake_text NothingUnderWay = codes "no unit is under way to this end on this link"
 mistake_text NoUnitThere = codes "no unit under way to this end on this link has this place, from 0"
 mistake_text (Terminal mistake) = terminal_text mistake

@@ -120,7 +120,7 @@ impl Mistake {
             Mistake::CarriageReturn => "a line ends in LF alone, and this word has a CR",
             Mistake::NotPrintable =>
                 "words are printable characters of ASCII, and this one has another octet",
-            Mistake::Surplus => "the line has no further word here",
+            Mistake::Surplus => "the line ends before this word",
             Mistake::UnknownWord => "no line of a script begins with this word",
             Mistake::SecondSet => "set is the first line, and no other",
             Mistake::TogetherWants => "together wants a link",
@@ -132,12 +132,12 @@ impl Mistake {
             Mistake::LoseWants => "lose wants an end, a or b, a link, and the place of a unit",
             Mistake::HearWants => "hear wants an end, a or b, a link, and the octets of a unit",
             Mistake::End => "an end is a or b",
-            Mistake::Link => "a link is a number below 2^64, in decimal without leading zeros",
+            Mistake::Link => "a link is a number from 0, in decimal without leading zeros",
             Mistake::Number => "a number is below 2^64, in decimal without leading zeros",
             Mistake::OddDigits =>
                 "octets have two hexadecimal digits each, and one digit is left over",
             Mistake::NotHexadecimal =>
-                "octets have two hexadecimal digits each, and this is no such digit",
+                "octets have two hexadecimal digits each, and this word has something else",
             Mistake::UnitShort => "a unit has 3 octets at least",
             Mistake::WideUnitShort => "a unit of a wide set has 4 octets at least",
             Mistake::UnitLong => "a unit has 276 octets at most",
@@ -148,7 +148,7 @@ impl Mistake {
             Mistake::NoSuchLink =>
                 "the set has no link of this number; its links are counted from 0",
             Mistake::NotSettled =>
-                "a link comes up where it's settled at both ends, and this one isn't",
+                "together wants a link that is up at neither end, and no changeover of it open",
             Mistake::NothingUnderWay => "no unit is under way to this end on this link",
             Mistake::NoUnitThere =>
                 "no unit under way to this end on this link has this place, from 0",

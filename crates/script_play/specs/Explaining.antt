@@ -1,5 +1,5 @@
 -- A SCRIPT OF TWO ENDS with explanations: what is said of a line that ends it with a fault.
-use Rattle.std.specs.Prelude.{◌≡◌, ℕ, List, Option, Some, None, Result, Ok, Err}
+use Rattle.std.specs.Prelude.{◌≡◌, ◌≢◌, ℕ, List, [], ◌++◌, codes, Option, Some, None, Result, Ok, Err}
 use Rattle.std.specs.Option.{option_map}
 use Rattle.set_model.specs.State.{link_count}
 use Rattle.pair_model.specs.World.{World}
@@ -17,6 +17,7 @@ use Rattle.script_mistakes.specs.Blaming.{blamed_opening, blamed_step}
 use Rattle.script_mistakes.specs.Impossible.{blamed_impossible}
 use Rattle.script_walk.specs.declared.fault.ScriptFault.{ScriptFault}
 use Rattle.script_walk.specs.declared.fault.ScriptFault.TheVariants.{Text, Step, Exhausted}
+use Rattle.script_walk.specs.Faults.{fault_text}
 use Rattle.script_walk.specs.Scripts.{Told, profile_of, read_script}
 use Rattle.script_mistakes.specs.Showing.{explanation}
 use Rattle.script_play.specs.declared.explained.Made.{Made}
@@ -25,6 +26,14 @@ use Rattle.script_play.specs.declared.explained.Made.{Made}
 pub record Explained : Type 0 where
   pub fault : ScriptFault
   pub told : Option (List ℕ)
+
+-- what is shown of it: the fault's own text, and on lines behind it those that explain it
+abbrev pub lines_behind : Option (List ℕ) → List ℕ
+lines_behind None = []
+lines_behind (Some lines) = codes "\n" ++ lines
+
+abbrev pub explained_text : Explained → List ℕ
+explained_text e = fault_text e.fault ++ lines_behind e.told
 
 -- how many links there are and of which profile, once the first line has made the world
 abbrev pub made_in : Option World → Option Made
@@ -83,8 +92,8 @@ fault_alone (Err Read) = Err Read
 fault_alone (Err TooLong) = Err TooLong
 fault_alone (Err Write) = Err Write
 
--- The code beside the definition: a fault with its explanation, or want of memory.
+-- The code beside the definition: a fault with its explanation, or want of memory, which only the explanation of a line wants.
 abbrev pub IsExplanation : Stop Explained → Option Made → List ℕ → ScriptFault → Type 0
 IsExplanation (Input e) made text fault =
     e ≡ record { fault = fault; told = said made text fault }
-IsExplanation Memory made text fault = Unit {0}
+IsExplanation Memory made text fault = fault ≢ Exhausted

@@ -1,5 +1,5 @@
 //! A script whose faults are explained.
-ghost use Rattle.std.specs.Prelude.{◌≡◌, IfOk, string_bytes};
+ghost use Rattle.std.specs.Prelude.{◌≡◌, ◌≢◌, IfErr, IfOk, MatchResult, string_bytes};
 ghost use Rattle.std.specs.Option.{option_map};
 ghost use Rattle.text_printing.specs.declared.fault.Stop.TheVariants.{Input, Memory};
 ghost use Rattle.script_play.specs.Explaining.{said, undone, unread, IsExplanation};
@@ -101,7 +101,7 @@ impl<A: Account> LineText for Explaining<A> {
     }
 }
 
-/// The fault of this line with its explanation, or want of memory.
+/// The fault of this line with its explanation, or want of memory for that.
 fn explained(
     alloc: Global,
     made: Option<Made>,
@@ -110,7 +110,16 @@ fn explained(
 ) -> Stop<ExplainedFault>
     ensures { IsExplanation result made text.now fault }
 {
-    match explain_fault(alloc, made, text, fault) {
+    told_with(explain_fault(alloc, made, text, fault), fault)
+}
+
+/// The fault with the lines that explain it, if memory was there for them.
+fn told_with(told: Result<Option<String>, AllocError>, fault: ScriptFault) -> Stop<ExplainedFault>
+    ensures { MatchResult told
+        (λ lines. result ≡ Input (record { fault = fault; told = option_map string_bytes lines }))
+        (λ want. result ≡ Memory) }
+{
+    match told {
         Ok(told) => Stop::Input(ExplainedFault { fault, told }),
         Err(want) => Stop::from(want),
     }
@@ -123,7 +132,8 @@ fn explain_fault(
     text: &[u8],
     fault: ScriptFault,
 ) -> Result<Option<String>, AllocError>
-    ensures { IfOk result (λ told. option_map string_bytes told ≡ said made text.now fault) }
+    ensures told { IfOk result (λ told. option_map string_bytes told ≡ said made text.now fault) }
+    ensures memory { IfErr result (λ want. fault ≢ ScriptFault.Exhausted) }
 {
     match fault {
         ScriptFault::Text { line, .. } => shown(

@@ -25,6 +25,11 @@ impl Model for ExplainedFault {
 }
 
 impl Display for ExplainedFault {
+    ghost use Rattle.std.specs.Prelude.{Some};
+    ghost use Rattle.script_play.specs.Explaining.{explained_text};
+
+    ghost output = { λ e. Some (explained_text e) };
+
     fn fmt<W: fmt::Write>(&self, f: &mut fmt::Formatter<W>) -> fmt::Result {
         let fault = self.fault;
         match &self.told {

@@ -1,9 +1,9 @@
 //! A script under way, and what a line of it does.
-ghost use Rattle.std.specs.Prelude.{◌≡◌, ◌≢◌, Some, IsSome, MatchResult};
+ghost use Rattle.std.specs.Prelude.{◌≡◌, ◌≢◌, Err, None, Some, IsSome, MatchResult};
 ghost use Rattle.script_grammar.specs.Script.{first_line};
 ghost use Rattle.pair_model.specs.World.{World as ModelWorld, Outcome, carried_out};
-ghost use Rattle.pair_world.specs.Carried.{Fails};
-ghost use Rattle.text_printing.specs.declared.fault.Stop.TheVariants.{Input};
+ghost use Rattle.pair_world.specs.Carried.{CanBeDone, Fails};
+ghost use Rattle.text_printing.specs.declared.fault.Stop.TheVariants.{Input, Memory};
 ghost use Rattle.text_lines.specs.Flaws.{flaw_of};
 ghost use Rattle.text_lines.specs.Lines.{prints};
 ghost use Rattle.text_lines.specs.Reading.{IsDone, Tells};
@@ -136,8 +136,9 @@ fn open<A: Account>(
     text: &[u8],
     out: &mut Vec<u8>,
 ) -> Result<(), Stop<ScriptFault>>
-    ensures { IsDone result (opened A.told number text.now (first_line text.now))
+    ensures done { IsDone result (opened A.told number text.now (first_line text.now))
         out.old.items out.new.items world.new }
+    ensures unread { first_line text.now ≡ None → result ≡ Err (Input (Text number (flaw_of text.now))) }
 {
     let made = make_world(alloc, number, text)?;
     let told = A::tell_opening(alloc, &made, out);
@@ -148,10 +149,11 @@ fn open<A: Account>(
 
 /// The world that the first line asks for.
 fn make_world(alloc: Global, number: u64, text: &[u8]) -> Result<World, Stop<ScriptFault>>
-    ensures { MatchResult result
+    ensures made { MatchResult result
         (λ world. (t : Told)
         → opened t number text.now (first_line text.now) ≡ prints (t.opening world) (Some world))
         (λ stop. (t : Told) → Tells stop (opened t number text.now (first_line text.now))) }
+    ensures unread { first_line text.now ≡ None → result ≡ Err (Input (Text number (flaw_of text.now))) }
 {
     let Some(opening) = read_opening(text) else {
         return Err(unread(number, text));
@@ -197,7 +199,7 @@ fn do_line<A: Account>(
     }
 }
 
-/// The step of this line is carried out, and what it shows is told.
+/// The step of this line is carried out, and what it shows is told. Memory is wanted only of a step that can be done.
 fn do_step<A: Account>(
     alloc: Global,
     world: &mut World,
@@ -206,9 +208,10 @@ fn do_step<A: Account>(
     shown: &mut Showing,
     out: &mut Vec<u8>,
 ) -> Result<(), Stop<ScriptFault>>
-    ensures { IsDone result
+    ensures done { IsDone result
         (outcome_of A.told number world.old step.now (carried_out world.old step.now))
         out.old.items out.new.items (Some world.new) }
+    ensures memory { result ≡ Err Memory → CanBeDone (carried_out world.old step.now) }
 {
     let note = A::note(world, step);
     match world.carry_out(step, shown) {
@@ -221,8 +224,9 @@ fn do_step<A: Account>(
 fn stop_of(fault: PlayFault, number: u64) -> Stop<ScriptFault>
     requires links { fault ≢ PlayFault.Links }
     requires profiles { fault ≢ PlayFault.Profile }
-    ensures { (t : Told) (w : ModelWorld) (step : ModelStep) (outcome : Outcome) → Fails fault outcome
+    ensures tells { (t : Told) (w : ModelWorld) (step : ModelStep) (outcome : Outcome) → Fails fault outcome
         → Tells result (outcome_of t number w step outcome) }
+    ensures memory { result ≡ Memory → fault ≡ PlayFault.NoMemory }
 {
     match fault {
         PlayFault::NoMemory => Stop::Memory,

@@ -1,5 +1,5 @@
 //! The set under its lock.
-ghost use Rattle.std.specs.Prelude.{◌≡◌, ◌<◌, ◌≤◌, ◌↔◌, ◌⊎◌, ℕ, true, IfOk, IfErr, OnOk, OnErr, if◌then◌else◌};
+ghost use Rattle.std.specs.Prelude.{◌≡◌, ◌<◌, ◌≤◌, ◌-◌, ◌↔◌, ◌⊎◌, ℕ, true, IfOk, IfErr, OnOk, OnErr, if◌then◌else◌};
 ghost use Rattle.set_events.specs.declared.event.Actor.TheVariants.{User, Terminal};
 ghost use Rattle.set_events.specs.declared.event.Event.TheVariants.{Offer, Take, Find};
 ghost use Rattle.set_events.specs.Lent.{HasFitUnit, event_in};
@@ -7,9 +7,11 @@ ghost use Rattle.set_events.specs.Owners.{IsOwn};
 ghost use Rattle.set_ledger.specs.Openings.{IsBaseOf};
 ghost use Rattle.set_ledger.specs.Seats.{Forgets, Receives, new_seats};
 ghost use Rattle.set_ledger.specs.Totals.{AreParts, HeldState};
-ghost use Rattle.set_ledger.specs.Ending.{is_complete, AreFaithful, IsClosed};
+ghost use Rattle.set_ledger.specs.Ending.{calls_at, is_complete, AreFaithful, IsClosed};
+ghost use Rattle.set_model.specs.Checkpoint.{counts_in};
+ghost use Rattle.set_model.specs.History.{IsStep};
 ghost use Rattle.set_model.specs.State.{settings_of};
-ghost use Rattle.set_shared.specs.Asking.{IsAnswered, IsFull};
+ghost use Rattle.set_shared.specs.Asking.{ForgetsBehind, IsAnswered, IsCounted, IsFull};
 
 use set_events::{Answer, Counts, Event, EventRef, Reply, SetConfig};
 use set_ledger::{
@@ -185,6 +187,7 @@ impl<O: Opening> LinkSet<O> {
         requires callable { F.IsAlwaysCallable held }
         ensures receipt { OnOk result (Receives seat.old (event_in event.now) reply.new seat.new) }
         ensures answer { OnOk result (IsAnswered O.settings (event_in event.now) reply.new) }
+        ensures called { OnOk result (F.post held tt) }
         ensures exhausted { result ≡ Err SetFault.Exhausted → IsFull O.settings }
         ensures err { OnErr result (seat.new ≡ seat.old) }
     {
@@ -204,10 +207,11 @@ impl<O: Opening> LinkSet<O> {
         self.held.lock(rt).checkpoint()
     }
 
-    /// How many messages of users stand in each place at some moment of the call. Of what stands under the lock nothing
-    /// can be said here.
-    pub fn counts<R: Wait>(&self, rt: &R) -> Counts {
-        self.held.lock(rt).core().counts()
+    /// How many messages of users stand in each place at some moment of the call: so many do in a set of these settings.
+    pub fn counts<R: Wait>(&self, rt: &R) -> Counts
+        ensures { IsCounted O.settings result }
+    {
+        counts_of(&*self.held.lock(rt))
     }
 
     /// One step, and its answer by itself. The seat has room for its receipt before the lock is taken.
@@ -236,10 +240,11 @@ impl<O: Opening> LinkSet<O> {
     /// Fault: 1 [`SetFault::NoMemory`], only where memory was refused; the seat is then as it was.
     pub fn forget<R: Wait, S: Seat<O>>(&self, rt: &R, seat: &mut S) -> Result<(), SetFault>
         ensures forgets { OnOk result ((many : ℕ) × Forgets many (S.state seat.old) (S.state seat.new)) }
+        ensures behind { OnOk result (ForgetsBehind O.settings (S.state seat.old) (S.state seat.new)) }
         ensures fault { IfErr result (λ fault. fault ≡ SetFault.NoMemory) }
         ensures err { OnErr result (S.state seat.new ≡ S.state seat.old) }
     {
-        forget(&*self.held.lock(rt), seat)
+        forget_behind(&*self.held.lock(rt), seat)
     }
 
     /// Ends a set with all its seats, under no lock: the history is legal from its base, each seat's receipts end with its
@@ -285,11 +290,35 @@ fn ask<O: Opening, S: Seat<O>>(
 ) -> Result<(), SetFault>
     requires own { IsOwn (S.state seat.old).who (event_in event.now) }
     requires fits { HasFitUnit event.now }
+    ensures step { OnOk result
+        (IsStep held.old.set (S.state seat.old).who (event_in event.now) reply.new held.new.set) }
     ensures receipt { OnOk result (Receives (S.state seat.old) (event_in event.now) reply.new (S.state seat.new)) }
     ensures answer { OnOk result (IsAnswered O.settings (event_in event.now) reply.new) }
     ensures exhausted { result ≡ Err SetFault.Exhausted → IsFull O.settings }
-    ensures err { OnErr result (S.state seat.new ≡ S.state seat.old) }
+    ensures err { OnErr result ((held.new ≡ held.old) × (S.state seat.new ≡ S.state seat.old)) }
 {
     held.replays();
     step_in(held, seat, event, reply)
+}
+
+/// How many messages of users stand in each place of what stands under the lock.
+fn counts_of<O: Opening>(held: &Held<O>) -> Counts
+    ensures value { result ≡ counts_in held.now.set.state }
+    ensures set { IsCounted O.settings result }
+{
+    held.replays();
+    held.core().counts()
+}
+
+/// A seat forgets what lies behind the base of what stands under the lock.
+fn forget_behind<O: Opening, S: Seat<O>>(held: &Held<O>, seat: &mut S) -> Result<(), SetFault>
+    ensures forgets { OnOk result (Forgets
+        (calls_at (S.state seat.old).who held.now.set.base.books - (S.state seat.old).forgotten.calls)
+        (S.state seat.old) (S.state seat.new)) }
+    ensures behind { OnOk result (ForgetsBehind O.settings (S.state seat.old) (S.state seat.new)) }
+    ensures fault { IfErr result (λ fault. fault ≡ SetFault.NoMemory) }
+    ensures err { OnErr result (S.state seat.new ≡ S.state seat.old) }
+{
+    held.replays();
+    forget(held, seat)
 }

@@ -1,14 +1,18 @@
 -- The bench, where one of its links changes.
-use Rattle.std.proofs.Common.{sym, ap, subst, ◌≡◌, ◌∙◌, ℕ, ◌<◌, ◌≤◌, Bool, true, List, ◌++◌, length, Option, Some, slice_get, slice_set}
+use Rattle.std.proofs.Common.{sym, ap, subst, ◌≡◌, ◌∙◌, ℕ, ◌<◌, ◌≤◌, Bool, List, ◌++◌, length, Option, Some, slice_get, slice_set}
 use Rattle.std.proofs.Common.{get_or}
+use Rattle.std.proofs.lemmas.List.{append_cancel_left}
 use Rattle.std.proofs.lemmas.Option.{slice_get-get_or}
 use Rattle.l2_units.specs.declared.unit.Unit.{Unit as SignalUnit}
+use Rattle.link_term.specs.declared.fault.TermFault.{TermFault}
 use Rattle.set_events.specs.declared.event.Actor.TheVariants.{Terminal as TerminalOf}
+use Rattle.set_events.specs.declared.fault.SetFault.{SetFault}
+use Rattle.set_events.specs.declared.history.Entry.{Entry}
 use Rattle.set_model.proofs.Lists.{set_same}
 use Rattle.set_model.specs.History.{LinkSet}
 use Rattle.term_bench.specs.Ends.{AtLink, BenchState}
 use Rattle.term_bench.specs.Going.{GoesOn}
-use Rattle.term_bench.specs.Turns.{AreBy, Breaks, TakesTurn, Turns, most_turns}
+use Rattle.term_bench.specs.Turns.{AreBy, Breaks, BreaksOff, TakesTurn, Turns}
 use Rattle.term_bench.specs.Waiting.{Completes, Waits, waits_with}
 use Rattle.l2_bits.specs.LineBits.{number_of}
 use Rattle.std.proofs.Common.{drop, take}
@@ -37,18 +41,20 @@ bench_turns link number index octet old new set was now turn unit numbered is he
 -- so it is where the turn was broken off
 pub bench_breaks : (link number number' index : ℕ) (old new : BenchState) (set : LinkSet) (heard heard' : ℕ) (was now : AtLink)
     → number ≡ link → index ≡ link → set ≡ old.set → slice_get old.links index ≡ Some was
-    → GoesOn number number' set new.set heard heard' → new.links ≡ slice_set old.links index now
-    → (was.counts.turns < most_turns → now.failed ≡ true) → Breaks link old new
-bench_breaks link number number' index old new set heard heard' was now numbered is held is_at goes links fails = record {
+    → {faults faults' : List SetFault} → GoesOn number number' set new.set heard heard' faults faults' → new.links ≡ slice_set old.links index now
+    → (octet : ℕ) (fault : TermFault) (entries : List Entry) → new.set.history ≡ set.history ++ entries
+    → BreaksOff octet fault set new.set was now entries → Breaks link octet fault old new
+bench_breaks link number number' index old new set heard heard' was now numbered is held is_at goes links octet fault entries made off = record {
   was = was;
   now = now;
-  entries = goes.entries;
+  entries = entries;
   is_at = subst (λ n. slice_get old.links n ≡ Some was) is is_at;
-  fails = fails;
+  off = subst (λ (s : LinkSet). BreaksOff octet fault s new.set was now entries) held off;
   links_are = links ∙ ap (λ n. slice_set old.links n now) is;
   base_is = goes.base_is ∙ ap (λ (s : LinkSet). s.base) held;
-  history_is = goes.history_is ∙ ap (λ (s : LinkSet). s.history ++ goes.entries) held;
-  by = subst (λ n. AreBy (TerminalOf n) goes.entries) numbered goes.by;
+  history_is = made ∙ ap (λ (s : LinkSet). s.history ++ entries) held;
+  by = subst (λ (es : List Entry). AreBy (TerminalOf link) es) (append_cancel_left set.history goes.entries entries (sym goes.history_is ∙ made))
+      (subst (λ n. AreBy (TerminalOf n) goes.entries) numbered goes.by);
 }
 
 -- where nothing was done the bench is as it was

@@ -1,5 +1,6 @@
 -- Octets, one after another.
-use Rattle.std.proofs.Common.{refl, ap, subst, suc, ◌∙◌, ℕ, Bool, List, [], ◌∷◌, ◌++◌, take, Option}
+use Rattle.std.proofs.Common.{refl, sym, ap, subst, suc, ◌≡◌, ◌∙◌, ℕ, Bool, List, [], ◌∷◌, ◌++◌, take, Option, Result, Ok, Err, IfErr}
+use Rattle.std.specs.Result.{IsErrAnd}
 use Rattle.std.proofs.Math.Nat.{mod-eq_of_lt}
 use Rattle.l2_bits.proofs.BitLemmas.{length-bits_of, number_of-bits_of}
 use Rattle.l2_bits.specs.LineBits.{bits_of, number_of}
@@ -31,3 +32,9 @@ whole_alone link octet whole old new fits completes none =
     completes.octet_is ∙ ap (λ (bits : List Bool). number_of (take 8 (bits ++ bits_of 8 octet))) none
     ∙ ap (λ (bits : List Bool). number_of bits) (take_eight (bits_of 8 octet) (length-bits_of 8 octet))
     ∙ number_of-bits_of 8 octet ∙ mod-eq_of_lt fits
+
+-- a fault that is handed on
+pub told_on : {R E : Type 0} (result : Result R E) (fault : E) (P : E → Type 0) → IsErrAnd result (λ told. told ≡ fault) → P fault
+    → IfErr result P
+told_on (Ok done) fault P is holds = absurd is
+told_on (Err told) fault P is holds = subst (λ e. P e) (sym is) holds

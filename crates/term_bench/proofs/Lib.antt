@@ -1,4 +1,5 @@
 pub mod TalkLemmas
+pub mod DoorLemmas
 pub mod SlotLemmas
 pub mod LinkLemmas
 pub mod BenchLemmas

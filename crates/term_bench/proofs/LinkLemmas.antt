@@ -1,9 +1,9 @@
 -- A link at the bench.
-use Rattle.std.proofs.Common.{refl, sym, ap, subst, ◌≡◌, ◌∙◌, ℕ, ◌+◌, Bool, false, List, [], ◌∷◌, ◌++◌, length, Option, Some, None, add-one, inl, inr, slice_get, slice_set}
+use Rattle.std.proofs.Common.{refl, sym, ap, subst, ◌≡◌, ◌∙◌, ℕ, ◌+◌, Bool, true, false, List, [], ◌∷◌, ◌++◌, length, Option, Some, None, add-one, inl, inr, slice_get, slice_set}
 use Rattle.std.proofs.Common.{arith, zero, suc, ◌<◌, ◌≤◌, get_or, length-append}
 use Rattle.std.proofs.Math.Seq.{get_or-append_seam}
 use Rattle.std.proofs.lemmas.Bool.{cases_lt}
-use Rattle.std.proofs.lemmas.List.{get_or_append_left}
+use Rattle.std.proofs.lemmas.List.{append-nil, get_or_append_left}
 use Rattle.std.proofs.lemmas.Option.{get_or_from_slice_get, slice_get-get_or, slice_get_within}
 use Rattle.std.specs.Option.{option_to_list}
 use Rattle.l2_bits.proofs.BitLemmas.{bits_of-zero}
@@ -16,14 +16,16 @@ use Rattle.link_term.specs.Turning.{one_if_chosen}
 use Rattle.link_term.specs.declared.counts.Filling.{Filling}
 use Rattle.link_term.specs.declared.counts.MarkCounts.{MarkCounts}
 use Rattle.link_term.specs.declared.counts.Turned.{Turned}
+use Rattle.link_term.specs.declared.fault.TermFault.{TermFault}
 use Rattle.link_term.specs.declared.works.Works.{Works}
+use Rattle.set_events.specs.declared.history.Entry.{Entry}
 use Rattle.set_model.proofs.Lists.{at_set}
 use Rattle.set_model.specs.History.{LinkSet}
 use Rattle.term_model.specs.Terminal.{Terminal, opened}
 use Rattle.term_model.specs.declared.timers.Timers.{Timers}
 use Rattle.term_bench.specs.Ends.{AreNumbered, AtLink, at_link, new_link, new_links, no_counts, word_of}
 use Rattle.term_bench.specs.Taking.{Takes}
-use Rattle.term_bench.specs.Turns.{TakesTurn, counts_after}
+use Rattle.term_bench.specs.Turns.{BreaksOff, FailsBy, fails_now, had_failed, TakesTurn, counts_after}
 use Rattle.term_bench.specs.declared.counts.TurnCounts.{TurnCounts}
 use Rattle.term_bench.specs.declared.turn.Turn.{Turn}
 
@@ -112,6 +114,38 @@ takes_turn link octet set set' heard works works' bits waiting counts counts' tu
   number_is = number;
   cause_is = cause;
 }
+
+-- a turn of its works that was broken off is the link's
+pub breaks_off : (octet : ℕ) (fault : TermFault) (works works' : Works) (bits waiting : ℕ) (counts : TurnCounts)
+    (set set' : LinkSet) (failed : Bool) → works.failed ≡ failed
+    → (works.failed ≡ true → (fault ≡ TermFault.Failed) × (works' ≡ works) × (set'.history ≡ set.history))
+    → (works.failed ≡ false → (entries : List Entry) × (set'.history ≡ set.history ++ entries)
+    × FailsBy octet fault works.taken works'.taken works.inside set set' entries)
+    → works'.failed ≡ true
+    → (entries : List Entry) × (set'.history ≡ set.history ++ entries)
+    × BreaksOff octet fault set set' (at_link works bits waiting counts) (at_link works' bits waiting counts) entries
+breaks_off octet fault works works' bits waiting counts set set' true is stopped breaks fails =
+    let nothing = stopped is in (
+      [],
+      nothing.2 ∙ sym (append-nil set.history),
+      record {
+        why = had_failed nothing.0 is (ap (λ (w : Works). at_link w bits waiting counts) nothing.1) refl;
+        counts_are = refl;
+        waiting_are = refl;
+        fails = λ fewer. fails;
+      },
+    )
+breaks_off octet fault works works' bits waiting counts set set' false is stopped breaks fails =
+    let so = breaks is in (
+      so.0,
+      so.1,
+      record {
+        why = fails_now is so.2;
+        counts_are = refl;
+        waiting_are = refl;
+        fails = λ fewer. fails;
+      },
+    )
 
 -- a link that changes keeps its number
 pub numbered_set : (links : List AtLink) (n : ℕ) (was now : AtLink) → AreNumbered links → slice_get links n ≡ Some was

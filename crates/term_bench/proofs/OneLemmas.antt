@@ -1,5 +1,5 @@
 -- What came on a line decides what a bench does: one lemma for each of the definitions, from a unit on a line upwards.
-use Rattle.std.proofs.Common.{refl, sym, ap, subst, arith, ◌≡◌, ◌∙◌, ◌<◌, ◌≤◌, ℕ, Bool, true, false, List, [], ◌∷◌, ◌++◌, length, take, drop, Option, None, Some, slice_get, slice_set}
+use Rattle.std.proofs.Common.{refl, sym, ap, subst, arith, ◌≡◌, ◌∙◌, ◌≤◌, ℕ, Bool, true, false, List, [], ◌∷◌, ◌++◌, length, take, drop, Option, None, Some, slice_get, slice_set}
 use Rattle.std.specs.Option.{option_to_list}
 use Rattle.l2_bits.proofs.MarkLemmas.{marks_alone}
 use Rattle.l2_bits.proofs.StuffingLemmas.{one_text}

@@ -1,16 +1,17 @@
 -- A turn with the octet of a timeslot: that octet was taken, and one was put.
 use Rattle.std.proofs.Common.{refl, sym, ap, subst, arith, ◌≡◌, ◌∙◌, ℕ, ◌+◌, Bool, true, false, List, [], ◌∷◌, ◌++◌, take, Option, Some, None, if◌then◌else◌, zero-add}
-use Rattle.std.specs.Option.{option_to_list}
+use Rattle.std.specs.Option.{ForSome, option_to_list}
 use Rattle.std.proofs.lemmas.List.{append_cancel_left}
 use Rattle.link_term.specs.Filling.{filling_of, with_unit}
 use Rattle.link_term.specs.Looking.{seen}
 use Rattle.link_term.specs.Standing.{standing}
-use Rattle.link_term.specs.Turning.{TurnsOnce}
+use Rattle.link_term.specs.Turning.{TurnFails, TurnsOnce, by_fault, by_profile}
 use Rattle.link_term.specs.declared.counts.Turned.{Turned}
+use Rattle.link_term.specs.declared.fault.TermFault.{TermFault}
 use Rattle.set_events.specs.declared.event.Actor.TheVariants.{Terminal as TerminalOf}
 use Rattle.set_events.specs.declared.fault.SetFault.{SetFault}
 use Rattle.set_events.specs.declared.history.Entry.{Entry}
-use Rattle.set_model.specs.History.{LinkSet, IsLegal, after}
+use Rattle.set_model.specs.History.{LinkSet, IsLegal, after, entries_in}
 use Rattle.set_model.specs.State.{State}
 use Rattle.term_model.specs.Choosing.{Filled}
 use Rattle.term_model.specs.OctetIn.{GivesMarks}
@@ -18,10 +19,10 @@ use Rattle.term_model.specs.OctetOut.{PutsOctet, put_of}
 use Rattle.term_model.specs.Terminal.{Terminal}
 use Rattle.term_model.specs.Turn.{turn_talk}
 use Rattle.l2_bits.specs.LineBits.{line_bits, number_of}
-use Rattle.term_bench.specs.Going.{GoesOn}
+use Rattle.term_bench.specs.Going.{AreTold, GoesOn}
 use Rattle.term_bench.specs.Slots.{places_in}
 use Rattle.term_bench.specs.Taking.{Takes}
-use Rattle.term_bench.specs.Turns.{AreBy, messages_heard}
+use Rattle.term_bench.specs.Turns.{AreBy, FailsBy, by_set, by_wide, messages_heard}
 use Rattle.term_bench.proofs.TalkLemmas.{by_steps, after-append, legal_later}
 
 -- the octet that was there is the one that was taken
@@ -84,7 +85,7 @@ pub takes : (link link' octet : ℕ) (set set' : LinkSet) (heard heard' : ℕ) (
     (turns : TurnsOnce (standing taken before set.history faults (seen given waiting old free)) turned
     (standing taken' after set'.history faults'
     (seen (if is_taken then there ∷ [] else []) waiting' (option_to_list slot) (places_in slot))))
-    → GoesOn link link' set set' heard heard' → Replays set → Replays set' → heard ≡ 0
+    → GoesOn link link' set set' heard heard' faults faults' → Replays set → Replays set' → heard ≡ 0
     → given ≡ [] → waiting ≡ octet ∷ [] → there ≡ octet → old ≡ [] → slot ≡ Some put
     → Takes link octet set set' heard' taken taken' before after put turned turns.turn.chosen.unit
 takes link link' octet set set' heard heard' taken taken' before after turned there is_taken slot put given waiting old turns goes
@@ -114,3 +115,35 @@ takes link link' octet set set' heard heard' taken taken' before after turned th
       marks_are = turns.counts_are;
       filling_is = turns.filling_is ∙ narrow_unit turns.turn.chosen turns.turn.narrow;
     }
+
+-- what was taken, if anything was, is the octet that was there
+came_is : (came : Option ℕ) (octet there : ℕ) (is_taken : Bool) (given : List ℕ) → given ≡ [] → there ≡ octet
+    → (if is_taken then there ∷ [] else []) ≡ given ++ option_to_list came → ForSome came (λ o. o ≡ octet)
+came_is None octet there is_taken given none same is = λ x some. absurd (cc some)
+came_is (Some o) octet there true given none same is = λ x some.
+    let both : there ∷ [] ≡ o ∷ [] = is ∙ ap (λ (os : List ℕ). os ++ o ∷ []) none in cc (both, some, same)
+came_is (Some o) octet there false given none same is = λ x some.
+    let both : [] ≡ o ∷ [] = is ∙ ap (λ (os : List ℕ). os ++ o ∷ []) none in absurd (cc both)
+
+-- A TURN IN A TIMESLOT that failed, as the link tells it
+pub fails_by : (octet : ℕ) (fault : TermFault) (taken taken' : List ℕ) (before after : Terminal) (link link' : ℕ) (set set' : LinkSet)
+    (heard heard' : ℕ) (there : ℕ) (is_taken : Bool) (given : List ℕ)
+    {faults faults' : List SetFault} {waiting waiting' put put' : List ℕ} {free free' : ℕ}
+    → TurnFails fault (standing taken before set.history faults (seen given waiting put free))
+    (standing taken' after set'.history faults' (seen (if is_taken then there ∷ [] else []) waiting' put' free'))
+    → GoesOn link link' set set' heard heard' faults faults' → given ≡ [] → there ≡ octet
+    → (entries : List Entry) × (set'.history ≡ set.history ++ entries) × FailsBy octet fault taken taken' before set set' entries
+fails_by octet fault taken taken' before after link link' set set' heard heard' there is_taken given {faults} (by_fault broken turn) goes none same = (
+  turn.entries,
+  turn.made_is,
+  by_set broken.told turn.octet turn.last broken.fault_is
+      (subst (λ (fs : List SetFault). AreTold (entries_in set) (entries_in set') fs)
+      (append_cancel_left faults goes.told (broken.told ∷ []) (sym goes.faults_are ∙ broken.faults_are)) goes.told_is).0
+      (came_is turn.octet octet there is_taken given none same turn.given_is) turn.taken_is
+      turn.turn,
+)
+fails_by octet fault taken taken' before after link link' set set' heard heard' there is_taken given (by_profile is unchanged turn) goes none same = (
+  turn.entries,
+  turn.made_is,
+  by_wide turn.octet is (came_is turn.octet octet there is_taken given none same turn.given_is) turn.taken_is turn.turn,
+)

@@ -1,6 +1,6 @@
 -- A TURN BY AN OCTET, at the set itself.
-use Rattle.std.specs.Prelude.{◌≡◌, ◌<◌, ◌≤◌, ℕ, ◌+◌, ◌*◌, ◌^◌, Bool, true, false, List, [], ◌∷◌, ◌++◌, length, Option, Some, slice_get, slice_set, if◌then◌else◌}
-use Rattle.std.specs.Option.{option_to_list}
+use Rattle.std.specs.Prelude.{◌≡◌, ◌<◌, ◌≤◌, ◌↔◌, ℕ, ◌+◌, ◌*◌, ◌^◌, Bool, true, false, List, [], ◌∷◌, ◌++◌, length, Option, Some, slice_get, slice_set, if◌then◌else◌}
+use Rattle.std.specs.Option.{ForSome, option_to_list}
 use Rattle.l2_bits.specs.LineBits.{line_bits}
 use Rattle.l2_bits.specs.declared.marks.Mark.{Mark}
 use Rattle.l2_units.specs.declared.unit.Unit.{Unit as SignalUnit}
@@ -8,13 +8,18 @@ use Rattle.set_events.specs.declared.answer.Answer.{Answer}
 use Rattle.set_events.specs.declared.answer.Took.{Took}
 use Rattle.set_events.specs.declared.event.Actor.{Actor}
 use Rattle.set_events.specs.declared.event.Actor.TheVariants.{Terminal as TerminalOf}
+use Rattle.set_events.specs.declared.event.Event.{Event}
+use Rattle.set_events.specs.declared.fault.SetFault.{SetFault}
 use Rattle.set_events.specs.declared.history.Entry.{Entry}
-use Rattle.set_model.specs.History.{LinkSet, IsLegal, after}
+use Rattle.set_model.specs.History.{LinkSet, IsLegal, after, entries_in, longest_history}
 use Rattle.set_model.specs.State.{State}
 use Rattle.term_model.specs.OctetIn.{GivesMarks}
 use Rattle.term_model.specs.OctetOut.{PutsOctet}
 use Rattle.term_model.specs.Runs.{counted, is_bad, is_good, is_sixteen}
-use Rattle.term_model.specs.Turn.{IsTurn, turn_talk}
+use Rattle.term_model.specs.Terminal.{Terminal}
+use Rattle.term_model.specs.Turn.{IsBrokenTurn, IsTurn, IsWideTurn, turn_talk}
+use Rattle.link_term.specs.declared.fault.TermFault.{TermFault}
+use Rattle.link_term.specs.Faults.{fault_of}
 use Rattle.term_bench.specs.declared.counts.TurnCounts.{TurnCounts}
 use Rattle.term_bench.specs.declared.turn.Turn.{Turn}
 use Rattle.term_bench.specs.Ends.{AtLink, BenchState, word_of}
@@ -109,13 +114,51 @@ abbrev pub AreBy : Actor → List Entry → Type 0
 AreBy who [] = Unit {0}
 AreBy who (entry ∷ entries) = (entry.who ≡ who) × AreBy who entries
 
--- a turn of this link was broken off: what the set was asked till then stands in its history, and each later turn fails
-pub record Breaks (link : ℕ) (old new : BenchState) : Type 0 where
+-- A FAULT OF A SET that had so many entries before, and so many after: Exhausted exactly where its history was full
+pub record IsTold (from to : ℕ) (fault : SetFault) : Type 0 where
+  pub entries : ℕ
+  pub begun : from ≤ entries
+  pub ended : entries ≤ to
+  pub full : (fault ≡ SetFault.Exhausted) ↔ (longest_history ≤ entries)
+
+-- A TURN BY THIS OCTET FAILED, after these entries: the set told a fault in place of an answer, or it gave a unit of the wide
+-- profile, whose entry stays. By then the terminal took the octet, or nothing yet.
+pub data FailsBy (octet : ℕ) (fault : TermFault) (heard heard' : List ℕ) (before : Terminal) (set set' : LinkSet)
+    (entries : List Entry) : Type 0 where
+  by_set : (told : SetFault) (came : Option ℕ) (last : Event) → fault ≡ fault_of told
+      → IsTold (entries_in set) (entries_in set') told → ForSome came (λ o. o ≡ octet)
+      → heard' ≡ heard ++ option_to_list came → IsBrokenTurn (line_bits heard) before came entries last
+      → FailsBy octet fault heard heard' before set set' entries
+  by_wide : (came : Option ℕ) → fault ≡ TermFault.Profile → ForSome came (λ o. o ≡ octet)
+      → heard' ≡ heard ++ option_to_list came → IsWideTurn (line_bits heard) before came entries
+      → FailsBy octet fault heard heard' before set set' entries
+
+-- WHY A TURN OF A LINK WAS BROKEN OFF: it had taken all its turns, or a turn of it was broken off before, and nothing was done;
+-- or this one failed
+pub data IsWhy (octet : ℕ) (fault : TermFault) (set set' : LinkSet) (was now : AtLink) (entries : List Entry)
+    : Type 0 where
+  no_turn_left : fault ≡ TermFault.Exhausted → was.counts.turns ≡ most_turns → now ≡ was → entries ≡ []
+      → IsWhy octet fault set set' was now entries
+  had_failed : fault ≡ TermFault.Failed → was.failed ≡ true → now ≡ was → entries ≡ []
+      → IsWhy octet fault set set' was now entries
+  fails_now : was.failed ≡ false → FailsBy octet fault was.heard now.heard was.terminal set set' entries
+      → IsWhy octet fault set set' was now entries
+
+-- it isn't counted, the bits that wait stay, and each later turn fails
+pub record BreaksOff (octet : ℕ) (fault : TermFault) (set set' : LinkSet) (was now : AtLink) (entries : List Entry)
+    : Type 0 where
+  pub why : IsWhy octet fault set set' was now entries
+  pub counts_are : now.counts ≡ was.counts
+  pub waiting_are : now.waiting ≡ was.waiting
+  pub fails : was.counts.turns < most_turns → now.failed ≡ true
+
+-- THE BENCH BROKE A TURN OFF of this link, by this fault: what the set was asked till then stands in its history
+pub record Breaks (link octet : ℕ) (fault : TermFault) (old new : BenchState) : Type 0 where
   pub was : AtLink
   pub now : AtLink
   pub entries : List Entry
   pub is_at : slice_get old.links link ≡ Some was
-  pub fails : was.counts.turns < most_turns → now.failed ≡ true
+  pub off : BreaksOff octet fault old.set new.set was now entries
   pub links_are : new.links ≡ slice_set old.links link now
   pub base_is : new.set.base ≡ old.set.base
   pub history_is : new.set.history ≡ old.set.history ++ entries

@@ -3,6 +3,7 @@ use Rattle.std.specs.Prelude.{◌≡◌, ◌<◌, ◌≤◌, ◌^◌, ℕ, Bool,
 use Rattle.std.specs.Option.{option_to_list}
 use Rattle.l2_bits.specs.LineBits.{bits_of, number_of}
 use Rattle.link_term.specs.Filling.{Taps}
+use Rattle.link_term.specs.declared.fault.TermFault.{TermFault}
 use Rattle.l2_units.specs.declared.unit.Unit.{Unit as SignalUnit}
 use Rattle.term_bench.specs.Ends.{AtLink, BenchState}
 use Rattle.term_bench.specs.Turns.{Breaks, Turns}
@@ -42,12 +43,12 @@ pub record Hears (link : ℕ) (bits : List Bool) (old : BenchState) (turn : Turn
   pub completes : Completes link bits old octet between
   pub turns : Turns link octet between turn unit new
 
--- or that turn was broken off
-pub record HearsBroken (link : ℕ) (bits : List Bool) (old new : BenchState) : Type 0 where
+-- or that turn was broken off, by this fault
+pub record HearsBroken (link : ℕ) (bits : List Bool) (fault : TermFault) (old new : BenchState) : Type 0 where
   pub octet : ℕ
   pub between : BenchState
   pub completes : Completes link bits old octet between
-  pub breaks : Breaks link between new
+  pub breaks : Breaks link octet fault between new
 
 -- A BIT COMES: where no octet is whole with it nothing else happens
 abbrev pub HearsBit : {T : Type 0} → (T → SignalUnit → T → Type 0) → Option Turn → ℕ → Bool → BenchState → BenchState
@@ -64,6 +65,15 @@ HearsAll link (octet ∷ octets) old [] new = ⊥
 HearsAll link (octet ∷ octets) old (turn ∷ turns) new =
     (between : BenchState) × (unit : Option SignalUnit) × Hears link (bits_of 8 octet) old turn unit between
     × HearsAll link octets between turns new
+
+-- OCTETS COME, up to a fault: no memory for what the turns do, and none is taken; or so many octets had their turns, and that
+-- of the next one was broken off
+pub data HearsSome (link : ℕ) (octets : List ℕ) (fault : TermFault) (old : BenchState) (made : List Turn) (new : BenchState)
+    : Type 0 where
+  no_room : fault ≡ TermFault.NoMemory → made ≡ [] → new ≡ old → HearsSome link octets fault old made new
+  broken : (count octet : ℕ) (between : BenchState) → slice_get octets count ≡ Some octet
+      → HearsAll link (take count octets) old made between → HearsBroken link (bits_of 8 octet) fault between new
+      → HearsSome link octets fault old made new
 
 -- BITS COME PIECE BY PIECE, of eight bits or fewer, the first piece first: a turn where an octet is whole with a piece, and
 -- the unit that it appended, if any; else the piece waits

@@ -34,18 +34,18 @@ impl Model for Bench {
 }
 
 impl Bench {
-    ghost use Rattle.std.specs.Prelude.{◌≡◌, ◌<◌, ◌≤◌, List, [], ◌∷◌, ◌++◌, length, slice_get, Option, Some, true, IfErr, IfNone, IfOk, IfSome, OnErr, OnOk};
+    ghost use Rattle.std.specs.Prelude.{◌≡◌, ◌<◌, ◌≤◌, ◌↔◌, List, [], ◌∷◌, ◌++◌, length, slice_get, Option, Some, true, IfErr, IfNone, IfOk, IfSome, OnErr, OnOk};
     ghost use Rattle.term_bench.specs.Ends.{AtLink, Commands, IsAt, is_start, new_bench, phase_of, word_of};
     ghost use Rattle.term_bench.specs.declared.turn.Turn.{Turn};
     ghost use Rattle.term_bench.specs.declared.word.Phase.TheVariants.{Left};
     ghost use Rattle.set_events.specs.declared.answer.Refusal.TheVariants.{Unsettled};
     ghost use Rattle.term_bench.specs.Turns.{Breaks, Turns, most_turns};
-    ghost use Rattle.term_bench.specs.Waiting.{Completes, Hears, HearsAll, HearsBit, HearsBroken, Waits};
+    ghost use Rattle.term_bench.specs.Waiting.{Completes, Hears, HearsAll, HearsBit, HearsBroken, HearsSome, Waits};
     ghost use Rattle.l2_bits.specs.LineBits.{bits_of};
     ghost use Rattle.l2_units.specs.declared.unit.Unit.{Unit as SignalUnit};
     ghost use Rattle.link_term.specs.Filling.{Taps};
     ghost use Rattle.link_term.specs.declared.fault.TermFault.TheVariants.{Exhausted, Failed};
-    ghost use Rattle.set_model.specs.History.{IsActor, IsLegal, IsStep, after, based};
+    ghost use Rattle.set_model.specs.History.{IsActor, IsLegal, IsStep, after, based, entries_in, longest_history};
 
     /// A bench whose set is opened with this configuration, and whose links are out of service, with timers of these
     /// lengths, in octet times (Q.703 12.3).
@@ -127,13 +127,14 @@ impl Bench {
     ///
     /// Faults: 3 [`TermFault::Exhausted`] where the link took 2^48 turns, tested first: nothing is done then; 2
     /// [`TermFault::Failed`] where a turn of it was broken off before: nothing is done either; 1
-    /// [`TermFault::NoMemory`], 3 [`TermFault::Exhausted`] and 4 [`TermFault::Profile`], where the set's answer breaks
-    /// the turn off.
+    /// [`TermFault::NoMemory`] and 3 [`TermFault::Exhausted`] where the set told that fault, the latter exactly where
+    /// its history was full, and 4 [`TermFault::Profile`] where it gave a unit of the wide profile: that breaks the
+    /// turn off. It isn't counted, and the bits that wait stay.
     pub fn turn(&mut self, link: u8, octet: u8) -> Result<Turn, TermFault>
         requires { link < length self.old.links }
         ensures turns { IfOk result (λ turn. (unit : Option SignalUnit)
             × Turns link octet self.old turn unit self.new) }
-        ensures breaks { OnErr result (Breaks link self.old self.new) }
+        ensures breaks { IfErr result (λ fault. Breaks link octet fault self.old self.new) }
         ensures exhausted { (at : AtLink) → slice_get self.old.links link ≡ Some at
             → at.counts.turns ≡ most_turns → (result ≡ Err Exhausted) × (self.new ≡ self.old) }
         ensures failed { (at : AtLink) → slice_get self.old.links link ≡ Some at → at.failed ≡ true
@@ -152,7 +153,7 @@ impl Bench {
         requires { link < length self.old.links }
         ensures turns { IfOk result (λ turn. (unit : Option SignalUnit)
             × Turns link octet self.old turn unit self.new × Taps T.told unit tap.old tap.new) }
-        ensures breaks { OnErr result (Breaks link self.old self.new) }
+        ensures breaks { IfErr result (λ fault. Breaks link octet fault self.old self.new) }
         ensures exhausted { (at : AtLink) → slice_get self.old.links link ≡ Some at
             → at.counts.turns ≡ most_turns → (result ≡ Err Exhausted) × (self.new ≡ self.old) }
         ensures failed { (at : AtLink) → slice_get self.old.links link ≡ Some at → at.failed ≡ true
@@ -177,7 +178,7 @@ impl Bench {
         requires { link < length self.old.links }
         ensures turns { IfOk result (λ turn. (unit : Option SignalUnit)
             × Hears link (bits_of 8 octet) self.old turn unit self.new × Taps T.told unit tap.old tap.new) }
-        ensures breaks { OnErr result (HearsBroken link (bits_of 8 octet) self.old self.new) }
+        ensures breaks { IfErr result (λ fault. HearsBroken link (bits_of 8 octet) fault self.old self.new) }
         ensures untold { OnErr result (tap.new ≡ tap.old) }
         ensures links { length self.new.links ≡ length self.old.links }
     {
@@ -189,8 +190,8 @@ impl Bench {
     /// what stood in `turns`. So as many octets are put as came
     /// ([`as_many_octets_are_put`](super::as_many_octets_are_put)).
     ///
-    /// Faults: 1 [`TermFault::NoMemory`] where memory is wanted for `turns`, too; those of [`Bench::turn`]. The turns
-    /// that went by then stand there.
+    /// Faults: 1 [`TermFault::NoMemory`] where memory is wanted for `turns`, too: no octet is heard then; those of
+    /// [`Bench::turn`], where the turns that went by then stand there.
     pub fn hear_octets(
         &mut self,
         link: u8,
@@ -200,6 +201,8 @@ impl Bench {
         requires { link < length self.old.links }
         ensures hears { OnOk result ((made : List Turn) × (turns.new.items ≡ turns.old.items ++ made)
             × HearsAll link octets.now self.old made self.new) }
+        ensures breaks { IfErr result (λ fault. (made : List Turn) × (turns.new.items ≡ turns.old.items ++ made)
+            × HearsSome link octets.now fault self.old made self.new) }
         ensures links { length self.new.links ≡ length self.old.links }
     {
         if turns.reserve(octets.len()).is_err() {
@@ -207,10 +210,7 @@ impl Bench {
         }
         for octet in octets {
             let turn = self.hear_octet(link, *octet, &mut NoTap)?;
-            match turns.push(turn) {
-                Ok(()) => {}
-                Err(_) => return Err(TermFault::NoMemory),
-            }
+            turns.push_reserved(turn);
         }
         Ok(())
     }
@@ -225,7 +225,7 @@ impl Bench {
     ) -> Result<Option<Turn>, TermFault>
         requires { link < length self.old.links }
         ensures hears { IfOk result (λ heard. HearsBit T.told heard link bit self.old self.new tap.old tap.new) }
-        ensures breaks { OnErr result (HearsBroken link (bit ∷ []) self.old self.new) }
+        ensures breaks { IfErr result (λ fault. HearsBroken link (bit ∷ []) fault self.old self.new) }
         ensures untold { OnErr result (tap.new ≡ tap.old) }
         ensures links { length self.new.links ≡ length self.old.links }
     {
@@ -245,6 +245,7 @@ impl Bench {
     pub fn ask(&mut self, who: Actor, event: &Event) -> Result<Answer, SetFault>
         requires { IsActor who }
         ensures ok { IfOk result (λ answer. IsStep self.old.set who event.now answer self.new.set) }
+        ensures exhausted { (result ≡ Err SetFault.Exhausted) ↔ (longest_history ≤ entries_in self.old.set) }
         ensures links { self.new.links ≡ self.old.links }
         ensures err { OnErr result (self.new ≡ self.old) }
     {

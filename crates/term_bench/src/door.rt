@@ -1,9 +1,9 @@
 //! The door of a bench's set.
-ghost use Rattle.std.specs.Prelude.{◌≡◌, ◌<◌, ◌≤◌, ◌+◌, [], length, if◌then◌else◌, IfOk, IfErr, OnOk, OnErr};
+ghost use Rattle.std.specs.Prelude.{◌≡◌, ◌<◌, ◌≤◌, ◌+◌, ◌↔◌, [], length, if◌then◌else◌, IfOk, IfErr, OnOk, OnErr};
 ghost use Rattle.term_bench.specs.Turns.{brings_message, is_message};
 ghost use Rattle.set_events.specs.Lent.{answer_in};
-ghost use Rattle.set_events.specs.declared.fault.SetFault.TheVariants.{NoMemory};
-ghost use Rattle.set_model.specs.History.{IsActor, IsStep, based};
+ghost use Rattle.set_events.specs.declared.fault.SetFault.TheVariants.{Exhausted, NoMemory};
+ghost use Rattle.set_model.specs.History.{IsActor, IsStep, based, entries_in, longest_history};
 
 use link_term::{Door, Faults};
 use set_core::SetCore;
@@ -49,6 +49,7 @@ impl SetDoor {
     pub(crate) fn ask(&mut self, who: Actor, event: &Event) -> Result<Answer, SetFault>
         requires { IsActor who }
         ensures ok { IfOk result (λ answer. IsStep self.old.set who event.now answer self.new.set) }
+        ensures exhausted { (result ≡ Err Exhausted) ↔ (longest_history ≤ entries_in self.old.set) }
         ensures err { OnErr result (self.new.set ≡ self.old.set) }
     {
         self.heard = 0;
@@ -110,12 +111,12 @@ impl Door for SetDoor {
 
     ghost faults = { λ door. door.faults };
 
-    ghost is_same = { λ a b. GoesOn a.link b.link a.set b.set a.heard b.heard };
+    ghost is_same = { λ a b. GoesOn a.link b.link a.set b.set a.heard b.heard a.faults b.faults };
 
-    ghost same_self = { λ door. stands_still door.link door.set door.heard };
+    ghost same_self = { λ door. stands_still door.link door.set door.heard door.faults };
 
     ghost same_on = { λ first second third a b. goes_further first.link second.link third.link first.set
-        second.set third.set first.heard second.heard third.heard a b };
+        second.set third.set first.heard second.heard third.heard first.faults second.faults third.faults a b };
 
     fn link(&self) -> u8 {
         self.link

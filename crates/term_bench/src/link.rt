@@ -1,11 +1,12 @@
 //! A link at the bench.
-ghost use Rattle.std.specs.Prelude.{◌≡◌, ◌<◌, ◌≤◌, ◌+◌, ◌^◌, [], ◌∷◌, ◌++◌, Option, true, false, drop, length, take, if◌then◌else◌, IfNone, IfOk, IfSome, OnOk, OnErr};
+ghost use Rattle.std.specs.Prelude.{◌≡◌, ◌<◌, ◌≤◌, ◌+◌, ◌^◌, [], ◌∷◌, ◌++◌, List, Option, true, false, drop, length, take, if◌then◌else◌, IfErr, IfNone, IfOk, IfSome, OnOk, OnErr};
+ghost use Rattle.set_events.specs.declared.history.Entry.{Entry};
 ghost use Rattle.term_bench.specs.Ends.{new_link, new_links, told_at, word_of};
 ghost use Rattle.term_bench.specs.Going.{GoesOn};
 ghost use Rattle.term_bench.specs.Taking.{Takes};
 ghost use Rattle.term_bench.specs.Waiting.{waits_with};
 ghost use Rattle.l2_bits.specs.LineBits.{bits_of, number_of};
-ghost use Rattle.term_bench.specs.Turns.{AreFew, TakesTurn, most_turns};
+ghost use Rattle.term_bench.specs.Turns.{AreFew, BreaksOff, FailsBy, TakesTurn, most_turns};
 ghost use Rattle.l2_units.specs.declared.unit.Unit.{Unit as SignalUnit};
 ghost use Rattle.link_term.specs.declared.fault.TermFault.TheVariants.{Exhausted, Failed};
 ghost use Rattle.link_term.specs.Filling.{Taps};
@@ -92,9 +93,12 @@ impl LinkEnd {
             × TakesTurn door.old.link octet door.old.set self.old turn unit door.new.set self.new
             × Taps T.told unit tap.old tap.new) }
         ensures same { GoesOn door.old.link door.new.link door.old.set door.new.set door.old.heard
-            door.new.heard }
+            door.new.heard door.old.faults door.new.faults }
         ensures link { self.new.terminal.link ≡ self.old.terminal.link }
         ensures fails { OnErr result (self.old.counts.turns < most_turns → self.new.failed ≡ true) }
+        ensures breaks { IfErr result (λ fault. (entries : List Entry)
+            × (door.new.set.history ≡ door.old.set.history ++ entries)
+            × BreaksOff octet fault door.old.set door.new.set self.old self.new entries) }
         ensures exhausted { self.old.counts.turns ≡ most_turns → (result ≡ Err Exhausted)
             × (self.new ≡ self.old) × (door.new ≡ door.old) }
         ensures failed { self.old.failed ≡ true → self.old.counts.turns < most_turns
@@ -223,11 +227,14 @@ fn take_octet<T: Tap>(
         works.new.taken works.old.inside works.new.inside out.0 out.1 unit
         × Taps T.told unit tap.old tap.new) }
     ensures same { GoesOn door.old.link door.new.link door.old.set door.new.set door.old.heard
-        door.new.heard }
+        door.new.heard door.old.faults door.new.faults }
     ensures link { works.new.inside.link ≡ works.old.inside.link }
     ensures failed { works.old.failed ≡ true → (result ≡ Err Failed) × (works.new ≡ works.old)
         × (door.new ≡ door.old) }
     ensures fails { OnErr result (works.new.failed ≡ true) }
+    ensures breaks { works.old.failed ≡ false → IfErr result (λ fault. (entries : List Entry)
+        × (door.new.set.history ≡ door.old.set.history ++ entries)
+        × FailsBy octet fault works.old.taken works.new.taken works.old.inside door.old.set door.new.set entries) }
     ensures goes_on { OnOk result (works.new.failed ≡ false) }
     ensures untold { OnErr result (tap.new ≡ tap.old) }
 {

@@ -6,6 +6,8 @@
 //! [`Refusing::blocks`] how many blocks are out.
 #![tactic(auto)]
 
+ghost use Rattle.std.specs.Prelude.{◌≡◌, ◌<◌, ◌≤◌, ◌+◌, ◌-◌, ◌^◌, ◌↔◌, IsTrue};
+
 use std::alloc::{AllocError, Allocator};
 use std::cell::Cell;
 
@@ -45,7 +47,7 @@ impl<B: Allocator> Refusing<B> {
     /// How many blocks are out: those that were handed out and didn't come back. A growth hands one out and takes one
     /// back.
     pub fn blocks(&self) -> u64 {
-        self.handed.get().wrapping_sub(self.returned.get())
+        blocks_out(self.handed.get(), self.returned.get())
     }
 }
 
@@ -62,14 +64,37 @@ impl<B: Allocator> Drop for Refusing<B> {
 
 /// Whether the next allocation is the one to refuse; counts it.
 fn refuses(left: &Cell<u64>) -> bool {
-    let number = left.get();
-    left.set(number.saturating_sub(1));
-    number == 1
+    let (refused, number) = next_of(left.get());
+    left.set(number);
+    refused
+}
+
+/// Where of the allocations to come the one of this number is refused, counted from 1, and with the number 0 none:
+/// whether the next one is, and the number of the one to refuse among those behind it.
+fn next_of(number: u64) -> (bool, u64)
+    ensures refused { IsTrue result.0 ↔ (number ≡ 1) }
+    ensures left { result.1 ≡ number - 1 }
+{
+    (number == 1, number.saturating_sub(1))
 }
 
 /// One more.
 fn count(blocks: &Cell<u64>) {
-    blocks.set(blocks.get().wrapping_add(1));
+    blocks.set(one_more(blocks.get()));
+}
+
+/// One more than so many.
+fn one_more(blocks: u64) -> u64
+    ensures { blocks + 1 < 2 ^ 64 → result ≡ blocks + 1 }
+{
+    blocks.wrapping_add(1)
+}
+
+/// How many are out, where so many were handed out and so many of them came back.
+fn blocks_out(handed: u64, returned: u64) -> u64
+    ensures { returned ≤ handed → result + returned ≡ handed }
+{
+    handed.wrapping_sub(returned)
 }
 
 unsafe impl<B: Allocator> Allocator for Refusing<B> {

@@ -1,6 +1,6 @@
 -- WHETHER ALL WAS DELIVERED IN ORDER, as the user at an end b took it: each of its messages is the next that its stream's user
 -- offered at end a. Streams have the numbers of their users.
-use Rattle.std.specs.Prelude.{◌≡◌, ◌≢◌, ◌==◌, ◌<◌, ◌≤◌, ◌⊎◌, ℕ, suc, List, [], ◌∷◌, ◌++◌, filter, map, take, slice_get, Option, None, Some, Result, Ok, Err}
+use Rattle.std.specs.Prelude.{◌≡◌, ◌≢◌, ◌==◌, ◌<◌, ◌≤◌, ◌⊎◌, ℕ, suc, List, [], ◌∷◌, ◌++◌, codes, decimal, filter, map, take, slice_get, Option, None, Some, Result, Ok, Err}
 use Rattle.bank_traffic.specs.Opening.{body_of, numbers_below}
 use Rattle.bank_crew.specs.Jobs.{kept_by}
 use Rattle.bank_crew.specs.declared.end.SetEnd.{SetEnd}
@@ -66,3 +66,9 @@ IsVerdict users messages set (end ∷ ends) verdict =
     (AllOfSet users messages (taken_first end.users.items) × IsVerdict users messages (suc set) ends verdict)
     ⊎ ((missing : Missing) × (verdict ≡ Some missing)
     × TellsSet users messages set (taken_first end.users.items) (Some missing))
+
+-- THE FAULT of a run in which a message is missing, as its line tells it
+abbrev pub missing_line : Missing → List ℕ
+missing_line missing =
+    codes "fault missing set=" ++ (decimal missing.set ++ (codes " stream=" ++ (decimal missing.stream
+    ++ (codes " message=" ++ decimal missing.message))))

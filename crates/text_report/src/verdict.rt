@@ -23,6 +23,11 @@ pub struct Missing {
 }
 
 impl Display for Missing {
+    ghost use Rattle.std.specs.Prelude.{Some};
+    ghost use Rattle.text_report.specs.Verdict.{missing_line};
+
+    ghost output = { λ missing. Some (missing_line missing) };
+
     fn fmt<W: fmt::Write>(&self, f: &mut fmt::Formatter<W>) -> fmt::Result {
         let set = self.set;
         let stream = self.stream;

@@ -6,7 +6,10 @@ use Rattle.std.proofs.lemmas.List.Elements.{All-nil, All-cons}
 use Rattle.set_events.specs.declared.config.SetConfig.{SetConfig}
 use Rattle.bank_crew.specs.declared.end.SetEnd.{SetEnd}
 use Rattle.bank_crew.specs.Ends.{Task}
+use Rattle.std.proofs.KnownBytes.{Appends-nil}
 use Rattle.bank_core.specs.Ends.{AreEnds}
+use Rattle.bank_core.specs.declared.fault.BankFault.{BankFault}
+use Rattle.bank_core.specs.declared.fault.BankFault.TheVariants.{NoMemory, Users, Sets, NoThread, Unclosed, Wide}
 use Rattle.bank_traffic.specs.declared.asked.Traffic.{Traffic}
 use Rattle.bank_traffic.specs.Opening.{AreEndsOf, OneEnd, far_end, near_end, numbers_below}
 use Rattle.text_printing.specs.declared.fault.Fault.{Fault}
@@ -15,7 +18,7 @@ use Rattle.text_report.specs.declared.verdict.Missing.{Missing}
 use Rattle.text_run.specs.declared.fault.RunFault.{RunFault}
 use Rattle.mtpbank_words.specs.declared.run_words.RunWords.{RunWords}
 use Rattle.text_run.specs.Asked.{IsFaultOfAsked, IsTrafficOf}
-use Rattle.text_run.specs.Running.{IsAnEnd, IsFaultOfRun, IsRunText, IsTextOfEnds, Runs, Showing, WritesAll, WritesEnds, WritesText}
+use Rattle.text_run.specs.Running.{IsAnEnd, IsFaultOfRun, IsRunText, IsTextOfEnds, Runs, Showing, TellsLack, WritesAll, WritesEnds, WritesText}
 
 -- no fault
 pub ok_of : {A B : Type 0} (r : Result A B) → false ≡ is_err r → IsOk r
@@ -87,12 +90,11 @@ fault_asked words traffic are (Err fault) is = (traffic, are, is)
 -- the text of these ends is that of the traffic that came to them
 pub runs_of : (traffic : Traffic) (per_link report : Bool) (shown : Showing) (near near' far far' : List SetEnd) (result : Result (Option Missing) (Fault RunFault)) (old new : Option (List ℕ))
     → shown.per_link ≡ per_link → shown.report ≡ report → shown.capture ≡ traffic.keeps → near' ≡ near → far' ≡ far → AreEndsOf traffic (near_end traffic) near → AreEndsOf traffic (far_end traffic) far
-    → WritesEnds traffic shown near' far' result old new → Runs traffic per_link report result old new
+    → WritesEnds traffic shown near' far' result old new → Runs traffic per_link report shown.time result old new
 runs_of traffic per_link report shown near near' far far' result old new lines told kept same_near same_far near_are far_are w =
-    wider (IsTextOfEnds traffic shown near' far') (IsRunText traffic per_link report) (λ missing text is. record {
+    wider (IsTextOfEnds traffic shown near' far') (IsRunText traffic per_link report shown.time) (λ missing text is. record {
       near = near;
       far = far;
-      time = shown.time;
       near_are = near_are;
       far_are = far_are;
       of_ends = subst (λ (p : Bool). IsTextOfEnds traffic (record { per_link = p; report = report; capture = traffic.keeps; time = shown.time }) near far missing text) lines
@@ -100,3 +102,12 @@ runs_of traffic per_link report shown near near' far far' result old new lines t
           (subst (λ (k : Bool). IsTextOfEnds traffic (record { per_link = shown.per_link; report = shown.report; capture = k; time = shown.time }) near far missing text) kept
           (subst (λ (n : List SetEnd). IsTextOfEnds traffic shown n far missing text) same_near (subst (λ (f : List SetEnd). IsTextOfEnds traffic shown near' f missing text) same_far is))));
     }) result old new w
+
+-- of a bank that ended early nothing is written
+pub nothing_written : {T : Type 0} (P : T → List ℕ → Type 0) (lacked : BankFault) (fault : Fault RunFault) (old : Option (List ℕ)) → TellsLack lacked fault → WritesText P (Err fault) old old
+nothing_written P NoMemory fault old is = subst (λ (f : Fault RunFault). WritesText P (Err f) old old) (sym is) (record { printed = []; added = Appends-nil old; ends = refl })
+nothing_written P Users fault old is = absurd is
+nothing_written P Sets fault old is = absurd is
+nothing_written P NoThread fault old is = subst (λ (f : Fault RunFault). WritesText P (Err f) old old) (sym is) (record { printed = []; added = Appends-nil old; ends = refl })
+nothing_written P Unclosed fault old is = subst (λ (f : Fault RunFault). WritesText P (Err f) old old) (sym is) (record { printed = []; added = Appends-nil old; ends = refl })
+nothing_written P Wide fault old is = absurd is

@@ -1,5 +1,5 @@
 -- Where no failure is told each user got through, and no terminal failed.
-use Rattle.std.proofs.Common.{refl, ◌≡◌, ℕ, suc, List, [], ◌∷◌, Option, None, Some, Result, Ok, Err, All, IsOk, IfErr}
+use Rattle.std.proofs.Common.{refl, ◌≡◌, sym, subst, ℕ, suc, List, [], ◌∷◌, Option, None, Some, Result, Ok, Err, All, IsOk, IfErr}
 use Rattle.std.specs.Option.{option_or}
 use Rattle.std.proofs.lemmas.List.Elements.{All-nil, All-cons}
 use Rattle.bank_crew.specs.declared.report.ShiftReport.{ShiftReport}
@@ -14,6 +14,8 @@ use Rattle.text_run.specs.declared.failures.Stuck.{Stuck}
 use Rattle.text_run.specs.Failures.{stuck_from, failed_from, failure_in, failure_from, failure_of}
 use Rattle.text_printing.specs.declared.fault.Fault.{Fault}
 use Rattle.text_printing.specs.declared.fault.Fault.TheVariants.{Input, Memory, Read, Long, Write}
+use Rattle.bank_core.specs.declared.fault.BankFault.{BankFault}
+use Rattle.bank_core.specs.declared.fault.BankFault.TheVariants.{NoMemory, Users, Sets, NoThread, Unclosed, Wide}
 use Rattle.bank_traffic.specs.declared.asked.Traffic.{Traffic}
 use Rattle.bank_traffic.specs.Opening.{AreEndsOf, far_end, near_end}
 use Rattle.text_run.specs.declared.fault.RunFault.{RunFault}
@@ -81,15 +83,10 @@ fault_of_run traffic near far a b (Ok done) is = tt
 fault_of_run traffic near far a b (Err fault) is = told_of_run traffic near far a b fault is
 
 -- a bank that ended early lacked something
-early : (traffic : Traffic) (fault : RunFault) → TellsLack (Input fault) → IsFailure traffic fault
-early traffic Thread is = tt
-early traffic Close is = tt
-early traffic (User set end user fault) is = absurd is
-early traffic (Terminal set end link fault) is = absurd is
-
-pub lack_of_run : (traffic : Traffic) (fault : Fault RunFault) → TellsLack fault → IsFaultOfRun traffic fault
-lack_of_run traffic (Input fault) is = early traffic fault is
-lack_of_run traffic Memory is = tt
-lack_of_run traffic Read is = is
-lack_of_run traffic Long is = is
-lack_of_run traffic Write is = absurd is
+pub lack_of_run : (traffic : Traffic) (lacked : BankFault) (fault : Fault RunFault) → TellsLack lacked fault → IsFaultOfRun traffic fault
+lack_of_run traffic NoMemory fault is = subst (IsFaultOfRun traffic) (sym is) tt
+lack_of_run traffic Users fault is = absurd is
+lack_of_run traffic Sets fault is = absurd is
+lack_of_run traffic NoThread fault is = subst (IsFaultOfRun traffic) (sym is) tt
+lack_of_run traffic Unclosed fault is = subst (IsFaultOfRun traffic) (sym is) tt
+lack_of_run traffic Wide fault is = absurd is

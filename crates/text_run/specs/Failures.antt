@@ -1,5 +1,5 @@
 -- WHO FAILED: the first user of an end that ended before its job was done, or terminal that stopped early.
-use Rattle.std.specs.Prelude.{ℕ, suc, List, [], ◌∷◌, Option, None, Some, Result, Ok, Err, codes}
+use Rattle.std.specs.Prelude.{ℕ, suc, List, [], ◌∷◌, ◌++◌, Option, None, Some, Result, Ok, Err, codes, decimal}
 use Rattle.std.specs.Option.{option_or}
 use Rattle.bank_crew.specs.declared.report.ShiftReport.{ShiftReport}
 use Rattle.bank_crew.specs.declared.report.UserReport.{UserReport}
@@ -8,10 +8,12 @@ use Rattle.bank_crew.specs.declared.end.SetEnd.{SetEnd}
 use Rattle.pair_steps.specs.declared.step.End.{End}
 use Rattle.pair_steps.specs.declared.step.End.TheVariants.{A, B}
 use Rattle.bank_crew.specs.declared.fault.UserFault.{UserFault}
+use Rattle.bank_crew.specs.Faults.{fault_number as number_of_user_fault}
+use Rattle.link_term.specs.Faults.{fault_number as number_of_term_fault}
 use Rattle.text_run.specs.declared.failures.Failed.{Failed}
 use Rattle.text_run.specs.declared.failures.Stuck.{Stuck}
 use Rattle.text_run.specs.declared.fault.RunFault.{RunFault}
-use Rattle.text_run.specs.declared.fault.RunFault.TheVariants.{User, Terminal}
+use Rattle.text_run.specs.declared.fault.RunFault.TheVariants.{Thread, Close, User, Terminal}
 
 abbrev pub end_word : End → List ℕ
 end_word A = codes "a"
@@ -46,3 +48,17 @@ failure_from end set (of_set ∷ sets) =
 -- THE FAILURE that is told: of the ends a before the ends b
 abbrev pub failure_of : List SetEnd → List SetEnd → Option RunFault
 failure_of near far = option_or (failure_from A 0 near) (failure_from B 0 far)
+
+-- ITS LINE, behind the word `fault`
+abbrev pub line_at : ℕ → End → List ℕ → ℕ → ℕ → List ℕ
+line_at set end who number fault =
+    codes " set=" ++ (decimal set ++ (codes " end=" ++ (end_word end ++ (who ++ (decimal number
+    ++ (codes " fault=" ++ decimal fault))))))
+
+abbrev pub fault_line : RunFault → List ℕ
+fault_line Thread = codes "thread"
+fault_line Close = codes "close"
+fault_line (User set end user fault) =
+    codes "user" ++ line_at set end (codes " user=") user (number_of_user_fault fault)
+fault_line (Terminal set end link fault) =
+    codes "terminal" ++ line_at set end (codes " link=") link (number_of_term_fault fault)

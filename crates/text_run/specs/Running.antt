@@ -4,6 +4,8 @@ use Rattle.std.specs.Io.KnownBytes.{Appends}
 use Rattle.set_events.specs.declared.config.SetConfig.{SetConfig}
 use Rattle.bank_crew.specs.declared.end.SetEnd.{SetEnd}
 use Rattle.bank_crew.specs.Ends.{IsEndOf}
+use Rattle.bank_core.specs.declared.fault.BankFault.{BankFault}
+use Rattle.bank_core.specs.declared.fault.BankFault.TheVariants.{NoMemory, Users, Sets, NoThread, Unclosed, Wide}
 use Rattle.bank_traffic.specs.declared.asked.Traffic.{Traffic}
 use Rattle.bank_traffic.specs.Opening.{AreEndsOf, far_end, near_end}
 use Rattle.text_printing.specs.declared.fault.Fault.{Fault}
@@ -65,12 +67,11 @@ pub record IsTextOfEnds (traffic : Traffic) (shown : Showing) (near far : List S
   pub missing_is : IsMissing shown.report traffic far missing
   pub text_is : IsShown shown near far missing text
 
--- what this traffic came to at its ends, and what is printed of it
-pub record IsRunText (traffic : Traffic) (per_link report : Bool) (missing : Option Missing) (text : List ℕ)
-    : Type 0 where
+-- what this traffic came to at its ends, in this time, and what is printed of it
+pub record IsRunText (traffic : Traffic) (per_link report : Bool) (time : Option ℕ) (missing : Option Missing)
+    (text : List ℕ) : Type 0 where
   pub near : List SetEnd
   pub far : List SetEnd
-  pub time : Option ℕ
   pub near_are : AreEndsOf traffic (near_end traffic) near
   pub far_are : AreEndsOf traffic (far_end traffic) far
   pub of_ends : IsTextOfEnds traffic
@@ -100,10 +101,10 @@ abbrev pub WritesEnds : Traffic → Showing → List SetEnd → List SetEnd → 
     → Option (List ℕ) → Option (List ℕ) → Type 0
 WritesEnds traffic shown near far result old new = WritesText (IsTextOfEnds traffic shown near far) result old new
 
--- THE RUN: what was written is the text of what the threads came to
-abbrev pub Runs : Traffic → Bool → Bool → Result (Option Missing) (Fault RunFault) → Option (List ℕ)
+-- THE RUN: what was written is the text of what the threads came to in this time
+abbrev pub Runs : Traffic → Bool → Bool → Option ℕ → Result (Option Missing) (Fault RunFault) → Option (List ℕ)
     → Option (List ℕ) → Type 0
-Runs traffic per_link report result old new = WritesText (IsRunText traffic per_link report) result old new
+Runs traffic per_link report time result old new = WritesText (IsRunText traffic per_link report time) result old new
 
 -- WHY IT ENDS SO. Of ends that are at hand: a failure is told, the first one; memory was wanted here, or the sink failed,
 -- only where there is none.
@@ -136,12 +137,10 @@ IsFaultOfRun traffic Long = ⊥
 IsFaultOfRun traffic Write = Unit {0}
 
 -- a bank that ended early is told by what it lacked; no end is at hand then
-abbrev pub TellsLack : Fault RunFault → Type 0
-TellsLack (Input Thread) = Unit {0}
-TellsLack (Input Close) = Unit {0}
-TellsLack (Input (User set end user fault)) = ⊥
-TellsLack (Input (Terminal set end link fault)) = ⊥
-TellsLack Memory = Unit {0}
-TellsLack Read = ⊥
-TellsLack Long = ⊥
-TellsLack Write = ⊥
+abbrev pub TellsLack : BankFault → Fault RunFault → Type 0
+TellsLack NoMemory told = told ≡ Memory
+TellsLack Users told = ⊥
+TellsLack Sets told = ⊥
+TellsLack NoThread told = told ≡ Input Thread
+TellsLack Unclosed told = told ≡ Input Close
+TellsLack Wide told = ⊥

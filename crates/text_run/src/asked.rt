@@ -1,6 +1,6 @@
 //! A run as its words ask for it.
 ghost use Rattle.std.specs.Prelude.{◌≡◌, ◌≢◌, IfErr, OnOk};
-ghost use Rattle.text_run.specs.Asked.{IsFaultOfAsked, IsTrafficOf, RunsAsked};
+ghost use Rattle.text_run.specs.Asked.{IsFaultOfAsked, IsTrafficOf, RunsAsked, milliseconds};
 
 use super::fault::RunFault;
 use super::progress::Progress;
@@ -11,7 +11,7 @@ use std::alloc::Global;
 use std::io::Eprint;
 use std::sync::Wait;
 use std::thread::Threads;
-use std::time::{Clock, Instant};
+use std::time::{Clock, Duration, Instant};
 use text_printing::{Fault, Sink};
 use text_report::Missing;
 
@@ -54,7 +54,14 @@ pub fn run<R: Threads + Wait + Clock + Eprint + Copy + Send + Sync + 'static, W:
 /// How many milliseconds went by since then, if a clock tells them.
 fn milliseconds_since<R: Clock>(rt: &R, since: Option<Instant>) -> Option<u64> {
     let elapsed = since?.elapsed(rt).ok()?;
-    Some(elapsed.as_millis().min(u128::from(u64::MAX)) as u64)
+    Some(milliseconds_of(elapsed))
+}
+
+/// How many milliseconds this is, up to 2^64 - 1.
+fn milliseconds_of(elapsed: Duration) -> u64
+    ensures { result ≡ milliseconds elapsed }
+{
+    elapsed.as_millis().min(u128::from(u64::MAX)) as u64
 }
 
 /// Begins to tell how far a run of these words is.

@@ -32,6 +32,11 @@ pub enum RunFault {
 }
 
 impl Display for RunFault {
+    ghost use Rattle.std.specs.Prelude.{Some};
+    ghost use Rattle.text_run.specs.Failures.{fault_line};
+
+    ghost output = { λ fault. Some (fault_line fault) };
+
     fn fmt<W: fmt::Write>(&self, f: &mut fmt::Formatter<W>) -> fmt::Result {
         match *self {
             RunFault::Thread => write!(f, "thread"),

@@ -1,5 +1,5 @@
 //! A run, from its traffic to what is written.
-ghost use Rattle.std.specs.Prelude.{◌≡◌, ◌≢◌, ◌≤◌, All, IfErr, IfOk, OnOk, None, length};
+ghost use Rattle.std.specs.Prelude.{◌≡◌, ◌≢◌, ◌≤◌, ℕ, All, IfErr, IfOk, OnOk, Option, None, length};
 ghost use Rattle.bank_core.specs.Faults.{EndsEarly};
 ghost use Rattle.text_run.specs.Failures.{failure_of};
 ghost use Rattle.text_run.specs.RunText.{run_text};
@@ -53,7 +53,8 @@ pub fn write_run<
     ended: F,
 ) -> Result<Option<Missing>, Fault<RunFault>>
     requires callable { F.IsAlwaysCallable ended }
-    ensures text { Runs traffic.now asked.0 asked.1 result (W.written sink.old) (W.written sink.new) }
+    ensures text { (time : Option ℕ) × F.post ended time
+        × Runs traffic.now asked.0 asked.1 time result (W.written sink.old) (W.written sink.new) }
     ensures fault { IfErr result (IsFaultOfRun traffic.now) }
     ensures failed { IfErr result (λ fault. fault ≡ Fault.Write → W.failures sink.new ≢ W.failures sink.old) }
     ensures sound { OnOk result (W.failures sink.new ≡ W.failures sink.old) }
@@ -78,7 +79,7 @@ pub fn write_run<
 /// Why there is nothing to write.
 fn fault_of(fault: BankFault) -> Fault<RunFault>
     requires early { EndsEarly fault }
-    ensures { TellsLack result }
+    ensures { TellsLack fault result }
 {
     match fault {
         BankFault::NoThread => Fault::Input(RunFault::Thread),

@@ -91,6 +91,23 @@ fn all_is_delivered_in_order_through_noise(rt: HostRuntime) -> Result<(), Fail> 
     holds(missing.is_none() && shows_all(&text) && errors)
 }
 
+/// The only link fails under traffic: what waits on it is given up, and users go on once it's back, so nothing waits at the end.
+#[test]
+fn users_go_on_where_messages_were_given_up(rt: HostRuntime) -> Result<(), Fail> {
+    let traffic = Traffic {
+        links: 1,
+        fail: Some(0),
+        ..traffic_of(600, 1_000_000, None)
+    };
+    let (text, missing) = reported(&rt, rt.alloc(), &traffic)?;
+    holds(
+        missing.is_some()
+            && has_line(&text, "set=0 end=a offered=1800 ", " waiting=0 unacked=0 ")
+            && !has_line(&text, "set=0 end=a ", " discarded=0 ")
+            && has_line(&text, "set=0 link=0 end=a ", " ups=2 cause=stop"),
+    )
+}
+
 /// In so few turns no link comes up: the first message is missing, which the report says last.
 #[test]
 fn what_was_never_sent_is_missing(rt: HostRuntime) -> Result<(), Fail> {

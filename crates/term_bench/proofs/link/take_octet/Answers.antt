@@ -1,7 +1,7 @@
 use Rattle.std.proofs.Common.{ap, sym, subst, ◌∙◌, ℕ, Bool, [], ◌∷◌, Option, if◌then◌else◌}
 use Rattle.std.specs.Option.{option_to_list}
 use Rattle.set_model.specs.History.{LinkSet}
-use Rattle.term_bench.proofs.SlotLemmas.{Replays, takes}
+use Rattle.term_bench.proofs.SlotLemmas.{Replays, fails_by, takes}
 use Rattle.term_bench.proofs.link.take_octet.Goals as goal
 
 pub returns-in-Some-clause-takes : goal.returns-in-Some-clause-takes
@@ -23,3 +23,12 @@ returns-in-Some-clause-takes g c =
           (sym c.put.ensures ∙ c.in-Some.is),
       turns.1.1,
     )
+
+pub returns-in-Err-clause-breaks : goal.returns-in-Err-clause-breaks
+returns-in-Err-clause-breaks g c = λ working.
+    let slot = c.new-slot.ensures in
+    let broke = c.in-Err.ensures.turns in
+    fails_by c.args.octet c.in-Err.fault c.args.works.now.taken c.turn_tapped.new.self.taken c.args.works.now.inside
+    c.turn_tapped.new.self.inside _ _ c.args.door.now.set c.turn_tapped.new.door.set _ _ c.turn_tapped.new.line.octet
+    c.turn_tapped.new.line.is_taken _ (broke.breaks working) broke.door
+    (ap (λ (b : Bool). if b then c.new-slot.result.octet ∷ [] else []) slot.taken) (broke.same ∙ slot.octet)

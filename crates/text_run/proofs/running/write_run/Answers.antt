@@ -1,7 +1,7 @@
 use Rattle.std.proofs.Common.{refl, arith, ◌∙◌, ap, sym, subst, All, length}
 use Rattle.bank_traffic.specs.Opening.{AreEndsOf, far_end, near_end}
-use Rattle.text_run.specs.Running.{IsAnEnd}
-use Rattle.text_run.proofs.Ends.{ends_of, runs_of}
+use Rattle.text_run.specs.Running.{IsAnEnd, IsRunText}
+use Rattle.text_run.proofs.Ends.{ends_of, nothing_written, runs_of}
 use Rattle.text_run.proofs.Failing.{fault_of_run, lack_of_run}
 use Rattle.text_run.proofs.running.write_run.Goals as goal
 
@@ -23,9 +23,12 @@ write_ends-requires-clause-few g c =
     )
 
 pub returns-clause-text : goal.returns-clause-text
-returns-clause-text g c =
-    runs_of c.args.traffic.now c.args.asked.0 c.args.asked.1 _ c.in-Ok.ends.near.items c.deref.result.now c.in-Ok.ends.far.items c.deref-2.result.now c.write_ends.result _ _
-    refl refl refl c.deref.ensures.value c.deref-2.ensures.value c.in-Ok.ensures.near c.in-Ok.ensures.far c.write_ends.ensures.text
+returns-clause-text g c = (
+  c.ended-time.result,
+  c.ended-time.ensures,
+  runs_of c.args.traffic.now c.args.asked.0 c.args.asked.1 _ c.in-Ok.ends.near.items c.deref.result.now c.in-Ok.ends.far.items c.deref-2.result.now c.write_ends.result _ _
+      refl refl refl c.deref.ensures.value c.deref-2.ensures.value c.in-Ok.ensures.near c.in-Ok.ensures.far c.write_ends.ensures.text,
+)
 
 pub returns-clause-fault : goal.returns-clause-fault
 returns-clause-fault g c =
@@ -35,4 +38,8 @@ returns-clause-fault g c =
     c.write_ends.result c.write_ends.ensures.fault
 
 pub returns-in-Err-clause-fault : goal.returns-in-Err-clause-fault
-returns-in-Err-clause-fault g c = lack_of_run c.args.traffic.now c.fault_of.result c.fault_of.ensures
+returns-in-Err-clause-fault g c = lack_of_run c.args.traffic.now c.in-Err.fault c.fault_of.result c.fault_of.ensures
+
+pub returns-in-Err-clause-text : goal.returns-in-Err-clause-text
+returns-in-Err-clause-text g c =
+    (c.ended-time.result, c.ended-time.ensures, nothing_written (IsRunText c.args.traffic.now c.args.asked.0 c.args.asked.1 c.ended-time.result) c.in-Err.fault c.fault_of.result _ c.fault_of.ensures)

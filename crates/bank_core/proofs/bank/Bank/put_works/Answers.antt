@@ -1,4 +1,4 @@
-use Rattle.std.proofs.Common.{arith, ap, [], length, map}
+use Rattle.std.proofs.Common.{arith, refl, ◌≡◌, ap, [], length, map}
 use Rattle.std.proofs.lemmas.List.{length-append}
 use Rattle.std.specs.Option.{option_to_list}
 use Rattle.std.specs.Vec.{vec_len}
@@ -6,7 +6,7 @@ use Rattle.std.specs.Vec.Iter.{into_iter_items}
 use Rattle.bank_crew.specs.Ends.{task_of}
 use Rattle.bank_crew.specs.Jobs.{duty_of}
 use Rattle.bank_crew.proofs.Taking.{ran_out, taken}
-use Rattle.bank_core.proofs.Tasks.{first_task, put_one}
+use Rattle.bank_core.proofs.Tasks.{all_pushed, first_task, put_one}
 use Rattle.bank_core.proofs.bank.Bank.put_works.Goals as goal
 
 -- src/bank.rt
@@ -24,4 +24,5 @@ loop-config-preserved g c =
       omega (arith, c.next-in-Some-2.ensures.len, ap length c.next-in-Some-2.ensures.items, length-append (option_to_list c.next-in-Some-2.result) (into_iter_items c.next-in-Some-2.new.self), kept.3),
       omega (arith, c.in-Some.ensures.len, c.push_reserved.ensures.len, kept.4),
       omega (arith, c.push_reserved.ensures.capacity, kept.5),
+      all_pushed (λ work. work.assignment.set ≡ work.config.set) c.loop-config.works.items c.push_reserved.new.self.items _ c.push_reserved.ensures.items kept.6 refl,
     )

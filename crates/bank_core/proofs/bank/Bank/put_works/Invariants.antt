@@ -1,4 +1,4 @@
-use Rattle.std.proofs.Common.{◌≡◌, ◌≤◌, ◌+◌, ◌++◌, map, length}
+use Rattle.std.proofs.Common.{◌≡◌, ◌≤◌, ◌+◌, ◌++◌, All, map, length}
 use Rattle.std.specs.Vec.{vec_len, vec_capacity}
 use Rattle.std.specs.Vec.Iter.{into_iter_items, into_iter_len}
 use Rattle.bank_crew.specs.Ends.{task_of}
@@ -16,6 +16,7 @@ invariant-loop-config g l = (map (λ work. task_of work.config work.users (vec_l
     × (into_iter_len l.jobs ≡ length (into_iter_items l.jobs))
     × (vec_len l.works + into_iter_len l.configs ≡ length l.fn.self.configs)
     × (length l.fn.self.configs ≤ vec_capacity l.works)
+    × All (λ work. work.assignment.set ≡ work.config.set) l.works.items
 
 abbrev pub decreases-loop-config : goal.decreases-loop-config
 decreases-loop-config g l = into_iter_len l.configs

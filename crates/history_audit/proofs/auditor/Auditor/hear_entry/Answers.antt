@@ -26,6 +26,9 @@ returns-clause-found c = λ opening items heard.
     right_found opening items c.args.self.now c.self.inside.core c.apply.new.self c.self.inside.books c.self.inside.entries c.self.inside.reply c.apply.new.reply c.args.entry.now c.self.view_is heard (rw c.of-asked.ensures.value at c.in_ok-apply.ensures.ok)
     c.count.new.books (c.can_ask.ensures.can.0 c.if-not-can_ask.false) (sym c.get-answer.ensures.value ∙ c.same.ensures.0 c.if-not-same.false ∙ c.of.ensures.value) (rw (c.of-asked.ensures.value, c.get-answer.ensures.value) at c.count.ensures)
 
+pub returns-clause-answer : goal.returns-clause-answer
+returns-clause-answer c = λ right. sym c.get-answer.ensures.value ∙ c.same.ensures.0 c.if-not-same.false ∙ c.of.ensures.value
+
 pub invariant_of-self-2 : goal.invariant_of-self-2
 invariant_of-self-2 c =
     can_hear _ _ c.args.entry.now.who c.args.entry.now.event c.apply.new.reply c.self.invariant (rw c.of-asked.ensures.value at c.in_ok-apply.ensures.ok) c.if-self-ge-LONGEST_HISTORY.false (rw (c.of-asked.ensures.value, c.get-answer.ensures.value) at c.count.ensures) refl

@@ -1,6 +1,4 @@
-use Rattle.std.proofs.Common.{rules, ap, sym, ◌∙◌, ◌≡◌, ℕ, List, [], ◌∷◌, ◌++◌, None, Some}
-use Rattle.std.specs.Option.{option_map}
-use Rattle.line_tape.specs.Taping.{Keeps}
+use Rattle.std.proofs.Common.{rules}
 use Rattle.line_tape.proofs.Kept.{kept_more}
 use Rattle.line_tape.proofs.tape.Tape.keep.Goals as goal
 

@@ -1,4 +1,4 @@
-use Rattle.std.proofs.Common.{arith, length-append, ◌++◌, subst, sym, ap, ◌≤◌, ◌<◌, ◌≡◌, length, slice_get, slice_set, Some}
+use Rattle.std.proofs.Common.{arith, length-append, subst, sym, ap, ◌≤◌, ◌<◌, ◌≡◌, length, slice_get, slice_set, Some}
 use Rattle.std.proofs.lemmas.List.{length-set}
 use Rattle.l2_bits.proofs.BitLemmas.{length-bits_of}
 use Rattle.l2_bits.specs.LineBits.{bits_of}

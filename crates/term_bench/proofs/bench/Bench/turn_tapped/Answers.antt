@@ -43,9 +43,9 @@ returns-clause-breaks g c =
     let held = c.turn_to.ensures.set ∙ ap (λ (b : BenchState). b.set) view in
     let links = ap (λ (b : BenchState). slice_set b.links c.from.result c.turn.new.self) view in
     IfErr-weaker c.turn.result _ _
-    (λ fault fails. bench_breaks c.args.link c.turn_to.new.self.link _ c.from.result c.args.self.now _ _ _ _ c.index_mut-at.result.now
-    c.turn.new.self c.turn_to.ensures.link c.from.ensures held is_there c.turn.ensures.same links fails)
-    c.turn.ensures.fails
+    (λ fault broke. bench_breaks c.args.link c.turn_to.new.self.link _ c.from.result c.args.self.now _ _ _ _ c.index_mut-at.result.now
+    c.turn.new.self c.turn_to.ensures.link c.from.ensures held is_there c.turn.ensures.same links c.args.octet fault broke.0 broke.1 broke.2)
+    c.turn.ensures.breaks
 
 pub returns-clause-exhausted : goal.returns-clause-exhausted
 returns-clause-exhausted g c = λ at is_here reached.

@@ -1,8 +1,12 @@
-use Rattle.std.proofs.Common.{refl, subst}
+use Rattle.std.proofs.Common.{refl, subst, ap, ◌≡◌, ◌++◌, List}
+use Rattle.link_term.specs.declared.fault.TermFault.TheVariants.{Failed}
+use Rattle.set_events.specs.declared.history.Entry.{Entry}
 use Rattle.term_bench.specs.Ends.{AtLink, at_link}
-use Rattle.term_bench.specs.Turns.{TakesTurn}
+use Rattle.term_bench.specs.Going.{stands_still}
+use Rattle.term_bench.specs.Turns.{BreaksOff, TakesTurn}
+use Rattle.term_bench.specs.declared.door.SetDoor.{SetDoor}
 use Rattle.term_bench.specs.declared.turn.Turn.{Turn}
-use Rattle.term_bench.proofs.LinkLemmas.{takes_turn}
+use Rattle.term_bench.proofs.LinkLemmas.{breaks_off, takes_turn}
 use Rattle.term_bench.proofs.link.LinkEnd.turn.Goals as goal
 
 pub returns-in-Ok-clause-turns : goal.returns-in-Ok-clause-turns
@@ -28,3 +32,23 @@ returns-in-Ok-clause-turns g c =
           c.heard.ensures c.units_in.ensures.value c.word_of-before.ensures c.word_of.ensures refl c.cause.ensures),
       took.3,
     )
+
+pub returns-then-self-ge-MOST_TURNS-clause-same : goal.returns-then-self-ge-MOST_TURNS-clause-same
+returns-then-self-ge-MOST_TURNS-clause-same g c =
+    let door = c.args.door.now in stands_still door.link door.set door.heard door.faults
+
+pub returns-in-Err-clause-breaks : goal.returns-in-Err-clause-breaks
+returns-in-Err-clause-breaks g c =
+    let was = c.args.door.now.set in
+    let set = c.take_octet.new.door.set in
+    let now : AtLink = at_link c.take_octet.new.works c.self.inside.bits c.self.inside.waiting c.self.inside.counts in
+    subst (λ (at : AtLink). (entries : List Entry) × (set.history ≡ was.history ++ entries) × BreaksOff c.args.octet c.in-Err.fault was set at now entries)
+    c.self.view_is
+    (breaks_off c.args.octet c.in-Err.fault c.self.inside.works c.take_octet.new.works c.self.inside.bits c.self.inside.waiting
+    c.self.inside.counts was set c.self.inside.works.failed refl
+    (λ failed. let nothing = c.in-Err.ensures.failed failed in (
+      (let told = nothing.0 in let same : c.in-Err.fault ≡ Failed = cc told in same),
+      nothing.1,
+      ap (λ (door : SetDoor). door.set.history) nothing.2,
+    ))
+    c.in-Err.ensures.breaks c.in-Err.ensures.fails)

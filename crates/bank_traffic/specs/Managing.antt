@@ -1,0 +1,31 @@
+-- HOW GATES MANAGE LINKS, and end a run.
+use Rattle.std.specs.Prelude.{◌≡◌, ◌≤◌, ◌+◌, ◌-◌, ◌^◌, min, ℕ, Bool, true, false}
+use Rattle.l2_units.specs.Lent.{body_in}
+use Rattle.l2_units.specs.declared.lent.UnitRef.{UnitRef}
+use Rattle.set_events.specs.declared.answer.Counts.{Counts}
+use Rattle.set_model.specs.Rows.{stream_of}
+
+-- THE MESSAGES THAT AREN'T FINISHED: those that wait on a link, are sent and not acknowledged, are held or parked, or wait for
+-- a changeback; told up to 2^64 - 1
+abbrev pub open_in : Counts → ℕ
+open_in counts = min (counts.waiting + counts.unacked + counts.held + counts.parked + counts.back) (2 ^ 64 - 1)
+
+-- the stream of the message that a unit brings; 0 where it brings none
+abbrev pub stream_brought : UnitRef → ℕ
+stream_brought unit = stream_of (body_in unit)
+
+-- A LINK IS STARTED AGAIN where it's out of service since T17 (Q.704 16.8): 6,400 octet times, 0.8 s at 64 kbit/s
+pub record IsRested (up : Bool) (out_since turn : ℕ) : Type 0 where
+  pub out : up ≡ false
+  pub long : out_since + 6400 ≤ turn
+
+-- A USER IS HELD UP where as many of its messages are on their way as may be (own): 64 of those that it offered, but for
+-- those that were heard or given up
+pub record IsHeldUp (offered heard given_up : ℕ) : Type 0 where
+  pub full : heard + given_up + 64 ≤ offered
+
+-- ALL IS DONE where the link that was to fail came back, if one was, all was offered, and each message is finished
+pub record IsAllDone (came_back offered_all : Bool) (unfinished : ℕ) : Type 0 where
+  pub back : came_back ≡ true
+  pub offered : offered_all ≡ true
+  pub none_left : unfinished ≡ 0
