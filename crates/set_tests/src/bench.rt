@@ -16,20 +16,35 @@ pub(crate) fn config_by(links: u8, method: Method) -> Option<SetConfig> {
     SetConfig::new(0, links, 2, 1, 0x80, method).ok()
 }
 
-/// A set of so many links, none of which was up.
-pub(crate) fn set_by(alloc: Global, links: u8, method: Method) -> Result<SetCore, Fail> {
-    let Some(config) = config_by(links, method) else {
-        return Err(Fail::from("refused"));
-    };
-    match SetCore::new(alloc, &config) {
-        Ok(set) => Ok(set),
-        Err(_) => Err(Fail::from("no memory")),
+/// Whether a case holds of a set with these settings, of which nothing was asked; it doesn't where memory is wanted. Most
+/// tests own their set here alone, since what lets go of a set is dear to prove.
+pub(crate) fn of_set_by<F: FnOnce(Global, &mut SetCore) -> bool>(
+    alloc: Global,
+    config: Option<SetConfig>,
+    case: F,
+) -> bool
+    requires { F.IsAlwaysCallable case }
+{
+    match new_set(alloc, config) {
+        Some(mut set) => case(alloc, &mut set),
+        None => false,
     }
 }
 
-/// The same by the basic method.
-pub(crate) fn set_of(alloc: Global, links: u8) -> Result<SetCore, Fail> {
-    set_by(alloc, links, Method::Basic)
+/// A set with these settings; none where memory is wanted.
+pub(crate) fn new_set(alloc: Global, config: Option<SetConfig>) -> Option<SetCore> {
+    SetCore::new(alloc, &config?).ok()
+}
+
+/// The same of a set of so many links by the basic method.
+pub(crate) fn of_set<F: FnOnce(Global, &mut SetCore) -> bool>(
+    alloc: Global,
+    links: u8,
+    case: F,
+) -> bool
+    requires { F.IsAlwaysCallable case }
+{
+    of_set_by(alloc, config_by(links, Method::Basic), case)
 }
 
 /// So it is. It stands in the place of `assert!`, whose text of what isn't so costs the prover a multiple.

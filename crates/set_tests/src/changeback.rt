@@ -19,7 +19,7 @@ fn asks_back(alloc: Global, set: &mut SetCore) -> bool {
 /// The acknowledgement comes: what waits for it waits for the home, and so does what is offered then.
 #[test]
 fn a_stream_comes_back(rt: HostRuntime) -> Result<(), Fail> {
-    holds(comes_back(rt.alloc(), &mut set_of(rt.alloc(), 2)?))
+    holds(of_set(rt.alloc(), 2, comes_back))
 }
 
 fn comes_back(alloc: Global, set: &mut SetCore) -> bool {
@@ -36,7 +36,7 @@ fn comes_back(alloc: Global, set: &mut SetCore) -> bool {
 /// No acknowledgement comes; when it comes late, nothing waits for it.
 #[test]
 fn a_changeback_times_out(rt: HostRuntime) -> Result<(), Fail> {
-    holds(times_out(rt.alloc(), &mut set_of(rt.alloc(), 2)?))
+    holds(of_set(rt.alloc(), 2, times_out))
 }
 
 fn times_out(alloc: Global, set: &mut SetCore) -> bool {
@@ -53,7 +53,7 @@ fn times_out(alloc: Global, set: &mut SetCore) -> bool {
 /// frees it moves nothing.
 #[test]
 fn the_home_link_fails(rt: HostRuntime) -> Result<(), Fail> {
-    holds(spends_its_code(rt.alloc(), &mut set_of(rt.alloc(), 2)?))
+    holds(of_set(rt.alloc(), 2, spends_its_code))
 }
 
 fn spends_its_code(alloc: Global, set: &mut SetCore) -> bool {
@@ -81,7 +81,7 @@ fn is_freed(alloc: Global, set: &mut SetCore) -> bool {
 /// A time-out frees a spent code too, whether the home is up or not.
 #[test]
 fn a_spent_code_times_out(rt: HostRuntime) -> Result<(), Fail> {
-    holds(spent_code_times_out(rt.alloc(), &mut set_of(rt.alloc(), 2)?))
+    holds(of_set(rt.alloc(), 2, spent_code_times_out))
 }
 
 fn spent_code_times_out(alloc: Global, set: &mut SetCore) -> bool {
@@ -116,7 +116,7 @@ fn wait_in_turn(alloc: Global, set: &mut SetCore) -> bool {
 /// An acknowledgement moves the messages of its own code; one of a code that is free is ignored.
 #[test]
 fn an_acknowledgement_moves_its_own_messages(rt: HostRuntime) -> Result<(), Fail> {
-    holds(moves_its_own(rt.alloc(), &mut set_of(rt.alloc(), 3)?))
+    holds(of_set(rt.alloc(), 3, moves_its_own))
 }
 
 fn moves_its_own(alloc: Global, set: &mut SetCore) -> bool {
@@ -133,7 +133,7 @@ fn moves_its_own(alloc: Global, set: &mut SetCore) -> bool {
 /// A time-out takes the codes one by one, the lowest first.
 #[test]
 fn a_time_out_takes_the_lowest_code_first(rt: HostRuntime) -> Result<(), Fail> {
-    holds(takes_the_lowest_first(rt.alloc(), &mut set_of(rt.alloc(), 3)?))
+    holds(of_set(rt.alloc(), 3, takes_the_lowest_first))
 }
 
 fn takes_the_lowest_first(alloc: Global, set: &mut SetCore) -> bool {
@@ -146,7 +146,7 @@ fn takes_the_lowest_first(alloc: Global, set: &mut SetCore) -> bool {
 /// order: behind the first message, the declaration and the order about link 0, before the order about link 2.
 #[test]
 fn two_codes_come_to_share_a_link(rt: HostRuntime) -> Result<(), Fail> {
-    holds(share_a_link(rt.alloc(), &mut set_of(rt.alloc(), 3)?))
+    holds(of_set(rt.alloc(), 3, share_a_link))
 }
 
 fn share_a_link(alloc: Global, set: &mut SetCore) -> bool {
@@ -162,7 +162,7 @@ fn share_a_link(alloc: Global, set: &mut SetCore) -> bool {
 /// Link 0 was left and hasn't settled when the home fails: what comes from there is held, and moves when it settles.
 #[test]
 fn what_comes_from_a_link_that_was_left_is_held(rt: HostRuntime) -> Result<(), Fail> {
-    holds(is_held(rt.alloc(), &mut set_of(rt.alloc(), 3)?))
+    holds(of_set(rt.alloc(), 3, is_held))
 }
 
 fn is_held(alloc: Global, set: &mut SetCore) -> bool {
@@ -177,7 +177,7 @@ fn is_held(alloc: Global, set: &mut SetCore) -> bool {
 /// A declaration is acknowledged by the same code and SLC, whatever they are.
 #[test]
 fn a_declaration_is_acknowledged(rt: HostRuntime) -> Result<(), Fail> {
-    holds(is_acknowledged(&mut set_of(rt.alloc(), 1)?))
+    holds(of_set(rt.alloc(), 1, |_alloc, set| is_acknowledged(set)))
 }
 
 fn is_acknowledged(set: &mut SetCore) -> bool {
@@ -197,7 +197,7 @@ fn is_acknowledged(set: &mut SetCore) -> bool {
 /// 10 where there is no such link, 5 where it isn't up, 9 where there is nothing to ask or to give up.
 #[test]
 fn changeback_is_refused_in_this_order(rt: HostRuntime) -> Result<(), Fail> {
-    holds(is_refused(&mut set_of(rt.alloc(), 2)?))
+    holds(of_set(rt.alloc(), 2, |_alloc, set| is_refused(set)))
 }
 
 fn is_refused(set: &mut SetCore) -> bool {

@@ -47,8 +47,9 @@ fn one_goes(alloc: Global, set: &mut SetCore) -> bool {
 /// has these two entries, which are legal from the base, and with the second told as the first they aren't.
 #[test]
 fn an_acknowledged_message_leaves(rt: HostRuntime) -> Result<(), Fail> {
-    let mut set = set_of(rt.alloc(), 1)?;
-    holds(leaves(rt.alloc(), &mut set) && are_legal_from_the_base(rt.alloc(), &set))
+    holds(of_set(rt.alloc(), 1, |alloc, set| {
+        leaves(alloc, set) && are_legal_from_the_base(alloc, set)
+    }))
 }
 
 fn leaves(alloc: Global, set: &mut SetCore) -> bool {
@@ -122,8 +123,9 @@ fn copy_as_finished(entries: &[Entry], copies: &mut Vec<Entry>) -> Result<(), Al
 /// Restore is refused. Then the link comes up, and the message is sent under FSN 0 with its body.
 #[test]
 fn a_parked_message_stays_over_checkpoints(rt: HostRuntime) -> Result<(), Fail> {
-    let mut set = set_of(rt.alloc(), 1)?;
-    holds(stays_parked(rt.alloc(), &mut set) && is_sent_with_its_body(&mut set))
+    holds(of_set(rt.alloc(), 1, |alloc, set| {
+        stays_parked(alloc, set) && is_sent_with_its_body(set)
+    }))
 }
 
 fn stays_parked(alloc: Global, set: &mut SetCore) -> bool {
@@ -150,8 +152,9 @@ fn is_sent_with_its_body(set: &mut SetCore) -> bool {
 /// hundred isn't acknowledged yet at the checkpoint, and is after it.
 #[test]
 fn fsns_go_round_over_checkpoints(rt: HostRuntime) -> Result<(), Fail> {
-    let mut set = set_of(rt.alloc(), 1)?;
-    holds(go_round(rt.alloc(), &mut set) && are_finished(&mut set))
+    holds(of_set(rt.alloc(), 1, |alloc, set| {
+        go_round(alloc, set) && are_finished(set)
+    }))
 }
 
 fn go_round(alloc: Global, set: &mut SetCore) -> bool {
@@ -207,8 +210,9 @@ fn are_finished(set: &mut SetCore) -> bool {
 /// stays.
 #[test]
 fn what_was_discarded_is_counted_by_its_cause(rt: HostRuntime) -> Result<(), Fail> {
-    let mut set = set_of(rt.alloc(), 1)?;
-    holds(two_are_discarded(rt.alloc(), &mut set) && message_2_stays(&mut set))
+    holds(of_set(rt.alloc(), 1, |alloc, set| {
+        two_are_discarded(alloc, set) && message_2_stays(set)
+    }))
 }
 
 fn two_are_discarded(alloc: Global, set: &mut SetCore) -> bool {
@@ -240,10 +244,11 @@ fn message_2_stays(set: &mut SetCore) -> bool {
 /// The opening has the books of no entry, and a set has it as its base until a checkpoint.
 #[test]
 fn the_opening_is_a_base(rt: HostRuntime) -> Result<(), Fail> {
-    let mut set = set_of(rt.alloc(), 1)?;
-    let called = one_goes(rt.alloc(), &mut set);
-    let first = is_opening(set.base());
-    holds(called && first && is_legal_from_the_opening(rt.alloc(), &set))
+    holds(of_set(rt.alloc(), 1, has_the_opening))
+}
+
+fn has_the_opening(alloc: Global, set: &mut SetCore) -> bool {
+    one_goes(alloc, set) && is_opening(set.base()) && is_legal_from_the_opening(alloc, set)
 }
 
 /// The settings of that set.

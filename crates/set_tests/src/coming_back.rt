@@ -9,7 +9,7 @@ use std::test::Fail;
 /// Fifteen of 16 links are restored one after another, with messages in every fate; the places add up after each event.
 #[test]
 fn fifteen_links_are_restored(rt: HostRuntime) -> Result<(), Fail> {
-    holds(restore_fifteen(rt.alloc(), &mut set_of(rt.alloc(), 16)?))
+    holds(of_set(rt.alloc(), 16, restore_fifteen))
 }
 
 fn restore_fifteen(alloc: Global, set: &mut SetCore) -> bool {
@@ -126,7 +126,7 @@ fn stand_all_over(set: &SetCore) -> bool {
 /// 100,000 messages go so, half of them after they waited for an acknowledgement, and each is found again.
 #[test]
 fn a_stream_comes_back_a_thousand_times(rt: HostRuntime) -> Result<(), Fail> {
-    holds(come_back_often(rt.alloc(), &mut set_of(rt.alloc(), 2)?))
+    holds(of_set(rt.alloc(), 2, come_back_often))
 }
 
 fn come_back_often(alloc: Global, set: &mut SetCore) -> bool {

@@ -20,8 +20,7 @@ const GIVEN_UP: Fate = Fate::Discarded {
 /// discarded, message 2 was given up.
 #[test]
 fn a_set_of_one_link_comes_back_each_time(rt: HostRuntime) -> Result<(), Fail> {
-    let mut set = set_of(rt.alloc(), 1)?;
-    holds(comes_back_twice(rt.alloc(), &mut set))
+    holds(of_set(rt.alloc(), 1, comes_back_twice))
 }
 
 fn comes_back_twice(alloc: Global, set: &mut SetCore) -> bool {
@@ -55,7 +54,11 @@ fn stand(set: &mut SetCore, places: &[(u64, Fate)]) -> bool {
 /// nothing was accepted.
 #[test]
 fn an_order_about_a_link_that_is_not_up_is_sent(rt: HostRuntime) -> Result<(), Fail> {
-    let mut set = set_of(rt.alloc(), 2)?;
+    holds(of_set(rt.alloc(), 2, |_alloc, set| is_sent_over_the_other(set)))
+}
+
+/// Both links fail, and no answer comes; the order about link 1 goes out on link 0.
+fn is_sent_over_the_other(set: &mut SetCore) -> bool {
     let fail = [
         Call::Up(0),
         Call::Up(1),
@@ -69,14 +72,13 @@ fn an_order_about_a_link_that_is_not_up_is_sent(rt: HostRuntime) -> Result<(), F
         link: 1,
         number: 127,
     };
-    holds(does_all(&mut set, &fail) && sends_order(&mut set, head_of(127, 0), &order))
+    does_all(set, &fail) && sends_order(set, head_of(127, 0), &order)
 }
 
 /// Foremost orders alone are discarded: message 2 waits before order 3, which was overtaken too and goes when it's first.
 #[test]
 fn what_waits_before_an_overtaken_order_is_sent(rt: HostRuntime) -> Result<(), Fail> {
-    let mut set = set_of(rt.alloc(), 1)?;
-    holds(a_message_stands_between(rt.alloc(), &mut set))
+    holds(of_set(rt.alloc(), 1, a_message_stands_between))
 }
 
 /// The link fails twice before it sends anything: order 0 of the first time is parked, then message 1 is, then order 2.
@@ -124,8 +126,7 @@ fn answer_with(number: u16) -> Order
 /// that this end never had.
 #[test]
 fn an_order_that_comes_after_the_answer_is_told_nothing(rt: HostRuntime) -> Result<(), Fail> {
-    let mut set = set_of(rt.alloc(), 2)?;
-    holds(is_told_nothing(&mut set))
+    holds(of_set(rt.alloc(), 2, |_alloc, set| is_told_nothing(set)))
 }
 
 fn is_told_nothing(set: &mut SetCore) -> bool {
@@ -140,8 +141,7 @@ fn is_told_nothing(set: &mut SetCore) -> bool {
 /// Where no answer came the first order that comes late is told FSN 0, and the next one FSN 127.
 #[test]
 fn after_no_answer_the_end_of_a_life_is_told_once(rt: HostRuntime) -> Result<(), Fail> {
-    let mut set = set_of(rt.alloc(), 2)?;
-    holds(is_told_once(&mut set))
+    holds(of_set(rt.alloc(), 2, |_alloc, set| is_told_once(set)))
 }
 
 fn is_told_once(set: &mut SetCore) -> bool {
@@ -156,8 +156,7 @@ fn is_told_once(set: &mut SetCore) -> bool {
 /// Where the life ended blind the first order that comes late is told no FSN, and the next one FSN 127.
 #[test]
 fn after_a_blind_end_no_fsn_is_told_once(rt: HostRuntime) -> Result<(), Fail> {
-    let mut set = set_of(rt.alloc(), 2)?;
-    holds(is_told_blindly_once(&mut set))
+    holds(of_set(rt.alloc(), 2, |_alloc, set| is_told_blindly_once(set)))
 }
 
 fn is_told_blindly_once(set: &mut SetCore) -> bool {
@@ -172,8 +171,7 @@ fn is_told_blindly_once(set: &mut SetCore) -> bool {
 /// A new life is to be told anew: link 1 is answered for, comes up, accepts a message and is given up.
 #[test]
 fn each_life_is_told_anew(rt: HostRuntime) -> Result<(), Fail> {
-    let mut set = set_of(rt.alloc(), 2)?;
-    holds(is_told_anew(&mut set))
+    holds(of_set(rt.alloc(), 2, |_alloc, set| is_told_anew(set)))
 }
 
 fn is_told_anew(set: &mut SetCore) -> bool {
@@ -195,8 +193,7 @@ fn is_told_anew(set: &mut SetCore) -> bool {
 /// A link that was left comes up once it has settled, and no sooner; while it's up it doesn't come up again.
 #[test]
 fn a_link_comes_up_once_it_has_settled(rt: HostRuntime) -> Result<(), Fail> {
-    let mut set = set_of(rt.alloc(), 1)?;
-    holds(comes_up_settled(&mut set))
+    holds(of_set(rt.alloc(), 1, |_alloc, set| comes_up_settled(set)))
 }
 
 fn comes_up_settled(set: &mut SetCore) -> bool {

@@ -48,7 +48,7 @@ pub(crate) fn goes(alloc: Global, set: &mut SetCore, number: u64) -> bool {
 /// 2,000 messages one after another, so that the FSNs go round more than fifteen times.
 #[test]
 fn fsns_go_round(rt: HostRuntime) -> Result<(), Fail> {
-    holds(go_round(rt.alloc(), &mut set_of(rt.alloc(), 1)?))
+    holds(of_set(rt.alloc(), 1, go_round))
 }
 
 fn go_round(alloc: Global, set: &mut SetCore) -> bool {
@@ -81,7 +81,7 @@ fn a_hundred_go(alloc: Global, set: &mut SetCore, first: u64) -> bool {
 /// 100,000 messages in one set, each found again under its number.
 #[test]
 fn each_message_is_found_again(rt: HostRuntime) -> Result<(), Fail> {
-    holds(find_all_again(rt.alloc(), &mut set_of(rt.alloc(), 1)?))
+    holds(of_set(rt.alloc(), 1, find_all_again))
 }
 
 fn find_all_again(alloc: Global, set: &mut SetCore) -> bool {
@@ -142,7 +142,7 @@ fn leaves_twice(set: &mut SetCore, link: u8) -> bool {
 /// Each kind of event on each of 16 links.
 #[test]
 fn each_event_on_each_of_16_links(rt: HostRuntime) -> Result<(), Fail> {
-    holds(run_each(rt.alloc(), &mut set_of(rt.alloc(), 16)?))
+    holds(of_set(rt.alloc(), 16, run_each))
 }
 
 fn run_each(alloc: Global, set: &mut SetCore) -> bool {

@@ -1,7 +1,7 @@
 //! Situations of one link, with expected values worked out by hand from Q.703 5.
 use super::bench::{
     Call, answers, asked, config_by, does, emitted, finds, heard, holds, is_accepted, is_unacked,
-    message_of, offered, refuses, report_of, set_by, set_of,
+    message_of, of_set, of_set_by, offered, refuses, report_of,
 };
 use l2_units::{Unit, read};
 use set_core::*;
@@ -22,14 +22,6 @@ fn message() -> [u8; 5] {
 /// The settings of its set.
 fn config() -> Option<SetConfig> {
     config_by(1, Method::Basic)
-}
-
-/// A set whose link is up.
-fn set_in_service(alloc: Global, method: Method) -> Result<SetCore, Fail> {
-    let mut set = set_by(alloc, 1, method)?;
-    let up = does(&mut set, Call::Up(0));
-    holds(up)?;
-    Ok(set)
 }
 
 /// The set sends a unit of these octets next.
@@ -80,12 +72,12 @@ fn message_0_is_acknowledged(set: &mut SetCore) -> bool {
 /// One message is offered, sent and acknowledged.
 #[test]
 fn a_message_is_sent_and_acknowledged(rt: HostRuntime) -> Result<(), Fail> {
-    let mut set = set_in_service(rt.alloc(), Method::Basic)?;
-    holds(carries_one_message(rt.alloc(), &mut set))
+    holds(of_set(rt.alloc(), 1, carries_one_message))
 }
 
 fn carries_one_message(alloc: Global, set: &mut SetCore) -> bool {
-    message_0_goes(alloc, set)
+    does(set, Call::Up(0))
+        && message_0_goes(alloc, set)
         && sends(set, &[0xFF, 0x80, 0])
         && message_0_is_acknowledged(set)
         && stands(set, Fate::Acked { link: 0 })
@@ -93,9 +85,10 @@ fn carries_one_message(alloc: Global, set: &mut SetCore) -> bool {
         && has(set, 1, 5, 1)
 }
 
-/// A message is offered, one that is too short, and both units are sent; the first is acknowledged.
-fn five_calls(alloc: Global, set: &mut SetCore) -> bool {
-    is_accepted(alloc, set, &message(), 0)
+/// A link comes up, a message is offered, one that is too short, and both units are sent; the first is acknowledged.
+fn six_calls(alloc: Global, set: &mut SetCore) -> bool {
+    does(set, Call::Up(0))
+        && is_accepted(alloc, set, &message(), 0)
         && is_too_short(alloc, set, &[0x85, 1, 0x80, 0])
         && is_sent(set)
         && is_sent(set)
@@ -114,12 +107,15 @@ fn is_too_short(alloc: Global, set: &mut SetCore, octets: &[u8]) -> bool {
 /// The books of that history, and the laws of the set.
 #[test]
 fn the_books_of_one_message(rt: HostRuntime) -> Result<(), Fail> {
-    let mut set = set_in_service(rt.alloc(), Method::Basic)?;
-    let called = five_calls(rt.alloc(), &mut set);
+    holds(of_set(rt.alloc(), 1, has_books_of_one_message))
+}
+
+fn has_books_of_one_message(alloc: Global, set: &mut SetCore) -> bool {
+    let called = six_calls(alloc, set);
     let told = are_of_one_message(&set.books()) && set.config().opc == 2;
     set.is_sound();
     set.replays();
-    holds(called && told)
+    called && told
 }
 
 /// The books of one message, of one call that was refused, and of four of the terminal.
@@ -172,12 +168,12 @@ fn three_are_found(set: &mut SetCore) -> bool {
 /// A history of thirteen entries is legal; with one number changed it isn't.
 #[test]
 fn a_history_is_audited(rt: HostRuntime) -> Result<(), Fail> {
-    let mut set = set_in_service(rt.alloc(), Method::Basic)?;
-    holds(is_audited(rt.alloc(), &mut set))
+    holds(of_set(rt.alloc(), 1, is_audited))
 }
 
 fn is_audited(alloc: Global, set: &mut SetCore) -> bool {
-    four_messages_go(alloc, set)
+    does(set, Call::Up(0))
+        && four_messages_go(alloc, set)
         && three_are_found(set)
         && set.history().len() == 13
         && is_kept_legal(alloc, set)
@@ -238,7 +234,7 @@ fn unknown() -> Answer {
 /// The refusals that a script can't show: a link that the set hasn't, and one that is up already.
 #[test]
 fn refusals_in_their_order(rt: HostRuntime) -> Result<(), Fail> {
-    holds(refuses_in_order(&mut set_of(rt.alloc(), 1)?))
+    holds(of_set(rt.alloc(), 1, |_alloc, set| refuses_in_order(set)))
 }
 
 fn refuses_in_order(set: &mut SetCore) -> bool {
@@ -413,9 +409,17 @@ fn is_done(set: &mut SetCore, so_far: &Traffic) -> bool {
 /// Both ends send; every seventh unit of both directions is lost; each message is taken at the other
 /// end once, in order.
 fn lossy_run(alloc: Global, method: Method) -> Result<(), Fail> {
-    let mut a = set_in_service(alloc, method)?;
-    let mut b = set_in_service(alloc, method)?;
-    holds(carry_all(alloc, &mut a, &mut b))
+    holds(of_set_by(alloc, config_by(1, method), |alloc, a| {
+        of_set_by(
+            alloc,
+            config_by(1, method),
+            |alloc, b| run_both(alloc, a, b),
+        )
+    }))
+}
+
+fn run_both(alloc: Global, a: &mut SetCore, b: &mut SetCore) -> bool {
+    does(a, Call::Up(0)) && does(b, Call::Up(0)) && carry_all(alloc, a, b)
 }
 
 fn carry_all(alloc: Global, a: &mut SetCore, b: &mut SetCore) -> bool {

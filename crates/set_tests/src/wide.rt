@@ -1,7 +1,7 @@
 //! Sets of the wide profile: numbers of twelve bits, and bodies of at most 272 octets.
 use super::bench::{
     Call, answers, does, does_all, emitted, heard, holds, is_accepted, is_unacked, message_of,
-    offered, report_of, set_of,
+    of_set, of_set_by, offered, report_of,
 };
 use l2_units::{Header, Profile, Unit, body_of};
 use l3_orders::{Order, OrderFault, read_order, read_order_wide, write_order_wide};
@@ -10,15 +10,16 @@ use set_events::{Answer, ConfigFault, Event, Method, Refusal, SetConfig, Took};
 use std::alloc::Global;
 use std::test::Fail;
 
-/// A set of so many links with point code 2. The far end has 1.
-fn wide_set(alloc: Global, links: u8, method: Method) -> Result<SetCore, Fail> {
-    let Ok(config) = SetConfig::new_wide(0, links, 2, 1, 0x80, method) else {
-        return Err(Fail::from("refused"));
-    };
-    match SetCore::new(alloc, &config) {
-        Ok(set) => Ok(set),
-        Err(_) => Err(Fail::from("no memory")),
-    }
+/// The settings of a wide set of so many links with point code 2. The far end has 1.
+fn wide_config(links: u8, method: Method) -> Option<SetConfig> {
+    SetConfig::new_wide(0, links, 2, 1, 0x80, method).ok()
+}
+
+/// Whether a case holds of such a set by the basic method, of which nothing was asked.
+fn of_wide<F: FnOnce(Global, &mut SetCore) -> bool>(alloc: Global, links: u8, case: F) -> bool
+    requires { F.IsAlwaysCallable case }
+{
+    of_set_by(alloc, wide_config(links, Method::Basic), case)
 }
 
 /// A header of these numbers modulo 4,096, with indicator bits as they are at first.
@@ -75,8 +76,7 @@ fn go_round(alloc: Global, set: &mut SetCore) -> bool {
 
 #[test]
 fn wide_fsns_go_round_by_the_basic_method(rt: HostRuntime) -> Result<(), Fail> {
-    let mut set = wide_set(rt.alloc(), 1, Method::Basic)?;
-    holds(go_round(rt.alloc(), &mut set))
+    holds(of_wide(rt.alloc(), 1, go_round))
 }
 
 #[test]
@@ -85,16 +85,15 @@ fn wide_fsns_go_round_by_cycles(rt: HostRuntime) -> Result<(), Fail> {
         n1: 4_095,
         n2: 1_113_840,
     };
-    let mut set = wide_set(rt.alloc(), 1, method)?;
-    holds(go_round(rt.alloc(), &mut set))
+    holds(of_set_by(rt.alloc(), wide_config(1, method), go_round))
 }
 
 /// With 4,095 messages unacknowledged a FISU goes out, and the next message once they are acknowledged.
 #[test]
 fn at_most_4095_are_unacknowledged(rt: HostRuntime) -> Result<(), Fail> {
-    let mut set = wide_set(rt.alloc(), 1, Method::Basic)?;
-    let sent = does(&mut set, Call::Up(0)) && most_are_sent(rt.alloc(), &mut set);
-    holds(sent && waits_for_a_number(rt.alloc(), &mut set))
+    holds(of_wide(rt.alloc(), 1, |alloc, set| {
+        does(set, Call::Up(0)) && most_are_sent(alloc, set) && waits_for_a_number(alloc, set)
+    }))
 }
 
 fn most_are_sent(alloc: Global, set: &mut SetCore) -> bool {
@@ -128,15 +127,17 @@ fn refuses(alloc: Global, set: &mut SetCore, octets: &[u8], why: Refusal) -> boo
 
 #[test]
 fn wide_bodies_have_at_most_272_octets(rt: HostRuntime) -> Result<(), Fail> {
+    holds(of_wide(rt.alloc(), 1, takes_272_octets) && of_set(rt.alloc(), 1, takes_273_octets))
+}
+
+fn takes_272_octets(alloc: Global, set: &mut SetCore) -> bool {
+    let octets = [0x85u8; 273];
+    is_accepted(alloc, set, &octets[..272], 0) && refuses(alloc, set, &octets, Refusal::TooLong)
+}
+
+fn takes_273_octets(alloc: Global, set: &mut SetCore) -> bool {
     let octets = [0x85u8; 274];
-    let mut wide = wide_set(rt.alloc(), 1, Method::Basic)?;
-    let mut narrow = set_of(rt.alloc(), 1)?;
-    holds(
-        is_accepted(rt.alloc(), &mut wide, &octets[..272], 0)
-            && refuses(rt.alloc(), &mut wide, &octets[..273], Refusal::TooLong)
-            && is_accepted(rt.alloc(), &mut narrow, &octets[..273], 0)
-            && refuses(rt.alloc(), &mut narrow, &octets, Refusal::TooLong),
-    )
+    is_accepted(alloc, set, &octets[..273], 0) && refuses(alloc, set, &octets, Refusal::TooLong)
 }
 
 /// Link 0 refuses to hear this unit so.
@@ -161,14 +162,20 @@ fn longest() -> Unit {
 
 #[test]
 fn a_unit_of_the_other_profile_is_not_heard(rt: HostRuntime) -> Result<(), Fail> {
-    let mut wide = wide_set(rt.alloc(), 1, Method::Basic)?;
-    let mut narrow = set_of(rt.alloc(), 1)?;
-    let down = is_not_heard(&mut narrow, fisu_300(), Refusal::NotUp)
-        && is_not_heard(&mut wide, longest(), Refusal::NotUp);
-    let up = does(&mut narrow, Call::Up(0)) && does(&mut wide, Call::Up(0));
-    let refused = is_not_heard(&mut narrow, fisu_300(), Refusal::Nothing)
-        && is_not_heard(&mut wide, longest(), Refusal::Nothing);
-    holds(down && up && refused)
+    let narrow = of_set(rt.alloc(), 1, |_alloc, set| never_hears_of_300(set));
+    holds(narrow && of_wide(rt.alloc(), 1, |_alloc, set| never_hears_273_octets(set)))
+}
+
+fn never_hears_of_300(set: &mut SetCore) -> bool {
+    is_not_heard(set, fisu_300(), Refusal::NotUp)
+        && does(set, Call::Up(0))
+        && is_not_heard(set, fisu_300(), Refusal::Nothing)
+}
+
+fn never_hears_273_octets(set: &mut SetCore) -> bool {
+    is_not_heard(set, longest(), Refusal::NotUp)
+        && does(set, Call::Up(0))
+        && is_not_heard(set, longest(), Refusal::Nothing)
 }
 
 /// A configuration of these limits is refused so, or taken.
@@ -224,9 +231,12 @@ fn a_wide_cbd_has_seven_octets() -> Result<(), Fail> {
 /// Link 0 accepts 300 messages and fails: its order tells FSN 299, and that of the far end, which accepted none, 4095.
 #[test]
 fn a_wide_changeover_tells_a_number_over_127(rt: HostRuntime) -> Result<(), Fail> {
-    let mut set = wide_set(rt.alloc(), 2, Method::Basic)?;
-    let up = does_all(&mut set, &[Call::Up(0), Call::Up(1)]) && hears_300(&mut set);
-    holds(up && changes_over(&mut set) && set.is_settled(0))
+    holds(of_wide(rt.alloc(), 2, |_alloc, set| {
+        does_all(set, &[Call::Up(0), Call::Up(1)])
+            && hears_300(set)
+            && changes_over(set)
+            && set.is_settled(0)
+    }))
 }
 
 fn hears_300(set: &mut SetCore) -> bool {
@@ -270,10 +280,8 @@ fn a_wide_link_fails_among_5000_messages(rt: HostRuntime) -> Result<(), Fail> {
         n1: 4_095,
         n2: 1_113_840,
     };
-    let mut basic = wide_set(rt.alloc(), 2, Method::Basic)?;
-    let mut cyclic = wide_set(rt.alloc(), 2, cycles)?;
-    let well = fails_in_the_midst(rt.alloc(), &mut basic);
-    holds(well && fails_in_the_midst(rt.alloc(), &mut cyclic))
+    let basic = of_wide(rt.alloc(), 2, fails_in_the_midst);
+    holds(basic && of_set_by(rt.alloc(), wide_config(2, cycles), fails_in_the_midst))
 }
 
 fn fails_in_the_midst(alloc: Global, set: &mut SetCore) -> bool {
