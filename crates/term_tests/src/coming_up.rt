@@ -1,7 +1,8 @@
 //! A terminal that is joined to itself by its line.
 
 use super::core_door::{
-    CoreDoor, LONG, asked_up, downs, holds, is_legal, started, started_at, timers_of, ups,
+    CoreDoor, LONG, asked_up, downs, holds, holds_of, is_legal, looked_at, started, started_at,
+    timers_of, ups,
 };
 use super::test_lines::{FadingLine, FullLine};
 use line_ring::{Line, LossyLine};
@@ -12,10 +13,10 @@ use std::test::Fail;
 
 /// A terminal with timers of these lengths isn't up after so many turns, for this cause.
 fn fails_for(alloc: Global, lengths: Timers, cause: u8) -> bool {
-    let Some(mut terminal) = started(alloc, LossyLine::new(0), lengths) else {
-        return false;
-    };
-    runs_to(&mut terminal, cause)
+    holds_of(
+        started(alloc, LossyLine::new(0), lengths),
+        |terminal| runs_to(terminal, cause),
+    )
 }
 
 /// So many turns end with this cause of the last failure.
@@ -42,12 +43,14 @@ fn a_link_comes_up(rt: HostRuntime) -> Result<(), Fail> {
 }
 
 fn comes_up(alloc: Global) -> bool {
-    let Some(mut terminal) = started(alloc, LossyLine::new(0), LONG) else {
-        return false;
-    };
-    let good = stays_good(&mut terminal);
-    let (door, _line, _gate) = terminal.into_parts();
-    good && is_legal_with(alloc, &door, 1, 0)
+    match started(alloc, LossyLine::new(0), LONG) {
+        Some(mut terminal) => {
+            let good = stays_good(&mut terminal);
+            let legal = looked_at(terminal, |door, _line| is_legal_with(alloc, door, 1, 0));
+            good && legal
+        }
+        None => false,
+    }
 }
 
 /// The set was told so often that the link is up, and that it's down; its history is legal.
@@ -88,15 +91,25 @@ fn the_first_octet_waits_where_the_line_is_full(rt: HostRuntime) -> Result<(), F
 }
 
 fn waits_for_the_line(alloc: Global) -> bool {
-    let Some(mut terminal) = started(alloc, FullLine::new(), LONG) else {
-        return false;
-    };
-    let sent = match terminal.run(100) {
-        Ok(report) => Some(report.sent),
-        Err(_) => None,
-    };
-    let (_door, line, _gate) = terminal.into_parts();
-    sent == Some(0) && line.asked == 100 && line.always_the_flag
+    match started(alloc, FullLine::new(), LONG) {
+        Some(mut terminal) => {
+            let nothing = sends_nothing(&mut terminal);
+            let is_asked = looked_at(
+                terminal,
+                |_door, line| line.asked == 100 && line.always_the_flag,
+            );
+            nothing && is_asked
+        }
+        None => false,
+    }
+}
+
+/// A hundred turns send nothing.
+fn sends_nothing<D: Door, L: Line, G: Gate>(terminal: &mut Terminal<D, L, G>) -> bool {
+    match terminal.run(100) {
+        Ok(report) => report.sent == 0,
+        Err(_) => false,
+    }
 }
 
 /// 110,000 turns, in each thousand of which the link is told to start in an emergency; whether they went well.
@@ -121,8 +134,10 @@ fn comes_up_again(alloc: Global, door: CoreDoor, line: FadingLine) -> bool {
         .is_ok();
     let mut terminal = started_at(door, line, LONG);
     let well = terminal.run(20_000).is_ok();
-    let (door, _line, _gate) = terminal.into_parts();
-    settled && well && ups(door.core.history()) == 2 && is_legal(alloc, &door)
+    let again = looked_at(terminal, |door, _line| {
+        ups(door.core.history()) == 2 && is_legal(alloc, door)
+    });
+    settled && well && again
 }
 
 /// In service on a good line, which then loses each 50th octet for 100,000 turns. The link goes down. An emergency proving
@@ -134,14 +149,16 @@ fn a_link_that_loses_octets_fails_and_comes_up_again(rt: HostRuntime) -> Result<
 }
 
 fn fails_and_comes_up_again(alloc: Global) -> bool {
-    let Some(mut terminal) = started(alloc, FadingLine::new(10_000, 110_000), LONG) else {
-        return false;
-    };
-    let well = goes_on(&mut terminal);
-    let (door, line, _gate) = terminal.into_parts();
-    let failed = has_failed_once(&door);
-    let again = comes_up_again(alloc, door, line);
-    well && failed && again
+    match started(alloc, FadingLine::new(10_000, 110_000), LONG) {
+        Some(mut terminal) => {
+            let well = goes_on(&mut terminal);
+            let (door, line, _gate) = terminal.into_parts();
+            let failed = has_failed_once(&door);
+            let again = comes_up_again(alloc, door, line);
+            well && failed && again
+        }
+        None => false,
+    }
 }
 
 /// The set was asked for one Up, which was done, and then told of one Down.

@@ -99,11 +99,7 @@ fn door_at(alloc: Global, config: &SetConfig) -> Option<CoreDoor>
 /// The same, after user 0 has offered so many messages, which were accepted.
 pub(crate) fn loaded(alloc: Global, config: &SetConfig, messages: u16) -> Option<CoreDoor> {
     let mut door = door_at(alloc, config)?;
-    if offer(alloc, &mut door.core, messages) {
-        Some(door)
-    } else {
-        None
-    }
+    offer(alloc, &mut door.core, messages).then_some(door)
 }
 
 /// Timers that are long beside the time that a link takes to come up.
@@ -155,6 +151,29 @@ pub(crate) fn started_at<D: Door, L: Line>(
     terminal.command(Command::Emergency);
     terminal.command(Command::Start);
     terminal
+}
+
+/// Whether there is a value, of which this case holds. It owns the value for all tests: letting go of a set is dear to
+/// prove, but not of a type parameter.
+pub(crate) fn holds_of<T: Drop, F: FnOnce(&mut T) -> bool>(value: Option<T>, case: F) -> bool
+    requires { F.IsAlwaysCallable case }
+{
+    match value {
+        Some(mut value) => case(&mut value),
+        None => false,
+    }
+}
+
+/// What a look at a terminal's door and line tells. It owns them for all tests, as [`holds_of`] does its value.
+pub(crate) fn looked_at<D, L, R, F>(terminal: Terminal<D, L, OpenGate>, look: F) -> R
+where
+    D: Door + Drop,
+    L: Line + Drop,
+    F: FnOnce(&D, &L) -> R,
+    requires { F.IsAlwaysCallable look }
+{
+    let (door, line, _gate) = terminal.into_parts();
+    look(&door, &line)
 }
 
 /// The octets of message `number` of stream 3: SIO, a label (Q.704 2.2), and the number, the high octet first.

@@ -1,7 +1,7 @@
 //! Terminals whose door fails: each later call answers Failed.
 ghost use Rattle.std.specs.Prelude.{◌≡◌, [], ◌∷◌, ◌++◌, ◌<◌};
 
-use super::core_door::{CoreDoor, LONG, door_of, holds, started_at};
+use super::core_door::{CoreDoor, LONG, door_of, holds, holds_of, looked_at, started_at};
 use line_ring::{Line, LossyLine};
 use link_term::{Command, Door, Faults, Gate, OpenGate, SetFault, TermFault, Terminal};
 use set_events::{EventRef, Reply};
@@ -91,13 +91,15 @@ pub(crate) fn stays_failed<D: Door, L: Line, G: Gate>(terminal: &mut Terminal<D,
 
 /// The step of this number fails: that fault is told, once.
 fn fails_at(alloc: Global, steps: u32, fault: SetFault, told: TermFault) -> bool {
-    let Some(mut terminal) = failing(alloc, steps, fault) else {
-        return false;
-    };
-    let is_told = first_fault(&mut terminal, 20_000) == Some(told);
-    let stays = stays_failed(&mut terminal);
-    let (door, _line, _gate) = terminal.into_parts();
-    is_told && stays && has_stepped(&door, steps)
+    match failing(alloc, steps, fault) {
+        Some(mut terminal) => {
+            let is_told = first_fault(&mut terminal, 20_000) == Some(told);
+            let stays = stays_failed(&mut terminal);
+            let stepped = looked_at(terminal, |door, _line| has_stepped(door, steps));
+            is_told && stays && stepped
+        }
+        None => false,
+    }
 }
 
 /// The door did all its steps, and each is in the history.
@@ -138,8 +140,7 @@ fn a_run_that_fails_tells_the_fault(rt: HostRuntime) -> Result<(), Fail> {
 }
 
 fn is_told_by_a_run(alloc: Global) -> bool {
-    let Some(mut terminal) = failing(alloc, 7, SetFault::Exhausted) else {
-        return false;
-    };
-    run_fails(&mut terminal, TermFault::Exhausted)
+    holds_of(failing(alloc, 7, SetFault::Exhausted), |terminal| {
+        run_fails(terminal, TermFault::Exhausted)
+    })
 }

@@ -2,7 +2,8 @@
 ghost use Rattle.std.specs.Prelude.{◌≤◌};
 
 use super::core_door::{
-    CoreDoor, LONG, config_of, downs, holds, is_legal, loaded, started_at, timers_of, ups,
+    CoreDoor, LONG, config_of, downs, holds, is_legal, loaded, looked_at, started_at, timers_of,
+    ups,
 };
 use super::far_end::{FarEnd, Heard, Script};
 use l2_units::Status;
@@ -91,14 +92,9 @@ fn plays(terminal: &mut Terminal<CoreDoor, FarEnd, OpenGate>, is_busy: bool) -> 
 }
 
 /// What a terminal came to.
-fn seen(
-    alloc: Global,
-    terminal: Terminal<CoreDoor, FarEnd, OpenGate>,
-    cause: Option<u8>,
-) -> Outcome {
-    let (door, line, _gate) = terminal.into_parts();
+fn seen(alloc: Global, cause: Option<u8>, door: &CoreDoor, line: &FarEnd) -> Outcome {
     Outcome {
-        is_legal: is_legal(alloc, &door),
+        is_legal: is_legal(alloc, door),
         cause: cause.unwrap_or(255),
         ups: ups(door.core.history()),
         downs: downs(door.core.history()),
@@ -120,7 +116,7 @@ fn outcome_of(alloc: Global, script: Script, near: Near) -> Option<Outcome> {
     let door = loaded(alloc, &config_of()?, near.messages)?;
     let mut terminal = started_at(door, FarEnd::new(script), near.lengths);
     let cause = plays(&mut terminal, near.is_busy);
-    Some(seen(alloc, terminal, cause))
+    Some(looked_at(terminal, |door, line| seen(alloc, cause, door, line)))
 }
 
 /// A near end that isn't busy, with so many messages.

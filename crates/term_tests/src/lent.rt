@@ -3,15 +3,15 @@ ghost use Rattle.std.specs.Prelude.{◌≡◌, IfSome};
 
 use super::core_door::{CoreDoor, LONG, door_of, holds};
 use l2_units::{Cause, Header, Status, Unit};
-use line_ring::LossyLine;
-use link_term::{Command, Filling, LastUnit, TermState, Timers, Works};
+use line_ring::{Line, LossyLine};
+use link_term::{Command, Door, Filling, LastUnit, TermState, Timers, Works};
 use std::alloc::Global;
 use std::test::Fail;
 
 /// A turn with a tap: what came of the choice of a unit, where the turn went.
-fn turned(works: &mut Works, lent: &mut Lent) -> Option<Filling>
-    requires { works.old.inside.link ≡ lent.old.door.link }
-    ensures { works.new.inside.link ≡ lent.new.door.link }
+fn turned<D: Door, L: Line>(works: &mut Works, lent: &mut Lent<D, L>) -> Option<Filling>
+    requires { D.number lent.old.door ≡ works.old.inside.link }
+    ensures { D.number lent.new.door ≡ works.new.inside.link }
 {
     lent.tap.clear();
     match works.turn_tapped(&mut lent.door, &mut lent.line, &mut lent.tap) {
@@ -20,11 +20,11 @@ fn turned(works: &mut Works, lent: &mut Lent) -> Option<Filling>
     }
 }
 
-/// What is lent.
+/// What is lent. The door is of any kind, since letting go of a set is dear to prove.
 #[derive(Drop)]
-struct Lent {
-    door: CoreDoor,
-    line: LossyLine,
+struct Lent<D, L> {
+    door: D,
+    line: L,
     tap: LastUnit,
 }
 
@@ -46,7 +46,7 @@ fn is_sio(unit: Option<&Unit>) -> bool {
     }
 }
 
-fn all_lent(alloc: Global) -> Option<Lent>
+fn all_lent(alloc: Global) -> Option<Lent<CoreDoor, LossyLine>>
     ensures { IfSome result (λ lent. lent.door.link ≡ 0) }
 {
     Some(Lent {
@@ -57,9 +57,9 @@ fn all_lent(alloc: Global) -> Option<Lent>
 }
 
 /// It starts: a flag goes out, and then SIO, of which the tap is told in that turn alone.
-fn starts(works: &mut Works, lent: &mut Lent) -> bool
-    requires { works.old.inside.link ≡ lent.old.door.link }
-    ensures { works.new.inside.link ≡ lent.new.door.link }
+fn starts<D: Door, L: Line>(works: &mut Works, lent: &mut Lent<D, L>) -> bool
+    requires { D.number lent.old.door ≡ works.old.inside.link }
+    ensures { D.number lent.new.door ≡ works.new.inside.link }
 {
     works.command(Command::Start);
     let flag = turned(works, lent) == Some(Filling::Enough) && lent.tap.unit().is_none();
@@ -69,8 +69,8 @@ fn starts(works: &mut Works, lent: &mut Lent) -> bool
 }
 
 /// It stops.
-fn stops(works: &mut Works, lent: &mut Lent) -> bool
-    requires { works.old.inside.link ≡ lent.old.door.link }
+fn stops<D: Door, L: Line>(works: &mut Works, lent: &mut Lent<D, L>) -> bool
+    requires { D.number lent.old.door ≡ works.old.inside.link }
 {
     works.command(Command::Stop);
     let went = works.turn(&mut lent.door, &mut lent.line).is_ok();
@@ -79,14 +79,22 @@ fn stops(works: &mut Works, lent: &mut Lent) -> bool
 
 #[test]
 fn works_take_their_turns_at_what_is_lent(rt: HostRuntime) -> Result<(), Fail> {
-    let Some(mut lent) = all_lent(rt.alloc()) else {
-        return holds(false);
-    };
+    match all_lent(rt.alloc()) {
+        Some(lent) => holds(take_their_turns(lent)),
+        None => holds(false),
+    }
+}
+
+/// New works start at what is lent, and stop.
+fn take_their_turns<D: Door + Drop, L: Line + Drop>(lent: Lent<D, L>) -> bool
+    requires { D.number lent.door ≡ 0 }
+{
+    let mut lent = lent;
     let mut works = Works::new(0, LONG);
     let is_new = works.link() == 0 && works.state() == TermState::OutOfService;
     let is_down = !works.is_up() && !works.is_paused();
     let started = starts(&mut works, &mut lent);
-    holds(is_new && is_down && started && stops(&mut works, &mut lent))
+    is_new && is_down && started && stops(&mut works, &mut lent)
 }
 
 #[test]

@@ -2,8 +2,9 @@
 ghost use Rattle.std.specs.Prelude.{◌≡◌, ◌^◌, ◌≤◌};
 ghost use Rattle.line_ring.specs.Rings.{IsSameEnd};
 
-use super::core_door::{CoreDoor, LONG, door_of, holds, started_at};
+use super::core_door::{LONG, door_of, holds, started_at};
 use line_ring::{Full, Line, LossyLine, RingLine, beside, ring_pair};
+use link_term::Door;
 use std::sync::Wait;
 use std::test::Fail;
 use std::thread;
@@ -208,10 +209,11 @@ fn octets_cross_between_two_threads(rt: HostRuntime) -> Result<(), Fail> {
     holds(answered && right && empty)
 }
 
-/// So many turns of a terminal at this door, over this end of a line: the end then, and whether they went well.
-fn turns_over(door: CoreDoor, line: RingLine, turns: u64) -> (RingLine, bool)
+/// So many turns of a terminal at this door, over this end of a line: the end then, and whether they went well. The door
+/// is of any kind, since letting go of a set is dear to prove.
+fn turns_over<D: Door + Drop, L: Line>(door: D, line: L, turns: u64) -> (L, bool)
     requires { turns ≤ 2 ^ 32 }
-    ensures { IsSameEnd line result.0 }
+    ensures { L.is_same line result.0 }
 {
     let mut terminal = started_at(door, line, LONG);
     let well = terminal.run(turns).is_ok();
@@ -230,10 +232,10 @@ fn waiting_in(line: &mut RingLine) -> u8 {
 
 #[test]
 fn a_pair_is_looked_at_after_terminals_ran_over_it(rt: HostRuntime) -> Result<(), Fail> {
-    let (Some(near_door), Some(far_door)) = (door_of(rt.alloc()), door_of(rt.alloc())) else {
+    let (near, far) = ring_pair(rt.alloc(), 64)?;
+    let Some((near_door, far_door)) = door_of(rt.alloc()).zip(door_of(rt.alloc())) else {
         return Err(Fail::from("not opened"));
     };
-    let (near, far) = ring_pair(rt.alloc(), 64)?;
     let (mut near, near_well) = turns_over(near_door, near, 40);
     let (mut far, far_well) = turns_over(far_door, far, 30);
     beside(&mut near, &mut far);

@@ -4,11 +4,11 @@ use super::core_door::{
     CoreDoor, LONG, asked, config_of, far_config_of, holds, is_legal_by, loaded, message_of,
     started_at, ups,
 };
-use line_ring::{Line, RingLine, ring_pair};
-use link_term::{OpenGate, Terminal};
+use line_ring::{Line, ring_pair};
+use link_term::{Door, OpenGate, Terminal};
 use set_core::SetCore;
 use set_events::{Answer, Event, SetConfig};
-use std::alloc::{AllocError, Global};
+use std::alloc::Global;
 use std::sync::Wait;
 use std::test::Fail;
 use std::thread;
@@ -24,7 +24,7 @@ const TOGETHER: u64 = 500;
 const MEETINGS: u32 = 80;
 
 /// Each end puts a tick, and goes on once it has the other's.
-fn meet<R: Wait>(rt: &R, ticks: &mut RingLine) {
+fn meet<R: Wait, L: Line>(rt: &R, ticks: &mut L) {
     let _ = ticks.put(0);
     for _ in rt.forever() {
         if ticks.take().is_some() {
@@ -36,11 +36,11 @@ fn meet<R: Wait>(rt: &R, ticks: &mut RingLine) {
 }
 
 /// All turns of a terminal: its door, and whether they went well. Where they don't it meets the other all the same.
-fn plays<R: Wait>(
+fn plays<R: Wait, D: Door, L: Line + Drop>(
     rt: &R,
-    terminal: Terminal<CoreDoor, RingLine, OpenGate>,
-    ticks: RingLine,
-) -> (CoreDoor, bool) {
+    terminal: Terminal<D, L, OpenGate>,
+    ticks: L,
+) -> (D, bool) {
     let mut terminal = terminal;
     let mut ticks = ticks;
     let mut well = true;
@@ -82,37 +82,20 @@ fn came_through(alloc: Global, config: Option<SetConfig>, door: &mut CoreDoor) -
 
 /// A door of a new set of each end, to which all messages were offered.
 fn doors(alloc: Global) -> Option<(CoreDoor, CoreDoor)> {
-    let near = loaded(alloc, &config_of()?, MESSAGES)?;
-    let far = loaded(alloc, &far_config_of()?, MESSAGES)?;
-    Some((near, far))
-}
-
-/// A terminal at each of these doors, joined by a pair of rings.
-fn joined(
-    alloc: Global,
-    near: CoreDoor,
-    far: CoreDoor,
-) -> Result<
-    (
-        Terminal<CoreDoor, RingLine, OpenGate>,
-        Terminal<CoreDoor, RingLine, OpenGate>,
-    ),
-    AllocError,
-> {
-    let (near_line, far_line) = ring_pair(alloc, 4_096)?;
-    Ok((
-        started_at(near, near_line, LONG),
-        started_at(far, far_line, LONG),
-    ))
+    let near = config_of()?;
+    let far = far_config_of()?;
+    loaded(alloc, &near, MESSAGES).zip(loaded(alloc, &far, MESSAGES))
 }
 
 #[test]
 fn two_terminals_exchange_messages_between_threads(rt: HostRuntime) -> Result<(), Fail> {
+    let (near_line, far_line) = ring_pair(rt.alloc(), 4_096)?;
+    let (near_ticks, far_ticks) = ring_pair(rt.alloc(), 2)?;
     let Some((near, far)) = doors(rt.alloc()) else {
         return Err(Fail::from("not offered"));
     };
-    let (near, far) = joined(rt.alloc(), near, far)?;
-    let (near_ticks, far_ticks) = ring_pair(rt.alloc(), 2)?;
+    let near = started_at(near, near_line, LONG);
+    let far = started_at(far, far_line, LONG);
     let ((mut near, near_well), (mut far, far_well)) = thread::join(
         &rt,
         move || plays(&rt, near, near_ticks),
@@ -120,5 +103,8 @@ fn two_terminals_exchange_messages_between_threads(rt: HostRuntime) -> Result<()
     );
     let near_came = came_through(rt.alloc(), config_of(), &mut near);
     let far_came = came_through(rt.alloc(), far_config_of(), &mut far);
+    // by the function for all types, since letting go of a set is dear to prove here
+    drop(near);
+    drop(far);
     holds(near_well && far_well && near_came && far_came)
 }

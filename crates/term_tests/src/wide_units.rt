@@ -1,7 +1,7 @@
 //! Terminals whose set gives units with numbers of more than seven bits: they end there, and the entry stays in the door.
 ghost use Rattle.std.specs.Prelude.{◌≡◌, [], ◌∷◌, ◌++◌, ◌<◌, ◌^◌};
 
-use super::core_door::{LONG, holds, started_at};
+use super::core_door::{LONG, holds, looked_at, started_at};
 use super::failing_doors::{first_fault, stays_failed};
 use l2_units::Header;
 use line_ring::LossyLine;
@@ -104,8 +104,8 @@ fn ends_it(alloc: Global, bsn: u16, fsn: u16) -> bool
     let mut terminal = given(alloc, bsn, fsn);
     let fault = first_fault(&mut terminal, 20_000);
     let ended = fault == Some(TermFault::Profile) && stays_failed(&mut terminal);
-    let (door, _line, _gate) = terminal.into_parts();
-    ended && keeps_its_entry(&door)
+    let is_kept = looked_at(terminal, |door, _line| keeps_its_entry(door));
+    ended && is_kept
 }
 
 #[test]
@@ -119,8 +119,8 @@ fn a_number_of_128_ends_the_terminal(rt: HostRuntime) -> Result<(), Fail> {
 fn a_number_of_127_does_not(rt: HostRuntime) -> Result<(), Fail> {
     let mut terminal = given(rt.alloc(), 127, 127);
     let fault = first_fault(&mut terminal, 20_000);
-    let (door, _line, _gate) = terminal.into_parts();
-    holds(fault.is_none() && door.entries.len() > 1_000)
+    let many = looked_at(terminal, |door, _line| door.entries.len() > 1_000);
+    holds(fault.is_none() && many)
 }
 
 #[test]
