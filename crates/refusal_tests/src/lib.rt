@@ -34,6 +34,20 @@ const MOST_GROWTHS: u64 = 4_000;
 #[cfg(test)]
 const TRIES: u8 = 3;
 
+/// What this call makes, which is made again where memory was refused to it. It's a function for all types, since letting go
+/// of a set or an event is dear to prove.
+#[cfg(test)]
+fn made_at_last<T: Drop, F: FnMut() -> Option<T>>(mut make: F) -> Option<T>
+    requires { F.IsAlwaysCallable make }
+{
+    for _ in 0..TRIES {
+        if let Some(made) = make() {
+            return Some(made);
+        }
+    }
+    None
+}
+
 /// So it is. It stands in the place of `assert!`, whose text of what isn't so costs the prover a multiple.
 #[cfg(test)]
 fn holds(fact: bool) -> Result<(), Fail> {

@@ -3,7 +3,7 @@ ghost use Rattle.set_events.specs.Lent.{HasFitUnit};
 ghost use Rattle.set_model.specs.History.{IsActor};
 
 use super::script::{Ask, SCRIPT, config, event_of, who_of};
-use super::{MOST_GROWTHS, TRIES, holds};
+use super::{MOST_GROWTHS, TRIES, holds, made_at_last};
 use set_core::{SetCore, SetFault, audit};
 use set_events::{Actor, Answer, Entry, Event, EventRef, Reply};
 use std::alloc::{Allocator, Global};
@@ -134,12 +134,7 @@ fn opened_over(refusing: &Refusing<Global>) -> Option<SetCore<&Refusing<Global>>
 /// A set that is opened, again where it was refused.
 pub(crate) fn opened(alloc: Global) -> Option<SetCore> {
     let config = config()?;
-    for _ in 0..TRIES {
-        if let Ok(set) = SetCore::new(alloc, &config) {
-            return Some(set);
-        }
-    }
-    None
+    made_at_last(|| SetCore::new(alloc, &config).ok())
 }
 
 fn is_asked<A: Allocator + Copy>(alloc: Global, set: &mut SetCore<A>, twin: &mut SetCore) -> bool {
@@ -196,12 +191,7 @@ fn goes_alike<A: Allocator + Copy>(
 
 /// The event, made again where memory was refused.
 pub(crate) fn made(alloc: Global, ask: Ask) -> Option<Event> {
-    for _ in 0..TRIES {
-        if let Some(event) = event_of(alloc, ask) {
-            return Some(event);
-        }
-    }
-    None
+    made_at_last(|| event_of(alloc, ask))
 }
 
 fn answer_alike<A: Allocator + Copy>(

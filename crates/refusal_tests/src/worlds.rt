@@ -1,7 +1,7 @@
 //! A world of two ends: its making, each kind of step, and a whole run.
 use super::script::{config, message_of};
 use super::sets::are_alike;
-use super::{MOST_GROWTHS, TRIES, holds};
+use super::{MOST_GROWTHS, TRIES, holds, made_at_last};
 use pair_world::{End, PlayFault, Step, World};
 use set_events::{Body, Event, Method, SetConfig};
 use std::alloc::{Allocator, Global};
@@ -60,12 +60,7 @@ fn is_right(refusing: &Refusing<Global>, alloc: Global, steps: &[Step], at_once:
 
 /// The run's world, made again where memory was refused.
 fn run(alloc: Global, steps: &[Step]) -> Option<World> {
-    for _ in 0..TRIES {
-        if let Ok(world) = played(alloc, steps) {
-            return Some(world);
-        }
-    }
-    None
+    made_at_last(|| played(alloc, steps).ok())
 }
 
 fn played<G: Allocator + Copy>(alloc: G, steps: &[Step]) -> Result<World<G>, PlayFault> {
@@ -115,12 +110,7 @@ fn far_config() -> Option<SetConfig> {
 /// Link 0 comes up. Of three messages the first is delivered and taken, the second is lost under way, and the third
 /// waits as the link is left.
 fn steps(alloc: Global) -> Option<Vec<Step>> {
-    for _ in 0..TRIES {
-        if let Some(steps) = try_steps(alloc) {
-            return Some(steps);
-        }
-    }
-    None
+    made_at_last(|| try_steps(alloc))
 }
 
 fn try_steps(alloc: Global) -> Option<Vec<Step>> {
