@@ -8,8 +8,8 @@ ghost use Rattle.bank_crew.specs.Managing.{is_question};
 use super::report::{tells_up, was_done};
 use set_events::{AnswerRef, EventRef, Refusal};
 
-/// After so many units of a link the answer to an order about it is waited for no more. At 64 kbit/s that's 3 s or more
-/// of FISUs.
+/// After so many asks of a link's terminal the answer to an order about it is waited for no more. At 64 kbit/s 4,096 FISUs
+/// take 3 s, so it's 3 s for a changeover, and 1.5 s for a changeback where FISUs come in, too.
 const PATIENCE: u32 = 4_096;
 
 /// What is waited for.
@@ -17,15 +17,15 @@ const PATIENCE: u32 = 4_096;
 pub(crate) struct Awaited {
     /// How often the set refused an Up of the link, since it isn't settled what the far end has.
     refused: u32,
-    /// How many units were asked for since streams were asked back to the link; `None` where they weren't.
-    units: Option<u32>,
+    /// How often the terminal asked, Ups left out, since streams were asked back to the link; `None` where they weren't.
+    asks: Option<u32>,
 }
 
 impl Awaited {
     /// Nothing.
     pub(crate) const NOTHING: Awaited = Awaited {
         refused: 0,
-        units: None,
+        asks: None,
     };
 
     /// What is asked behind this answer to an event of the terminal: streams are asked back to a link that came up
@@ -45,12 +45,12 @@ impl Awaited {
         if tells_up(link, event) {
             return self.behind_up(link, answer);
         }
-        let units = self.units?;
-        self.units = Some(units.saturating_add(1));
-        if units < PATIENCE {
+        let asks = self.asks?;
+        self.asks = Some(asks.saturating_add(1));
+        if asks < PATIENCE {
             return None;
         }
-        self.units = None;
+        self.asks = None;
         Some(EventRef::BackTimeout { link })
     }
 
@@ -81,7 +81,7 @@ impl Awaited {
         ensures { self.new ≡ awaited_by (event_in question.now) (answer_in answer.now) self.old }
     {
         if let (EventRef::Restore { .. }, AnswerRef::Done) = (question, answer) {
-            self.units = Some(0);
+            self.asks = Some(0);
         }
     }
 }

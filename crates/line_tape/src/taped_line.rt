@@ -1,5 +1,5 @@
 //! A line with a tape.
-ghost use Rattle.std.specs.Prelude.{◌≡◌, [], ◌++◌};
+ghost use Rattle.std.specs.Prelude.{◌≡◌, [], ◌++◌, None, if◌then◌else◌};
 ghost use Rattle.line_tape.specs.Taping.{IsTape, Keeps};
 
 use super::tape::Tape;
@@ -38,7 +38,8 @@ impl<L: Line + Drop> TapedLine<L> {
 
     /// The tape, where octets were to be kept; else one without any.
     pub fn into_tape(self, keeps: bool) -> Tape
-        ensures { IsTape keeps result self.put }
+        ensures kept { IsTape keeps result self.put }
+        ensures tape { result ≡ (if keeps then self.tape else None) }
     {
         if keeps { self.tape } else { Tape::none() }
     }

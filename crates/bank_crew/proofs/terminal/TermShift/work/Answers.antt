@@ -46,5 +46,5 @@ returns-clause-shift g c =
           (c.answered.ensures ∙ ap (λ n. answered_in n all) number)
           (c.carried.ensures.carried ∙ ap (λ (m : Option Managed). carried_in m (link_in out.seat.who) all) managed ∙ ap (λ n. carried_in plan.managed n all) number)
           (ap (λ it. it.line.put) second ∙ ap (λ it. it.line.put) first ∙ ap (λ it. it.put) new.line ∙ c.new-line.ensures.put)
-          (subst (IsTape plan.keeps c.into_tape-tape.result) (ap (λ it. it.put) c.into_parts-door.ensures.line) c.into_tape-tape.ensures),
+          (subst (IsTape plan.keeps c.into_tape-tape.result) (ap (λ it. it.put) c.into_parts-door.ensures.line) c.into_tape-tape.ensures.kept),
     )
