@@ -20,7 +20,7 @@ pub record IsRested (up : Bool) (out_since turn : ℕ) : Type 0 where
   pub long : out_since + 6400 ≤ turn
 
 -- A USER IS HELD UP where as many of its messages are on their way as may be (own): 64 of those that it offered, but for
--- those that were heard or given up
+-- those that were heard, and for as many as its set gave up, whoever offered these
 pub record IsHeldUp (offered heard given_up : ℕ) : Type 0 where
   pub full : heard + given_up + 64 ≤ offered
 

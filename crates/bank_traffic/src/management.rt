@@ -22,7 +22,8 @@ pub(crate) struct Management {
 /// Gates for this traffic, as [`pace_gates`] has them, which manage its links where the traffic has them managed:
 ///
 /// - a user at an end a begins when each link of its set has come up at both ends, or ten seconds of turns went by, and
-///   has at most 64 messages on their way; the user at an end b asks for a message when one has come;
+///   has at most 64 messages on their way, beside as many as its set gave up; the user at an end b asks for a message when
+///   one has come;
 /// - a link that is out of service is started again after a rest, T17;
 /// - the link at an end a that is to fail is told Stop four turns for each message of a user after the users began;
 /// - terminals take no more turns once all was offered, nothing waits or is unacknowledged, and the link that was told Stop
