@@ -207,8 +207,8 @@ fn start_one<
     }
 }
 
-/// Waits for these threads, whatever their sets come to.
-fn wait_for<R: Threads>(rt: &R, threads: Vec<SetThread>) {
+/// Waits for these threads, whatever they come to. It's a function for all types: to let go of a set's end is dear to prove.
+fn wait_for<T: Drop, P: Promise<T>, R: Threads>(rt: &R, threads: Vec<PromisedHandle<T, P>>) {
     for thread in threads {
         let _ = thread.join(rt);
     }

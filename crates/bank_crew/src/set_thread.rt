@@ -160,8 +160,16 @@ fn close<O: Opening>(
 {
     match set.close(users, terminals) {
         Ok(closed) => Ok(closed),
-        Err(_) => Err(CrewFault::Unclosed),
+        Err(back) => Err(unclosed(back)),
     }
+}
+
+/// Why a set that isn't closed comes to no end. What came back of it is let go here, by a function for all types: to let go of a
+/// set of a known type is dear to prove.
+fn unclosed<T: Drop>(_back: T) -> CrewFault
+    ensures { result ≡ Unclosed }
+{
+    CrewFault::Unclosed
 }
 
 /// Runs each user with its job and each terminal with its line, in threads of their own, until all have ended. A seat
