@@ -1,5 +1,5 @@
 //! Traffic between the ends of sets, for so many turns of their terminals.
-ghost use Rattle.std.specs.Prelude.{◌≡◌, ◌<◌, ◌≤◌, ◌^◌, None, Some, Ok, IfOk, IfErr, if◌then◌else◌};
+ghost use Rattle.std.specs.Prelude.{◌≡◌, ◌<◌, ◌^◌, None, Some, Ok, IfOk, IfErr, if◌then◌else◌};
 ghost use Rattle.bank_core.specs.Ends.{AreEnds};
 ghost use Rattle.bank_core.specs.Faults.{EndsEarly};
 ghost use Rattle.bank_traffic.specs.Opening.{AreConfigs, AreEndsOf, AreTasks, IsPlan, each_set, far_end, far_jobs, links_managed, method_of, near_end};

@@ -1,6 +1,6 @@
 //! What the gates of two banks know of sets whose links they manage.
 
-ghost use Rattle.std.specs.Prelude.{◌≡◌, ◌↔◌, IsTrue};
+ghost use Rattle.std.specs.Prelude.{◌↔◌, IsTrue};
 ghost use Rattle.bank_traffic.specs.Managing.{IsAllDone, IsHeldUp, IsRested};
 
 use super::asked::Traffic;

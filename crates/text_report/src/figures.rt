@@ -1,5 +1,5 @@
 //! What an end of a set came to, and an end of a link.
-ghost use Rattle.std.specs.Prelude.{◌≡◌, length};
+ghost use Rattle.std.specs.Prelude.{◌≡◌};
 ghost use Rattle.text_report.specs.Figures.{brought, capped, link_figures, set_figures, summed, taken_by, taken_in};
 
 use bank_core::{SetEnd, ShiftReport, UserFault, UserReport};

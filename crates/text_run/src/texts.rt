@@ -1,5 +1,5 @@
 //! The lines of a run.
-ghost use Rattle.std.specs.Prelude.{◌≡◌, ◌++◌, ◌≤◌, IfOk, All, length};
+ghost use Rattle.std.specs.Prelude.{◌≡◌, ◌≤◌, IfOk, All, length};
 ghost use Rattle.bank_core.specs.Totals.{IsInRange};
 ghost use Rattle.text_run.specs.RunText.{all_text, both_text, counted_text, end_text, link_text, links_text, set_links_text, set_text, sets_text, total_text, yes_or_no};
 
