@@ -39,9 +39,9 @@ fn comes_back<O: Opening>(
     users: Vec<UserSeat<O>>,
     terminals: Vec<TermSeat<O>>,
 ) -> Option<Back<O>> {
-    match set.close(users, terminals) {
-        Err(EndFault::Missing(back)) => Some(back),
-        _ => None,
+    match set.close(users, terminals).err()? {
+        EndFault::Missing(back) => Some(back),
+        EndFault::Strange(_) => None,
     }
 }
 

@@ -60,15 +60,12 @@ pub(crate) fn offers<O: Opening, R: Wait>(
     }
 }
 
-/// What a set came to, if all its seats are there. What it hands back where they aren't is let go here alone: that's dear to
-/// prove.
+/// What a set came to, if all its seats are there. What it hands back where they aren't is let go by the library's function for
+/// all types, since letting go of a set of a known type is dear to prove.
 pub(crate) fn closed<O: Opening>(
     set: LinkSet<O>,
     users: Vec<UserSeat<O>>,
     terminals: Vec<TermSeat<O>>,
 ) -> Option<Closed> {
-    match set.close(users, terminals) {
-        Ok(closed) => Some(closed),
-        Err(_) => None,
-    }
+    set.close(users, terminals).ok()
 }

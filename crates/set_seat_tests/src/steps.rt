@@ -60,9 +60,9 @@ fn ends_well<O: Opening>(
     users: Vec<UserSeat<O>>,
     terminals: Vec<TermSeat<O>>,
 ) -> bool {
-    match held.end(users, terminals) {
-        Ok(closed) => is_one_message(&closed),
-        Err(_) => false,
+    match held.end(users, terminals).ok() {
+        Some(closed) => is_one_message(&closed),
+        None => false,
     }
 }
 
