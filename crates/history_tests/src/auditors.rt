@@ -38,15 +38,25 @@ fn found(alloc: Global, auditor: &mut Auditor, line: &[u8]) -> Result<Finding, F
     }
 }
 
-/// An auditor that heard that message 0 is acknowledged.
-fn acknowledged(alloc: Global) -> Result<Auditor, Fail> {
-    let mut auditor = auditor_of(alloc)?;
+/// The auditor hears that message 0 is acknowledged.
+fn hears_acknowledged(alloc: Global, auditor: &mut Auditor) -> Result<(), Fail> {
     for line in ACKNOWLEDGED {
-        if found(alloc, &mut auditor, line)? != Finding::Right {
+        if found(alloc, auditor, line)? != Finding::Right {
             return Err(Fail::from("a wrong entry"));
         }
     }
-    Ok(auditor)
+    Ok(())
+}
+
+/// What a case makes of an auditor. It's a function for all types, since letting go of a set is dear to prove.
+fn made_of<T: Drop, F: FnOnce(&mut T) -> Result<(), Fail>>(
+    made: Result<T, Fail>,
+    case: F,
+) -> Result<(), Fail>
+    requires { F.IsAlwaysCallable case }
+{
+    let mut it = made?;
+    case(&mut it)
 }
 
 fn holds(is_so: bool) -> Result<(), Fail> {
@@ -59,9 +69,17 @@ fn holds(is_so: bool) -> Result<(), Fail> {
 
 #[test]
 fn a_finished_message_is_found_before_a_checkpoint(rt: HostRuntime) -> Result<(), Fail> {
-    let mut auditor = acknowledged(rt.alloc())?;
-    let before = found(rt.alloc(), &mut auditor, b"user 0 find 0 -> found acked 0")?;
-    let wrong = found(rt.alloc(), &mut auditor, b"user 0 find 0 -> refused 11")?;
+    let alloc = rt.alloc();
+    made_of(
+        auditor_of(alloc),
+        |auditor| finds_a_finished_message(alloc, auditor),
+    )
+}
+
+fn finds_a_finished_message(alloc: Global, auditor: &mut Auditor) -> Result<(), Fail> {
+    hears_acknowledged(alloc, auditor)?;
+    let before = found(alloc, auditor, b"user 0 find 0 -> found acked 0")?;
+    let wrong = found(alloc, auditor, b"user 0 find 0 -> refused 11")?;
     let acked = Answer::Found {
         fate: Fate::Acked { link: 0 },
     };
@@ -72,10 +90,18 @@ fn a_finished_message_is_found_before_a_checkpoint(rt: HostRuntime) -> Result<()
 
 #[test]
 fn a_finished_message_is_refused_behind_a_checkpoint(rt: HostRuntime) -> Result<(), Fail> {
-    let mut auditor = acknowledged(rt.alloc())?;
-    let taken = found(rt.alloc(), &mut auditor, b"checkpoint")?;
-    let behind = found(rt.alloc(), &mut auditor, b"user 0 find 0 -> refused 11")?;
-    let wrong = found(rt.alloc(), &mut auditor, b"user 0 find 0 -> found acked 0")?;
+    let alloc = rt.alloc();
+    made_of(
+        auditor_of(alloc),
+        |auditor| refuses_a_finished_message(alloc, auditor),
+    )
+}
+
+fn refuses_a_finished_message(alloc: Global, auditor: &mut Auditor) -> Result<(), Fail> {
+    hears_acknowledged(alloc, auditor)?;
+    let taken = found(alloc, auditor, b"checkpoint")?;
+    let behind = found(alloc, auditor, b"user 0 find 0 -> refused 11")?;
+    let wrong = found(alloc, auditor, b"user 0 find 0 -> found acked 0")?;
     let finished = Answer::Refused {
         why: Refusal::Finished,
     };
@@ -86,13 +112,17 @@ fn a_finished_message_is_refused_behind_a_checkpoint(rt: HostRuntime) -> Result<
 /// Two messages of five octets, of which one is acknowledged; a checkpoint is no entry.
 #[test]
 fn the_books_run_on_over_a_checkpoint(rt: HostRuntime) -> Result<(), Fail> {
-    let mut auditor = acknowledged(rt.alloc())?;
-    found(rt.alloc(), &mut auditor, b"checkpoint")?;
-    let next = found(
-        rt.alloc(),
-        &mut auditor,
-        b"user 3 offer 8501800030 -> accepted 1",
-    )?;
+    let alloc = rt.alloc();
+    made_of(
+        auditor_of(alloc),
+        |auditor| has_books_of_two_messages(alloc, auditor),
+    )
+}
+
+fn has_books_of_two_messages(alloc: Global, auditor: &mut Auditor) -> Result<(), Fail> {
+    hears_acknowledged(alloc, auditor)?;
+    found(alloc, auditor, b"checkpoint")?;
+    let next = found(alloc, auditor, b"user 3 offer 8501800030 -> accepted 1")?;
     let books = auditor.books();
     let calls = books.user_calls[0] == 1 && books.user_calls[3] == 1 && books.term_calls[0] == 3;
     let sums = books.messages == 2 && books.octets == 10 && books.acknowledged == 1;
@@ -101,9 +131,13 @@ fn the_books_run_on_over_a_checkpoint(rt: HostRuntime) -> Result<(), Fail> {
 
 #[test]
 fn no_set_has_user_64(rt: HostRuntime) -> Result<(), Fail> {
-    let mut auditor = auditor_of(rt.alloc())?;
-    let last = found(rt.alloc(), &mut auditor, b"user 63 take -> refused 9")?;
-    let past = found(rt.alloc(), &mut auditor, b"user 64 take -> refused 9")?;
+    let alloc = rt.alloc();
+    made_of(auditor_of(alloc), |auditor| has_no_user_64(alloc, auditor))
+}
+
+fn has_no_user_64(alloc: Global, auditor: &mut Auditor) -> Result<(), Fail> {
+    let last = found(alloc, auditor, b"user 63 take -> refused 9")?;
+    let past = found(alloc, auditor, b"user 64 take -> refused 9")?;
     holds(last == Finding::Right && past == Finding::NoSuchActor)
 }
 
