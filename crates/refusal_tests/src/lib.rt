@@ -48,6 +48,17 @@ fn made_at_last<T: Drop, F: FnMut() -> Option<T>>(mut make: F) -> Option<T>
     None
 }
 
+/// Whether a case holds of what was made; it doesn't of nothing. It's a function for all types, as above.
+#[cfg(test)]
+fn holds_of<T: Drop, F: FnOnce(&mut T) -> bool>(made: Option<T>, case: F) -> bool
+    requires { F.IsAlwaysCallable case }
+{
+    match made {
+        Some(mut it) => case(&mut it),
+        None => false,
+    }
+}
+
 /// So it is. It stands in the place of `assert!`, whose text of what isn't so costs the prover a multiple.
 #[cfg(test)]
 fn holds(fact: bool) -> Result<(), Fail> {

@@ -7,7 +7,7 @@ ghost use Rattle.set_model.specs.State.{settings_of};
 
 use super::script::{Ask, SCRIPT, config, who_of};
 use super::sets::{answered, are_alike, bases, made, opened};
-use super::{MOST_GROWTHS, TRIES, holds};
+use super::{MOST_GROWTHS, TRIES, holds, holds_of};
 use set_core::{SetCore, SetFault};
 use set_events::{Actor, Event, EventRef, Reply, SetConfig};
 use set_ledger::{
@@ -64,13 +64,17 @@ fn each_growth_is_refused(alloc: Global) -> bool {
     false
 }
 
-/// The set is opened, again where it was refused, and then asked.
 fn is_right(refusing: &Refusing<Global>, alloc: Global) -> bool {
+    holds_of(opened(alloc), |twin| is_right_beside(refusing, alloc, twin))
+}
+
+/// The set is opened, again where it was refused, and then asked.
+fn is_right_beside(refusing: &Refusing<Global>, alloc: Global, twin: &mut SetCore) -> bool {
     let Some(config) = config() else {
         return false;
     };
     for _ in 0..TRIES {
-        match goes::<Brand>(refusing, alloc, &config, blanks()) {
+        match goes::<Brand>(refusing, alloc, &config, blanks(), twin) {
             Try::Right => return true,
             Try::Refused => {}
             Try::Wrong => return false,
@@ -84,16 +88,14 @@ fn goes<O: Opening>(
     alloc: Global,
     config: &SetConfig,
     blanks: Blanks,
+    twin: &mut SetCore,
 ) -> Try
     requires blanks { blanks ≡ O.blanks }
     requires parts { AreParts O.blanks 1 config.now.links }
     requires opening { settings_of config.now ≡ O.settings }
 {
-    let Some(mut twin) = opened(alloc) else {
-        return Try::Wrong;
-    };
     match Held::<O, &Refusing<Global>>::open(refusing, config, 1, blanks) {
-        Ok(opened) => told(is_asked(alloc, opened, &mut twin)),
+        Ok(opened) => told(holds_of(Some(opened), |opened| is_asked(alloc, opened, twin))),
         Err(CreateFault::NoMemory) if refusing.blocks() == 0 => Try::Refused,
         Err(_) => Try::Wrong,
     }
@@ -106,20 +108,20 @@ fn told(is_right: bool) -> Try {
 /// The seats make their steps, and forget them once a checkpoint was made.
 fn is_asked<O: Opening, G: Allocator + Copy>(
     alloc: Global,
-    opened: Opened<O, G>,
+    opened: &mut Opened<O, G>,
     twin: &mut SetCore,
 ) -> bool {
     let Opened {
-        mut held,
-        mut users,
-        mut terminals,
+        held,
+        users,
+        terminals,
     } = opened;
     for ask in SCRIPT {
-        if !goes_alike(alloc, &mut held, &mut users, &mut terminals, twin, ask) {
+        if !goes_alike(alloc, held, users, terminals, twin, ask) {
             return false;
         }
     }
-    is_based(&mut held, twin) && all_forget(&held, &mut users, &mut terminals)
+    is_based(held, twin) && all_forget(held, users, terminals)
 }
 
 /// The seat whose the event is makes the step, and the twin answers the same.

@@ -3,7 +3,7 @@ ghost use Rattle.set_events.specs.Lent.{HasFitUnit};
 ghost use Rattle.set_model.specs.History.{IsActor};
 
 use super::script::{Ask, SCRIPT, config, event_of, who_of};
-use super::{MOST_GROWTHS, TRIES, holds, made_at_last};
+use super::{MOST_GROWTHS, TRIES, holds, holds_of, made_at_last};
 use set_core::{SetCore, SetFault, audit};
 use set_events::{Actor, Answer, Entry, Event, EventRef, Reply};
 use std::alloc::{Allocator, Global};
@@ -18,10 +18,7 @@ fn a_refused_growth_opens_no_set(rt: HostRuntime) -> Result<(), Fail> {
 }
 
 fn each_opening_is_refused(alloc: Global) -> bool {
-    match opened(alloc) {
-        Some(twin) => each_is_opened(alloc, &twin),
-        None => false,
-    }
+    holds_of(opened(alloc), |twin| each_is_opened(alloc, twin))
 }
 
 fn each_is_opened(alloc: Global, twin: &SetCore) -> bool {
@@ -39,10 +36,7 @@ fn each_is_opened(alloc: Global, twin: &SetCore) -> bool {
 }
 
 fn is_opened(refusing: &Refusing<Global>, twin: &SetCore) -> bool {
-    match opened_over(refusing) {
-        Some(set) => are_alike(&set, twin),
-        None => false,
-    }
+    holds_of(opened_over(refusing), |set| are_alike(set, twin))
 }
 
 /// The whole script is asked of a set, and nothing refused.
@@ -55,10 +49,8 @@ fn is_carried_out(alloc: Global) -> bool {
     let Some(config) = config() else {
         return false;
     };
-    match SetCore::new(alloc, &config) {
-        Ok(mut set) => answers_all(alloc, &mut set),
-        Err(_) => false,
-    }
+    let set = SetCore::new(alloc, &config).ok();
+    holds_of(set, |set| answers_all(alloc, set))
 }
 
 fn answers_all(alloc: Global, set: &mut SetCore) -> bool {
@@ -96,10 +88,10 @@ fn each_growth_is_refused(alloc: Global) -> bool {
 }
 
 fn is_right(refusing: &Refusing<Global>, number: u64, alloc: Global) -> bool {
-    match opened(alloc) {
-        Some(mut twin) => is_right_beside(refusing, number, alloc, &mut twin),
-        None => false,
-    }
+    holds_of(
+        opened(alloc),
+        |twin| is_right_beside(refusing, number, alloc, twin),
+    )
 }
 
 fn is_right_beside(
@@ -108,13 +100,10 @@ fn is_right_beside(
     alloc: Global,
     twin: &mut SetCore,
 ) -> bool {
-    match opened_over(refusing) {
-        Some(mut set) => {
-            refusing.refuse(number);
-            is_asked(alloc, &mut set, twin)
-        }
-        None => false,
-    }
+    holds_of(opened_over(refusing), |set| {
+        refusing.refuse(number);
+        is_asked(alloc, set, twin)
+    })
 }
 
 /// A set that is opened, again where it was refused; nothing is left of one that was.
@@ -342,13 +331,10 @@ fn is_first(refusing: &Refusing<Global>, number: u64, alloc: Global) -> bool {
 }
 
 fn is_accepted(refusing: &Refusing<Global>, number: u64, event: &Event) -> bool {
-    match opened_over(refusing) {
-        Some(mut set) => {
-            refusing.refuse(number);
-            is_accepted_first(&mut set, event)
-        }
-        None => false,
-    }
+    holds_of(opened_over(refusing), |set| {
+        refusing.refuse(number);
+        is_accepted_first(set, event)
+    })
 }
 
 fn is_accepted_first<A: Allocator + Copy>(set: &mut SetCore<A>, event: &Event) -> bool {

@@ -1,7 +1,7 @@
 //! A world of two ends: its making, each kind of step, and a whole run.
 use super::script::{config, message_of};
 use super::sets::are_alike;
-use super::{MOST_GROWTHS, TRIES, holds, made_at_last};
+use super::{MOST_GROWTHS, TRIES, holds, holds_of, made_at_last};
 use pair_world::{End, PlayFault, Step, World};
 use set_events::{Body, Event, Method, SetConfig};
 use std::alloc::{Allocator, Global};
@@ -40,9 +40,20 @@ fn each_growth_is_refused(alloc: Global, at_once: bool) -> bool {
 
 /// The run's world is its twin's, also where it was refused before.
 fn is_right(refusing: &Refusing<Global>, alloc: Global, steps: &[Step], at_once: bool) -> bool {
-    let Some(twin) = run(alloc, steps) else {
-        return false;
-    };
+    holds_of(run(alloc, steps), |twin| {
+        holds_of(
+            ran(refusing, steps, at_once),
+            |world| are_worlds_alike(world, twin),
+        )
+    })
+}
+
+/// What a run over this allocator comes to, made again where it was refused; nothing is left of one that was.
+fn ran<'r>(
+    refusing: &'r Refusing<Global>,
+    steps: &[Step],
+    at_once: bool,
+) -> Option<World<&'r Refusing<Global>>> {
     for _ in 0..TRIES {
         let ran = if at_once {
             played(refusing, steps)
@@ -50,12 +61,12 @@ fn is_right(refusing: &Refusing<Global>, alloc: Global, steps: &[Step], at_once:
             stepped(refusing, steps)
         };
         match ran {
-            Ok(world) => return are_worlds_alike(&world, &twin),
+            Ok(world) => return Some(world),
             Err(PlayFault::NoMemory) if refusing.blocks() == 0 => {}
-            Err(_) => return false,
+            Err(_) => return None,
         }
     }
-    false
+    None
 }
 
 /// The run's world, made again where memory was refused.
