@@ -76,11 +76,18 @@ fn shows_all(text: &str) -> bool {
         && text.ends_with("run messages=1800 octets=12600\nall delivered in order\n")
 }
 
-/// A link fails under traffic, and comes back: all of it is delivered in order.
+/// A link fails under traffic: all of it is delivered in order. In one of ten runs at least the link comes back before that: where
+/// threads come late the others may have carried all by then.
 #[test]
 fn all_is_delivered_in_order_across_a_failure(rt: HostRuntime) -> Result<(), Fail> {
-    let (text, missing) = reported(&rt, rt.alloc(), &traffic_of(600, 1_000_000, None))?;
-    holds(missing.is_none() && shows_all(&text) && shows_a_failure(&text))
+    for _run in 0..10u8 {
+        let (text, missing) = reported(&rt, rt.alloc(), &traffic_of(600, 1_000_000, None))?;
+        holds(missing.is_none() && shows_all(&text))?;
+        if shows_a_failure(&text) {
+            return Ok(());
+        }
+    }
+    Err(Fail::from("the link came back in no run"))
 }
 
 /// One of 12,000 octets is damaged or lost, each way: units are heard to be bad, and all is delivered in order.
@@ -92,19 +99,22 @@ fn all_is_delivered_in_order_through_noise(rt: HostRuntime) -> Result<(), Fail> 
 }
 
 /// The only link fails under traffic: what waits on it is given up, and users go on once it's back, so nothing waits at the end, and
-/// what is missing was given up.
+/// what is missing was given up. In one of ten runs at least it's back at once: where threads come late it may fail again.
 #[test]
 fn users_go_on_where_messages_were_given_up(rt: HostRuntime) -> Result<(), Fail> {
     let mut traffic = traffic_of(600, 1_000_000, None);
     traffic.links = 1;
     traffic.fail = Some(0);
-    let (text, missing) = reported(&rt, rt.alloc(), &traffic)?;
-    let is_whole = missing.is_none() || !has_line(&text, "set=0 end=a ", " discarded=0 ");
-    holds(
-        is_whole
-            && has_line(&text, "set=0 end=a offered=1800 ", " waiting=0 unacked=0 ")
-            && has_line(&text, "set=0 link=0 end=a ", " ups=2 cause=stop"),
-    )
+    for _run in 0..10u8 {
+        let (text, missing) = reported(&rt, rt.alloc(), &traffic)?;
+        let is_whole = missing.is_none() || !has_line(&text, "set=0 end=a ", " discarded=0 ");
+        let has_gone_on = has_line(&text, "set=0 end=a offered=1800 ", " waiting=0 unacked=0 ");
+        holds(is_whole && has_gone_on)?;
+        if has_line(&text, "set=0 link=0 end=a ", " ups=2 cause=stop") {
+            return Ok(());
+        }
+    }
+    Err(Fail::from("the link came back in no run"))
 }
 
 /// In so few turns no link comes up: the first message is missing, which the report says last.
