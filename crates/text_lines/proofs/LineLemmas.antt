@@ -12,7 +12,7 @@ use Rattle.text_printing.specs.Printing.{Printed, behind, IsBegun, StopsIn, Read
 use Rattle.text_lines.specs.Lines.{is_lf, is_remark, LineOutcome, prints, stops, lines_of, onto_first}
 use Rattle.text_lines.specs.Reading.{Reading, IsOpen, Adds}
 use Rattle.text_lines.specs.Talking.{AdvancesBy, AdvancesOrHaltsBy, FaultsBy, FinishesBy, HaltsBy, HasPrintedBy, IsTextFrom, Leads, MayDo, MayTell}
-use Rattle.text_lines.specs.Talks.{GoesOnBy, HasOneText, HaveOneOutcome, IsBehind, IsTalkText, IsTextOfLines, MayBe, MayRead, TalkRules}
+use Rattle.text_lines.specs.Talks.{GoesOnBy, HasOneText, HaveOneOutcome, IsTalkText, IsTextOfLines, MayBe, MayRead, TalkRules}
 
 -- Lines.
 

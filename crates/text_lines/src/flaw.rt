@@ -43,6 +43,10 @@ impl LineFlaw {
 }
 
 impl Display for LineFlaw {
+    ghost use Rattle.std.specs.Prelude.{Some};
+
+    ghost output = { λ flaw. Some (flaw_text flaw) };
+
     fn fmt<W: fmt::Write>(&self, f: &mut fmt::Formatter<W>) -> fmt::Result {
         let text = self.text();
         write!(f, "{text}")
