@@ -1,5 +1,5 @@
 //! The door of a bench's set.
-ghost use Rattle.std.specs.Prelude.{◌≡◌, ◌<◌, ◌≤◌, ◌+◌, ◌↔◌, [], length, if◌then◌else◌, IfOk, IfErr, OnOk, OnErr};
+ghost use Rattle.std.specs.Prelude.{◌≡◌, ◌<◌, ◌≤◌, ◌+◌, ◌↔◌, length, if◌then◌else◌, IfOk, IfErr, OnOk, OnErr};
 ghost use Rattle.term_bench.specs.Turns.{brings_message, is_message};
 ghost use Rattle.set_events.specs.Lent.{answer_in};
 ghost use Rattle.set_events.specs.declared.fault.SetFault.TheVariants.{Exhausted, NoMemory};
