@@ -6,9 +6,10 @@ Held against what `mtpbank play` shows, for each walk's end:
   arrives  each message that was offered in that end arrives once, and those of a stream in order
   stays    no link that came up there is left again
   free     no changeback code is open or spent, once each home's timer has run out
+  kept     no message is told discarded, since no answer came, that its end never sent
 
 Counted over each whole walk, as a link that is up at one end when the other left it can do so: messages that arrived twice,
-and messages that count as acknowledged and never arrived."""
+messages that count as acknowledged and never arrived, and messages that were discarded."""
 
 import random
 import subprocess
@@ -27,6 +28,7 @@ class Walk:
         self.lines = defaultdict(int)  # by end and link: how many units are under way to it
         self.offered = {"a": [], "b": []}  # bodies by the numbers under which they were accepted
         self.got = {"a": [], "b": []}
+        self.sent = {"a": set(), "b": set()}  # bodies that went out at least once
         self.process = subprocess.Popen([path, "play"], stdin=subprocess.PIPE, stdout=subprocess.PIPE)
         method = rng.choice(["basic", f"cyclic:{rng.randrange(1, 128)}:{rng.randrange(1, 2000)}"])
         figures[f"walks, {method.split(':')[0]}"] += 1
@@ -67,7 +69,9 @@ class Walk:
         if not answer.startswith("sent "):
             return False
         self.lines["b" if end == "a" else "a", link] += 1
-        return answer.split()[1][4:6] != "00"
+        unit = answer.split()[1]
+        self.sent[end].add(unit[6:-4])
+        return unit[4:6] != "00"
 
     def arrive(self, end, link):
         """What the unit in front told, beside that it came."""
@@ -173,7 +177,14 @@ class Walk:
             came = Counter(self.got[other])
             self.figures["messages"] += len(self.offered[end])
             for number, body in self.offered[end]:
-                acked = self.say(f"find {end} {number}").startswith("found acked")
+                place = self.say(f"find {end} {number}")
+                acked = place.startswith("found acked")
+                if place.startswith("found discarded"):
+                    was_sent = body in self.sent[end]
+                    if not was_sent and place == "found discarded 3":
+                        raise AssertionError(f"kept: message {number} of end {end} was never sent: {place}")
+                    self.figures["sent and discarded"] += was_sent
+                    self.figures["never sent, discarded for an impossible FSN"] += not was_sent
                 self.figures["arrived twice"] += came[body] > 1
                 self.figures["acknowledged, never arrived"] += acked and not came[body]
 

@@ -1,5 +1,5 @@
 -- Lines under way, read piece by piece, and what is said at the end.
-use Rattle.std.proofs.Common.{refl, arith, sym, subst, ◌≡◌, ◌∙◌, ap, ◌<◌, ◌≤◌, ◌+◌, ◌^◌, ◌==◌, [], ◌∷◌, ◌++◌, length, ℕ, suc, false, List, Option, None, Some, Result, Ok, Err, append_assoc, append-nil}
+use Rattle.std.proofs.Common.{refl, arith, sym, subst, ◌≡◌, ◌∙◌, ap, ◌<◌, ◌≤◌, ◌+◌, ◌^◌, ◌==◌, [], ◌∷◌, ◌++◌, length, ℕ, suc, false, true, List, Option, None, Some, Result, Ok, Err, append_assoc, append-nil}
 use Rattle.std.proofs.lemmas.Bool.Decides.{nat_tests}
 use Rattle.std.proofs.lemmas.List.{length-append}
 use Rattle.text_printing.specs.Printing.{Ends, IsBegun, Printed, ReadsOrStops, StopsIn}
@@ -9,8 +9,11 @@ use Rattle.history_audit.specs.Auditing.{IsAuditOf, IsAuditText}
 use Rattle.history_audit.specs.Reading.{Advances, AdvancesOrHalts, Concludes, Finishes, Halts, HasRead, IsFaultOf, IsRead, IsUnread, Reading, Says, StandsFor, first_reading}
 use Rattle.history_audit.specs.declared.course.Course.{Course}
 use Rattle.history_audit.specs.declared.fault.AuditFault.{AuditFault}
+use Rattle.history_audit.specs.declared.fault.AuditFault.TheVariants.{Text}
 use Rattle.history_audit.proofs.Verdicts.{one_text_each}
-use Rattle.history_text.specs.Telling.{Telling, Told, goes_on, history_in, nothing_told, told_from, told_in_all, unreadable, with_line}
+use Rattle.history_text.specs.Telling.{Telling, Told, flaw_in, goes_on, history_in, is_very_long, longest_line, nothing_told, told_from, told_in_all, unreadable, with_any_line, with_line}
+use Rattle.text_lines.proofs.LineLemmas.{Begins, begins_at, open_more}
+use Rattle.text_lines.specs.declared.flaw.LineFlaw.TheVariants.{VeryLong}
 use Rattle.text_lines.specs.Flaws.{flaw_of}
 use Rattle.text_lines.specs.Lines.{lines_of, onto_first}
 use Rattle.text_lines.specs.Reading.{IsOpen}
@@ -60,19 +63,29 @@ keeps old octets new n c t = λ past room h.
 told_on : (n : ℕ) (line : List ℕ) (outcome : Option Told) (told : Told) (more : Told → Telling) → outcome ≡ Some told → goes_on n line outcome more ≡ more told
 told_on n line outcome told more e = rw e refl
 
-untold : (n : ℕ) (line : List ℕ) (outcome : Option Told) (more : Told → Telling) → outcome ≡ None → goes_on n line outcome more ≡ unreadable n (flaw_of line)
+untold : (n : ℕ) (line : List ℕ) (outcome : Option Told) (more : Told → Telling) → outcome ≡ None → goes_on n line outcome more ≡ unreadable n (flaw_in line)
 untold n line outcome more e = rw e refl
+
+-- one that isn't too long is read, and has the flaw that its octets tell
+isnt_very_long : (line : List ℕ) → length line ≤ longest_line → is_very_long line ≡ false
+isnt_very_long line short = grind (arith, nat_tests, short)
+
+is_read : (n : ℕ) (told : Told) (line : List ℕ) → length line ≤ longest_line → with_any_line n told line ≡ with_line n told line
+is_read n told line short = rw (isnt_very_long line short) refl
+
+flaw_is : (line : List ℕ) → length line ≤ longest_line → flaw_in line ≡ flaw_of line
+flaw_is line short = rw (isnt_very_long line short) refl
 
 -- what the input tells with this line
 at_line : (old : Reading) (octets whole past left : List ℕ) (h : HasRead past old) → whole ≡ old.text ++ octets → IsOpen whole
-    → history_in ((past ++ (octets ++ 10 ∷ [])) ++ left) ≡ goes_on old.line whole (with_line old.line h.told whole) (λ next. told_from (suc old.line) next (lines_of left))
+    → history_in ((past ++ (octets ++ 10 ∷ [])) ++ left) ≡ goes_on old.line whole (with_any_line old.line h.told whole) (λ next. told_from (suc old.line) next (lines_of left))
 at_line old octets whole past left h w o =
     ap history_in (append_assoc past (octets ++ 10 ∷ []) left) ∙ h.goes_on ((octets ++ 10 ∷ []) ++ left)
     ∙ ap (λ (lines : List (List ℕ)). told_from old.line h.told lines) (line_goes_on old.text octets left whole w o)
 
-pub ends_a_line : (old : Reading) (octets whole : List ℕ) (new : Reading) → whole ≡ old.text ++ octets → IsOpen whole → ((told : Told) → StandsFor told old.course → IsRead (Ok tt) old.line whole (with_line old.line told whole) new.course)
+pub ends_a_line : (old : Reading) (octets whole : List ℕ) (new : Reading) → whole ≡ old.text ++ octets → IsOpen whole → length whole ≤ longest_line → ((told : Told) → StandsFor told old.course → IsRead (Ok tt) old.line whole (with_line old.line told whole) new.course)
     → (old.line + 1 < 2 ^ 64 → new.line ≡ old.line + 1) → new.text ≡ [] → Advances old (octets ++ 10 ∷ []) new
-ends_a_line old octets whole new w o read counts none = λ past room h.
+ends_a_line old octets whole new w o short read counts none = λ past room h.
     let r = read h.told h.stands in
     let low = h.counted in
     let one : new.line ≡ old.line + 1 = counts (omega (arith, low, room)) in
@@ -81,19 +94,40 @@ ends_a_line old octets whole new w o read counts none = λ past room h.
       stands = r.2;
       counted = omega (arith, low, one, length-append past (octets ++ 10 ∷ []), length-append octets (10 ∷ []));
       goes_on = λ left.
-          at_line old octets whole past left h w o ∙ told_on old.line whole (with_line old.line h.told whole) r.0 (λ next. told_from (suc old.line) next (lines_of left)) r.1
+          at_line old octets whole past left h w o ∙ told_on old.line whole (with_any_line old.line h.told whole) r.0 (λ next. told_from (suc old.line) next (lines_of left)) (is_read old.line h.told whole short ∙ r.1)
           ∙ (let after : suc old.line ≡ new.line = omega (arith, one) in rw (none, after) refl);
     }
 
-fault_is : (stop : Stop AuditFault) (n : ℕ) (line : List ℕ) (outcome : Option Told) (more : Told → Telling) (telling : Telling) → IsUnread stop n line outcome → telling ≡ goes_on n line outcome more → IsFaultOf stop telling
-fault_is (Input fault) n line outcome more telling u e = rw (e, untold n line outcome more u.1, u.0) refl
-fault_is Memory n line outcome more telling u e = tt
+fault_is : (stop : Stop AuditFault) (n : ℕ) (line : List ℕ) (outcome : Option Told) (more : Told → Telling) (telling : Telling) → length line ≤ longest_line → IsUnread stop n line outcome → telling ≡ goes_on n line outcome more → IsFaultOf stop telling
+fault_is (Input fault) n line outcome more telling short u e = rw (e, untold n line outcome more u.1, flaw_is line short, u.0) refl
+fault_is Memory n line outcome more telling short u e = tt
 
-pub halts_line : (stop : Stop AuditFault) (old : Reading) (octets whole : List ℕ) → whole ≡ old.text ++ octets → IsOpen whole → ((told : Told) → StandsFor told old.course → IsRead (Err stop) old.line whole (with_line old.line told whole) old.course)
+pub halts_line : (stop : Stop AuditFault) (old : Reading) (octets whole : List ℕ) → whole ≡ old.text ++ octets → IsOpen whole → length whole ≤ longest_line → ((told : Told) → StandsFor told old.course → IsRead (Err stop) old.line whole (with_line old.line told whole) old.course)
     → Halts stop old (octets ++ 10 ∷ [])
-halts_line stop old octets whole w o read = λ past room h left.
-    fault_is stop old.line whole (with_line old.line h.told whole) (λ next. told_from (suc old.line) next (lines_of left)) (history_in (past ++ ((octets ++ 10 ∷ []) ++ left))) (read h.told h.stands)
-    (ap history_in (sym (append_assoc past (octets ++ 10 ∷ []) left)) ∙ at_line old octets whole past left h w o)
+halts_line stop old octets whole w o short read = λ past room h left.
+    fault_is stop old.line whole (with_line old.line h.told whole) (λ next. told_from (suc old.line) next (lines_of left)) (history_in (past ++ ((octets ++ 10 ∷ []) ++ left))) short (read h.told h.stands)
+    (ap history_in (sym (append_assoc past (octets ++ 10 ∷ []) left)) ∙ at_line old octets whole past left h w o
+    ∙ ap (λ (outcome : Option Told). goes_on old.line whole outcome (λ next. told_from (suc old.line) next (lines_of left))) (is_read old.line h.told whole short))
+
+-- the line is too long, however it goes on
+none_read : (n : ℕ) (told : Told) (line : List ℕ) → is_very_long line ≡ true → with_any_line n told line ≡ None
+none_read n told line e = rw e refl
+
+flaw_long : (line : List ℕ) → is_very_long line ≡ true → flaw_in line ≡ VeryLong
+flaw_long line e = rw e refl
+
+told_long : (n : ℕ) (told : Told) (line : List ℕ) (more : Told → Telling) → is_very_long line ≡ true → goes_on n line (with_any_line n told line) more ≡ unreadable n VeryLong
+told_long n told line more e = untold n line (with_any_line n told line) more (none_read n told line e) ∙ ap (unreadable n) (flaw_long line e)
+
+too_long : (n : ℕ) (told : Told) (text : List ℕ) (lines : List (List ℕ)) → longest_line < length text → Begins text lines → told_from n told lines ≡ unreadable n VeryLong
+too_long n told text lines h b =
+    let long : is_very_long (text ++ b.more) ≡ true = grind (arith, nat_tests, length-append text b.more, h) in
+    rw b.lines_are (told_long n told (text ++ b.more) (λ next. told_from (suc n) next b.others) long)
+
+pub halts_long : (old : Reading) (octets : List ℕ) → IsOpen old.text → IsOpen octets → longest_line < length old.text + length octets → Halts (Input (Text old.line VeryLong)) old octets
+halts_long old octets o h long = λ past room r left.
+    let many : longest_line < length (old.text ++ octets) = omega (arith, long, length-append old.text octets) in
+    rw (r.goes_on (octets ++ left), too_long old.line r.told (old.text ++ octets) (lines_of (old.text ++ (octets ++ left))) many (begins_at (old.text ++ octets) left (open_more old.text octets o h) (omega (arith, many)) (append_assoc old.text octets left))) refl
 
 pub halts_for_memory : (old : Reading) (octets : List ℕ) → Halts Memory old octets
 halts_for_memory old octets = λ past room h left. tt

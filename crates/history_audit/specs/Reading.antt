@@ -10,7 +10,7 @@ use Rattle.history_audit.specs.Hearing.{HasHeard, Hearing, IsWrongNext}
 use Rattle.history_items.specs.declared.item.Item.{Item}
 use Rattle.history_items.specs.declared.item.Item.TheVariants.{Entered, Checkpoint}
 use Rattle.history_items.specs.Items.{entries_among}
-use Rattle.history_text.specs.Telling.{Told, Telling, history_in, nothing_told, opened, told_from, told_in_all}
+use Rattle.history_text.specs.Telling.{Told, Telling, history_in, longest_line, nothing_told, opened, told_from, told_in_all}
 use Rattle.text_printing.specs.Printing.{Printed, StopsIn}
 use Rattle.text_printing.specs.declared.fault.Stop.{Stop}
 use Rattle.text_printing.specs.declared.fault.Stop.TheVariants.{Input, Memory}
@@ -19,6 +19,7 @@ use Rattle.set_model.specs.History.{longest_history}
 use Rattle.set_model.specs.State.{State, Settings, opened_with}
 use Rattle.text_lines.specs.Flaws.{flaw_of}
 use Rattle.text_lines.specs.Lines.{lines_of}
+use Rattle.text_lines.specs.Reading.{IsOpen}
 
 -- WHAT WAS TOLD, AND WHERE IT STANDS
 
@@ -89,6 +90,11 @@ passed_over (Entered entry) (Wrong line answer entries) =
     if nat_le longest_history entries then Full else Wrong line answer (entries + 1)
 
 -- LINES UNDER WAY
+
+-- the line is no longer than a line may be, and hasn't ended
+pub record IsLine (text : List ℕ) : Type 0 where
+  pub short : length text ≤ longest_line
+  pub is_open : IsOpen text
 
 -- the number of the line that is being read, its octets so far, and what those before it came to
 pub record Reading : Type 0 where

@@ -135,7 +135,7 @@ impl Auditor {
         ensures answer { OnOk result (self.new.answer ≡ self.old.answer) }
         ensures fault { IfErr result (λ fault. fault ≡ SetFault.NoMemory) }
     {
-        self.core = self.core.kept()?;
+        self.core.forget()?;
         Ok(Finding::Right)
     }
 

@@ -1,6 +1,6 @@
 //! What the lines of a history have come to.
-ghost use Rattle.std.specs.Prelude.{◌≡◌, Err, None, Some, false, true};
-ghost use Rattle.history_text.specs.Telling.{Told, told_next, with_item, with_line};
+ghost use Rattle.std.specs.Prelude.{◌≡◌, ◌≤◌, Err, None, Some, false, length, true};
+ghost use Rattle.history_text.specs.Telling.{Told, longest_line, told_next, with_item, with_line};
 ghost use Rattle.text_lines.specs.Flaws.{flaw_of};
 ghost use Rattle.text_printing.specs.declared.fault.Stop.TheVariants.{Input};
 ghost use Rattle.history_audit.specs.Reading.{IsNoted, IsRead, IsTold, StandsFor, is_legal, opened_by, passed_over};
@@ -44,7 +44,7 @@ pub(crate) struct Course {
     pub(crate) stand: Stand,
 }
 
-/// Reads the line of this number, in this place; before the configuration there is no course.
+/// Reads the line of this number, which isn't too long, in this place; before the configuration there is no course.
 pub(crate) fn tell_line(
     alloc: Global,
     course: &mut Option<Course>,
@@ -52,6 +52,7 @@ pub(crate) fn tell_line(
     number: u64,
     line: &[u8],
 ) -> Result<(), Stop<AuditFault>>
+    requires { length line.now ≤ longest_line }
     ensures { (told : Told) → StandsFor told course.old
         → IsRead result number line.now (with_line number told line.now) course.new }
 {

@@ -1,8 +1,8 @@
 //! The audit of a history: whether it's legal, item by item, and the text of `audit`.
 //!
 //! ```text
-//! octets -> a line -> its item (history_text) -> held against the set -> at the end legal=yes and the books, or legal=no
-//!     and what a set answers at the first wrong entry
+//! octets -> a line of at most 16,384 octets -> its item (history_text) -> held against the set
+//!     -> at the end legal=yes and the books, or legal=no and what a set answers at the first wrong entry
 //!
 //! opening --item--> state --item--> state -- ..      an entry: the set is asked, and its answer compared
 //!                                                    a checkpoint: what is finished leaves the set

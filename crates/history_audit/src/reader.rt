@@ -1,4 +1,6 @@
 //! A history under way: the line that is being read, and what those before it came to.
+ghost use Rattle.std.specs.Prelude.{◌≡◌, Err};
+ghost use Rattle.text_printing.specs.declared.fault.Stop.TheVariants.{Input};
 ghost use Rattle.text_lines.specs.Reading.{IsOpen};
 ghost use Rattle.history_audit.specs.Reading.{Concludes};
 
@@ -8,8 +10,11 @@ use super::verdict::judge;
 use history_text::LinePlace;
 use std::alloc::Global;
 use std::marker::Model;
-use text_lines::end_of_line;
+use text_lines::{LineFlaw, end_of_line};
 use text_printing::{Printer, Stop};
+
+/// The most octets of a line, without its LF.
+const LONGEST_LINE: usize = 16_384;
 
 /// Reads a history line by line. It keeps the octets of one line, its item, and what an auditor keeps.
 #[derive(Drop)]
@@ -26,14 +31,13 @@ pub(crate) struct HistoryReader {
 }
 
 impl Model for HistoryReader {
-    ghost use Rattle.text_lines.specs.Reading.{IsOpen};
-    ghost use Rattle.history_audit.specs.Reading.{Reading};
+    ghost use Rattle.history_audit.specs.Reading.{IsLine, Reading};
 
     ghost Value = { Reading };
 
     ghost view = { λ r. record { line = r.line; text = r.text.items; course = r.course } };
 
-    ghost invariant = { λ r. IsOpen r.text.items };
+    ghost invariant = { λ r. IsLine r.text.items };
 }
 
 impl HistoryReader {
@@ -83,6 +87,9 @@ impl HistoryReader {
         requires open { IsOpen octets.now }
         ensures { AdvancesOrHalts result self.old (octets.now ++ 10 ∷ []) self.new }
     {
+        if octets.len() > LONGEST_LINE {
+            return Err(very_long(self.line));
+        }
         tell_line(
             self.alloc,
             &mut self.course,
@@ -116,6 +123,9 @@ impl HistoryReader {
         requires { IsOpen octets.now }
         ensures { AdvancesOrHalts result self.old octets.now self.new }
     {
+        if octets.len() > LONGEST_LINE - self.text.len() {
+            return Err(very_long(self.line));
+        }
         self.text.extend_from_slice(octets)?;
         Ok(())
     }
@@ -130,6 +140,16 @@ impl HistoryReader {
         self.end_line()?;
         add_verdict(self.alloc, &self.course, self.line, out)
     }
+}
+
+/// The line of this number is too long.
+fn very_long(number: u64) -> Stop<AuditFault>
+    ensures { result ≡ Input (AuditFault.Text number LineFlaw.VeryLong) }
+{
+    Stop::Input(AuditFault::Text {
+        line: number,
+        flaw: LineFlaw::VeryLong,
+    })
 }
 
 /// Appends what is said of what the lines before this one came to.

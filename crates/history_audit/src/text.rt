@@ -10,10 +10,10 @@ use text_printing::{Fault, LONGEST_READ, Sink, Source, print_all};
 
 /// Reads the history that the source gives, and writes whether it's legal.
 ///
-/// A line that can't be read is a fault, and nothing is written then; an entry that no set makes is one too, behind the
-/// line that is written about it. What is kept is one line, what the set keeps, and the books: with checkpoints it
-/// doesn't grow with the input. An input of more than 2^60 octets ends with [`Fault::Long`], unless another fault comes
-/// before.
+/// A line that can't be read, as one of more than 16,384 octets, is a fault, and nothing is written then; an entry
+/// that no set makes is one too, behind the line that is written about it. What is kept is one line, what the set
+/// keeps, and the books: with checkpoints it doesn't grow with the input. An input of more than 2^60 octets ends with
+/// [`Fault::Long`], unless another fault comes before.
 pub fn audit<S: Source, W: Sink>(
     alloc: Global,
     source: &mut S,

@@ -1,8 +1,8 @@
 //! Histories that are audited in pieces of several sizes.
 ghost use Rattle.std.specs.Prelude.{◌<◌};
 
-use history_audit::{AuditFault, audit};
-use std::alloc::Global;
+use history_audit::{AuditFault, LineFlaw, audit};
+use std::alloc::{AllocError, Global};
 use std::test::Fail;
 use test_devices::{Page, Text};
 use text_printing::Fault;
@@ -77,4 +77,37 @@ fn a_wrong_entry_is_told_whatever_the_pieces(rt: HostRuntime) -> Result<(), Fail
     says(rt.alloc(), WRONG, 1, line, Err(fault))?;
     says(rt.alloc(), WRONG, 13, line, Err(fault))?;
     says(rt.alloc(), WRONG, 4_096, line, Err(fault))
+}
+
+/// A history of no entries, whose second line is a remark of so many octets.
+fn with_remark_of(alloc: Global, octets: u16, end: &[u8]) -> Result<Vec<u8>, AllocError> {
+    let mut history = Vec::from_slice(alloc, b"set links=1 method=basic a=2 b=1 sio=80\n")?;
+    for _ in 0..octets {
+        history.push(b'#')?;
+    }
+    history.extend_from_slice(end)?;
+    Ok(history)
+}
+
+const LEGAL: &[u8] = b"legal=yes calls=0 accepted=0 octets=0 acked=0\n";
+
+/// Of 16,384 octets a line is read, and of 16,385 not, whether it's in pieces and whether it ends.
+#[test]
+fn the_longest_line_of_a_history(rt: HostRuntime) -> Result<(), Fail> {
+    let alloc = rt.alloc();
+    let longest = with_remark_of(alloc, 16_384, b"\n")?;
+    says(alloc, &longest, 16_384, LEGAL, Ok(()))?;
+    says(alloc, &longest, 4_096, LEGAL, Ok(()))?;
+    let longer = with_remark_of(alloc, 16_385, b"\n")?;
+    says(alloc, &longer, 20_000, b"", too_long())?;
+    says(alloc, &longer, 4_096, b"", too_long())?;
+    let open = with_remark_of(alloc, 16_385, b"")?;
+    says(alloc, &open, 4_096, b"", too_long())
+}
+
+fn too_long() -> Result<(), Fault<AuditFault>> {
+    Err(Fault::Input(AuditFault::Text {
+        line: 2,
+        flaw: LineFlaw::VeryLong,
+    }))
 }

@@ -1,12 +1,12 @@
 -- What the lines of a text tell as a history.
-use Rattle.std.specs.Prelude.{ℕ, suc, List, [], ◌∷◌, ◌++◌, Option, None, Some, if◌then◌else◌}
+use Rattle.std.specs.Prelude.{ℕ, Bool, suc, nat_lt, List, [], ◌∷◌, ◌++◌, length, Option, None, Some, if◌then◌else◌}
 use Rattle.std.specs.Option.{option_map}
 use Rattle.l2_units.specs.declared.profile.Profile.{Profile}
 use Rattle.set_model.specs.State.{Settings}
 use Rattle.history_items.specs.declared.item.Item.{Item}
 use Rattle.history_text.specs.Pieces.{item_of}
 use Rattle.text_lines.specs.declared.flaw.LineFlaw.{LineFlaw}
-use Rattle.text_lines.specs.declared.flaw.LineFlaw.TheVariants.{Words}
+use Rattle.text_lines.specs.declared.flaw.LineFlaw.TheVariants.{VeryLong, Words}
 use Rattle.text_lines.specs.Flaws.{flaw_of}
 use Rattle.text_lines.specs.Lines.{is_remark, lines_of}
 use Rattle.history_text.specs.FirstLine.{settings_in}
@@ -41,6 +41,19 @@ told_by n (Some s) told line = told_next n s.profile told line
 abbrev pub with_line : ℕ → Told → List ℕ → Option Told
 with_line n told line = if is_remark line then Some told else told_by n told.settings told line
 
+-- A line of over 16,384 octets can't be read, whatever it is.
+abbrev pub longest_line : ℕ
+longest_line = 16384
+
+abbrev pub is_very_long : List ℕ → Bool
+is_very_long line = nat_lt longest_line (length line)
+
+abbrev pub with_any_line : ℕ → Told → List ℕ → Option Told
+with_any_line n told line = if is_very_long line then None else with_line n told line
+
+abbrev pub flaw_in : List ℕ → LineFlaw
+flaw_in line = if is_very_long line then VeryLong else flaw_of line
+
 -- A text tells a history; or the line of this number can't be read, for this flaw, the one behind the last where there
 -- is no configuration.
 pub data Telling : Type 0 where
@@ -52,14 +65,14 @@ told_in_all n None told = unreadable n Words
 told_in_all n (Some s) told = tells s told.items told.lines
 
 abbrev pub goes_on : ℕ → List ℕ → Option Told → (Told → Telling) → Telling
-goes_on n line None next = unreadable n (flaw_of line)
+goes_on n line None next = unreadable n (flaw_in line)
 goes_on n line (Some told) next = next told
 
 -- the lines from this number on
 abbrev pub told_from : ℕ → Told → List (List ℕ) → Telling
 told_from n told [] = told_in_all n told.settings told
 told_from n told (line ∷ lines) =
-    goes_on n line (with_line n told line) (λ next. told_from (suc n) next lines)
+    goes_on n line (with_any_line n told line) (λ next. told_from (suc n) next lines)
 
 -- THE HISTORY that a text tells: its lines are counted from 1
 abbrev pub history_in : List ℕ → Telling

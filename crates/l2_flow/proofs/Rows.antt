@@ -1,12 +1,12 @@
 -- What each row of the table does to what is kept and to the three timers, in the table's order.
 use Rattle.std.proofs.Common.{◌≡◌, Bool, true, false, ◌||◌, refl}
 use Rattle.l2_flow.specs.declared.input.FlowIn.{FlowIn}
-use Rattle.l2_flow.specs.declared.input.FlowIn.TheVariants.{Busy, Ease, T5, HeardBusy, Acked, Sent, T6, T7, Reset}
+use Rattle.l2_flow.specs.declared.input.FlowIn.TheVariants.{Busy, Ease, T5, HeardBusy, Acked, Sent, Paused, Resumed, T6, T7, Reset}
 use Rattle.l2_units.specs.declared.timer.TimerOrder.{TimerOrder}
 use Rattle.l2_flow.specs.Table.{row}
 use Rattle.l2_units.specs.Orders.{is_start, is_stop}
 use Rattle.l2_flow.specs.Runs.{is_t5, is_t6, is_t7}
-use Rattle.l2_flow.specs.Laws.{is_busy, is_ease_or_reset, is_heard_busy, is_acked_or_reset, is_sent_or_more, is_all_acked_or_reset}
+use Rattle.l2_flow.specs.Laws.{is_busy, is_ease_or_reset, is_heard_busy, is_acked_or_reset, begins_wait, ends_wait}
 use Rattle.l2_flow.proofs.Lasting.{since_next}
 
 -- whether a timer runs after a step
@@ -14,7 +14,7 @@ abbrev pub runs_next : TimerOrder → Bool → Bool → Bool
 runs_next act ended ran = since_next (is_start act) (is_stop act || ended) ran
 
 -- the values say what the inputs have said
-pub told : (busy far t7 : Bool) (input : FlowIn) → (since_next (is_busy input) (is_ease_or_reset input) busy ≡ (row busy far t7 input).next.busy) × (since_next (is_heard_busy input) (is_acked_or_reset input) far ≡ (row busy far t7 input).next.far_busy) × (since_next (is_sent_or_more input) (is_all_acked_or_reset input) t7 ≡ (row busy far t7 input).next.t7_runs)
+pub told : (busy far t7 : Bool) (input : FlowIn) → (since_next (is_busy input) (is_ease_or_reset input) busy ≡ (row busy far t7 input).next.busy) × (since_next (is_heard_busy input) (is_acked_or_reset input) far ≡ (row busy far t7 input).next.far_busy) × (since_next (begins_wait input) (ends_wait input) t7 ≡ (row busy far t7 input).next.t7_runs)
 told false far t7 Busy = (refl, refl, refl)
 told true far t7 Ease = (refl, refl, refl)
 told true far t7 T5 = (refl, refl, refl)
@@ -24,6 +24,11 @@ told busy true true HeardBusy = (refl, refl, refl)
 told busy far t7 (Acked true) = (refl, refl, refl)
 told busy far t7 (Acked false) = (refl, refl, refl)
 told busy far false Sent = (refl, refl, refl)
+told busy far true Paused = (refl, refl, refl)
+told busy far false Paused = (refl, refl, refl)
+told busy far false (Resumed true) = (refl, refl, refl)
+told busy far true (Resumed true) = (refl, refl, refl)
+told busy far t7 (Resumed false) = (refl, refl, refl)
 told busy far t7 T6 = (refl, refl, refl)
 told busy far t7 T7 = (refl, refl, refl)
 told busy far t7 Reset = (refl, refl, refl)
@@ -40,6 +45,8 @@ t5_runs busy true true HeardBusy = refl
 t5_runs busy far t7 (Acked true) = refl
 t5_runs busy far t7 (Acked false) = refl
 t5_runs busy far false Sent = refl
+t5_runs busy far true Paused = refl
+t5_runs busy far false (Resumed true) = refl
 t5_runs busy far t7 T6 = refl
 t5_runs busy far t7 T7 = refl
 t5_runs busy far t7 Reset = refl
@@ -56,6 +63,8 @@ t6_only busy true true ran HeardBusy old = λ _. refl
 t6_only busy far t7 ran (Acked true) old = λ stopped. stopped
 t6_only busy far t7 ran (Acked false) old = λ stopped. stopped
 t6_only busy far false ran Sent old = old
+t6_only busy far true ran Paused old = old
+t6_only busy far false ran (Resumed true) old = old
 t6_only busy far t7 ran T6 old = λ ended. cc
 t6_only busy far t7 ran T7 old = old
 t6_only busy far t7 ran Reset old = λ stopped. stopped
@@ -72,6 +81,8 @@ t6_runs busy true true HeardBusy none = refl
 t6_runs busy far t7 (Acked true) none = refl
 t6_runs busy far t7 (Acked false) none = refl
 t6_runs busy far false Sent none = refl
+t6_runs busy far true Paused none = refl
+t6_runs busy far false (Resumed true) none = refl
 t6_runs busy far t7 T6 none = cc
 t6_runs busy far t7 T7 none = refl
 t6_runs busy far t7 Reset none = refl
@@ -88,6 +99,8 @@ t7_only busy true true ran HeardBusy old = λ _. refl
 t7_only busy far t7 ran (Acked true) old = λ _. refl
 t7_only busy far t7 ran (Acked false) old = λ stopped. stopped
 t7_only busy far false ran Sent old = λ _. refl
+t7_only busy far true ran Paused old = λ stopped. stopped
+t7_only busy far false ran (Resumed true) old = λ _. refl
 t7_only busy far t7 ran T6 old = old
 t7_only busy far t7 ran T7 old = λ ended. cc
 t7_only busy far t7 ran Reset old = λ stopped. stopped
@@ -104,6 +117,8 @@ t7_runs busy true true HeardBusy none = refl
 t7_runs busy far t7 (Acked true) none = refl
 t7_runs busy far t7 (Acked false) none = refl
 t7_runs busy far false Sent none = refl
+t7_runs busy far true Paused none = refl
+t7_runs busy far false (Resumed true) none = refl
 t7_runs busy far t7 T6 none = refl
 t7_runs busy far t7 T7 none = cc
 t7_runs busy far t7 Reset none = refl

@@ -8,7 +8,7 @@ use Rattle.l2_flow.specs.Table.{row_of}
 use Rattle.l2_flow.specs.Values.{Values}
 use Rattle.l2_units.specs.Orders.{is_start, is_stop}
 use Rattle.l2_flow.specs.Runs.{Step, steps_from, values_from, is_t5, is_t6, is_t7}
-use Rattle.l2_flow.specs.Laws.{is_busy, is_ease_or_reset, is_heard_busy, is_acked_or_reset, is_sent_or_more, is_all_acked_or_reset}
+use Rattle.l2_flow.specs.Laws.{is_busy, is_ease_or_reset, is_heard_busy, is_acked_or_reset, begins_wait, ends_wait}
 use Rattle.l2_flow.proofs.Lasting.{since_from, or_false}
 use Rattle.l2_flow.proofs.Rows.{told, t5_runs, t6_only, t6_runs, t7_only, t7_runs}
 
@@ -26,10 +26,10 @@ far_busy_told now [] = refl
 far_busy_told now (input ∷ inputs) =
     ap (λ held. since_from is_heard_busy is_acked_or_reset held inputs) (told now.busy now.far_busy now.t7_runs input).1 ∙ far_busy_told (row_of now input).next inputs
 
-pub t7_told : (now : Values) (inputs : List FlowIn) → since_from is_sent_or_more is_all_acked_or_reset now.t7_runs inputs ≡ (values_from now inputs).t7_runs
+pub t7_told : (now : Values) (inputs : List FlowIn) → since_from begins_wait ends_wait now.t7_runs inputs ≡ (values_from now inputs).t7_runs
 t7_told now [] = refl
 t7_told now (input ∷ inputs) =
-    ap (λ held. since_from is_sent_or_more is_all_acked_or_reset held inputs) (told now.busy now.far_busy now.t7_runs input).2 ∙ t7_told (row_of now input).next inputs
+    ap (λ held. since_from begins_wait ends_wait held inputs) (told now.busy now.far_busy now.t7_runs input).2 ∙ t7_told (row_of now input).next inputs
 
 pub t5_runs_from : (now : Values) (inputs : List FlowIn) → runs_from (λ out. out.t5) is_t5 now.busy (steps_from now inputs) ≡ (values_from now inputs).busy
 t5_runs_from now [] = refl

@@ -2,7 +2,7 @@
 use Rattle.std.specs.Prelude.{◌≡◌, ◌↔◌, Bool, true, false, IsTrue, List, ◌∷◌, ◌++◌}
 use Rattle.std.specs.List.{list_any}
 use Rattle.l2_flow.specs.declared.input.FlowIn.{FlowIn}
-use Rattle.l2_flow.specs.declared.input.FlowIn.TheVariants.{Busy, Ease, HeardBusy, Acked, Sent, Reset}
+use Rattle.l2_flow.specs.declared.input.FlowIn.TheVariants.{Busy, Ease, HeardBusy, Acked, Sent, Paused, Resumed, Reset}
 use Rattle.l2_flow.specs.Runs.{T5Runs, T6Runs, T7Runs, is_t6, is_t7, values_after}
 use Rattle.l2_flow.specs.Since.{Since}
 
@@ -32,18 +32,26 @@ abbrev pub is_reset : FlowIn → Bool
 is_reset Reset = true
 is_reset _ = false
 
--- a message was sent, or an acknowledgement left some unacknowledged
-abbrev pub is_sent_or_more : FlowIn → Bool
-is_sent_or_more Sent = true
-is_sent_or_more (Acked more) = more
-is_sent_or_more _ = false
+-- an acknowledgement left messages unacknowledged, or some are so behind a processor outage
+abbrev pub is_more : FlowIn → Bool
+is_more (Acked more) = more
+is_more (Resumed more) = more
+is_more _ = false
 
--- an acknowledgement left none unacknowledged, or all was reset
-abbrev pub is_all_acked_or_reset : FlowIn → Bool
-is_all_acked_or_reset (Acked true) = false
-is_all_acked_or_reset (Acked false) = true
-is_all_acked_or_reset Reset = true
-is_all_acked_or_reset _ = false
+-- a message was sent, or some are unacknowledged
+abbrev pub begins_wait : FlowIn → Bool
+begins_wait Sent = true
+begins_wait (Acked more) = more
+begins_wait (Resumed more) = more
+begins_wait _ = false
+
+-- an acknowledgement left none unacknowledged, the far end has a processor outage, or all was reset
+abbrev pub ends_wait : FlowIn → Bool
+ends_wait (Acked true) = false
+ends_wait (Acked false) = true
+ends_wait Paused = true
+ends_wait Reset = true
+ends_wait _ = false
 
 -- this end was told that it is busy, and neither of its ease nor of a reset since
 abbrev pub IsBusy : List FlowIn → Type 0
@@ -53,18 +61,20 @@ IsBusy inputs = Since is_busy is_ease_or_reset inputs
 abbrev pub IsFarBusy : List FlowIn → Type 0
 IsFarBusy inputs = Since is_heard_busy is_acked_or_reset inputs
 
--- messages are unacknowledged, by what was told
+-- messages are unacknowledged, by what was told, and the far end has no processor outage
 abbrev pub AwaitsAcknowledgement : List FlowIn → Type 0
-AwaitsAcknowledgement inputs = Since is_sent_or_more is_all_acked_or_reset inputs
+AwaitsAcknowledgement inputs = Since begins_wait ends_wait inputs
 
 -- a message was sent since the last reset
 abbrev pub SentSinceReset : List FlowIn → Type 0
 SentSinceReset inputs = Since is_sent is_reset inputs
 
--- an acknowledgement leaves messages unacknowledged only where one was sent since the last reset
+-- an acknowledgement leaves messages unacknowledged, and some are so behind a processor outage, only where one was
+-- sent since the last reset
 abbrev pub MoreOnlyAfterSent : List FlowIn → Type 0
 MoreOnlyAfterSent inputs =
-    (before after : List FlowIn) → inputs ≡ before ++ Acked true ∷ after → SentSinceReset before
+    (before : List FlowIn) (input : FlowIn) (after : List FlowIn) → is_more input ≡ true →
+    inputs ≡ before ++ input ∷ after → SentSinceReset before
 
 -- each value says what the inputs have said
 abbrev pub BusyIsTold : Type 0
@@ -88,7 +98,7 @@ T6RunsOnlyWhileFarBusy = (inputs : List FlowIn) → T6Runs inputs → IsFarBusy 
 abbrev pub T6RunsWhileFarBusy : Type 0
 T6RunsWhileFarBusy = (inputs : List FlowIn) → list_any is_t6 inputs ≡ false → IsFarBusy inputs → T6Runs inputs
 
--- T7 runs only while messages are unacknowledged
+-- T7 runs only while messages are unacknowledged and the far end has no processor outage
 abbrev pub T7RunsOnlyWhileAwaiting : Type 0
 T7RunsOnlyWhileAwaiting = (inputs : List FlowIn) → T7Runs inputs → AwaitsAcknowledgement inputs
 
@@ -98,6 +108,6 @@ T7RunsWhileAwaiting =
     (inputs : List FlowIn) → list_any is_t7 inputs ≡ false → AwaitsAcknowledgement inputs → T7Runs inputs
 
 -- So T7 runs only after a message was sent since the last reset. The premise is needed: the table starts T7 at
--- every acknowledgement that leaves some, though none was sent.
+-- every acknowledgement that leaves some, and behind every outage where some are told, though none was sent.
 abbrev pub T7RunsOnlyAfterSent : Type 0
 T7RunsOnlyAfterSent = (inputs : List FlowIn) → MoreOnlyAfterSent inputs → T7Runs inputs → SentSinceReset inputs

@@ -1,7 +1,7 @@
 -- The table of flow control (Q.703 9), a line for each of its rows, in its order.
 use Rattle.std.specs.Prelude.{Bool, true, false, Some, None}
 use Rattle.l2_flow.specs.declared.input.FlowIn.{FlowIn}
-use Rattle.l2_flow.specs.declared.input.FlowIn.TheVariants.{Busy, Ease, T5, HeardBusy, Acked, Sent, T6, T7, Reset}
+use Rattle.l2_flow.specs.declared.input.FlowIn.TheVariants.{Busy, Ease, T5, HeardBusy, Acked, Sent, Paused, Resumed, T6, T7, Reset}
 use Rattle.l2_flow.specs.declared.output.FlowOut.{FlowOut}
 use Rattle.l2_units.specs.declared.timer.TimerOrder.TheVariants.{Keep, Start, Stop}
 use Rattle.l2_units.specs.declared.cause.Cause.{Cause}
@@ -31,6 +31,9 @@ row busy true true HeardBusy = effect (record quiet { t7 = Start }) busy true tr
 row busy far t7 (Acked true) = effect (record quiet { t6 = Stop; t7 = Start }) busy false true
 row busy far t7 (Acked false) = effect (record quiet { t6 = Stop; t7 = Stop }) busy false false
 row busy far false Sent = effect (record quiet { t7 = Start }) busy far true
+-- T7 stands still while the far end has a processor outage (Q.703 8, own); T6 runs on
+row busy far true Paused = effect (record quiet { t7 = Stop }) busy far false
+row busy far false (Resumed true) = effect (record quiet { t7 = Start }) busy far true
 row busy far t7 T6 = effect (record quiet { failure = Some Cause.T6 }) busy far t7
 row busy far t7 T7 = effect (record quiet { failure = Some Cause.T7 }) busy far t7
 row busy far t7 Reset = record { out = record quiet { t5 = Stop; t6 = Stop; t7 = Stop }; next = cleared }

@@ -73,15 +73,26 @@ impl Flow {
                 self.t7_runs = true;
                 FlowOut::timers(Keep, Keep, Start)
             }
+            FlowIn::Paused if self.t7_runs => {
+                self.t7_runs = false;
+                FlowOut::timers(Keep, Keep, Stop)
+            }
+            FlowIn::Resumed { more: true } if !self.t7_runs => {
+                self.t7_runs = true;
+                FlowOut::timers(Keep, Keep, Start)
+            }
             FlowIn::T6 => FlowOut::failed(Cause::T6),
             FlowIn::T7 => FlowOut::failed(Cause::T7),
             FlowIn::Reset => {
                 *self = Flow::new();
                 FlowOut::timers(Stop, Stop, Stop)
             }
-            FlowIn::Busy | FlowIn::Ease | FlowIn::T5 | FlowIn::Sent => {
-                FlowOut::timers(Keep, Keep, Keep)
-            }
+            FlowIn::Busy
+            | FlowIn::Ease
+            | FlowIn::T5
+            | FlowIn::Sent
+            | FlowIn::Paused
+            | FlowIn::Resumed { .. } => FlowOut::timers(Keep, Keep, Keep),
         }
     }
 }

@@ -14,6 +14,11 @@ pub enum FlowIn {
     Acked { more: bool },
     /// A message signal unit was sent.
     Sent,
+    /// The far end has a processor outage (Q.703 8): it can't acknowledge.
+    Paused,
+    /// A fill-in or message signal unit was received behind the far end's processor outage. `more`: messages are
+    /// unacknowledged.
+    Resumed { more: bool },
     /// T6 has ended.
     T6,
     /// T7 has ended.

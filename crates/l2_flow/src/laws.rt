@@ -15,10 +15,10 @@ pub fn t6_runs_while_far_busy()
     ensures runs { T6RunsWhileFarBusy }
 {}
 
-/// Over every run from the start: messages are unacknowledged from a Sent, or an Acked that leaves some, to
-/// the next Acked that leaves none or Reset, and T7 runs only while they are, all that while if T7 does not
-/// end. So T7 runs only after a message was sent since the last reset, where an acknowledgement leaves some
-/// only after that too.
+/// Over every run from the start: an acknowledgement is awaited from a Sent, or an Acked or Resumed with more, to
+/// the next Acked that leaves none, Paused or Reset, and T7 runs only while it is, all that while if T7 does not
+/// end. So T7 stands still while the far end has a processor outage; and it runs only after a message was sent
+/// since the last reset, where an Acked and a Resumed tell of more only after that too.
 pub fn t7_runs_while_awaiting()
     ensures value { T7ValueIsTold }
     ensures only { T7RunsOnlyWhileAwaiting }

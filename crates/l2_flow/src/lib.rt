@@ -18,12 +18,13 @@
 //!
 //!   UNACKNOWLEDGED MESSAGES
 //!
-//!             Sent, Acked { more }: start T7
+//!             Sent, Acked { more },
+//!             Resumed { more }: start T7
 //!   +-------+ -------------------------------> +---------+---+ HeardBusy, Acked { more }:
 //!   | T7    |                                  | T7 runs |<--+ start T7 anew
 //!   | stops | <------------------------------- +---------+
 //!   +-------+ Acked, none left: stop T7             |
-//!                                                   +--------> T7: failure 6
+//!             Paused: stop T7                       +--------> T7: failure 6
 //! ```
 //!
 //! The table, in whose order the arms of [`Flow::input`] stand; what has no row is ignored.
@@ -38,10 +39,14 @@
 //!                   T7 runs          start T7 anew
 //!   Acked { more }                   stop T6; start T7 anew if more, else stop it   far not busy
 //!   Sent            T7 does not run  start T7
+//!   Paused          T7 runs          stop T7 (own)
+//!   Resumed {more}  T7 does not run  start T7 if more (own)
 //!   T6                               failure 5
 //!   T7                               failure 6
 //!   Reset                            stop T5, T6 and T7                             as at the start
 //! ```
+//!
+//! An end with a processor outage (Q.703 8) acknowledges nothing, so T7 stands still till it's over; T6 runs on.
 //!
 //! Causes of failure, by number, and orders to timers are those of `l2_units`.
 //!

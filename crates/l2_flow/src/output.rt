@@ -12,7 +12,8 @@ pub struct FlowOut {
     pub t5: TimerOrder,
     /// T6, the longest time that the far end may stay busy ("remote congestion").
     pub t6: TimerOrder,
-    /// T7, the longest time that an acknowledgement may take ("excessive delay of acknowledgement").
+    /// T7, the longest time that an acknowledgement may take ("excessive delay of acknowledgement"), outages of the
+    /// far end's processor left out.
     pub t7: TimerOrder,
     /// The link has failed, for this cause: T6 or T7.
     pub failure: Option<Cause>,

@@ -62,6 +62,29 @@ fn far_end_holds_back_its_acknowledgements() -> Result<(), Fail> {
     holds(tells(&mut Flow::new(), &rows))
 }
 
+/// T7 stands still while the far end has a processor outage, T6 doesn't; it starts behind it where messages are
+/// unacknowledged, and doesn't start anew where an acknowledgement has started it (Q.703 8, own).
+#[test]
+fn far_end_has_processor_outages() -> Result<(), Fail> {
+    let rows = [
+        (FlowIn::Paused, false, Keep, Keep, Keep),
+        (FlowIn::Resumed { more: false }, false, Keep, Keep, Keep),
+        (FlowIn::Sent, false, Keep, Keep, Start),
+        (FlowIn::Paused, false, Keep, Keep, Stop),
+        (FlowIn::Paused, false, Keep, Keep, Keep),
+        (FlowIn::HeardBusy, false, Keep, Start, Keep),
+        (FlowIn::Resumed { more: true }, false, Keep, Keep, Start),
+        (FlowIn::Resumed { more: true }, false, Keep, Keep, Keep),
+        (FlowIn::HeardBusy, false, Keep, Keep, Start),
+        (FlowIn::Paused, false, Keep, Keep, Stop),
+        (FlowIn::Acked { more: true }, false, Keep, Stop, Start),
+        (FlowIn::Resumed { more: true }, false, Keep, Keep, Keep),
+        (FlowIn::Acked { more: false }, false, Keep, Stop, Stop),
+        (FlowIn::Resumed { more: false }, false, Keep, Keep, Keep),
+    ];
+    holds(tells(&mut Flow::new(), &rows))
+}
+
 #[test]
 fn ends_of_t6_and_t7_are_failures_5_and_6() -> Result<(), Fail> {
     let mut flow = Flow::new();

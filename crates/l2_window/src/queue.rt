@@ -25,7 +25,7 @@ impl<A: Allocator> Model for Queue<A> {
 }
 
 impl<A: Allocator + Copy> Queue<A> {
-    ghost use Rattle.std.specs.Prelude.{◌≡◌, ◌+◌, ◌-◌, ◌<◌, ◌≤◌, ◌^◌, ◌==◌, ◌++◌, [], ◌∷◌, IfOk, OnOk, OnErr, IsNone, length, drop, slice_get};
+    ghost use Rattle.std.specs.Prelude.{◌≡◌, ◌+◌, ◌-◌, ◌<◌, ◌≤◌, ◌^◌, ◌==◌, ◌++◌, [], ◌∷◌, IfOk, IfSome, OnOk, OnErr, IsNone, length, drop, slice_get};
     ghost use Rattle.l2_window.specs.Queue.{QueueState, SameQueue};
 
     /// No messages, and no room.
@@ -113,8 +113,11 @@ impl<A: Allocator + Copy> Queue<A> {
         ensures value { result ≡ slice_get self.old.messages 0 }
         ensures messages { self.new.messages ≡ drop 1 self.old.messages }
         ensures room { self.old.room ≤ self.new.room }
+        ensures freed { IfSome result (λ _. self.old.room + 1 ≤ self.new.room) }
         ensures none { IsNone result → self.new ≡ self.old }
     {
+        // it holds no more than it has room for, so one that leaves makes room for one
+        self.ring.len();
         self.ring.pop_front()
     }
 

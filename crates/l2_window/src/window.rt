@@ -291,6 +291,7 @@ impl<A: Allocator + Copy> Window<A> {
     pub fn withdraw(&mut self) -> Option<u64>
         ensures value { result ≡ slice_get self.old.unsent 0 }
         ensures rest { Withdraws self.old self.new }
+        ensures freed { IfSome result (λ _. self.old.room + 1 ≤ self.new.room) }
         ensures none { IsNone result → self.new ≡ self.old }
     {
         self.unsent.pop()

@@ -1,6 +1,7 @@
 //! What a terminal does with a mark of the line: the monitors, the machines, the set (Q.703 5 to 10).
 ghost use Rattle.std.specs.Prelude.{◌≡◌, ◌≤◌, Some, None, length};
 ghost use Rattle.l2_bits.specs.Deframing.{marked as mark_of};
+ghost use Rattle.l2_state.specs.Table.{is_paused};
 ghost use Rattle.l2_units.specs.Lent.{body_in, unit_in};
 ghost use Rattle.link_term.specs.Reading.{brings, status_heard, report_heard, told_heard};
 ghost use Rattle.link_term.specs.Talking.{Talks, asked};
@@ -9,6 +10,8 @@ ghost use Rattle.term_model.specs.Hearing.{
   marked,
   judged,
   heard,
+  all_hear,
+  waits,
   machines_hear,
   flow_hears,
   set_hears,
@@ -98,8 +101,7 @@ fn judge<D: Door>(inside: &mut Inside, door: &mut D, error: bool) -> Result<(), 
     }
 }
 
-/// A unit that is readable: a proving that was aborted may begin anew before the machines hear it (Q.703 7.3), and the
-/// set hears it where the link is up there after that.
+/// A unit that is readable, and then what it says of the far end's processor (Q.703 8.2).
 fn hear<D: Door>(
     inside: &mut Inside,
     door: &mut D,
@@ -109,6 +111,47 @@ fn hear<D: Door>(
     requires at { D.number door.old ≡ inside.old.link }
     requires few { length (body_in unit.now) ≤ 273 }
     ensures talks { Talks (heard (Some (unit_in unit.now)) inside.old) result (asked D.Door door.old)
+        (asked D.Door door.new) inside.new }
+    ensures at { D.number door.new ≡ inside.new.link }
+    ensures number { D.number door.new ≡ D.number door.old }
+    ensures door { D.is_same door.old door.new }
+{
+    let was_paused = inside.is_paused();
+    tell_all(inside, door, reply, unit)?;
+    tell_outage(inside, door, was_paused)
+}
+
+/// T7 stands still while the far end has a processor outage; the first unit that the set hears behind it starts it anew,
+/// where messages are unacknowledged (own).
+fn tell_outage<D: Door>(inside: &mut Inside, door: &mut D, was_paused: bool) -> Result<(), SetFault>
+    requires { D.number door.old ≡ inside.old.link }
+    ensures talks { Talks (waits was_paused (is_paused inside.old.state) inside.old) result (asked D.Door door.old)
+        (asked D.Door door.new) inside.new }
+    ensures at { D.number door.new ≡ inside.new.link }
+    ensures number { D.number door.new ≡ D.number door.old }
+    ensures door { D.is_same door.old door.new }
+{
+    if inside.is_paused() {
+        return input_flow(inside, door, FlowIn::Paused);
+    }
+    if was_paused && inside.is_up() {
+        let more = inside.has_unacked();
+        return input_flow(inside, door, FlowIn::Resumed { more });
+    }
+    Ok(())
+}
+
+/// A unit that is readable: a proving that was aborted may begin anew before the machines hear it (Q.703 7.3), and the
+/// set hears it where the link is up there after that.
+fn tell_all<D: Door>(
+    inside: &mut Inside,
+    door: &mut D,
+    reply: &mut Reply,
+    unit: &UnitRef<'_>,
+) -> Result<(), SetFault>
+    requires at { D.number door.old ≡ inside.old.link }
+    requires few { length (body_in unit.now) ≤ 273 }
+    ensures talks { Talks (all_hear (unit_in unit.now) inside.old) result (asked D.Door door.old)
         (asked D.Door door.new) inside.new }
     ensures at { D.number door.new ≡ inside.new.link }
     ensures number { D.number door.new ≡ D.number door.old }
@@ -274,7 +317,7 @@ fn tell_acks<D: Door>(
     ensures door { D.is_same door.old door.new }
 {
     if report.acked > 0 || report.resend {
-        let more = bsn != u16::from(inside.top());
+        let more = inside.acknowledge(bsn);
         return input_flow(inside, door, FlowIn::Acked { more });
     }
     Ok(())

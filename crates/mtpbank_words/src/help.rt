@@ -110,7 +110,8 @@ for the next line of this link. The events; T counts the link's turns from 1:
                       isn't settled), up, or paused (the far end has a processor outage)
   sent L UNIT [xN]    this unit was appended to what goes out, N times in a row; with hear, flags and bits alone
 In a turn messages come first, then the WORD, then the unit. The causes: 1 error rate, 2 BSN, 3 FIB, 4 T1, 5 T6, 6 T7,
-7 a status that was heard, 8 alignment not possible, 9 stop. Last comes `end a ..`, as `mtpbank play` prints it.
+7 a status that was heard, 8 alignment not possible, 9 stop, or a changeover order about a link that isn't up yet:
+the far end was up there, and has left it. Last comes `end a ..`, as `mtpbank play` prints it.
 The set line and the lines of history and checkpoint one behind another are the history that `mtpbank audit` reads.
 To drive a real line read a block of octets from the timeslot, write it as octets, and write the answer to the timeslot:
 the line's clock keeps the pace. Begin with two blocks of flags; 64 to 160 octets are usual. Signal units go lowest bit
@@ -119,7 +120,8 @@ reversed, both ways. Since the end has no clock but its turns, whoever drives it
   link L out, and phase=left after T2 of Q.704 (0.7 to 2 s)      noanswer L. T2 runs only while the order to the far end
                       can go out: another link is up, or all are out or waiting, so that none comes up without it
   link L out          start L again after a pause (T17 of Q.704, 0.8 to 1.5 s); emergency L before it, where no other
-                      is up
+                      is up. Then fewer than 3,700 octets may be under way on it, both ways together: units of its last
+                      life that come when it has proved again are heard as new ones, and their messages come twice
   link L up           restore L, at its first up too, since streams of which messages went over another link stay
                       there: refused 9 where there are none; backtimeout L where nobody answers
   memory is short     busy L, and ease L later
@@ -177,8 +179,8 @@ A line that can't be read is a fault, whether or not an entry before it is wrong
 with status 1; but for the first, nothing is printed then:
   fault line N illegal                               behind legal=no
   fault line N text   line N, from 1 and with those passed over, is no such line; or the text ended before line N
-                      without the one that opens the set. Behind it stands what else is wrong: a carriage return or a
-                      space at its end, a tab, a space before it, two spaces
+                      without the one that opens the set. Behind it stands what else is wrong: more than 16,384
+                      octets, a carriage return or a space at its end, a tab, a space before it, two spaces
   fault exhausted     there are more than 2^48 entries
   fault read          standard input failed
   fault long          standard input has more than 2^60 octets
@@ -215,8 +217,9 @@ Standard input is a script, as `mtpbank play --help` says. Standard output is a 
 number of the script's line, what happens at end a, what is under way, and what happens at end b.
   --1-->|, |<--1--    at the side of an end: a unit goes out on link 1 from there, or arrives there
   IAM #4 fsn=1 ..     which unit it is: a message's name in the ISDN user part, or MSU; #4, the number under which its
-                      sender accepted it, while that has it unacknowledged on the link; its FSN, BSN, stream. An order
-                      is told as COO #3 link 1 fsn=0, and a fill-in unit as FISU
+                      sender accepted it, while that has it unacknowledged on the link; its FSN, BSN, stream (in the
+                      wide profile no BSN where the stream has no room else). An order is told as COO #3 link 1 fsn=0,
+                      and a fill-in unit as FISU
   --1--x, x--1--      a unit is lost on its way to that end, by lose or because the link isn't up there
   --1..>, <..1--      a unit that nobody sent is heard (hear)
   1>0 1>1 0<f         in the middle, the units that are under way then, each with its link: to end b with FSN 0 and FSN
@@ -424,7 +427,8 @@ messages are unacknowledged, bodies have 272 octets at most, and a cycle is forc
                       from
   down E L            link L fails at end E, which tells the other what it accepted (COO)
   blind E L           link L fails at end E, which can't tell what it accepted (ECO)
-  noanswer E L        end E had no answer to the changeover of link L: what was sent on it or waits there is discarded
+  noanswer E L        end E had no answer to the changeover of link L: what was sent on it is discarded, and orders that
+                      wait there; users' messages that were never sent go on over another link
   restore E L         end E asks the streams whose home is link L back to it, from each other link that is up (CBD)
   backtimeout E L     end E had no answer to the changeback to link L
 Words are separated by one space, numbers are decimal without leading zeros, and lines end in LF.

@@ -23,14 +23,14 @@ use Rattle.set_model.specs.declared.phase.Phase.TheVariants.{Up, Down, Settled}
 use Rattle.set_model.specs.declared.reached.Reached.{Reached}
 use Rattle.set_model.specs.Changeover.{fate_on, queued, left_by, left_link, out_of_service, declared, released, acknowledged as acknowledged_link, acknowledged_by, answered_link, cleared, moved_over, settled, settled_link, withdrawn}
 use Rattle.set_model.specs.Control.{Choice, again, first, fill, choice_of, part_of}
-use Rattle.set_model.specs.Rows.{Row, all_with, is_waiting, is_unacked, is_on, is_back, is_back_to, is_parked, stands_back, octets_in, stream_of, turned, changed, moved, appended, with_fate, place, unack, wait, IsNumbered, IsInOrder}
+use Rattle.set_model.specs.Rows.{orders_changed, Row, all_with, is_waiting, is_unacked, is_on, is_back, is_back_to, is_parked, stands_back, octets_in, stream_of, turned, changed, moved, appended, with_fate, place, unack, wait, IsNumbered, IsInOrder}
 use Rattle.set_model.specs.Sound.{IsSound}
 use Rattle.set_model.specs.State.{FinishedCounts, all_finished, given, LinkState, State, Settings, has_phase_settled, is_settled, is_up, link_is_settled, new_link, opened_with, fate_at, target, window_of, with_link}
 use Rattle.set_model.specs.Step.{with_known, is_msu, after_control, next, offered, rises, rows_sent, step, takes}
 use Rattle.std.proofs.lemmas.Bool.{cond_both}
 use Rattle.set_model.proofs.Events.{sent_by, ChangesOn, acknowledged, appended_out, unparked, withdrawn_rows}
 use Rattle.set_model.proofs.Events as events
-use Rattle.set_model.proofs.Rows.{with_number, numbered_appended, turned_there, turned_left, turned_same, changed_left, at_most_one, moved_length, moved_numbered, moved_same, new_row}
+use Rattle.set_model.proofs.Rows.{orders_there, with_number, numbered_appended, turned_there, turned_left, turned_same, changed_left, at_most_one, moved_length, moved_numbered, moved_same, new_row}
 use Rattle.set_model.proofs.Lists.{get_set_same, get_set_other, same_at, within}
 use Rattle.set_model.proofs.Places.{false_true, itself, apart_back, on_other, not_on_unacked, back_not_on, code_back, home_back}
 use Rattle.set_model.proofs.Staying.{acked_few, not_sent, offered_out}
@@ -41,7 +41,7 @@ use Rattle.pair_model.specs.Run.{Message, Past, messages, first_sent, past_sent,
 use Rattle.pair_model.proofs.Moving.{next_refused}
 use Rattle.pair_model.proofs.Runs.{is_at_up}
 use Rattle.pair_model.proofs.Sending.{next_is, cleared_at, cleared_sends, cleared_sound, overtaken}
-use Rattle.pair_changeover.proofs.Staying.{Stays, turned_stay, changed_stay, moved_stay, joined_stay}
+use Rattle.pair_changeover.proofs.Staying.{orders_stay, Stays, turned_stay, changed_stay, moved_stay, joined_stay}
 use Rattle.pair_changeover.proofs.Views.{acked_of, acked_on}
 
 abbrev pub AreAcked : ℕ → List Row → List Message → Type 0
@@ -396,6 +396,12 @@ module _ (l : ℕ) (sent : List Message) where
         (changed_stay (Acked l) (is_waiting n) refl (Discarded cause) s.rows) refl
         (turned_same (is_waiting n) (is_unacked l) (Discarded cause) refl (λ f e. grind arith) (length s.rows)
         s.rows) a) g;
+    gives_up_orders = λ cause n link s known at g a.
+        goes_on s (record s { rows = orders_changed (is_waiting n) (Discarded cause) s.rows })
+        (numbered_on s (record s { rows = orders_changed (is_waiting n) (Discarded cause) s.rows }) refl g.kept.count
+        (g.kept.numbered (given s) a.numbered))
+        (orders_stay (Acked l) (is_waiting n) refl (Discarded cause) s.rows) refl
+        ((orders_there (is_waiting n) (Discarded cause) s.rows).same (is_unacked l) refl (λ f e. grind arith)) a;
     moves_off = λ told n link s known at a. moves_off_any told n link s at a;
     answers = λ n link s known at a. answers_any n link s at a;
     withdraws = λ count n link s known at g a. withdraws_any count n s a;

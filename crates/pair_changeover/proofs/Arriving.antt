@@ -18,11 +18,12 @@ use Rattle.set_events.specs.declared.answer.Took.{Took}
 use Rattle.set_events.specs.declared.answer.Took.TheVariants.{Nothing as NothingTaken, Message as TookMessage, Order as TookOrder, Ignored}
 use Rattle.set_events.specs.declared.config.Method.{Method}
 use Rattle.set_events.specs.declared.event.Event.TheVariants.{Heard as HeardEvent, Up as UpEvent}
+use Rattle.set_model.specs.declared.phase.Phase.{Phase}
 use Rattle.set_model.specs.declared.phase.Phase.TheVariants.{Up, Settled}
 use Rattle.set_model.specs.Rows.{Row, was_discarded, stands_back, is_waiting, is_held, standing, unack, wait, held, parked, place, is_unacked, is_parked, all_with}
 use Rattle.set_model.specs.Sound.{IsSound}
-use Rattle.set_model.specs.State.{LinkState, State, is_up, is_settled, link_is_up, link_is_settled, has_phase_up, has_phase_settled, target}
-use Rattle.set_model.specs.Step.{Outcome, brought, risen_link, rises, step}
+use Rattle.set_model.specs.State.{late_at, LinkState, State, is_up, is_settled, link_is_up, link_is_settled, has_phase_up, has_phase_settled, target}
+use Rattle.set_model.specs.Step.{with_known, Outcome, brought, risen_link, rises, step}
 use Rattle.set_model.proofs.Events.{Untouched, acknowledged, unparked}
 use Rattle.set_model.proofs.Rows.{turned_same, moved_same}
 use Rattle.set_model.proofs.Walk.{link_count_stays, IsAt}
@@ -323,13 +324,13 @@ module _ (mx my : Method) (one : IsOneMethod mx my) (p : Two) (h : HoldsOf mx my
 module _ (k : ℕ) (s : State) (sound : IsSound s) (link : LinkState) (at : IsAt k link Settled s) where
   rises_is : step s (UpEvent k) ≡ rises k s Settled
   unfolding step
-  rises_is = rw (at.there, at.phase_is) refl
+  rises_is = ap (λ (o : Option LinkState). with_known o s (λ l. rises k s l.phase)) at.there ∙ ap (λ (p : Phase). rises k s p) at.phase_is
 
   abbrev risen : State
   risen = (rises k s Settled).state
 
-  risen_there : slice_get risen.links k ≡ Some (risen_link s.settings.profile s.settings.method)
-  risen_there = get_set_same s.links k (risen_link s.settings.profile s.settings.method) (within s.links k link at.there)
+  risen_there : slice_get risen.links k ≡ Some (risen_link s.settings.profile s.settings.method (late_at k s))
+  risen_there = get_set_same s.links k (risen_link s.settings.profile s.settings.method (late_at k s)) (within s.links k link at.there)
 
   rises_so : Rises k s risen
   rises_so =
@@ -345,7 +346,7 @@ module _ (k : ℕ) (s : State) (sound : IsSound s) (link : LinkState) (at : IsAt
             s.rows none.held_none ∙ ap (λ (x : List Message). x ++ messages (parked s.rows)) empty;
         others = u.others;
         none_aside = u.parked_none;
-        links = λ l d. get_set_other s.links k l (risen_link s.settings.profile s.settings.method) (λ same. false_true (k == l) d (rw same (itself l)));
+        links = λ l d. get_set_other s.links k l (risen_link s.settings.profile s.settings.method (late_at k s)) (λ same. false_true (k == l) d (rw same (itself l)));
       }
 
   pub rises_at : Rises k s (step s (UpEvent k)).state

@@ -1,6 +1,6 @@
 -- A FATE THAT STAYS: what is acknowledged, or was discarded, is so ever after, whatever changes of other rows
 -- (`Stays`). One lemma for each way in which rows change: some of them or all get a fate (`turned_stay`,
--- `changed_stay`), some move to the end (`moved_stay`), or more come (`joined_stay`). A change whose test doesn't hold
+-- `changed_stay`, `orders_stay`), some move to the end (`moved_stay`), or more come (`joined_stay`). A change whose test doesn't hold
 -- of the fate leaves its rows alone; and rows that move are still found by their numbers, as each number stands once
 -- (`place_moved`). By induction on the rows, one for all that turn (`where_turned`). Used by Acked.antt, and by
 -- pair_streams's Known.antt and Blindly.antt.
@@ -8,8 +8,8 @@ use Rattle.std.proofs.Common.{refl, ◌≡◌, ◌∙◌, ap, sym, ℕ, ◌==◌
 use Rattle.std.specs.Option.{option_map}
 use Rattle.std.proofs.lemmas.Option.{same_Some}
 use Rattle.set_events.specs.declared.answer.Fate.{Fate}
-use Rattle.set_model.specs.Rows.{Row, turned, changed, moved, with_fate, place, row_of, IsNumbered}
-use Rattle.set_model.proofs.Rows.{where_turned, place_moved}
+use Rattle.set_model.specs.Rows.{orders_changed, Row, turned, changed, moved, with_fate, place, row_of, IsNumbered}
+use Rattle.set_model.proofs.Rows.{where_orders, where_turned, place_moved}
 use Rattle.set_model.proofs.Places.{false_true}
 
 abbrev pub Stays : Fate → List Row → List Row → Type 0
@@ -41,6 +41,9 @@ module _ (kept : Fate) (test : Fate → Bool) (w : test kept ≡ false) where
 
     pub changed_stay : (rows : List Row) → Stays kept rows (changed test fate rows)
     changed_stay rows = turned_stay (length rows) rows
+
+    pub orders_stay : (rows : List Row) → Stays kept rows (orders_changed test fate rows)
+    orders_stay rows = where_orders test fate (Stays kept) none_stay row_stays row_turns rows
 
   pub moved_stay : (given : ℕ) (fate : Row → Fate) (rows : List Row) → IsNumbered given rows → Stays kept rows (moved test fate rows)
   moved_stay given fate rows numbered number e = place_moved test fate given number rows numbered ∙ go (row_of number rows) e

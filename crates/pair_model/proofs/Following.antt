@@ -206,6 +206,7 @@ others l May = record {
   leaves = λ blind m link s d at. follows_left l blind m link s at;
   acknowledges = λ count m link s d at few g. follows_set l m (acknowledged_link count link) s _ d refl (g.others l d);
   gives_up = λ sent cause m link s d at g. follows_untouched l s _ refl (g.others l d);
+  gives_up_orders = λ cause m link s d at g. follows_untouched l s _ refl (g.others l d);
   moves_off = λ told m link s d at. follows_off told l m link s d at;
   answers = λ m link s d at. follows_set l m (answered_link link) s _ d refl (untouched l s.rows s.rows refl);
   withdraws = λ count m link s d at g. follows_untouched l s _ refl (g.others l d);

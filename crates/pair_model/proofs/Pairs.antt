@@ -91,6 +91,7 @@ small_settings Known May = record {
   leaves = λ blind n link s known at. refl;
   acknowledges = λ count n link s known at few g. refl;
   gives_up = λ sent cause n link s known at g. refl;
+  gives_up_orders = λ cause n link s known at g. refl;
   moves_off = λ told n link s known at. refl;
   answers = λ n link s known at. refl;
   withdraws = λ count n link s known at g. refl;

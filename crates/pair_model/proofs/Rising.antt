@@ -15,8 +15,8 @@ use Rattle.set_model.specs.declared.phase.Phase.TheVariants.{Up, Down, Settled}
 use Rattle.set_model.specs.Control.{Control, start_of}
 use Rattle.set_model.specs.Rows.{numbers, unack}
 use Rattle.set_model.specs.Sound.{IsSound}
-use Rattle.set_model.specs.State.{LinkState, State, has_phase_settled, is_settled, link_is_settled, window_of}
-use Rattle.set_model.specs.Step.{risen_link, rises, step}
+use Rattle.set_model.specs.State.{late_at, LinkState, State, has_phase_settled, is_settled, link_is_settled, window_of}
+use Rattle.set_model.specs.Step.{with_known, risen_link, rises, step}
 use Rattle.set_model.proofs.Events.{unparked}
 use Rattle.set_model.proofs.Lists.{get_set_same, within, same_at}
 use Rattle.set_model.proofs.Settling.{settled_empty}
@@ -40,16 +40,16 @@ module _ (l : ℕ) (q : Profile) (m : Method) (s : State) (sound : IsSound s) (p
     (is_of : s.settings.method ≡ m) (link : LinkState) (at : IsAt l link Settled s) where
   step_is : step s (UpEvent l) ≡ rises l s Settled
   unfolding step
-  step_is = rw (at.there, at.phase_is) refl
+  step_is = ap (λ (o : Option LinkState). with_known o s (λ k. rises l s k.phase)) at.there ∙ ap (λ (p : Phase). rises l s p) at.phase_is
 
   abbrev risen : State
   risen = (rises l s Settled).state
 
   abbrev pub fresh : LinkEnd Control
-  fresh = record { control = start_of m; window = window_of l (risen_link q m) risen.rows; sent = []; took = []; acked = 0 }
+  fresh = record { control = start_of m; window = window_of l (risen_link q m (late_at l s)) risen.rows; sent = []; took = []; acked = 0 }
 
-  risen_there : slice_get risen.links l ≡ Some (risen_link q m)
-  risen_there = rw (← profile_of, ← is_of) (get_set_same s.links l (risen_link s.settings.profile s.settings.method) (within s.links l link at.there))
+  risen_there : slice_get risen.links l ≡ Some (risen_link q m (late_at l s))
+  risen_there = rw (← profile_of, ← is_of) (get_set_same s.links l (risen_link s.settings.profile s.settings.method (late_at l s)) (within s.links l link at.there))
 
   none_sent : unack l risen.rows ≡ []
   none_sent = (unparked l s.rows).unack_same ∙ (settled_empty s l link sound at.there at.phase_is).unack_none
@@ -59,11 +59,11 @@ module _ (l : ℕ) (q : Profile) (m : Method) (s : State) (sound : IsSound s) (p
 
   pub fresh_goes : Goes l fresh (step s (UpEvent l)).state
   fresh_goes = rw step_is (λ other found unsettled.
-      let same : risen_link q m ≡ other = sym (same_at risen.links l (risen_link q m) other risen_there found) in
+      let same : risen_link q m (late_at l s) ≡ other = sym (same_at risen.links l (risen_link q m (late_at l s)) other risen_there found) in
       subst (λ (k : LinkState). IsGoing l fresh k risen.rows) same (record { control = refl; window = refl; acked = refl }))
 
   pub fresh_counts : Counts l (step s (UpEvent l)).state []
-  fresh_counts = rw step_is (λ other found. ap (λ (k : LinkState). k.accepted) (same_at risen.links l (risen_link q m) other risen_there found))
+  fresh_counts = rw step_is (λ other found. ap (λ (k : LinkState). k.accepted) (same_at risen.links l (risen_link q m (late_at l s)) other risen_there found))
 
 -- both ends then, with empty lines
 abbrev pub new_side : State → Side

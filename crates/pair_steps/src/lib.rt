@@ -15,10 +15,13 @@
 //! without the world itself; `pair_world` says what a step does.
 #![tactic(auto)]
 
+mod block;
+mod chain;
 mod line;
 mod lines;
 mod showing;
 mod step;
+mod stretch;
 mod under_way;
 
 pub use line::Line;

@@ -4,17 +4,21 @@ ghost use Rattle.l2_units.specs.Lent.{body_in, unit_in};
 ghost use Rattle.pair_steps.specs.Lines.{IsTakenFrom};
 ghost use Rattle.pair_steps.specs.Lent.{IsUnitAt};
 
+use super::block::Block;
+use super::chain::Chain;
+use super::stretch::Stretch;
 use super::under_way::UnderWay;
 use l2_units::{Unit, UnitRef};
 use std::alloc::{AllocError, Allocator, Global};
-use std::collections::VecDeque;
 use std::marker::Model;
 
-/// Units under way on one link, oldest first, each in as much memory as it has octets. Contracts see the list. The front leaves it
-/// at the same cost whatever stands behind.
+/// Units under way on one link, oldest first, each in as much memory as it has octets. Contracts see the list.
+///
+/// A unit joins the line, is read or leaves it, from whatever place, by at most 16 counts on each of five levels and 16 moves,
+/// while fewer than 2^24 units joined the line since it was empty.
 #[derive(Drop)]
 pub struct Line<A: Allocator = Global> {
-    units: VecDeque<UnderWay<A>, A>,
+    units: Chain<A, Chain<A, Chain<A, Chain<A, Chain<A, Block<A>>>>>>,
     /// What a message's octets are kept by.
     alloc: A,
 }
@@ -25,7 +29,7 @@ impl<A: Allocator> Model for Line<A> {
 
     ghost Value = { List SignalUnit };
 
-    ghost view = { λ l. l.units.items };
+    ghost view = { λ l. l.units };
 }
 
 impl<A: Allocator + Copy> Line<A> {
@@ -34,7 +38,7 @@ impl<A: Allocator + Copy> Line<A> {
         ensures { result ≡ [] }
     {
         Line {
-            units: VecDeque::new(alloc),
+            units: Chain::new(alloc),
             alloc,
         }
     }
@@ -45,9 +49,7 @@ impl<A: Allocator + Copy> Line<A> {
         ensures ok { OnOk result (self.new ≡ self.old ++ unit_in unit.now ∷ []) }
         ensures err { OnErr result (self.new ≡ self.old) }
     {
-        let under_way = UnderWay::of(self.alloc, unit)?;
-        self.units.push_back(under_way)?;
-        Ok(())
+        self.units.join(self.alloc, unit)
     }
 
     /// How many units are under way.
@@ -61,7 +63,7 @@ impl<A: Allocator + Copy> Line<A> {
     pub fn is_empty(&self) -> bool
         ensures { result ≡ (length self.now == 0) }
     {
-        self.units.is_empty()
+        self.len() == 0
     }
 
     /// The unit at this place, the oldest at 0, with its body left in the line.
@@ -69,10 +71,7 @@ impl<A: Allocator + Copy> Line<A> {
         ensures value { IsUnitAt self.now place result }
         ensures few { IfSome result (λ unit. length (body_in unit) ≤ 273) }
     {
-        match self.units.get(place as usize) {
-            Some(under_way) => Some(under_way.unit_ref()),
-            None => None,
-        }
+        self.units.unit_ref(place as usize)
     }
 
     /// The unit at this place, the oldest at 0.
@@ -89,16 +88,13 @@ impl<A: Allocator + Copy> Line<A> {
     pub(crate) fn take_out(&mut self, place: u64) -> Option<UnderWay<A>>
         ensures { IsTakenFrom result self.old place self.new }
     {
-        if place == 0 {
-            return self.units.pop_front();
-        }
-        self.units.remove(place as usize)
+        self.units.take_out(place as usize)
     }
 
     /// Nothing is under way any more.
     pub(crate) fn clear(&mut self)
         ensures { self.new ≡ [] }
     {
-        self.units.clear();
+        self.units = Chain::new(self.alloc);
     }
 }

@@ -18,7 +18,7 @@ use Rattle.set_events.specs.declared.event.Event.TheVariants.{Offer}
 use Rattle.set_model.specs.Changeover.{answered_link, queued, fate_on, left_by, moved_over, declared, released, withdrawn}
 use Rattle.l2_units.specs.Grammar.{head_of}
 use Rattle.set_model.specs.Control.{Choice, again, first, fill, choice_of, part_of}
-use Rattle.set_model.specs.Rows.{Row, is_on, is_back, is_back_to, is_unacked, is_waiting, is_parked, all_with, appended, moved, unack, octets_in, place, body_at, service_indicator, IsNumbered}
+use Rattle.set_model.specs.Rows.{orders_changed, Row, is_on, is_back, is_back_to, is_unacked, is_waiting, is_parked, all_with, appended, moved, unack, octets_in, place, body_at, service_indicator, IsNumbered}
 use Rattle.set_model.specs.Sound.{IsManaged}
 use Rattle.set_model.specs.State.{given, LinkState, State, target, window_of, with_link}
 use Rattle.set_model.specs.Step.{is_msu, sends, step}
@@ -28,7 +28,7 @@ use Rattle.set_model.proofs.Rows.{numbered_appended, new_row, body_moved, moved_
 use Rattle.pair_changeover.proofs.Acked.{numbered_on}
 use Rattle.pair_streams.proofs.Rising.{one_more}
 use Rattle.set_model.proofs.Walk.{KeptBy, step_walks}
-use Rattle.pair_changeover.proofs.Staying.{Stays, turned_stay, changed_stay, moved_stay, joined_stay}
+use Rattle.pair_changeover.proofs.Staying.{orders_stay, Stays, turned_stay, changed_stay, moved_stay, joined_stay}
 
 -- in an emergency
 abbrev pub given_up : Fate
@@ -125,6 +125,10 @@ module _ (P : ℕ → List ℕ → Type 0) (Q : ℕ → Type 0) where
         covers_kept s _ refl refl g.kept.count (g.kept.numbered (given s) c.numbered)
         (g.kept.bodies (given s) c.numbered)
         (changed_stay given_up (cond was_sent (is_unacked n) (is_waiting n)) off (Discarded cause) s.rows) c;
+    gives_up_orders = λ cause n link s known at g c.
+        covers_kept s (record s { rows = orders_changed (is_waiting n) (Discarded cause) s.rows }) refl refl g.kept.count
+        (g.kept.numbered (given s) c.numbered) (g.kept.bodies (given s) c.numbered)
+        (orders_stay given_up (is_waiting n) refl (Discarded cause) s.rows) c;
     moves_off = λ told n link s known at c. moved_covers (is_on n) _ s (moved_over told n link s) refl refl refl refl c;
     answers = λ n link s known at c. covers_kept s (with_link n (answered_link link) s) refl refl refl c.numbered (λ number. refl) (λ number e. e) c;
     withdraws = λ count n link s known at g c.

@@ -9,7 +9,7 @@ use Rattle.set_events.specs.declared.answer.Fate.{Fate}
 use Rattle.set_events.specs.declared.answer.Refusal.{Refusal as SetRefusal}
 use Rattle.set_events.specs.declared.event.Event.{Event}
 use Rattle.set_events.specs.declared.event.Event.TheVariants.{Offer}
-use Rattle.set_model.specs.Rows.{Discarded, changed, is_unacked, is_waiting, is_on, is_back, is_back_to, appended, stream_of}
+use Rattle.set_model.specs.Rows.{orders_changed, Discarded, changed, is_unacked, is_waiting, is_on, is_back, is_back_to, appended, stream_of}
 use Rattle.set_model.specs.State.{all_finished, given, State, with_link}
 use Rattle.set_model.specs.declared.phase.Phase.TheVariants.{Settled}
 use Rattle.set_model.specs.Step.{controlled, next, offer_refusal, offered, rises, step}
@@ -69,6 +69,9 @@ small Known May = record {
   acknowledges = λ count n link s known at few g. same_many s (acknowledged_by count n link s) refl g.kept.count;
   gives_up = λ sent cause n link s known at g. same_many s
       (record s { rows = changed (cond sent (is_unacked n) (is_waiting n)) (Discarded cause) s.rows }) refl
+      g.kept.count;
+  gives_up_orders = λ cause n link s known at g. same_many s
+      (record s { rows = orders_changed (is_waiting n) (Discarded cause) s.rows }) refl
       g.kept.count;
   answers = λ n link s known at. same_many s (with_link n (answered_link link) s) refl refl;
   withdraws = λ count n link s known at g. same_many s (withdrawn count n s) refl g.kept.count;

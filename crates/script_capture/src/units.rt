@@ -24,7 +24,7 @@ impl Account for Units {
 
     ghost is_note = { λ world step note. Unit {0} };
 
-    fn note(_world: &World, _step: &Step) {}
+    fn note(_alloc: Global, _world: &World, _step: &Step) {}
 
     fn tell_opening(_alloc: Global, world: &World, out: &mut Vec<u8>) -> Result<(), AllocError> {
         out.extend_from_slice(&head_of_file(world_profile(world)))

@@ -61,7 +61,7 @@ impl<E: NamesEnd> Account for History<E> {
 
     ghost is_note = { λ world step note. Unit {0} };
 
-    fn note(_world: &World, _step: &Step) {}
+    fn note(_alloc: Global, _world: &World, _step: &Step) {}
 
     fn tell_opening(_alloc: Global, _world: &World, _out: &mut Vec<u8>) -> Result<(), AllocError> {
         Ok(())

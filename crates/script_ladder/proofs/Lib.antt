@@ -1,2 +1,1 @@
-mod Standing
 pub mod UnderWay

@@ -6,6 +6,7 @@ use Rattle.l2_units.specs.declared.unit.Unit.TheVariants.{Fisu, Lssu, Msu}
 use Rattle.l3_orders.specs.declared.order.Order.{Order}
 use Rattle.l3_orders.specs.declared.order.Order.TheVariants.{Coo, Coa, Cbd, Cba, Eco, Eca}
 use Rattle.l2_units.specs.declared.profile.Profile.{Profile}
+use Rattle.l2_units.specs.declared.profile.Profile.TheVariants.{Narrow, Wide}
 use Rattle.l2_units.specs.Profile.{fsn_count}
 use Rattle.l3_orders.specs.Grammar.{order_of}
 use Rattle.text_decode.specs.Decoding.{order_words}
@@ -58,6 +59,10 @@ fitted n text =
 -- octets are cut anywhere
 abbrev pub shortened : ℕ → List ℕ → List ℕ
 shortened n text = if nat_le (length text) n then text else take (n - 2) text ++ codes ".."
+
+-- a text without its last octet: a line end, or the space behind the last of a row of marks
+abbrev pub without_end : List ℕ → List ℕ
+without_end text = take (length text - 1) text
 
 -- what is shorter is filled up with spaces
 abbrev pub padded : ℕ → List ℕ → List ℕ
@@ -124,7 +129,7 @@ marks_below w zero = []
 marks_below w (suc link) = marks_below w link ++ marks_on w link
 
 unfoldable pub under_way : World → List ℕ
-under_way w = fitted 17 (marks_below w 16)
+under_way w = fitted 17 (without_end (marks_below w 16))
 
 -- AN ARROW at the side of an end: a unit goes out from there, arrives, is lost on its way there, or comes from nowhere.
 
@@ -173,6 +178,9 @@ number_words (Some number) = codes " #" ++ decimal number
 abbrev pub numbers_of : Header → List ℕ
 numbers_of head = codes " fsn=" ++ (decimal head.fsn ++ (codes " bsn=" ++ decimal head.bsn))
 
+abbrev pub fsn_of : Header → List ℕ
+fsn_of head = codes " fsn=" ++ decimal head.fsn
+
 -- the stream of a message is its SLS, where the label is whole (Q.704 14.2)
 abbrev pub stream_words : Option ℕ → List ℕ
 stream_words None = []
@@ -190,15 +198,26 @@ message_name body = or_msu (isup_name body)
 abbrev pub numbered_order : Option ℕ → List ℕ → List ℕ
 numbered_order number words = take 3 words ++ (number_words number ++ drop 3 words)
 
-abbrev pub message_words : Option ℕ → Header → Option Order → List ℕ → List ℕ
-message_words number head (Some order) body = numbered_order number (order_words order)
-message_words number head None body =
-    message_name body ++ (number_words number ++ (numbers_of head ++ stream_words (slice_get body 4)))
+-- a users' message: its name, its number, these numbers of its header, and its stream
+abbrev pub users_words : Option ℕ → List ℕ → List ℕ → List ℕ
+users_words number header body =
+    message_name body ++ (number_words number ++ (header ++ stream_words (slice_get body 4)))
+
+-- In the wide profile the second stands where the first doesn't fit into the columns of an end's words.
+abbrev pub in_columns : Profile → List ℕ → List ℕ → List ℕ
+in_columns Narrow whole short = whole
+in_columns Wide whole short = if nat_le (length whole) 30 then whole else short
+
+-- numbers of 12 bits are long: there the BSN is left out, so that the stream is seen
+abbrev pub message_words : Profile → Option ℕ → Header → Option Order → List ℕ → List ℕ
+message_words p number head (Some order) body = numbered_order number (order_words order)
+message_words p number head None body =
+    in_columns p (users_words number (numbers_of head) body) (users_words number (fsn_of head) body)
 
 abbrev pub unit_words : Profile → Option ℕ → SignalUnit → List ℕ
 unit_words p number (Fisu head) = codes "FISU" ++ numbers_of head
 unit_words p number (Lssu head status) = codes "LSSU" ++ numbers_of head
-unit_words p number (Msu head body) = message_words number head (order_of p body.items) body.items
+unit_words p number (Msu head body) = message_words p number head (order_of p body.items) body.items
 
 -- a unit that this set sent on the link
 abbrev pub sent_words : Profile → State → ℕ → SignalUnit → List ℕ
@@ -218,10 +237,6 @@ words_of p s link None = []
 words_of p s link (Some unit) = sent_words p s link unit
 
 -- WHAT A STEP SHOWED
-
--- the answer as `play` prints it, without its line end
-abbrev pub without_end : List ℕ → List ℕ
-without_end text = take (length text - 1) text
 
 -- what users take has its name first
 abbrev pub spaced : List ℕ → List ℕ

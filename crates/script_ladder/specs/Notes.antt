@@ -1,5 +1,6 @@
 -- What is kept of the world before a step.
-use Rattle.std.specs.Prelude.{◌≡◌}
+use Rattle.std.specs.Prelude.{◌≡◌, IfOk, Result}
+use Rattle.std.specs.declared.alloc.AllocError.{AllocError}
 use Rattle.pair_steps.specs.declared.step.Step.{Step}
 use Rattle.pair_model.specs.World.{World}
 use Rattle.script_ladder.specs.declared.steps.Before.{Before}
@@ -11,3 +12,7 @@ kept note = record { unit = note.unit; link = note.link; stood = note.stood.item
 
 abbrev pub IsBefore : World → Step → Before → Type 0
 IsBefore before step note = kept note ≡ past_of before step
+
+-- if memory wasn't refused
+abbrev pub IsNote : World → Step → Result Before AllocError → Type 0
+IsNote before step note = IfOk note (IsBefore before step)

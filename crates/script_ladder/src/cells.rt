@@ -6,7 +6,7 @@ ghost use Rattle.script_ladder.specs.Ladder.{plain, report_in, spaced, taken_wor
 ghost use Rattle.script_ladder.specs.Names.{isup_name};
 ghost use Rattle.script_answers.specs.Texts.{shown_text};
 
-use super::fitting::shorten;
+use super::fitting::{cut_end, shorten};
 use super::isup::isup_name;
 use super::rows::CELL;
 use super::units::{message_name, write_number};
@@ -61,13 +61,6 @@ fn write_spaced(alloc: Global, word: &str) -> Result<Vec<u8>, AllocError>
         return Ok(Vec::new(alloc));
     }
     write_both(Vec::from_slice(alloc, word.as_bytes())?, b" ")
-}
-
-/// Takes away the last octet, if there is one.
-fn cut_end(text: &mut Vec<u8>)
-    ensures { text.new.items ≡ without_end text.old.items }
-{
-    text.truncate(text.len().saturating_sub(1));
 }
 
 /// Whether it was answered that it's done.

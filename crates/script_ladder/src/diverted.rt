@@ -1,90 +1,34 @@
 //! The messages that are diverted where a link settles.
-ghost use Rattle.std.specs.Prelude.{◌≡◌, ◌≤◌, ◌+◌, ◌++◌, [], if◌then◌else◌, nat_lt, IfOk, length};
-ghost use Rattle.script_ladder.specs.Diverted.{diverted, first_standing, one_at, stood, stood_on, waits_now};
+ghost use Rattle.std.specs.Prelude.{◌≡◌, IfOk};
+ghost use Rattle.script_ladder.specs.Diverted.{diverted, stood, waits_now};
 ghost use Rattle.script_ladder.specs.Ladder.{diverted_rows, diverted_words, numbers_words, rows_of_diverted, target_words};
-ghost use Rattle.set_model.specs.Rows.{same_fate};
 
 use super::fitting::fit;
 use super::rows::write_further;
 use super::units::write_number;
-use arrayvec::ArrayVec;
 use pair_world::{End, World};
 use set_core::SetCore;
 use set_events::Fate;
 use std::alloc::{AllocError, Global};
 use text_decode::write_both;
 
-/// The most messages that can be unacknowledged on a link (Q.703 5.2.2).
-const MOST_SENT: usize = 127;
-
-/// As many of those that wait, and of those that are held, as are looked at: six fill a row.
-const MOST_UNSENT: usize = 9;
-
-/// How many numbers are kept: as many as those are together.
-pub(crate) const KEPT: usize = 145;
-
 /// The columns of the numbers, before the words that tell where the messages wait.
 const NUMBERS: usize = 19;
 
-/// The numbers of the messages that stand on the link, if there is one to be told of.
-pub(crate) fn find_stood(set: &SetCore, link: Option<u8>) -> ArrayVec<u64, KEPT>
-    ensures { result.items ≡ stood link set.now.state }
+/// The numbers of all messages that stand on the link, if there is one to be told of.
+pub(crate) fn find_stood(
+    alloc: Global,
+    set: &SetCore,
+    link: Option<u8>,
+) -> Result<Vec<u64>, AllocError>
+    ensures { IfOk result (λ numbers. numbers.items ≡ stood link set.now.state) }
 {
-    let mut numbers = ArrayVec::new();
-    if let Some(link) = link {
-        push_standing(set, Fate::Unacked { link }, MOST_SENT, &mut numbers);
-        push_standing(set, Fate::Waiting { link }, MOST_UNSENT, &mut numbers);
-        push_standing(set, Fate::Held { link }, MOST_UNSENT, &mut numbers);
-    }
-    numbers
-}
-
-/// Puts behind the others the numbers of so many messages that have this fate, from the lowest.
-fn push_standing(set: &SetCore, fate: Fate, most: usize, numbers: &mut ArrayVec<u64, KEPT>)
-    requires { length numbers.old.items + most ≤ 145 }
-    ensures { numbers.new.items ≡ numbers.old.items ++ first_standing most fate set.now.state }
-{
-    let full = numbers.len() + most;
-    for number in 0..set.numbers_given() {
-        push_at(numbers, full, fate, number, set.place_of(number));
-    }
-}
-
-/// Puts the number of a message that stands there behind the others, if it has this fate and there is room.
-fn push_at(
-    numbers: &mut ArrayVec<u64, KEPT>,
-    full: usize,
-    fate: Fate,
-    number: u64,
-    stands: Option<Fate>,
-)
-    requires { full ≤ 145 }
-    ensures { numbers.new.items ≡ (if nat_lt (length numbers.old.items) full
-        then numbers.old.items ++ one_at fate number stands else numbers.old.items) }
-{
-    if numbers.len() >= full {
-        return;
-    }
-    match stands {
-        Some(stands) if is_same(stands, fate) => numbers.push(number),
-        _ => {}
-    }
-}
-
-/// Whether both are the same fate.
-fn is_same(stands: Fate, fate: Fate) -> bool
-    ensures { result ≡ same_fate stands fate }
-{
-    match (stands, fate) {
-        (Fate::Waiting { link: a }, Fate::Waiting { link: b }) => a == b,
-        (Fate::Unacked { link: a }, Fate::Unacked { link: b }) => a == b,
-        (Fate::Acked { link: a }, Fate::Acked { link: b }) => a == b,
-        (Fate::Held { link: a }, Fate::Held { link: b }) => a == b,
-        (Fate::Parked, Fate::Parked) => true,
-        (Fate::Back { code: a }, Fate::Back { code: b }) => a == b,
-        (Fate::Discarded { cause: a }, Fate::Discarded { cause: b }) => a.number() == b.number(),
-        _ => false,
-    }
+    let mut numbers = Vec::new(alloc);
+    let Some(link) = link else {
+        return Ok(numbers);
+    };
+    set.push_numbers_on(link, &mut numbers)?;
+    Ok(numbers)
 }
 
 /// The row of what is diverted from a link that has settled at the end now.

@@ -1,6 +1,6 @@
 //! What doesn't fit into its columns ends with two dots.
 ghost use Rattle.std.specs.Prelude.{◌≡◌, ◌++◌, ◌-◌, IfOk, take};
-ghost use Rattle.script_ladder.specs.Ladder.{fitted, shortened, whole_words};
+ghost use Rattle.script_ladder.specs.Ladder.{fitted, shortened, whole_words, without_end};
 
 use std::alloc::{AllocError, Global};
 
@@ -29,6 +29,13 @@ pub(crate) fn shorten(text: Vec<u8>, columns: usize) -> Result<Vec<u8>, AllocErr
         short.extend_from_slice(MORE)?;
     }
     Ok(short)
+}
+
+/// Takes away the last octet, if there is one.
+pub(crate) fn cut_end(text: &mut Vec<u8>)
+    ensures { text.new.items ≡ without_end text.old.items }
+{
+    text.truncate(text.len().saturating_sub(1));
 }
 
 /// The first octets of a text.

@@ -5,15 +5,14 @@ ghost use Rattle.pair_model.specs.World.{World as ModelWorld, other};
 ghost use Rattle.script_ladder.specs.Ladder.{IsLadder, affected, arrived_row, change_rows, effect_rows, end_of, far_words, first_row};
 ghost use Rattle.script_ladder.specs.Ladder.{forged_row, given_up, heading, link_at_stake, link_words, named_link, past_of, report_in, row_text};
 ghost use Rattle.script_ladder.specs.Ladder.{rows_with, sent_row, sent_in, step_rows, unit_words, unsettled};
-ghost use Rattle.script_ladder.specs.Notes.{IsBefore, kept};
+ghost use Rattle.script_ladder.specs.Notes.{IsBefore, IsNote, kept};
 
 use super::cells::{find_report, write_event, write_link, write_plain};
-use super::diverted::{KEPT, find_stood, write_diverted};
+use super::diverted::{find_stood, write_diverted};
 use super::effects::{find_changed_link, write_changes, write_heard};
 use super::rows::{draw_arriving, draw_forged, draw_going, draw_losing, write_row, write_row_at};
 use super::under_way::write_under_way;
 use super::units::{find_carried, write_any, write_sent_unit, write_unit};
-use arrayvec::ArrayVec;
 use l2_units::{Profile, Unit, UnitRef, copy_of_unit};
 use pair_steps::{Showing, ShownRef, Step};
 use pair_world::{End, Line, World};
@@ -34,8 +33,8 @@ pub(crate) struct Before {
     unit: Option<Unit>,
     /// The link that the step could settle at its end.
     link: Option<u8>,
-    /// The messages that stand on that link.
-    stood: ArrayVec<u64, KEPT>,
+    /// All messages that stand on that link.
+    stood: Vec<u64>,
     /// How the messages of end a stood.
     a: Counts,
     /// How those of end b stood.
@@ -43,26 +42,18 @@ pub(crate) struct Before {
 }
 
 impl Account for Chart {
-    type Note = Before;
+    /// Memory may have been refused for it.
+    type Note = Result<Before, AllocError>;
 
     ghost use Rattle.script_ladder.specs.Ladder.{ladder_told};
-    ghost use Rattle.script_ladder.specs.Notes.{IsBefore};
+    ghost use Rattle.script_ladder.specs.Notes.{IsNote};
 
     ghost told = { ladder_told };
 
-    ghost is_note = { IsBefore };
+    ghost is_note = { IsNote };
 
-    fn note(world: &World, step: &Step) -> Before {
-        let unit = find_affected(world, step);
-        let set = world.core(find_end(step));
-        let link = find_unsettled(set, find_named(world_profile(world), step, &unit));
-        Before {
-            unit,
-            link,
-            stood: find_stood(set, link),
-            a: world.counts(End::A),
-            b: world.counts(End::B),
-        }
+    fn note(alloc: Global, world: &World, step: &Step) -> Result<Before, AllocError> {
+        keep_before(alloc, world, step)
     }
 
     fn tell_opening(alloc: Global, _world: &World, out: &mut Vec<u8>) -> Result<(), AllocError> {
@@ -72,13 +63,14 @@ impl Account for Chart {
     fn tell_step(
         alloc: Global,
         number: u64,
-        note: Before,
+        note: Result<Before, AllocError>,
         step: &Step,
         shown: &Showing,
         world: &World,
         out: &mut Vec<u8>,
     ) -> Result<(), AllocError> {
-        out.extend_from_slice(&write_step(alloc, number, &note, step, shown, world)?)
+        let before = note?;
+        out.extend_from_slice(&write_step(alloc, number, &before, step, shown, world)?)
     }
 
     fn tell_end(
@@ -107,6 +99,22 @@ pub fn ladder<S: Source, W: Sink>(
         (W.failures sink.old) (W.failures sink.new)) }
 {
     tell_script::<Chart, S, W>(alloc, source, sink)
+}
+
+/// What the rows of a step want of the world before it.
+fn keep_before(alloc: Global, world: &World, step: &Step) -> Result<Before, AllocError>
+    ensures { IsNote world.now step.now result }
+{
+    let unit = find_affected(world, step);
+    let set = world.core(find_end(step));
+    let link = find_unsettled(set, find_named(world_profile(world), step, &unit));
+    Ok(Before {
+        unit,
+        link,
+        stood: find_stood(alloc, set, link)?,
+        a: world.counts(End::A),
+        b: world.counts(End::B),
+    })
 }
 
 /// The names of the columns.

@@ -3,7 +3,7 @@ ghost use Rattle.std.specs.Prelude.{◌≡◌, IfOk, take};
 ghost use Rattle.l2_units.specs.Lent.{unit_in};
 ghost use Rattle.script_ladder.specs.Ladder.{marks, marks_below, marks_on, mark, under_way};
 
-use super::fitting::fit;
+use super::fitting::{cut_end, fit};
 use super::rows::UNDER_WAY;
 use l2_units::UnitRef;
 use pair_world::{End, Line, World};
@@ -17,7 +17,9 @@ const MOST: u64 = 5;
 pub(crate) fn write_under_way(alloc: Global, world: &World) -> Result<Vec<u8>, AllocError>
     ensures { IfOk result (λ text. text.items ≡ under_way world.now) }
 {
-    fit(alloc, &write_all(alloc, world)?, UNDER_WAY)
+    let mut marks = write_all(alloc, world)?;
+    cut_end(&mut marks);
+    fit(alloc, &marks, UNDER_WAY)
 }
 
 /// What is under way on all links.

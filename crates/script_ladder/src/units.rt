@@ -3,11 +3,13 @@ ghost use Rattle.std.specs.Prelude.{◌≡◌, ◌++◌, IfOk, drop, slice_get};
 ghost use Rattle.text_decode.specs.Decoding.{order_words};
 ghost use Rattle.l2_units.specs.Lent.{unit_in};
 ghost use Rattle.l3_orders.specs.Grammar.{order_of};
-ghost use Rattle.script_ladder.specs.Ladder.{message_name, message_words, number_on, number_words, numbered_order, numbers_of, or_msu};
-ghost use Rattle.script_ladder.specs.Ladder.{order_in, sent_words, stream_words, unit_number, unit_words, words_of};
+ghost use Rattle.script_ladder.specs.Ladder.{fsn_of, in_columns, message_name, message_words, number_on, number_words};
+ghost use Rattle.script_ladder.specs.Ladder.{numbered_order, numbers_of, or_msu, order_in, sent_words, stream_words};
+ghost use Rattle.script_ladder.specs.Ladder.{unit_number, unit_words, users_words, words_of};
 
 use super::fitting::front_of;
 use super::isup::isup_name;
+use super::rows::CELL;
 use l2_units::{Header, Profile, Unit, UnitRef};
 use l3_orders::Order;
 use set_core::SetCore;
@@ -116,11 +118,11 @@ fn write_message(
     body: &[u8],
 ) -> Result<Vec<u8>, AllocError>
     ensures { IfOk result (λ words. words.items
-        ≡ message_words number head (order_of profile body.now) body.now) }
+        ≡ message_words profile number head (order_of profile body.now) body.now) }
 {
     match find_order(profile, body) {
         Some(order) => write_order(alloc, number, order),
-        None => write_users(alloc, number, head, body),
+        None => write_users(alloc, profile, number, head, body),
     }
 }
 
@@ -141,19 +143,39 @@ fn back_of(text: &[u8], columns: usize) -> &[u8]
     &text[columns.min(text.len())..]
 }
 
-/// The words of a users' message.
+/// The words of a users' message. Where they don't fit into an end's columns in the wide profile, the BSN is left out, so
+/// that the stream is seen.
 fn write_users(
     alloc: Global,
+    profile: Profile,
     number: Option<u64>,
     head: Header,
     body: &[u8],
 ) -> Result<Vec<u8>, AllocError>
-    ensures { IfOk result (λ words. words.items ≡ message_name body.now
-        ++ (number_words number ++ (numbers_of head ++ stream_words (slice_get body.now 4)))) }
+    ensures { IfOk result (λ words. words.items ≡ in_columns profile
+        (users_words number (numbers_of head) body.now) (users_words number (fsn_of head) body.now)) }
+{
+    let whole = write_fields(alloc, number, write_head(alloc, head)?, body)?;
+    match profile {
+        Profile::Wide if whole.len() > CELL => {
+            write_fields(alloc, number, write_fsn(alloc, head)?, body)
+        }
+        _ => Ok(whole),
+    }
+}
+
+/// The name of a users' message, its number, these numbers of its header, and its stream.
+fn write_fields(
+    alloc: Global,
+    number: Option<u64>,
+    header: Vec<u8>,
+    body: &[u8],
+) -> Result<Vec<u8>, AllocError>
+    ensures { IfOk result (λ words. words.items ≡ users_words number header.items body.now) }
 {
     let rest = write_both(
         write_number(alloc, number)?,
-        &write_fields(alloc, head, body)?,
+        &write_behind(alloc, header, body)?,
     )?;
     write_both(
         Vec::from_slice(alloc, message_name(body).as_bytes())?,
@@ -161,13 +183,20 @@ fn write_users(
     )
 }
 
-/// The FSN and the BSN of a users' message, and its stream.
-fn write_fields(alloc: Global, head: Header, body: &[u8]) -> Result<Vec<u8>, AllocError>
-    ensures { IfOk result (λ words. words.items
-        ≡ numbers_of head ++ stream_words (slice_get body.now 4)) }
+/// These numbers of a message's header, and its stream.
+fn write_behind(alloc: Global, header: Vec<u8>, body: &[u8]) -> Result<Vec<u8>, AllocError>
+    ensures { IfOk result (λ words. words.items ≡ header.items ++ stream_words (slice_get body.now 4)) }
 {
     let stream = write_stream(alloc, body.get(4).copied())?;
-    write_both(write_head(alloc, head)?, &stream)
+    write_both(header, &stream)
+}
+
+/// The FSN of a unit.
+fn write_fsn(alloc: Global, head: Header) -> Result<Vec<u8>, AllocError>
+    ensures { IfOk result (λ words. words.items ≡ fsn_of head) }
+{
+    let fsn = head.fsn;
+    Ok(format!(in alloc; " fsn={fsn}")?.into_bytes())
 }
 
 /// The name of a message: that of the ISDN user part, or MSU.

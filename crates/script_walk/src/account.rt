@@ -19,8 +19,9 @@ pub trait Account {
     /// Which note is that of a world before a step.
     ghost is_note: { ModelWorld → Step → Self.Note → Type 0 };
 
-    /// Keeps what is needed of the world before a step.
-    fn note(world: &World, step: &Step) -> Self::Note
+    /// Keeps what is needed of the world before a step. Whether memory is wanted for that, the note tells when the step is
+    /// told.
+    fn note(alloc: Global, world: &World, step: &Step) -> Self::Note
         ensures { is_note world.now step.now result };
 
     /// Tells of the world that the first line makes.

@@ -213,7 +213,7 @@ fn do_step<A: Account>(
         out.old.items out.new.items (Some world.new) }
     ensures memory { result ≡ Err Memory → CanBeDone (carried_out world.old step.now) }
 {
-    let note = A::note(world, step);
+    let note = A::note(alloc, world, step);
     match world.carry_out(step, shown) {
         Ok(()) => Ok(A::tell_step(alloc, number, note, step, shown, world, out)?),
         Err(fault) => Err(stop_of(fault, number)),

@@ -4,15 +4,16 @@
 -- rows stand last with their own fates (`parted_at`). Each number stands in one row, so it went or stayed (`GoesTo`),
 -- and what stood somewhere has a message (`given_all`). The inductions are on the rows. States.antt alone uses it, and
 -- lets the queues follow.
-use Rattle.std.proofs.Common.{arith, refl, ap, sym, ◌∙◌, Option, ◌≡◌, ◌≤◌, ◌<◌, [], ◌∷◌, length, ℕ, zero, suc, Bool, true, false, List, ◌++◌, Some, None, take, drop, cond, not, filter, option_map}
+use Rattle.std.proofs.Common.{append_assoc, slice_get, arith, refl, ap, sym, ◌∙◌, Option, ◌≡◌, ◌≤◌, ◌<◌, [], ◌∷◌, length, ℕ, zero, suc, Bool, true, false, List, ◌++◌, Some, None, take, drop, cond, not, ◌&&◌, ◌==◌, filter, option_map}
 use Rattle.std.specs.List.{drop-map}
 use Rattle.std.proofs.lemmas.Bool.Decides.{nat_tests}
-use Rattle.std.proofs.lemmas.List.{map-append, append-nil}
+use Rattle.std.proofs.lemmas.Bool.{eq-eqb}
+use Rattle.std.proofs.lemmas.List.{map-append, append-nil, length-append}
 use Rattle.set_queues.specs.Buffers.{is_standing, same_fate}
-use Rattle.set_model.specs.Rows.{Fate, Row, standing, numbers, turned, moved, all_with, appended, IsNumbered, AreBefore, row_of, place, body_at}
+use Rattle.set_model.specs.Rows.{Fate, Row, standing, numbers, users, is_users, turned, orders_changed, moved, all_with, appended, IsNumbered, AreBefore, Each, row_of, place, body_at}
 use Rattle.set_model.specs.Laws.{SameMessages}
 use Rattle.set_model.proofs.Events.{numbers_joined, appended_in, appended_out}
-use Rattle.set_model.proofs.Rows.{turned_same, turned_left, moved_same, moved_gone, moved_joined, fewer_filter, filter_within, filter_apart, with_number, at_most_one, row_is_first, place_moved, not_found}
+use Rattle.set_model.proofs.Rows.{orders_there, same_numbers, turned_same, turned_left, moved_same, moved_gone, moved_joined, fewer_filter, filter_within, filter_apart, with_number, at_most_one, row_is_first, place_moved, not_found}
 use Rattle.set_model.proofs.Staying.{messages_stay}
 use Rattle.std.specs.Prelude.{IsSome}
 use Rattle.set_queues.specs.Slots.{slot_at}
@@ -25,6 +26,14 @@ use Rattle.set_queues.proofs.Standing.{same_is, same_self, occurs-split}
 occurs_picked : (p : Row → Bool) (n : ℕ) (rows : List Row) → occurs n (numbers (filter p rows)) ≡ length (filter p (with_number n rows))
 occurs_picked p n [] = refl
 occurs_picked p n (x ∷ rows) = grind (arith, occurs_picked p n rows)
+
+-- the orders among rows
+abbrev pub orders : List Row → List Row
+orders rows = filter (λ row. not (is_users row)) rows
+
+filter_both : (p q : Row → Bool) (rows : List Row) → filter q (filter p rows) ≡ filter (λ row. p row && q row) rows
+filter_both p q [] = refl
+filter_both p q (x ∷ rows) = grind (arith, filter_both p q rows)
 
 -- WHERE A NUMBER STANDS when those of a list have come to stand elsewhere
 pub record GoesTo (ns : List ℕ) (to : Fate) (n : ℕ) (rows new : List Row) : Type 0 where
@@ -43,6 +52,16 @@ module _ (test : Fate → Bool) (to : Fate) where
   told n rows new [] is one e = grind (arith, occurs_picked (λ (row : Row). test row.fate) n rows, row_is_first n rows)
   told n rows new (x ∷ here) is one e = grind (arith, occurs_picked (λ (row : Row). test row.fate) n rows, row_is_first n rows, fewer_filter (λ (row : Row). test row.fate) here)
 
+  -- the orders among them
+  goes_orders : (n : ℕ) (rows : List Row) → length (with_number n rows) ≤ 1 → GoesTo (numbers (orders (standing test rows))) to n rows (orders_changed test to rows)
+  goes_orders n [] one = record { stays = λ e. refl; goes = λ e. absurd (omega (arith, e)) }
+  goes_orders n (x ∷ rows) one =
+      let few = fewer_filter (λ (row : Row). test row.fate) (with_number n rows) in
+      let picked = occurs_picked (λ (row : Row). test row.fate && not (is_users row)) n rows in
+      let both = filter_both (λ (row : Row). test row.fate) (λ (row : Row). not (is_users row)) rows in
+      let less = fewer_filter (λ (row : Row). test row.fate && not (is_users row)) (with_number n rows) in
+      grind (arith, nat_tests, goes_orders n rows, picked, both, less, few)
+
 -- WHAT STANDS SOMEWHERE has a message.
 pub none_at : (given n : ℕ) (rows : List Row) → IsNumbered given rows → given ≤ n → row_of n rows ≡ None
 none_at given n rows numbered far = not_found given n rows numbered far
@@ -54,6 +73,35 @@ given_one (Some m) (Some row) to there label = refl
 
 pub given_all : (ns : List ℕ) (to : Fate) (ms : List (Option Message)) (rows new : List Row) → ((n : ℕ) → option_map label_in (slot_at n ms) ≡ option_map label_of (body_at n rows)) → ((n : ℕ) → body_at n new ≡ body_at n rows) → ((n : ℕ) → GoesTo ns to n rows new) → AreGiven ns ms
 given_all ns to ms rows new labels bodies goes n h = given_one (slot_at n ms) (row_of n new) to ((goes n).goes h) (labels n ∙ ap (option_map label_of) (sym (bodies n)))
+
+-- Each row is found under its number, and so are those that a test picks.
+first_here : (xs ys : List Row) (x : Row) → length (xs ++ x ∷ ys) ≤ 1 → slice_get (xs ++ x ∷ ys) 0 ≡ Some x
+first_here [] ys x one = refl
+first_here (y ∷ xs) ys x one = absurd (omega (arith, one, length-append xs (x ∷ ys)))
+
+found_here : (before rest : List Row) (x : Row) → length (with_number x.number (before ++ x ∷ rest)) ≤ 1 → row_of x.number (before ++ x ∷ rest) ≡ Some x
+found_here before rest x one =
+    let parts : with_number x.number (before ++ x ∷ rest) ≡ with_number x.number before ++ x ∷ with_number x.number rest =
+    filter-append (λ (row : Row). row.number == x.number) before (x ∷ rest) ∙ rw (eq-eqb x.number x.number refl) refl in
+    row_is_first x.number (before ++ x ∷ rest) ∙ rw parts (first_here (with_number x.number before) (with_number x.number rest) x (rw parts at one))
+
+found_behind : (test : Fate → Bool) (before rest : List Row) → ((n : ℕ) → length (with_number n (before ++ rest)) ≤ 1)
+    → Each (λ row. row_of row.number (before ++ rest) ≡ Some row) (standing test rest)
+found_behind test before [] one = tt
+found_behind test before (x ∷ rest) one =
+    let same : (before ++ x ∷ []) ++ rest ≡ before ++ x ∷ rest = append_assoc before (x ∷ []) rest in
+    let more = rw same at (found_behind test (before ++ x ∷ []) rest (rw same one)) in
+    let own = found_here before rest x (one x.number) in
+    go (test x.fate) refl own more
+  where
+    go : (b : Bool) → test x.fate ≡ b → row_of x.number (before ++ x ∷ rest) ≡ Some x
+        → Each (λ row. row_of row.number (before ++ x ∷ rest) ≡ Some row) (standing test rest)
+        → Each (λ row. row_of row.number (before ++ x ∷ rest) ≡ Some row) (standing test (x ∷ rest))
+    go true e own more = rw e (own, more)
+    go false e own more = rw e more
+
+pub all_found : (test : Fate → Bool) (given : ℕ) (rows : List Row) → IsNumbered given rows → Each (λ row. row_of row.number rows ≡ Some row) (standing test rows)
+all_found test given rows numbered = found_behind test [] rows (λ n. at_most_one given n rows numbered)
 
 -- A NEW MESSAGE stands last in the place of its fate.
 pub appended_at : (number : ℕ) (rows : List Row) (body : List ℕ) (fate f : Fate) → is_standing f ≡ true → numbers (rows_at f (appended number rows body fate)) ≡ cond (same_fate fate f) (numbers (rows_at f rows) ++ number ∷ []) (numbers (rows_at f rows))
@@ -87,6 +135,28 @@ turned_shifts given from to stood off n rows numbered order = record {
   messages = (messages_stay (is_there from) to (all_with to) given rows numbered).turned_stay n;
   goes = λ k. goes_first (is_there from) to k n rows (at_most_one given k rows numbered);
 }
+
+-- the orders of one place, to a final fate: the users' messages stay there
+orders_left : (test : Fate → Bool) (to : Fate) → test to ≡ false → (rows : List Row) → standing test (orders_changed test to rows) ≡ users (standing test rows)
+orders_left test to off [] = refl
+orders_left test to off (x ∷ rows) = grind (arith, orders_left test to off rows)
+
+pub orders_shift : (given : ℕ) (from to : Fate) → is_standing from ≡ true → is_standing to ≡ false → is_there from to ≡ false → (rows : List Row) → IsNumbered given rows → Shifts given (is_there from) to (numbers (orders (rows_at from rows))) (numbers (users (rows_at from rows))) rows (orders_changed (is_there from) to rows)
+orders_shift given from to stood final off rows numbered =
+    let place = orders_there (is_there from) to rows in
+    record {
+      places = λ f s.
+          let left = orders_left (is_there from) to off rows in
+          let away : same_fate to f ≡ false = grind (arith, same_is) in
+          let same = λ (e : is_there from f ≡ false). place.same (is_there f) away (elsewhere (is_there from) f s e) in
+          grind (arith, left, same, same_is f from stood);
+      messages = record {
+        count = place.count;
+        bodies = place.bodies;
+        numbered = same_numbers given rows (orders_changed (is_there from) to rows) (λ number. place.as_many (λ row. row.number == number) (λ f x. refl)) numbered;
+      };
+      goes = λ k. goes_orders (is_there from) to k rows (at_most_one given k rows numbered);
+    }
 
 -- all of one or more places, behind those that stand there
 pub moved_shifts : (given : ℕ) (test : Fate → Bool) (to : Fate) (rows : List Row) → IsNumbered given rows → test to ≡ false → is_standing to ≡ true → Shifts given test to (numbers (standing test rows)) [] rows (moved test (all_with to) rows)

@@ -4,7 +4,7 @@
 -- Standing.antt), and the FSN last acknowledged on a link is its count, modulo the FSNs. As many messages reached the
 -- far end by the queues as by the rows (`reaches`). No induction is left here. Used by Turns.antt, and by the functions
 -- of src/settling.rt, src/changeback.rt and src/parts.rt, of set_traffic and set_step.
-use Rattle.std.proofs.Common.{refl, arith, ◌≡◌, ◌∙◌, ap, sym, ◌<◌, ◌≤◌, [], ◌∷◌, length, ℕ, ◌==◌, Bool, true, false, List, ◌++◌, Option, Some, take, drop, cond, ◌≢◌, ◌+◌, ◌%◌, slice_get, slice_set, option_map, not, map-id, nat_le}
+use Rattle.std.proofs.Common.{refl, arith, ◌≡◌, ◌∙◌, ap, sym, ◌<◌, ◌≤◌, [], ◌∷◌, length, ℕ, ◌==◌, Bool, true, false, List, ◌++◌, Option, Some, take, drop, cond, ◌≢◌, ◌+◌, ◌%◌, None, slice_get, slice_set, option_map, not, map-id, nat_le}
 use Rattle.std.proofs.lemmas.Bool.{cases_eq, cases_lt, ne_eqb, eq-eqb}
 use Rattle.std.proofs.lemmas.List.{length-append, map-append, length-map, take_all, drop_all}
 use Rattle.std.proofs.lemmas.List.Folds.{find-append}
@@ -12,25 +12,26 @@ use Rattle.std.proofs.lemmas.Bool.Decides.{nat_tests}
 use Rattle.l2_window.specs.Window.{fsn_before_first, fsn_count}
 use Rattle.l2_window.proofs.Numbers.{acked_is, from_zero}
 use Rattle.set_queues.specs.Buffers.{profile_at, Lists, is_standing, same_fate, queue_at, with_queue, IsKnown, LinkLists, last_at, with_last}
-use Rattle.set_queues.specs.Messages.{restood, fate_at}
+use Rattle.set_queues.specs.Messages.{restood, fate_at, is_order, is_order_at}
+use Rattle.set_queues.specs.Slots.{slot_at}
 use Rattle.set_queues.specs.Sending.{acknowledged as acked_lists, reach}
-use Rattle.set_queues.specs.Queues.{occurs, passed, passed_first}
+use Rattle.set_queues.specs.Queues.{occurs, passed, passed_first, orders_in, others_in}
 use Rattle.set_queues.specs.Settling.{on as on_lists, settled}
 use Rattle.set_queues.proofs.Standing.{slot_push, restood_at, length-updated, updated_same, updated_other, updated_there, same_is, length-restood, fate_stays, fate_moves, queue_set, links_stay}
 use Rattle.set_queues.proofs.Soundness.{both_replaced, passed_replaces, profile_last, profile_queue, queue_last, last_links, IsAside, settling}
-use Rattle.set_model.specs.Rows.{Fate, Waiting, Unacked, Acked, Held, Parked, Back, Discarded, DiscardCause, Emergency, Unreasonable, NoAnswer, Row, standing, is_waiting, is_unacked, is_on, is_parked, is_back, on, numbers, turned, changed, moved, all_with, appended, row_of, place, IsNumbered, IsInOrder, IsHeldLast, AreBefore}
+use Rattle.set_model.specs.Rows.{Fate, Waiting, Unacked, Acked, Held, Parked, Back, Discarded, DiscardCause, Emergency, Unreasonable, NoAnswer, Row, standing, is_waiting, is_unacked, is_on, is_parked, is_back, on, numbers, users, is_users, Each, turned, changed, orders_changed, moved, all_with, appended, row_of, place, IsNumbered, IsInOrder, IsHeldLast, AreBefore}
 use Rattle.set_model.specs.Changeover.{fate_on, reached_by, is_reasonable, judged, judged_link}
 use Rattle.set_model.specs.Laws.{SameMessages}
 use Rattle.set_model.proofs.Rows.{fewer_filter, place_moved, new_row, numbered_appended}
 use Rattle.set_model.proofs.Order.{on_in_order}
 use Rattle.set_model.proofs.Staying.{messages_stay}
-use Rattle.set_changeover.specs.Agreement.{Message, Stands, is_there, rows_at, label_of, kind_of, Kept, StandsFor}
-use Rattle.set_changeover.proofs.RowsAt.{given_all, none_at, Shifts, appended_at, parted, parted_at, turned_shifts, moved_shifts}
+use Rattle.set_changeover.specs.Agreement.{Message, Stands, is_there, rows_at, label_in, label_of, kind_of, Kept, StandsFor}
+use Rattle.set_changeover.proofs.RowsAt.{given_all, none_at, Shifts, appended_at, parted, parted_at, turned_shifts, moved_shifts, orders, orders_shift, all_found}
 use Rattle.set_route.specs.Routing.{Routing}
 use Rattle.set_model.specs.State.{LinkState, State, given}
 use Rattle.set_model.proofs.Lists.{at_set, length_set, within, present, get_set_same}
 use Rattle.set_changeover.specs.Parts.{Reached, Upto, Unknown, Unanswered}
-use Rattle.set_model.proofs.Events.{acknowledged as acked_rows, given_up}
+use Rattle.set_model.proofs.Events.{acknowledged as acked_rows, given_up, orders_given_up}
 
 -- THE QUEUES STAND FOR THE ROWS, which are the same messages,
 pub record Moves (q : Lists) (ms : List (Option Message)) (rows new : List Row) : Type 0 where
@@ -138,6 +139,36 @@ given_up_for k s from cause f stood known =
     queues_for k s f _ _ _ (shifts_stand f.stands (turned_shifts (length k.messages) from (Discarded cause) stood (grind arith) (length s.rows) s.rows f.stands.numbered (λ e. absurd cc))
     (λ g t. queue_set from g [] k.lists stood known ∙ grind (arith, nat_tests, same_is, drop_all, long)) all) (length-restood (queue_at from k.lists) (Discarded cause) k.messages) (links_stay from [] k.lists) _ _ f.routing (λ m. last_stays from [] k.lists m) (λ m. profile_queue from [] m k.lists)
 
+-- THE ORDERS of a queue are given up. An order is known by its label.
+label_is : (slot : Option Message) (row : Row) → option_map label_in slot ≡ Some (label_of row.body) → is_order slot ≡ not (is_users row)
+label_is None row e = absurd cc
+label_is (Some m) row e = grind arith
+
+order_is : (k : Kept) (s : State) → StandsFor k s → (row : Row) → row_of row.number s.rows ≡ Some row → is_order_at k.messages row.number ≡ not (is_users row)
+order_is k s f row found = label_is (slot_at row.number k.messages) row (f.stands.labels row.number ∙ ap (λ (r : Option Row). option_map label_of (option_map (λ (x : Row). x.body) r)) found)
+
+-- each of these rows is found under its number
+abbrev AreFound : List Row → List Row → Type 0
+AreFound rows all = Each (λ row. row_of row.number all ≡ Some row) rows
+
+orders_numbered : (k : Kept) (s : State) → StandsFor k s → (rows : List Row) → AreFound rows s.rows
+    → (orders_in k.messages (numbers rows) ≡ numbers (orders rows)) × (others_in k.messages (numbers rows) ≡ numbers (users rows))
+orders_numbered k s f [] there = (refl, refl)
+orders_numbered k s f (x ∷ rows) there =
+    let own = order_is k s f x there.0 in
+    let more = orders_numbered k s f rows there.1 in
+    grind (arith, own, more)
+
+pub orders_given_up_for : (k : Kept) (s : State) (from : Fate) (cause : DiscardCause) → StandsFor k s → is_standing from ≡ true → IsKnown from k.lists
+    → StandsFor (record k { lists = with_queue from (others_in k.messages (queue_at from k.lists)) k.lists; messages = restood (orders_in k.messages (queue_at from k.lists)) (Discarded cause) k.messages }) (record s { rows = orders_changed (is_there from) (Discarded cause) s.rows })
+orders_given_up_for k s from cause f stood known =
+    let ns = f.stands.queues from stood in
+    let are = orders_numbered k s f (rows_at from s.rows) (all_found (is_there from) (length k.messages) s.rows f.stands.numbered) in
+    let gone : orders_in k.messages (queue_at from k.lists) ≡ numbers (orders (rows_at from s.rows)) = ap (orders_in k.messages) ns ∙ are.0 in
+    let left : others_in k.messages (queue_at from k.lists) ≡ numbers (users (rows_at from s.rows)) = ap (others_in k.messages) ns ∙ are.1 in
+    queues_for k s f _ _ _ (shifts_stand f.stands (orders_shift (length k.messages) from (Discarded cause) stood refl (grind arith) s.rows f.stands.numbered)
+    (λ g t. queue_set from g _ k.lists stood known ∙ grind (arith, nat_tests, same_is, left)) gone) (length-restood (orders_in k.messages (queue_at from k.lists)) (Discarded cause) k.messages) (links_stay from (others_in k.messages (queue_at from k.lists)) k.lists) _ _ f.routing (λ m. last_stays from (others_in k.messages (queue_at from k.lists)) k.lists m) (λ m. profile_queue from (others_in k.messages (queue_at from k.lists)) m k.lists)
+
 -- THE FIRST that waits is given up.
 pub withdrawn_for : (k : Kept) (s : State) (n : ℕ) (cause : DiscardCause) → StandsFor k s → n < length k.lists.links
     → StandsFor (record k { lists = with_queue (Waiting n) (drop 1 (queue_at (Waiting n) k.lists)) k.lists; messages = restood (take 1 (queue_at (Waiting n) k.lists)) (Discarded cause) k.messages }) (record s { rows = turned (is_waiting n) (Discarded cause) 1 s.rows })
@@ -205,7 +236,10 @@ module _ (n : ℕ) (link : LinkState) (s : State) (there : slice_get s.links n �
   both_up : (cause : DiscardCause) → IsOrdered n (changed (is_waiting n) (Discarded cause) (changed (is_unacked n) (Discarded cause) s.rows))
   both_up cause = let g = given_up n false cause (changed (is_unacked n) (Discarded cause) s.rows) in (g.order_kept (sent_up cause).0, g.last_kept (sent_up cause).1)
 
+  orders_up : (cause : DiscardCause) → IsOrdered n (orders_changed (is_waiting n) (Discarded cause) (changed (is_unacked n) (Discarded cause) s.rows))
+  orders_up cause = let g = orders_given_up n cause (changed (is_unacked n) (Discarded cause) s.rows) in (g.order_kept (sent_up cause).0, g.last_kept (sent_up cause).1)
+
   pub is_judged : (reached : Reached) → IsOrdered n (judged reached n link s).rows × (slice_get (judged reached n link s).links n ≡ Some (judged_link reached n link s.rows))
   is_judged Unknown = (sent_up Emergency, there)
-  is_judged Unanswered = (both_up NoAnswer, there)
+  is_judged Unanswered = (orders_up NoAnswer, there)
   is_judged (Upto fsn) = let g = acked_rows n (reached_by fsn n link s.rows) s.rows in let given_up = both_up Unreasonable in grind (arith, get_set_same, within, g.order_kept o.0, g.last_kept o.1)

@@ -110,7 +110,7 @@ pub fn obey<A: Allocator + Copy>(parts: &mut Parts<A>, order: Order) -> Took
 }
 
 /// A changeover order: a link that is up is left and answered for; a link that was left settles, with
-/// no answer (own); for one that settled already the answer of its last life goes out, once (own).
+/// no answer (own); for one that settled already the answer of its last life goes out, once, and the order counts (own).
 #[tactic(auto, using(crate::proofs::Links::whole_of, crate::proofs::Links::found))]
 fn change_over<A: Allocator + Copy>(parts: &mut Parts<A>, number: u8, reached: Reached) -> Took
     requires holds { Holds (kept_of parts.old) }
@@ -136,7 +136,7 @@ fn change_over<A: Allocator + Copy>(parts: &mut Parts<A>, number: u8, reached: R
         Some(Phase::Settled) => {
             let order = parts.links[usize::from(number)].reply(number);
             queue(parts, order);
-            parts.links[usize::from(number)].answered = true;
+            parts.links[usize::from(number)].answer_late();
         }
     }
     Took::Order

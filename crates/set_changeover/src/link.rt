@@ -1,7 +1,7 @@
 //! What a set keeps of one of its links beside the queues of its messages.
 ghost use Rattle.std.specs.Prelude.{◌≡◌, ◌<◌, ◌^◌};
 ghost use Rattle.l3_orders.specs.Grammar.{IsOrder};
-ghost use Rattle.set_model.specs.Changeover.{reply_of};
+ghost use Rattle.set_model.specs.Changeover.{answered_link, reply_of};
 ghost use Rattle.l2_window.specs.Window.{fsn_count};
 ghost use Rattle.set_model.specs.State.{LinkState, new_link, last_accepted};
 ghost use Rattle.set_model.specs.Step.{risen_link};
@@ -30,6 +30,8 @@ pub struct Link {
     pub accepted: u64,
     /// Its error control.
     pub control: Control,
+    /// How many changeover orders about it were heard while it was settled, in all its lives, modulo 2^32.
+    pub late: u32,
 }
 
 impl Model for Link {
@@ -43,6 +45,7 @@ impl Model for Link {
       acked = l.acked;
       accepted = l.accepted;
       control = l.control;
+      late = l.late;
     } };
 }
 
@@ -59,6 +62,7 @@ impl Link {
             acked: 0,
             accepted: 0,
             control: Control::new(method),
+            late: 0,
         }
     }
 
@@ -74,12 +78,13 @@ impl Link {
             acked: self.acked,
             accepted: self.accepted,
             control: self.control.copied(),
+            late: self.late,
         }
     }
 
     /// The link is in service from now on; its error control starts anew.
     pub fn rise(&mut self, profile: Profile, method: Method)
-        ensures { self.new ≡ risen_link profile method }
+        ensures { self.new ≡ risen_link profile method self.old.late }
     {
         self.phase = Phase::Up;
         self.profile = profile;
@@ -100,6 +105,14 @@ impl Link {
             Profile::Narrow => ((self.accepted + 127) % 128) as u16,
             Profile::Wide => ((self.accepted + 4095) % 4096) as u16,
         }
+    }
+
+    /// A late changeover order was answered: it counts.
+    pub(crate) fn answer_late(&mut self)
+        ensures { self.new ≡ answered_link self.old }
+    {
+        self.answered = true;
+        self.late = self.late.wrapping_add(1);
     }
 
     /// How a late changeover order is answered once the link settled (own): as its last life would have been, or, where

@@ -2,7 +2,7 @@
 ghost use Rattle.std.specs.Prelude.{◌≡◌, ◌<◌, ◌≤◌, ◌^◌, length, map, slice_get, Some};
 ghost use Rattle.set_queues.specs.Buffers.{KeepsRoom, profile_at, room_at};
 ghost use Rattle.set_queues.specs.Settling.{on};
-ghost use Rattle.set_model.specs.Changeover.{settled, judged, discarded, fate_on, is_told};
+ghost use Rattle.set_model.specs.Changeover.{settled, judged, discarded, unanswered, fate_on, is_told};
 ghost use Rattle.set_model.specs.State.{State, LinkState, target};
 ghost use Rattle.set_changeover.specs.Agreement.{StandsFor, Agrees};
 ghost use Rattle.set_changeover.specs.Parts.{Down, IsWhole, AreCounted, AtLink, IsOut, IsReach, Becomes, BecomesAt, kept_of};
@@ -70,7 +70,7 @@ fn judge<A: Allocator + Copy>(parts: &mut Parts<A>, number: u8, reached: Reached
         Reached::Unknown => parts
             .queues
             .discard(Fate::Unacked { link: number }, DiscardCause::Emergency),
-        Reached::Unanswered => discard(parts, number, DiscardCause::NoAnswer),
+        Reached::Unanswered => forsake(parts, number),
     }
 }
 
@@ -88,4 +88,23 @@ fn discard<A: Allocator + Copy>(parts: &mut Parts<A>, number: u8, cause: Discard
 {
     parts.queues.discard(Fate::Unacked { link: number }, cause);
     parts.queues.discard(Fate::Waiting { link: number }, cause);
+}
+
+/// No answer came: what was sent on the link is discarded, and so are the orders that wait for it; what users offered and
+/// was never sent stays (own).
+#[tactic(auto, using(set_queues::proofs::Standing::links))]
+fn forsake<A: Allocator + Copy>(parts: &mut Parts<A>, number: u8)
+    requires whole { IsWhole parts.old }
+    requires known { number < length parts.old.links.items }
+    ensures stands { Becomes parts.old parts.new (unanswered number) }
+    ensures fewer { length (on number parts.new.queues.lists) ≤ length
+        (on number parts.old.queues.lists) }
+    ensures rooms { KeepsRoom parts.old.queues.rooms parts.new.queues.rooms }
+    ensures links { parts.new.links ≡ parts.old.links }
+    ensures whole { IsWhole parts.new }
+{
+    parts
+        .queues
+        .discard(Fate::Unacked { link: number }, DiscardCause::NoAnswer);
+    parts.queues.discard_orders(number, DiscardCause::NoAnswer);
 }

@@ -351,13 +351,13 @@ module _ (base : Base) (kept : Kept) (tally : Tally) (history : List Entry) (k :
     pub kept_on : (begun : Base) (since : List Entry) → begun ≡ (based now).base → since ≡ [] → IsKept begun new tally since
     kept_on begun since b e = subst (λ (entries : List Entry). IsKept begun new tally entries) (sym e) (subst (λ (b : Base). IsKept b new tally []) (sym b) kept_based)
 
-    -- it's shown by a copy of what is kept, and by the order of its rows
-    module _ (again : Kept) (copied : again ≡ new) (order : List ℕ) (rows : order ≡ numbers (checkpointed now.state).rows) where
-      pub shown_based : base_of order again tally ≡ (based now).base
-      shown_based = ap (λ (kept : Kept). base_of order kept tally) copied ∙ ap (λ (ns : List ℕ). base_of ns new tally) rows ∙ based_is
+    -- it's shown by what is kept, and by the order of its rows
+    module _ (order : List ℕ) (rows : order ≡ numbers (checkpointed now.state).rows) where
+      pub shown_based : base_of order new tally ≡ (based now).base
+      shown_based = ap (λ (ns : List ℕ). base_of ns new tally) rows ∙ based_is
 
-      pub kept_by : IsKept (base_of order again tally) again tally []
-      kept_by = subst (λ (b : Base). IsKept b again tally []) (sym shown_based) (subst (λ (kept : Kept). IsKept (based now).base kept tally []) (sym copied) kept_based)
+      pub kept_by : IsKept (base_of order new tally) new tally []
+      kept_by = subst (λ (b : Base). IsKept b new tally []) (sym shown_based) kept_based
 
 -- A REPLAY. So many entries were replayed, and the rest is left: what is kept agrees with the state after them, and the
 -- rest decides from there.

@@ -9,7 +9,7 @@ use boxcar::tag::{Names, Tag};
 use set_events::{Actor, Answer, Books, Counts, Event, EventRef, Fate, Reply, SetConfig};
 use set_history::{History, Reader};
 use set_step::{Core, Numbered, SetFault};
-use std::alloc::{Allocator, Global};
+use std::alloc::{AllocError, Allocator, Global};
 use std::marker::Model;
 
 /// One set of links. Contracts see its base, which is the opening or its last checkpoint, what it holds, and its
@@ -17,7 +17,7 @@ use std::marker::Model;
 ///
 /// Readers: [`SetCore::base`], [`SetCore::place_of`], [`SetCore::counts`], [`SetCore::books`],
 /// [`SetCore::acknowledged`], [`SetCore::entries`], [`SetCore::history`], [`SetCore::config`], [`SetCore::links`],
-/// [`SetCore::is_up`], [`SetCore::is_settled`], [`SetCore::unacked_at`].
+/// [`SetCore::is_up`], [`SetCore::is_settled`], [`SetCore::late`], [`SetCore::unacked_at`], [`SetCore::push_numbers_on`].
 /// The one input: [`SetCore::apply`], or [`SetCore::apply_into`], which leaves a body where it stands and puts the answer into a
 /// place that the caller lends. [`SetCore::checkpoint`] makes what it holds its base.
 ///
@@ -56,10 +56,10 @@ impl<A: Allocator + Copy> Names<SetCore<A>> for KeptRows {
 }
 
 impl<A: Allocator + Copy> SetCore<A> {
-    ghost use Rattle.std.specs.Prelude.{◌≡◌, ◌<◌, ◌≤◌, ◌^◌, ◌↔◌, ◌+◌, IfOk, IfErr, OnOk, OnErr, length, sum};
-    ghost use Rattle.set_model.specs.State.{given, settings_of, link_count, is_up as is_up_in, is_settled as is_settled_in, unacked_in};
+    ghost use Rattle.std.specs.Prelude.{◌≡◌, ◌<◌, ◌≤◌, ◌^◌, ◌↔◌, ◌+◌, ◌++◌, IfOk, IfErr, OnOk, OnErr, length, sum};
+    ghost use Rattle.set_model.specs.State.{given, settings_of, link_count, is_up as is_up_in, is_settled as is_settled_in, late_at, unacked_in};
     ghost use Rattle.set_model.specs.Sound.{IsSound};
-    ghost use Rattle.set_model.specs.Rows.{place, total_of};
+    ghost use Rattle.set_model.specs.Rows.{held, numbers as numbers_of, place, total_of, unack, wait};
     ghost use Rattle.set_model.specs.Checkpoint.{counts_in};
     ghost use Rattle.set_core.specs.Gaining.{BooksGain, AreBounded};
     ghost use Rattle.set_events.specs.Lent.{HasFitUnit, event_in};
@@ -150,11 +150,10 @@ impl<A: Allocator + Copy> SetCore<A> {
         ensures fault { IfErr result (λ fault. fault ≡ SetFault.NoMemory) }
     {
         let kept = self.core.kept()?;
-        let again = kept.copied()?;
         let order = Tag::of::<SetCore<A>, KeptRows>(self);
+        self.core.forget()?;
         // all memory is taken by now
-        self.base = Base::of(again, self.tally, order);
-        self.core = kept;
+        self.base = Base::of(kept, self.tally, order);
         self.history.clear();
         Ok(())
     }
@@ -196,6 +195,15 @@ impl<A: Allocator + Copy> SetCore<A> {
         self.core.is_settled(link)
     }
 
+    /// How many changeover orders about this link were heard while it was settled, modulo 2^32 (own); 0 for a link that
+    /// the set hasn't. Where the number changes the far end has left a life of the link, and whatever is about to bring the
+    /// link up here begins anew: units of that life may be under way.
+    pub fn late(&self, link: u8) -> u32
+        ensures { result ≡ late_at link self.now.state }
+    {
+        self.core.late(link)
+    }
+
     /// Where the message of this number stands; it was never given out, or left at a checkpoint: `None`.
     pub fn place_of(&self, number: u64) -> Option<Fate>
         ensures { result ≡ place number self.now.state.rows }
@@ -226,6 +234,21 @@ impl<A: Allocator + Copy> SetCore<A> {
         ensures { result ≡ unacked_in self.now.state link place }
     {
         self.core.unacked_at(link, place)
+    }
+
+    /// The numbers of the messages that stand on the link are put behind the others: of those that were sent and aren't
+    /// acknowledged, then of those that wait for it, then of those that are held for it, each in the order of queueing. None
+    /// stand on a link that the set hasn't. It fails only where memory was refused, and of the numbers nothing is said then.
+    pub fn push_numbers_on<N: Allocator>(
+        &self,
+        link: u8,
+        numbers: &mut Vec<u64, N>,
+    ) -> Result<(), AllocError>
+        ensures { OnOk result (numbers.new.items
+            ≡ numbers.old.items ++ (numbers_of (unack link self.now.state.rows)
+            ++ (numbers_of (wait link self.now.state.rows) ++ numbers_of (held link self.now.state.rows)))) }
+    {
+        self.core.push_numbers_on(link, numbers)
     }
 
     /// What all entries since the opening add up to: each is the call of one actor, and the messages stand, or

@@ -8,13 +8,13 @@ use Rattle.l2_units.specs.declared.profile.Profile.{Profile}
 use Rattle.std.proofs.Common.{inl, inr, refl, arith, ◌≡◌, ◌∙◌, ap, ◌≤◌, [], ◌∷◌, length, ℕ, Bool, true, false, ◌==◌, ◌||◌, List, ◌++◌, map, take, drop, not, cond}
 use Rattle.std.proofs.lemmas.List.{append-nil, map-append}
 use Rattle.std.proofs.lemmas.List.Elements.{filter-append}
-use Rattle.set_model.specs.Rows.{DiscardCause, NoAnswer, Fate, Acked, Discarded, Parked, Unacked, Waiting, AreFit, IsHeldLast, IsInOrder, IsNumbered, Row, all_with, appended, back, body_at, changed, counts_of, fated, held, is_held, is_on, is_parked, is_unacked, is_waiting, moved, numbers, on, parked, standing, stands_back, total_of, turned, unack, wait, was_acked, with_fate}
+use Rattle.set_model.specs.Rows.{DiscardCause, NoAnswer, Fate, Acked, Discarded, Parked, Unacked, Waiting, AreFit, IsHeldLast, IsInOrder, IsNumbered, Row, all_with, appended, back, body_at, changed, counts_of, fated, held, is_held, is_on, is_parked, is_unacked, is_waiting, moved, numbers, on, orders_changed, parked, standing, stands_back, total_of, turned, unack, wait, was_acked, with_fate}
 use Rattle.set_model.specs.Control.{Choice, first}
 use Rattle.set_model.specs.Laws.{IsEmptyLink}
 use Rattle.set_model.specs.Sound.{is_unfinished}
 use Rattle.set_model.specs.Step.{rows_sent}
 use Rattle.set_model.proofs.Places.{itself, apart_back, on_other, not_on_waiting, not_on_unacked, not_on_held}
-use Rattle.set_model.proofs.Rows.{InPlace, turned_there, turned_same, turned_left, moved_length, moved_fit, moved_numbered, moved_gone, moved_same, moved_joined, filter_moved, filter_comm, filter_within, none_within, body_moved, total_is, new_row, same_numbers}
+use Rattle.set_model.proofs.Rows.{InPlace, turned_there, orders_there, turned_same, turned_left, moved_length, moved_fit, moved_numbered, moved_gone, moved_same, moved_joined, filter_moved, filter_comm, filter_within, none_within, body_moved, total_is, new_row, same_numbers}
 use Rattle.set_model.proofs.Order.{before_filter, before_none, before_within, first_sent, on_in_order}
 
 -- Rows that got their fates have the same numbers and octets.
@@ -143,6 +143,14 @@ pub given_up : (l : ℕ) (sent : Bool) (cause : DiscardCause) (rows : List Row)
     → ChangesOn l rows (changed (cond sent (is_unacked l) (is_waiting l)) (Discarded cause) rows)
 given_up l true cause rows = ends_on l (is_unacked l) (Discarded cause) rows _ (turned_there (is_unacked l) (Discarded cause) _ rows) (λ f e. grind arith) refl
 given_up l false cause rows = ends_on l (is_waiting l) (Discarded cause) rows _ (turned_there (is_waiting l) (Discarded cause) _ rows) (λ f e. grind arith) refl
+
+pub orders_given_up : (l : ℕ) (cause : DiscardCause) (rows : List Row)
+    → ChangesOn l rows (orders_changed (is_waiting l) (Discarded cause) rows)
+orders_given_up l cause rows = ends_on l (is_waiting l) (Discarded cause) rows _ (orders_there (is_waiting l) (Discarded cause) rows) (λ f e. grind arith) refl
+
+pub orders_given_up_unack : (l : ℕ) (cause : DiscardCause) (rows : List Row)
+    → unack l (orders_changed (is_waiting l) (Discarded cause) rows) ≡ unack l rows
+orders_given_up_unack l cause rows = (orders_there (is_waiting l) (Discarded cause) rows).same (is_unacked l) refl (λ f e. grind arith)
 
 -- Foremost ones that are given up, as many as wait, before they are sent.
 pub withdrawn_rows : (count l : ℕ) (rows : List Row) → ChangesOn l rows (turned (is_waiting l) (Discarded NoAnswer) count rows)

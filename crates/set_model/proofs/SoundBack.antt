@@ -12,7 +12,7 @@ use Rattle.set_route.specs.Routing.{settled, IsRouting, Routing, asked, code_of,
 use Rattle.set_model.specs.Changeover.{can_declare, declared, fate_on, left_by, left_link, moved_over, out_of_service, released, settled_link}
 use Rattle.set_model.specs.Rows.{Fate, Waiting, Row, all_with, back, fated, is_back, is_back_to, is_held, is_on, is_parked, is_waiting, moved, numbers, parked, standing, stands_back, stream_of}
 use Rattle.set_model.specs.Sound.{AreBack, IsAscending, IsBackOf, IsPlaced, IsSound, IsSoundLink}
-use Rattle.set_model.specs.State.{Asked, Place, On, Changing, Down, Settled, Up, LinkState, State, all_finished, given, fate_at, has_phase_up, is_up, link_is_up, target}
+use Rattle.set_model.specs.State.{Asked, Place, On, Changing, Down, Settled, Up, LinkState, State, all_finished, given, fate_at, has_phase_up, is_up, late_at, link_is_up, target}
 use Rattle.set_model.specs.Step.{risen_link, rises}
 use Rattle.set_route.proofs.Alone.{alone, codes_alone}
 use Rattle.set_route.proofs.Places.{raised_sound, settled_sound, left_sound, asked_sound, back_sound}
@@ -56,7 +56,7 @@ moved_sound s links routing test fate t long sound same gone follows homes aside
 -- A LINK COMES UP.
 pub rises_sound : (n : ℕ) (link : LinkState) (s : State) → IsAt n link Settled s → IsSound s → IsSound (rises n s Settled).state
 rises_sound n link s at t =
-    let risen = risen_link s.settings.profile s.settings.method in
+    let risen = risen_link s.settings.profile s.settings.method (late_at n s) in
     let new = moved is_parked (all_with (Waiting n)) s.rows in
     let u = unparked n s.rows in
     let e = settled_empty s n link t at.there at.phase_is in

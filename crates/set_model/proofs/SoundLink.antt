@@ -15,11 +15,11 @@ use Rattle.std.proofs.lemmas.List.Elements.{filter-append}
 use Rattle.l2_units.specs.Grammar.{head_of as header_in}
 use Rattle.set_route.specs.Routing.{IsRouting, Routing, accepted, code_of, home_of, place_of}
 use Rattle.set_model.specs.Changeover.{acknowledged_by, answered_link, Order, fate_on, queued, withdrawn}
-use Rattle.set_model.specs.Rows.{IsNumbered, AreFit, DiscardCause, Fate, Discarded, Row, changed, fated, held, is_held, is_on, is_parked, is_unacked, is_waiting, moved, octets_in, on, standing, stands_back, unack, wait, Back, appended, parked, service_indicator, stream_of}
+use Rattle.set_model.specs.Rows.{IsNumbered, AreFit, DiscardCause, Fate, Discarded, Row, changed, fated, held, is_held, is_on, is_parked, is_unacked, is_waiting, moved, octets_in, on, orders_changed, standing, stands_back, unack, wait, Back, appended, parked, service_indicator, stream_of}
 use Rattle.set_model.specs.State.{Asked, all_finished, given, is_up, Place, Changing, Nowhere, On, Down, Up, Settled, LinkState, State, Settings, with_link, has_phase_settled, has_phase_up, link_is_up, window_of, fate_at, target}
 use Rattle.set_model.specs.Step.{Event, Offer, SignalUnit, choice_in, controlled, is_msu, one_if, part_in, next, rows_sent, offer_refusal, offered}
 use Rattle.set_model.proofs.Order.{backs_of, stood, before_append, before_none, neither, gone_none, coded_at, ascends_appended}
-use Rattle.set_model.proofs.Events.{Untouched, sent, acknowledged, ChangesOn, sent_by, untouched, appended_out, withdrawn_unack}
+use Rattle.set_model.proofs.Events.{orders_given_up_unack, Untouched, sent, acknowledged, ChangesOn, sent_by, untouched, appended_out, withdrawn_unack}
 use Rattle.set_model.proofs.Rows.{each_append, each_filter, each_so, turned_there, others_stay, new_row, numbered_appended, numbered_on}
 use Rattle.set_model.proofs.Lists.{at_set, each_set, get_set_same, get_set_other, set_same, within, target_up, none_up}
 use Rattle.set_model.proofs.Places.{false_true, stream_below_16}
@@ -169,6 +169,19 @@ gives_up test cause n link s g at t =
     (false_true (has_phase_up link.phase) (ap has_phase_up at.phase_is)) in
     subst (λ (links : List LinkState). IsSound
     (record s { links = links; rows = changed test (Discarded cause) s.rows })) (set_same s.links n link at.there)
+    sound
+
+pub gives_up_orders : (cause : DiscardCause) (n : ℕ) (link : LinkState) (s : State)
+    → ChangesOn n s.rows (orders_changed (is_waiting n) (Discarded cause) s.rows) → IsAt n link Down s → IsSound s
+    → IsSound (record s { rows = orders_changed (is_waiting n) (Discarded cause) s.rows })
+gives_up_orders cause n link s g at t =
+    let l = t.links n link at.there in
+    let same = orders_given_up_unack n cause s.rows in
+    let sound = changes n link link s (orders_changed (is_waiting n) (Discarded cause) s.rows) t at.there refl
+    (ap has_phase_settled at.phase_is) g l.profile (rw same l.window) l.counted l.method
+    (false_true (has_phase_up link.phase) (ap has_phase_up at.phase_is)) in
+    subst (λ (links : List LinkState). IsSound
+    (record s { links = links; rows = orders_changed (is_waiting n) (Discarded cause) s.rows })) (set_same s.links n link at.there)
     sound
 
 -- WHAT IS GIVEN UP of what waits, before it's sent.

@@ -12,7 +12,7 @@ use Rattle.set_route.specs.Routing.{new_stream, stream_numbers, settled, runs_on
 use Rattle.set_route.specs.declared.stream.Stream.{Stream}
 use Rattle.set_model.specs.Step.{Event, Gains, choice_in, next, step, stepped, offered, rows_sent}
 use Rattle.set_model.specs.Laws.{IsNew, KeepsMessages, RunsStraight}
-use Rattle.set_model.specs.Rows.{numbers, stream_of, Fate, Unacked, Waiting, IsNumbered, Row, all_with, appended, fated, is_back, is_back_to, is_on, is_parked, is_waiting, moved, standing, stands_back, turned}
+use Rattle.set_model.specs.Rows.{numbers, stream_of, Fate, Unacked, Waiting, IsNumbered, Row, all_with, appended, fated, is_back, is_back_to, is_on, is_parked, is_waiting, moved, orders_changed, standing, stands_back, turned, with_fate}
 use Rattle.set_model.specs.Sound.{IsManaged, IsPlaced, IsSettings, IsSound, AreAbove, AreTogether, BeginsNone, IsAscending, IsBackOf, IsSoundStream, astray, is_astray, is_live, is_unfinished, live, stands_at}
 use Rattle.set_model.specs.State.{Asked, Free, Nowhere, Up, LinkState, Settings, State, given, new_link, opened_with, Place, Changing, On, fate_at, target}
 use Rattle.set_route.proofs.Places.{new_sound}
@@ -23,14 +23,14 @@ use Rattle.set_model.proofs.Settling.{settled_empty, diverts_the_rest}
 use Rattle.set_model.proofs.Staying.{keeps_messages, step_gains}
 use Rattle.set_model.specs.Frame.{Concerns, LeavesAlone}
 use Rattle.set_model.proofs.SoundBack.{leaves, declares, releases, rises_sound, moves_off_sound}
-use Rattle.set_model.proofs.SoundLink.{with_inbox, acknowledges, gives_up, answers, withdraws, sends_sound, hears_sound, queues, offers}
+use Rattle.set_model.proofs.SoundLink.{with_inbox, acknowledges, gives_up, gives_up_orders, answers, withdraws, sends_sound, hears_sound, queues, offers}
 use Rattle.std.proofs.lemmas.List.Elements.{filter-append}
 use Rattle.std.proofs.lemmas.Bool.{cond_both}
 use Rattle.set_model.specs.Changeover.{Order, fate_on, left_by, queued, released}
 use Rattle.set_model.specs.Control.{Choice}
 use Rattle.set_route.proofs.Alone.{alone}
 use Rattle.set_route.proofs.Quiet.{left_quiet, back_quiet, never_changing}
-use Rattle.set_model.proofs.Rows.{filter_within, none_within, new_row, where_turned, moved_nothing, no_rows}
+use Rattle.set_model.proofs.Rows.{filter_within, none_within, new_row, where_turned, where_orders, moved_nothing, no_rows}
 use Rattle.set_model.proofs.Order.{ascends_appended, none_standing}
 use Rattle.set_model.proofs.Places.{false_true, itself, code_back, home_back}
 
@@ -41,6 +41,7 @@ pub ruleset sounds = (
   leaves,
   acknowledges,
   gives_up,
+  gives_up_orders,
   moves_off_sound,
   answers,
   withdraws,
@@ -105,25 +106,37 @@ record Less (stream : ℕ) (place : Place) (xs ys : List Row) : Type 0 where
   pub none_away : astray stream place xs ≡ [] → astray stream place ys ≡ []
 
 -- where one gets the fate it's finished, or stays where it is
-pub stream_turned : (stream : ℕ) (place : Place) (test : Fate → Bool) (fate : Fate)
-    → ((f : Fate) → test f ≡ true → is_unfinished fate ≡ true → (is_unfinished f ≡ true)
-    × (stands_at place f ≡ stands_at place fate)) → (used : Bool) (n : ℕ) (rows : List Row)
-    → IsSoundStream stream place used rows → IsSoundStream stream place used (turned test fate n rows)
-stream_turned stream place test fate fits used n rows t =
-    let less = where_turned test fate (Less stream place) (grind arith)
-    (λ x xs ys p. record {
-      above = λ k a. grind (arith, p.above k);
-      ascends = λ a. grind (arith, p.above x.number);
-      none = λ e. grind arith;
-      none_away = λ e. grind arith;
-    })
-    (λ x xs ys h p. record {
-      above = λ k a. grind (arith, fits, p.above k);
-      ascends = λ a. grind (arith, fits, p.above x.number);
-      none = λ e. grind (arith, fits);
-      none_away = λ e. grind (arith, fits);
-    }) n rows in
-    grind arith
+module _ (stream : ℕ) (place : Place) (test : Fate → Bool) (fate : Fate)
+    (fits : (f : Fate) → test f ≡ true → is_unfinished fate ≡ true → (is_unfinished f ≡ true)
+    × (stands_at place f ≡ stands_at place fate)) where
+  less_stays : (x : Row) (xs ys : List Row) → Less stream place xs ys → Less stream place (x ∷ xs) (x ∷ ys)
+  less_stays x xs ys p = record {
+    above = λ k a. grind (arith, p.above k);
+    ascends = λ a. grind (arith, p.above x.number);
+    none = λ e. grind arith;
+    none_away = λ e. grind arith;
+  }
+
+  less_turns : (x : Row) (xs ys : List Row) → test x.fate ≡ true → Less stream place xs ys
+      → Less stream place (x ∷ xs) (with_fate fate x ∷ ys)
+  less_turns x xs ys h p = record {
+    above = λ k a. grind (arith, fits, p.above k);
+    ascends = λ a. grind (arith, fits, p.above x.number);
+    none = λ e. grind (arith, fits);
+    none_away = λ e. grind (arith, fits);
+  }
+
+  pub stream_turned : (used : Bool) (n : ℕ) (rows : List Row)
+      → IsSoundStream stream place used rows → IsSoundStream stream place used (turned test fate n rows)
+  stream_turned used n rows t =
+      let less = where_turned test fate (Less stream place) (grind arith) less_stays less_turns n rows in
+      grind arith
+
+  pub stream_orders : (used : Bool) (rows : List Row)
+      → IsSoundStream stream place used rows → IsSoundStream stream place used (orders_changed test fate rows)
+  stream_orders used rows t =
+      let less = where_orders test fate (Less stream place) (grind arith) less_stays less_turns rows in
+      grind arith
 
 -- A NEW MESSAGE has a number above all others.
 pub stream_appended : (given stream : ℕ) (place : Place) (used used' : Bool) (rows : List Row) (body : List ℕ)
@@ -249,6 +262,9 @@ step_straight s event begins t r =
     let stream_finishes = λ (k : ℕ) (place : Place) (test : Fate → Bool) (fate : Fate)
     (done : is_unfinished fate ≡ false). stream_turned k place test fate
     (λ f e alive. false_true (is_unfinished fate) done alive) in
+    let orders_finish = λ (k : ℕ) (place : Place) (test : Fate → Bool) (fate : Fate)
+    (done : is_unfinished fate ≡ false). stream_orders k place test fate
+    (λ f e alive. false_true (is_unfinished fate) done alive) in
     let rests : (a b : State) → IsSound a × RunsStraight a → StaysStraight a b → IsSound b
     × RunsStraight b = λ a b q then. then q.0 q.1.none_open q.1.together in
     let then_straight : (a b c : State) → StaysStraight a b → StaysStraight b c → StaysStraight a c = λ a b c p q sound none r. rests b c (p sound none r) q in
@@ -264,6 +280,7 @@ step_straight s event begins t r =
       releases_straight,
       queues_straight,
       stream_finishes,
+      orders_finish,
       moves_off_straight,
       offers_straight,
       sends_straight,

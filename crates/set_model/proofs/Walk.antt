@@ -11,10 +11,10 @@ use Rattle.set_route.specs.Routing.{code_for, home_of}
 use Rattle.set_model.specs.Step.{SignalUnit, Event, BackTimeout, DownEvent, DownBlind, Heard, Next, NoAnswer, Offer, Take, UpEvent, step, Outcome, brought, controlled, controls, falls, in_service, next, offer_refusal, offered, part_in, rises, taken, takes, stepped, is_heard}
 use Rattle.set_model.specs.Changeover.{Order, Cba, Cbd, Coa, Reached, Unanswered, Unknown, Upto, acknowledged_by, answered, answered_link, can_declare, changed_over, cleared, declared, declared_from, is_overtaken, leading, leaving_order, left_by, left_link, moved_over, obeyed, order_obeyed, queued, reached_by, released, released_from, reply_of, settled, withdrawn}
 use Rattle.set_model.specs.Frame.{BringsAbout, BringsBackTo, Concerns}
-use Rattle.set_model.specs.Rows.{DiscardCause, Emergency, NoAnswer as NoAnswerCame, Unreasonable, Discarded, changed, is_unacked, is_waiting, unack, wait}
+use Rattle.set_model.specs.Rows.{DiscardCause, Emergency, NoAnswer as NoAnswerCame, Unreasonable, Discarded, changed, orders_changed, is_unacked, is_waiting, unack, wait}
 use Rattle.set_model.specs.Sound.{BeginsNone}
 use Rattle.set_model.specs.State.{Phase, Down, Settled, Up, LinkState, State, is_up, last_accepted, with_link}
-use Rattle.set_model.proofs.Events.{ChangesOn, Unparked, acknowledged, given_up, sent_by, unparked, withdrawn_rows}
+use Rattle.set_model.proofs.Events.{ChangesOn, Unparked, acknowledged, given_up, orders_given_up, sent_by, unparked, withdrawn_rows}
 use Rattle.set_model.proofs.Lists.{within, get_set_same}
 use Rattle.std.proofs.lemmas.List.{length-set}
 
@@ -38,6 +38,9 @@ pub record KeptBy (Known : ℕ → Type 0) (May : Type 0) (R : State → State �
       → IsAt n link Down s → ChangesOn n s.rows
       (changed (cond sent (is_unacked n) (is_waiting n)) (Discarded cause) s.rows)
       → R s (record s { rows = changed (cond sent (is_unacked n) (is_waiting n)) (Discarded cause) s.rows })
+  pub gives_up_orders : (cause : DiscardCause) (n : ℕ) (link : LinkState) (s : State) → Known n → IsAt n link Down s
+      → ChangesOn n s.rows (orders_changed (is_waiting n) (Discarded cause) s.rows)
+      → R s (record s { rows = orders_changed (is_waiting n) (Discarded cause) s.rows })
   pub moves_off : (told : Bool) (n : ℕ) (link : LinkState) (s : State) → Known n → IsAt n link Down s → R s (moved_over told n link s)
   pub answers : (n : ℕ) (link : LinkState) (s : State) → Known n → IsAt n link Settled s → R s (with_link n (answered_link link) s)
   pub withdraws : (count n : ℕ) (link : LinkState) (s : State) → Known n → IsAt n link Up s
@@ -71,7 +74,12 @@ module _ (Known : ℕ → Type 0) (May : Type 0) (R : State → State → Type 0
       off true n link s _ known (k.gives_up true Emergency n link s known at (given_up n true Emergency s.rows))
       (record { there = at.there; phase_is = at.phase_is })
   settle_walks Unanswered n link s known at =
-      off false n link s _ known (both_given_up NoAnswerCame n link s known at)
+      let mid : State = record s { rows = changed (is_unacked n) (Discarded NoAnswerCame) s.rows } in
+      off false n link s _ known
+      (k.after s mid (record mid { rows = orders_changed (is_waiting n) (Discarded NoAnswerCame) mid.rows })
+      (k.gives_up true NoAnswerCame n link s known at (given_up n true NoAnswerCame s.rows))
+      (k.gives_up_orders NoAnswerCame n link mid known (record { there = at.there; phase_is = at.phase_is })
+      (orders_given_up n NoAnswerCame mid.rows)))
       (record { there = at.there; phase_is = at.phase_is })
   settle_walks (Upto fsn) n link s known at =
       let refused = off true n link s _ known (both_given_up Unreasonable n link s known at) (record { there = at.there; phase_is = at.phase_is }) in

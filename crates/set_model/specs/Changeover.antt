@@ -1,6 +1,6 @@
 -- CHANGEOVER AND CHANGEBACK (Q.704 5, 6). A link is left, orders tell the far end, and once it's known how far the far
 -- end got, the rest is moved to another link; and when it's back, its streams come back to it.
-use Rattle.std.specs.Prelude.{ℕ, zero, suc, Bool, true, false, not, ◌&&◌, ◌||◌, ◌+◌, ◌==◌, nat_le, List, [], ◌∷◌, length, slice_get, slice_set, Option, None, Some, if◌then◌else◌}
+use Rattle.std.specs.Prelude.{ℕ, zero, suc, Bool, true, false, not, ◌&&◌, ◌||◌, ◌+◌, ◌==◌, nat_le, ◌%◌, ◌^◌, List, [], ◌∷◌, length, slice_get, slice_set, Option, None, Some, if◌then◌else◌}
 use Rattle.l2_window.specs.Window.{distance_to, fsn_before_first}
 pub use Rattle.l3_orders.specs.declared.order.Order.{Order}
 pub use Rattle.l3_orders.specs.declared.order.Order.TheVariants.{Coo, Coa, Cbd, Cba, Eco, Eca}
@@ -8,7 +8,7 @@ use Rattle.l3_orders.specs.Grammar.{text, order_of}
 pub use Rattle.set_events.specs.Places.{fate_on}
 use Rattle.set_events.specs.declared.answer.Took.{Took}
 use Rattle.set_events.specs.declared.answer.Took.TheVariants.{Order as TookOrder, Ignored}
-use Rattle.set_model.specs.Rows.{Waiting, Acked, Discarded, DiscardCause, Emergency, Unreasonable, NoAnswer, Row, all_with, unack, wait, stream_of, is_unacked, is_waiting, is_on, is_back, is_back_to, turned, changed, moved, appended}
+use Rattle.set_model.specs.Rows.{Waiting, Acked, Discarded, DiscardCause, Emergency, Unreasonable, NoAnswer, Row, all_with, unack, wait, stream_of, is_unacked, is_waiting, is_on, is_back, is_back_to, turned, changed, orders_changed, moved, appended}
 use Rattle.set_route.specs.Routing.{place_of, code_for, home_of, code_of, is_free, can_ask, asked, given_back, left, settled as streams_settled}
 pub use Rattle.set_model.specs.declared.reached.Reached.{Reached}
 pub use Rattle.set_model.specs.declared.reached.Reached.TheVariants.{Upto, Unknown, Unanswered}
@@ -76,10 +76,17 @@ reached_by fsn number link rows = distance_to (window_of number link rows) fsn
 abbrev pub is_reasonable : ℕ → ℕ → LinkState → List Row → Bool
 is_reasonable fsn number link rows = nat_le (reached_by fsn number link rows) (length (unack number rows))
 
--- what was sent, or waits, on the link is discarded in its place
+-- what was sent on the link, or waits for it, is discarded in its place
 abbrev pub discarded : DiscardCause → ℕ → State → State
 discarded cause number s = record s {
   rows = changed (is_waiting number) (Discarded cause) (changed (is_unacked number) (Discarded cause) s.rows);
+}
+
+-- (own) What was sent may have arrived or not, and is discarded. An order that waits says nothing any more, and is discarded
+-- too. What users offered and was never sent stays, and moves with the rest.
+abbrev pub unanswered : ℕ → State → State
+unanswered number s = record s {
+  rows = orders_changed (is_waiting number) (Discarded NoAnswer) (changed (is_unacked number) (Discarded NoAnswer) s.rows);
 }
 
 abbrev pub acknowledged : ℕ → LinkState → LinkState
@@ -98,7 +105,7 @@ judged (Upto fsn) number link s =
     then acknowledged_by (reached_by fsn number link s.rows) number link s
     else discarded Unreasonable number s
 judged Unknown number link s = record s { rows = changed (is_unacked number) (Discarded Emergency) s.rows }
-judged Unanswered number link s = discarded NoAnswer number s
+judged Unanswered number link s = unanswered number s
 
 abbrev pub judged_link : Reached → ℕ → LinkState → List Row → LinkState
 judged_link (Upto fsn) number link rows =
@@ -180,14 +187,19 @@ abbrev pub ignored : State → Obeyed
 ignored s = record { took = Ignored; state = s }
 
 -- (own) After the link settled a late order gets the answer that its last life would have got, and once: how a life
--- ended is told once. An order that comes then is about a life that this end never had, of which it accepted nothing.
+-- ended is told once. An order that comes then is about a life that this end never had, of which it accepted nothing. Each
+-- late order counts: where this end is about to come up into a life that the far end has left, units of that life may be
+-- under way, and their messages go elsewhere as well. So whatever brings the link up begins anew where the count changed.
 abbrev pub reply_of : ℕ → LinkState → Order
 reply_of number link =
     if link.answered then Coa number (fsn_before_first link.profile)
     else (if link.blind then Eca number else Coa number (last_accepted link))
 
+abbrev pub one_later : ℕ → ℕ
+one_later late = (late + 1) % 2 ^ 32
+
 abbrev pub answered_link : LinkState → LinkState
-answered_link link = record link { answered = true }
+answered_link link = record link { answered = true; late = one_later link.late }
 
 -- (Q.704 5.4.2, 5.6.2) a changeover order: a link that is up is left and answered for; one's own order that stands
 -- unanswered is answered by it (own: with no acknowledgement)

@@ -112,6 +112,13 @@ turned test fate (suc n) (row ∷ rows) =
 abbrev pub changed : (Fate → Bool) → Fate → List Row → List Row
 changed test fate rows = turned test fate (length rows) rows
 
+-- those of them that are orders, all of them, in their places
+abbrev pub order_turned : (Fate → Bool) → Fate → Row → Row
+order_turned test fate row = if test row.fate && not (is_users row) then with_fate fate row else row
+
+abbrev pub orders_changed : (Fate → Bool) → Fate → List Row → List Row
+orders_changed test fate rows = map (order_turned test fate) rows
+
 -- the fate that each row has then, told by the row
 abbrev pub fated : (Row → Fate) → Row → Row
 fated fate row = with_fate (fate row) row

@@ -32,6 +32,9 @@ pub record LinkState : Type 0 where
   pub accepted : ℕ
   -- the error control: indicator bits, cursor or place in the cycle, and the memory of faults
   pub control : Control
+  -- (own) and of all its lives: how many changeover orders about it were heard while it was settled, modulo 2^32. Each
+  -- tells that the far end has left a life of which this end had no part.
+  pub late : ℕ
 
 -- what a set is opened with: its own number; how many links; how their messages are kept safe; the SIO and the point
 -- codes of its orders
@@ -81,6 +84,7 @@ new_link profile method = record {
   acked = 0;
   accepted = 0;
   control = start_of method;
+  late = 0;
 }
 
 -- a set that nothing was asked of
@@ -129,6 +133,14 @@ is_up number s = link_is_up (slice_get s.links number)
 
 abbrev pub is_settled : ℕ → State → Bool
 is_settled number s = link_is_settled (slice_get s.links number)
+
+-- how many late orders were heard about the link; none about one that the set hasn't
+abbrev pub late_in : Option LinkState → ℕ
+late_in None = 0
+late_in (Some link) = link.late
+
+abbrev pub late_at : ℕ → State → ℕ
+late_at number s = late_in (slice_get s.links number)
 
 -- where a new message goes whose stream runs there: on a link that was left it's held, on its way back it waits for the
 -- acknowledgement, nowhere it's parked

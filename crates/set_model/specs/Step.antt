@@ -18,7 +18,7 @@ pub use Rattle.set_events.specs.declared.event.Event.{Event}
 pub use Rattle.set_events.specs.declared.event.Event.TheVariants.{Offer, Take, Find, Next, Heard, Up as UpEvent, Down as DownEvent, DownBlind, NoAnswer, Restore, BackTimeout}
 use Rattle.set_route.specs.Routing.{place_of, code_for, accepted, raised}
 use Rattle.set_model.specs.Rows.{Fate, Waiting, Unacked, Acked, Row, all_with, unack, wait, is_unacked, is_waiting, is_parked, octets_in, unsent, stream_of, service_indicator, turned, moved, appended, place, counts_of, total_of}
-use Rattle.set_model.specs.State.{Phase, Up, Down, Settled, LinkState, State, given, with_link, link_count, has_phase_up, fate_at, window_of}
+use Rattle.set_model.specs.State.{Phase, Up, Down, Settled, LinkState, State, given, with_link, link_count, late_at, has_phase_up, fate_at, window_of}
 use Rattle.set_model.specs.Control.{Header, Method, HeardPart, Choice, again, first, fill, start_of, choice_of, fsn_of, head_of, control_after, part_of, control_heard}
 use Rattle.set_model.specs.Changeover.{Unanswered, Obeyed, cleared, left_by, leaving_order, queued, settled, declared_from, some_declare, released_from, some_in_use, obeyed}
 
@@ -175,8 +175,9 @@ heard unit number s link =
     if is_heard s.settings.profile unit then controls unit number s link else refused s Nothing
 
 -- UP. The error control starts anew; streams move to the link, and what was parked waits for it.
-abbrev pub risen_link : Profile → Method → LinkState
-risen_link profile method = record { phase = Up; profile = profile; blind = false; answered = false; acked = 0; accepted = 0; control = start_of method }
+abbrev pub risen_link : Profile → Method → ℕ → LinkState
+risen_link profile method late =
+    record { phase = Up; profile = profile; blind = false; answered = false; acked = 0; accepted = 0; control = start_of method; late = late }
 
 abbrev pub rises : ℕ → State → Phase → Outcome
 rises number s Up = refused s NotDown
@@ -184,7 +185,7 @@ rises number s Down = refused s Unsettled
 rises number s Settled = record {
   answer = Done;
   state = record s {
-    links = slice_set s.links number (risen_link s.settings.profile s.settings.method);
+    links = slice_set s.links number (risen_link s.settings.profile s.settings.method (late_at number s));
     rows = moved is_parked (all_with (Waiting number)) s.rows;
     routing = raised number s.routing;
   };
@@ -197,8 +198,8 @@ falls blind number s link = record {
   state = queued (leaving_order blind number link) (left_by blind number link s);
 }
 
--- NO ANSWER came from the far end (Q.704 5.7.2): what was sent or waited may have arrived or not, and is discarded
--- (own).
+-- NO ANSWER came from the far end (Q.704 5.7.2): what was sent may have arrived or not, and is discarded; what users
+-- offered and was never sent moves to another link (own).
 abbrev pub gives_up : ℕ → State → LinkState → Phase → Outcome
 gives_up number s link Down = record { answer = Done; state = settled Unanswered number link s }
 gives_up number s link _ = refused s Nothing

@@ -1,6 +1,8 @@
+pub mod Forgetting
 pub mod Keeping
 pub mod Linked
 pub mod Placing
+pub mod Sifting
 pub mod Soundness
 pub mod Standing
 pub mod Storing

@@ -97,7 +97,7 @@ pub within_says : {X : Type 0} (number : ℕ) (older : List ℕ) (first : ℕ) (
 within_says number older first items p s e = let says = older_says number older p in grind (arith, nat_tests, says, s.many)
 
 -- A VALUE CHANGES
-set_at : {X : Type 0} (xs : List X) (i k : ℕ) (x : X) → i < length xs → slice_get (slice_set xs i x) k ≡ cond (k == i) (Some x) (slice_get xs k)
+pub set_at : {X : Type 0} (xs : List X) (i k : ℕ) (x : X) → i < length xs → slice_get (slice_set xs i x) k ≡ cond (k == i) (Some x) (slice_get xs k)
 set_at [] i k x h = absurd (omega (arith, h))
 set_at (y ∷ xs) zero zero x h = refl
 set_at (y ∷ xs) zero (suc k) x h = grind arith

@@ -45,7 +45,7 @@ pub profile_last : (l fsn k : ℕ) (q : Lists) → profile_at k (with_last l fsn
 profile_last l fsn k q = profile_updated (λ (z : LinkLists). record z { last = fsn }) (λ z. refl) l k q
 
 -- of as many links and codes
-sound_on : (q q' : Lists) (ms ms' : List (Option Message)) → AreSound q ms → SameSize q q' → AreNarrow q' → AreTied q' ms' → AreFit ms' → AreSound q' ms'
+pub sound_on : (q q' : Lists) (ms ms' : List (Option Message)) → AreSound q ms → SameSize q q' → AreNarrow q' → AreTied q' ms' → AreFit ms' → AreSound q' ms'
 sound_on q q' ms ms' s e n t f = record { one = omega (arith, s.one, e.links); few = omega (arith, s.few, e.links); codes = e.back ∙ s.codes; narrow = n; tied = t; fit = f }
 
 -- THE FIRST SO MANY OF A QUEUE stand last in another place

@@ -7,3 +7,4 @@ pub mod Queues
 pub mod Sending
 pub mod Settling
 pub mod Slots
+pub mod Stored

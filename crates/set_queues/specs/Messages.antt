@@ -80,6 +80,14 @@ fate_at number messages = option_map (λ m. m.fate) (slot_at number messages)
 abbrev pub octets_at : ℕ → List (Option Message) → ℕ
 octets_at number messages = option_map_or (λ m. m.octets) (slot_at number messages) 0
 
+-- the message of this number is an order
+abbrev pub is_order : Option Message → Bool
+is_order None = false
+is_order (Some m) = not (is_users m.kind)
+
+abbrev pub is_order_at : List (Option Message) → ℕ → Bool
+is_order_at messages number = is_order (slot_at number messages)
+
 -- the octets of the bodies of these messages
 abbrev pub octets_of : List ℕ → List (Option Message) → ℕ
 octets_of numbers messages = sum_by (λ number. octets_at number messages) numbers

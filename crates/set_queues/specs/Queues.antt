@@ -1,9 +1,10 @@
 -- Where every message of a set stands.
-use Rattle.std.specs.Prelude.{◌≡◌, ℕ, ◌+◌, ◌<◌, ◌≤◌, ◌==◌, Bool, true, false, List, [], ◌∷◌, ◌++◌, length, Some, None, Option, IsSome, take, drop}
+use Rattle.std.specs.Prelude.{◌≡◌, ℕ, ◌+◌, ◌<◌, ◌≤◌, ◌==◌, Bool, true, false, not, List, [], ◌∷◌, ◌++◌, length, filter, Some, None, Option, IsSome, take, drop}
 use Rattle.std.specs.Option.{option_map_or}
-use Rattle.set_queues.specs.Messages.{one_if, Message, AreFit, slot_at, fate_at, restood, octets_at}
-use Rattle.set_queues.specs.Buffers.{Fate, Unacked, Lists, Rooms, TakesRoom, KeepsRoom, is_standing, same_fate, queue_at, with_queue, profile_at}
-use Rattle.l2_window.specs.Window.{most_unacked}
+use Rattle.set_queues.specs.Messages.{one_if, Message, AreFit, slot_at, fate_at, is_order_at, restood, octets_at}
+use Rattle.set_queues.specs.Buffers.{Fate, Unacked, Discarded, Lists, Rooms, TakesRoom, KeepsRoom, is_standing, same_fate, queue_at, with_queue, profile_at}
+use Rattle.l2_window.specs.Window.{WindowState, most_unacked}
+use Rattle.set_events.specs.declared.answer.DiscardCause.{DiscardCause}
 use Rattle.set_events.specs.Config.{most_links}
 
 -- what contracts see of the queues of a set
@@ -56,6 +57,24 @@ MovesAll from to old new = Moves (queue_at from old.lists) to (passed from to ol
 abbrev pub MovesFirst : ℕ → Fate → Fate → QueuesState → QueuesState → Type 0
 MovesFirst count from to old new =
     Moves (take count (queue_at from old.lists)) to (passed_first count from to old.lists) old new
+
+-- of a queue the orders are given up, and the others stay in their order
+abbrev pub orders_in : List (Option Message) → List ℕ → List ℕ
+orders_in messages numbers = filter (is_order_at messages) numbers
+
+abbrev pub others_in : List (Option Message) → List ℕ → List ℕ
+others_in messages numbers = filter (λ number. not (is_order_at messages number)) numbers
+
+-- only what waits in the window changed, and there is no less room
+pub record KeepsSent (old new : WindowState) : Type 0 where
+  pub profile : new.profile ≡ old.profile
+  pub last : new.last ≡ old.last
+  pub unacked : new.unacked ≡ old.unacked
+  pub room : old.room ≤ new.room
+
+abbrev pub DiscardsOrders : Fate → DiscardCause → QueuesState → QueuesState → Type 0
+DiscardsOrders from cause old new = Moves (orders_in old.messages (queue_at from old.lists)) (Discarded cause)
+    (with_queue from (others_in old.messages (queue_at from old.lists)) old.lists) old new
 
 -- no queue has less room, and nothing else changes
 pub record MakesRoom (old new : QueuesState) : Type 0 where

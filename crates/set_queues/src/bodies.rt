@@ -1,19 +1,21 @@
 //! The bodies of the messages.
-ghost use Rattle.std.specs.Prelude.{◌≡◌, ◌<◌, ◌∷◌, length, slice_index, ◌+◌, ◌≤◌, ◌++◌, ℕ, [], slice_get, Some, IfOk, IsSome, OnOk};
-ghost use Rattle.set_queues.specs.Bodies.{bodies_in, kept_bodies, AreAll, CanHold};
+ghost use Rattle.std.specs.Prelude.{◌≡◌, ◌<◌, ◌∷◌, length, slice_index, ◌+◌, ◌≤◌, ◌++◌, ℕ, [], slice_get, Some, IfOk, IfSome, IsSome, OnOk};
+ghost use Rattle.set_queues.specs.Bodies.{bodies_in, kept_bodies, standing_flags, AreAll, AreHeld, CanHold};
 ghost use Rattle.set_queues.specs.Messages.{is_unfinished};
 ghost use Rattle.set_queues.specs.Slots.{slot_at, given_to, AreKept, AreSlots};
 
 use super::queues::Queues;
 use super::slots::Numbers;
+use boxcar::tag::{Names, Tag};
 use l2_units::LONGEST_BODY;
 use std::alloc::{AllocError, Allocator, Global};
 use std::marker::Model;
 
 /// The bodies of a set's messages by their numbers 0, 1, .., one behind another.
 ///
-/// Contracts see a slot for each number, and the room that is left. A body takes 8 octets of memory and its own, and 8
-/// more once it outlived what was forgotten; each call but a copy costs the same however many bodies there are.
+/// Contracts see a slot for each number, and the room that is left; the slot of one whose message was forgotten is
+/// empty. A body takes 8 octets of memory and its own, and 8 more once it outlived a copy ([`Bodies::lean`]); each
+/// call but a copy costs the same however many bodies there are.
 #[derive(Drop)]
 pub struct Bodies<A: Allocator = Global> {
     numbers: Numbers<A>,
@@ -21,24 +23,42 @@ pub struct Bodies<A: Allocator = Global> {
     ends: Vec<usize, A>,
     /// The octets of all.
     octets: Vec<u8, A>,
+    /// Of each number whether its body was there, 1 or 0, when others were forgotten last: contracts alone see them.
+    there: Tag,
 }
 
 impl<A: Allocator> Model for Bodies<A> {
-    ghost use Rattle.std.specs.Prelude.{◌-◌, length, min, vec_len, vec_capacity};
-    ghost use Rattle.set_queues.specs.Bodies.{BodiesState, bodies_in, AreAll};
-    ghost use Rattle.set_queues.specs.Slots.{AreSlots, slots_of, room_for};
+    ghost use Rattle.std.specs.Prelude.{◌-◌, ◌≤◌, length, min, vec_len, vec_capacity};
+    ghost use Rattle.set_queues.specs.Bodies.{BodiesState, bodies_in, flagged, AreAll};
+    ghost use Rattle.set_queues.specs.Slots.{AreSlots, given_to, slots_of, room_for};
 
     ghost Value = { BodiesState };
 
     ghost view = { λ b. record {
-      items = slots_of b.numbers.older.items b.numbers.first (bodies_in 0 b.ends.items b.octets.items);
+      items = flagged b.there.numbers
+          (slots_of b.numbers.older.items b.numbers.first (bodies_in 0 b.ends.items b.octets.items));
       places = min (vec_capacity b.ends - vec_len b.ends)
           (room_for b.numbers.older.items b.numbers.first (length b.ends.items));
       octets = vec_capacity b.octets - vec_len b.octets;
     } };
 
     ghost invariant = { λ b. (AreSlots b.numbers.older.items b.numbers.first (length b.ends.items))
-        × (AreAll 0 b.ends.items b.octets.items) };
+        × (AreAll 0 b.ends.items b.octets.items)
+        × (length b.there.numbers ≤ given_to b.numbers.older.items b.numbers.first (length b.ends.items)) };
+}
+
+/// The numbers of the messages that aren't finished, as flags.
+struct Standing;
+
+impl<A: Allocator> Names<Queues<A>> for Standing {
+    ghost numbers = { λ queues. standing_flags queues.messages };
+}
+
+/// The same numbers again.
+struct Same;
+
+impl Names<Tag> for Same {
+    ghost numbers = { λ tag. tag.numbers };
 }
 
 impl<A: Allocator + Copy> Bodies<A> {
@@ -50,6 +70,7 @@ impl<A: Allocator + Copy> Bodies<A> {
             numbers: Numbers::new(alloc),
             ends: Vec::new(alloc),
             octets: Vec::new(alloc),
+            there: Tag::empty(),
         }
     }
 
@@ -94,11 +115,43 @@ impl<A: Allocator + Copy> Bodies<A> {
             numbers: self.numbers.copied()?,
             ends: Vec::from_slice(*self.ends.allocator(), &self.ends)?,
             octets: Vec::from_slice(*self.octets.allocator(), &self.octets)?,
+            there: Tag::of::<Tag, Same>(&self.there),
         })
     }
 
+    /// The bodies of those messages that aren't finished, under their numbers, with no room, where [`Queues::forget`]
+    /// makes a copy next; else `None`, and [`Bodies::forget`] serves.
+    ///
+    /// Condition: each of these messages has its body.
+    pub fn lean(&self, queues: &Queues<A>) -> Result<Option<Bodies<A>>, AllocError>
+        requires { AreHeld queues.now.messages self.now.items }
+        ensures { IfOk result (λ lean. IfSome lean
+            (λ bodies. bodies.items ≡ kept_bodies queues.now.messages self.now.items)) }
+    {
+        if queues.is_sparse() {
+            return Ok(Some(self.kept(queues)?));
+        }
+        Ok(None)
+    }
+
+    /// The bodies of the messages that are finished leave. It takes no memory, and costs the same however many there
+    /// are.
+    ///
+    /// Conditions: each message that isn't finished has its body; a number has a slot here if it has one among the
+    /// queues.
+    pub fn forget(&mut self, queues: &Queues<A>)
+        requires held { AreHeld queues.now.messages self.old.items }
+        requires as_many { length queues.now.messages ≡ length self.old.items }
+        ensures { self.new.items ≡ kept_bodies queues.now.messages self.old.items }
+    {
+        self.there = Tag::of::<Queues<A>, Standing>(queues);
+    }
+
     /// The bodies of those messages that aren't finished, under their numbers, with no room.
+    ///
+    /// Condition: each of these messages has its body.
     pub fn kept(&self, queues: &Queues<A>) -> Result<Bodies<A>, AllocError>
+        requires { AreHeld queues.now.messages self.now.items }
         ensures { IfOk result (λ kept. kept.items ≡ kept_bodies queues.now.messages self.now.items) }
     {
         let first = self.numbers.given(self.ends.len());
@@ -108,6 +161,7 @@ impl<A: Allocator + Copy> Bodies<A> {
             numbers: Numbers { older, first },
             ends,
             octets,
+            there: Tag::empty(),
         })
     }
 }

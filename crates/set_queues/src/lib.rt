@@ -4,9 +4,10 @@
 //! [`Queues`] has of each of 1 to 16 links a window (`l2_window`) and the messages that are held for
 //! it, the parked messages, of each of 256 changeback codes those that wait for its acknowledgement, and
 //! of the numbers given out each one's [`Message`]: where it stands, whose it is, and the octets of its
-//! body. The bodies themselves are [`Bodies`]. [`Queues::kept`] and [`Bodies::kept`] are copies without the messages
-//! of final fates: their numbers stay given out, and nothing stands under them. A fate that isn't final names a queue;
-//! [`fate_on`] is that of what moves to a link, or of what no link takes:
+//! body. The bodies themselves are [`Bodies`]. [`Queues::forget`] and [`Bodies::forget`] let go of the messages of
+//! final fates where they stand, and [`Queues::kept`] and [`Bodies::kept`] are copies without them: their numbers stay
+//! given out, and nothing stands under them. A fate that isn't final names a queue; [`fate_on`] is that of what moves
+//! to a link, or of what no link takes:
 //!
 //! ```text
 //!          add (Waiting, Held, Parked, Back)
@@ -23,16 +24,17 @@
 //! its new life. Only [`Queues::new`], the copies and the calls that reserve take memory, here and in [`Bodies`]: a
 //! call that adds or moves needs its room reserved before. Each call costs the same however many messages there ever
 //! were; discarding, diverting and settling are linear in what moves, a copy in what is there, and a number that
-//! outlived a `kept` is searched for among those that did. A message takes 8 octets, and 8 more while it stands in a
-//! queue; a queue of a code takes none for messages until one stands in it. A body takes 8 octets and its own. Each of
-//! the two takes 8 more once it outlived a `kept`.
+//! outlived a copy is searched for among those that did. To forget costs the same however many stand, but for a copy
+//! where more of the messages that are kept were forgotten than stand: so, taken together, what is forgotten. A message
+//! takes 8 octets, and 8 more while it stands in a queue; a queue of a code takes none for messages until one stands in
+//! it. A body takes 8 octets and its own. Each of the two takes 8 more once it outlived a copy.
 //!
 //! This crate decides nothing: which messages are sent, acknowledged or moved, and when, is the
 //! caller's to know. It reads no clock, does no IO and takes no lock.
 //!
 //! The files: `message` what is kept of one; `messages` all of them with their counts (`tally`), and the
 //! first of a queue that go elsewhere; `buffers` the queues; `queues` the whole; `bodies` the bodies; `slots` which
-//! number each message and body has.
+//! number each message and body has. What is forgotten where it stands says `specs/Stored.antt`.
 #![tactic(auto)]
 
 mod bodies;

@@ -22,5 +22,13 @@ pub struct Message {
     pub octets: u16,
 }
 
-// Every number ever given out takes so many octets, and eight while it stands in a queue.
-const _: () = prove!(size_of::<Message>() <= 8);
+/// A message with the period in which it came to stand where it stands: periods end when what is finished is
+/// forgotten. So one of a final fate is there in this period, and forgotten from the next one on.
+#[derive(Clone, Copy, Debug, PartialEq, Eq)]
+pub(crate) struct Stored {
+    pub(crate) message: Message,
+    pub(crate) period: u16,
+}
+
+// Every number that is kept takes so many octets, and eight while it stands in a queue.
+const _: () = prove!(size_of::<Stored>() <= 8);

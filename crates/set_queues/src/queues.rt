@@ -3,7 +3,7 @@ ghost use Rattle.std.specs.Prelude.{◌≡◌, ◌+◌, ◌<◌, ℕ, slice_inde
 ghost use Rattle.set_queues.specs.Buffers.{empty_lists, IsQueued, same_fate, IsKnown, CanTake, KeepsRoom, TakesRoom, HaveRoom, is_standing, queue_at, with_queue, last_at, profile_at, with_last, room_at};
 ghost use Rattle.l2_window.specs.Window.{fsn_count, most_unacked, fsn_before_first};
 ghost use Rattle.set_queues.specs.Settling.{fate_on, on, settled};
-ghost use Rattle.set_queues.specs.Queues.{QueuesState, AreSound, Moves, MovesAll, MovesFirst, MakesRoom};
+ghost use Rattle.set_queues.specs.Queues.{QueuesState, AreSound, Moves, MovesAll, MovesFirst, DiscardsOrders, MakesRoom};
 ghost use Rattle.set_queues.specs.Messages.{restood, slot_at, fate_at, octets_of, counts_of, unsent_of, finished_in, is_unfinished, unfinished, IsFit};
 ghost use Rattle.std.specs.Result.{OkIff};
 ghost use Rattle.set_queues.specs.Backs.{IsOldestOf, back_count};
@@ -11,7 +11,7 @@ ghost use Rattle.set_queues.specs.Sending.{acknowledged, reach};
 
 use super::buffers::Buffers;
 use super::message::Message;
-use super::messages::{Messages, pass};
+use super::messages::{Messages, pass, sift};
 use super::tally::is_standing;
 use l2_units::Profile;
 use l2_window::{Queue, Window, WindowFault};
@@ -77,6 +77,29 @@ impl<A: Allocator + Copy> Queues<A> {
             buffers: self.buffers.copied()?,
             messages: self.messages.kept()?,
         })
+    }
+
+    /// The messages that are finished leave: what was acknowledged or discarded. All others stay under their numbers in
+    /// their queues, and no number is given out anew.
+    ///
+    /// It costs the same however many messages stand and leave, but for a copy ([`Queues::kept`]) where of the messages
+    /// that are kept more left than stand, and at each 65,536th call behind the last. It fails only where memory is
+    /// wanted for that.
+    pub fn forget(&mut self) -> Result<(), AllocError>
+        ensures lists { self.new.lists ≡ self.old.lists }
+        ensures messages { OnOk result (self.new.messages ≡ unfinished self.old.messages) }
+        ensures err { OnErr result (self.new ≡ self.old) }
+    {
+        if self.messages.forget() {
+            return Ok(());
+        }
+        *self = self.kept()?;
+        Ok(())
+    }
+
+    /// Whether [`Queues::forget`] makes a copy next.
+    pub(crate) fn is_sparse(&self) -> bool {
+        self.messages.is_sparse()
     }
 
     /// A law: there are 1 to 16 links and 256 changeback codes, at most 127 messages of each link are
@@ -417,6 +440,17 @@ impl<A: Allocator + Copy> Queues<A> {
         ensures { MovesAll from (Fate.Discarded cause) self.old self.new }
     {
         self.pass_all(from, Fate::Discarded { cause });
+    }
+
+    /// The orders that wait for the link are given up, for this cause; users' messages wait on, in their order.
+    #[tactic(auto, using(crate::proofs::Linked::of_link))]
+    pub fn discard_orders(&mut self, link: u8, cause: DiscardCause)
+        requires known { link < length self.old.lists.links }
+        ensures { DiscardsOrders (Fate.Waiting link) cause self.old self.new }
+    {
+        let buffers = &mut self.buffers;
+        let window = &mut buffers.links[usize::from(link)].window;
+        sift(window, &mut self.messages, Fate::Discarded { cause });
     }
 
     /// The first message that waits for the link is given up, for this cause.

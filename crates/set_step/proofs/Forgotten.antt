@@ -2,14 +2,15 @@
 -- number, while the model filters its rows; both say the same of each number (`StaysAs`), since a fate is that of a
 -- queue just where more can become of the message (`final_is`). So no queue changes, and as many are counted as leave
 -- (`finished_are`, by induction on the rows in `orders_ended`), no more than were given out (`fits`). It stands on
--- set_model's Checkpointing.antt and set_traffic's Counts.antt; the function kept of src/forgetting.rt uses it.
-use Rattle.std.proofs.Common.{refl, arith, ◌≡◌, ◌∙◌, ap, sym, subst, ◌+◌, ◌≤◌, ◌&&◌, [], ◌∷◌, List, ℕ, Bool, not, length, filter, cond, Option, None, Some, option_map}
+-- set_model's Checkpointing.antt and set_traffic's Counts.antt; the functions kept and forget of src/forgetting.rt use it.
+use Rattle.std.proofs.Common.{refl, arith, ◌≡◌, ◌∙◌, ap, sym, subst, ◌+◌, ◌≤◌, ◌&&◌, [], ◌∷◌, List, ℕ, Bool, true, not, length, filter, cond, Option, None, Some, option_map}
 use Rattle.std.proofs.lemmas.Bool.Decides.{nat_tests}
 use Rattle.std.proofs.lemmas.List.{length-map}
-use Rattle.set_queues.specs.Bodies.{kept_bodies}
+use Rattle.std.specs.Prelude.{IsSome}
+use Rattle.set_queues.specs.Bodies.{AreHeld, kept_bodies}
 use Rattle.set_queues.specs.Buffers.{is_standing}
 use Rattle.set_queues.specs.Messages.{count_of, finished_in, is_ended_order, is_there, is_unfinished, is_users, kept_slot, slot_at, unfinished as unfinished_messages, was_acked, was_discarded_by}
-use Rattle.set_queues.proofs.Placing.{length_slots, slot_in}
+use Rattle.set_queues.proofs.Placing.{length_slots, slot_in, slots_same}
 use Rattle.set_queues.proofs.Standing.{same_is, slot_map, slot_past}
 use Rattle.set_model.specs.Checkpoint.{checkpointed, counted, stays, unfinished}
 use Rattle.set_model.specs.Rows.{Emergency, NoAnswer, Unreasonable, Fate, IsNumbered, Row, is_users as is_users_row, numbers, row_of, standing, users}
@@ -103,3 +104,33 @@ fits parts h =
     let all = ap all_finished (finished_are (kept_of parts) h.0 f) in
     let given_is = (checkpoints h.0).given_same in
     omega (arith, all, given_is, f.given_out)
+
+-- each message that isn't finished has its body
+slot_there : (slot : Option Message) (row : Option Row) (body : Option (List ℕ)) → option_map (λ (m : Message). m.fate) slot ≡ option_map (λ (r : Row). r.fate) row → body ≡ option_map (λ (r : Row). r.body) row → is_unfinished slot ≡ true → IsSome body
+slot_there None row body f b h = absurd cc
+slot_there (Some m) None body f b h = absurd cc
+slot_there (Some m) (Some r) body f b h = rw b refl
+
+pub held : (k : Kept) → Holds k → AreHeld k.messages k.bodies
+held k h = λ number is. slot_there (slot_at number k.messages) (row_of number h.0.rows) (slot_at number k.bodies) (h.1.stands.stands.fates number) (h.1.stands.bodies number) is
+
+-- also where the finished ones left already, and then as many bodies stay
+still_unfinished : (slot : Option Message) → is_unfinished (kept_slot slot) ≡ is_unfinished slot
+still_unfinished None = refl
+still_unfinished (Some m) = grind arith
+
+unfinished_at : (ms : List (Option Message)) (number : ℕ) → is_unfinished (slot_at number (unfinished_messages ms)) ≡ is_unfinished (slot_at number ms)
+unfinished_at ms number = ap is_unfinished (slot_map kept_slot refl ms number) ∙ still_unfinished (slot_at number ms)
+
+pub held_then : (k : Kept) → Holds k → AreHeld (unfinished_messages k.messages) k.bodies
+held_then k h = λ number is. held k h number (sym (unfinished_at k.messages number) ∙ is)
+
+pub many_then : (k : Kept) → Holds k → length (unfinished_messages k.messages) ≡ length k.bodies
+many_then k h = length-map k.messages kept_slot ∙ sym h.1.stands.held_bodies
+
+pub bodies_then : (k : Kept) → kept_bodies (unfinished_messages k.messages) k.bodies ≡ kept_bodies k.messages k.bodies
+bodies_then k = slots_same (λ n. cond (is_unfinished (slot_at n (unfinished_messages k.messages))) (slot_at n k.bodies) None) (λ n. cond (is_unfinished (slot_at n k.messages)) (slot_at n k.bodies) None) (length k.bodies) (λ n low. ap (λ (b : Bool). cond b (slot_at n k.bodies) None) (unfinished_at k.messages n))
+
+-- what is kept then is kept so
+pub forgets : (k k' : Kept) → k' ≡ kept_in k → (s : State) → Agrees k s → Agrees k' (checkpointed s)
+forgets k k' e s a = subst (λ (k : Kept). Agrees k (checkpointed s)) (sym e) (kept_agrees k s a)

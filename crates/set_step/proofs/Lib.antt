@@ -1,2 +1,3 @@
 pub mod Forgotten
 pub mod Kept
+pub mod Listed

@@ -1,17 +1,18 @@
 //! What a set keeps, as one event after another changes it.
-ghost use Rattle.std.specs.Prelude.{◌≡◌, ◌<◌, ◌+◌, ◌%◌, ◌^◌, true, length, IsOk, IfOk, IfErr, OnOk, OnErr};
+ghost use Rattle.std.specs.Prelude.{◌≡◌, ◌<◌, ◌+◌, ◌%◌, ◌^◌, ◌++◌, true, length, IsOk, IfOk, IfErr, OnOk, OnErr};
 ghost use Rattle.l2_window.specs.Window.{fsn_count};
 ghost use Rattle.set_events.specs.Lent.{event_in};
 ghost use Rattle.set_model.specs.Checkpoint.{checkpointed, counts_in};
-ghost use Rattle.set_model.specs.Rows.{place, total_of, users};
-ghost use Rattle.set_model.specs.State.{State, all_finished, given, new_state, link_count, is_up as is_up_in, is_settled as is_settled_in, unacked_in};
+ghost use Rattle.set_model.specs.Rows.{held, numbers as numbers_of, place, total_of, unack, users, wait};
+ghost use Rattle.set_queues.specs.Buffers.{IsKnown, queue_at};
+ghost use Rattle.set_model.specs.State.{State, all_finished, given, new_state, link_count, is_up as is_up_in, is_settled as is_settled_in, late_at, unacked_in};
 ghost use Rattle.set_model.specs.History.{longest_history};
 ghost use Rattle.set_model.specs.Step.{step};
 ghost use Rattle.set_changeover.specs.Agreement.{Kept, Agrees, StandsFor, Holds, HoldsFew};
 ghost use Rattle.set_step.specs.Answering.{AnswersFor, wants_none};
 ghost use Rattle.set_changeover.specs.Parts.{kept_of};
 
-use super::forgetting::{copied, kept};
+use super::forgetting::{copied, forget, kept};
 use super::step::take_step;
 use l2_units::Profile;
 use l2_window::Window;
@@ -28,9 +29,10 @@ use std::marker::Model;
 /// and the messages heard for users.
 ///
 /// Contracts see what is kept, and say of every state of the model that it agrees with what becomes of it.
-/// Readers: [`Core::place_of`], [`Core::links`], [`Core::is_up`], [`Core::is_settled`],
-/// [`Core::numbers_given`], [`Core::finished`], [`Core::counts`], [`Core::unacked_at`]. The one input: [`Core::apply`].
-/// [`Core::kept`] is what a checkpoint keeps of it, and [`Core::copied`] the same again.
+/// Readers: [`Core::place_of`], [`Core::links`], [`Core::is_up`], [`Core::is_settled`], [`Core::late`],
+/// [`Core::numbers_given`], [`Core::finished`], [`Core::counts`], [`Core::unacked_at`], [`Core::push_numbers_on`]. The one
+/// input: [`Core::apply`]. [`Core::forget`] is a checkpoint, [`Core::kept`] what one keeps of it, and [`Core::copied`] the
+/// same again.
 #[derive(Drop)]
 pub struct Core<A: Allocator = Global> {
     parts: Parts<A>,
@@ -125,6 +127,17 @@ impl<A: Allocator + Copy> Core<A> {
         phase_of(&self.parts, link) == Some(Phase::Settled)
     }
 
+    /// How many changeover orders about this link were heard while it was settled, modulo 2^32 (own); 0 for a link that
+    /// the set hasn't.
+    pub fn late(&self, link: u8) -> u32
+        ensures { (s : State) → StandsFor self.now s → result ≡ late_at link s }
+    {
+        match self.parts.links.get(usize::from(link)) {
+            Some(link) => link.late,
+            None => 0,
+        }
+    }
+
     /// Where the message of this number stands; none has it: `None`.
     pub fn place_of(&self, number: u64) -> Option<Fate>
         ensures { (s : State) → StandsFor self.now s → result ≡ place number s.rows }
@@ -176,6 +189,19 @@ impl<A: Allocator + Copy> Core<A> {
         })
     }
 
+    /// A checkpoint: the messages of which nothing more can become leave, and are counted.
+    ///
+    /// It costs the same however many messages stand, but for a copy ([`Core::kept`]) where of those that are kept more
+    /// left than stand: so each checkpoint costs what left, and a constant. It fails only where memory was refused for
+    /// that copy, and what is kept is then as it was.
+    pub fn forget(&mut self) -> Result<(), AllocError>
+        ensures ok { OnOk result ((s : State) → Agrees self.old s → Agrees self.new (checkpointed s)) }
+        ensures err { OnErr result (self.new ≡ self.old) }
+    {
+        forget(&mut self.parts)?;
+        Ok(())
+    }
+
     /// The same again. It fails only where memory was refused.
     pub fn copied(&self) -> Result<Core<A>, AllocError>
         ensures { IfOk result (λ core. core ≡ self.now) }
@@ -199,6 +225,44 @@ impl<A: Allocator + Copy> Core<A> {
         let fsn = fsn_behind(self.parts.queues.window(link), place);
         Some(Numbered { number, fsn })
     }
+
+    /// The numbers of the messages that stand on the link are put behind the others: of those that were sent and aren't
+    /// acknowledged, then of those that wait for it, then of those that are held for it, each in the order of queueing. None
+    /// stand on a link that the set hasn't. It fails only where memory was refused, and of the numbers nothing is said then.
+    pub fn push_numbers_on<N: Allocator>(
+        &self,
+        link: u8,
+        numbers: &mut Vec<u64, N>,
+    ) -> Result<(), AllocError>
+        ensures { OnOk result ((s : State) → StandsFor self.now s
+            → numbers.new.items ≡ numbers.old.items ++ (numbers_of (unack link s.rows)
+            ++ (numbers_of (wait link s.rows) ++ numbers_of (held link s.rows)))) }
+    {
+        if usize::from(link) >= self.parts.queues.links() {
+            return Ok(());
+        }
+        push_queue(&self.parts.queues, Fate::Unacked { link }, numbers)?;
+        push_queue(&self.parts.queues, Fate::Waiting { link }, numbers)?;
+        push_queue(&self.parts.queues, Fate::Held { link }, numbers)
+    }
+}
+
+/// The numbers that stand in this queue are put behind the others, in their order.
+fn push_queue<A: Allocator + Copy, N: Allocator>(
+    queues: &Queues<A>,
+    fate: Fate,
+    numbers: &mut Vec<u64, N>,
+) -> Result<(), AllocError>
+    requires { IsKnown fate queues.now.lists }
+    ensures { OnOk result (numbers.new.items ≡ numbers.old.items ++ queue_at fate queues.now.lists) }
+{
+    for place in 0..queues.count_at(fate) {
+        let Some(number) = queues.number_at(fate, place) else {
+            unreachable!();
+        };
+        numbers.push(number)?;
+    }
+    Ok(())
 }
 
 /// The FSN of the message at this place behind the one last acknowledged.

@@ -1,5 +1,6 @@
 //! What a checkpoint keeps, and the same again: both in memory of their own.
-ghost use Rattle.std.specs.Prelude.{◌≡◌, ◌+◌, ◌<◌, ◌^◌, IfOk, List, ℕ};
+ghost use Rattle.std.specs.Prelude.{◌≡◌, ◌+◌, ◌<◌, ◌^◌, IfOk, IfSome, OnErr, OnOk, List, ℕ, length};
+ghost use Rattle.set_queues.specs.Bodies.{AreHeld, kept_bodies};
 ghost use Rattle.set_model.specs.Checkpoint.{checkpointed};
 ghost use Rattle.set_model.specs.State.{State, all_finished};
 ghost use Rattle.set_changeover.specs.Agreement.{Agrees, Holds};
@@ -8,6 +9,7 @@ ghost use Rattle.set_step.specs.Forgotten.{together};
 
 use set_changeover::{HeardBody, Inbox, Link, Parts};
 use set_events::Finished;
+use set_queues::{Bodies, Queues};
 use std::alloc::{AllocError, Allocator};
 use std::collections::VecDeque;
 
@@ -30,6 +32,38 @@ pub(crate) fn kept<A: Allocator + Copy>(parts: &Parts<A>) -> Result<Parts<A>, Al
         routes: parts.routes.copied(),
         inbox: inbox_copied(alloc, &parts.inbox)?,
     })
+}
+
+/// The same where it stands: the messages that are finished leave, and are counted. It costs the same however many
+/// stand and leave, but for a copy where of those that are kept more left than stand. All memory is taken first.
+#[tactic(auto, using(crate::proofs::Forgotten::fits))]
+pub(crate) fn forget<A: Allocator + Copy>(parts: &mut Parts<A>) -> Result<(), AllocError>
+    requires { Holds (kept_of parts.old) }
+    ensures ok { OnOk result ((s : State) → Agrees (kept_of parts.old) s
+        → Agrees (kept_of parts.new) (checkpointed s)) }
+    ensures err { OnErr result (kept_of parts.new ≡ kept_of parts.old) }
+{
+    // no more messages are counted than numbers were given out
+    parts.queues.len();
+    let finished = together(parts.finished, parts.queues.finished());
+    let lean = parts.bodies.lean(&parts.queues)?;
+    parts.queues.forget()?;
+    let_go(&mut parts.bodies, lean, &parts.queues);
+    parts.finished = finished;
+    Ok(())
+}
+
+/// The bodies of the messages that left leave too: the copy without them stands in their place, if there is one.
+fn let_go<A: Allocator + Copy>(bodies: &mut Bodies<A>, lean: Option<Bodies<A>>, queues: &Queues<A>)
+    requires held { AreHeld queues.now.messages bodies.old.items }
+    requires as_many { length queues.now.messages ≡ length bodies.old.items }
+    requires lean { IfSome lean (λ copy. copy.items ≡ kept_bodies queues.now.messages bodies.old.items) }
+    ensures { bodies.new.items ≡ kept_bodies queues.now.messages bodies.old.items }
+{
+    match lean {
+        Some(copy) => *bodies = copy,
+        None => bodies.forget(queues),
+    }
 }
 
 /// The same again.

@@ -168,7 +168,7 @@ fn leave_and_come_back(alloc: Global, bench: &mut Bench) -> bool {
         && all_run(alloc, bench)
         && all_leave(alloc, bench)
         && come_up(bench, 1)
-        && adds_up_to(bench, 39, 16, 5)
+        && adds_up_to(bench, 40, 16, 4)
         && stand(bench, &PLACES_OF_FIVE_LINKS)
         && sends_four(bench)
         && were_sent_in_order(&bench.set)
@@ -241,7 +241,7 @@ const PLACES_OF_FIVE_LINKS: [(u64, Fate); 20] = [
     (62, ON),
     (21, Fate::Acked { link: 8 }),
     (22, NO_ANSWER),
-    (23, NO_ANSWER),
+    (23, ON),
     (60, ON),
     (24, Fate::Acked { link: 9 }),
     (25, ON),

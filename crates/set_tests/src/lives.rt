@@ -202,3 +202,61 @@ fn comes_up_settled(set: &mut SetCore) -> bool {
         && does_all(set, &[Call::NoAnswer(0), Call::Up(0)])
         && refuses(set, Call::Up(0), Refusal::NotDown)
 }
+
+/// Each changeover order about link 1 counts that comes once the link has settled; an acknowledgement doesn't, nor does an
+/// order that settles it. The number stays when the link comes up, and over a checkpoint.
+#[test]
+fn late_orders_count(rt: HostRuntime) -> Result<(), Fail> {
+    holds(of_set(rt.alloc(), 2, |_alloc, set| counts_late_orders(set)))
+}
+
+fn counts_late_orders(set: &mut SetCore) -> bool {
+    accepts_one_and_leaves(set, Call::Down(1))
+        && hears(set, head_of(0, 0), &their_order(0), 1, Took::Order)
+        && set.late(1) == 0
+        && hears(set, head_of(0, 1), &answer_with(0), 0, Took::Ignored)
+        && set.late(1) == 0
+        && hears(set, head_of(0, 2), &their_order(0), 0, Took::Order)
+        && set.late(1) == 1
+        && hears(set, head_of(0, 3), &Order::Eco { link: 1 }, 0, Took::Order)
+        && does(set, Call::Up(1))
+        && set.checkpoint().is_ok()
+        && set.late(1) == 2
+        && set.late(0) == 0
+        && set.late(2) == 0
+}
+
+/// A changeover order about a link that never came up counts too.
+#[test]
+fn an_order_about_a_link_that_never_came_up_counts(rt: HostRuntime) -> Result<(), Fail> {
+    holds(of_set(rt.alloc(), 2, |_alloc, set| counts_of_a_new_link(set)))
+}
+
+fn counts_of_a_new_link(set: &mut SetCore) -> bool {
+    does(set, Call::Up(0))
+        && hears(set, head_of(127, 0), &their_order(127), 0, Took::Order)
+        && set.late(1) == 1
+        && sends_order(set, head_of(0, 0), &answer_with(127))
+}
+
+/// No answer comes about link 1: message 0, which was sent, is given up, and so is order 3, which waits there. Messages 1 and
+/// 2, which were never sent, go on before message 5, which was offered later.
+#[test]
+fn what_was_never_sent_outlives_no_answer(rt: HostRuntime) -> Result<(), Fail> {
+    holds(of_set(rt.alloc(), 2, keeps_what_was_never_sent))
+}
+
+fn keeps_what_was_never_sent(alloc: Global, set: &mut SetCore) -> bool {
+    let there = Fate::Waiting { link: 1 };
+    does_all(set, &[Call::Up(0), Call::Up(1)])
+        && accepts(alloc, set, 1, 0, there)
+        && sends(set, 1, 0, 0, 0)
+        && accepts(alloc, set, 1, 1, there)
+        && accepts(alloc, set, 3, 2, there)
+        && does_all(set, &[Call::Down(0), Call::Down(1)])
+        && accepts(alloc, set, 1, 5, Fate::Held { link: 1 })
+        && does(set, Call::NoAnswer(1))
+        && stand(set, &[(0, GIVEN_UP), (1, Fate::Parked), (3, GIVEN_UP)])
+        && does_all(set, &[Call::NoAnswer(0), Call::Up(0)])
+        && sends_in_order(set, 0, &[4, 1, 2, 5])
+}

@@ -18,6 +18,7 @@ use Rattle.term_model.specs.OctetIn.{bits_in}
 use Rattle.term_model.specs.OctetOut.{Appends, PutsOctet, put_of, left_of}
 use Rattle.term_model.specs.Terminal.{Terminal}
 use Rattle.term_model.specs.Turn.{turn_talk}
+use Rattle.term_bench.specs.Late.{ended_from}
 use Rattle.term_bench.specs.Ends.{AtLink, BenchState, word_of}
 use Rattle.term_bench.specs.Talks.{entries_with, outcome_with, state_with}
 use Rattle.term_bench.specs.Turns.{IsTurnBy, TakesTurn, Turns, counts_after, messages_heard}
@@ -148,7 +149,8 @@ turns_alone link octet old a b u v x y first second =
       turns = one.0;
       units = one.1;
       benches = same_bench x y one.2
-          (first.links_are ∙ ap (λ (at : AtLink). slice_set old.links link at) one.3 ∙ sym second.links_are);
+          (first.links_are ∙ ap (λ (at : AtLink). ended_from 0 old.set.state x.set.state (slice_set old.links link at)) one.3
+          ∙ ap (λ (s : LinkSet). ended_from 0 old.set.state s.state (slice_set old.links link second.now)) one.2 ∙ sym second.links_are);
     }
 
 -- Bits that come.

@@ -3,6 +3,7 @@ pub mod Ends
 pub mod Turns
 pub mod Slots
 pub mod Taking
+pub mod Late
 pub mod Laws
 pub mod Waiting
 pub mod Going

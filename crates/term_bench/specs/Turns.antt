@@ -23,6 +23,7 @@ use Rattle.link_term.specs.Faults.{fault_of}
 use Rattle.term_bench.specs.declared.counts.TurnCounts.{TurnCounts}
 use Rattle.term_bench.specs.declared.turn.Turn.{Turn}
 use Rattle.term_bench.specs.Ends.{AtLink, BenchState, word_of}
+use Rattle.term_bench.specs.Late.{ended_from}
 use Rattle.term_bench.specs.Talks.{entries_with, outcome_with, state_with}
 
 -- MESSAGES that were heard for users
@@ -100,8 +101,18 @@ pub record TakesTurn (link octet : ℕ) (set : LinkSet) (was : AtLink) (turn : T
   pub number_is : turn.number ≡ now.counts.turns
   pub cause_is : turn.cause ≡ now.terminal.cause
 
--- THE BENCH TOOK A TURN of this link: no other link changed
+-- THE BENCH TOOK A TURN of this link: no other link changed, but that each about which the set heard a changeover order late
+-- is told to stop
 pub record Turns (link octet : ℕ) (old : BenchState) (turn : Turn) (unit : Option SignalUnit) (new : BenchState)
+    : Type 0 where
+  pub was : AtLink
+  pub now : AtLink
+  pub is_at : slice_get old.links link ≡ Some was
+  pub takes : TakesTurn link octet old.set was turn unit new.set now
+  pub links_are : new.links ≡ ended_from 0 old.set.state new.set.state (slice_set old.links link now)
+
+-- before that: no other link changed
+pub record TurnsAlone (link octet : ℕ) (old : BenchState) (turn : Turn) (unit : Option SignalUnit) (new : BenchState)
     : Type 0 where
   pub was : AtLink
   pub now : AtLink

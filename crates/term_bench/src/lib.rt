@@ -20,6 +20,7 @@
 mod bench;
 mod counts;
 mod door;
+mod late;
 mod laws;
 mod link;
 mod timeslot;

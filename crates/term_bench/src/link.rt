@@ -3,6 +3,8 @@ ghost use Rattle.std.specs.Prelude.{◌≡◌, ◌<◌, ◌≤◌, ◌+◌, ◌^
 ghost use Rattle.set_events.specs.declared.history.Entry.{Entry};
 ghost use Rattle.term_bench.specs.Ends.{new_link, new_links, told_at, word_of};
 ghost use Rattle.term_bench.specs.Going.{GoesOn};
+ghost use Rattle.term_bench.specs.Late.{is_out};
+ghost use Rattle.link_term.specs.States.{state_of};
 ghost use Rattle.term_bench.specs.Taking.{Takes};
 ghost use Rattle.term_bench.specs.Waiting.{waits_with};
 ghost use Rattle.l2_bits.specs.LineBits.{bits_of, number_of};
@@ -18,7 +20,7 @@ use super::timeslot::Timeslot;
 use super::turn::Turn;
 use super::word::{LinkWord, word_of};
 use l2_units::Cause;
-use link_term::{Command, Filling, Tap, TermFault, Timers, Turned, Works};
+use link_term::{Command, Filling, Tap, TermFault, TermState, Timers, Turned, Works};
 use std::alloc::{AllocError, Global};
 use std::marker::Model;
 
@@ -75,6 +77,13 @@ impl LinkEnd {
         ensures { self.new ≡ told_at command self.old }
     {
         self.works.command(command);
+    }
+
+    /// Whether it's out of service.
+    pub(crate) fn is_out(&self) -> bool
+        ensures { result ≡ is_out (state_of self.now.terminal) }
+    {
+        matches!(self.works.state(), TermState::OutOfService)
     }
 
     /// A turn by this octet, with a tap.

@@ -1,6 +1,7 @@
 //! What a terminal holds, its readers, and the commands that wait in it.
 
 ghost use Rattle.std.specs.Prelude.{◌≡◌, ◌<◌, ◌^◌, ◌||◌, false};
+ghost use Rattle.l2_state.specs.Table.{is_paused};
 ghost use Rattle.term_model.specs.Terminal.{opened, told, no_commands};
 
 use crate::bits_left::BitsLeft;
@@ -48,6 +49,8 @@ pub struct Inside {
     pub(crate) blind: bool,
     /// The FSN of the last new message sent since that Up; 127 at Up (Q.703 5.2).
     pub(crate) top: u8,
+    /// A message that was sent since that Up isn't acknowledged.
+    pub(crate) unacked: bool,
     /// Why the link failed last.
     pub(crate) cause: Option<Cause>,
 }
@@ -76,6 +79,7 @@ impl Model for Inside {
       up = i.up;
       blind = i.blind;
       top = i.top;
+      unacked = i.unacked;
       cause = i.cause;
     } };
 }
@@ -113,6 +117,7 @@ impl Inside {
             up: false,
             blind: false,
             top: 127,
+            unacked: false,
             cause: None,
         }
     }
@@ -129,6 +134,17 @@ impl Inside {
         ensures { result ≡ self.now.state }
     {
         self.state.state()
+    }
+
+    /// Whether it's in service, and the far end has a processor outage (Q.703 8.2).
+    #[inline(always)]
+    pub fn is_paused(&self) -> bool
+        ensures { result ≡ is_paused self.now.state }
+    {
+        match self.state.state() {
+            State::InService { paused } => paused,
+            State::OutOfService | State::Aligning | State::Ready => false,
+        }
     }
 
     /// Where initial alignment stands (Q.703 7.3).
@@ -172,6 +188,13 @@ impl Inside {
         ensures { result ≡ self.now.top }
     {
         self.top
+    }
+
+    /// Whether a message that was sent since the link came up isn't acknowledged.
+    pub fn has_unacked(&self) -> bool
+        ensures { result ≡ self.now.unacked }
+    {
+        self.unacked
     }
 
     /// Why the link failed last, if it did.

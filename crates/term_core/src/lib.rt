@@ -19,11 +19,11 @@
 //!                                    +------------------------------------------------+
 //! ```
 //!
-//! - Readers: `link`, `state_now`, `alignment`, `status`, `is_up`, `is_blind`, `is_b_due`, `top`, `cause`, `last_head`,
-//!   `has_ended`, `is_short`, `octet`.
+//! - Readers: `link`, `state_now`, `is_paused`, `alignment`, `status`, `is_up`, `is_blind`, `is_b_due`, `top`,
+//!   `has_unacked`, `cause`, `last_head`, `has_ended`, `is_short`, `octet`.
 //! - Commands wait in it (`command`) until a turn takes them (`take_commands`, `blind`).
 //! - Inputs of the machines: `align`, `control`, `state`; the monitors': `judge`; the timers': `lessen`, `ended`.
-//! - What the set said: `rise`, `fall`, `stop_quietly`.
+//! - What the set said: `rise`, `acknowledge`, `fall`, `stop_quietly`.
 //! - What is sent: `drop_b`, `raise_top`, `append`, `is_busy`, `withholding`, `drop_octet`.
 //!
 //! [`first_header`] is that of a link on which nothing was sent yet. [`judging_is_the_models`] and [`no_end_no_talk`] are

@@ -1,6 +1,6 @@
 //! The machines' outputs, carried out as far as the terminal does it by itself (Q.703 12.1).
 
-ghost use Rattle.std.specs.Prelude.{◌≡◌};
+ghost use Rattle.std.specs.Prelude.{◌≡◌, ◌==◌, not};
 ghost use Rattle.l2_align.specs.Table.{row as align_row};
 ghost use Rattle.l2_state.specs.Table.{row as state_row};
 ghost use Rattle.l2_flow.specs.Table.{row_of as flow_row};
@@ -106,7 +106,18 @@ impl Inside {
             self.up = true;
             self.blind = false;
             self.top = 127;
+            self.unacked = false;
         }
+    }
+
+    /// The set said that a unit with this BSN acknowledged messages, or asked for retransmission: whether messages are
+    /// left, which it is where that isn't the FSN of the last one sent (Q.703 5.3.1).
+    pub fn acknowledge(&mut self, bsn: u16) -> bool
+        ensures more { result ≡ not (bsn == self.old.top) }
+        ensures next { self.new ≡ record self.old { unacked = result } }
+    {
+        self.unacked = bsn != u16::from(self.top);
+        self.unacked
     }
 
     /// The set said that the link isn't up there: it's stopped here, and the set isn't told (own).

@@ -1,6 +1,6 @@
 //! What is sent: the header of units, and the bits that are left (Q.703 2, 3, 9.3).
 
-ghost use Rattle.std.specs.Prelude.{◌≡◌, ◌≤◌, ◌<◌, false, length, nat_lt, take, drop, Some};
+ghost use Rattle.std.specs.Prelude.{◌≡◌, ◌≤◌, ◌<◌, false, true, length, nat_lt, take, drop, Some};
 ghost use Rattle.l2_bits.specs.LineBits.{number_of};
 ghost use Rattle.l2_units.specs.Grammar.{IsHeadOf, head_of};
 ghost use Rattle.l2_units.specs.Lent.{body_in, unit_in};
@@ -21,10 +21,11 @@ impl Inside {
     }
 
     /// A message with this FSN was chosen to be sent: a new one follows the last new one, any other is retransmitted
-    /// (Q.703 5.2).
+    /// (Q.703 5.2). It isn't acknowledged.
     pub fn raise_top(&mut self, fsn: u16)
-        ensures { self.new ≡ record self.old { top = raised_top fsn self.old.top } }
+        ensures { self.new ≡ record self.old { top = raised_top fsn self.old.top; unacked = true } }
     {
+        self.unacked = true;
         let next = self.top.wrapping_add(1) % 128;
         if fsn == u16::from(next) {
             self.top = next;

@@ -14,7 +14,10 @@ timer_rows = record {
 pub heard_rows : HeardRows
 heard_rows = record {
   left_by_itself = (_, (refl, refl), (refl, refl, refl));
-  pause_and_end = (_, (refl, (refl, refl)), refl);
+  pause_and_end = (_, (refl, (refl, refl)), (refl, refl));
+  outage_while_awaiting = (_, (refl, refl), (refl, refl, refl));
+  outage_and_no_ack = (_, (refl, (refl, refl)), (refl, refl));
+  outage_and_last_ack = (_, (refl, (refl, refl)), (refl, refl));
   last_acked = (_, (refl, refl), (refl, refl, refl));
   one_acked = (_, (refl, refl), (refl, refl, refl));
 }

@@ -144,7 +144,7 @@ fallen_kept b t cause timed = record { timed = fallen_timed b t cause timed; ser
 
 risen_kept : (b t : Terminal) (answer : Answer) → IsTimed b t → IsInService t.state → IsKept b (risen answer t)
 risen_kept b t Answer.Done timed is = record {
-  timed = same_timed b t (record t { up = true; blind = false; top = 127 }) refl refl refl refl (omega arith) timed;
+  timed = same_timed b t (record t { up = true; blind = false; top = 127; unacked = false }) refl refl refl refl (omega arith) timed;
   served = λ up. is;
 }
 risen_kept b t _ timed is = record { timed = timed; served = λ up. is }

@@ -149,6 +149,10 @@ flow_orders_at false true true (FlowIn.Acked true) = (tt, tt, tt)
 flow_orders_at false true false (FlowIn.Acked true) = (tt, tt, tt)
 flow_orders_at false false true (FlowIn.Acked true) = (tt, tt, tt)
 flow_orders_at false false false (FlowIn.Acked true) = (tt, tt, tt)
+flow_orders_at true true false (FlowIn.Resumed true) = (tt, tt, tt)
+flow_orders_at true false false (FlowIn.Resumed true) = (tt, tt, tt)
+flow_orders_at false true false (FlowIn.Resumed true) = (tt, tt, tt)
+flow_orders_at false false false (FlowIn.Resumed true) = (tt, tt, tt)
 flow_orders_at _ _ _ _ = (tt, tt, tt)
 
 pub flow_orders : (v : Values) (input : FlowIn) → FlowOrders (flow_row v input).out

@@ -13,6 +13,7 @@ use Rattle.l2_align.specs.declared.align.State.{State as AlignState}
 use Rattle.l2_align.specs.declared.signals.AlignIn.{AlignIn}
 use Rattle.l2_state.specs.declared.link_state.State.{State}
 use Rattle.l2_state.specs.declared.signals.StateIn.{StateIn}
+use Rattle.l2_state.specs.Table.{is_paused}
 use Rattle.l2_flow.specs.declared.input.FlowIn.{FlowIn}
 use Rattle.set_events.specs.declared.answer.Answer.{Answer}
 use Rattle.set_events.specs.declared.answer.Refusal.{Refusal}
@@ -22,7 +23,7 @@ use Rattle.set_events.specs.declared.history.Entry.{Entry}
 use Rattle.term_model.specs.declared.timers.Clocks.{Clocks}
 use Rattle.term_model.specs.declared.timers.Timers.{Timers}
 use Rattle.term_model.specs.Choosing.{Filled, is_narrow, sends, sends_status, sends_fisu, sends_start_fisu, raised_top, counts_sent, held_back, sent_by, serves, up_first, chosen, filled}
-use Rattle.term_model.specs.Hearing.{unit_in, is_error, aerm_judges, suerm_judges, service_judges, judges, judged, flow_hears, machines_hear, acks, faults, reported, set_hears, heard, marked, all_marked}
+use Rattle.term_model.specs.Hearing.{unit_in, is_error, aerm_judges, suerm_judges, service_judges, judges, judged, flow_hears, machines_hear, acks, faults, acked, reported, set_hears, waits, all_hear, heard, marked, all_marked}
 use Rattle.term_model.specs.Machines.{state_in, align_in, flow_in, asks_up, stops_quietly}
 use Rattle.l2_monitors.specs.Aerm.{after_mark as after_aerm_mark}
 use Rattle.l2_monitors.specs.Suerm.{after_mark}
@@ -128,8 +129,10 @@ faults_kept b t (Some fault) kept = state_kept b t (StateIn.Failure (cause_of fa
 
 acks_kept : (b t : Terminal) (report : Report) (bsn : ℕ) → IsKept b t → Stays b (acks report bsn t)
 acks_kept b t report bsn kept =
-    if_keeps (IsOfLink b.link) (IsKept b) (nat_lt 0 report.acked || report.resend) (flow_in (FlowIn.Acked (not (bsn == t.top))) t) (done t)
-    (λ is. flow_kept b t (FlowIn.Acked (not (bsn == t.top))) kept) (λ not. kept)
+    let more = not (bsn == t.top) in
+    let u : Terminal = record t { unacked = more } in
+    if_keeps (IsOfLink b.link) (IsKept b) (nat_lt 0 report.acked || report.resend) (acked more t) (done t)
+    (λ is. flow_kept b u (FlowIn.Acked more) (same_kept b t u refl refl refl refl refl refl refl kept)) (λ not. kept)
 
 reported_kept : (b t : Terminal) (answer : Answer) (bsn : ℕ) → IsKept b t → Stays b (reported answer bsn t)
 reported_kept b t (Answer.Heard report) bsn kept =
@@ -143,13 +146,25 @@ hears_kept b t unit kept =
     if_keeps (IsOfLink b.link) (IsKept b) t.up (ask (Event.Heard t.link unit) (λ answer. reported answer (head_of unit).bsn t)) (done t)
     (λ up. (kept.timed.link_is, λ answer. reported_kept b t answer (head_of unit).bsn kept)) (λ not. kept)
 
-heard_kept : (b t : Terminal) (unit : Option SignalUnit) → IsKept b t → Stays b (heard unit t)
-heard_kept b t None kept = kept
-heard_kept b t (Some unit) kept =
+waits_kept : (b t : Terminal) (was now : Bool) → IsKept b t → Stays b (waits was now t)
+waits_kept b t was true kept = flow_kept b t FlowIn.Paused kept
+waits_kept b t true false kept =
+    if_keeps (IsOfLink b.link) (IsKept b) t.up (flow_in (FlowIn.Resumed t.unacked) t) (done t)
+    (λ up. flow_kept b t (FlowIn.Resumed t.unacked) kept) (λ not. kept)
+waits_kept b t false false kept = kept
+
+all_hear_kept : (b t : Terminal) (unit : SignalUnit) → IsKept b t → Stays b (all_hear unit t)
+all_hear_kept b t unit kept =
     then_keeps (IsOfLink b.link) (IsKept b) (IsKept b) (align_in AlignIn.Good t) (λ u. and_then (machines_hear unit u) (λ v. set_hears unit v))
     (align_kept b t AlignIn.Good kept)
     (λ u kept. then_keeps (IsOfLink b.link) (IsKept b) (IsKept b) (machines_hear unit u) (λ v. set_hears unit v)
     (machines_kept b u unit kept) (λ v kept. hears_kept b v unit kept))
+
+heard_kept : (b t : Terminal) (unit : Option SignalUnit) → IsKept b t → Stays b (heard unit t)
+heard_kept b t None kept = kept
+heard_kept b t (Some unit) kept =
+    then_keeps (IsOfLink b.link) (IsKept b) (IsKept b) (all_hear unit t) (λ u. waits (is_paused t.state) (is_paused u.state) u)
+    (all_hear_kept b t unit kept) (λ u kept. waits_kept b u (is_paused t.state) (is_paused u.state) kept)
 
 marked_kept : (b t : Terminal) (mark : Mark) → IsKept b t → Stays b (marked mark t)
 marked_kept b t mark kept =
@@ -243,7 +258,7 @@ raised_in_range fsn top in_top = grind (arith, nat_tests, in_top)
 
 counts_kept : (b t : Terminal) (unit : SignalUnit) → IsKept b t → Stays b (counts_sent unit t)
 counts_kept b t (SignalUnit.Msu head body) kept =
-    let u : Terminal = record t { top = raised_top head.fsn t.top } in
+    let u : Terminal = record t { top = raised_top head.fsn t.top; unacked = true } in
     flow_kept b u FlowIn.Sent (record {
       timed = same_timed b t u refl refl refl refl (raised_in_range head.fsn t.top kept.timed.top) kept.timed;
       served = kept.served;

@@ -44,7 +44,8 @@ raised_top fsn top = if fsn == (top + 1) % 128 then fsn else top
 
 -- Q.703 9.3: T7 runs from the first message on that isn't acknowledged
 abbrev pub counts_sent : SignalUnit → Terminal → Talk Terminal
-counts_sent (SignalUnit.Msu head body) t = flow_in FlowIn.Sent (record t { top = raised_top head.fsn t.top })
+counts_sent (SignalUnit.Msu head body) t =
+    flow_in FlowIn.Sent (record t { top = raised_top head.fsn t.top; unacked = true })
 counts_sent _ t = done t
 
 -- Q.703 9.3: while this end is busy it withholds acknowledgements: BSN and BIB stay those of the last unit before

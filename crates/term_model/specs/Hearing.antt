@@ -14,6 +14,7 @@ use Rattle.l2_align.specs.declared.align.State.{State as AlignState}
 use Rattle.l2_align.specs.declared.signals.AlignIn.{AlignIn}
 use Rattle.l2_state.specs.declared.link_state.State.{State}
 use Rattle.l2_state.specs.declared.signals.StateIn.{StateIn}
+use Rattle.l2_state.specs.Table.{is_paused}
 use Rattle.l2_flow.specs.declared.input.FlowIn.{FlowIn}
 use Rattle.set_events.specs.declared.answer.Answer.{Answer}
 use Rattle.set_events.specs.declared.answer.Refusal.{Refusal}
@@ -88,9 +89,11 @@ machines_hear (SignalUnit.Msu head body) t = state_in StateIn.Msu t
 
 -- Q.703 9.3: what acknowledges, or asks for retransmission (own), ends the far end's busy time; T7 goes on where
 -- messages are left: where the BSN isn't the FSN of the last one sent
+abbrev pub acked : Bool → Terminal → Talk Terminal
+acked more t = flow_in (FlowIn.Acked more) (record t { unacked = more })
+
 abbrev pub acks : Report → ℕ → Terminal → Talk Terminal
-acks report bsn t =
-    if nat_lt 0 report.acked || report.resend then flow_in (FlowIn.Acked (not (bsn == t.top))) t else done t
+acks report bsn t = if nat_lt 0 report.acked || report.resend then acked (not (bsn == t.top)) t else done t
 
 -- Q.703 5.3.1, 5.3.2: two abnormal BSNs, or FIBs, in three units are a failure of the link
 abbrev pub faults : Option ControlFault → Terminal → Talk Terminal
@@ -109,12 +112,26 @@ abbrev pub set_hears : SignalUnit → Terminal → Talk Terminal
 set_hears unit t =
     if t.up then ask (Event.Heard t.link unit) (λ answer. reported answer (head_of unit).bsn t) else done t
 
+-- THE FAR END'S PROCESSOR OUTAGE (Q.703 8.2): it acknowledges nothing meanwhile, so T7 stands still (own).
+
+-- whether the link was paused before a unit, and is so behind it: the first unit that the set hears behind the outage
+-- starts T7 anew, where messages are unacknowledged
+abbrev pub waits : Bool → Bool → Terminal → Talk Terminal
+waits was true t = flow_in FlowIn.Paused t
+waits true false t = if t.up then flow_in (FlowIn.Resumed t.unacked) t else done t
+waits false false t = done t
+
+-- A UNIT.
+
 -- Q.703 7.3: a correct unit of any kind lets a proving that was aborted begin anew, before the unit itself is heard
-abbrev pub heard : Option SignalUnit → Terminal → Talk Terminal
-heard None t = done t
-heard (Some unit) t =
+abbrev pub all_hear : SignalUnit → Terminal → Talk Terminal
+all_hear unit t =
     and_then (align_in AlignIn.Good t) (λ t.
     and_then (machines_hear unit t) (λ t. set_hears unit t))
+
+abbrev pub heard : Option SignalUnit → Terminal → Talk Terminal
+heard None t = done t
+heard (Some unit) t = and_then (all_hear unit t) (λ after. waits (is_paused t.state) (is_paused after.state) after)
 
 abbrev pub marked : Mark → Terminal → Talk Terminal
 marked mark t = and_then (judged (is_error (unit_in mark)) t) (λ t. heard (unit_in mark) t)

@@ -112,7 +112,7 @@ fallen cause t = record (controls FlowIn.Reset
 -- Q.703 12.1, level 3 is told "link in service": where the set says Done its error control begins anew, from FSN 127;
 -- any other answer is a refusal, and leaves all as it is (own)
 abbrev pub risen : Answer → Terminal → Terminal
-risen Answer.Done t = record t { up = true; blind = false; top = 127 }
+risen Answer.Done t = record t { up = true; blind = false; top = 127; unacked = false }
 risen _ t = t
 
 abbrev pub asks_up : Terminal → Talk Terminal

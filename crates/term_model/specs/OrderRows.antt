@@ -13,6 +13,7 @@ use Rattle.set_events.specs.declared.answer.Answer.{Answer}
 use Rattle.set_events.specs.declared.answer.Refusal.{Refusal}
 use Rattle.set_events.specs.declared.answer.Took.{Took}
 use Rattle.set_events.specs.declared.event.Event.{Event}
+use Rattle.set_events.specs.declared.history.Entry.{Entry}
 use Rattle.term_model.specs.declared.command.Command.{Command}
 use Rattle.term_model.specs.Choosing.{filled}
 use Rattle.term_model.specs.Hearing.{all_marked}
@@ -30,6 +31,7 @@ abbrev pub overdue : Terminal
 overdue = record serving {
   flow = record { busy = false; far_busy = true; t7_runs = true };
   clocks = record no_clocks { t6 = Some 1; t7 = Some 1 };
+  unacked = true;
 }
 
 pub record TimerRows : Type 0 where
@@ -59,7 +61,12 @@ awaiting = record serving {
   flow = record { busy = false; far_busy = true; t7_runs = true };
   clocks = record no_clocks { t6 = Some 50; t7 = Some 50 };
   top = 0;
+  unacked = true;
 }
+
+-- the set hears the SIPO, and refuses it
+abbrev pub outage_heard : Entry
+outage_heard = got (Event.Heard 0 the_sipo) (Answer.Refused Refusal.Nothing)
 
 -- BSN 0, BIB 1, FSN 127, FIB 1
 abbrev pub acks_it : Header
@@ -75,8 +82,19 @@ pub record HeardRows : Type 0 where
       (t.state ≡ State.OutOfService) × (t.cause ≡ Some Cause.Stop) × (t.up ≡ false))
   -- a processor outage, and its end
   pub pause_and_end : Leads (all_marked (sipo ∷ fisu ∷ []) serving)
-      (got (Event.Heard 0 the_sipo) (Answer.Refused Refusal.Nothing) ∷ got (Event.Heard 0 the_fisu) nothing_done ∷ [])
-      (λ t. t.state ≡ State.InService false)
+      (outage_heard ∷ got (Event.Heard 0 the_fisu) nothing_done ∷ [])
+      (λ t. (t.state ≡ State.InService false) × (t.clocks.t7 ≡ None))
+  -- in it T7 stands still, and T6 runs on
+  pub outage_while_awaiting : Leads (all_marked (sipo ∷ []) awaiting) (outage_heard ∷ []) (λ t.
+      (t.flow.t7_runs ≡ false) × (t.clocks.t6 ≡ Some 50) × (t.clocks.t7 ≡ None))
+  -- behind it T7 begins anew: the message is unacknowledged still
+  pub outage_and_no_ack : Leads (all_marked (sipo ∷ fisu ∷ []) awaiting)
+      (outage_heard ∷ got (Event.Heard 0 the_fisu) nothing_done ∷ []) (λ t.
+      (t.clocks.t6 ≡ Some 50) × (t.clocks.t7 ≡ Some 100000))
+  -- but where the unit that ends it acknowledges the last message
+  pub outage_and_last_ack : Leads (all_marked (sipo ∷ acking ∷ []) awaiting)
+      (outage_heard ∷ got (Event.Heard 0 (SignalUnit.Fisu acks_it)) acked_one ∷ []) (λ t.
+      (t.flow.t7_runs ≡ false) × (t.clocks.t7 ≡ None))
   -- the last message is acknowledged: the far end isn't busy any more, and neither T6 nor T7 runs
   pub last_acked : Leads (all_marked (acking ∷ []) awaiting)
       (got (Event.Heard 0 (SignalUnit.Fisu acks_it)) acked_one ∷ []) (λ t.

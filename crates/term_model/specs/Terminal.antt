@@ -47,6 +47,8 @@ pub record Terminal : Type 0 where
   pub blind : Bool
   -- the FSN of the last new message sent since that Up; 127 at Up (Q.703 5.2)
   pub top : ℕ
+  -- a message that was sent since that Up isn't acknowledged
+  pub unacked : Bool
   -- why the link failed last
   pub cause : Option Cause
 
@@ -89,6 +91,7 @@ opened link lengths = record {
   up = false;
   blind = false;
   top = 127;
+  unacked = false;
   cause = None;
 }
 

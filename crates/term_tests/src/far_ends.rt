@@ -160,6 +160,19 @@ fn a_busy_far_end_holds_t7_back(rt: HostRuntime) -> Result<(), Fail> {
     holds(outcome.is_well() && outcome.acked == 1 && outcome.heard.msus == 1)
 }
 
+/// T7 stands still while the far end has a processor outage (Q.703 8, own): for five times its length here.
+#[test]
+fn a_processor_outage_holds_t7_back(rt: HostRuntime) -> Result<(), Fail> {
+    let lengths = timers_of(100_000, 100_000, 100_000, 100_000, 1_000);
+    let script = Script {
+        from: 100,
+        to: 5_100,
+        status: Status::ProcessorOutage,
+    };
+    let outcome = faces(rt.alloc(), script, eased(lengths, 1))?;
+    holds(outcome.is_well() && outcome.acked == 1 && outcome.heard.msus == 1)
+}
+
 /// A busy end sends SIB at once, and again each time that T5 ends: ten times in ten times its length (Q.703 9.2). Once it's
 /// eased it sends none.
 #[test]

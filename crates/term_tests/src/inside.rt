@@ -311,6 +311,51 @@ fn busy_while_a_message_is_out(_rt: HostRuntime) -> Result<(), Fail> {
     holds(ends)
 }
 
+/// Messages are unacknowledged from the first that is sent on, to an acknowledgement of the last one, or the link's next
+/// life.
+fn counts_unacked(inside: &mut Inside) -> bool {
+    let none = inside.has_unacked();
+    inside.raise_top(0);
+    inside.raise_top(1);
+    let both = inside.has_unacked();
+    let second = inside.acknowledge(0) && inside.has_unacked();
+    let all = inside.acknowledge(1) || inside.has_unacked();
+    inside.raise_top(2);
+    inside.rise(&AnswerRef::Done);
+    !none && both && second && !all && !inside.has_unacked()
+}
+
+#[test]
+fn messages_are_unacknowledged(_rt: HostRuntime) -> Result<(), Fail> {
+    let mut inside = serving();
+    let counts = counts_unacked(&mut inside);
+    holds(counts)
+}
+
+/// A far end with a processor outage pauses the link till a FISU; T7 stands still for so long.
+fn waits_for_an_outage(inside: &mut Inside) -> bool {
+    inside.control(FlowIn::Sent);
+    inside.state(StateIn::Heard(Status::ProcessorOutage));
+    let paused = inside.is_paused();
+    inside.control(FlowIn::Paused);
+    wait(inside, 100);
+    let early = inside.ended(Timer::T7);
+    inside.state(StateIn::Fisu);
+    inside.control(FlowIn::Resumed { more: true });
+    wait(inside, 59);
+    let late = inside.ended(Timer::T7);
+    wait(inside, 1);
+    paused && !inside.is_paused() && !early && !late && inside.ended(Timer::T7)
+}
+
+#[test]
+fn far_end_has_a_processor_outage(_rt: HostRuntime) -> Result<(), Fail> {
+    let mut inside = serving();
+    let before = inside.is_paused();
+    let waits = waits_for_an_outage(&mut inside);
+    holds(!before && waits)
+}
+
 /// A FISU with these numbers.
 fn fisu(bsn: u16, bib: bool, fsn: u16, fib: bool) -> Unit
     requires { (bsn < 128) × (fsn < 128) }

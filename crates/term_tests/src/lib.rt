@@ -17,6 +17,8 @@ mod far_ends;
 #[cfg(test)]
 mod inside;
 #[cfg(test)]
+mod late_rise;
+#[cfg(test)]
 mod lent;
 #[cfg(test)]
 mod lines;

@@ -29,10 +29,10 @@ last_line c (d ∷ ds) o =
     rw other (ap (λ (lines : List (List ℕ)). onto_first c lines) (last_line d ds o.1))
 
 -- open octets begin the first line, however it goes on
-record Begins (text : List ℕ) (lines : List (List ℕ)) : Type 0 where
-  more : List ℕ
-  others : List (List ℕ)
-  lines_are : lines ≡ (text ++ more) ∷ others
+pub record Begins (text : List ℕ) (lines : List (List ℕ)) : Type 0 where
+  pub more : List ℕ
+  pub others : List (List ℕ)
+  pub lines_are : lines ≡ (text ++ more) ∷ others
 
 begins_one : (c : ℕ) (lines : List (List ℕ)) → Begins (c ∷ []) (onto_first c lines)
 begins_one c [] = record { more = []; others = []; lines_are = refl }
@@ -47,6 +47,10 @@ line_begins c [] left o =
 line_begins c (d ∷ ds) left o =
     let other : (c == 10) ≡ false = grind (arith, nat_tests, o.0) in
     rw other (begins_more c (d ∷ ds) (lines_of ((d ∷ ds) ++ left)) (line_begins d ds left o.1))
+
+pub begins_at : (text left : List ℕ) {whole : List ℕ} → IsOpen text → 0 < length text → text ++ left ≡ whole → Begins text (lines_of whole)
+begins_at [] left o h e = absurd (omega arith)
+begins_at (d ∷ ds) left o h e = rw (← e) (line_begins d ds left o)
 
 pub open_more : (text more : List ℕ) → IsOpen text → IsOpen more → IsOpen (text ++ more)
 open_more [] more o h = h
@@ -162,10 +166,6 @@ module _ {S F : Type 0} (rules : TalkRules S F) where
         too_long old.line old.state (old.text ++ octets) _ (omega (arith, long, length-append old.text octets))
         (begins_at (old.text ++ octets) left (open_more old.text octets o h) (omega (arith, long, length-append old.text octets)) (append_assoc old.text octets left));
   }
-    where
-      begins_at : (text left : List ℕ) {whole : List ℕ} → IsOpen text → 0 < length text → text ++ left ≡ whole → Begins text (lines_of whole)
-      begins_at [] left o h e = absurd (omega arith)
-      begins_at (d ∷ ds) left o h e = rw (← e) (line_begins d ds left o)
 
   -- memory is wanted
   pub halts_for_memory : (old : Reading S) (octets before : List ℕ) → HaltsBy rules Memory old octets before before

@@ -2,7 +2,7 @@
 use Rattle.std.specs.Prelude.{ℕ, Bool, true, false, ◌==◌, List, [], ◌∷◌, if◌then◌else◌, codes}
 use Rattle.std.specs.List.{list_any}
 use Rattle.text_lines.specs.declared.flaw.LineFlaw.{LineFlaw}
-use Rattle.text_lines.specs.declared.flaw.LineFlaw.TheVariants.{Words, Long, CarriageReturn, Tab, FirstSpace, LastSpace, TwoSpaces}
+use Rattle.text_lines.specs.declared.flaw.LineFlaw.TheVariants.{Words, Long, VeryLong, CarriageReturn, Tab, FirstSpace, LastSpace, TwoSpaces}
 
 abbrev pub begins_with : ℕ → List ℕ → Bool
 begins_with octet [] = false
@@ -40,6 +40,7 @@ flaw_of line =
 abbrev pub flaw_text : LineFlaw → List ℕ
 flaw_text Words = codes ""
 flaw_text Long = codes ": the line has more than 4,096 octets"
+flaw_text VeryLong = codes ": the line has more than 16,384 octets"
 flaw_text CarriageReturn = codes ": the line ends with a carriage return (CRLF)"
 flaw_text Tab = codes ": the line has a tab"
 flaw_text FirstSpace = codes ": the line begins with a space"

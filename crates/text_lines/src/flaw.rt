@@ -13,6 +13,8 @@ pub enum LineFlaw {
     Words,
     /// It has over 4,096 octets.
     Long,
+    /// It has over 16,384 octets, in a text whose lines may have as many.
+    VeryLong,
     /// Its last octet is a CR.
     CarriageReturn,
     /// It has a tab.
@@ -33,6 +35,7 @@ impl LineFlaw {
         match self {
             LineFlaw::Words => "",
             LineFlaw::Long => ": the line has more than 4,096 octets",
+            LineFlaw::VeryLong => ": the line has more than 16,384 octets",
             LineFlaw::CarriageReturn => ": the line ends with a carriage return (CRLF)",
             LineFlaw::Tab => ": the line has a tab",
             LineFlaw::FirstSpace => ": the line begins with a space",

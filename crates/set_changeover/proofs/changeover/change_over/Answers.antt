@@ -1,4 +1,4 @@
-use Rattle.std.proofs.Common.{refl, arith, length, ◌≡◌, ◌∙◌, ap, subst, sym, ◌<◌, ℕ, false}
+use Rattle.std.proofs.Common.{slice_set, refl, arith, length, ◌≡◌, ◌∙◌, ap, subst, sym, ◌<◌, ℕ, false}
 use Rattle.l2_units.specs.Profile.{fsn_count}
 use Rattle.l3_orders.specs.Grammar.{IsOrder}
 use Rattle.set_model.specs.Changeover.{Coa, answered_link, changed_over, queued, left_by, left_link, reply_of}
@@ -94,7 +94,7 @@ returns-in-Some-Settled o c =
           let at = is_in c.args.parts.now s n Settled a h in
           let link = at.link in
           let told : StandsFor (kept_of now) (queued (reply_of n link) s) = rw (c.reply-order.ensures.order, same s.links link a.stands.links at.there) at (c.queue-in-Some-Settled.ensures.stands s a.stands) in
-          let set = link_set now.links.items n c.from-in-Some-Settled-2.result c.index_mut.result.now c.from-in-Some-Settled-2.ensures known c.index_mut.ensures.value answered_link _ s.links link c.behind-parts.view_is told.links at.there in
+          let set = ap (λ (k : LinkState). slice_set now.links.items c.from-in-Some-Settled-2.result k) c.answer_late.ensures ∙ link_set now.links.items n c.from-in-Some-Settled-2.result c.index_mut.result.now c.from-in-Some-Settled-2.ensures known c.index_mut.ensures.value answered_link c.index_mut.result.now s.links link refl told.links at.there in
           rw (at.there, at.phase_is) (record { took_is = refl; stands = rw (set, told.routing) (link_for (kept_of now) (queued (reply_of n link) s) n link (answered_link link) s.routing told at.there refl refl) });
     }
 

@@ -12,9 +12,9 @@ pub returns-in_err-end_line : goal.returns-in_err-end_line
 returns-in_err-end_line c =
     let some : 0 < length c.self.inside.text.items = search rules in
     rw (passed_on c.from_residual.result c.in_err-end_line.field-0.0 c.from_residual.ensures.1)
-    (finishes_with c.in_err-end_line.field-0.0 _ _ (rw (← c.self.view_is) some) (rw (← c.self.view_is) c.self.invariant) c.in_err-end_line.ensures.read)
+    (finishes_with c.in_err-end_line.field-0.0 _ _ (rw (← c.self.view_is) some) (rw (← c.self.view_is) c.self.invariant.is_open) c.in_err-end_line.ensures.read)
 
 pub returns : goal.returns
 returns c =
     let some : 0 < length c.self.inside.text.items = search rules in
-    finishes_line c.add_verdict-2.result _ _ _ _ (rw (← c.self.view_is) some) (rw (← c.self.view_is) c.self.invariant) c.in_ok-end_line.ensures.read c.in_ok-end_line.ensures.emptied (rw (← c.self-2.view_is) c.add_verdict-2.ensures)
+    finishes_line c.add_verdict-2.result _ _ _ _ (rw (← c.self.view_is) some) (rw (← c.self.view_is) c.self.invariant.is_open) c.in_ok-end_line.ensures.read c.in_ok-end_line.ensures.emptied (rw (← c.self-2.view_is) c.add_verdict-2.ensures)
