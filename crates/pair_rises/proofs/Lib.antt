@@ -1,0 +1,15 @@
+pub mod Closed
+pub mod Examples
+pub mod Going
+pub mod Late
+pub mod Missing
+pub mod Open
+pub mod Opens
+pub mod Pair
+pub mod Replies
+pub mod Rising
+pub mod Runs
+pub mod Together
+pub mod Tying
+pub mod Veils
+pub mod Worlds

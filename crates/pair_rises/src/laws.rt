@@ -1,0 +1,17 @@
+//! Laws of two ends whose links come up one after the other, over definitions alone.
+ghost use Rattle.pair_rises.specs.Rises.{EveryRisingRunKeepsStreams, EveryRisingRunKeepsOrder, TogetherIsTwoRises};
+
+/// Each stream arrives whole and in order, whichever end of a link comes up first, and whenever the other follows.
+pub fn every_rising_run_keeps_streams()
+    ensures { EveryRisingRunKeepsStreams }
+{}
+
+/// In emergencies what arrives of a stream is an in-order part of it.
+pub fn every_rising_run_keeps_order()
+    ensures { EveryRisingRunKeepsOrder }
+{}
+
+/// A link that comes up at both ends together does what one does that comes up at one end and then at the other.
+pub fn together_is_two_rises()
+    ensures { TogetherIsTwoRises }
+{}

@@ -1,0 +1,125 @@
+-- A VEIL LEAVES A SET SOUND: nothing stands on a settled link, and no stream runs there.
+use Rattle.std.proofs.Common.{refl, arith, ◌≡◌, ◌≢◌, ◌∙◌, ap, sym, subst, ℕ, ◌==◌, ◌%◌, ◌≤◌, ◌<◌, Bool, true, false, List, [], length, slice_get, Option, Some, None}
+use Rattle.std.proofs.lemmas.Bool.{eqb-true}
+use Rattle.l2_units.specs.declared.profile.Profile.{Profile}
+use Rattle.l2_units.specs.declared.profile.Profile.TheVariants.{Narrow, Wide}
+use Rattle.l2_window.specs.Window.{fsn_count, most_unacked}
+use Rattle.set_events.specs.declared.config.Method.{Method}
+use Rattle.set_route.specs.Routing.{place_of}
+use Rattle.set_route.specs.declared.place.Place.{Place}
+use Rattle.set_route.specs.declared.place.Place.TheVariants.{On, Changing, Nowhere}
+use Rattle.set_model.specs.declared.phase.Phase.{Phase}
+use Rattle.set_model.specs.declared.phase.Phase.TheVariants.{Up, Down, Settled}
+use Rattle.set_model.specs.Control.{BasicMethod, CyclicMethod, start_of, expected_of}
+use Rattle.set_model.specs.Rows.{Row, unack}
+use Rattle.set_model.specs.Sound.{IsOf, IsSoundLink, IsPlaced, IsSound}
+use Rattle.set_model.specs.State.{LinkState, State, has_phase_up, has_phase_settled, link_is_settled, is_up, is_settled}
+use Rattle.set_model.proofs.Lists.{get_set_same, get_set_other, length_set, same_at}
+use Rattle.set_model.proofs.Settling.{settled_empty}
+use Rattle.set_veiled.specs.Veil.{dormant, veil, VeilsStaySound}
+use Rattle.set_veiled.proofs.Veiled.{IsOut, this_link, other_link, up_same, settled_out}
+
+settled_phase : (phase : Phase) → has_phase_settled phase ≡ true → phase ≡ Settled
+settled_phase Up e = absurd cc
+settled_phase Down e = absurd cc
+settled_phase Settled e = refl
+
+none_counted : (m : Method) (p : Profile) → expected_of (start_of m) ≡ 0 % fsn_count p
+none_counted BasicMethod Narrow = refl
+none_counted BasicMethod Wide = refl
+none_counted (CyclicMethod n1 n2) Narrow = refl
+none_counted (CyclicMethod n1 n2) Wide = refl
+
+starts_of : (m : Method) → IsOf m (start_of m)
+starts_of BasicMethod = tt
+starts_of (CyclicMethod n1 n2) = (refl, refl)
+
+module _ (l : ℕ) (s : State) (sound : IsSound s) (e : is_settled l s ≡ true) where
+  o : IsOut (dormant s.settings) refl l s
+  o = settled_out (dormant s.settings) refl l s e
+
+  -- what was there
+  record There : Type 0 where
+    pub link : LinkState
+    pub there : slice_get s.links l ≡ Some link
+    pub phase : has_phase_settled link.phase ≡ true
+
+  was : There
+  was = go (slice_get s.links l) refl
+    where
+      go : (m : Option LinkState) → slice_get s.links l ≡ m → There
+      go None f = absurd (let no : false ≡ true = ap link_is_settled (sym f) ∙ e in cc)
+      go (Some link) f = record { link = link; there = f; phase = ap link_is_settled (sym f) ∙ e }
+
+  here : IsSoundLink s.settings l (dormant s.settings) s.rows
+  here =
+      let w = was in
+      let old = sound.links l w.link w.there in
+      let empty = settled_empty s l w.link sound w.there (settled_phase w.link.phase w.phase) in
+      record {
+        profile = refl;
+        window = few empty.unack_none;
+        counted = none_counted s.settings.method s.settings.profile;
+        method = starts_of s.settings.method;
+        in_order = old.in_order;
+        held_last = old.held_last;
+        none_held = λ up. absurd (let no : false ≡ true = up in cc);
+        in_range = λ up. absurd (let no : false ≡ true = up in cc);
+        settled = λ up. absurd (let no : false ≡ true = up in cc);
+      }
+    where
+      few : unack l s.rows ≡ [] → length (unack l s.rows) ≤ most_unacked s.settings.profile
+      few none = rw none (omega arith)
+
+  each : (n : ℕ) (link : LinkState) → slice_get (veil (dormant s.settings) l s).links n ≡ Some link → IsSoundLink s.settings n link s.rows
+  each n link found = go (n == l) refl
+    where
+      go : (b : Bool) → (n == l) ≡ b → IsSoundLink s.settings n link s.rows
+      go true d =
+          let same : n ≡ l = eqb-true n l d in
+          let one : link ≡ dormant s.settings = same_at (veil (dormant s.settings) l s).links l (dormant s.settings) link (this_link (dormant s.settings) refl l s o) (ap (slice_get (veil (dormant s.settings) l s).links) (sym same) ∙ found) in
+          subst (λ (k : LinkState). IsSoundLink s.settings n k s.rows) (sym one) (subst (λ (k : ℕ). IsSoundLink s.settings k (dormant s.settings) s.rows) (sym same) here)
+      go false d = sound.links n link (sym (other_link (dormant s.settings) refl l s n d) ∙ found)
+
+  -- a link of this number that isn't settled isn't this one
+  apart_by : (n : ℕ) (link : LinkState) → slice_get s.links n ≡ Some link → has_phase_settled link.phase ≡ false → (b : Bool) → (n == l) ≡ b
+      → slice_get (veil (dormant s.settings) l s).links n ≡ Some link
+  apart_by n link found unsettled true d =
+      let same : n ≡ l = eqb-true n l d in
+      let one : link ≡ was.link = same_at s.links l was.link link was.there (ap (slice_get s.links) (sym same) ∙ found) in
+      absurd (let no : true ≡ false = sym was.phase ∙ sym (ap (λ (k : LinkState). has_phase_settled k.phase) one) ∙ unsettled in cc)
+  apart_by n link found unsettled false d = other_link (dormant s.settings) refl l s n d ∙ found
+
+  placed : (place : Place) → IsPlaced s.links place → IsPlaced (veil (dormant s.settings) l s).links place
+  placed (On n) p = (p.0, apart_by n p.0 p.1 p.2 (n == l) refl, p.2)
+  placed (Changing to code via) p = (p.0, apart_by via p.0 p.1 p.2 (via == l) refl, p.2)
+  placed Nowhere p = tt
+
+  -- a link that is up was so
+  was_up : (n : ℕ) (link : LinkState) → slice_get (veil (dormant s.settings) l s).links n ≡ Some link → has_phase_up link.phase ≡ true → (b : Bool) → (n == l) ≡ b
+      → slice_get s.links n ≡ Some link
+  was_up n link found up true d =
+      let same : n ≡ l = eqb-true n l d in
+      let one : link ≡ dormant s.settings = same_at (veil (dormant s.settings) l s).links l (dormant s.settings) link (this_link (dormant s.settings) refl l s o) (ap (slice_get (veil (dormant s.settings) l s).links) (sym same) ∙ found) in
+      absurd (let no : false ≡ true = sym (ap (λ (k : LinkState). has_phase_up k.phase) one) ∙ up in cc)
+  was_up n link found up false d = sym (other_link (dormant s.settings) refl l s n d) ∙ found
+
+  stays : IsSound (veil (dormant s.settings) l s)
+  stays = record {
+    managed = sound.managed;
+    routing = sound.routing;
+    routed = sound.routed;
+    count = length_set s.links l (dormant s.settings) ∙ sound.count;
+    numbered = sound.numbered;
+    fit = sound.fit;
+    links = each;
+    placed = λ stream few. placed (place_of stream s.routing) (sound.placed stream few);
+    none_aside = λ n link found up. sound.none_aside n link (was_up n link found up (n == l) refl) up;
+    all_run = λ n link found up. sound.all_run n link (was_up n link found up (n == l) refl) up;
+    homes_up = λ code asked. up_same (dormant s.settings) refl l s o _ ∙ sound.homes_up code asked;
+    backs = sound.backs;
+    back_order = sound.back_order;
+  }
+
+pub veils_stay_sound : VeilsStaySound
+veils_stay_sound = stays
