@@ -19,7 +19,7 @@ use Rattle.set_model.proofs.Lists.{length_set, same_at}
 use Rattle.set_model.proofs.Settling.{settled_empty}
 use Rattle.set_veiled.specs.Veil.{veil}
 use Rattle.set_veiled.proofs.Veiled.{IsOut, this_link, other_link, up_same, settled_out}
-use Rattle.pair_rises.proofs.Rising.{closed}
+use Rattle.pair_rises.specs.Rises.{closed}
 
 settled_phase : (phase : Phase) → has_phase_settled phase ≡ true → phase ≡ Settled
 settled_phase Up e = absurd cc
@@ -36,9 +36,13 @@ starts_of : (m : Method) → IsOf m (start_of m)
 starts_of BasicMethod = tt
 starts_of (CyclicMethod n1 n2) = (refl, refl)
 
-module _ (l : ℕ) (s : State) (sound : IsSound s) (e : is_settled l s ≡ true) where
-  o : IsOut (closed s.settings) refl l s
-  o = settled_out (closed s.settings) refl l s e
+module _ (l : ℕ) (s : State) (sound : IsSound s) (e : is_settled l s ≡ true) (late : ℕ) where
+  -- however many late orders it shows
+  abbrev cover : LinkState
+  cover = record (closed s.settings) { late = late }
+
+  o : IsOut cover refl l s
+  o = settled_out cover refl l s e
 
   -- what was there
   record There : Type 0 where
@@ -53,7 +57,7 @@ module _ (l : ℕ) (s : State) (sound : IsSound s) (e : is_settled l s ≡ true)
       go None f = absurd (let no : false ≡ true = ap link_is_settled (sym f) ∙ e in cc)
       go (Some link) f = record { link = link; there = f; phase = ap link_is_settled (sym f) ∙ e }
 
-  here : IsSoundLink s.settings l (closed s.settings) s.rows
+  here : IsSoundLink s.settings l cover s.rows
   here =
       let w = was in
       let old = sound.links l w.link w.there in
@@ -73,55 +77,58 @@ module _ (l : ℕ) (s : State) (sound : IsSound s) (e : is_settled l s ≡ true)
       few : unack l s.rows ≡ [] → length (unack l s.rows) ≤ most_unacked s.settings.profile
       few none = rw none (omega arith)
 
-  each : (n : ℕ) (link : LinkState) → slice_get (veil (closed s.settings) l s).links n ≡ Some link → IsSoundLink s.settings n link s.rows
+  each : (n : ℕ) (link : LinkState) → slice_get (veil cover l s).links n ≡ Some link → IsSoundLink s.settings n link s.rows
   each n link found = go (n == l) refl
     where
       go : (b : Bool) → (n == l) ≡ b → IsSoundLink s.settings n link s.rows
       go true d =
           let same : n ≡ l = eqb-true n l d in
-          let one : link ≡ closed s.settings = same_at (veil (closed s.settings) l s).links l (closed s.settings) link (this_link (closed s.settings) refl l s o) (ap (slice_get (veil (closed s.settings) l s).links) (sym same) ∙ found) in
-          subst (λ (k : LinkState). IsSoundLink s.settings n k s.rows) (sym one) (subst (λ (k : ℕ). IsSoundLink s.settings k (closed s.settings) s.rows) (sym same) here)
-      go false d = sound.links n link (sym (other_link (closed s.settings) refl l s n d) ∙ found)
+          let one : link ≡ cover = same_at (veil cover l s).links l cover link (this_link cover refl l s o) (ap (slice_get (veil cover l s).links) (sym same) ∙ found) in
+          subst (λ (k : LinkState). IsSoundLink s.settings n k s.rows) (sym one) (subst (λ (k : ℕ). IsSoundLink s.settings k cover s.rows) (sym same) here)
+      go false d = sound.links n link (sym (other_link cover refl l s n d) ∙ found)
 
   -- a link of this number that isn't settled isn't this one
   apart_by : (n : ℕ) (link : LinkState) → slice_get s.links n ≡ Some link → has_phase_settled link.phase ≡ false → (b : Bool) → (n == l) ≡ b
-      → slice_get (veil (closed s.settings) l s).links n ≡ Some link
+      → slice_get (veil cover l s).links n ≡ Some link
   apart_by n link found unsettled true d =
       let same : n ≡ l = eqb-true n l d in
       let one : link ≡ was.link = same_at s.links l was.link link was.there (ap (slice_get s.links) (sym same) ∙ found) in
       absurd (let no : true ≡ false = sym was.phase ∙ sym (ap (λ (k : LinkState). has_phase_settled k.phase) one) ∙ unsettled in cc)
-  apart_by n link found unsettled false d = other_link (closed s.settings) refl l s n d ∙ found
+  apart_by n link found unsettled false d = other_link cover refl l s n d ∙ found
 
-  placed : (place : Place) → IsPlaced s.links place → IsPlaced (veil (closed s.settings) l s).links place
+  placed : (place : Place) → IsPlaced s.links place → IsPlaced (veil cover l s).links place
   placed (On n) p = (p.0, apart_by n p.0 p.1 p.2 (n == l) refl, p.2)
   placed (Changing to code via) p = (p.0, apart_by via p.0 p.1 p.2 (via == l) refl, p.2)
   placed Nowhere p = tt
 
   -- a link that is up was so
-  was_up : (n : ℕ) (link : LinkState) → slice_get (veil (closed s.settings) l s).links n ≡ Some link → has_phase_up link.phase ≡ true → (b : Bool) → (n == l) ≡ b
+  was_up : (n : ℕ) (link : LinkState) → slice_get (veil cover l s).links n ≡ Some link → has_phase_up link.phase ≡ true → (b : Bool) → (n == l) ≡ b
       → slice_get s.links n ≡ Some link
   was_up n link found up true d =
       let same : n ≡ l = eqb-true n l d in
-      let one : link ≡ closed s.settings = same_at (veil (closed s.settings) l s).links l (closed s.settings) link (this_link (closed s.settings) refl l s o) (ap (slice_get (veil (closed s.settings) l s).links) (sym same) ∙ found) in
+      let one : link ≡ cover = same_at (veil cover l s).links l cover link (this_link cover refl l s o) (ap (slice_get (veil cover l s).links) (sym same) ∙ found) in
       absurd (let no : false ≡ true = sym (ap (λ (k : LinkState). has_phase_up k.phase) one) ∙ up in cc)
-  was_up n link found up false d = sym (other_link (closed s.settings) refl l s n d) ∙ found
+  was_up n link found up false d = sym (other_link cover refl l s n d) ∙ found
 
-  stays : IsSound (veil (closed s.settings) l s)
+  stays : IsSound (veil cover l s)
   stays = record {
     managed = sound.managed;
     routing = sound.routing;
     routed = sound.routed;
-    count = length_set s.links l (closed s.settings) ∙ sound.count;
+    count = length_set s.links l cover ∙ sound.count;
     numbered = sound.numbered;
     fit = sound.fit;
     links = each;
     placed = λ stream few. placed (place_of stream s.routing) (sound.placed stream few);
     none_aside = λ n link found up. sound.none_aside n link (was_up n link found up (n == l) refl) up;
     all_run = λ n link found up. sound.all_run n link (was_up n link found up (n == l) refl) up;
-    homes_up = λ code asked. up_same (closed s.settings) refl l s o _ ∙ sound.homes_up code asked;
+    homes_up = λ code asked. up_same cover refl l s o _ ∙ sound.homes_up code asked;
     backs = sound.backs;
     back_order = sound.back_order;
   }
 
 pub closed_sound : (l : ℕ) (s : State) → IsSound s → is_settled l s ≡ true → IsSound (veil (closed s.settings) l s)
-closed_sound = stays
+closed_sound l s sound e = stays l s sound e 0
+
+pub closed_after_sound : (l : ℕ) (s : State) → IsSound s → is_settled l s ≡ true → (late : ℕ) → IsSound (veil (record (closed s.settings) { late = late }) l s)
+closed_after_sound = stays

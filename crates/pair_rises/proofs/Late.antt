@@ -7,7 +7,7 @@ use Rattle.std.proofs.lemmas.Bool.{eq-eqb, eqb-true, leb-true}
 use Rattle.std.proofs.lemmas.List.{append-nil, length-map}
 use Rattle.l2_window.specs.Window.{fsn_count, fsn_before_first}
 use Rattle.l3_orders.specs.declared.order.Order.{Order}
-use Rattle.l3_orders.specs.declared.order.Order.TheVariants.{Coo, Coa, Eco}
+use Rattle.l3_orders.specs.declared.order.Order.TheVariants.{Coo, Coa, Cbd, Cba, Eco, Eca}
 use Rattle.l3_orders.specs.Grammar.{text, order_of, order_any, link_of}
 use Rattle.l2_units.specs.declared.unit.Unit.{Unit as SignalUnit}
 use Rattle.set_events.specs.declared.answer.Took.TheVariants.{Message as TookMessage}
@@ -30,7 +30,7 @@ use Rattle.set_model.specs.Step.{Outcome, with_known, brought, takes, controlled
 use Rattle.set_model.specs.Laws.{IsEmptyLink}
 use Rattle.set_model.specs.Rows.{Row, unack, on, is_on, is_unacked, is_waiting, all_with, body_at, appended, standing, turned, changed, moved, with_fate, fated, service_indicator}
 use Rattle.set_model.specs.Sound.{IsSound, IsPlaced}
-use Rattle.set_model.specs.State.{late_at, late_in, LinkState, State, Settings, given, with_link, target, has_phase_up, has_phase_settled, is_up, is_settled}
+use Rattle.set_model.specs.State.{late_at, late_in, LinkState, State, Settings, given, with_link, target, has_phase_up, has_phase_settled, is_up, is_settled, link_is_settled}
 use Rattle.set_model.proofs.Events.{empty_link}
 use Rattle.set_model.proofs.Lists.{same_at, map_set_same, get_set_same, get_set_other, within}
 use Rattle.set_model.proofs.Places.{false_true, itself}
@@ -38,7 +38,7 @@ use Rattle.set_model.proofs.SoundLink.{queues, hears_sound}
 use Rattle.set_model.proofs.Walk.{IsAt}
 use Rattle.set_veiled.specs.Veil.{dormant, veil, IsAlike}
 use Rattle.pair_rises.proofs.Open.{IsOpen}
-use Rattle.pair_rises.proofs.Rising.{closed}
+use Rattle.pair_rises.specs.Rises.{closed}
 use Rattle.pair_rises.proofs.Veils.{swap}
 use Rattle.pair_model.specs.Run.{Message}
 use Rattle.pair_model.proofs.Counts.{CountStays}
@@ -47,7 +47,7 @@ use Rattle.pair_model.proofs.Pairs.{Two, HoldsOf}
 use Rattle.pair_model.proofs.Tied.{KeepBodies, follows}
 use Rattle.pair_changeover.proofs.Changes.{queues_both}
 use Rattle.pair_changeover.proofs.Texts.{coa_read, plain_in}
-use Rattle.pair_changeover.proofs.Views.{view, last_on, About, NoneAbout, In}
+use Rattle.pair_changeover.proofs.Views.{view, last_on, About, IsChangeover, NoneAbout, In}
 use Rattle.pair_streams.proofs.Acting.{Streams}
 use Rattle.pair_streams.proofs.Codes.{far_carried, far_in}
 use Rattle.pair_streams.proofs.Declared.{coa_declares, coa_acknowledges}
@@ -326,7 +326,7 @@ module _ (k l : ℕ) (u : State) (sound : IsSound u) (was : LinkState) (was_at :
   mid_sound : IsSound mid
   mid_sound = hears_sound k link u at sound unit
 
-  mid_at : IsAt l was Settled mid
+  pub mid_at : IsAt l was Settled mid
   mid_at = record {
     there = get_set_other u.links k l _ (λ same. false_true (k == l) other (rw same (itself l))) ∙ was_at.there;
     phase_is = was_at.phase_is;
@@ -363,6 +363,9 @@ module _ (k l : ℕ) (u : State) (sound : IsSound u) (was : LinkState) (was_at :
   seen_mid : slice_get (veil (dormant u.settings) l mid).links l ≡ Some (dormant u.settings)
   seen_mid = get_set_same mid.links l (dormant u.settings) (within mid.links l was mid_at.there)
 
+  answered_there : is_settled l (with_link l (answered_link was) (queued (reply_of l was) mid)) ≡ true
+  answered_there = ap link_is_settled (get_set_same mid.links l (answered_link was) (within mid.links l was mid_at.there)) ∙ ap has_phase_settled was_at.phase_is
+
   module _ (body : List ℕ) (some : brought part.accept unit ≡ Some body) where
     -- under the veil it settles
     pub under_coo : (fsn : ℕ) → order_of u.settings.profile body ≡ Some (Coo l fsn) → after_under ≡ veil (closed u.settings) l mid
@@ -370,6 +373,12 @@ module _ (k l : ℕ) (u : State) (sound : IsSound u) (was : LinkState) (was_at :
 
     pub under_eco : order_of u.settings.profile body ≡ Some (Eco l) → after_under ≡ veil (closed u.settings) l mid
     under_eco is = under_so body some (Eco l) is ∙ rw seen_mid refl ∙ settles_blindly l mid mid_sound was mid_at
+
+    pub under_coa : (fsn : ℕ) → order_of u.settings.profile body ≡ Some (Coa l fsn) → after_under ≡ veil (closed u.settings) l mid
+    under_coa fsn is = under_so body some (Coa l fsn) is ∙ rw seen_mid refl ∙ settles_told l mid mid_sound was mid_at fsn
+
+    pub under_eca : order_of u.settings.profile body ≡ Some (Eca l) → after_under ≡ veil (closed u.settings) l mid
+    under_eca is = under_so body some (Eca l) is ∙ rw seen_mid refl ∙ settles_blindly l mid mid_sound was mid_at
 
     -- that the other left it: it answers, and is seen as one that counts nothing
     pub late_coo : (fsn : ℕ) → order_of u.settings.profile body ≡ Some (Coo l fsn) → reply_of l was ≡ Coa l (fsn_before_first u.settings.profile)
@@ -390,7 +399,33 @@ module _ (k l : ℕ) (u : State) (sound : IsSound u) (was : LinkState) (was_at :
     pub late_coa : (fsn : ℕ) → order_of u.settings.profile body ≡ Some (Coa l fsn) → veil (closed u.settings) l after ≡ after_under
     late_coa fsn is =
         ap (veil (closed u.settings) l) (bare_so body some (Coa l fsn) is ∙ rw (mid_at.there, mid_at.phase_is) refl)
-        ∙ sym (under_so body some (Coa l fsn) is ∙ rw seen_mid refl ∙ settles_told l mid mid_sound was mid_at fsn)
+        ∙ sym (under_coa fsn is)
+
+    pub late_eca : order_of u.settings.profile body ≡ Some (Eca l) → veil (closed u.settings) l after ≡ after_under
+    late_eca is =
+        ap (veil (closed u.settings) l) (bare_so body some (Eca l) is ∙ rw (mid_at.there, mid_at.phase_is) refl)
+        ∙ sym (under_eca is)
+
+    -- and the link is settled there as it was
+    pub settled_after : (order : Order) → IsChangeover order → link_of order ≡ l → order_of u.settings.profile body ≡ Some order → is_settled l after ≡ true
+    settled_after (Coo m fsn) over same told =
+        let e : order_of u.settings.profile body ≡ Some (Coo l fsn) = told ∙ ap (λ (x : ℕ). Some (Coo x fsn)) same in
+        let is : after ≡ with_link l (answered_link was) (queued (reply_of l was) mid) = bare_so body some (Coo l fsn) e ∙ rw (mid_at.there, mid_at.phase_is) refl in
+        ap (is_settled l) is ∙ answered_there
+    settled_after (Eco m) over same told =
+        let e : order_of u.settings.profile body ≡ Some (Eco l) = told ∙ ap (λ (x : ℕ). Some (Eco x)) same in
+        let is : after ≡ with_link l (answered_link was) (queued (reply_of l was) mid) = bare_so body some (Eco l) e ∙ rw (mid_at.there, mid_at.phase_is) refl in
+        ap (is_settled l) is ∙ answered_there
+    settled_after (Coa m fsn) over same told =
+        let e : order_of u.settings.profile body ≡ Some (Coa l fsn) = told ∙ ap (λ (x : ℕ). Some (Coa x fsn)) same in
+        let is : after ≡ mid = bare_so body some (Coa l fsn) e ∙ rw (mid_at.there, mid_at.phase_is) refl in
+        ap (is_settled l) is ∙ ap link_is_settled mid_at.there ∙ ap has_phase_settled was_at.phase_is
+    settled_after (Eca m) over same told =
+        let e : order_of u.settings.profile body ≡ Some (Eca l) = told ∙ ap (λ (x : ℕ). Some (Eca x)) same in
+        let is : after ≡ mid = bare_so body some (Eca l) e ∙ rw (mid_at.there, mid_at.phase_is) refl in
+        ap (is_settled l) is ∙ ap link_is_settled mid_at.there ∙ ap has_phase_settled was_at.phase_is
+    settled_after (Cbd m code) over same told = absurd over
+    settled_after (Cba m code) over same told = absurd over
 
 -- A LINK COMES UP AGAIN: what it counted is over, but for the late orders
 abbrev pub closed_after : LinkState → Settings → LinkState

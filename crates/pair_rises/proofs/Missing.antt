@@ -1,7 +1,8 @@
--- AN END MISSES A LIFE: it hears first that the other left it. What holds of both ends is kept (`missed_holds`,
--- `missed_streams`), where it's seen as one that was answered and counts nothing from then on. Under the veil the order
--- settles a link that both left (`after_under` of Late.antt); then the answer is queued.
-use Rattle.std.proofs.Common.{arith, ◌≡◌, ◌∙◌, ap, sym, subst, ℕ, ◌<◌, ◌+◌, Bool, false, List, ◌∷◌, length, slice_get, Some}
+-- AN END MISSES A LIFE: it hears first that the other left it. What holds of both ends is kept (`Missed`), where it's seen
+-- as one that was answered and counts nothing from then on. Under the veil the order settles a link that both left
+-- (`after_under` of Late.antt); then the answer is queued (`missed`). An acknowledgement settles it there, and the end as
+-- it is ignores it, which is the same (`overheard`).
+use Rattle.std.proofs.Common.{arith, ◌≡◌, ◌∙◌, ap, sym, subst, ℕ, ◌<◌, ◌+◌, ◌==◌, Bool, false, List, ◌∷◌, length, slice_get, Some}
 use Rattle.l2_units.specs.declared.profile.Profile.{Profile}
 use Rattle.l2_units.specs.declared.unit.Unit.{Unit as SignalUnit}
 use Rattle.l2_window.specs.Window.{fsn_count, fsn_before_first}
@@ -26,9 +27,9 @@ use Rattle.pair_changeover.proofs.Ordered.{heard}
 use Rattle.pair_changeover.proofs.Views.{last_of, last_on}
 use Rattle.pair_streams.proofs.Acting.{Streams}
 use Rattle.pair_streams.proofs.Hearing.{hears_streams}
-use Rattle.pair_rises.proofs.Late.{told_holds, told_streams}
+use Rattle.pair_rises.proofs.Late.{told_holds, told_streams, told_near, told_far}
 use Rattle.pair_rises.proofs.Open.{IsOpen, hears_near}
-use Rattle.pair_rises.proofs.Rising.{closed}
+use Rattle.pair_rises.specs.Rises.{closed}
 
 module _ {emergencies : Bool} (mx my : Method) (one : IsOneMethod mx my) (u f : State) (near_past far_past : Past)
     (out back : List (List SignalUnit)) (l : ℕ) (sound : IsSound u) (was : LinkState) (was_at : IsAt l was Settled u)
@@ -61,6 +62,13 @@ module _ {emergencies : Bool} (mx my : Method) (one : IsOneMethod mx my) (u f : 
   still_open : IsOpen l after_under f
   still_open = hears_near mx my one p h v.ordered k few_under unit rest front link at l there found down_before awaited
 
+  -- what is kept, where that's its state as it's seen
+  pub record Missed (near : State) : Type 0 where
+    pub links : HoldsOf mx my (record heard_two { near = near })
+    pub streams : Streams emergencies (record heard_two { near = near })
+    pub near_open : (n : ℕ) → (l == n) ≡ false → IsOpen n after_under f → IsOpen n near f
+    pub far_open : (n : ℕ) → IsOpen n f after_under → IsOpen n f near
+
   -- it settled there, and counts nothing
   module _ (mid : State) (mid_few : l < length mid.links) (mid_settings : mid.settings ≡ u.settings) (settles : after_under ≡ veil (closed u.settings) l mid) where
     settled_there : slice_get after_under.links l ≡ Some (closed u.settings)
@@ -82,12 +90,20 @@ module _ {emergencies : Bool} (mx my : Method) (one : IsOneMethod mx my) (u f : 
     down_then : is_up l after_under ≡ false
     down_then = ap link_is_up settled_there
 
-    -- so it answers
-    module _ (then : State) (answered : veil (closed u.settings) l then ≡ queued (Coa l (fsn_before_first u.settings.profile)) after_under) where
-      pub missed_holds : HoldsOf mx my (record heard_two { near = veil (closed u.settings) l then })
-      missed_holds = subst (λ (s : State). HoldsOf mx my (record heard_two { near = s })) (sym answered)
-          (told_holds mx my heard_two heard_holds heard_streams l (fsn_before_first u.settings.profile) below_16 in_range tells still_open.none down_then still_open.goes)
+    -- it answers
+    pub missed : (near : State) → near ≡ queued (Coa l (fsn_before_first u.settings.profile)) after_under → Missed near
+    missed near answered = subst (λ (s : State). Missed s) (sym answered) (record {
+      links = told_holds mx my heard_two heard_holds heard_streams l (fsn_before_first u.settings.profile) below_16 in_range tells still_open.none down_then still_open.goes;
+      streams = told_streams mx my heard_two heard_holds heard_streams l (fsn_before_first u.settings.profile) below_16 in_range tells still_open.none down_then still_open.goes;
+      near_open = λ n d was. told_near mx my heard_two heard_holds heard_streams l (fsn_before_first u.settings.profile) below_16 in_range tells still_open.none down_then still_open.goes n d was;
+      far_open = λ n was. told_far mx my heard_two heard_holds heard_streams l (fsn_before_first u.settings.profile) below_16 in_range tells still_open.none down_then still_open.goes n was;
+    })
 
-      pub missed_streams : Streams emergencies (record heard_two { near = veil (closed u.settings) l then })
-      missed_streams = subst (λ (s : State). Streams emergencies (record heard_two { near = s })) (sym answered)
-          (told_streams mx my heard_two heard_holds heard_streams l (fsn_before_first u.settings.profile) below_16 in_range tells still_open.none down_then still_open.goes)
+    -- or ignores it
+    pub overheard : (near : State) → near ≡ after_under → Missed near
+    overheard near same = subst (λ (s : State). Missed s) (sym same) (record {
+      links = heard_holds;
+      streams = heard_streams;
+      near_open = λ n d was. was;
+      far_open = λ n was. was;
+    })

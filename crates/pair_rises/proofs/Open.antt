@@ -295,11 +295,25 @@ module _ {emergencies : Bool} (mx my : Method) (one : IsOneMethod mx my) (p : Tw
       let then = obeys_both k body mid (shut l p.far there found) mid_sound o.near_codes both taken.state (obeys_shut l p.far there found mid k body taken.state does.obeys) in
       subst (λ (t : State). IsOpen l t p.far) (sym state_is) (record { none = none_again l p.far there found taken.state then; goes = was.goes })
 
+  abbrev part_accept : Bool
+  part_accept = (hearing.part mx my one p h o.both k few unit rest front link at).accept
+
+  -- an order about a link is among what is heard only where one stands at the far end
+  pub not_about : NoneAbout l (view p.far p.near) → (body : List ℕ) → brought part_accept unit ≡ Some body → (order : Order)
+      → order_of p.near.settings.profile body ≡ Some order → IsChangeover order → (link_of order == l) ≡ false
+  not_about none body e order is over = go (link_of order == l) refl
+    where
+      go : (b : Bool) → (link_of order == l) ≡ b → (link_of order == l) ≡ false
+      go false d = d
+      go true d = absurd (none _ (hearing.first_in mx my one p h o.both k few unit rest front link at body e) (record {
+        order = order;
+        is = ap order_any (hearing.next_due mx my one p h o.both k few unit rest front link at body e).body_is ∙ any_of p.near.settings.profile body order is;
+        over = over;
+        of = eqb-true (link_of order) l d;
+      }))
+
   -- at the far end
   module _ (was : IsOpen l p.far p.near) where
-    abbrev part_accept : Bool
-    part_accept = (hearing.part mx my one p h o.both k few unit rest front link at).accept
-
     mid_far : (body : Option (List ℕ)) → brought part_accept unit ≡ body → (m : Message) → In m (view p.far mid) → In m (view p.far p.near)
     mid_far None e = far_in p.near mid p.far (mid_all (λ n old new. accepted_of new ≡ accepted_of old)
         (let zero_more = hearing.none_counted mx my one p h o.both k few unit rest front link at e in omega (arith, zero_more)) (λ n m d. refl))
@@ -309,23 +323,10 @@ module _ {emergencies : Bool} (mx my : Method) (one : IsOneMethod mx my) (p : Tw
     far_then m i = mid_far (brought part_accept unit) refl m
         (far_in mid taken.state p.far (obeys_accepted k (hearing.heard_body mx my one p h o.both k few unit rest front link at) mid p.far mid_sound o.near_codes does.both taken.state does.obeys) m i)
 
-    -- no order about it is among what is heard
-    not_about : (body : List ℕ) → brought part_accept unit ≡ Some body → (order : Order) → order_of p.near.settings.profile body ≡ Some order → IsChangeover order → (link_of order == l) ≡ false
-    not_about body e order is over = go (link_of order == l) refl
-      where
-        go : (b : Bool) → (link_of order == l) ≡ b → (link_of order == l) ≡ false
-        go false d = d
-        go true d = absurd (was.none _ (hearing.first_in mx my one p h o.both k few unit rest front link at body e) (record {
-          order = order;
-          is = ap order_any (hearing.next_due mx my one p h o.both k few unit rest front link at body e).body_is ∙ any_of p.near.settings.profile body order is;
-          over = over;
-          of = eqb-true (link_of order) l d;
-        }))
-
     obeyed_same : (body : List ℕ) → brought part_accept unit ≡ Some body → (told : Option Order) → order_of p.near.settings.profile body ≡ told
         → slice_get (obeyed told mid).state.links l ≡ slice_get mid.links l
     obeyed_same body e None is = refl
-    obeyed_same body e (Some order) is = order_same l order mid (λ over. not_about body e order is over)
+    obeyed_same body e (Some order) is = order_same l order mid (λ over. not_about was.none body e order is over)
 
     taken_same : (body : Option (List ℕ)) → brought part_accept unit ≡ body → slice_get (takes body mid).state.links l ≡ slice_get mid.links l
     taken_same None e = refl

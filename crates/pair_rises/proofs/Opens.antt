@@ -1,12 +1,13 @@
--- EACH STEP OF THE WORLD KEEPS WHAT HOLDS OF AN OPEN LINK (`step_opens`), whichever end is the one that may yet join.
-use Rattle.std.proofs.Common.{refl, arith, ◌≡◌, sym, subst, ℕ, ◌<◌, Bool, true, false, nat_lt, List, [], ◌∷◌, length, slice_get, Some, cond}
+-- EACH STEP OF THE WORLD, but for what arrives, KEEPS WHAT HOLDS OF AN OPEN LINK (`step_opens`), whichever end is the one
+-- that may yet join.
+use Rattle.std.proofs.Common.{refl, arith, ◌≡◌, sym, subst, ℕ, ◌<◌, Bool, true, false, nat_lt, List, length, slice_get, Some, cond}
 use Rattle.std.proofs.lemmas.Bool.{ltb-true}
 use Rattle.l2_units.specs.declared.unit.Unit.{Unit as SignalUnit}
-use Rattle.pair_steps.specs.Lines.{units_on, without}
+use Rattle.pair_steps.specs.Lines.{without}
 use Rattle.set_events.specs.declared.answer.Answer.TheVariants.{Accepted, Taken, Found, Sent, Heard as HeardBack, Done, Refused}
 use Rattle.set_events.specs.declared.config.Method.{Method}
 use Rattle.set_events.specs.declared.event.Event.{Event}
-use Rattle.set_events.specs.declared.event.Event.TheVariants.{Next, Heard}
+use Rattle.set_events.specs.declared.event.Event.TheVariants.{Next}
 use Rattle.set_model.specs.State.{LinkState, State, is_up, link_count}
 use Rattle.set_model.specs.Step.{step}
 use Rattle.set_model.proofs.Lists.{present}
@@ -16,14 +17,14 @@ use Rattle.pair_steps.specs.declared.step.Shown.{Shown}
 use Rattle.pair_steps.specs.declared.step.Shown.TheVariants.{Answered, Up as CameUp, Lost}
 use Rattle.pair_steps.specs.declared.step.Step.{Step}
 use Rattle.pair_steps.specs.declared.step.Step.TheVariants.{Act, Emit, Arrive, Lose, Together, Inject}
-use Rattle.pair_model.specs.World.{World, Outcome, shows, impossible, exhausted, at_end, with_end, line_to, with_line, actor_of, answer_to, after, is_full, has_link, has_actor, acts, with_sent, sends_on, front_arrives, loses_from, has_own_step, done_by, carried_out}
+use Rattle.pair_model.specs.World.{World, Outcome, shows, impossible, exhausted, at_end, with_end, line_to, with_line, actor_of, answer_to, after, is_full, has_link, has_actor, acts, with_sent, sends_on, loses_from, has_own_step, done_by, carried_out}
 use Rattle.pair_model.specs.Promises.{IsOneMethod}
 use Rattle.pair_model.specs.Run.{Stage, OnShows}
 use Rattle.pair_model.proofs.Controls.{one_back}
 use Rattle.pair_model.proofs.Pairs.{HoldsOf, swap}
 use Rattle.pair_model.proofs.Runs.{seen, is_at_up}
 use Rattle.pair_streams.proofs.Acting.{IsSafe, Streams, streams_back}
-use Rattle.pair_rises.proofs.Open.{IsOpen, asked_keeps, near_kept, far_kept, shut, sends_near, sends_far, sends_still, hears_near, hears_far}
+use Rattle.pair_rises.proofs.Open.{IsOpen, asked_keeps, near_kept, far_kept, shut, sends_near, sends_far, sends_still}
 
 abbrev pub IsOpenAt : End → ℕ → World → Type 0
 IsOpenAt A l w = IsOpen l w.a.state w.b.state
@@ -33,9 +34,11 @@ abbrev pub IsDownAt : End → ℕ → World → Type 0
 IsDownAt A l w = is_up l w.a.state ≡ false
 IsDownAt B l w = is_up l w.b.state ≡ false
 
-abbrev pub IsNotTogether : Step → Type 0
-IsNotTogether (Together k) = ⊥
-IsNotTogether step = Unit {0}
+-- what arrives is told by itself (Arrives.antt)
+abbrev pub IsOpenStep : Step → Type 0
+IsOpenStep (Arrive end k) = ⊥
+IsOpenStep (Together k) = ⊥
+IsOpenStep step = Unit {0}
 
 sent_open : (owner end : End) (l k : ℕ) (shown : Shown) (w : World) → IsOpenAt owner l w → IsOpenAt owner l (with_sent w end k shown)
 sent_open A A l k (Answered (Sent unit)) w was = was
@@ -128,58 +131,12 @@ module _ (emergencies : Bool) (ma mb : Method) (one : IsOneMethod ma mb) (g : St
           (sent end owner k (ltb-true k (link_count w.a.state) e) (is_up k (at_end w end).state) refl down was)
       go false e full = tt
 
-  -- ARRIVE
-  heard_a : (owner : End) (k : ℕ) → k < length w.a.state.links → (unit : SignalUnit) (rest : List SignalUnit) → units_on k w.to_a ≡ unit ∷ rest → is_up k w.a.state ≡ true
-      → IsDownAt owner l w → IsOpenAt owner l w → IsOpenAt owner l (with_end (with_line w A k rest) A (after w.a (Heard k unit)))
-  heard_a A k few unit rest front e down was =
-      let at = is_at_up k w.a.state e in
-      hears_near ma mb one (seen A g) h v.ordered k few unit rest front at.0 at.1 l at_b.0 at_b.1 down was
-  heard_a B k few unit rest front e down was =
-      let at = is_at_up k w.a.state e in
-      hears_far ma mb one (seen A g) h v.ordered k few unit rest front at.0 at.1 l was
-
-  heard_b : (owner : End) (k : ℕ) → k < length w.a.state.links → (unit : SignalUnit) (rest : List SignalUnit) → units_on k w.to_b ≡ unit ∷ rest → is_up k w.b.state ≡ true
-      → IsDownAt owner l w → IsOpenAt owner l w → IsOpenAt owner l (with_end (with_line w B k rest) B (after w.b (Heard k unit)))
-  heard_b B k few unit rest front e down was =
-      let at = is_at_up k w.b.state e in
-      hears_near mb ma one_b (seen B g) h_b v_b.ordered k (omega (arith, few, h.far_links)) unit rest front at.0 at.1 l at_a.0 at_a.1 down was
-  heard_b A k few unit rest front e down was =
-      let at = is_at_up k w.b.state e in
-      hears_far mb ma one_b (seen B g) h_b v_b.ordered k (omega (arith, few, h.far_links)) unit rest front at.0 at.1 l was
-
+  -- LOSE
   lined : (owner end : End) (k : ℕ) (line : List SignalUnit) → IsOpenAt owner l w → IsOpenAt owner l (with_line w end k line)
   lined A A k line was = was
   lined A B k line was = was
   lined B A k line was = was
   lined B B k line was = was
-
-  front_a : (k : ℕ) → k < length w.a.state.links → (line : List SignalUnit) → units_on k w.to_a ≡ line → Kept (front_arrives w A k line)
-  front_a k few [] e = tt
-  front_a k few (unit ∷ rest) front = go (is_up k w.a.state) refl (has_link w k) (is_full w.a)
-    where
-      go : (up : Bool) → is_up k w.a.state ≡ up → (known full : Bool)
-          → Kept (cond up (cond known (cond full exhausted
-          (shows (Answered (answer_to w.a (Heard k unit))) (with_end (with_line w A k rest) A (after w.a (Heard k unit))))) impossible) (shows Lost (with_line w A k rest)))
-      go true e true true = tt
-      go true e true false = heard_a owner k few unit rest front e down was
-      go true e false full = tt
-      go false e known full = lined owner A k rest was
-
-  front_b : (k : ℕ) → k < length w.a.state.links → (line : List SignalUnit) → units_on k w.to_b ≡ line → Kept (front_arrives w B k line)
-  front_b k few [] e = tt
-  front_b k few (unit ∷ rest) front = go (is_up k w.b.state) refl (has_link w k) (is_full w.b)
-    where
-      go : (up : Bool) → is_up k w.b.state ≡ up → (known full : Bool)
-          → Kept (cond up (cond known (cond full exhausted
-          (shows (Answered (answer_to w.b (Heard k unit))) (with_end (with_line w B k rest) B (after w.b (Heard k unit))))) impossible) (shows Lost (with_line w B k rest)))
-      go true e true true = tt
-      go true e true false = heard_b owner k few unit rest front e down was
-      go true e false full = tt
-      go false e known full = lined owner B k rest was
-
-  arrive_at : (end : End) (k : ℕ) → k < length w.a.state.links → Kept (front_arrives w end k (line_to w end k))
-  arrive_at A k few = front_a k few (units_on k w.to_a) refl
-  arrive_at B k few = front_b k few (units_on k w.to_b) refl
 
   on_opens : (k : ℕ) (outcome : Outcome) → (k < length w.a.state.links → Kept outcome) → Kept (cond (has_link w k) outcome impossible)
   on_opens k outcome kept = go (has_link w k) refl
@@ -199,14 +156,14 @@ module _ (emergencies : Bool) (ma mb : Method) (one : IsOneMethod ma mb) (g : St
   not_injected false end k unit safe = safe
   not_injected true end k unit safe = safe
 
-  done_opens : (step : Step) → IsSafe emergencies step → IsNotTogether step → Kept (done_by w step)
+  done_opens : (step : Step) → IsSafe emergencies step → IsOpenStep step → Kept (done_by w step)
   done_opens (Act end event) safe apart = own_opens end event safe (has_own_step event) refl
   done_opens (Emit end k) safe apart = emit_opens end k
-  done_opens (Arrive end k) safe apart = on_opens k _ (λ few. arrive_at end k few)
+  done_opens (Arrive end k) safe apart = absurd apart
   done_opens (Lose end k place) safe apart = on_opens k _ (λ few. lose_opens end k place (line_to w end k))
   done_opens (Together k) safe apart = absurd apart
   done_opens (Inject end k unit) safe apart = absurd (not_injected emergencies end k unit safe)
 
-  pub step_opens : (step : Step) → IsSafe emergencies step → IsNotTogether step → Kept (carried_out w step)
+  pub step_opens : (step : Step) → IsSafe emergencies step → IsOpenStep step → Kept (carried_out w step)
   unfolding carried_out
   step_opens step safe apart = done_opens step safe apart

@@ -1,20 +1,43 @@
 -- WHAT A SETTLED LINK ANSWERS to a late order: the number of a link on which nothing was accepted, in a run in which each
 -- order is answered. A link that never was up counted nothing; one that an order settled was answered for. So it's of the
--- sets as they are, and kept: an order that is heard settles by an answer (`obeys_replies`), and whatever else happens
--- leaves settled links as they are, or brings them up (`replies_kept`).
-use Rattle.std.proofs.Common.{refl, ◌≡◌, ◌≢◌, ◌∙◌, ap, sym, ℕ, zero, suc, ◌==◌, Bool, true, false, List, slice_get, slice_set, replicate, Some, cond, ◌⊎◌, inl, inr}
+-- sets as they are, and kept (`replies_kept`): an order that is heard settles by an answer, or was answered late
+-- (`heard_older`), and whatever else happens leaves settled links as they are (`asked_older`, `next_older`), or brings
+-- them up (`rises_older`).
+use Rattle.std.proofs.Common.{refl, ◌≡◌, ◌≢◌, ◌∙◌, ap, sym, subst, ℕ, zero, suc, ◌==◌, Bool, true, false, List, [], ◌∷◌, ◌++◌, slice_get, slice_set, replicate, Option, Some, None, cond, ◌⊎◌, inl, inr}
 use Rattle.std.proofs.lemmas.Bool.{eqb-true}
 use Rattle.std.proofs.lemmas.Option.{same_Some}
+use Rattle.l2_units.specs.declared.unit.Unit.{Unit as SignalUnit}
 use Rattle.l2_window.specs.Window.{fsn_before_first}
 use Rattle.l2_window.proofs.Numbers.{from_zero}
-use Rattle.l3_orders.specs.declared.order.Order.TheVariants.{Coa}
-use Rattle.set_model.specs.declared.reached.Reached.TheVariants.{Upto, Unknown}
-use Rattle.set_model.specs.Changeover.{reply_of, settled, settled_link, left_link, is_reasonable, acknowledged, reached_by, acknowledged_by, discarded, judged, judged_link}
+use Rattle.l3_orders.specs.declared.order.Order.{Order}
+use Rattle.l3_orders.specs.declared.order.Order.TheVariants.{Coo, Coa, Cbd, Cba, Eco, Eca}
+use Rattle.l3_orders.specs.Grammar.{order_of}
+use Rattle.pair_steps.specs.declared.step.End.{End}
+use Rattle.pair_steps.specs.declared.step.Step.TheVariants.{Act}
+use Rattle.set_events.specs.declared.answer.Answer.TheVariants.{Done}
 use Rattle.set_events.specs.declared.answer.DiscardCause.TheVariants.{Unreasonable}
-use Rattle.set_model.specs.State.{LinkState, State, Settings, is_settled, link_is_settled, has_phase_settled, new_link, opened_with}
+use Rattle.set_events.specs.declared.answer.Fate.{Fate}
+use Rattle.set_events.specs.declared.answer.Refusal.{Refusal}
+use Rattle.set_events.specs.declared.answer.Refusal.TheVariants.{Nothing, NotUp}
+use Rattle.set_events.specs.declared.answer.Took.TheVariants.{Message as TookMessage}
+use Rattle.set_events.specs.declared.event.Event.{Event}
+use Rattle.set_events.specs.declared.event.Event.TheVariants.{Offer, Take, Find, Next, Heard as HeardEvent, Up as UpEvent, Down as DownEvent, DownBlind, NoAnswer, Restore, BackTimeout}
+use Rattle.set_route.specs.Routing.{code_of}
+use Rattle.set_route.specs.declared.place.Code.{Code}
+use Rattle.set_route.specs.declared.place.Code.TheVariants.{Free, Asked, Spent}
+use Rattle.set_model.specs.declared.phase.Phase.{Phase}
+use Rattle.set_model.specs.declared.phase.Phase.TheVariants.{Up, Down, Settled}
+use Rattle.set_model.specs.declared.reached.Reached.{Reached}
+use Rattle.set_model.specs.declared.reached.Reached.TheVariants.{Upto, Unknown, Unanswered}
+use Rattle.set_model.specs.Changeover.{reply_of, settled, settled_link, left_link, is_reasonable, acknowledged, reached_by, acknowledged_by, discarded, judged, judged_link, is_told, cleared, can_declare, declared, declared_if, declared_from, some_declare, Obeyed, answered_link, changed_over, answered, at_link, obeyed_at, acknowledged_back, order_obeyed, obeyed}
+use Rattle.set_model.specs.Rows.{service_indicator, place}
+use Rattle.set_model.specs.State.{LinkState, State, Settings, has_phase_up, is_settled, link_is_settled, has_phase_settled, link_count, new_link, opened_with}
+use Rattle.set_model.specs.Step.{Outcome, refused, offer_refusal, offered, taken, found, with_known, in_service, next, brought, takes, part_in, controlled, controls, is_heard, heard, falls, comes_back, step}
 use Rattle.set_model.proofs.Lists.{at_set}
-use Rattle.pair_changeover.proofs.Obeying.{Obeys, keeps, settles, answers, settles_blind, answers_blind, acknowledges, releases, left_and_told}
+use Rattle.pair_model.specs.World.{has_own_step}
+use Rattle.pair_changeover.proofs.Obeying.{left_and_told}
 use Rattle.pair_changeover.proofs.Passing.{Rises}
+use Rattle.pair_rises.specs.Rises.{IsPlainStep}
 
 abbrev pub Replies : State → Type 0
 Replies s = (l : ℕ) (link : LinkState) → slice_get s.links l ≡ Some link → has_phase_settled link.phase ≡ true
@@ -69,19 +92,133 @@ settles_older fsn n link s unsettled =
 blind_older : (n : ℕ) (link : LinkState) (s : State) → Older s.links (settled Unknown n link s).links
 blind_older n link s = older_set s.links n (settled_link true link) (inr refl)
 
--- what is heard leads to nothing else
-pub obeys_older : {emergencies : Bool} (k : ℕ) (body : List ℕ) (s f t : State) → Obeys emergencies k body s f t → Older s.links t.links
-obeys_older k body s f t (keeps _ rows links routing none) = λ l link there phase. inl (ap (λ (ls : List LinkState). slice_get ls l) (sym links) ∙ there)
-obeys_older k body s f _ (settles fsn n link other at told heard over) = settles_older fsn n link s (ap has_phase_settled at.phase_is)
-obeys_older k body s f _ (answers fsn n link other at told heard over) =
-    older_then s.links (left_and_told n link s).links (settled (Upto fsn) n (left_link false link) (left_and_told n link s)).links
-    (older_set s.links n (left_link false link) (inl refl)) (settles_older fsn n (left_link false link) (left_and_told n link s) refl)
-obeys_older k body s f _ (settles_blind n link may other at heard over) = blind_older n link s
-obeys_older k body s f _ (answers_blind n link may other at heard over) =
-    older_then s.links (left_and_told n link s).links (settled Unknown n (left_link false link) (left_and_told n link s)).links
-    (older_set s.links n (left_link false link) (inl refl)) (blind_older n (left_link false link) (left_and_told n link s))
-obeys_older k body s f _ (acknowledges n code is) = older_same s.links
-obeys_older k body s f _ (releases n code is) = older_same s.links
+-- by the answer to its own order, or by the other end's
+told_older : (reached : Reached) → is_told reached ≡ true → (n : ℕ) (link : LinkState) (s : State) → has_phase_settled link.phase ≡ false
+    → Older s.links (settled reached n link s).links
+told_older (Upto fsn) told n link s unsettled = settles_older fsn n link s unsettled
+told_older Unknown told n link s unsettled = blind_older n link s
+told_older Unanswered told n link s unsettled = absurd (let no : false ≡ true = told in cc)
+
+changed_older : (reached : Reached) → is_told reached ≡ true → (n : ℕ) (link : LinkState) (phase : Phase) (s : State) → link.phase ≡ phase
+    → Older s.links (changed_over reached n link phase s).state.links
+changed_older reached told n link Up s e =
+    older_then s.links (left_and_told n link s).links (settled reached n (left_link false link) (left_and_told n link s)).links
+    (older_set s.links n (left_link false link) (inl refl)) (told_older reached told n (left_link false link) (left_and_told n link s) refl)
+changed_older reached told n link Down s e = told_older reached told n link s (ap has_phase_settled e)
+changed_older reached told n link Settled s e = older_set s.links n (answered_link link) (inr refl)
+
+answered_older : (reached : Reached) → is_told reached ≡ true → (n : ℕ) (link : LinkState) (phase : Phase) (s : State) → link.phase ≡ phase
+    → Older s.links (answered reached n link phase s).state.links
+answered_older reached told n link Up s e = older_same s.links
+answered_older reached told n link Down s e = told_older reached told n link s (ap has_phase_settled e)
+answered_older reached told n link Settled s e = older_same s.links
+
+at_older : (n : ℕ) (s : State) (f : LinkState → Phase → State → Obeyed)
+    → ((link : LinkState) (phase : Phase) → link.phase ≡ phase → Older s.links (f link phase s).state.links) → Older s.links (obeyed_at n f s).state.links
+at_older n s f each = go (slice_get s.links n)
+  where
+    go : (o : Option LinkState) → Older s.links (at_link n s (λ link. f link link.phase s) o).state.links
+    go None = older_same s.links
+    go (Some link) = each link link.phase refl
+
+back_older : (code : ℕ) (c : Code) (s : State) → Older s.links (acknowledged_back code c s).state.links
+back_older code Free s = older_same s.links
+back_older code Asked s = older_same s.links
+back_older code Spent s = older_same s.links
+
+order_older : (order : Order) (s : State) → Older s.links (order_obeyed order s).state.links
+order_older (Coo n fsn) s = at_older n s (changed_over (Upto fsn) n) (λ link phase e. changed_older (Upto fsn) refl n link phase s e)
+order_older (Eco n) s = at_older n s (changed_over Unknown n) (λ link phase e. changed_older Unknown refl n link phase s e)
+order_older (Coa n fsn) s = at_older n s (answered (Upto fsn) n) (λ link phase e. answered_older (Upto fsn) refl n link phase s e)
+order_older (Eca n) s = at_older n s (answered Unknown n) (λ link phase e. answered_older Unknown refl n link phase s e)
+order_older (Cbd n code) s = older_same s.links
+order_older (Cba n code) s = back_older code (code_of code s.routing) s
+
+obeyed_older : (order : Option Order) (s : State) → Older s.links (obeyed order s).state.links
+obeyed_older None s = older_same s.links
+obeyed_older (Some order) s = order_older order s
+
+takes_older : (body : Option (List ℕ)) (s : State) → Older s.links (takes body s).state.links
+takes_older None s = older_same s.links
+takes_older (Some body) s = go (service_indicator body == 0)
+  where
+    go : (b : Bool) → Older s.links (cond b (obeyed (order_of s.settings.profile body) s) (record { took = TookMessage; state = record s { inbox = s.inbox ++ body ∷ [] } })).state.links
+    go true = obeyed_older (order_of s.settings.profile body) s
+    go false = older_same s.links
+
+-- AN EVENT OF A LINK THAT IS UP
+unsettled_up : (phase : Phase) → has_phase_up phase ≡ true → has_phase_settled phase ≡ false
+unsettled_up Up e = refl
+unsettled_up Down e = refl
+unsettled_up Settled e = absurd (let no : false ≡ true = e in cc)
+
+in_older : (n : ℕ) (s : State) (f : LinkState → Outcome) → ((link : LinkState) → has_phase_up link.phase ≡ true → Older s.links (f link).state.links)
+    → Older s.links (in_service n s f).state.links
+in_older n s f each = go (slice_get s.links n)
+  where
+    at : (link : LinkState) (b : Bool) → has_phase_up link.phase ≡ b → Older s.links (cond b (f link) (refused s NotUp)).state.links
+    at link true e = each link e
+    at link false e = older_same s.links
+
+    go : (o : Option LinkState) → Older s.links (with_known o s (λ link. cond (has_phase_up link.phase) (f link) (refused s NotUp))).state.links
+    go None = older_same s.links
+    go (Some link) = at link (has_phase_up link.phase) refl
+
+pub heard_older : (k : ℕ) (unit : SignalUnit) (s : State) → Older s.links (step s (HeardEvent k unit)).state.links
+unfolding step
+heard_older k unit s = in_older k s (heard unit k s) (λ link up. go link up (is_heard s.settings.profile unit))
+  where
+    go : (link : LinkState) → has_phase_up link.phase ≡ true → (b : Bool) → Older s.links (cond b (controls unit k s link) (refused s Nothing)).state.links
+    go link up true =
+        older_then s.links (controlled unit k s link).links (controls unit k s link).state.links
+        (older_set s.links k _ (inl (unsettled_up link.phase up))) (takes_older (brought (part_in unit k link s).accept unit) (controlled unit k s link))
+    go link up false = older_same s.links
+
+pub next_older : (k : ℕ) (s : State) → Older s.links (step s (Next k)).state.links
+unfolding step
+next_older k s = in_older k s (next k (cleared k s)) (λ link up. older_set s.links k _ (inl (unsettled_up link.phase up)))
+
+from_same : (n home alternative : ℕ) (s : State) → (declared_from home alternative n s).links ≡ s.links
+from_same zero home alternative s = refl
+from_same (suc n) home alternative s = from_same n home (suc alternative) (declared_if home alternative s) ∙ go (can_declare home alternative s)
+  where
+    go : (b : Bool) → (cond b (declared home alternative s) s).links ≡ s.links
+    go true = refl
+    go false = refl
+
+-- ONE THAT HAS NO STEP OF ITS OWN, and gives no order up
+pub asked_older : (emergencies : Bool) (end : End) (event : Event) (s : State) → IsPlainStep emergencies (Act end event) → has_own_step event ≡ false
+    → Older s.links (step s event).state.links
+unfolding step
+asked_older em end (Offer body) s plain own = go (offer_refusal s.settings.profile s.rows body)
+  where
+    go : (o : Option Refusal) → Older s.links (offered o s body).state.links
+    go None = older_same s.links
+    go (Some why) = older_same s.links
+asked_older em end Take s plain own = go s.inbox
+  where
+    go : (inbox : List (List ℕ)) → Older s.links (taken inbox s).state.links
+    go [] = older_same s.links
+    go (body ∷ rest) = older_same s.links
+asked_older em end (Find number) s plain own = go (place number s.rows)
+  where
+    go : (o : Option Fate) → Older s.links (found o number s).state.links
+    go None = older_same s.links
+    go (Some fate) = older_same s.links
+asked_older em end (Next k) s plain own = absurd cc
+asked_older em end (HeardEvent k unit) s plain own = absurd cc
+asked_older em end (UpEvent k) s plain own = absurd cc
+asked_older em end (DownEvent k) s plain own = in_older k s (falls false k s) (λ link up. older_set s.links k (left_link false link) (inl refl))
+asked_older em end (DownBlind k) s plain own = in_older k s (falls true k s) (λ link up. older_set s.links k (left_link true link) (inl refl))
+asked_older false end (NoAnswer k) s plain own = absurd plain
+asked_older true end (NoAnswer k) s plain own = absurd plain
+asked_older em end (Restore k) s plain own = in_older k s (λ link. comes_back k s) (λ link up. go (some_declare k 0 (link_count s) s))
+  where
+    go : (b : Bool) → Older s.links (cond b (record { answer = Done; state = declared_from k 0 (link_count s) s }) (refused s Nothing)).state.links
+    go true = subst (λ (ls : List LinkState). Older s.links ls) (sym (from_same (link_count s) k 0 s)) (older_same s.links)
+    go false = older_same s.links
+asked_older false end (BackTimeout k) s plain own = absurd plain
+asked_older true end (BackTimeout k) s plain own = absurd plain
 
 -- a link comes up
 pub rises_older : (k : ℕ) (s t : State) → Rises k s t → Older s.links t.links

@@ -1,30 +1,22 @@
--- THE ORDERS UNDER WAY, where a link comes up at one end first (`begins_both`), and then at the other (`joins_both`), or this one
--- hears first that the other has left (`late_both`). In between it is, at
--- the end that hasn't joined, as one that this end left at once and in silence (set_veiled): `Both` of pair_changeover holds of
--- that state, and no order about the link stands at that end (`begins_none`).
-use Rattle.std.proofs.Common.{refl, ◌≡◌, ◌∙◌, ap, sym, subst, ℕ, ◌==◌, ◌<◌, ◌+◌, ◌-◌, ◌%◌, Bool, true, false, List, [], slice_get, slice_set, Some, ◌⊎◌, inl, inr}
+-- THE ORDERS UNDER WAY, where a link comes up at one end first (`begins_both`), and then at the other (`joins_both`). In
+-- between it is, at the end that hasn't joined, as one that this end left at once and in silence (set_veiled): `Both` of
+-- pair_changeover holds of that state, and no order about the link stands at that end (`begins_none`).
+use Rattle.std.proofs.Common.{refl, ◌≡◌, ◌∙◌, ap, sym, subst, ℕ, ◌==◌, ◌-◌, Bool, true, false, List, [], slice_get, ◌⊎◌, inl, inr}
 use Rattle.std.proofs.lemmas.Bool.{eqb-true}
 use Rattle.set_model.specs.declared.phase.Phase.TheVariants.{Settled}
 use Rattle.set_model.specs.Rows.{Row, parked}
 use Rattle.set_model.specs.Sound.{IsSound}
-use Rattle.l2_units.specs.declared.profile.Profile.{Profile}
-use Rattle.l2_window.specs.Window.{fsn_count, fsn_before_first}
-use Rattle.l2_window.proofs.Numbers.{below as cycle}
-use Rattle.l3_orders.specs.declared.order.Order.TheVariants.{Coa}
-use Rattle.set_model.specs.Changeover.{queued}
-use Rattle.set_model.specs.State.{LinkState, State, Settings, last_accepted, has_phase_settled, is_up, is_settled, link_is_up, link_is_settled}
-use Rattle.set_model.specs.Step.{risen_link, step}
+use Rattle.set_model.specs.State.{LinkState, State, has_phase_settled, is_up, is_settled, link_is_up, link_is_settled}
+use Rattle.set_model.specs.Step.{step}
 use Rattle.set_model.proofs.Lists.{get_set_same, get_set_other, within}
 use Rattle.set_model.proofs.Places.{false_true, itself}
 use Rattle.set_model.proofs.Settling.{settled_empty}
 use Rattle.set_model.proofs.Walk.{IsAt}
 use Rattle.set_events.specs.declared.event.Event.TheVariants.{Up as UpEvent}
 use Rattle.set_veiled.specs.Veil.{dormant, veil}
-use Rattle.set_veiled.proofs.Sound.{veils_stay_sound}
 use Rattle.pair_model.specs.Run.{Message, messages}
 use Rattle.pair_changeover.proofs.Arriving.{rises_at}
-use Rattle.pair_changeover.proofs.Changes.{Both, queues_both}
-use Rattle.pair_changeover.proofs.Texts.{AreCodes, coa_read}
+use Rattle.pair_changeover.proofs.Changes.{Both}
 use Rattle.pair_changeover.proofs.Passing.{Rises}
 use Rattle.pair_changeover.proofs.Table.{drop_none, queue_untouched}
 use Rattle.pair_changeover.proofs.Views.{view, pending, queue, acked_of, acked_on, accepted_of, accepted_on, last_of, last_on, Among, In, stands_on, stands_aside, NoneAbout, Came, stayed, moved, was_in, Passes, carries}
@@ -176,85 +168,6 @@ module _ {emergencies : Bool} (k : ℕ) (s v t f : State) (a : Rises k s t) (b :
     near = carries (view v f) (view t f) (view f v) (view f t) joined_passes o.near;
     far = carries (view f v) (view f t) (view v f) (view t f) other_passes o.far;
   }
-
--- A LATE ORDER: the end that hasn't joined hears that the other left this life. It acknowledges, with the number of a link on which
--- nothing was accepted, and never joins: it's seen as settled then, with nothing counted.
-abbrev pub closed : Settings → LinkState
-closed settings = record (risen_link settings.profile settings.method 0) { phase = Settled; answered = true }
-
-module _ {emergencies : Bool} (k : ℕ) (q f : State) (link : LinkState) (there : slice_get q.links k ≡ Some link)
-    (down : is_up k q ≡ false) (none_counted : link.accepted ≡ 0) (none_acked : link.acked ≡ 0) (of_profile : link.profile ≡ q.settings.profile)
-    (o : Both emergencies q f) (heard : NoneAbout k (view f q)) (far_down : is_up k f ≡ false) where
-  abbrev pub shut : State
-  shut = record q { links = slice_set q.links k (closed q.settings) }
-
-  shut_at : slice_get shut.links k ≡ Some (closed q.settings)
-  shut_at = get_set_same q.links k (closed q.settings) (within q.links k link there)
-
-  shut_other : (l : ℕ) → (k == l) ≡ false → slice_get shut.links l ≡ slice_get q.links l
-  shut_other l d = get_set_other q.links k l (closed q.settings) (λ same. false_true (k == l) d (rw same (itself l)))
-
-  shut_up : (l : ℕ) → is_up l shut ≡ is_up l q
-  shut_up = split k (λ l. is_up l shut ≡ is_up l q) (ap link_is_up shut_at ∙ sym down) (λ l d. ap link_is_up (shut_other l d))
-
-  shut_accepted : (l : ℕ) → accepted_on l shut ≡ accepted_on l q
-  shut_accepted = split k (λ l. accepted_on l shut ≡ accepted_on l q) (ap accepted_of shut_at ∙ sym none_counted ∙ sym (ap accepted_of there)) (λ l d. ap accepted_of (shut_other l d))
-
-  shut_acked : (l : ℕ) → acked_on l shut ≡ acked_on l q
-  shut_acked = split k (λ l. acked_on l shut ≡ acked_on l q) (ap acked_of shut_at ∙ sym none_acked ∙ sym (ap acked_of there)) (λ l d. ap acked_of (shut_other l d))
-
-  shut_last : (l : ℕ) → last_on l shut ≡ last_on l q
-  shut_last = split k (λ l. last_on l shut ≡ last_on l q)
-      (ap last_of shut_at
-      ∙ ap (λ (p : Profile). (0 + fsn_before_first p) % fsn_count p) (sym of_profile)
-      ∙ ap (λ (n : ℕ). (n + fsn_before_first link.profile) % fsn_count link.profile) (sym none_counted)
-      ∙ sym (ap last_of there))
-      (λ l d. ap last_of (shut_other l d))
-
-  near_shut : Passes (view q f) (view shut f) (view f shut)
-  near_shut = record {
-    came = λ l m among. stayed (subst (λ (i : ℕ). Among m (queue (accepted_on l f - i) l q.rows)) (shut_acked l) among);
-    came_aside = λ m among. was_in (stands_aside among);
-    none_up = λ l e. o.near.none_up l (sym (shut_up l) ∙ e);
-    none_settled = λ l e. o.near.none_settled l e;
-    accepted = λ l. inl (shut_last l);
-    apart = split k (λ l. is_settled l shut ≡ true → is_up l f ≡ false) (λ e. far_down)
-        (λ l d e. o.near.apart l (ap link_is_settled (sym (shut_other l d)) ∙ e));
-  }
-
-  far_shut : Passes (view f q) (view f shut) (view shut f)
-  far_shut = record {
-    came = λ l m among. stayed (subst (λ (i : ℕ). Among m (queue (i - acked_on l f) l f.rows)) (shut_accepted l) among);
-    came_aside = λ m among. was_in (stands_aside among);
-    none_up = λ l e. o.far.none_up l e;
-    none_settled = split k (λ l. is_settled l shut ≡ true → NoneAbout l (view f q)) (λ e. heard)
-        (λ l d e. o.far.none_settled l (ap link_is_settled (sym (shut_other l d)) ∙ e));
-    accepted = λ l. inl refl;
-    apart = λ l e. shut_up l ∙ o.far.apart l e;
-  }
-
-  pub shuts : Both emergencies shut f
-  shuts = record {
-    near = carries (view q f) (view shut f) (view f q) (view f shut) near_shut o.near;
-    far = carries (view f q) (view f shut) (view q f) (view shut f) far_shut o.far;
-  }
-
--- it acknowledges first
-pub late_both : {emergencies : Bool} (k : ℕ) (s f : State) → IsSound s → AreCodes s.settings → (link : LinkState) → IsAt k link Settled s
-    → k < 16 → Both emergencies (veil (dormant s.settings) k s) f → NoneAbout k (view (veil (dormant s.settings) k s) f)
-    → NoneAbout k (view f (veil (dormant s.settings) k s)) → is_up k f ≡ false → is_settled k f ≡ false
-    → Both emergencies (record (queued (Coa k (last_accepted (dormant s.settings))) (veil (dormant s.settings) k s)) {
-      links = slice_set (veil (dormant s.settings) k s).links k (closed s.settings);
-    }) f
-late_both k s f sound codes link at few o none heard far_down goes =
-    let v = veil (dormant s.settings) k s in
-    let there : slice_get v.links k ≡ Some (dormant s.settings) = get_set_same s.links k (dormant s.settings) (within s.links k link at.there) in
-    let down : is_up k v ≡ false = ap link_is_up there in
-    let coa = Coa k (last_accepted (dormant s.settings)) in
-    let asked = queues_both v f coa (veils_stay_sound k s sound (ap link_is_settled at.there ∙ ap has_phase_settled at.phase_is)) o
-    (coa_read s.settings k (last_accepted (dormant s.settings)) codes few (cycle s.settings.profile (0 + fsn_before_first s.settings.profile)))
-    (sym (ap last_of there)) none down goes in
-    shuts k (queued coa v) f (dormant s.settings) there down refl refl refl asked heard far_down
 
 -- THE STEPS
 pub begins_both : {emergencies : Bool} (k : ℕ) (s f : State) → IsSound s → IsSound f → (near far : LinkState) → IsAt k near Settled s

@@ -1,7 +1,7 @@
 -- SEVERAL VEILS: a state with some of its settled links seen as others that aren't up does the same at each step
 -- (`laid_alike`, link by link from set_veiled's law), and is sound (`laid_sound`); one more veil lies on top of the others
 -- (`laid_more`).
-use Rattle.std.proofs.Common.{refl, arith, ◌≡◌, ◌≢◌, ◌∙◌, ap, ap₂, sym, subst, ℕ, zero, suc, ◌<◌, ◌≤◌, ◌==◌, Bool, true, false, List, [], ◌∷◌, length, slice_get, slice_set, Option, Some, None}
+use Rattle.std.proofs.Common.{refl, arith, ◌≡◌, ◌≢◌, ◌∙◌, ap, ap₂, sym, subst, ℕ, zero, suc, ◌<◌, ◌≤◌, ◌==◌, Bool, true, false, List, [], ◌∷◌, length, slice_get, slice_set, Option, Some, None, ◌⊎◌, inl, inr}
 use Rattle.std.proofs.lemmas.Bool.{eqb-true}
 use Rattle.std.proofs.lemmas.Bool.Decides.{nat_tests}
 use Rattle.l2_units.specs.declared.unit.Unit.TheVariants.{Fisu, Lssu, Msu}
@@ -15,11 +15,12 @@ use Rattle.set_model.specs.Step.{step}
 use Rattle.set_model.proofs.Lists.{get_set_same, get_set_other, set_same, length_set, within}
 use Rattle.set_model.proofs.Places.{false_true, itself}
 use Rattle.set_model.proofs.Walk.{link_count_stays}
-use Rattle.set_veiled.specs.Veil.{dormant, veil, IsElsewhere}
+use Rattle.set_veiled.specs.Veil.{dormant, veil, IsElsewhere, IsAlike}
 use Rattle.set_veiled.proofs.Veiled.{up_same, settled_out, veils_keep_steps}
 use Rattle.set_veiled.proofs.Sound.{veils_stay_sound}
 use Rattle.pair_model.proofs.Pairs.{settings_stay}
-use Rattle.pair_rises.specs.Rises.{cover_of, laid_on, laid, lay, seen_under}
+use Rattle.pair_rises.proofs.Closed.{closed_sound}
+use Rattle.pair_rises.specs.Rises.{Cover, inside, awaited, missed, is_covered, closed, cover_of, laid_on, laid, lay, seen_under}
 
 pub swap : {X : Type 0} (xs : List X) (n m : ℕ) (x y : X) → (n == m) ≡ false → slice_set (slice_set xs m y) n x ≡ slice_set (slice_set xs n x) m y
 swap [] n m x y d = refl
@@ -118,7 +119,7 @@ AreVeils c s = (l : ℕ) (x : LinkState) → c l ≡ Some x → (has_phase_up x.
 
 module _ (c : ℕ → Option LinkState) (s : State) (are : AreVeils c s) where
   -- the next one's link is settled yet
-  next_settled : (n : ℕ) (x : LinkState) → c n ≡ Some x → is_settled n (lay c n s) ≡ true
+  pub next_settled : (n : ℕ) (x : LinkState) → c n ≡ Some x → is_settled n (lay c n s) ≡ true
   next_settled n x e = ap link_is_settled (laid_above c n n s.links (omega arith)) ∙ (are n x e).1
 
   pub laid_up : (n l : ℕ) → is_up l (lay c n s) ≡ is_up l s
@@ -131,14 +132,17 @@ module _ (c : ℕ → Option LinkState) (s : State) (are : AreVeils c s) where
           let not_up = (are n x e).0 in
           up_same x not_up n (lay c n s) (settled_out x not_up n (lay c n s) (next_settled n x e)) l ∙ last
 
-  pub laid_sound : ((l : ℕ) (x : LinkState) → c l ≡ Some x → x ≡ dormant s.settings) → IsSound s → (n : ℕ) → IsSound (lay c n s)
+  pub laid_sound : ((l : ℕ) (x : LinkState) → c l ≡ Some x → (x ≡ dormant s.settings) ⊎ (x ≡ closed s.settings)) → IsSound s → (n : ℕ) → IsSound (lay c n s)
   laid_sound each sound zero = sound
   laid_sound each sound (suc n) = go (c n) refl (laid_sound each sound n)
     where
       go : (o : Option LinkState) → c n ≡ o → IsSound (lay c n s) → IsSound (record s { links = laid_on o n (laid c n s.links) })
       go None e last = last
-      go (Some x) e last = subst (λ (y : LinkState). IsSound (veil y n (lay c n s))) (sym (each n x e))
-          (veils_stay_sound n (lay c n s) last (next_settled n x e))
+      go (Some x) e last = under (each n x e)
+        where
+          under : (x ≡ dormant s.settings) ⊎ (x ≡ closed s.settings) → IsSound (veil x n (lay c n s))
+          under (inl is) = subst (λ (y : LinkState). IsSound (veil y n (lay c n s))) (sym is) (veils_stay_sound n (lay c n s) last (next_settled n x e))
+          under (inr is) = subst (λ (y : LinkState). IsSound (veil y n (lay c n s))) (sym is) (closed_sound n (lay c n s) last (next_settled n x e))
 
   module _ (event : Event) (other : (l : ℕ) (x : LinkState) → c l ≡ Some x → IsElsewhere l s event) where
     pub record Alike (n : ℕ) : Type 0 where
@@ -167,7 +171,18 @@ module _ (c : ℕ → Option LinkState) (s : State) (are : AreVeils c s) where
                   ∙ ap (λ (o : Option LinkState). record (step s event).state { links = laid_on o n (laid c n (step s event).state.links) }) (sym e);
             }
 
--- A SETTLED LINK STAYS as it is, but for what brings it up, gives it up, or is an order about it: it's a veil of itself
+-- A LINK STAYS as it is, where a step is the same with a veil of itself over it
+pub link_stays : (l : ℕ) (s : State) (event : Event) (x : LinkState) → slice_get s.links l ≡ Some x
+    → IsAlike x l (step (veil x l s) event) (step s event) → slice_get (step s event).state.links l ≡ Some x
+link_stays l s event x there one =
+    let same : veil x l s ≡ s = ap (λ (ls : List LinkState). record s { links = ls }) (set_same s.links l x there) in
+    let is : (step s event).state ≡ veil x l (step s event).state =
+    ap (λ (t : State). (step t event).state) (sym same) ∙ one.state in
+    let few : l < length (step s event).state.links =
+    let was = within s.links l x there in omega (arith, was, link_count_stays s event) in
+    ap (λ (t : State). slice_get t.links l) is ∙ get_set_same (step s event).state.links l x few
+
+-- so a settled link does, but for what brings it up, gives it up, or is an order about it
 pub settled_stays : (l : ℕ) (s : State) (event : Event) → is_settled l s ≡ true → IsElsewhere l s event → is_settled l (step s event).state ≡ true
 settled_stays l s event settled other = go (slice_get s.links l) refl
   where
@@ -180,30 +195,30 @@ settled_stays l s event settled other = go (slice_get s.links l) refl
     go None e = absurd (let no : false ≡ true = ap link_is_settled (sym e) ∙ settled in cc)
     go (Some x) e =
         let phase : has_phase_settled x.phase ≡ true = ap link_is_settled (sym e) ∙ settled in
-        let same : veil x l s ≡ s = ap (λ (ls : List LinkState). record s { links = ls }) (set_same s.links l x e) in
-        let one = veils_keep_steps x l s event (not_up x.phase phase) settled other in
-        let is : (step s event).state ≡ veil x l (step s event).state =
-        ap (λ (t : State). (step t event).state) (sym same) ∙ one.state in
-        let few : l < length (step s event).state.links =
-        let was = within s.links l x e in omega (arith, was, link_count_stays s event) in
-        ap (is_settled l) is ∙ ap link_is_settled (get_set_same (step s event).state.links l x few) ∙ phase
+        ap link_is_settled (link_stays l s event x e (veils_keep_steps x l s event (not_up x.phase phase) settled other)) ∙ phase
 
 -- AS IT'S SEEN
-cover_settled : (settings : Settings) (is : Bool) (x : LinkState) → cover_of settings is ≡ Some x → (is ≡ true) × (x ≡ dormant settings)
-cover_settled settings true x e = (refl, let is : dormant settings ≡ x = cc in sym is)
-cover_settled settings false x e = absurd cc
+pub cover_settled : (settings : Settings) (is : Cover) (x : LinkState) → cover_of settings is ≡ Some x
+    → (is_covered is ≡ true) × ((x ≡ dormant settings) ⊎ (x ≡ closed settings))
+cover_settled settings awaited x e = (refl, inl (let is : dormant settings ≡ x = cc in sym is))
+cover_settled settings missed x e = (refl, inr (let is : closed settings ≡ x = cc in sym is))
+cover_settled settings inside x e = absurd cc
 
-abbrev pub Fits : (ℕ → Bool) → State → Type 0
-Fits told s = (l : ℕ) → told l ≡ true → is_settled l s ≡ true
+cover_not_up : (settings : Settings) (x : LinkState) → (x ≡ dormant settings) ⊎ (x ≡ closed settings) → has_phase_up x.phase ≡ false
+cover_not_up settings x (inl is) = ap (λ (y : LinkState). has_phase_up y.phase) is
+cover_not_up settings x (inr is) = ap (λ (y : LinkState). has_phase_up y.phase) is
 
-module _ (told : ℕ → Bool) (s : State) (fits : Fits told s) where
+abbrev pub Fits : (ℕ → Cover) → State → Type 0
+Fits told s = (l : ℕ) → is_covered (told l) ≡ true → is_settled l s ≡ true
+
+module _ (told : ℕ → Cover) (s : State) (fits : Fits told s) where
   abbrev covers : ℕ → Option LinkState
   covers link = cover_of s.settings (told link)
 
-  are_veils : AreVeils covers s
+  pub are_veils : AreVeils covers s
   are_veils l x e =
       let is = cover_settled s.settings (told l) x e in
-      (ap (λ (y : LinkState). has_phase_up y.phase) is.1, fits l is.0)
+      (cover_not_up s.settings x is.1, fits l is.0)
 
   pub seen_up : (l : ℕ) → is_up l (seen_under told s) ≡ is_up l s
   seen_up l = laid_up covers s are_veils s.settings.links l
@@ -211,7 +226,7 @@ module _ (told : ℕ → Bool) (s : State) (fits : Fits told s) where
   pub seen_sound : IsSound s → IsSound (seen_under told s)
   seen_sound sound = laid_sound covers s are_veils (λ l x e. (cover_settled s.settings (told l) x e).1) sound s.settings.links
 
-  module _ (event : Event) (other : (l : ℕ) → told l ≡ true → IsElsewhere l s event) where
+  module _ (event : Event) (other : (l : ℕ) → is_covered (told l) ≡ true → IsElsewhere l s event) where
     alike : Alike covers s are_veils event (λ l x e. other l (cover_settled s.settings (told l) x e).0) s.settings.links
     alike = laid_alike covers s are_veils event (λ l x e. other l (cover_settled s.settings (told l) x e).0) s.settings.links
 
@@ -226,20 +241,34 @@ module _ (told : ℕ → Bool) (s : State) (fits : Fits told s) where
     pub still_fits : Fits told (step s event).state
     still_fits l e = settled_stays l s event (fits l e) (other l e)
 
-pub seen_length : (told : ℕ → Bool) (s : State) → length (seen_under told s).links ≡ length s.links
+pub seen_length : (told : ℕ → Cover) (s : State) → length (seen_under told s).links ≡ length s.links
 seen_length told s = laid_length (λ link. cover_of s.settings (told link)) s.settings.links s.links
 
-pub seen_off : (told : ℕ → Bool) (s : State) (l : ℕ) → told l ≡ false → slice_get (seen_under told s).links l ≡ slice_get s.links l
+-- an event that is the same under the veils
+pub record SameUnder (told : ℕ → Cover) (s : State) (event : Event) : Type 0 where
+  pub answer : (step (seen_under told s) event).answer ≡ (step s event).answer
+  pub state : (step (seen_under told s) event).state ≡ seen_under told (step s event).state
+  pub fits : Fits told (step s event).state
+
+pub same_under : (told : ℕ → Cover) (s : State) → Fits told s → (event : Event) → ((l : ℕ) → is_covered (told l) ≡ true → IsElsewhere l s event) → SameUnder told s event
+same_under told s fits event other = record {
+  answer = seen_answer told s fits event other;
+  state = seen_state told s fits event other;
+  fits = still_fits told s fits event other;
+}
+
+pub seen_off : (told : ℕ → Cover) (s : State) (l : ℕ) → told l ≡ inside → slice_get (seen_under told s).links l ≡ slice_get s.links l
 seen_off told s l e = laid_off (λ link. cover_of s.settings (told link)) s.settings.links l s.links (ap (cover_of s.settings) e)
 
--- one more link is open
-pub seen_more : (told more : ℕ → Bool) (s : State) (k : ℕ) → told k ≡ false → more k ≡ true → ((l : ℕ) → (l == k) ≡ false → more l ≡ told l)
-    → k < s.settings.links → seen_under more s ≡ veil (dormant s.settings) k (seen_under told s)
-seen_more told more s k off on same few = ap (λ (ls : List LinkState). record s { links = ls })
-    (laid_more (λ link. cover_of s.settings (told link)) (λ link. cover_of s.settings (more link)) k (dormant s.settings)
-    (ap (cover_of s.settings) off) (ap (cover_of s.settings) on) (λ l d. ap (cover_of s.settings) (same l d)) s.settings.links s.links few)
+-- one more link has a veil
+pub seen_more : (told more : ℕ → Cover) (s : State) (k : ℕ) (is : Cover) (x : LinkState) → told k ≡ inside → more k ≡ is → cover_of s.settings is ≡ Some x
+    → ((l : ℕ) → (l == k) ≡ false → more l ≡ told l)
+    → k < s.settings.links → seen_under more s ≡ veil x k (seen_under told s)
+seen_more told more s k is x off on by same few = ap (λ (ls : List LinkState). record s { links = ls })
+    (laid_more (λ link. cover_of s.settings (told link)) (λ link. cover_of s.settings (more link)) k x
+    (ap (cover_of s.settings) off) (ap (cover_of s.settings) on ∙ by) (λ l d. ap (cover_of s.settings) (same l d)) s.settings.links s.links few)
 
-pub seen_same : (told more : ℕ → Bool) (s : State) → ((l : ℕ) → more l ≡ told l) → seen_under more s ≡ seen_under told s
+pub seen_same : (told more : ℕ → Cover) (s : State) → ((l : ℕ) → more l ≡ told l) → seen_under more s ≡ seen_under told s
 seen_same told more s same = ap (λ (ls : List LinkState). record s { links = ls })
     (laid_same (λ link. cover_of s.settings (told link)) (λ link. cover_of s.settings (more link)) s.settings.links s.links
     (λ l few. ap (cover_of s.settings) (same l)))

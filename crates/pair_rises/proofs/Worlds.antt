@@ -1,5 +1,5 @@
--- A STEP OF THE WORLD UNDER VEILS is the step under the same veils (`step_went`), where no order about an open link is heard;
--- and the sets stay sound, and their open links settled (`Bare`).
+-- A STEP OF THE WORLD UNDER VEILS, but for what arrives, is the step under the same veils (`step_went`); and the sets stay
+-- sound, their covered links settled, and their settled links answer a late order as before (`Bare`).
 use Rattle.std.proofs.Common.{refl, ◌≡◌, ◌∙◌, ap, ap₂, ℕ, Bool, true, false, nat_lt, List, [], ◌∷◌, ◌++◌, length, cond}
 use Rattle.l2_units.specs.declared.unit.Unit.{Unit as SignalUnit}
 use Rattle.pair_steps.specs.Lines.{units_on}
@@ -11,7 +11,7 @@ use Rattle.set_events.specs.declared.event.Event.{Event}
 use Rattle.set_events.specs.declared.event.Event.TheVariants.{Offer, Take, Find, Next, Heard, Up as UpEvent, Down as DownEvent, DownBlind, NoAnswer, Restore, BackTimeout}
 use Rattle.set_model.specs.History.{LinkSet}
 use Rattle.set_model.specs.Sound.{IsSound}
-use Rattle.set_model.specs.State.{State, is_up}
+use Rattle.set_model.specs.State.{State}
 use Rattle.set_model.specs.Step.{step}
 use Rattle.set_model.proofs.Soundness.{step_sound}
 use Rattle.set_veiled.specs.Veil.{IsElsewhere}
@@ -21,28 +21,35 @@ use Rattle.pair_steps.specs.declared.step.Shown.{Shown}
 use Rattle.pair_steps.specs.declared.step.Shown.TheVariants.{Answered, Up as CameUp, Lost}
 use Rattle.pair_steps.specs.declared.step.Step.{Step}
 use Rattle.pair_steps.specs.declared.step.Step.TheVariants.{Act, Emit, Arrive, Lose, Together, Inject}
-use Rattle.pair_model.specs.World.{World, Outcome, shows, impossible, exhausted, at_end, with_end, line_to, with_line, actor_of, answer_to, after, is_full, has_link, has_actor, acts, with_sent, sends_on, front_arrives, loses_from, has_own_step, done_by, carried_out}
+use Rattle.pair_model.specs.World.{World, Outcome, shows, impossible, exhausted, at_end, with_end, actor_of, answer_to, after, is_full, has_link, has_actor, acts, with_sent, sends_on, loses_from, has_own_step, done_by, carried_out}
 use Rattle.pair_model.specs.Run.{passed, OnShows}
-use Rattle.pair_rises.specs.Rises.{Rising, seen_under, set_under, world_under, as_seen, IsNoOrderOn, IsPlainStep, moved_on, steps}
-use Rattle.pair_rises.proofs.Veils.{Fits, seen_up, seen_answer, seen_state, seen_length, still_fits}
+use Rattle.pair_rises.specs.Rises.{Cover, Rising, set_under, world_under, as_seen, IsPlainStep}
+use Rattle.pair_rises.proofs.Replies.{Older, Replies, replies_kept, asked_older, next_older}
+use Rattle.pair_rises.proofs.Veils.{Fits, SameUnder, same_under, seen_length}
+
+-- what arrives is told by itself (Arrives.antt)
+abbrev pub IsNoArrival : Step → Type 0
+IsNoArrival (Arrive end k) = ⊥
+IsNoArrival step = Unit {0}
 
 -- of the two sets as they are
-pub record Bare (oa ob : ℕ → Bool) (sa sb : State) : Type 0 where
+pub record Bare (oa ob : ℕ → Cover) (sa sb : State) : Type 0 where
   pub sound_a : IsSound sa
   pub sound_b : IsSound sb
   pub fit_a : Fits oa sa
   pub fit_b : Fits ob sb
+  pub replies_a : Replies sa
+  pub replies_b : Replies sb
 
-pub set_after : (told : ℕ → Bool) (set : LinkSet) → Fits told set.state → (event : Event) → ((l : ℕ) → told l ≡ true → IsElsewhere l set.state event)
-    → after (set_under told set) event ≡ set_under told (after set event)
-set_after told set fits event other =
+pub set_after : (told : ℕ → Cover) (set : LinkSet) (event : Event) → SameUnder told set.state event → after (set_under told set) event ≡ set_under told (after set event)
+set_after told set event same =
     ap₂ (λ (s : State) (answer : Answer). record {
       base = set.base;
       state = s;
       history = set.history ++ record { who = actor_of event; event = event; answer = answer } ∷ [];
-    }) (seen_state told set.state fits event other) (seen_answer told set.state fits event other)
+    }) same.state same.answer
 
-module _ (oa ob : ℕ → Bool) where
+module _ (oa ob : ℕ → Cover) where
   abbrev pub under : Outcome → Outcome
   under (shows shown w) = shows shown (world_under oa ob w)
   under impossible = impossible
@@ -59,8 +66,8 @@ module _ (oa ob : ℕ → Bool) where
   Same veiled outcome = (veiled ≡ under outcome) × AreBare outcome
 
   abbrev Other : End → World → Event → Type 0
-  Other A w event = (l : ℕ) → oa l ≡ true → IsElsewhere l w.a.state event
-  Other B w event = (l : ℕ) → ob l ≡ true → IsElsewhere l w.b.state event
+  Other A w event = SameUnder oa w.a.state event × Older w.a.state.links (step w.a.state event).state.links
+  Other B w event = SameUnder ob w.b.state event × Older w.b.state.links (step w.b.state event).state.links
 
   link_same : (w : World) (k : ℕ) → has_link (world_under oa ob w) k ≡ has_link w k
   link_same w k = ap (nat_lt k) (seen_length oa w.a.state)
@@ -79,14 +86,26 @@ module _ (oa ob : ℕ → Bool) where
       → Same (shows (Answered (answer_to (at_end (world_under oa ob w) end) event)) (with_end (world_under oa ob w) end (after (at_end (world_under oa ob w) end) event)))
       (shows (Answered (answer_to (at_end w end) event)) (with_end w end (after (at_end w end) event)))
   shown_same A w event bare other = (
-    ap₂ (λ (answer : Answer) (set : LinkSet). shows (Answered answer) (with_end (world_under oa ob w) A set))
-        (seen_answer oa w.a.state bare.fit_a event other) (set_after oa w.a bare.fit_a event other),
-    record { sound_a = step_sound w.a.state event bare.sound_a; sound_b = bare.sound_b; fit_a = still_fits oa w.a.state bare.fit_a event other; fit_b = bare.fit_b },
+    ap₂ (λ (answer : Answer) (set : LinkSet). shows (Answered answer) (with_end (world_under oa ob w) A set)) other.0.answer (set_after oa w.a event other.0),
+    record {
+      sound_a = step_sound w.a.state event bare.sound_a;
+      sound_b = bare.sound_b;
+      fit_a = other.0.fits;
+      fit_b = bare.fit_b;
+      replies_a = replies_kept w.a.state (step w.a.state event).state other.1 bare.replies_a;
+      replies_b = bare.replies_b;
+    },
   )
   shown_same B w event bare other = (
-    ap₂ (λ (answer : Answer) (set : LinkSet). shows (Answered answer) (with_end (world_under oa ob w) B set))
-        (seen_answer ob w.b.state bare.fit_b event other) (set_after ob w.b bare.fit_b event other),
-    record { sound_a = bare.sound_a; sound_b = step_sound w.b.state event bare.sound_b; fit_a = bare.fit_a; fit_b = still_fits ob w.b.state bare.fit_b event other },
+    ap₂ (λ (answer : Answer) (set : LinkSet). shows (Answered answer) (with_end (world_under oa ob w) B set)) other.0.answer (set_after ob w.b event other.0),
+    record {
+      sound_a = bare.sound_a;
+      sound_b = step_sound w.b.state event bare.sound_b;
+      fit_a = bare.fit_a;
+      fit_b = other.0.fits;
+      replies_a = bare.replies_a;
+      replies_b = replies_kept w.b.state (step w.b.state event).state other.1 bare.replies_b;
+    },
   )
 
   full_same : (end : End) (w : World) → is_full (at_end (world_under oa ob w) end) ≡ is_full (at_end w end)
@@ -121,52 +140,24 @@ module _ (oa ob : ℕ → Bool) where
   sends_same end k impossible bare = (refl, tt)
   sends_same end k exhausted bare = (refl, tt)
 
-  next_other : (end : End) (w : World) (k : ℕ) → Other end w (Next k)
-  next_other A w k = λ l e. tt
-  next_other B w k = λ l e. tt
+  next_other : (end : End) (w : World) (k : ℕ) → IsBare w → Other end w (Next k)
+  next_other A w k bare = (same_under oa w.a.state bare.fit_a (Next k) (λ l e. tt), next_older k w.a.state)
+  next_other B w k bare = (same_under ob w.b.state bare.fit_b (Next k) (λ l e. tt), next_older k w.b.state)
 
   emits_same : (end : End) (w : World) (k : ℕ) → IsBare w → Same (sends_on end k (acts (world_under oa ob w) end (Next k))) (sends_on end k (acts w end (Next k)))
   emits_same end w k bare =
-      let one = acts_same end w (Next k) bare (next_other end w k) in
+      let one = acts_same end w (Next k) bare (next_other end w k bare) in
       let two = sends_same end k (acts w end (Next k)) one.1 in
       (ap (sends_on end k) one.0 ∙ two.0, two.1)
 
-  -- ARRIVE
-  abbrev NoOrder : End → World → List SignalUnit → Type 0
-  NoOrder A w line = (l : ℕ) → oa l ≡ true → IsNoOrderOn l w.a.state line
-  NoOrder B w line = (l : ℕ) → ob l ≡ true → IsNoOrderOn l w.b.state line
-
+  -- LOSE
   chosen_same : (up up' : Bool) (x y v z : Outcome) → up' ≡ up → Same x y → Same v z → Same (cond up' x v) (cond up y z)
   chosen_same true up' x y v z e s t = (ap (λ (b : Bool). cond b x v) e ∙ s.0, s.1)
   chosen_same false up' x y v z e s t = (ap (λ (b : Bool). cond b x v) e ∙ t.0, t.1)
 
-  front_same : (end : End) (w : World) (k : ℕ) (line : List SignalUnit) → IsBare w → NoOrder end w line
-      → Same (front_arrives (world_under oa ob w) end k line) (front_arrives w end k line)
-  front_same end w k [] bare none = (refl, tt)
-  front_same A w k (unit ∷ rest) bare none =
-      chosen_same (is_up k w.a.state) (is_up k (seen_under oa w.a.state)) _ _ _ _ (seen_up oa w.a.state bare.fit_a k)
-      (acts_same A (with_line w A k rest) (Heard k unit) bare none) (refl, bare)
-  front_same B w k (unit ∷ rest) bare none =
-      chosen_same (is_up k w.b.state) (is_up k (seen_under ob w.b.state)) _ _ _ _ (seen_up ob w.b.state bare.fit_b k)
-      (acts_same B (with_line w B k rest) (Heard k unit) bare none) (refl, bare)
-
-  none_same : (x : Outcome) → x ≡ impossible → Same x impossible
-  none_same x e = (e, tt)
-
   on_same : (w : World) (k : ℕ) (x y : Outcome) → Same x y → Same (cond (has_link (world_under oa ob w) k) x impossible) (cond (has_link w k) y impossible)
   on_same w k x y same = chosen_same (has_link w k) (has_link (world_under oa ob w) k) x y impossible impossible (link_same w k) same (refl, tt)
 
-  line_same : (end : End) (w : World) (k : ℕ) → line_to (world_under oa ob w) end k ≡ line_to w end k
-  line_same A w k = refl
-  line_same B w k = refl
-
-  arrives_same : (end : End) (w : World) (k : ℕ) → IsBare w → NoOrder end w (line_to w end k)
-      → Same (front_arrives (world_under oa ob w) end k (line_to (world_under oa ob w) end k)) (front_arrives w end k (line_to w end k))
-  arrives_same end w k bare none =
-      let one = front_same end w k (line_to w end k) bare none in
-      (ap (front_arrives (world_under oa ob w) end k) (line_same end w k) ∙ one.0, one.1)
-
-  -- LOSE
   lost_same : (end : End) (w : World) (k place : ℕ) (line : List SignalUnit) → IsBare w → Same (loses_from (world_under oa ob w) end k place line) (loses_from w end k place line)
   lost_same A w k place line bare = chosen_same (nat_lt place (length line)) (nat_lt place (length line)) _ _ impossible impossible refl (refl, bare) (refl, tt)
   lost_same B w k place line bare = chosen_same (nat_lt place (length line)) (nat_lt place (length line)) _ _ impossible impossible refl (refl, bare) (refl, tt)
@@ -187,41 +178,39 @@ module _ (oa ob : ℕ → Bool) where
   act_elsewhere em end (Restore k) plain own l s = tt
   act_elsewhere em end (BackTimeout k) plain own l s = tt
 
-  act_other : (emergencies : Bool) (end : End) (w : World) (event : Event) → IsPlainStep emergencies (Act end event) → has_own_step event ≡ false → Other end w event
-  act_other em A w event plain own = λ l e. act_elsewhere em A event plain own l w.a.state
-  act_other em B w event plain own = λ l e. act_elsewhere em B event plain own l w.b.state
+  act_other : (emergencies : Bool) (end : End) (w : World) (event : Event) → IsBare w → IsPlainStep emergencies (Act end event) → has_own_step event ≡ false → Other end w event
+  act_other em A w event bare plain own =
+      (same_under oa w.a.state bare.fit_a event (λ l e. act_elsewhere em A event plain own l w.a.state), asked_older em A event w.a.state plain own)
+  act_other em B w event bare plain own =
+      (same_under ob w.b.state bare.fit_b event (λ l e. act_elsewhere em B event plain own l w.b.state), asked_older em B event w.b.state plain own)
 
   asked_same : (emergencies : Bool) (end : End) (w : World) (event : Event) → IsBare w → IsPlainStep emergencies (Act end event) → (own : Bool) → has_own_step event ≡ own
       → Same (cond own impossible (acts (world_under oa ob w) end event)) (cond own impossible (acts w end event))
   asked_same em end w event bare plain true e = (refl, tt)
-  asked_same em end w event bare plain false e = acts_same end w event bare (act_other em end w event plain e)
-
-  abbrev pub MayGo : World → Step → Type 0
-  MayGo w (Arrive end k) = NoOrder end w (line_to w end k)
-  MayGo w step = Unit {0}
+  asked_same em end w event bare plain false e = acts_same end w event bare (act_other em end w event bare plain e)
 
   injected : (emergencies : Bool) (end : End) (k : ℕ) (unit : SignalUnit) → IsPlainStep emergencies (Inject end k unit) → ⊥
   injected false end k unit plain = plain
   injected true end k unit plain = plain
 
   -- EACH STEP
-  done_went : (emergencies : Bool) (w : World) (step : Step) → IsBare w → IsPlainStep emergencies step → MayGo w step → Same (done_by (world_under oa ob w) step) (done_by w step)
+  done_went : (emergencies : Bool) (w : World) (step : Step) → IsBare w → IsPlainStep emergencies step → IsNoArrival step → Same (done_by (world_under oa ob w) step) (done_by w step)
   done_went em w (Act end event) bare plain may = asked_same em end w event bare plain (has_own_step event) refl
   done_went em w (Emit end k) bare plain may = emits_same end w k bare
-  done_went em w (Arrive end k) bare plain may = on_same w k _ _ (arrives_same end w k bare may)
+  done_went em w (Arrive end k) bare plain may = absurd may
   done_went em w (Lose A k place) bare plain may = on_same w k _ _ (lost_same A w k place (units_on k w.to_a) bare)
   done_went em w (Lose B k place) bare plain may = on_same w k _ _ (lost_same B w k place (units_on k w.to_b) bare)
   done_went em w (Together k) bare plain may = absurd plain
   done_went em w (Inject end k unit) bare plain may = absurd (injected em end k unit plain)
 
-  pub step_went : (emergencies : Bool) (w : World) (step : Step) → IsBare w → IsPlainStep emergencies step → MayGo w step
+  pub step_went : (emergencies : Bool) (w : World) (step : Step) → IsBare w → IsPlainStep emergencies step → IsNoArrival step
       → (carried_out (world_under oa ob w) step ≡ under (carried_out w step)) × AreBare (carried_out w step)
   unfolding carried_out
   step_went em w step bare plain may = done_went em w step bare plain may
 
 -- the stage after it is that under the veils
 pub passed_same : (g : Rising) (step : Step) (shown : Shown) (new : World)
-    → passed (as_seen g) step shown (world_under g.open_a g.open_b new) ≡ as_seen (moved_on g (steps step) shown new)
+    → passed (as_seen g) step shown (world_under g.open_a g.open_b new) ≡ as_seen (record g { stage = passed g.stage step shown new })
 passed_same g (Act A event) shown new = refl
 passed_same g (Act B event) shown new = refl
 passed_same g (Emit A k) shown new = refl

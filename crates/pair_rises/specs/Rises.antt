@@ -1,10 +1,19 @@
 -- TWO ENDS WHOSE LINKS COME UP ONE AFTER THE OTHER, and what is promised of their streams. A link that is settled at both
--- ends, and comes up at one, begins a life of its own: the other end may join it, or not. Till then the link is at that
--- end, to all else, one that it left at once and in silence (set_veiled): the stage is told under that veil.
+-- ends, and comes up at one, begins a life of its own: the other end may join it, or hear first that it's over, or neither.
+-- Till it joins, the link is at that end, to all else, one that it left at once and in silence (set_veiled), and once it
+-- missed that life, one that counts nothing: the stage is told under that veil.
 use Rattle.std.specs.Prelude.{◌≡◌, ℕ, zero, suc, Bool, true, false, ◌==◌, List, [], ◌∷◌, slice_set, Option, Some, None, if◌then◌else◌}
 use Rattle.l2_units.specs.declared.profile.Profile.{Profile}
 use Rattle.l2_units.specs.declared.unit.Unit.{Unit as SignalUnit}
-use Rattle.l2_units.specs.declared.unit.Unit.TheVariants.{Fisu}
+use Rattle.l2_units.specs.declared.unit.Unit.TheVariants.{Fisu, Msu}
+use Rattle.l3_orders.specs.declared.order.Order.{Order}
+use Rattle.l3_orders.specs.declared.order.Order.TheVariants.{Coo, Coa, Eco, Eca}
+use Rattle.l3_orders.specs.Grammar.{order_of}
+use Rattle.set_events.specs.declared.answer.Answer.TheVariants.{Heard as HeardBack}
+use Rattle.set_events.specs.declared.answer.Took.{Took}
+use Rattle.set_events.specs.declared.answer.Took.TheVariants.{Order as TookOrder, Ignored}
+use Rattle.set_model.specs.declared.phase.Phase.TheVariants.{Settled}
+use Rattle.set_model.specs.Step.{risen_link}
 use Rattle.l2_window.specs.Window.{WindowState, fsn_before_first}
 use Rattle.set_events.specs.declared.config.Method.{Method}
 use Rattle.set_events.specs.declared.config.SetConfig.{SetConfig}
@@ -12,12 +21,12 @@ use Rattle.set_events.specs.declared.event.Event.TheVariants.{Up as UpEvent}
 use Rattle.set_model.specs.Control.{start_of, head_of, fsn_of, fill}
 use Rattle.set_model.specs.History.{LinkSet}
 use Rattle.set_model.specs.State.{LinkState, Settings, State, is_settled}
-use Rattle.set_veiled.specs.Veil.{dormant, IsNoOrderOf}
+use Rattle.set_veiled.specs.Veil.{dormant}
 use Rattle.pair_steps.specs.Lines.{with_units}
 use Rattle.pair_steps.specs.declared.step.End.{End}
 use Rattle.pair_steps.specs.declared.step.End.TheVariants.{A, B}
 use Rattle.pair_steps.specs.declared.step.Shown.{Shown}
-use Rattle.pair_steps.specs.declared.step.Shown.TheVariants.{Up, Lost}
+use Rattle.pair_steps.specs.declared.step.Shown.TheVariants.{Answered, Up, Lost}
 use Rattle.pair_steps.specs.declared.step.Step.{Step}
 use Rattle.pair_steps.specs.declared.step.Step.TheVariants.{Arrive, Together}
 use Rattle.pair_model.specs.Promises.{IsOneMethod, IsSoundStep, IsQuietStep}
@@ -69,33 +78,86 @@ moved w (steps step) = carried_out w step
 moved w (rises end link) = comes_up w end link
 moved w (fills end link) = fills_line w end link
 
--- A STAGE: that of pair_model; and at each end the links that came up at the other and may yet come up here
+-- HOW AN END STANDS to a life of a link: it's in it, or the link has none; it may join yet; or it heard first that the other
+-- left it, and missed it
+pub data Cover : Type 0 where
+  inside : Cover
+  awaited : Cover
+  missed : Cover
+
+abbrev pub is_covered : Cover → Bool
+is_covered inside = false
+is_covered awaited = true
+is_covered missed = true
+
+-- A STAGE: that of pair_model; and how each end stands to the life of each link
 pub record Rising : Type 0 where
   pub stage : Stage
-  pub open_a : ℕ → Bool
-  pub open_b : ℕ → Bool
+  pub open_a : ℕ → Cover
+  pub open_b : ℕ → Cover
 
-abbrev pub none_open : ℕ → Bool
-none_open link = false
+abbrev pub all_inside : ℕ → Cover
+all_inside link = inside
 
 abbrev pub opening : SetConfig → SetConfig → Rising
-opening a b = record { stage = begun a b; open_a = none_open; open_b = none_open }
+opening a b = record { stage = begun a b; open_a = all_inside; open_b = all_inside }
 
-abbrev pub open_at : Rising → End → ℕ → Bool
+abbrev pub open_at : Rising → End → ℕ → Cover
 open_at g A = g.open_a
 open_at g B = g.open_b
 
-abbrev pub told_at : ℕ → Bool → (ℕ → Bool) → ℕ → Bool
+abbrev pub told_at : ℕ → Cover → (ℕ → Cover) → ℕ → Cover
 told_at link is was l = if l == link then is else was l
 
-abbrev pub with_open : End → (ℕ → Bool) → Rising → Rising
+abbrev pub with_open : End → (ℕ → Cover) → Rising → Rising
 with_open A told g = record g { open_a = told }
 with_open B told g = record g { open_b = told }
 
 -- a life begins, or an end joins it
 abbrev pub began : End → ℕ → Rising → Rising
 began end link g =
-    with_open end (told_at link false (open_at g end)) (with_open (other end) (told_at link true (open_at g (other end))) g)
+    with_open end (told_at link inside (open_at g end))
+    (with_open (other end) (told_at link awaited (open_at g (other end))) g)
+
+-- An end takes an order of a changeover about a link that it may yet join: the other left that life, and this end missed
+-- it, whatever it answers.
+abbrev pub about_of : Option Order → Option ℕ
+about_of (Some (Coo link fsn)) = Some link
+about_of (Some (Coa link fsn)) = Some link
+about_of (Some (Eco link)) = Some link
+about_of (Some (Eca link)) = Some link
+about_of _ = None
+
+abbrev pub order_about : Profile → SignalUnit → Option ℕ
+order_about profile (Msu head body) = about_of (order_of profile body.items)
+order_about profile _ = None
+
+abbrev pub is_order : Took → Bool
+is_order TookOrder = true
+is_order Ignored = true
+is_order _ = false
+
+abbrev pub takes_order : Shown → Bool
+takes_order (Answered (HeardBack report)) = is_order report.took
+takes_order _ = false
+
+abbrev pub missed_by : Cover → Cover
+missed_by inside = inside
+missed_by awaited = missed
+missed_by missed = missed
+
+abbrev pub missed_at : Option ℕ → (ℕ → Cover) → ℕ → Cover
+missed_at None was l = was l
+missed_at (Some link) was l = if l == link then missed_by (was l) else was l
+
+abbrev pub covers_heard : Profile → List SignalUnit → Shown → (ℕ → Cover) → ℕ → Cover
+covers_heard profile [] shown was = was
+covers_heard profile (unit ∷ line) shown was = missed_at (if takes_order shown then order_about profile unit else None) was
+
+abbrev pub heard_at : Rising → Step → Shown → Rising → Rising
+heard_at g (Arrive end link) shown h =
+    with_open end (covers_heard (at_end g.stage.world end).state.settings.profile (line_to g.stage.world end link) shown (open_at g end)) h
+heard_at g step shown h = h
 
 abbrev pub then_at : World → Rising → Rising
 then_at w g = record g { stage = record g.stage { world = w } }
@@ -105,17 +167,22 @@ begun_at link w g = record g { stage = record { world = w; a = past_risen link g
 
 abbrev pub risen_at : Bool → End → ℕ → World → Rising → Rising
 risen_at true end link w g = began end link (begun_at link w g)
-risen_at false end link w g = with_open end (told_at link false (open_at g end)) (then_at w g)
+risen_at false end link w g = with_open end (told_at link inside (open_at g end)) (then_at w g)
 
 abbrev pub moved_on : Rising → Move → Shown → World → Rising
-moved_on g (steps step) shown new = record g { stage = passed g.stage step shown new }
+moved_on g (steps step) shown new = heard_at g step shown (record g { stage = passed g.stage step shown new })
 moved_on g (rises end link) shown new = risen_at (is_first g.stage.world end link) end link new g
 moved_on g (fills end link) shown new = then_at new g
 
--- UNDER THE VEIL: each open link as one that was left at once and in silence
-abbrev pub cover_of : Settings → Bool → Option LinkState
-cover_of settings true = Some (dormant settings)
-cover_of settings false = None
+-- UNDER THE VEIL: an awaited link as one that was left at once and in silence; a missed one as settled, answered, and
+-- with nothing counted. Neither shows the late orders that the set counts of it: the terminal alone asks for their number.
+abbrev pub closed : Settings → LinkState
+closed settings = record (risen_link settings.profile settings.method 0) { phase = Settled; answered = true }
+
+abbrev pub cover_of : Settings → Cover → Option LinkState
+cover_of settings inside = None
+cover_of settings awaited = Some (dormant settings)
+cover_of settings missed = Some (closed settings)
 
 abbrev pub laid_on : Option LinkState → ℕ → List LinkState → List LinkState
 laid_on None link links = links
@@ -128,13 +195,13 @@ laid covers (suc n) links = laid_on (covers n) n (laid covers n links)
 abbrev pub lay : (ℕ → Option LinkState) → ℕ → State → State
 lay covers n s = record s { links = laid covers n s.links }
 
-abbrev pub seen_under : (ℕ → Bool) → State → State
+abbrev pub seen_under : (ℕ → Cover) → State → State
 seen_under told s = lay (λ link. cover_of s.settings (told link)) s.settings.links s
 
-abbrev pub set_under : (ℕ → Bool) → LinkSet → LinkSet
+abbrev pub set_under : (ℕ → Cover) → LinkSet → LinkSet
 set_under told set = record set { state = seen_under told set.state }
 
-abbrev pub world_under : (ℕ → Bool) → (ℕ → Bool) → World → World
+abbrev pub world_under : (ℕ → Cover) → (ℕ → Cover) → World → World
 world_under open_a open_b w = record w { a = set_under open_a w.a; b = set_under open_b w.b }
 
 abbrev pub as_seen : Rising → Stage
@@ -152,27 +219,20 @@ HoldsBefore P g [] = Unit {0}
 HoldsBefore P g (move ∷ moves) =
     P g move × OnShows (moved g.stage.world move) (λ shown new. HoldsBefore P (moved_on g move shown new) moves)
 
--- THE RUNS. No link comes up at an end in a life that this end has left, or never joined in time; an end fills the line of a
--- link that it may yet join.
-abbrev pub IsNoOrderOn : ℕ → State → List SignalUnit → Type 0
-IsNoOrderOn link s [] = Unit {0}
-IsNoOrderOn link s (unit ∷ line) = IsNoOrderOf link s unit
-
 -- the state of an end as it's seen
 abbrev pub seen_at : Rising → End → State
 seen_at g end = (at_end (as_seen g).world end).state
 
--- a life that is on at the other end is joined where it may be yet
+-- THE RUNS. A life that is on at the other end is joined where it may be yet: no link comes up at an end in a life that this
+-- end has left, or missed. An end fills the line of a link that it may yet join.
 abbrev pub MayRise : Bool → Rising → End → ℕ → Type 0
 MayRise true g end link = Unit {0}
-MayRise false g end link = open_at g end link ≡ true
+MayRise false g end link = open_at g end link ≡ awaited
 
 abbrev pub MayMove : Rising → Move → Type 0
-MayMove g (steps (Arrive end link)) =
-    (l : ℕ) → open_at g end l ≡ true → IsNoOrderOn l (at_end g.stage.world end).state (line_to g.stage.world end link)
 MayMove g (steps step) = Unit {0}
 MayMove g (rises end link) = MayRise (is_first g.stage.world end link) g end link
-MayMove g (fills end link) = open_at g end link ≡ true
+MayMove g (fills end link) = open_at g end link ≡ awaited
 
 -- without emergencies, or with them
 abbrev pub IsPlainStep : Bool → Step → Type 0
