@@ -3,6 +3,7 @@ pub mod Closed
 pub mod Covers
 pub mod Examples
 pub mod Going
+pub mod Handing
 pub mod Heard
 pub mod Late
 pub mod Missing
@@ -14,6 +15,7 @@ pub mod Replies
 pub mod Rising
 pub mod Runs
 pub mod Sides
+pub mod Taking
 pub mod Together
 pub mod Tying
 pub mod Veils
