@@ -1,11 +1,10 @@
 -- A UNIT ARRIVES at an end that is seen under its veils, on a link that is up there: what holds of both ends is kept
 -- (`arrives`). It's the same under the veils, but where the unit brings an order of a changeover about an awaited link:
 -- then the end misses that life (`late_arrived`). None is about a missed link: the end settled it, to all else.
-use Rattle.std.proofs.Common.{refl, arith, ◌≡◌, ◌∙◌, ap, sym, subst, ℕ, ◌<◌, ◌==◌, ◌++◌, Bool, true, false, List, [], ◌∷◌, length, slice_get, Option, Some, None, cond}
+use Rattle.std.proofs.Common.{refl, arith, ◌≡◌, ◌∙◌, ap, sym, subst, ℕ, ◌<◌, ◌==◌, Bool, true, false, List, ◌∷◌, length, slice_get, Option, Some, None, cond}
 use Rattle.std.proofs.lemmas.Bool.{eqb-true}
 use Rattle.l2_units.specs.declared.profile.Profile.{Profile}
 use Rattle.l2_units.specs.declared.unit.Unit.{Unit as SignalUnit}
-use Rattle.l2_units.specs.declared.unit.Unit.TheVariants.{Fisu, Lssu, Msu}
 use Rattle.l2_window.specs.Window.{fsn_before_first}
 use Rattle.l3_orders.specs.declared.order.Order.{Order}
 use Rattle.l3_orders.specs.declared.order.Order.TheVariants.{Coo, Coa, Cbd, Cba, Eco, Eca}
@@ -15,34 +14,29 @@ use Rattle.pair_steps.specs.declared.step.Shown.TheVariants.{Answered}
 use Rattle.set_events.specs.declared.answer.Answer.{Answer}
 use Rattle.set_events.specs.declared.answer.Answer.TheVariants.{Heard as HeardBack}
 use Rattle.set_events.specs.declared.answer.Report.{Report}
-use Rattle.set_events.specs.declared.answer.Took.{Took}
-use Rattle.set_events.specs.declared.answer.Took.TheVariants.{Nothing as NothingTaken, Message as TookMessage, Order as TookOrder, Ignored}
 use Rattle.set_events.specs.declared.config.Method.{Method}
 use Rattle.set_events.specs.declared.event.Event.TheVariants.{Heard as HeardEvent}
-use Rattle.set_model.specs.declared.phase.Phase.{Phase}
-use Rattle.set_model.specs.declared.phase.Phase.TheVariants.{Up, Down, Settled}
-use Rattle.set_model.specs.declared.reached.Reached.{Reached}
-use Rattle.set_model.specs.declared.reached.Reached.TheVariants.{Upto, Unknown}
-use Rattle.set_model.specs.Changeover.{Obeyed, queued, reply_of, changed_over, answered, at_link, obeyed_at, order_obeyed, obeyed}
-use Rattle.set_model.specs.Rows.{service_indicator}
+use Rattle.set_model.specs.declared.phase.Phase.TheVariants.{Up, Settled}
+use Rattle.set_model.specs.Changeover.{queued, reply_of}
 use Rattle.set_model.specs.Sound.{IsSound}
 use Rattle.set_model.specs.State.{LinkState, State, Settings, is_up, is_settled, link_is_up, link_is_settled, has_phase_up, has_phase_settled}
 use Rattle.set_model.specs.Step.{Outcome, brought, takes, part_in, controlled, report_of, is_heard, step}
 use Rattle.set_model.proofs.Lists.{get_set_same, within, present}
+use Rattle.set_model.proofs.Staying.{keeps_messages}
 use Rattle.set_model.proofs.Places.{itself, apart_back}
 use Rattle.set_model.proofs.Walk.{IsAt}
-use Rattle.set_veiled.specs.Veil.{dormant, veil, IsOfOther, IsNoOrderOf}
+use Rattle.set_veiled.specs.Veil.{dormant, veil}
 use Rattle.pair_model.specs.Promises.{IsOneMethod}
-use Rattle.pair_model.specs.Run.{Message, Past, past_heard, taken_by, got_by, body_in, added_at}
-use Rattle.set_model.specs.Rows.{stream_of}
+use Rattle.pair_model.specs.Run.{Past, past_heard}
 use Rattle.pair_model.proofs.Moving as moving
 use Rattle.pair_model.proofs.Pairs.{Two, HoldsOf, settings_stay}
 use Rattle.pair_model.proofs.Rising.{settled_at}
-use Rattle.pair_changeover.proofs.Texts.{plain_in}
 use Rattle.pair_changeover.proofs.Views.{IsChangeover}
 use Rattle.pair_streams.proofs.Acting.{Streams}
 use Rattle.pair_streams.proofs.Hearing.{hears_streams}
-use Rattle.pair_rises.specs.Rises.{Cover, inside, awaited, missed, is_covered, closed, told_at, seen_under, about_of, order_about, is_order, takes_order, missed_by, missed_at, covers_heard}
+use Rattle.pair_model.proofs.Tied.{KeepBodies, keep_bodies}
+use Rattle.pair_rises.specs.Rises.{cover_of, Cover, inside, awaited, missed, is_covered, closed, told_at, seen_under, about_of, order_about, is_order, takes_order, missed_by, missed_at, covers_heard}
+use Rattle.pair_rises.proofs.Brought.{is_no_message, leaves_took, order_in, about_in, elsewhere_in, brought_in, link_in, about_link, of_other, order_about_link, takes_took, past_same}
 use Rattle.pair_rises.proofs.Covers.{told_here, told_other, told_each, ft, off_other, off_fits}
 use Rattle.pair_rises.proofs.Heard as under_veils
 use Rattle.pair_rises.proofs.Late as late
@@ -50,112 +44,6 @@ use Rattle.pair_rises.proofs.Missing as missing
 use Rattle.pair_rises.proofs.Open.{IsOpen, hears_near, hears_far, not_about}
 use Rattle.pair_rises.proofs.Replies.{Replies}
 use Rattle.pair_rises.proofs.Veils.{Fits, SameUnder, same_under, seen_up, seen_off, seen_more, seen_same, seen_sound, seen_length}
-
--- WHAT A UNIT BRINGS
-abbrev order_in : Profile → SignalUnit → Option Order
-order_in profile (Msu head body) = order_of profile body.items
-order_in profile _ = None
-
-about_in : (profile : Profile) (unit : SignalUnit) → order_about profile unit ≡ about_of (order_in profile unit)
-about_in profile (Fisu head) = refl
-about_in profile (Lssu head status) = refl
-about_in profile (Msu head body) = refl
-
-elsewhere_in : (l : ℕ) (s : State) (unit : SignalUnit) → IsOfOther l (order_in s.settings.profile unit) → IsNoOrderOf l s unit
-elsewhere_in l s (Fisu head) e = tt
-elsewhere_in l s (Lssu head status) e = tt
-elsewhere_in l s (Msu head body) e = e
-
-brought_in : (profile : Profile) (accept : Bool) (unit : SignalUnit) (body : List ℕ) → brought accept unit ≡ Some body → order_in profile unit ≡ order_of profile body
-brought_in profile accept (Fisu head) body e = absurd cc
-brought_in profile accept (Lssu head status) body e = absurd cc
-brought_in profile true (Msu head items) body e = ap (order_of profile) (let is : items.items ≡ body = cc in is)
-brought_in profile false (Msu head items) body e = absurd cc
-
--- one that isn't about this link
-of_other : (order : Option Order) (l : ℕ) → ((n : ℕ) → about_of order ≡ Some n → (n == l) ≡ false) → IsOfOther l order
-of_other None l other = tt
-of_other (Some (Coo n fsn)) l other = other n refl
-of_other (Some (Coa n fsn)) l other = other n refl
-of_other (Some (Cbd n code)) l other = tt
-of_other (Some (Cba n code)) l other = tt
-of_other (Some (Eco n)) l other = other n refl
-of_other (Some (Eca n)) l other = other n refl
-
--- an order of a changeover about it
-record AboutLink (order : Option Order) (n : ℕ) : Type 0 where
-  the : Order
-  is : order ≡ Some the
-  over : IsChangeover the
-  of : link_of the ≡ n
-
-about_link : (order : Option Order) (n : ℕ) → about_of order ≡ Some n → AboutLink order n
-about_link None n e = absurd cc
-about_link (Some (Coo m fsn)) n e = record { the = Coo m fsn; is = refl; over = tt; of = let same : m ≡ n = cc in same }
-about_link (Some (Coa m fsn)) n e = record { the = Coa m fsn; is = refl; over = tt; of = let same : m ≡ n = cc in same }
-about_link (Some (Cbd m code)) n e = absurd cc
-about_link (Some (Cba m code)) n e = absurd cc
-about_link (Some (Eco m)) n e = record { the = Eco m; is = refl; over = tt; of = let same : m ≡ n = cc in same }
-about_link (Some (Eca m)) n e = record { the = Eca m; is = refl; over = tt; of = let same : m ≡ n = cc in same }
-
--- THAT IT'S TAKEN AS ONE, whatever comes of it
-changed_took : (reached : Reached) (n : ℕ) (link : LinkState) (phase : Phase) (s : State) → is_order (changed_over reached n link phase s).took ≡ true
-changed_took reached n link Up s = refl
-changed_took reached n link Down s = refl
-changed_took reached n link Settled s = refl
-
-answered_took : (reached : Reached) (n : ℕ) (link : LinkState) (phase : Phase) (s : State) → is_order (answered reached n link phase s).took ≡ true
-answered_took reached n link Up s = refl
-answered_took reached n link Down s = refl
-answered_took reached n link Settled s = refl
-
-at_took : (n : ℕ) (s : State) (f : LinkState → Phase → State → Obeyed)
-    → ((link : LinkState) (phase : Phase) → is_order (f link phase s).took ≡ true) → is_order (obeyed_at n f s).took ≡ true
-at_took n s f each = go (slice_get s.links n)
-  where
-    go : (o : Option LinkState) → is_order (at_link n s (λ link. f link link.phase s) o).took ≡ true
-    go None = refl
-    go (Some link) = each link link.phase
-
-order_took : (order : Order) (s : State) → IsChangeover order → is_order (order_obeyed order s).took ≡ true
-order_took (Coo n fsn) s over = at_took n s (changed_over (Upto fsn) n) (λ link phase. changed_took (Upto fsn) n link phase s)
-order_took (Eco n) s over = at_took n s (changed_over Unknown n) (λ link phase. changed_took Unknown n link phase s)
-order_took (Coa n fsn) s over = at_took n s (answered (Upto fsn) n) (λ link phase. answered_took (Upto fsn) n link phase s)
-order_took (Eca n) s over = at_took n s (answered Unknown n) (λ link phase. answered_took Unknown n link phase s)
-order_took (Cbd n code) s over = absurd over
-order_took (Cba n code) s over = absurd over
-
-takes_took : (body : List ℕ) (order : Order) (s : State) → order_of s.settings.profile body ≡ Some order → IsChangeover order
-    → is_order (takes (Some body) s).took ≡ true
-takes_took body order s is over = go (service_indicator body == 0) refl
-  where
-    go : (b : Bool) → (service_indicator body == 0) ≡ b
-        → is_order (cond b (obeyed (order_of s.settings.profile body) s) (record { took = TookMessage; state = record s { inbox = s.inbox ++ body ∷ [] } })).took ≡ true
-    go true e = ap (λ (o : Option Order). is_order (obeyed o s).took) is ∙ order_took order s over
-    go false e = absurd (let no : None ≡ Some order = sym (plain_in s.settings.profile body e) ∙ is in cc)
-
--- and so the past is the same
-taken_order : (took : Took) (body : List ℕ) → is_order took ≡ true → taken_by took body ≡ body ∷ []
-taken_order NothingTaken body e = absurd cc
-taken_order TookMessage body e = refl
-taken_order TookOrder body e = refl
-taken_order Ignored body e = refl
-
-got_order : (took : Took) (message : Option Message) (body : List ℕ) → is_order took ≡ true → got_by took message body ≡ []
-got_order NothingTaken message body e = refl
-got_order TookMessage message body e = absurd cc
-got_order TookOrder message body e = refl
-got_order Ignored message body e = refl
-
-past_same : (k : ℕ) (unit : SignalUnit) (sent : List Message) (a b : Report) (past : Past) → is_order a.took ≡ true → is_order b.took ≡ true
-    → past_heard k unit sent (Answered (HeardBack a)) past ≡ past_heard k unit sent (Answered (HeardBack b)) past
-past_same k unit sent a b past e f =
-    let body = body_in unit in
-    let message = slice_get sent (length (past.taken k)) in
-    ap (λ (more : List (List ℕ)). record past { taken = added_at k more past.taken; got = added_at (stream_of body) (got_by a.took message body) past.got })
-    (taken_order a.took body e ∙ sym (taken_order b.took body f))
-    ∙ ap (λ (more : List Message). record past { taken = added_at k (taken_by b.took body) past.taken; got = added_at (stream_of body) more past.got })
-    (got_order a.took message body e ∙ sym (got_order b.took message body f))
 
 -- WHO MISSES WHAT
 same_number : (n m : ℕ) → Some n ≡ Some m → n ≡ m
@@ -298,192 +186,13 @@ module _ {emergencies : Bool} (mx my : Method) (one : IsOneMethod mx my) (ox : �
     abbrev report_here : Report
     report_here = report_of (part_in unit k link s) (takes (brought (part_in unit k link s).accept unit) (controlled unit k s link)).took
 
-    took_here : is_order report_here.took ≡ true
-    took_here = ap (λ (o : Option (List ℕ)). is_order (takes o (controlled unit k s link)).took) some ∙ takes_took body order (controlled unit k s link) is over
+    took_here : is_no_message report_here.took ≡ true
+    took_here = ap (λ (o : Option (List ℕ)). is_no_message (takes o (controlled unit k s link)).took) some ∙ takes_took body order (controlled unit k s link) is over
 
     answers_here : answer_here ≡ HeardBack report_here
     answers_here = ap (λ (o : Outcome). o.answer) (under_veils.controls_here ox s fits k link at unit fit)
 
-    order_shown : takes_order (Answered answer_here) ≡ true
-    order_shown = ap (λ (a : Answer). takes_order (Answered a)) answers_here ∙ took_here
-
-    -- AN ORDER ABOUT AN AWAITED LINK
-    module _ (n : ℕ) (of : link_of order ≡ n) (waits : ox n ≡ awaited) where
-      abbrev off : ℕ → Cover
-      off = told_at n inside ox
-
-      abbrev u : State
-      u = seen_under off s
-
-      settled_n : is_settled n s ≡ true
-      settled_n = fits n (ap is_covered waits)
-
-      was : (l : LinkState) × IsAt n l Settled s
-      was = settled_at n s settled_n
-
-      few_n : n < length s.links
-      few_n = within s.links n was.0 was.1.there
-
-      fits_off : Fits off s
-      fits_off = off_fits n ox s fits
-
-      sound_u : IsSound u
-      sound_u = seen_sound off s fits_off sound
-
-      was_u : IsAt n was.0 Settled u
-      was_u = record { there = seen_off off s n (told_here n inside ox) ∙ was.1.there; phase_is = was.1.phase_is }
-
-      off_k : off k ≡ inside
-      off_k = told_each n inside ox (λ l c. ox l ≡ inside → c ≡ inside) (λ e. refl) (λ l d e. e) k k_inside
-
-      at_u : IsAt k link Up u
-      at_u = record { there = seen_off off s k off_k ∙ at.there; phase_is = at.phase_is }
-
-      few_u : k < length u.links
-      few_u = omega (arith, few, seen_length off s)
-
-      near_is : p.near ≡ veil (dormant u.settings) n u
-      near_is = seen_more off ox s n awaited (dormant s.settings) (told_here n inside ox) waits refl (λ l d. sym (told_other n inside ox l d))
-          (omega (arith, few_n, sound.count))
-
-      abbrev q : State → Two
-      q near = record { near = near; far = f; near_past = x_past; far_past = y_past; out = out; back = back }
-
-      h_u : HoldsOf mx my (q (veil (dormant u.settings) n u))
-      h_u = subst (λ (near : State). HoldsOf mx my (q near)) near_is h
-
-      v_u : Streams emergencies (q (veil (dormant u.settings) n u))
-      v_u = subst (λ (near : State). Streams emergencies (q near)) near_is v
-
-      open_u : IsOpen n (veil (dormant u.settings) n u) f
-      open_u = subst (λ (near : State). IsOpen n near f) near_is (opens n waits)
-
-      at_under : IsAt k link Up (veil (dormant u.settings) n u)
-      at_under = record { there = subst (λ (near : State). slice_get near.links k ≡ Some link) near_is at_seen.there; phase_is = at.phase_is }
-
-      there : (l : LinkState) × (slice_get f.links n ≡ Some l)
-      there = far_there n settled_n
-
-      abbrev mid : State
-      mid = late.mid k n u sound_u was.0 was_u link at_u unit fit
-
-      mid_few : n < length mid.links
-      mid_few = within mid.links n was.0 (late.mid_at k n u sound_u was.0 was_u link at_u unit fit).there
-
-      abbrev then_u : State
-      then_u = (step u (HeardEvent k unit)).state
-
-      abbrev after_under : State
-      after_under = (step (veil (dormant u.settings) n u) (HeardEvent k unit)).state
-
-      after_is : then_near ≡ after_under
-      after_is = ap (λ (near : State). (step near (HeardEvent k unit)).state) near_is
-
-      abbrev IsMissed : State → Type 0
-      IsMissed near = missing.Missed mx my one u f x_past y_past out back n sound_u was.0 was_u h_u v_u open_u there.0 there.1 k few_u unit rest front link at_under near
-
-      reply : reply_of n was.0 ≡ Coa n (fsn_before_first u.settings.profile)
-      reply = replies n was.0 was.1.there (ap has_phase_settled was.1.phase_is)
-          ∙ ap (λ (profile : Profile). Coa n (fsn_before_first profile)) (sound.links n was.0 was.1.there).profile
-
-      answers : after_under ≡ veil (closed u.settings) n mid → veil (closed u.settings) n then_u ≡ queued (Coa n (fsn_before_first u.settings.profile)) after_under
-          → IsMissed (veil (closed u.settings) n then_u)
-      answers settles is = missing.missed mx my one u f x_past y_past out back n sound_u was.0 was_u h_u v_u open_u there.0 there.1 k few_u unit rest front link at_under
-          mid mid_few refl settles (veil (closed u.settings) n then_u) is
-
-      ignores : after_under ≡ veil (closed u.settings) n mid → veil (closed u.settings) n then_u ≡ after_under → IsMissed (veil (closed u.settings) n then_u)
-      ignores settles is = missing.overheard mx my one u f x_past y_past out back n sound_u was.0 was_u h_u v_u open_u there.0 there.1 k few_u unit rest front link at_under
-          mid mid_few refl settles (veil (closed u.settings) n then_u) is
-
-      each_order : (o : Order) → IsChangeover o → link_of o ≡ n → order_of u.settings.profile body ≡ Some o → IsMissed (veil (closed u.settings) n then_u)
-      each_order (Coo m fsn) over same told =
-          let e : order_of u.settings.profile body ≡ Some (Coo n fsn) = told ∙ ap (λ (x : ℕ). Some (Coo x fsn)) same in
-          answers (late.under_coo k n u sound_u was.0 was_u link at_u unit fit body some fsn e) (late.late_coo k n u sound_u was.0 was_u link at_u unit fit body some fsn e reply)
-      each_order (Eco m) over same told =
-          let e : order_of u.settings.profile body ≡ Some (Eco n) = told ∙ ap (λ (x : ℕ). Some (Eco x)) same in
-          answers (late.under_eco k n u sound_u was.0 was_u link at_u unit fit body some e) (late.late_eco k n u sound_u was.0 was_u link at_u unit fit body some e reply)
-      each_order (Coa m fsn) over same told =
-          let e : order_of u.settings.profile body ≡ Some (Coa n fsn) = told ∙ ap (λ (x : ℕ). Some (Coa x fsn)) same in
-          ignores (late.under_coa k n u sound_u was.0 was_u link at_u unit fit body some fsn e) (late.late_coa k n u sound_u was.0 was_u link at_u unit fit body some fsn e)
-      each_order (Eca m) over same told =
-          let e : order_of u.settings.profile body ≡ Some (Eca n) = told ∙ ap (λ (x : ℕ). Some (Eca x)) same in
-          ignores (late.under_eca k n u sound_u was.0 was_u link at_u unit fit body some e) (late.late_eca k n u sound_u was.0 was_u link at_u unit fit body some e)
-      each_order (Cbd m code) over same told = absurd over
-      each_order (Cba m code) over same told = absurd over
-
-      misses : IsMissed (veil (closed u.settings) n then_u)
-      misses = each_order order over of is
-
-      -- the others are as they were
-      abbrev told : ℕ → Cover
-      told = told_at n missed ox
-
-      others : SameUnder off s (HeardEvent k unit)
-      others = same_under off s fits_off (HeardEvent k unit) (λ l e. elsewhere_in l s unit (of_other (order_in s.settings.profile unit) l (apart l e)))
-        where
-          apart : (l : ℕ) → is_covered (off l) ≡ true → (m : ℕ) → about_of (order_in s.settings.profile unit) ≡ Some m → (m == l) ≡ false
-          apart l e m about =
-              let a = about_link (order_in s.settings.profile unit) m about in
-              let same : Some a.the ≡ Some order = sym a.is ∙ brought_in s.settings.profile (part_in unit k link s).accept unit body some ∙ is in
-              let the : a.the ≡ order = cc in
-              let m_is : m ≡ n = sym a.of ∙ ap link_of the ∙ of in
-              ap (λ (x : ℕ). x == l) m_is ∙ told_each n inside ox (λ l c. is_covered c ≡ true → (n == l) ≡ false) (λ e. ft e) (λ l d e. d) l e
-
-      settings_then : then_s.settings ≡ s.settings
-      settings_then = settings_stay s (HeardEvent k unit)
-
-      few_then : n < then_s.settings.links
-      few_then = subst (λ (settings : Settings). n < settings.links) (sym settings_then) (omega (arith, few_n, sound.count))
-
-      seen_then : veil (closed u.settings) n then_u ≡ seen_under told then_s
-      seen_then =
-          ap (veil (closed s.settings) n) others.state
-          ∙ ap (λ (settings : Settings). veil (closed settings) n (seen_under off then_s)) (sym settings_then)
-          ∙ sym (seen_more off told then_s n missed (closed then_s.settings) (told_here n inside ox) (told_here n missed ox) refl
-          (λ l d. told_other n missed ox l d ∙ sym (told_other n inside ox l d)) few_then)
-
-      settled_then : is_settled n then_s ≡ true
-      settled_then = late.settled_after k n s sound was.0 was.1 link at unit fit body some order over of is
-
-      -- and the past is
-      few_under : k < length (veil (dormant u.settings) n u).links
-      few_under = missing.few_under mx my one u f x_past y_past out back n sound_u was.0 was_u h_u v_u open_u there.0 there.1 k few_u unit rest front link at_under
-
-      abbrev report_under : Report
-      report_under = moving.report mx my one (q (veil (dormant u.settings) n u)) h_u k few_under unit rest front link at_under
-
-      abbrev past_with : Answer → Past
-      past_with answer = past_heard k unit (y_past.sent k) (Answered answer) x_past
-
-      took_under : is_order report_under.took ≡ true
-      took_under = ap (λ (o : Option (List ℕ)). is_order (takes o (controlled unit k (veil (dormant u.settings) n u) link)).took) some
-          ∙ takes_took body order (controlled unit k (veil (dormant u.settings) n u) link) is over
-
-      past_is : past_with (HeardBack report_under) ≡ past_with answer_here
-      past_is = past_same k unit (y_past.sent k) report_under report_here x_past took_under took_here ∙ ap past_with (sym answers_here)
-
-      abbrev with_past : Past → State → Two
-      with_past past near = record { near = near; far = f; near_past = past; far_past = y_past; out = out; back = with_units k rest back }
-
-      late_arrived : Arrived told
-      late_arrived =
-          let m = misses in
-          record {
-            links = subst (λ (past : Past). HoldsOf mx my (with_past past (seen_under told then_s))) past_is
-                (subst (λ (near : State). HoldsOf mx my (with_past (past_with (HeardBack report_under)) near)) seen_then m.links);
-            streams = subst (λ (past : Past). Streams emergencies (with_past past (seen_under told then_s))) past_is
-                (subst (λ (near : State). Streams emergencies (with_past (past_with (HeardBack report_under)) near)) seen_then m.streams);
-            fit = told_each n missed ox (λ l c. is_covered c ≡ true → is_settled l then_s ≡ true) (λ e. settled_then) (λ l d e. others.fits l (other_covered l d e));
-            near = told_each n missed ox (λ l c. c ≡ awaited → IsOpen l (seen_under told then_s) f) (λ e. absurd cc)
-                (λ l d e. subst (λ (near : State). IsOpen l near f) seen_then (m.near_open l d (subst (λ (near : State). IsOpen l near f) after_is (near_open l e))));
-            far = λ l was. subst (λ (near : State). IsOpen l f near) seen_then (m.far_open l (subst (λ (near : State). IsOpen l f near) after_is (far_open l was)));
-            covered = told_each n missed ox (λ l c. is_covered c ≡ true → is_covered (ox l) ≡ true) (λ e. ap is_covered waits) (λ l d e. e);
-          }
-        where
-          other_covered : (l : ℕ) → (n == l) ≡ false → is_covered (ox l) ≡ true → is_covered (off l) ≡ true
-          other_covered l d e = ap is_covered (told_other n inside ox l (apart_back n l d)) ∙ e
-
-  -- EACH UNIT
+  -- HOW IT STANDS to each link then
   abbrev pub told_then : ℕ → Cover
   told_then = covers_heard s.settings.profile (unit ∷ rest) (Answered answer_here) ox
 
@@ -506,6 +215,231 @@ module _ {emergencies : Bool} (mx my : Method) (one : IsOneMethod mx my) (ox : �
       go true e = ap missed_by (ap ox (eqb-true l n e) ∙ waits)
       go false e = refl
 
+  -- AN ORDER ABOUT AN AWAITED LINK
+  module _ (n : ℕ) (waits : ox n ≡ awaited) where
+    abbrev off : ℕ → Cover
+    off = told_at n inside ox
+
+    abbrev u : State
+    u = seen_under off s
+
+    settled_n : is_settled n s ≡ true
+    settled_n = fits n (ap is_covered waits)
+
+    was : (l : LinkState) × IsAt n l Settled s
+    was = settled_at n s settled_n
+
+    few_n : n < length s.links
+    few_n = within s.links n was.0 was.1.there
+
+    fits_off : Fits off s
+    fits_off = off_fits n ox s fits
+
+    sound_u : IsSound u
+    sound_u = seen_sound off s fits_off sound
+
+    was_u : IsAt n was.0 Settled u
+    was_u = record { there = seen_off off s n (told_here n inside ox) ∙ was.1.there; phase_is = was.1.phase_is }
+
+    off_k : off k ≡ inside
+    off_k = told_each n inside ox (λ l c. ox l ≡ inside → c ≡ inside) (λ e. refl) (λ l d e. e) k k_inside
+
+    at_u : IsAt k link Up u
+    at_u = record { there = seen_off off s k off_k ∙ at.there; phase_is = at.phase_is }
+
+    few_u : k < length u.links
+    few_u = omega (arith, few, seen_length off s)
+
+    near_is : p.near ≡ veil (dormant u.settings) n u
+    near_is = seen_more off ox s n awaited (dormant s.settings) (told_here n inside ox) waits refl (λ l d. sym (told_other n inside ox l d))
+        (omega (arith, few_n, sound.count))
+
+    abbrev q : State → Two
+    q near = record { near = near; far = f; near_past = x_past; far_past = y_past; out = out; back = back }
+
+    h_u : HoldsOf mx my (q (veil (dormant u.settings) n u))
+    h_u = subst (λ (near : State). HoldsOf mx my (q near)) near_is h
+
+    v_u : Streams emergencies (q (veil (dormant u.settings) n u))
+    v_u = subst (λ (near : State). Streams emergencies (q near)) near_is v
+
+    open_u : IsOpen n (veil (dormant u.settings) n u) f
+    open_u = subst (λ (near : State). IsOpen n near f) near_is (opens n waits)
+
+    at_under : IsAt k link Up (veil (dormant u.settings) n u)
+    at_under = record { there = subst (λ (near : State). slice_get near.links k ≡ Some link) near_is at_seen.there; phase_is = at.phase_is }
+
+    there : (l : LinkState) × (slice_get f.links n ≡ Some l)
+    there = far_there n settled_n
+
+    abbrev then_u : State
+    then_u = (step u (HeardEvent k unit)).state
+
+    abbrev after_under : State
+    after_under = (step (veil (dormant u.settings) n u) (HeardEvent k unit)).state
+
+    after_is : then_near ≡ after_under
+    after_is = ap (λ (near : State). (step near (HeardEvent k unit)).state) near_is
+
+    reply : reply_of n was.0 ≡ Coa n (fsn_before_first u.settings.profile)
+    reply = replies n was.0 was.1.there (ap has_phase_settled was.1.phase_is)
+        ∙ ap (λ (profile : Profile). Coa n (fsn_before_first profile)) (sound.links n was.0 was.1.there).profile
+
+    few_under : k < length (veil (dormant u.settings) n u).links
+    few_under = missing.few_under mx my one u f x_past y_past out back n sound_u was.0 was_u h_u v_u open_u there.0 there.1 k few_u unit rest front link at_under
+
+    abbrev report_under : Report
+    report_under = moving.report mx my one (q (veil (dormant u.settings) n u)) h_u k few_under unit rest front link at_under
+
+    module _ (fit : is_heard s.settings.profile unit ≡ true) (body : List ℕ) (some : brought (part_in unit k link s).accept unit ≡ Some body) where
+      abbrev mid : State
+      mid = late.mid k n u sound_u was.0 was_u link at_u unit fit
+
+      mid_few : n < length mid.links
+      mid_few = within mid.links n was.0 (late.mid_at k n u sound_u was.0 was_u link at_u unit fit).there
+
+      module _ (order : Order) (is : order_of s.settings.profile body ≡ Some order) (over : IsChangeover order) (of : link_of order ≡ n) where
+        -- the others are as they were
+        others : SameUnder off s (HeardEvent k unit)
+        others = same_under off s fits_off (HeardEvent k unit) (λ l e. elsewhere_in l s unit (of_other (order_in s.settings.profile unit) l (apart l e)))
+          where
+            apart : (l : ℕ) → is_covered (off l) ≡ true → (m : ℕ) → link_in (order_in s.settings.profile unit) ≡ Some m → (m == l) ≡ false
+            apart l e m about =
+                let a = order_about_link (order_in s.settings.profile unit) m about in
+                let same : Some a.the ≡ Some order = sym a.is ∙ brought_in s.settings.profile (part_in unit k link s).accept unit body some ∙ is in
+                let the : a.the ≡ order = cc in
+                let m_is : m ≡ n = sym a.of ∙ ap link_of the ∙ of in
+                ap (λ (x : ℕ). x == l) m_is ∙ told_each n inside ox (λ l c. is_covered c ≡ true → (n == l) ≡ false) (λ e. ft e) (λ l d e. d) l e
+
+        settings_then : then_s.settings ≡ s.settings
+        settings_then = settings_stay s (HeardEvent k unit)
+
+        few_then : n < then_s.settings.links
+        few_then = subst (λ (settings : Settings). n < settings.links) (sym settings_then) (omega (arith, few_n, sound.count))
+
+        -- as it's seen then, where it stands so to the link
+        seen_as : (is : Cover) (cover : Settings → LinkState) → ((settings : Settings) → cover_of settings is ≡ Some (cover settings)) → (now : ℕ → Cover)
+            → now n ≡ is → ((l : ℕ) → (l == n) ≡ false → now l ≡ ox l) → veil (cover u.settings) n then_u ≡ seen_under now then_s
+        seen_as is cover by now here same =
+            ap (veil (cover s.settings) n) others.state
+            ∙ ap (λ (settings : Settings). veil (cover settings) n (seen_under off then_s)) (sym settings_then)
+            ∙ sym (seen_more off now then_s n is (cover then_s.settings) (told_here n inside ox) here (by then_s.settings)
+            (λ l d. same l d ∙ sym (told_other n inside ox l d)) few_then)
+
+        settled_then : is_settled n then_s ≡ true
+        settled_then = late.settled_after k n s sound was.0 was.1 link at unit fit body some order over of is
+
+        -- and the past is
+        abbrev past_with : Answer → Past
+        past_with answer = past_heard k unit (y_past.sent k) (Answered answer) x_past
+
+        took_under : is_no_message report_under.took ≡ true
+        took_under = ap (λ (o : Option (List ℕ)). is_no_message (takes o (controlled unit k (veil (dormant u.settings) n u) link)).took) some
+            ∙ takes_took body order (controlled unit k (veil (dormant u.settings) n u) link) is over
+
+        past_is : past_with (HeardBack report_under) ≡ past_with answer_here
+        past_is = past_same k unit (y_past.sent k) report_under (report_here fit body some order is over) x_past took_under (took_here fit body some order is over)
+            ∙ ap past_with (sym (answers_here fit body some order is over))
+
+        abbrev with_past : Past → State → Two
+        with_past past near = record { near = near; far = f; near_past = past; far_past = y_past; out = out; back = with_units k rest back }
+
+        other_covered : (l : ℕ) → (n == l) ≡ false → is_covered (ox l) ≡ true → is_covered (off l) ≡ true
+        other_covered l d e = ap is_covered (told_other n inside ox l (apart_back n l d)) ∙ e
+
+        -- it answers that it accepted nothing, and missed that life
+        module _ (settles : after_under ≡ veil (closed u.settings) n mid)
+            (answers : veil (closed u.settings) n then_u ≡ queued (Coa n (fsn_before_first u.settings.profile)) after_under) where
+          abbrev told : ℕ → Cover
+          told = told_at n missed ox
+
+          late_arrived : Arrived told
+          late_arrived =
+              let m = missing.missed mx my one u f x_past y_past out back n sound_u was.0 was_u h_u v_u open_u there.0 there.1 k few_u unit rest front link at_under
+              mid mid_few refl settles (veil (closed u.settings) n then_u) answers in
+              let seen = seen_as missed closed (λ settings. refl) told (told_here n missed ox) (told_other n missed ox) in
+              record {
+                links = subst (λ (past : Past). HoldsOf mx my (with_past past (seen_under told then_s))) past_is
+                    (subst (λ (near : State). HoldsOf mx my (with_past (past_with (HeardBack report_under)) near)) seen m.links);
+                streams = subst (λ (past : Past). Streams emergencies (with_past past (seen_under told then_s))) past_is
+                    (subst (λ (near : State). Streams emergencies (with_past (past_with (HeardBack report_under)) near)) seen m.streams);
+                fit = told_each n missed ox (λ l c. is_covered c ≡ true → is_settled l then_s ≡ true) (λ e. settled_then) (λ l d e. others.fits l (other_covered l d e));
+                near = told_each n missed ox (λ l c. c ≡ awaited → IsOpen l (seen_under told then_s) f) (λ e. absurd cc)
+                    (λ l d e. subst (λ (near : State). IsOpen l near f) seen (m.near_open l d (subst (λ (near : State). IsOpen l near f) after_is (near_open l e))));
+                far = λ l open_then. subst (λ (near : State). IsOpen l f near) seen (m.far_open l (subst (λ (near : State). IsOpen l f near) after_is (far_open l open_then)));
+                covered = told_each n missed ox (λ l c. is_covered c ≡ true → is_covered (ox l) ≡ true) (λ e. ap is_covered waits) (λ l d e. e);
+              }
+
+        -- an acknowledgement it ignores, and awaits the link still
+        module _ (settles : after_under ≡ veil (closed u.settings) n mid) (ignores : then_u ≡ mid) where
+          still_arrived : Arrived ox
+          still_arrived =
+              let keep = subst (λ (t : State). KeepBodies u.rows t.rows) ignores (keep_bodies u then_u sound_u.numbered (keeps_messages u (HeardEvent k unit) sound_u.numbered)) in
+              let m = missing.ignored mx my one u f x_past y_past out back n sound_u was.0 was_u h_u v_u open_u there.0 there.1 k few_u unit rest front link at_under
+              mid mid_few refl settles (late.mid_sound k n u sound_u was.0 was_u link at_u unit fit) (late.mid_at k n u sound_u was.0 was_u link at_u unit fit)
+              keep (late.mid_untouched k n u sound_u was.0 was_u link at_u unit fit) (late.other k n u sound_u was.0 was_u link at_u unit fit) in
+              let seen = ap (veil (dormant u.settings) n) (sym ignores) ∙ seen_as awaited dormant (λ settings. refl) ox waits (λ l d. refl) in
+              record {
+                links = subst (λ (past : Past). HoldsOf mx my (with_past past (seen_under ox then_s))) past_is
+                    (subst (λ (near : State). HoldsOf mx my (with_past (past_with (HeardBack report_under)) near)) seen m.links);
+                streams = subst (λ (past : Past). Streams emergencies (with_past past (seen_under ox then_s))) past_is
+                    (subst (λ (near : State). Streams emergencies (with_past (past_with (HeardBack report_under)) near)) seen m.streams);
+                fit = λ l e. split_link l e (n == l) refl;
+                near = λ l e. subst (λ (near : State). IsOpen l near f) seen (m.near_open l (subst (λ (near : State). IsOpen l near f) after_is (near_open l e)));
+                far = λ l open_then. subst (λ (near : State). IsOpen l f near) seen (m.far_open l (subst (λ (near : State). IsOpen l f near) after_is (far_open l open_then)));
+                covered = λ l e. e;
+              }
+            where
+              split_link : (l : ℕ) → is_covered (ox l) ≡ true → (b : Bool) → (n == l) ≡ b → is_settled l then_s ≡ true
+              split_link l e true d = subst (λ (m : ℕ). is_settled m then_s ≡ true) (eqb-true n l d) settled_then
+              split_link l e false d = others.fits l (other_covered l d e)
+
+      -- each of them
+      by_order : (o : Order) → order_in s.settings.profile unit ≡ Some o → IsChangeover o → link_of o ≡ n → Arrived told_then
+      by_order o told over of = go o told over of
+        where
+          is : (o : Order) → order_in s.settings.profile unit ≡ Some o → order_of s.settings.profile body ≡ Some o
+          is o told = sym (brought_in s.settings.profile (part_in unit k link s).accept unit body some) ∙ told
+
+          tells : (o : Order) → order_in s.settings.profile unit ≡ Some o → about ≡ about_of (Some o)
+          tells o told = about_in s.settings.profile unit ∙ ap about_of told
+
+          shown : (o : Order) → IsChangeover o → order_of s.settings.profile body ≡ Some o → about_of (Some o) ≡ Some n → taken ≡ true
+          shown o over here e = ap (λ (a : Answer). takes_order (Answered a)) (answers_here fit body some o here over)
+              ∙ ap (λ (o : Option (List ℕ)). is_order (takes o (controlled unit k s link)).took) some
+              ∙ leaves_took body o n (controlled unit k s link) was.0 (late.mid_at k n s sound was.0 was.1 link at unit fit).there here e
+
+          none_told : about ≡ None → (l : ℕ) → told_then l ≡ ox l
+          none_told e l = none_missed taken about ox (λ shown m f. none_at m (sym e ∙ f)) l
+
+          go : (o : Order) → order_in s.settings.profile unit ≡ Some o → IsChangeover o → link_of o ≡ n → Arrived told_then
+          go (Coo m fsn) told over of =
+              let here : order_of s.settings.profile body ≡ Some (Coo n fsn) = is (Coo m fsn) told ∙ ap (λ (x : ℕ). Some (Coo x fsn)) of in
+              retold (told_at n missed ox) told_then (one_missed n (shown (Coo n fsn) tt here refl) (tells (Coo m fsn) told ∙ ap (λ (x : ℕ). Some x) of) waits)
+              (late_arrived (Coo n fsn) here tt refl (late.under_coo k n u sound_u was.0 was_u link at_u unit fit body some fsn here)
+              (late.late_coo k n u sound_u was.0 was_u link at_u unit fit body some fsn here reply))
+          go (Eco m) told over of =
+              let here : order_of s.settings.profile body ≡ Some (Eco n) = is (Eco m) told ∙ ap (λ (x : ℕ). Some (Eco x)) of in
+              retold (told_at n missed ox) told_then (one_missed n (shown (Eco n) tt here refl) (tells (Eco m) told ∙ ap (λ (x : ℕ). Some x) of) waits)
+              (late_arrived (Eco n) here tt refl (late.under_eco k n u sound_u was.0 was_u link at_u unit fit body some here)
+              (late.late_eco k n u sound_u was.0 was_u link at_u unit fit body some here reply))
+          go (Coa m fsn) told over of =
+              let here : order_of s.settings.profile body ≡ Some (Coa n fsn) = is (Coa m fsn) told ∙ ap (λ (x : ℕ). Some (Coa x fsn)) of in
+              retold ox told_then (none_told (tells (Coa m fsn) told))
+              (still_arrived (Coa n fsn) here tt refl (late.under_coa k n u sound_u was.0 was_u link at_u unit fit body some fsn here)
+              (late.ignores_coa k n u sound_u was.0 was_u link at_u unit fit body some fsn here))
+          go (Eca m) told over of =
+              let here : order_of s.settings.profile body ≡ Some (Eca n) = is (Eca m) told ∙ ap (λ (x : ℕ). Some (Eca x)) of in
+              retold ox told_then (none_told (tells (Eca m) told))
+              (still_arrived (Eca n) here tt refl (late.under_eca k n u sound_u was.0 was_u link at_u unit fit body some here)
+              (late.ignores_eca k n u sound_u was.0 was_u link at_u unit fit body some here))
+          go (Cbd m code) told over of = absurd over
+          go (Cba m code) told over of = absurd over
+
+  -- EACH UNIT
+  abbrev order_there : Option Order
+  order_there = order_in s.settings.profile unit
+
   pub arrives : Arrived told_then
   arrives = by_fit (is_heard s.settings.profile unit) refl
     where
@@ -513,25 +447,21 @@ module _ {emergencies : Bool} (mx my : Method) (one : IsOneMethod mx my) (ox : �
       accept = (part_in unit k link s).accept
 
       -- it's elsewhere for each covered link
-      elsewhere : ((n : ℕ) → about ≡ Some n → ox n ≡ inside) → SameUnder ox s (HeardEvent k unit)
-      elsewhere within = same_under ox s fits (HeardEvent k unit) (λ l e. elsewhere_in l s unit (of_other (order_in s.settings.profile unit) l
-          (λ n is. off_other n ox l (within n (about_in s.settings.profile unit ∙ is)) e)))
+      all_within : ((n : ℕ) → link_in order_there ≡ Some n → ox n ≡ inside) → Arrived told_then
+      all_within within = as_they_were (same_under ox s fits (HeardEvent k unit)
+          (λ l e. elsewhere_in l s unit (of_other order_there l (λ n is. off_other n ox l (within n is) e))))
+          (λ shown n is. within n (about_link order_there n (sym (about_in s.settings.profile unit) ∙ is)))
 
-      by_cover : is_heard s.settings.profile unit ≡ true → (body : List ℕ) → brought accept unit ≡ Some body → (n : ℕ) → about ≡ Some n → (c : Cover) → ox n ≡ c → Arrived told_then
-      by_cover fit body some n is inside e =
-          let within = λ (m : ℕ) (f : about ≡ Some m). let same : n ≡ m = same_number n m (sym is ∙ f) in ap ox (sym same) ∙ e in
-          as_they_were (elsewhere within) (λ shown. within)
+      by_cover : is_heard s.settings.profile unit ≡ true → (body : List ℕ) → brought accept unit ≡ Some body → (n : ℕ) → link_in order_there ≡ Some n
+          → (c : Cover) → ox n ≡ c → Arrived told_then
+      by_cover fit body some n is inside e = all_within (λ m f. ap ox (sym (same_number n m (sym is ∙ f))) ∙ e)
       by_cover fit body some n is missed e =
-          let a = about_link (order_in s.settings.profile unit) n (sym (about_in s.settings.profile unit) ∙ is) in
+          let a = order_about_link order_there n is in
           absurd (not_missed fit body some a.the (sym (brought_in s.settings.profile accept unit body some) ∙ a.is) a.over (ap ox a.of ∙ e))
-      by_cover fit body some n is awaited e =
-          let a = about_link (order_in s.settings.profile unit) n (sym (about_in s.settings.profile unit) ∙ is) in
-          let order_is = sym (brought_in s.settings.profile accept unit body some) ∙ a.is in
-          retold (told_at n missed ox) told_then (one_missed n (order_shown fit body some a.the order_is a.over) is e)
-          (late_arrived fit body some a.the order_is a.over n a.of e)
+      by_cover fit body some n is awaited e = let a = order_about_link order_there n is in by_order n e fit body some a.the a.is a.over a.of
 
-      by_about : is_heard s.settings.profile unit ≡ true → (body : List ℕ) → brought accept unit ≡ Some body → (o : Option ℕ) → about ≡ o → Arrived told_then
-      by_about fit body some None e = let within = λ (n : ℕ) (f : about ≡ Some n). none_at n (sym e ∙ f) in as_they_were (elsewhere within) (λ shown. within)
+      by_about : is_heard s.settings.profile unit ≡ true → (body : List ℕ) → brought accept unit ≡ Some body → (o : Option ℕ) → link_in order_there ≡ o → Arrived told_then
+      by_about fit body some None e = all_within (λ n f. none_at n (sym e ∙ f))
       by_about fit body some (Some n) e = by_cover fit body some n e (ox n) refl
 
       by_body : is_heard s.settings.profile unit ≡ true → (o : Option (List ℕ)) → brought accept unit ≡ o → Arrived told_then
@@ -539,7 +469,7 @@ module _ {emergencies : Bool} (mx my : Method) (one : IsOneMethod mx my) (ox : �
           let answer = ap (λ (o : Outcome). o.answer) (under_veils.controls_here ox s fits k link at unit fit) in
           let not_taken : taken ≡ false = ap (λ (a : Answer). takes_order (Answered a)) answer ∙ ap (λ (o : Option (List ℕ)). is_order (takes o (controlled unit k s link)).took) e in
           as_they_were (under_veils.unaccepted_same ox s fits k link at unit sound fit e) (λ shown. ft (sym not_taken ∙ shown))
-      by_body fit (Some body) e = by_about fit body e about refl
+      by_body fit (Some body) e = by_about fit body e (link_in order_there) refl
 
       by_fit : (b : Bool) → is_heard s.settings.profile unit ≡ b → Arrived told_then
       by_fit true fit = by_body fit (brought accept unit) refl

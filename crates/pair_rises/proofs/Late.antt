@@ -31,7 +31,7 @@ use Rattle.set_model.specs.Laws.{IsEmptyLink}
 use Rattle.set_model.specs.Rows.{Row, unack, on, is_on, is_unacked, is_waiting, all_with, body_at, appended, standing, turned, changed, moved, with_fate, fated, service_indicator}
 use Rattle.set_model.specs.Sound.{IsSound, IsPlaced}
 use Rattle.set_model.specs.State.{late_at, late_in, LinkState, State, Settings, given, with_link, target, has_phase_up, has_phase_settled, is_up, is_settled, link_is_settled}
-use Rattle.set_model.proofs.Events.{empty_link}
+use Rattle.set_model.proofs.Events.{Untouched, acknowledged as acks, empty_link}
 use Rattle.set_model.proofs.Lists.{same_at, map_set_same, get_set_same, get_set_other, within}
 use Rattle.set_model.proofs.Places.{false_true, itself}
 use Rattle.set_model.proofs.SoundLink.{queues, hears_sound}
@@ -288,7 +288,7 @@ module _ (k l : ℕ) (u : State) (sound : IsSound u) (was : LinkState) (was_at :
       let same : was ≡ link = same_at u.links k link was at.there (ap (slice_get u.links) (eqb-true k l e) ∙ was_at.there) in
       absurd (let no : true ≡ false = sym (ap has_phase_settled was_at.phase_is) ∙ ap (λ (x : LinkState). has_phase_settled x.phase) same ∙ ap has_phase_settled at.phase_is in cc)
 
-  other : (k == l) ≡ false
+  pub other : (k == l) ≡ false
   other = let d = k_apart (k == l) refl in d
 
   -- its own part is the same under a veil
@@ -323,8 +323,12 @@ module _ (k l : ℕ) (u : State) (sound : IsSound u) (was : LinkState) (was_at :
         ∙ sym (ap (λ (o : Outcome). veil cover l o.state) bare_step);
   }
 
-  mid_sound : IsSound mid
+  pub mid_sound : IsSound mid
   mid_sound = hears_sound k link u at sound unit
+
+  -- which touches nothing of the settled one
+  pub mid_untouched : Untouched l u.rows mid.rows
+  mid_untouched = (acks k part.acked u.rows).others l other
 
   pub mid_at : IsAt l was Settled mid
   mid_at = record {
@@ -396,15 +400,11 @@ module _ (k l : ℕ) (u : State) (sound : IsSound u) (was : LinkState) (was_at :
         ∙ ap (queued (Coa l (fsn_before_first u.settings.profile))) (sym (under_eco is))
 
     -- an acknowledgement, which it ignores
-    pub late_coa : (fsn : ℕ) → order_of u.settings.profile body ≡ Some (Coa l fsn) → veil (closed u.settings) l after ≡ after_under
-    late_coa fsn is =
-        ap (veil (closed u.settings) l) (bare_so body some (Coa l fsn) is ∙ rw (mid_at.there, mid_at.phase_is) refl)
-        ∙ sym (under_coa fsn is)
+    pub ignores_coa : (fsn : ℕ) → order_of u.settings.profile body ≡ Some (Coa l fsn) → after ≡ mid
+    ignores_coa fsn is = bare_so body some (Coa l fsn) is ∙ rw (mid_at.there, mid_at.phase_is) refl
 
-    pub late_eca : order_of u.settings.profile body ≡ Some (Eca l) → veil (closed u.settings) l after ≡ after_under
-    late_eca is =
-        ap (veil (closed u.settings) l) (bare_so body some (Eca l) is ∙ rw (mid_at.there, mid_at.phase_is) refl)
-        ∙ sym (under_eca is)
+    pub ignores_eca : order_of u.settings.profile body ≡ Some (Eca l) → after ≡ mid
+    ignores_eca is = bare_so body some (Eca l) is ∙ rw (mid_at.there, mid_at.phase_is) refl
 
     -- and the link is settled there as it was
     pub settled_after : (order : Order) → IsChangeover order → link_of order ≡ l → order_of u.settings.profile body ≡ Some order → is_settled l after ≡ true
@@ -418,12 +418,10 @@ module _ (k l : ℕ) (u : State) (sound : IsSound u) (was : LinkState) (was_at :
         ap (is_settled l) is ∙ answered_there
     settled_after (Coa m fsn) over same told =
         let e : order_of u.settings.profile body ≡ Some (Coa l fsn) = told ∙ ap (λ (x : ℕ). Some (Coa x fsn)) same in
-        let is : after ≡ mid = bare_so body some (Coa l fsn) e ∙ rw (mid_at.there, mid_at.phase_is) refl in
-        ap (is_settled l) is ∙ ap link_is_settled mid_at.there ∙ ap has_phase_settled was_at.phase_is
+        ap (is_settled l) (ignores_coa fsn e) ∙ ap link_is_settled mid_at.there ∙ ap has_phase_settled was_at.phase_is
     settled_after (Eca m) over same told =
         let e : order_of u.settings.profile body ≡ Some (Eca l) = told ∙ ap (λ (x : ℕ). Some (Eca x)) same in
-        let is : after ≡ mid = bare_so body some (Eca l) e ∙ rw (mid_at.there, mid_at.phase_is) refl in
-        ap (is_settled l) is ∙ ap link_is_settled mid_at.there ∙ ap has_phase_settled was_at.phase_is
+        ap (is_settled l) (ignores_eca e) ∙ ap link_is_settled mid_at.there ∙ ap has_phase_settled was_at.phase_is
     settled_after (Cbd m code) over same told = absurd over
     settled_after (Cba m code) over same told = absurd over
 

@@ -1,4 +1,6 @@
+pub mod Alike
 pub mod Arrives
+pub mod Brought
 pub mod Closed
 pub mod Covers
 pub mod Examples
@@ -10,7 +12,6 @@ pub mod Missing
 pub mod Open
 pub mod Opens
 pub mod Pair
-pub mod Recount
 pub mod Replies
 pub mod Rising
 pub mod Runs

@@ -1,8 +1,8 @@
--- AN END MISSES A LIFE: it hears first that the other left it. What holds of both ends is kept (`Missed`), where it's seen
+-- AN END MISSES A LIFE: it hears first that the other left it. What holds of both ends is kept (`missed`), where it's seen
 -- as one that was answered and counts nothing from then on. Under the veil the order settles a link that both left
--- (`after_under` of Late.antt); then the answer is queued (`missed`). An acknowledgement settles it there, and the end as
--- it is ignores it, which is the same (`overheard`).
-use Rattle.std.proofs.Common.{arith, ◌≡◌, ◌∙◌, ap, sym, subst, ℕ, ◌<◌, ◌+◌, ◌==◌, Bool, false, List, ◌∷◌, length, slice_get, Some}
+-- (`after_under` of Late.antt); then the answer is queued. An acknowledgement settles it there too; the end as it is
+-- ignores it, and goes on to await the link (`ignored`). (None comes, but that isn't needed.)
+use Rattle.std.proofs.Common.{refl, arith, ◌≡◌, ◌∙◌, ap, sym, subst, ℕ, ◌<◌, ◌+◌, ◌==◌, Bool, true, false, List, ◌∷◌, length, slice_get, Some}
 use Rattle.l2_units.specs.declared.profile.Profile.{Profile}
 use Rattle.l2_units.specs.declared.unit.Unit.{Unit as SignalUnit}
 use Rattle.l2_window.specs.Window.{fsn_count, fsn_before_first}
@@ -14,20 +14,28 @@ use Rattle.set_events.specs.declared.event.Event.TheVariants.{Heard as HeardEven
 use Rattle.set_model.specs.declared.phase.Phase.TheVariants.{Up, Settled}
 use Rattle.set_model.specs.Changeover.{queued}
 use Rattle.set_model.specs.Sound.{IsSound}
-use Rattle.set_model.specs.State.{LinkState, State, Settings, is_up, link_is_up}
+use Rattle.set_model.specs.State.{LinkState, State, Settings, has_phase_settled, is_up, link_is_up, link_is_settled}
 use Rattle.set_model.specs.Step.{step}
 use Rattle.set_model.proofs.Lists.{get_set_same, within, length_set}
 use Rattle.set_model.proofs.Walk.{IsAt}
 use Rattle.set_veiled.specs.Veil.{dormant, veil}
+use Rattle.set_veiled.proofs.Sound.{veils_stay_sound}
+use Rattle.set_model.proofs.Events.{Untouched}
+use Rattle.set_model.proofs.Places.{apart_back}
+use Rattle.pair_model.proofs.Counts.{CountStays}
+use Rattle.pair_model.proofs.Following.{follows_untouched}
+use Rattle.pair_model.proofs.Tied.{KeepBodies, follows}
+use Rattle.pair_rises.proofs.Alike.{IsLike, shows_holds, shows_streams, shows_near, shows_far}
+use Rattle.pair_rises.proofs.Pair.{same_side}
 use Rattle.pair_model.specs.Promises.{IsOneMethod}
-use Rattle.pair_model.specs.Run.{Past}
+use Rattle.pair_model.specs.Run.{Past, added_at}
 use Rattle.pair_model.proofs.Moving as moving
-use Rattle.pair_model.proofs.Pairs.{Two, HoldsOf}
+use Rattle.pair_model.proofs.Pairs.{Two, side, TiedAt, HoldsOf, like, on_other}
 use Rattle.pair_changeover.proofs.Ordered.{heard}
 use Rattle.pair_changeover.proofs.Views.{last_of, last_on}
 use Rattle.pair_streams.proofs.Acting.{Streams}
 use Rattle.pair_streams.proofs.Hearing.{hears_streams}
-use Rattle.pair_rises.proofs.Late.{told_holds, told_streams, told_near, told_far}
+use Rattle.pair_rises.proofs.Late.{told_holds, told_streams, told_near, told_far, veil_over}
 use Rattle.pair_rises.proofs.Open.{IsOpen, hears_near}
 use Rattle.pair_rises.specs.Rises.{closed}
 
@@ -99,11 +107,67 @@ module _ {emergencies : Bool} (mx my : Method) (one : IsOneMethod mx my) (u f : 
       far_open = λ n was. told_far mx my heard_two heard_holds heard_streams l (fsn_before_first u.settings.profile) below_16 in_range tells still_open.none down_then still_open.goes n was;
     })
 
-    -- or ignores it
-    pub overheard : (near : State) → near ≡ after_under → Missed near
-    overheard near same = subst (λ (s : State). Missed s) (sym same) (record {
-      links = heard_holds;
-      streams = heard_streams;
-      near_open = λ n d was. was;
-      far_open = λ n was. was;
-    })
+    -- AN ACKNOWLEDGEMENT it ignores: it's seen as left in silence still, and the tie of the link is what it was
+    module _ (mid_sound : IsSound mid) (mid_at : IsAt l was Settled mid) (keep : KeepBodies u.rows mid.rows) (untouched : Untouched l u.rows mid.rows)
+        (other : (k == l) ≡ false) where
+      abbrev shut : State
+      shut = veil (closed u.settings) l mid
+
+      abbrev left : State
+      left = veil (dormant u.settings) l shut
+
+      left_is : left ≡ veil (dormant u.settings) l mid
+      left_is = veil_over l mid (closed u.settings) (dormant u.settings)
+
+      shut_there : slice_get shut.links l ≡ Some (closed u.settings)
+      shut_there = get_set_same mid.links l (closed u.settings) mid_few
+
+      before_there : slice_get p.near.links l ≡ Some (dormant u.settings)
+      before_there = get_set_same u.links l (dormant u.settings) (within u.links l was was_at.there)
+
+      left_there : slice_get left.links l ≡ Some (dormant u.settings)
+      left_there = get_set_same shut.links l (dormant u.settings) (within shut.links l (closed u.settings) shut_there)
+
+      as_left : IsLike (closed u.settings) (dormant u.settings)
+      as_left = record { up = refl; settled = λ e. absurd (let no : false ≡ true = e in cc); accepted = refl; acked = refl; profile = refl }
+
+      sound_left : IsSound left
+      sound_left = subst IsSound (sym left_is) (subst (λ (settings : Settings). IsSound (veil (dormant settings) l mid)) mid_settings
+          (veils_stay_sound l mid mid_sound (ap link_is_settled mid_at.there ∙ ap has_phase_settled mid_at.phase_is)))
+
+      same_link : slice_get left.links l ≡ slice_get p.near.links l
+      same_link = left_there ∙ sym before_there
+
+      counts : CountStays l p.near left
+      counts = λ after found. (after, sym same_link ∙ found, refl)
+
+      not_taken : {X : Type 0} (more : List X) (taken : ℕ → List X) → added_at k more taken l ≡ taken l
+      not_taken more taken = rw (apart_back k l other) refl
+
+      tied_left : TiedAt l mx my (record heard_two { near = left })
+      tied_left = like l mx my (side l left near_past) _ (side l f far_past) _ (units_on l out) _ (units_on l back) _
+          (same_side refl refl (not_taken _ near_past.taken)) refl refl (on_other l k rest back other)
+          (follows l mx my _ _ _ _ left keep counts (follows_untouched l p.near left same_link untouched) (h.ties l))
+
+      abbrev shut_two : Two
+      shut_two = record heard_two { near = shut }
+
+      shut_holds : HoldsOf mx my shut_two
+      shut_holds = subst (λ (s : State). HoldsOf mx my (record heard_two { near = s })) settles heard_holds
+
+      shut_streams : Streams emergencies shut_two
+      shut_streams = subst (λ (s : State). Streams emergencies (record heard_two { near = s })) settles heard_streams
+
+      pub record Awaited (near : State) : Type 0 where
+        pub links : HoldsOf mx my (record heard_two { near = near })
+        pub streams : Streams emergencies (record heard_two { near = near })
+        pub near_open : (n : ℕ) → IsOpen n after_under f → IsOpen n near f
+        pub far_open : (n : ℕ) → IsOpen n f after_under → IsOpen n f near
+
+      pub ignored : Awaited (veil (dormant u.settings) l mid)
+      ignored = subst Awaited left_is (record {
+        links = shows_holds mx my shut_two shut_holds l (closed u.settings) (dormant u.settings) shut_there as_left sound_left tied_left;
+        streams = shows_streams mx my shut_two shut_holds l (closed u.settings) (dormant u.settings) shut_there as_left sound_left shut_streams;
+        near_open = λ n was. shows_near shut f l (closed u.settings) (dormant u.settings) shut_there as_left n (subst (λ (s : State). IsOpen n s f) settles was);
+        far_open = λ n was. shows_far shut f l (closed u.settings) (dormant u.settings) shut_there as_left n (subst (λ (s : State). IsOpen n f s) settles was);
+      })

@@ -46,13 +46,13 @@ use Rattle.pair_rises.proofs.Open.{IsOpen}
 use Rattle.pair_rises.proofs.Rising.{Veils, veils_at, begins_both, begins_none, joins_both}
 use Rattle.pair_rises.proofs.Tying.{first_tied, joins_tied, fills_tied}
 
-same_side : {s s' : State} {sent sent' : List Message} {taken taken' : List (List ℕ)} → s' ≡ s → sent' ≡ sent
+pub same_side : {s s' : State} {sent sent' : List Message} {taken taken' : List (List ℕ)} → s' ≡ s → sent' ≡ sent
     → taken' ≡ taken → ◌≡◌ {A = Side} (record { state = s'; sent = sent'; taken = taken' })
     (record { state = s; sent = sent; taken = taken })
 same_side a b c = rw (a, b, c) refl
 
 -- the link itself, or another
-each : (k : ℕ) (P : ℕ → Type 0) → P k → ((l : ℕ) → (k == l) ≡ false → P l) → (l : ℕ) → P l
+pub each : (k : ℕ) (P : ℕ → Type 0) → P k → ((l : ℕ) → (k == l) ≡ false → P l) → (l : ℕ) → P l
 each k P own other l = go (k == l) refl
   where
     go : (c : Bool) → (k == l) ≡ c → P l
@@ -64,7 +64,7 @@ module _ (k : ℕ) (s : State) (cover : LinkState) where
   pub veil_other : (l : ℕ) → (k == l) ≡ false → slice_get (veil cover k s).links l ≡ slice_get s.links l
   veil_other l d = get_set_other s.links k l cover (no_other k l d)
 
-  veil_follows : (l : ℕ) → (k == l) ≡ false → Follows l s (veil cover k s)
+  pub veil_follows : (l : ℕ) → (k == l) ≡ false → Follows l s (veil cover k s)
   veil_follows l d = λ link there unsettled. record {
     link = link;
     there = sym (veil_other l d) ∙ there;
@@ -77,7 +77,7 @@ module _ (k : ℕ) (s : State) (cover : LinkState) where
     wait_more = sym (append-nil (wait l s.rows));
   }
 
-  veil_counts : (l : ℕ) → (k == l) ≡ false → CountStays l s (veil cover k s)
+  pub veil_counts : (l : ℕ) → (k == l) ≡ false → CountStays l s (veil cover k s)
   veil_counts l d = λ link there. (link, sym (veil_other l d) ∙ there, refl)
 
   -- from under it

@@ -30,7 +30,7 @@ use Rattle.pair_rises.proofs.Covers.{told_here, told_other, told_each, ft, off_o
 use Rattle.pair_rises.proofs.Late.{closed_after, rises_over, veil_over}
 use Rattle.pair_rises.proofs.Open.{IsOpen}
 use Rattle.pair_rises.proofs.Pair.{begins_holds, begins_streams, begins_opens, begins_near, begins_far, joins_holds, joins_streams, joins_near, joins_far, fills_holds}
-use Rattle.pair_rises.proofs.Recount.{recounts_holds, recounts_streams, recounts_near, recounts_far}
+use Rattle.pair_rises.proofs.Alike.{IsLike, recounted, recounts_tied, shows_holds, shows_streams, shows_near, shows_far}
 use Rattle.pair_rises.proofs.Replies.{Replies, replies_kept, rises_older, heard_older}
 use Rattle.pair_rises.proofs.Veils.{Fits, seen_off, seen_more, seen_same, seen_state, seen_sound, seen_length, still_fits}
 
@@ -217,6 +217,9 @@ module _ {emergencies : Bool} {mx my : Method} {ox oy : ℕ → Cover} {sx sy : 
       there : slice_get p.near.links k ≡ Some (closed sx.settings)
       there = missed_there k ox sx h.sound_x near_settled e
 
+      like : IsLike (closed sx.settings) last
+      like = recounted (closed sx.settings) was.0.late
+
       near_is : veil last k p.near ≡ veil last k here
       near_is = ap (veil last k) (covered_off k ox sx h.sound_x near_settled missed (closed sx.settings) e refl) ∙ veil_over k here (closed sx.settings) last
 
@@ -226,10 +229,10 @@ module _ {emergencies : Bool} {mx my : Method} {ox oy : ℕ → Cover} {sx sy : 
 
       ready_missed : Ready (veil last k p.near)
       ready_missed = record {
-        links = recounts_holds mx my p h.links k (closed sx.settings) there was.0.late sound_near;
-        streams = recounts_streams mx my p h.links k (closed sx.settings) there was.0.late sound_near h.streams;
-        near_open = λ l o. recounts_near p.near p.far k (closed sx.settings) there was.0.late l o;
-        far_open = λ l o. recounts_far p.near p.far k (closed sx.settings) there was.0.late l o;
+        links = shows_holds mx my p h.links k (closed sx.settings) last there like sound_near (recounts_tied mx my p h.links k (closed sx.settings) there was.0.late);
+        streams = shows_streams mx my p h.links k (closed sx.settings) last there like sound_near h.streams;
+        near_open = λ l o. shows_near p.near p.far k (closed sx.settings) last there like l o;
+        far_open = λ l o. shows_far p.near p.far k (closed sx.settings) last there like l o;
         settled = ap link_is_settled (get_set_same p.near.links k last few_x);
         few = omega (arith, few_x, length_set p.near.links k last);
         is = ap (λ (t : State). (step t (UpEvent k)).state) near_is ∙ rises_over k here was.0 was.1 ∙ off_rises k ox sx h.sound_x near_settled h.fit_x;

@@ -7,11 +7,11 @@ use Rattle.l2_units.specs.declared.profile.Profile.{Profile}
 use Rattle.l2_units.specs.declared.unit.Unit.{Unit as SignalUnit}
 use Rattle.l2_units.specs.declared.unit.Unit.TheVariants.{Fisu, Msu}
 use Rattle.l3_orders.specs.declared.order.Order.{Order}
-use Rattle.l3_orders.specs.declared.order.Order.TheVariants.{Coo, Coa, Eco, Eca}
+use Rattle.l3_orders.specs.declared.order.Order.TheVariants.{Coo, Eco}
 use Rattle.l3_orders.specs.Grammar.{order_of}
 use Rattle.set_events.specs.declared.answer.Answer.TheVariants.{Heard as HeardBack}
 use Rattle.set_events.specs.declared.answer.Took.{Took}
-use Rattle.set_events.specs.declared.answer.Took.TheVariants.{Order as TookOrder, Ignored}
+use Rattle.set_events.specs.declared.answer.Took.TheVariants.{Order as TookOrder}
 use Rattle.set_model.specs.declared.phase.Phase.TheVariants.{Settled}
 use Rattle.set_model.specs.Step.{risen_link}
 use Rattle.l2_window.specs.Window.{WindowState, fsn_before_first}
@@ -119,13 +119,11 @@ began end link g =
     with_open end (told_at link inside (open_at g end))
     (with_open (other end) (told_at link awaited (open_at g (other end))) g)
 
--- An end takes an order of a changeover about a link that it may yet join: the other left that life, and this end missed
--- it, whatever it answers.
+-- An end takes a changeover order about a link that it may yet join: the other left that life, and this end missed it. (An
+-- acknowledgement about such a link is ignored, and changes nothing.)
 abbrev pub about_of : Option Order → Option ℕ
 about_of (Some (Coo link fsn)) = Some link
-about_of (Some (Coa link fsn)) = Some link
 about_of (Some (Eco link)) = Some link
-about_of (Some (Eca link)) = Some link
 about_of _ = None
 
 abbrev pub order_about : Profile → SignalUnit → Option ℕ
@@ -134,7 +132,6 @@ order_about profile _ = None
 
 abbrev pub is_order : Took → Bool
 is_order TookOrder = true
-is_order Ignored = true
 is_order _ = false
 
 abbrev pub takes_order : Shown → Bool
