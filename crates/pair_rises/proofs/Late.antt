@@ -25,7 +25,7 @@ use Rattle.set_model.specs.declared.phase.Phase.{Phase}
 use Rattle.set_model.specs.declared.phase.Phase.TheVariants.{Up, Settled}
 use Rattle.set_model.specs.declared.reached.Reached.TheVariants.{Upto, Unknown}
 use Rattle.set_events.specs.declared.config.Method.{Method}
-use Rattle.set_model.specs.Changeover.{fate_on, queued, settled, settled_link, moved_over, is_reasonable, reached_by, acknowledged, acknowledged_by, discarded, reply_of, answered_link, order_obeyed, obeyed}
+use Rattle.set_model.specs.Changeover.{fate_on, queued, settled, settled_link, moved_over, is_reasonable, reached_by, acknowledged, acknowledged_by, discarded, reply_of, answered_link, one_later, order_obeyed, obeyed}
 use Rattle.set_model.specs.Step.{Outcome, with_known, brought, takes, controlled, controls, part_in, is_heard, risen_link, rises, step}
 use Rattle.set_model.specs.Laws.{IsEmptyLink}
 use Rattle.set_model.specs.Rows.{Row, unack, on, is_on, is_unacked, is_waiting, all_with, body_at, appended, standing, turned, changed, moved, with_fate, fated, service_indicator}
@@ -367,8 +367,11 @@ module _ (k l : ℕ) (u : State) (sound : IsSound u) (was : LinkState) (was_at :
   seen_mid : slice_get (veil (dormant u.settings) l mid).links l ≡ Some (dormant u.settings)
   seen_mid = get_set_same mid.links l (dormant u.settings) (within mid.links l was mid_at.there)
 
+  answered_at : slice_get (with_link l (answered_link was) (queued (reply_of l was) mid)).links l ≡ Some (answered_link was)
+  answered_at = get_set_same mid.links l (answered_link was) (within mid.links l was mid_at.there)
+
   answered_there : is_settled l (with_link l (answered_link was) (queued (reply_of l was) mid)) ≡ true
-  answered_there = ap link_is_settled (get_set_same mid.links l (answered_link was) (within mid.links l was mid_at.there)) ∙ ap has_phase_settled was_at.phase_is
+  answered_there = ap link_is_settled answered_at ∙ ap has_phase_settled was_at.phase_is
 
   module _ (body : List ℕ) (some : brought part.accept unit ≡ Some body) where
     -- under the veil it settles
@@ -406,24 +409,35 @@ module _ (k l : ℕ) (u : State) (sound : IsSound u) (was : LinkState) (was_at :
     pub ignores_eca : order_of u.settings.profile body ≡ Some (Eca l) → after ≡ mid
     ignores_eca is = bare_so body some (Eca l) is ∙ rw (mid_at.there, mid_at.phase_is) refl
 
+    -- an order is answered, and counts
+    answers_coo : (fsn : ℕ) → order_of u.settings.profile body ≡ Some (Coo l fsn) → after ≡ with_link l (answered_link was) (queued (reply_of l was) mid)
+    answers_coo fsn is = bare_so body some (Coo l fsn) is ∙ rw (mid_at.there, mid_at.phase_is) refl
+
+    answers_eco : order_of u.settings.profile body ≡ Some (Eco l) → after ≡ with_link l (answered_link was) (queued (reply_of l was) mid)
+    answers_eco is = bare_so body some (Eco l) is ∙ rw (mid_at.there, mid_at.phase_is) refl
+
+    pub counts_coo : (fsn : ℕ) → order_of u.settings.profile body ≡ Some (Coo l fsn) → late_at l after ≡ one_later was.late
+    counts_coo fsn is = ap (late_at l) (answers_coo fsn is) ∙ ap late_in answered_at
+
+    pub counts_eco : order_of u.settings.profile body ≡ Some (Eco l) → late_at l after ≡ one_later was.late
+    counts_eco is = ap (late_at l) (answers_eco is) ∙ ap late_in answered_at
+
     -- and the link is settled there as it was
     pub settled_after : (order : Order) → IsChangeover order → link_of order ≡ l → order_of u.settings.profile body ≡ Some order → is_settled l after ≡ true
-    settled_after (Coo m fsn) over same told =
-        let e : order_of u.settings.profile body ≡ Some (Coo l fsn) = told ∙ ap (λ (x : ℕ). Some (Coo x fsn)) same in
-        let is : after ≡ with_link l (answered_link was) (queued (reply_of l was) mid) = bare_so body some (Coo l fsn) e ∙ rw (mid_at.there, mid_at.phase_is) refl in
-        ap (is_settled l) is ∙ answered_there
-    settled_after (Eco m) over same told =
-        let e : order_of u.settings.profile body ≡ Some (Eco l) = told ∙ ap (λ (x : ℕ). Some (Eco x)) same in
-        let is : after ≡ with_link l (answered_link was) (queued (reply_of l was) mid) = bare_so body some (Eco l) e ∙ rw (mid_at.there, mid_at.phase_is) refl in
-        ap (is_settled l) is ∙ answered_there
-    settled_after (Coa m fsn) over same told =
-        let e : order_of u.settings.profile body ≡ Some (Coa l fsn) = told ∙ ap (λ (x : ℕ). Some (Coa x fsn)) same in
+    settled_after (Coo m fsn) over same is =
+        let e : order_of u.settings.profile body ≡ Some (Coo l fsn) = is ∙ ap (λ (x : ℕ). Some (Coo x fsn)) same in
+        ap (is_settled l) (answers_coo fsn e) ∙ answered_there
+    settled_after (Eco m) over same is =
+        let e : order_of u.settings.profile body ≡ Some (Eco l) = is ∙ ap (λ (x : ℕ). Some (Eco x)) same in
+        ap (is_settled l) (answers_eco e) ∙ answered_there
+    settled_after (Coa m fsn) over same is =
+        let e : order_of u.settings.profile body ≡ Some (Coa l fsn) = is ∙ ap (λ (x : ℕ). Some (Coa x fsn)) same in
         ap (is_settled l) (ignores_coa fsn e) ∙ ap link_is_settled mid_at.there ∙ ap has_phase_settled was_at.phase_is
-    settled_after (Eca m) over same told =
-        let e : order_of u.settings.profile body ≡ Some (Eca l) = told ∙ ap (λ (x : ℕ). Some (Eca x)) same in
+    settled_after (Eca m) over same is =
+        let e : order_of u.settings.profile body ≡ Some (Eca l) = is ∙ ap (λ (x : ℕ). Some (Eca x)) same in
         ap (is_settled l) (ignores_eca e) ∙ ap link_is_settled mid_at.there ∙ ap has_phase_settled was_at.phase_is
-    settled_after (Cbd m code) over same told = absurd over
-    settled_after (Cba m code) over same told = absurd over
+    settled_after (Cbd m code) over same is = absurd over
+    settled_after (Cba m code) over same is = absurd over
 
 -- A LINK COMES UP AGAIN: what it counted is over, but for the late orders
 abbrev pub closed_after : LinkState → Settings → LinkState

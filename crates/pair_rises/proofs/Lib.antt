@@ -2,6 +2,7 @@ pub mod Alike
 pub mod Arrives
 pub mod Brought
 pub mod Closed
+pub mod Counted
 pub mod Covers
 pub mod Examples
 pub mod Going

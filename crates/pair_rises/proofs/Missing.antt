@@ -1,7 +1,7 @@
 -- AN END MISSES A LIFE: it hears first that the other left it. What holds of both ends is kept (`missed`), where it's seen
 -- as one that was answered and counts nothing from then on. Under the veil the order settles a link that both left
 -- (`after_under` of Late.antt); then the answer is queued. An acknowledgement settles it there too; the end as it is
--- ignores it, and goes on to await the link (`ignored`). (None comes, but that isn't needed.)
+-- ignores it, and goes on to await the link (`ignored`).
 use Rattle.std.proofs.Common.{refl, arith, ◌≡◌, ◌∙◌, ap, sym, subst, ℕ, ◌<◌, ◌+◌, ◌==◌, Bool, true, false, List, ◌∷◌, length, slice_get, Some}
 use Rattle.l2_units.specs.declared.profile.Profile.{Profile}
 use Rattle.l2_units.specs.declared.unit.Unit.{Unit as SignalUnit}

@@ -13,7 +13,6 @@ use Rattle.set_model.proofs.Lists.{within}
 use Rattle.set_model.proofs.Soundness.{opened_sound}
 use Rattle.pair_steps.specs.declared.step.End.{End}
 use Rattle.pair_steps.specs.declared.step.End.TheVariants.{A, B}
-use Rattle.pair_steps.specs.declared.step.Shown.{Shown}
 use Rattle.pair_steps.specs.declared.step.Shown.TheVariants.{Answered, Up as CameUp, Lost}
 use Rattle.pair_steps.specs.declared.step.Step.{Step}
 use Rattle.pair_steps.specs.declared.step.Step.TheVariants.{Act, Emit, Arrive, Lose, Together, Inject}
@@ -35,7 +34,7 @@ use Rattle.pair_rises.proofs.Opens.{IsOpenAt, IsOpenStep, step_opens}
 use Rattle.pair_rises.proofs.Replies.{first_replies}
 use Rattle.pair_rises.proofs.Sides.{Sides, turned, begins, joins, fills as fills_line_of, hears, loses}
 use Rattle.pair_rises.proofs.Veils.{Fits, seen_up, seen_length}
-use Rattle.pair_rises.proofs.Worlds.{Bare, IsBare, under, IsNoArrival, step_went, passed_same}
+use Rattle.pair_rises.proofs.Worlds.{Bare, IsBare, under, IsNoArrival, step_went, passed_same, passed_world, none_told}
 
 -- WHAT HOLDS ALONG
 module _ (emergencies : Bool) (ma mb : Method) (one : IsOneMethod ma mb) where
@@ -57,27 +56,6 @@ module _ (emergencies : Bool) (ma mb : Method) (one : IsOneMethod ma mb) where
   plain_safe em (Together k) plain = absurd plain
   plain_safe false (Inject end k unit) plain = plain
   plain_safe true (Inject end k unit) plain = plain
-
-  -- a step, but for what arrives, leads to this world, and tells no link anew
-  passed_world : (g : Stage) (step : Step) (shown : Shown) (new : World) → (passed g step shown new).world ≡ new
-  passed_world g (Act A event) shown new = refl
-  passed_world g (Act B event) shown new = refl
-  passed_world g (Emit A k) shown new = refl
-  passed_world g (Emit B k) shown new = refl
-  passed_world g (Arrive A k) shown new = refl
-  passed_world g (Arrive B k) shown new = refl
-  passed_world g (Lose end k place) shown new = refl
-  passed_world g (Together k) shown new = refl
-  passed_world g (Inject A k unit) shown new = refl
-  passed_world g (Inject B k unit) shown new = refl
-
-  none_told : (g : Rising) (step : Step) (shown : Shown) (new : World) → IsNoArrival step → moved_on g (steps step) shown new ≡ record g { stage = passed g.stage step shown new }
-  none_told g (Act end event) shown new other = refl
-  none_told g (Emit end k) shown new other = refl
-  none_told g (Arrive end k) shown new other = absurd other
-  none_told g (Lose end k place) shown new other = refl
-  none_told g (Together k) shown new other = refl
-  none_told g (Inject end k unit) shown new other = refl
 
   module _ (g : Rising) (h : Holds g) where
     abbrev w : World
@@ -302,7 +280,7 @@ first_seen a b =
     ap₂ (λ (x y : State). record (begun a b) { world = record (begun a b).world { a = record (begun a b).world.a { state = x }; b = record (begun a b).world.b { state = y } } })
     (seen_none (begun a b).world.a.state) (seen_none (begun a b).world.b.state)
 
-first_holds : (emergencies : Bool) (a b : SetConfig) (one : IsOneMethod a.method b.method) → a.links ≡ b.links → a.profile ≡ b.profile
+pub first_holds : (emergencies : Bool) (a b : SetConfig) (one : IsOneMethod a.method b.method) → a.links ≡ b.links → a.profile ≡ b.profile
     → Holds emergencies a.method b.method one (opening a b)
 first_holds emergencies a b one links profiles = record {
   links = subst (λ (s : Stage). HoldsOf a.method b.method (seen A s)) (sym (first_seen a b)) (at_first a b links profiles);

@@ -22,8 +22,8 @@ use Rattle.pair_steps.specs.declared.step.Shown.TheVariants.{Answered, Up as Cam
 use Rattle.pair_steps.specs.declared.step.Step.{Step}
 use Rattle.pair_steps.specs.declared.step.Step.TheVariants.{Act, Emit, Arrive, Lose, Together, Inject}
 use Rattle.pair_model.specs.World.{World, Outcome, shows, impossible, exhausted, at_end, with_end, actor_of, answer_to, after, is_full, has_link, has_actor, acts, with_sent, sends_on, loses_from, has_own_step, done_by, carried_out}
-use Rattle.pair_model.specs.Run.{passed, OnShows}
-use Rattle.pair_rises.specs.Rises.{Cover, Rising, set_under, world_under, as_seen, IsPlainStep}
+use Rattle.pair_model.specs.Run.{Stage, passed, OnShows}
+use Rattle.pair_rises.specs.Rises.{Cover, Rising, set_under, world_under, as_seen, IsPlainStep, moved_on, steps}
 use Rattle.pair_rises.proofs.Replies.{Older, Replies, replies_kept, asked_older, next_older}
 use Rattle.pair_rises.proofs.Veils.{Fits, SameUnder, same_under, seen_length}
 
@@ -221,3 +221,25 @@ passed_same g (Lose end k place) shown new = refl
 passed_same g (Together k) shown new = refl
 passed_same g (Inject A k unit) shown new = refl
 passed_same g (Inject B k unit) shown new = refl
+
+-- it leads to this world
+pub passed_world : (g : Stage) (step : Step) (shown : Shown) (new : World) → (passed g step shown new).world ≡ new
+passed_world g (Act A event) shown new = refl
+passed_world g (Act B event) shown new = refl
+passed_world g (Emit A k) shown new = refl
+passed_world g (Emit B k) shown new = refl
+passed_world g (Arrive A k) shown new = refl
+passed_world g (Arrive B k) shown new = refl
+passed_world g (Lose end k place) shown new = refl
+passed_world g (Together k) shown new = refl
+passed_world g (Inject A k unit) shown new = refl
+passed_world g (Inject B k unit) shown new = refl
+
+-- and but for what arrives each end stands to each link as it did
+pub none_told : (g : Rising) (step : Step) (shown : Shown) (new : World) → IsNoArrival step → moved_on g (steps step) shown new ≡ record g { stage = passed g.stage step shown new }
+none_told g (Act end event) shown new other = refl
+none_told g (Emit end k) shown new other = refl
+none_told g (Arrive end k) shown new other = absurd other
+none_told g (Lose end k place) shown new other = refl
+none_told g (Together k) shown new other = refl
+none_told g (Inject end k unit) shown new other = refl

@@ -1,4 +1,5 @@
 //! Laws of two ends whose links come up one after the other, over definitions alone.
+ghost use Rattle.pair_rises.specs.Counted.{EveryMissedLifeIsCounted};
 ghost use Rattle.pair_rises.specs.Handed.{EveryRisingRunHandsOutInOrder, EveryRisingRunHandsOutAPart};
 ghost use Rattle.pair_rises.specs.Rises.{EveryRisingRunKeepsStreams, EveryRisingRunKeepsOrder, TogetherIsTwoRises};
 
@@ -26,4 +27,9 @@ pub fn every_rising_run_hands_out_in_order()
 /// In emergencies it's some of what was offered there, in its order.
 pub fn every_rising_run_hands_out_a_part()
     ensures { EveryRisingRunHandsOutAPart }
+{}
+
+/// An end misses a life only by a changeover order that its set counts as late about that link.
+pub fn every_missed_life_is_counted()
+    ensures { EveryMissedLifeIsCounted }
 {}

@@ -9,6 +9,7 @@
 mod laws;
 
 pub use laws::{
-    every_rising_run_hands_out_a_part, every_rising_run_hands_out_in_order,
-    every_rising_run_keeps_order, every_rising_run_keeps_streams, together_is_two_rises,
+    every_missed_life_is_counted, every_rising_run_hands_out_a_part,
+    every_rising_run_hands_out_in_order, every_rising_run_keeps_order,
+    every_rising_run_keeps_streams, together_is_two_rises,
 };
