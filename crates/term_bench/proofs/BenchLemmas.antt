@@ -48,7 +48,7 @@ bench_turns link number index octet old new set was now turn unit numbered is he
 -- so it is where the turn was broken off
 pub bench_breaks : (link number number' index : ℕ) (old new : BenchState) (set : LinkSet) (heard heard' : ℕ) (was now : AtLink)
     → number ≡ link → index ≡ link → set ≡ old.set → slice_get old.links index ≡ Some was
-    → {faults faults' : List SetFault} → GoesOn number number' set new.set heard heard' faults faults' → new.links ≡ slice_set old.links index now
+    → {faults faults' : List SetFault} {late late' : List ℕ} → GoesOn number number' set new.set heard heard' faults faults' late late' → new.links ≡ slice_set old.links index now
     → (octet : ℕ) (fault : TermFault) (entries : List Entry) → new.set.history ≡ set.history ++ entries
     → BreaksOff octet fault set new.set was now entries → Breaks link octet fault old new
 bench_breaks link number number' index old new set heard heard' was now numbered is held is_at goes links octet fault entries made off = record {

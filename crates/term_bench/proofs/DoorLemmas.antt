@@ -13,12 +13,12 @@ full_as {R} fault entries exhausted = (
 )
 
 -- the set is as it was, and goes on so
-pub by_fault : {R : Type 0} (link : ℕ) (set set' : LinkSet) (heard : ℕ) (faults faults' : List SetFault) (fault : SetFault)
+pub by_fault : {R : Type 0} (link : ℕ) (set set' : LinkSet) (heard : ℕ) (faults faults' : List SetFault) (late : List ℕ) (fault : SetFault)
     → set' ≡ set → faults' ≡ faults ++ fault ∷ []
     → (◌≡◌ {A = Result R SetFault} (Err fault) (Err SetFault.Exhausted)) ↔ (longest_history ≤ entries_in set)
-    → GoesOn link link set set' heard heard faults faults'
-by_fault {R} link set set' heard faults faults' fault same noted exhausted =
-    subst (λ (s : LinkSet). GoesOn link link set s heard heard faults faults') (sym same) (record {
+    → GoesOn link link set set' heard heard faults faults' late late
+by_fault {R} link set set' heard faults faults' late fault same noted exhausted =
+    subst (λ (s : LinkSet). GoesOn link link set s heard heard faults faults' late late) (sym same) (record {
       link_is = refl;
       base_is = refl;
       entries = [];
@@ -32,4 +32,5 @@ by_fault {R} link set set' heard faults faults' fault same noted exhausted =
         record { entries = entries_in set; begun = omega arith; ended = omega arith; full = full_as fault (entries_in set) exhausted },
         tt,
       );
+      late_is = refl;
     })

@@ -6,3 +6,4 @@ pub mod BenchLemmas
 pub mod WaitingLemmas
 pub mod HearingLemmas
 pub mod OneLemmas
+pub mod LateLemmas

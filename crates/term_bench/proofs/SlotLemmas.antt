@@ -81,11 +81,11 @@ narrow_unit f narrow = ap (λ (n : Bool). filling_of (record f { narrow = n })) 
 -- A TURN IN A TIMESLOT takes its octet and puts one, and the set's step answers it
 pub takes : (link link' octet : ℕ) (set set' : LinkSet) (heard heard' : ℕ) (taken taken' : List ℕ) (before after : Terminal)
     (turned : Turned) (there : ℕ) (is_taken : Bool) (slot : Option ℕ) (put : ℕ) (given waiting old : List ℕ)
-    {faults faults' : List SetFault} {free : ℕ} {waiting' : List ℕ}
+    {faults faults' : List SetFault} {late late' : List ℕ} {free : ℕ} {waiting' : List ℕ}
     (turns : TurnsOnce (standing taken before set.history faults (seen given waiting old free)) turned
     (standing taken' after set'.history faults'
     (seen (if is_taken then there ∷ [] else []) waiting' (option_to_list slot) (places_in slot))))
-    → GoesOn link link' set set' heard heard' faults faults' → Replays set → Replays set' → heard ≡ 0
+    → GoesOn link link' set set' heard heard' faults faults' late late' → Replays set → Replays set' → heard ≡ 0
     → given ≡ [] → waiting ≡ octet ∷ [] → there ≡ octet → old ≡ [] → slot ≡ Some put
     → Takes link octet set set' heard' taken taken' before after put turned turns.turn.chosen.unit
 takes link link' octet set set' heard heard' taken taken' before after turned there is_taken slot put given waiting old turns goes
@@ -128,10 +128,10 @@ came_is (Some o) octet there false given none same is = λ x some.
 -- A TURN IN A TIMESLOT that failed, as the link tells it
 pub fails_by : (octet : ℕ) (fault : TermFault) (taken taken' : List ℕ) (before after : Terminal) (link link' : ℕ) (set set' : LinkSet)
     (heard heard' : ℕ) (there : ℕ) (is_taken : Bool) (given : List ℕ)
-    {faults faults' : List SetFault} {waiting waiting' put put' : List ℕ} {free free' : ℕ}
+    {faults faults' : List SetFault} {late late' waiting waiting' put put' : List ℕ} {free free' : ℕ}
     → TurnFails fault (standing taken before set.history faults (seen given waiting put free))
     (standing taken' after set'.history faults' (seen (if is_taken then there ∷ [] else []) waiting' put' free'))
-    → GoesOn link link' set set' heard heard' faults faults' → given ≡ [] → there ≡ octet
+    → GoesOn link link' set set' heard heard' faults faults' late late' → given ≡ [] → there ≡ octet
     → (entries : List Entry) × (set'.history ≡ set.history ++ entries) × FailsBy octet fault taken taken' before set set' entries
 fails_by octet fault taken taken' before after link link' set set' heard heard' there is_taken given {faults} (by_fault broken turn) goes none same = (
   turn.entries,

@@ -14,9 +14,10 @@ abbrev pub AreTold : ℕ → ℕ → List SetFault → Type 0
 AreTold from to [] = Unit {0}
 AreTold from to (fault ∷ faults) = IsTold from to fault × AreTold from to faults
 
--- the set goes on from the same base, by entries of this link's terminal, so many messages more were heard, and it told
--- these faults more
-pub record GoesOn (link link' : ℕ) (set set' : LinkSet) (heard heard' : ℕ) (faults faults' : List SetFault) : Type 0 where
+-- the set goes on from the same base, by entries of this link's terminal, so many messages more were heard, it told these
+-- faults more, and the late orders that were counted stay
+pub record GoesOn (link link' : ℕ) (set set' : LinkSet) (heard heard' : ℕ) (faults faults' : List SetFault) (late late' : List ℕ)
+    : Type 0 where
   pub link_is : link' ≡ link
   pub base_is : set'.base ≡ set.base
   pub entries : List Entry
@@ -27,6 +28,7 @@ pub record GoesOn (link link' : ℕ) (set set' : LinkSet) (heard heard' : ℕ) (
   pub told : List SetFault
   pub faults_are : faults' ≡ faults ++ told
   pub told_is : AreTold (entries_in set) (entries_in set') told
+  pub late_is : late' ≡ late
 
 by-append : (who : Actor) (xs ys : List Entry) → AreBy who xs → AreBy who ys → AreBy who (xs ++ ys)
 by-append who [] ys a b = b
@@ -55,8 +57,9 @@ told-append : (from to : ℕ) (xs ys : List SetFault) → AreTold from to xs →
 told-append from to [] ys a b = b
 told-append from to (x ∷ xs) ys a b = (a.0, told-append from to xs ys a.1 b)
 
-pub stands_still : (link : ℕ) (set : LinkSet) (heard : ℕ) (faults : List SetFault) → GoesOn link link set set heard heard faults faults
-stands_still link set heard faults = record {
+pub stands_still : (link : ℕ) (set : LinkSet) (heard : ℕ) (faults : List SetFault) (late : List ℕ)
+    → GoesOn link link set set heard heard faults faults late late
+stands_still link set heard faults late = record {
   link_is = refl;
   base_is = refl;
   entries = [];
@@ -67,12 +70,14 @@ stands_still link set heard faults = record {
   told = [];
   faults_are = sym (append-nil faults);
   told_is = tt;
+  late_is = refl;
 }
 
 pub goes_further : (link link' link'' : ℕ) (set set' set'' : LinkSet) (heard heard' heard'' : ℕ) (faults faults' faults'' : List SetFault)
-    → GoesOn link link' set set' heard heard' faults faults' → GoesOn link' link'' set' set'' heard' heard'' faults' faults''
-    → GoesOn link link'' set set'' heard heard'' faults faults''
-goes_further link link' link'' set set' set'' heard heard' heard'' faults faults' faults'' first second = record {
+    (late late' late'' : List ℕ) → GoesOn link link' set set' heard heard' faults faults' late late'
+    → GoesOn link' link'' set' set'' heard' heard'' faults' faults'' late' late''
+    → GoesOn link link'' set set'' heard heard'' faults faults'' late late''
+goes_further link link' link'' set set' set'' heard heard' heard'' faults faults' faults'' late late' late'' first second = record {
   link_is = second.link_is ∙ first.link_is;
   base_is = second.base_is ∙ first.base_is;
   entries = first.entries ++ second.entries;
@@ -90,4 +95,5 @@ goes_further link link' link'' set set' set'' heard heard' heard'' faults faults
   told_is = told-append (entries_in set) (entries_in set'') first.told second.told
       (told_within (entries_in set) (entries_in set) (entries_in set') (entries_in set'') (omega arith) second.grows first.told first.told_is)
       (told_within (entries_in set') (entries_in set) (entries_in set'') (entries_in set'') first.grows (omega arith) second.told second.told_is);
+  late_is = second.late_is ∙ first.late_is;
 }

@@ -2,6 +2,8 @@
 -- end has left a life to which this end may still be coming up, and units of it may be under way: they would be accepted
 -- here, and come over another link as well.
 use Rattle.std.specs.Prelude.{◌≡◌, ◌<◌, ℕ, suc, ◌==◌, ◌&&◌, Bool, true, false, not, List, [], ◌∷◌, Some, slice_get, if◌then◌else◌}
+use Rattle.set_events.specs.declared.answer.Answer.{Answer}
+use Rattle.set_events.specs.declared.answer.Took.{Took}
 use Rattle.set_model.specs.State.{State, late_at}
 use Rattle.link_term.specs.States.{state_of}
 use Rattle.link_term.specs.declared.works.TermState.{TermState}
@@ -29,3 +31,12 @@ ended_from link old new (at ∷ links) = ended_at link old new at ∷ ended_from
 -- how many the set heard about each link
 abbrev pub AreLate : State → List ℕ → Type 0
 AreLate s counts = (link : ℕ) → link < 16 → slice_get counts link ≡ Some (late_at link s)
+
+-- no step changes that whose answer doesn't tell of an order
+abbrev pub is_order : Took → Bool
+is_order Took.Order = true
+is_order _ = false
+
+abbrev pub brings_order : Answer → Bool
+brings_order (Answer.Heard report) = is_order report.took
+brings_order _ = false

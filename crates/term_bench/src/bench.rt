@@ -3,7 +3,7 @@ ghost use Rattle.std.specs.Prelude.{◌≡◌, ◌<◌};
 
 use super::counts::TurnCounts;
 use super::door::SetDoor;
-use super::late::{end_late, late_orders};
+use super::late::end_late;
 use super::link::{LinkEnd, new_links};
 use super::turn::Turn;
 use super::word::{LinkWord, Phase, is_start, phase_of};
@@ -40,7 +40,7 @@ impl Bench {
     ghost use Rattle.term_bench.specs.declared.turn.Turn.{Turn};
     ghost use Rattle.term_bench.specs.declared.word.Phase.TheVariants.{Left};
     ghost use Rattle.set_events.specs.declared.answer.Refusal.TheVariants.{Unsettled};
-    ghost use Rattle.term_bench.specs.Turns.{Breaks, Turns, TurnsAlone, most_turns};
+    ghost use Rattle.term_bench.specs.Turns.{Breaks, Turns, most_turns};
     ghost use Rattle.term_bench.specs.Waiting.{Completes, Hears, HearsAll, HearsBit, HearsBroken, HearsSome, Waits};
     ghost use Rattle.l2_bits.specs.LineBits.{bits_of};
     ghost use Rattle.l2_units.specs.declared.unit.Unit.{Unit as SignalUnit};
@@ -162,10 +162,11 @@ impl Bench {
         ensures untold { OnErr result (tap.new ≡ tap.old) }
         ensures links { length self.new.links ≡ length self.old.links }
     {
-        let before = late_orders(self.door.set());
-        match self.take_turn(link, octet, tap) {
+        self.door.turn_to(link);
+        let at = &mut self.links[usize::from(link)];
+        match at.turn(&mut self.door, octet, tap) {
             Ok(turn) => {
-                end_late(&mut self.links, &before, self.door.set());
+                end_late(&mut self.links, &self.door);
                 Ok(turn)
             }
             Err(fault) => Err(fault),
@@ -284,24 +285,6 @@ impl Bench {
         ensures leads { self.now.set.state ≡ after self.now.set.base.state self.now.set.history }
     {
         self.door.set().replays();
-    }
-
-    /// [`Bench::turn_tapped`], with nothing done about changeover orders that came late.
-    fn take_turn<T: Tap>(&mut self, link: u8, octet: u8, tap: &mut T) -> Result<Turn, TermFault>
-        requires { link < length self.old.links }
-        ensures turns { IfOk result (λ turn. (unit : Option SignalUnit)
-            × TurnsAlone link octet self.old turn unit self.new × Taps T.told unit tap.old tap.new) }
-        ensures breaks { IfErr result (λ fault. Breaks link octet fault self.old self.new) }
-        ensures exhausted { (at : AtLink) → slice_get self.old.links link ≡ Some at
-            → at.counts.turns ≡ most_turns → (result ≡ Err Exhausted) × (self.new ≡ self.old) }
-        ensures failed { (at : AtLink) → slice_get self.old.links link ≡ Some at → at.failed ≡ true
-            → at.counts.turns < most_turns → (result ≡ Err Failed) × (self.new ≡ self.old) }
-        ensures untold { OnErr result (tap.new ≡ tap.old) }
-        ensures links { length self.new.links ≡ length self.old.links }
-    {
-        self.door.turn_to(link);
-        let at = &mut self.links[usize::from(link)];
-        at.turn(&mut self.door, octet, tap)
     }
 
     /// An octet's bits come behind those that wait on this link: the octet that is whole with them.

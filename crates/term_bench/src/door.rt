@@ -1,5 +1,6 @@
 //! The door of a bench's set.
-ghost use Rattle.std.specs.Prelude.{◌≡◌, ◌<◌, ◌≤◌, ◌+◌, ◌↔◌, length, if◌then◌else◌, IfOk, IfErr, OnOk, OnErr};
+ghost use Rattle.std.specs.Prelude.{◌≡◌, ◌<◌, ◌≤◌, ◌+◌, ◌↔◌, false, length, if◌then◌else◌, IfOk, IfErr, OnOk, OnErr};
+ghost use Rattle.term_bench.specs.Late.{AreLate, brings_order, is_order};
 ghost use Rattle.term_bench.specs.Turns.{brings_message, is_message};
 ghost use Rattle.set_events.specs.Lent.{answer_in};
 ghost use Rattle.set_events.specs.declared.fault.SetFault.TheVariants.{Exhausted, NoMemory};
@@ -17,8 +18,13 @@ pub(crate) struct SetDoor {
     /// The messages for users that were heard through it in this turn.
     heard: u64,
     faults: Faults,
+    /// How many changeover orders the set had heard late about each link, as they were last counted.
+    late: [u32; 16],
+    /// Whether the set may have heard one since.
+    ordered: bool,
     ghost in_range: { link < 16 },
     ghost few: { heard ≤ length set.history },
+    ghost counted: { ordered ≡ false → AreLate set.state late },
 }
 
 impl SetDoor {
@@ -26,23 +32,31 @@ impl SetDoor {
     pub(crate) fn new(set: SetCore) -> SetDoor
         ensures { result.set ≡ set }
     {
+        let late = late_orders(&set);
         SetDoor {
             set,
             link: 0,
             heard: 0,
             faults: Faults::new(),
+            late,
+            ordered: false,
         }
     }
 
-    /// The terminal of this link has the next turn: it hasn't heard a message yet.
+    /// The terminal of this link has the next turn: it hasn't heard a message yet, and the late orders are counted.
     pub(crate) fn turn_to(&mut self, link: u8)
         requires { link < 16 }
         ensures link { self.new.link ≡ link }
         ensures heard { self.new.heard ≡ 0 }
         ensures set { self.new.set ≡ self.old.set }
+        ensures late { AreLate self.new.set.state self.new.late }
     {
         self.link = link;
         self.heard = 0;
+        if self.ordered {
+            self.late = late_orders(&self.set);
+            self.ordered = false;
+        }
     }
 
     /// What the set answers to an event that isn't of a turn.
@@ -53,6 +67,7 @@ impl SetDoor {
         ensures err { OnErr result (self.new.set ≡ self.old.set) }
     {
         self.heard = 0;
+        self.ordered = true;
         self.set.apply(who, event)
     }
 
@@ -79,6 +94,31 @@ impl SetDoor {
     {
         self.heard
     }
+
+    /// How many changeover orders the set had heard late about each link before this turn.
+    pub(crate) fn late(&self) -> &[u32; 16]
+        ensures { result.now ≡ self.now.late }
+    {
+        &self.late
+    }
+
+    /// Whether the set may have heard one in this turn.
+    pub(crate) fn is_ordered(&self) -> bool
+        ensures { result ≡ false → AreLate self.now.set.state self.now.late }
+    {
+        self.ordered
+    }
+}
+
+/// How many changeover orders the set heard late about each link.
+fn late_orders(set: &SetCore) -> [u32; 16]
+    ensures { AreLate set.now.state result }
+{
+    let mut counts = [0; 16];
+    for link in 0..16u8 {
+        counts[usize::from(link)] = set.late(link);
+    }
+    counts
 }
 
 /// How many messages for users this answer tells of: one, or none.
@@ -102,6 +142,25 @@ fn messages_by(took: Took) -> u64
     }
 }
 
+/// Whether this answer tells of an order.
+fn tells_order(answer: &AnswerRef<'_>) -> bool
+    ensures { result ≡ brings_order (answer_in answer.now) }
+{
+    match answer {
+        AnswerRef::Heard { report } => is_order(report.took),
+        _ => false,
+    }
+}
+
+fn is_order(took: Took) -> bool
+    ensures { result ≡ is_order took }
+{
+    match took {
+        Took::Order => true,
+        Took::Nothing | Took::Message | Took::Ignored => false,
+    }
+}
+
 impl Door for SetDoor {
     ghost use Rattle.term_bench.specs.Going.{GoesOn, stands_still, goes_further};
 
@@ -111,12 +170,13 @@ impl Door for SetDoor {
 
     ghost faults = { λ door. door.faults };
 
-    ghost is_same = { λ a b. GoesOn a.link b.link a.set b.set a.heard b.heard a.faults b.faults };
+    ghost is_same = { λ a b. GoesOn a.link b.link a.set b.set a.heard b.heard a.faults b.faults a.late b.late };
 
-    ghost same_self = { λ door. stands_still door.link door.set door.heard door.faults };
+    ghost same_self = { λ door. stands_still door.link door.set door.heard door.faults door.late };
 
     ghost same_on = { λ first second third a b. goes_further first.link second.link third.link first.set
-        second.set third.set first.heard second.heard third.heard first.faults second.faults third.faults a b };
+        second.set third.set first.heard second.heard third.heard first.faults second.faults third.faults
+        first.late second.late third.late a b };
 
     fn link(&self) -> u8 {
         self.link
@@ -129,7 +189,11 @@ impl Door for SetDoor {
         {
             Ok(()) => {
                 self.set.replays();
-                self.heard += messages_in(&reply.get());
+                let answer = reply.get();
+                self.heard += messages_in(&answer);
+                if tells_order(&answer) {
+                    self.ordered = true;
+                }
                 Ok(())
             }
             Err(fault) => {

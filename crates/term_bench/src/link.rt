@@ -102,7 +102,7 @@ impl LinkEnd {
             × TakesTurn door.old.link octet door.old.set self.old turn unit door.new.set self.new
             × Taps T.told unit tap.old tap.new) }
         ensures same { GoesOn door.old.link door.new.link door.old.set door.new.set door.old.heard
-            door.new.heard door.old.faults door.new.faults }
+            door.new.heard door.old.faults door.new.faults door.old.late door.new.late }
         ensures link { self.new.terminal.link ≡ self.old.terminal.link }
         ensures fails { OnErr result (self.old.counts.turns < most_turns → self.new.failed ≡ true) }
         ensures breaks { IfErr result (λ fault. (entries : List Entry)
@@ -236,7 +236,7 @@ fn take_octet<T: Tap>(
         works.new.taken works.old.inside works.new.inside out.0 out.1 unit
         × Taps T.told unit tap.old tap.new) }
     ensures same { GoesOn door.old.link door.new.link door.old.set door.new.set door.old.heard
-        door.new.heard door.old.faults door.new.faults }
+        door.new.heard door.old.faults door.new.faults door.old.late door.new.late }
     ensures link { works.new.inside.link ≡ works.old.inside.link }
     ensures failed { works.old.failed ≡ true → (result ≡ Err Failed) × (works.new ≡ works.old)
         × (door.new ≡ door.old) }

@@ -35,7 +35,7 @@ returns-in-Ok-clause-turns g c =
 
 pub returns-then-self-ge-MOST_TURNS-clause-same : goal.returns-then-self-ge-MOST_TURNS-clause-same
 returns-then-self-ge-MOST_TURNS-clause-same g c =
-    let door = c.args.door.now in stands_still door.link door.set door.heard door.faults
+    let door = c.args.door.now in stands_still door.link door.set door.heard door.faults door.late
 
 pub returns-in-Err-clause-breaks : goal.returns-in-Err-clause-breaks
 returns-in-Err-clause-breaks g c =

@@ -1,6 +1,6 @@
 use Rattle.std.proofs.Common.{◌≡◌, ◌<◌, ℕ, Some, length, slice_get}
 use Rattle.set_model.specs.State.{late_at}
-use Rattle.term_bench.proofs.late.late_orders.Given as goal
+use Rattle.term_bench.proofs.door.late_orders.Given as goal
 
 abbrev pub invariant-loop-link : goal.invariant-loop-link
 invariant-loop-link l = record {
