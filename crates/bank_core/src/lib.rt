@@ -27,7 +27,7 @@ mod summing;
 pub use bank::Bank;
 pub use bank_crew::{
     Answered, Carried, CrewFault, Instruction, Job, LinkManager, Managed, Plan, SetEnd,
-    ShiftReport, UserFault, UserReport,
+    ShiftReport, Sight, UserFault, UserReport,
 };
 pub use fault::BankFault;
 pub use running::{Running, sort_out};

@@ -12,7 +12,7 @@ use Rattle.std.specs.Prelude.{Option}
 use Rattle.bank_crew.specs.declared.carried.Carried.{Carried}
 use Rattle.bank_crew.specs.declared.plan.Managed.{Managed}
 use Rattle.bank_crew.specs.Carrying.{carried_in, carried_more}
-use Rattle.bank_crew.specs.Managing.{are_marks, is_mark}
+use Rattle.bank_crew.specs.Managing.{are_marks, is_question, mark_of}
 use Rattle.bank_crew.proofs.Bearing.{carried_on}
 use Rattle.bank_crew.proofs.Marking.{marks_more}
 use Rattle.bank_crew.specs.declared.report.Answered.{Answered}
@@ -84,8 +84,8 @@ module _ (who : Actor) (event : Event) (answer : Answer) (old new : List Entry) 
       more ∙ ap (carried_more managed link event answer) was ∙ ap (λ n. carried_more managed n event answer (carried_in managed (link_in who) old)) here
       ∙ carried_on (link_in who) who event answer managed old ∙ ap (carried_in managed (link_in who)) (sym made) ∙ ap (λ (w : Actor). carried_in managed (link_in w) new) (sym same)
 
-  pub step_marked : (marks marks' : List ℕ) (mark : ℕ) (who' : Actor) → who' ≡ who → are_marks (link_in who) old marks ≡ true → is_mark (link_in who) event mark ≡ true → marks' ≡ marks ++ mark ∷ []
-      → are_marks (link_in who') new marks' ≡ true
-  step_marked marks marks' mark who' same all one more =
-      ap (λ (w : Actor). are_marks (link_in w) new marks') same ∙ ap (λ (es : List Entry). are_marks (link_in who) es marks') made ∙ ap (λ (ms : List ℕ). are_marks (link_in who) (old ++ record { who = who; event = event; answer = answer } ∷ []) ms) more
-      ∙ marks_more (link_in who) old marks (record { who = who; event = event; answer = answer }) mark all one
+  pub step_marked : (marks marks' : List ℕ) (of_turn late : Bool) (who' : Actor) → who' ≡ who → are_marks (link_in who) marks old ≡ true → (of_turn ≡ false → is_question (link_in who) event ≡ true) → marks' ≡ marks ++ mark_of of_turn late ∷ []
+      → are_marks (link_in who') marks' new ≡ true
+  step_marked marks marks' of_turn late who' same all asked more =
+      ap (λ (w : Actor). are_marks (link_in w) marks' new) same ∙ ap₂ (are_marks (link_in who)) more made
+      ∙ marks_more (link_in who) old marks (record { who = who; event = event; answer = answer }) of_turn late all asked

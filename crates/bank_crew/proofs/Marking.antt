@@ -1,15 +1,13 @@
--- One entry more has its mark.
-use Rattle.std.proofs.Common.{refl, ◌≡◌, ◌∙◌, ap, ◌==◌, ◌&&◌, ℕ, Bool, true, false, List, [], ◌∷◌, ◌++◌, Option, None, Some}
-use Rattle.std.specs.Prelude.{IsSome, if◌then◌else◌}
+-- Each entry has its mark, one after another.
+use Rattle.std.proofs.Common.{refl, ◌≡◌, ◌∙◌, ap, ap₂, sym, ◌&&◌, ℕ, zero, suc, Bool, true, false, List, [], ◌∷◌, ◌++◌}
 use Rattle.set_events.specs.declared.answer.Answer.{Answer}
 use Rattle.set_events.specs.declared.event.Actor.{Actor}
 use Rattle.set_events.specs.declared.event.Actor.TheVariants.{Terminal}
 use Rattle.set_events.specs.declared.event.Event.{Event}
 use Rattle.set_events.specs.declared.fault.SetFault.{SetFault}
 use Rattle.set_events.specs.declared.history.Entry.{Entry}
-use Rattle.bank_crew.specs.declared.plan.Managed.{Managed}
 use Rattle.bank_crew.specs.Seats.{link_in}
-use Rattle.bank_crew.specs.Managing.{are_marks, is_mark, is_question, marked, of_turns}
+use Rattle.bank_crew.specs.Managing.{are_marks, is_question, mark_of, of_turns, turns_mark}
 
 both_true : (a b : Bool) → a ≡ true → b ≡ true → (a && b) ≡ true
 both_true true b p q = q
@@ -23,76 +21,92 @@ rest_true : (a b : Bool) → (a && b) ≡ true → b ≡ true
 rest_true true b p = p
 rest_true false b p = absurd (cc p)
 
-pub marks_more : (link : ℕ) (entries : List Entry) (marks : List ℕ) (entry : Entry) (mark : ℕ) → are_marks link entries marks ≡ true → is_mark link entry.event mark ≡ true
-    → are_marks link (entries ++ entry ∷ []) (marks ++ mark ∷ []) ≡ true
-marks_more link [] [] entry mark all one = both_true (is_mark link entry.event mark) true one refl
-marks_more link [] (m ∷ marks) entry mark all one = absurd (cc all)
-marks_more link (e ∷ entries) [] entry mark all one = absurd (cc all)
-marks_more link (e ∷ entries) (m ∷ marks) entry mark all one =
-    let first = first_true (is_mark link e.event m) (are_marks link entries marks) all in
-    let rest = rest_true (is_mark link e.event m) (are_marks link entries marks) all in
-    both_true (is_mark link e.event m) (are_marks link (entries ++ entry ∷ []) (marks ++ mark ∷ [])) first (marks_more link entries marks entry mark rest one)
+-- SOME ENTRIES, AND MORE
+module _ (link : ℕ) (marks' : List ℕ) (entries' : List Entry) where
+  pub marks_joined : are_marks link marks' entries' ≡ true → (marks : List ℕ) (entries : List Entry) → are_marks link marks entries ≡ true
+      → are_marks link (marks ++ marks') (entries ++ entries') ≡ true
+  marks_joined more [] [] all = more
+  marks_joined more [] (e ∷ entries) all = absurd (cc all)
+  marks_joined more (zero ∷ marks) [] all = absurd (cc all)
+  marks_joined more (zero ∷ marks) (e ∷ entries) all =
+      let rest = rest_true (is_question link e.event) (are_marks link marks entries) all in
+      both_true (is_question link e.event) (are_marks link (marks ++ marks') (entries ++ entries'))
+      (first_true (is_question link e.event) (are_marks link marks entries) all) (marks_joined more marks entries rest)
+  marks_joined more (suc zero ∷ marks) [] all = absurd (cc all)
+  marks_joined more (suc zero ∷ marks) (e ∷ entries) all = marks_joined more marks entries all
+  marks_joined more (suc (suc zero) ∷ marks) [] all = absurd (cc all)
+  marks_joined more (suc (suc zero) ∷ marks) (e ∷ entries) all = marks_joined more marks entries all
+  marks_joined more (suc (suc (suc m)) ∷ marks) entries all = marks_joined more marks entries all
 
--- where a question is none of a turn's, and an entry of one is
-pub question_mark : (link : ℕ) (event : Event) → is_question link event ≡ true → is_mark link event 0 ≡ true
-question_mark link event is = is
+  pub turns_joined : (marks : List ℕ) (entries : List Entry) → are_marks link marks entries ≡ true
+      → of_turns (marks ++ marks') (entries ++ entries') ≡ of_turns marks entries ++ of_turns marks' entries'
+  turns_joined [] [] all = refl
+  turns_joined [] (e ∷ entries) all = absurd (cc all)
+  turns_joined (zero ∷ marks) [] all = absurd (cc all)
+  turns_joined (zero ∷ marks) (e ∷ entries) all = turns_joined marks entries (rest_true (is_question link e.event) (are_marks link marks entries) all)
+  turns_joined (suc zero ∷ marks) [] all = absurd (cc all)
+  turns_joined (suc zero ∷ marks) (e ∷ entries) all = ap (λ (es : List Entry). e ∷ es) (turns_joined marks entries all)
+  turns_joined (suc (suc zero) ∷ marks) [] all = absurd (cc all)
+  turns_joined (suc (suc zero) ∷ marks) (e ∷ entries) all = ap (λ (es : List Entry). e ∷ es) (turns_joined marks entries all)
+  turns_joined (suc (suc (suc m)) ∷ marks) entries all = turns_joined marks entries all
 
-one_on : (b : Bool) (x e : Entry) (xs ys : List Entry) → ys ≡ xs ++ e ∷ [] → (if b then x ∷ ys else ys) ≡ (if b then x ∷ xs else xs) ++ e ∷ []
-one_on true x e xs ys is = ap (λ (zs : List Entry). x ∷ zs) is
-one_on false x e xs ys is = is
+-- one entry more
+one_marked : (link : ℕ) (entry : Entry) (of_turn late : Bool) → (of_turn ≡ false → is_question link entry.event ≡ true)
+    → are_marks link (mark_of of_turn late ∷ []) (entry ∷ []) ≡ true
+one_marked link entry true true asked = refl
+one_marked link entry true false asked = refl
+one_marked link entry false late asked = both_true (is_question link entry.event) true (asked refl) refl
 
-none_on : (b : Bool) (x : Entry) (xs ys : List Entry) → ys ≡ xs → (if b then x ∷ ys else ys) ≡ (if b then x ∷ xs else xs)
-none_on true x xs ys is = ap (λ (zs : List Entry). x ∷ zs) is
-none_on false x xs ys is = is
+pub marks_more : (link : ℕ) (entries : List Entry) (marks : List ℕ) (entry : Entry) (of_turn late : Bool) → are_marks link marks entries ≡ true
+    → (of_turn ≡ false → is_question link entry.event ≡ true) → are_marks link (marks ++ mark_of of_turn late ∷ []) (entries ++ entry ∷ []) ≡ true
+marks_more link entries marks entry of_turn late all asked =
+    marks_joined link (mark_of of_turn late ∷ []) (entry ∷ []) (one_marked link entry of_turn late asked) marks entries all
 
-turn_marked : (link : ℕ) (entries : List Entry) (marks : List ℕ) (entry : Entry) → are_marks link entries marks ≡ true → marked (marks ++ 1 ∷ []) (entries ++ entry ∷ []) ≡ marked marks entries ++ entry ∷ []
-turn_marked link [] [] entry all = refl
-turn_marked link [] (m ∷ marks) entry all = absurd (cc all)
-turn_marked link (e ∷ entries) [] entry all = absurd (cc all)
-turn_marked link (e ∷ entries) (m ∷ marks) entry all =
-    one_on (m == 1) e entry (marked marks entries) (marked (marks ++ 1 ∷ []) (entries ++ entry ∷ []))
-    (turn_marked link entries marks entry (rest_true (is_mark link e.event m) (are_marks link entries marks) all))
+-- or a slice at rest
+none_more : (entries : List Entry) → entries ≡ entries ++ []
+none_more [] = refl
+none_more (e ∷ entries) = ap (λ (es : List Entry). e ∷ es) (none_more entries)
 
-question_marked : (link : ℕ) (entries : List Entry) (marks : List ℕ) (entry : Entry) → are_marks link entries marks ≡ true → marked (marks ++ 0 ∷ []) (entries ++ entry ∷ []) ≡ marked marks entries
-question_marked link [] [] entry all = refl
-question_marked link [] (m ∷ marks) entry all = absurd (cc all)
-question_marked link (e ∷ entries) [] entry all = absurd (cc all)
-question_marked link (e ∷ entries) (m ∷ marks) entry all =
-    none_on (m == 1) e (marked marks entries) (marked (marks ++ 0 ∷ []) (entries ++ entry ∷ []))
-    (question_marked link entries marks entry (rest_true (is_mark link e.event m) (are_marks link entries marks) all))
+pub marks_rested : (link : ℕ) (entries : List Entry) (marks : List ℕ) → are_marks link marks entries ≡ true → are_marks link (marks ++ 3 ∷ []) entries ≡ true
+marks_rested link entries marks all =
+    ap (are_marks link (marks ++ 3 ∷ [])) (none_more entries) ∙ marks_joined link (3 ∷ []) [] refl marks entries all
+
+pub turns_rested : (link : ℕ) (entries : List Entry) (marks : List ℕ) → are_marks link marks entries ≡ true → of_turns (marks ++ 3 ∷ []) entries ≡ of_turns marks entries
+turns_rested link entries marks all =
+    ap (of_turns (marks ++ 3 ∷ [])) (none_more entries) ∙ turns_joined link (3 ∷ []) [] marks entries all ∙ sym (none_more (of_turns marks entries))
 
 -- A TURN'S ENTRY is one more of those of turns, and a question isn't.
-pub turn_more : (managed : Option Managed) (link : ℕ) (entries : List Entry) (marks : List ℕ) (entry : Entry) → are_marks link entries marks ≡ true
-    → of_turns managed (marks ++ 1 ∷ []) (entries ++ entry ∷ []) ≡ of_turns managed marks entries ++ entry ∷ []
-turn_more None link entries marks entry all = refl
-turn_more (Some managed) link entries marks entry all = turn_marked link entries marks entry all
+turn_alone : (late : Bool) (entry : Entry) → of_turns (turns_mark late ∷ []) (entry ∷ []) ≡ entry ∷ []
+turn_alone true entry = refl
+turn_alone false entry = refl
 
-pub question_more : (managed : Option Managed) (link : ℕ) (entries : List Entry) (marks : List ℕ) (entry : Entry) → IsSome managed → are_marks link entries marks ≡ true
-    → of_turns managed (marks ++ 0 ∷ []) (entries ++ entry ∷ []) ≡ of_turns managed marks entries
-question_more None link entries marks entry is all = absurd (cc is)
-question_more (Some managed) link entries marks entry is all = question_marked link entries marks entry all
+pub turn_more : (link : ℕ) (entries : List Entry) (marks : List ℕ) (entry : Entry) (late : Bool) → are_marks link marks entries ≡ true
+    → of_turns (marks ++ turns_mark late ∷ []) (entries ++ entry ∷ []) ≡ of_turns marks entries ++ entry ∷ []
+turn_more link entries marks entry late all =
+    turns_joined link (turns_mark late ∷ []) (entry ∷ []) marks entries all ∙ ap (λ (es : List Entry). of_turns marks entries ++ es) (turn_alone late entry)
+
+pub question_more : (link : ℕ) (entries : List Entry) (marks : List ℕ) (entry : Entry) → are_marks link marks entries ≡ true
+    → of_turns (marks ++ 0 ∷ []) (entries ++ entry ∷ []) ≡ of_turns marks entries
+question_more link entries marks entry all = turns_joined link (0 ∷ []) (entry ∷ []) marks entries all ∙ sym (none_more (of_turns marks entries))
 
 -- A STEP with what level 3 asked behind it
-pub stepped : (who : Actor) (event : Event) (answer : Answer) (managed managed' managed'' : Option Managed) (old mid new : List Entry) (marks marks' marks'' : List ℕ) (faults faults'' : List SetFault)
-    → (mid ≡ old ++ record { who = who; event = event; answer = answer } ∷ []) × (marks' ≡ marks ++ 1 ∷ []) → managed' ≡ managed
-    → of_turns managed'' marks'' new ≡ of_turns managed' marks' mid → are_marks (link_in who) old marks ≡ true → who ≡ Terminal (link_in who) → faults'' ≡ faults
-    → (of_turns managed'' marks'' new ≡ of_turns managed marks old ++ record { who = Terminal (link_in who); event = event; answer = answer } ∷ []) × (faults'' ≡ faults)
-stepped who event answer managed managed' managed'' old mid new marks marks' marks'' faults faults'' step same after all is_link quiet = (
-  after ∙ ap (λ (m : Option Managed). of_turns m marks' mid) same ∙ ap (λ (ms : List ℕ). of_turns managed ms mid) step.1 ∙ ap (λ (es : List Entry). of_turns managed (marks ++ 1 ∷ []) es) step.0
-      ∙ turn_more managed (link_in who) old marks (record { who = who; event = event; answer = answer }) all
-      ∙ ap (λ (w : Actor). of_turns managed marks old ++ record { who = w; event = event; answer = answer } ∷ []) is_link,
+pub stepped : (who : Actor) (event : Event) (answer : Answer) (late : Bool) (old mid new : List Entry) (marks marks' marks'' : List ℕ) (faults faults'' : List SetFault)
+    → mid ≡ old ++ record { who = who; event = event; answer = answer } ∷ [] → marks' ≡ marks ++ turns_mark late ∷ []
+    → of_turns marks'' new ≡ of_turns marks' mid → are_marks (link_in who) marks old ≡ true → who ≡ Terminal (link_in who) → faults'' ≡ faults
+    → (of_turns marks'' new ≡ of_turns marks old ++ record { who = Terminal (link_in who); event = event; answer = answer } ∷ []) × (faults'' ≡ faults)
+stepped who event answer late old mid new marks marks' marks'' faults faults'' made is_marked after all is_link quiet = (
+  after ∙ ap₂ of_turns is_marked made ∙ turn_more (link_in who) old marks (record { who = who; event = event; answer = answer }) late all
+      ∙ ap (λ (w : Actor). of_turns marks old ++ record { who = w; event = event; answer = answer } ∷ []) is_link,
   quiet,
 )
 
 -- and a question of level 3
-pub questioned : (who : Actor) (event : Event) (answer : Answer) (managed managed' : Option Managed) (old new : List Entry) (marks marks' : List ℕ)
-    → (new ≡ old ++ record { who = who; event = event; answer = answer } ∷ []) × (marks' ≡ marks ++ 0 ∷ []) → managed' ≡ managed → IsSome managed → are_marks (link_in who) old marks ≡ true
-    → of_turns managed' marks' new ≡ of_turns managed marks old
-questioned who event answer managed managed' old new marks marks' step same some all =
-    ap (λ (m : Option Managed). of_turns m marks' new) same ∙ ap (λ (ms : List ℕ). of_turns managed ms new) step.1 ∙ ap (λ (es : List Entry). of_turns managed (marks ++ 0 ∷ []) es) step.0
-    ∙ question_more managed (link_in who) old marks (record { who = who; event = event; answer = answer }) some all
+pub questioned : (who : Actor) (event : Event) (answer : Answer) (old new : List Entry) (marks marks' : List ℕ)
+    → new ≡ old ++ record { who = who; event = event; answer = answer } ∷ [] → marks' ≡ marks ++ 0 ∷ [] → are_marks (link_in who) marks old ≡ true
+    → of_turns marks' new ≡ of_turns marks old
+questioned who event answer old new marks marks' made is_marked all =
+    ap₂ of_turns is_marked made ∙ question_more (link_in who) old marks (record { who = who; event = event; answer = answer }) all
 
 -- no entries, none of turns
-pub none_of_turns : (managed : Option Managed) (entries : List Entry) (marks : List ℕ) → entries ≡ [] → marks ≡ [] → of_turns managed marks entries ≡ []
-none_of_turns None entries marks none empty = none
-none_of_turns (Some managed) entries marks none empty = ap (λ (ms : List ℕ). marked ms entries) empty
+pub none_of_turns : (entries : List Entry) (marks : List ℕ) → marks ≡ [] → of_turns marks entries ≡ []
+none_of_turns entries marks empty = ap (λ (ms : List ℕ). of_turns ms entries) empty

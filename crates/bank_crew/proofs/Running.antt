@@ -1,5 +1,7 @@
 -- A terminal's turns.
-use Rattle.std.proofs.Common.{refl, true, ap, ◌≡◌, ◌∙◌, sym, subst, ◌/◌, ◌-◌, ◌<◌, ◌≤◌, ℕ, Bool, Option, None, Some, List, [], Result, Ok, Err, IfOk, IfErr, MatchResult}
+use Rattle.std.proofs.Common.{refl, true, ap, ap₂, ◌≡◌, ◌∙◌, sym, subst, ◌/◌, ◌-◌, ◌<◌, ◌≤◌, ℕ, Bool, Option, None, Some, List, [], Result, Ok, Err, IfOk, IfErr, MatchResult}
+use Rattle.std.specs.Option.{option_eq}
+use Rattle.std.specs.Prelude.{nat_eq}
 use Rattle.term_model.specs.declared.report.TermReport.{TermReport}
 use Rattle.link_term.specs.declared.fault.TermFault.{TermFault}
 use Rattle.set_events.specs.declared.fault.SetFault.{SetFault}
@@ -15,11 +17,13 @@ use Rattle.bank_crew.specs.declared.carried.Carried.{Carried}
 use Rattle.bank_crew.specs.Carrying.{carried_in}
 use Rattle.bank_crew.specs.Counts.{answered_in, reported}
 use Rattle.bank_crew.specs.declared.questions.Awaited.{Awaited}
-use Rattle.bank_crew.specs.Awaiting.{AsksWhere}
+use Rattle.bank_crew.specs.Awaiting.{AsksFrom}
 use Rattle.bank_crew.specs.Managing.{are_marks, of_turns}
 use Rattle.line_tape.specs.Taping.{IsTape}
+use Rattle.link_term.specs.Looking.{Seen}
 use Rattle.link_term.specs.Standing.{Standing, standing}
-use Rattle.bank_crew.specs.Shifts.{AfterHalf, DoesShift, Halves, Turns, Slices, SlicesFrom, all_taken, one_more, TurnsOf, TurnsWhere, both, fresh, Slice}
+use Rattle.bank_crew.specs.declared.manager.Sight.{Sight}
+use Rattle.bank_crew.specs.Shifts.{AfterHalf, DoesShift, Halves, RunTurns, Turns, TurnsBy, Slices, SlicesFrom, all_taken, broken_off, told_end, one_more, TurnsOf, TurnsWhere, both, fresh, is_to_fail, longest_slice, Slice}
 
 -- it went, or it failed
 pub either_way : (A : Type 0) (P : TermReport → Type 0) (Q : TermFault → Type 0) (result : Result TermReport TermFault) → IfOk result (λ report. A × P report) → IfErr result Q → MatchResult result P Q
@@ -41,7 +45,7 @@ by_first_half turns first fault before between is went =
 -- A SHIFT, from a new terminal on
 pub shift_of : (plan : Plan) (link number : ℕ) (counts : Result TermReport TermFault) (ended : Result ShiftReport TermFault) (answered : Answered) (carried : Carried) (tape : Option (List ℕ)) (marks : List ℕ) (awaited : Awaited) (before after : Standing) (made : List Entry)
     → TurnsOf plan number counts before after → before.taken ≡ [] → before.inside ≡ told Start (told Emergency (opened number plan.timers))
-    → before.made ≡ [] → before.faults ≡ [] → number ≡ link → are_marks number made marks ≡ true → AsksWhere plan.managed number made marks awaited → of_turns plan.managed marks made ≡ after.made → ended ≡ reported answered carried tape counts
+    → before.made ≡ [] → before.faults ≡ [] → number ≡ link → are_marks number marks made ≡ true → AsksFrom plan.managed number marks made awaited → of_turns marks made ≡ after.made → ended ≡ reported answered carried tape counts
     → answered ≡ answered_in number made → carried ≡ carried_in plan.managed number made → before.line.put ≡ [] → IsTape plan.keeps tape after.line.put → DoesShift plan link ended made
 shift_of plan link number counts ended answered carried tape marks awaited before after made turned taken_is inside_is made_is faults_is same marked asks end_is told_is counted carries none taped =
     let new = told Start (told Emergency (opened number plan.timers)) in
@@ -67,17 +71,41 @@ shift_of plan link number counts ended answered carried tape marks awaited befor
       ended_is = told_is ∙ ap (λ (a : Answered). reported a carried tape counts) counted ∙ ap (λ (c : Carried). reported (answered_in number made) c tape counts) carries;
     })
 
--- A SLICE more.
-pub slice_more : (may : Instruction → Type 0) (most turns : ℕ) (instruction : Instruction) (counted report total : TermReport) (ended : Result TermReport TermFault) (before between after : Standing) → may instruction → 0 < turns → turns ≤ most → Slice instruction turns (Ok report) before between
-    → total ≡ both counted report → SlicesFrom may (most - turns) total ended between after → SlicesFrom may most counted ended before after
-slice_more may most turns instruction counted report total ended before between after told some few slice is rest =
-    one_more most turns instruction counted report ended before between after told some few slice (subst (λ (t : TermReport). SlicesFrom may (most - turns) t ended between after) is rest)
+-- a look changes nothing of how a terminal stands
+pub looked_on : (taken : List ℕ) (inside : Terminal) (line : Seen) (made made' : List Entry) (faults faults' : List SetFault) → made' ≡ made → faults' ≡ faults → standing taken inside made' faults' line ≡ standing taken inside made faults line
+looked_on taken inside line made made' faults faults' same quiet = ap₂ (λ (m : List Entry) (f : List SetFault). standing taken inside m f line) same quiet
 
--- or none is left
+-- A SLICE more.
+module _ (may : Instruction → Type 0) (most turns : ℕ) (sight : Sight) (instruction : Instruction) (counted : TermReport) (before looked : Standing) (same : looked ≡ before) (told : may instruction) (few : turns ≤ most) (short : turns ≤ longest_slice) where
+  seen : (ended : Result TermReport TermFault) (after : Standing) → Slice sight instruction turns ended looked after → Slice sight instruction turns ended before after
+  seen ended after slice = subst (λ (it : Standing). Slice sight instruction turns ended it after) same slice
+
+  pub slice_more : (report total : TermReport) (ended : Result TermReport TermFault) (between after : Standing) → 0 < turns → Slice sight instruction turns (Ok report) looked between
+      → total ≡ both counted report → SlicesFrom may (most - turns) total ended between after → SlicesFrom may most counted ended before after
+  slice_more report total ended between after some slice is rest =
+      one_more most turns sight instruction counted report ended before between after told some few short (seen (Ok report) between slice)
+      (subst (λ (t : TermReport). SlicesFrom may (most - turns) t ended between after) is rest)
+
+  pub slice_breaks : (fault : TermFault) (after : Standing) → Slice sight instruction turns (Err fault) looked after → SlicesFrom may most counted (Err fault) before after
+  slice_breaks fault after slice = broken_off most turns sight instruction counted fault before after told few short (seen (Err fault) after slice)
+
+-- or none is left, or they end
 pub all_slices : (may : Instruction → Type 0) (most : ℕ) (counted : TermReport) (at : Standing) → most ≡ 0 → SlicesFrom may most counted (Ok counted) at at
 all_slices may most counted at none = subst (λ (n : ℕ). SlicesFrom may n counted (Ok counted) at at) (sym none) (all_taken counted at)
 
--- THE TURNS where links are managed
+pub slices_end : (may : Instruction → Type 0) (most : ℕ) (counted : TermReport) (before looked : Standing) → looked ≡ before → may Instruction.End → SlicesFrom may most counted (Ok counted) before looked
+slices_end may most counted before looked same told = subst (λ (it : Standing). SlicesFrom may most counted (Ok counted) before it) (sym same) (told_end most counted before told)
+
+-- THE TURNS where links are managed, and where they aren't
 pub managed_so : (managed : Option Managed) (it : Managed) (fails : Bool) (turns : ℕ) (ended : Result TermReport TermFault) (before after : Standing) → managed ≡ Some it → Slices turns ended before after → TurnsWhere managed fails turns ended before after
 managed_so None it fails turns ended before after is slices = absurd (cc is)
 managed_so (Some managed) it fails turns ended before after is slices = slices
+
+pub unmanaged_so : (managed : Option Managed) (fails is : Bool) (turns : ℕ) (ended : Result TermReport TermFault) (before after : Standing) → managed ≡ None → fails ≡ is → TurnsBy is turns ended before after → TurnsWhere managed fails turns ended before after
+unmanaged_so None fails is turns ended before after none same turned = subst (λ (b : Bool). TurnsBy b turns ended before after) (sym same) turned
+unmanaged_so (Some managed) fails is turns ended before after none same turned = absurd (cc none)
+
+-- this link is the one that is to fail
+pub fails_as : (fail : Option ℕ) (link : ℕ) → is_to_fail fail link ≡ option_eq nat_eq fail (Some link)
+fails_as None link = refl
+fails_as (Some number) link = refl

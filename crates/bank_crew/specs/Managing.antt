@@ -1,36 +1,43 @@
 -- WHAT LEVEL 3 ASKS of a set beside the turns of a link's terminal (Q.704 5.7, 6.4), among the entries of its seat.
-use Rattle.std.specs.Prelude.{◌==◌, ◌&&◌, ℕ, Bool, true, false, List, [], ◌∷◌, Option, None, Some, if◌then◌else◌}
+use Rattle.std.specs.Prelude.{◌==◌, ◌&&◌, ℕ, zero, suc, Bool, true, false, List, [], ◌∷◌, if◌then◌else◌}
 use Rattle.set_events.specs.declared.event.Event.{Event}
-use Rattle.set_events.specs.declared.event.Event.TheVariants.{BackTimeout, NoAnswer, Restore}
+use Rattle.set_events.specs.declared.event.Event.TheVariants.{BackTimeout, Down, NoAnswer, Restore}
 use Rattle.set_events.specs.declared.history.Entry.{Entry}
-use Rattle.bank_crew.specs.declared.plan.Managed.{Managed}
 
 abbrev pub is_question : ℕ → Event → Bool
 is_question link (Restore l) = l == link
 is_question link (NoAnswer l) = l == link
 is_question link (BackTimeout l) = l == link
+is_question link (Down l) = l == link
 is_question link event = false
 
--- A MARK tells who asked: 1 a turn of the terminal, 0 level 3
-abbrev pub is_mark : ℕ → Event → ℕ → Bool
-is_mark link event mark = if mark == 1 then true else (mark == 0) && is_question link event
+-- A MARK tells who asked: 0 level 3, 1 a turn of the terminal, 2 one by which a changeover order about the link had come late
+-- since the slice of turns began; 3 is of no entry, but of a slice at rest
+abbrev pub turns_mark : Bool → ℕ
+turns_mark late = if late then 2 else 1
+
+abbrev pub mark_of : Bool → Bool → ℕ
+mark_of of_turn late = if of_turn then turns_mark late else 0
 
 -- each entry has its mark
-abbrev pub are_marks : ℕ → List Entry → List ℕ → Bool
+abbrev pub are_marks : ℕ → List ℕ → List Entry → Bool
 are_marks link [] [] = true
-are_marks link [] (mark ∷ marks) = false
-are_marks link (entry ∷ entries) [] = false
-are_marks link (entry ∷ entries) (mark ∷ marks) =
-    is_mark link entry.event mark && are_marks link entries marks
+are_marks link [] (entry ∷ entries) = false
+are_marks link (zero ∷ marks) [] = false
+are_marks link (zero ∷ marks) (entry ∷ entries) = is_question link entry.event && are_marks link marks entries
+are_marks link (suc zero ∷ marks) [] = false
+are_marks link (suc zero ∷ marks) (entry ∷ entries) = are_marks link marks entries
+are_marks link (suc (suc zero) ∷ marks) [] = false
+are_marks link (suc (suc zero) ∷ marks) (entry ∷ entries) = are_marks link marks entries
+are_marks link (suc (suc (suc mark)) ∷ marks) entries = are_marks link marks entries
 
--- the entries that are marked as a turn's
-abbrev pub marked : List ℕ → List Entry → List Entry
-marked [] entries = []
-marked (mark ∷ marks) [] = []
-marked (mark ∷ marks) (entry ∷ entries) =
-    if mark == 1 then entry ∷ marked marks entries else marked marks entries
-
--- THE ENTRIES OF TURNS: all, but where links are managed
-abbrev pub of_turns : Option Managed → List ℕ → List Entry → List Entry
-of_turns None marks entries = entries
-of_turns (Some managed) marks entries = marked marks entries
+-- THE ENTRIES OF TURNS
+abbrev pub of_turns : List ℕ → List Entry → List Entry
+of_turns [] entries = []
+of_turns (zero ∷ marks) [] = []
+of_turns (zero ∷ marks) (entry ∷ entries) = of_turns marks entries
+of_turns (suc zero ∷ marks) [] = []
+of_turns (suc zero ∷ marks) (entry ∷ entries) = entry ∷ of_turns marks entries
+of_turns (suc (suc zero) ∷ marks) [] = []
+of_turns (suc (suc zero) ∷ marks) (entry ∷ entries) = entry ∷ of_turns marks entries
+of_turns (suc (suc (suc mark)) ∷ marks) entries = of_turns marks entries

@@ -1,5 +1,5 @@
 -- WHAT A TERMINAL DOES, turn by turn, as the entries that it leaves in the set's history.
-use Rattle.std.specs.Prelude.{◌≡◌, ◌==◌, ◌<◌, ◌≤◌, ◌+◌, ◌-◌, ◌/◌, ◌^◌, ℕ, suc, min, Bool, true, false, List, [], ◌∷◌, Option, None, Some, Result, Ok, Err, MatchResult}
+use Rattle.std.specs.Prelude.{◌≡◌, ◌==◌, ◌&&◌, ◌<◌, ◌≤◌, ◌+◌, ◌-◌, ◌/◌, ◌^◌, ℕ, suc, min, Bool, not, true, false, if◌then◌else◌, List, [], ◌∷◌, Option, None, Some, Result, Ok, Err, MatchResult}
 use Rattle.set_events.specs.declared.books.Books.{Books}
 use Rattle.set_events.specs.declared.event.Actor.{Actor}
 use Rattle.set_events.specs.declared.history.Entry.{Entry}
@@ -11,21 +11,23 @@ use Rattle.link_term.specs.declared.fault.TermFault.{TermFault}
 use Rattle.link_term.specs.Looking.{Seen}
 use Rattle.link_term.specs.Running.{Runs, RunFails}
 use Rattle.link_term.specs.Standing.{Standing, standing}
+use Rattle.link_term.specs.States.{is_out_of_service, state_of}
 use Rattle.bank_crew.specs.declared.manager.Instruction.{Instruction}
+use Rattle.bank_crew.specs.declared.manager.Sight.{Sight}
 use Rattle.bank_crew.specs.declared.plan.Managed.{Managed}
 use Rattle.bank_crew.specs.declared.plan.Plan.{Plan}
 use Rattle.bank_crew.specs.declared.report.ShiftReport.{ShiftReport}
 use Rattle.bank_crew.specs.Carrying.{carried_in}
 use Rattle.bank_crew.specs.Counts.{answered_in, reported}
 use Rattle.bank_crew.specs.declared.questions.Awaited.{Awaited}
-use Rattle.bank_crew.specs.Awaiting.{AsksWhere}
+use Rattle.bank_crew.specs.Awaiting.{AsksFrom}
 use Rattle.bank_crew.specs.Managing.{are_marks, of_turns}
 use Rattle.line_tape.specs.Taping.{IsTape}
 use Rattle.bank_crew.specs.Seats.{AreCalls}
 
--- SO MANY TURNS, or fewer, where a fault broke them off
-abbrev pub Turns : ℕ → Result TermReport TermFault → Standing → Standing → Type 0
-Turns turns told before after = MatchResult told
+-- SO MANY TURNS of one run, or fewer, where a fault broke them off
+abbrev pub RunTurns : ℕ → Result TermReport TermFault → Standing → Standing → Type 0
+RunTurns turns told before after = MatchResult told
     (λ report. Runs turns before report after) (λ fault. RunFails fault turns before after)
 
 -- what two runs counted together; the second one knows why the link failed last
@@ -46,56 +48,47 @@ abbrev pub with_first : TermReport → Result TermReport TermFault → Result Te
 with_first first (Ok second) = Ok (both first second)
 with_first first (Err fault) = Err fault
 
-abbrev pub commanded : Standing → Standing
-commanded t = record t { inside = told Stop t.inside }
+-- WHAT IS ORDERED of a terminal between two slices of its turns. A changeover order about the link that came late goes before
+-- what is instructed, unless the terminal is out of service (own): the far end has left a life to which this end may still be
+-- coming up. And a link is started only where its set has settled it.
+abbrev pub is_out : Terminal → Bool
+is_out t = is_out_of_service (state_of t)
 
--- the rest of the turns, after Stop
-abbrev pub AfterHalf : ℕ → Result TermReport TermFault → Result TermReport TermFault → Standing → Standing → Type 0
-AfterHalf turns (Ok first) ended before after =
-    (second : Result TermReport TermFault) × Turns (turns - turns / 2) second (commanded before) after
-    × (ended ≡ with_first first second)
-AfterHalf turns (Err fault) ended before after = (ended ≡ Err fault) × (after ≡ before)
+abbrev pub started : Bool → Terminal → Terminal
+started true t = told Start (told Emergency t)
+started false t = t
 
--- half of the turns, Stop, and the rest of them
-abbrev pub Halves : ℕ → Result TermReport TermFault → Standing → Standing → Type 0
-Halves turns ended before after =
-    (first : Result TermReport TermFault) × (between : Standing) × Turns (turns / 2) first before between
-    × AfterHalf turns first ended between after
+abbrev pub instructed : Sight → Instruction → Terminal → Terminal
+instructed sight Instruction.Run t = t
+instructed sight Instruction.Start t = started sight.settled t
+instructed sight Instruction.Stop t = told Stop t
+instructed sight Instruction.End t = t
 
--- THE TURNS OF A PLAN: all at once, but where this link is the one that is to fail
-abbrev pub is_to_fail : Option ℕ → ℕ → Bool
-is_to_fail None link = false
-is_to_fail (Some number) link = number == link
+abbrev pub ordered : Sight → Instruction → Terminal → Terminal
+ordered sight instruction t = if sight.late && not (is_out t) then told Stop t else instructed sight instruction t
 
-abbrev pub TurnsBy : Bool → ℕ → Result TermReport TermFault → Standing → Standing → Type 0
-TurnsBy true = Halves
-TurnsBy false = Turns
+abbrev pub standing_told : (Terminal → Terminal) → Standing → Standing
+standing_told orders t = record t { inside = orders t.inside }
 
--- WHAT IS ORDERED of a terminal between two slices of its turns
-abbrev pub told_by : Instruction → Terminal → Terminal
-told_by Instruction.Run t = t
-told_by Instruction.Start t = told Start (told Emergency t)
-told_by Instruction.Stop t = told Stop t
-told_by Instruction.End t = t
+-- A SLICE: so many turns, behind what was seen and instructed
+abbrev pub Slice : Sight → Instruction → ℕ → Result TermReport TermFault → Standing → Standing → Type 0
+Slice sight instruction turns ended before after = RunTurns turns ended (standing_told (ordered sight instruction) before) after
 
-abbrev pub instructed : Instruction → Standing → Standing
-instructed instruction t = record t { inside = told_by instruction t.inside }
+-- slices one after another, each of 1 to 256 turns, behind what was seen before it and what may be instructed; what they
+-- counted is added to what was counted before, up to the first that a fault broke off. They end behind End, or when so many
+-- turns were taken
+abbrev pub longest_slice : ℕ
+longest_slice = 256
 
--- A SLICE: so many turns, behind an order
-abbrev pub Slice : Instruction → ℕ → Result TermReport TermFault → Standing → Standing → Type 0
-Slice instruction turns ended before after = Turns turns ended (instructed instruction before) after
-
--- slices one after another, each of at least one turn and behind what may be instructed; what they counted is added to
--- what was counted before, up to the first that a fault broke off. They end behind End, or when so many turns were taken
 pub data SlicesFrom (may : Instruction → Type 0) : ℕ → TermReport → Result TermReport TermFault → Standing → Standing → Type 0 where
   all_taken : (counted : TermReport) (at : Standing) → SlicesFrom may 0 counted (Ok counted) at at
   told_end : (most : ℕ) (counted : TermReport) (at : Standing) → may Instruction.End → SlicesFrom may most counted (Ok counted) at at
-  broken_off : (most turns : ℕ) (instruction : Instruction) (counted : TermReport) (fault : TermFault) (before after : Standing)
-      → may instruction → turns ≤ most → Slice instruction turns (Err fault) before after
-      → SlicesFrom may most counted (Err fault) before after
-  one_more : (most turns : ℕ) (instruction : Instruction) (counted report : TermReport) (ended : Result TermReport TermFault)
-      (before between after : Standing) → may instruction → 0 < turns → turns ≤ most
-      → Slice instruction turns (Ok report) before between
+  broken_off : (most turns : ℕ) (sight : Sight) (instruction : Instruction) (counted : TermReport) (fault : TermFault)
+      (before after : Standing) → may instruction → turns ≤ most → turns ≤ longest_slice
+      → Slice sight instruction turns (Err fault) before after → SlicesFrom may most counted (Err fault) before after
+  one_more : (most turns : ℕ) (sight : Sight) (instruction : Instruction) (counted report : TermReport)
+      (ended : Result TermReport TermFault) (before between after : Standing) → may instruction → 0 < turns → turns ≤ most
+      → turns ≤ longest_slice → Slice sight instruction turns (Ok report) before between
       → SlicesFrom may (most - turns) (both counted report) ended between after → SlicesFrom may most counted ended before after
 
 abbrev pub no_turns : TermReport
@@ -105,11 +98,37 @@ no_turns = record { turns = 0; sent = 0; good = 0; bad = 0; sixteen = 0; cause =
 abbrev pub SlicesBy : (Instruction → Type 0) → ℕ → Result TermReport TermFault → Standing → Standing → Type 0
 SlicesBy may turns = SlicesFrom may turns no_turns
 
--- and behind whatever was: nothing is promised of who manages links
+-- ALL TURNS, where nothing is instructed
+abbrev pub Turns : ℕ → Result TermReport TermFault → Standing → Standing → Type 0
+Turns = SlicesBy (λ instruction. instruction ≡ Instruction.Run)
+
+-- the rest of the turns, after Stop
+abbrev pub AfterHalf : ℕ → Result TermReport TermFault → Result TermReport TermFault → Standing → Standing → Type 0
+AfterHalf turns (Ok first) ended before after =
+    (second : Result TermReport TermFault) × Turns (turns - turns / 2) second (standing_told (told Stop) before) after
+    × (ended ≡ with_first first second)
+AfterHalf turns (Err fault) ended before after = (ended ≡ Err fault) × (after ≡ before)
+
+-- half of the turns, Stop, and the rest of them
+abbrev pub Halves : ℕ → Result TermReport TermFault → Standing → Standing → Type 0
+Halves turns ended before after =
+    (first : Result TermReport TermFault) × (between : Standing) × Turns (turns / 2) first before between
+    × AfterHalf turns first ended between after
+
+-- THE TURNS OF A PLAN whose links aren't managed: all, but where this link is the one that is to fail
+abbrev pub is_to_fail : Option ℕ → ℕ → Bool
+is_to_fail None link = false
+is_to_fail (Some number) link = number == link
+
+abbrev pub TurnsBy : Bool → ℕ → Result TermReport TermFault → Standing → Standing → Type 0
+TurnsBy true = Halves
+TurnsBy false = Turns
+
+-- where they are, behind whatever was instructed: nothing is promised of who manages links
 abbrev pub Slices : ℕ → Result TermReport TermFault → Standing → Standing → Type 0
 Slices = SlicesBy (λ instruction. Unit {0})
 
--- THE TURNS OF A SHIFT: by slices where links are managed
+-- THE TURNS OF A SHIFT
 abbrev pub TurnsWhere : Option Managed → Bool → ℕ → Result TermReport TermFault → Standing → Standing → Type 0
 TurnsWhere None fails turns = TurnsBy fails turns
 TurnsWhere (Some managed) fails turns = Slices turns
@@ -121,19 +140,19 @@ TurnsOf plan link = TurnsWhere plan.managed (is_to_fail plan.fail link) plan.tur
 abbrev pub fresh : ℕ → Timers → Seen → Standing
 fresh link timers line = standing [] (told Start (told Emergency (opened link timers))) [] [] line
 
--- A SHIFT: the turns of the plan over some line left these entries, or, where links are managed, those of them that level
--- 3 didn't ask for, and it asked each of its own when it was due, whatever is awaited after; what is reported of both; and
--- the tape of what they put into the line, of which nothing was put before
+-- A SHIFT: the turns of the plan over some line left these entries, but those that level 3 asked for, and it asked each of
+-- its own when it was due, whatever is awaited after; what is reported of both; and the tape of what they put into the line, of
+-- which nothing was put before
 pub record DoesShift (plan : Plan) (link : ℕ) (ended : Result ShiftReport TermFault) (made : List Entry) : Type 0 where
   pub line : Seen
   pub after : Standing
   pub counts : Result TermReport TermFault
   pub turns : TurnsOf plan link counts (fresh link plan.timers line) after
   pub marks : List ℕ
-  pub marks_are : are_marks link made marks ≡ true
+  pub marks_are : are_marks link marks made ≡ true
   pub awaited : Awaited
-  pub asks : AsksWhere plan.managed link made marks awaited
-  pub made_is : of_turns plan.managed marks made ≡ after.made
+  pub asks : AsksFrom plan.managed link marks made awaited
+  pub made_is : of_turns marks made ≡ after.made
   pub none_put : line.put ≡ []
   pub tape : Option (List ℕ)
   pub tape_is : IsTape plan.keeps tape after.line.put

@@ -1,10 +1,10 @@
 //! A seat with all that was asked at it, of which it may forget some.
-ghost use Rattle.std.specs.Prelude.{◌≡◌, ◌<◌, ◌^◌, [], ◌∷◌, ◌++◌, length, OnOk, OnErr};
+ghost use Rattle.std.specs.Prelude.{◌≡◌, ◌<◌, ◌^◌, [], ◌∷◌, ◌++◌, length, IfOk, OnOk, OnErr};
 ghost use Rattle.set_events.specs.Lent.{HasFitUnit, event_in};
 ghost use Rattle.set_events.specs.Owners.{IsOwn};
 ghost use Rattle.set_events.specs.declared.event.Actor.TheVariants.{User, Terminal};
 ghost use Rattle.set_events.specs.declared.event.Event.TheVariants.{Offer, Take, Find};
-ghost use Rattle.set_shared.specs.Asking.{IsFull};
+ghost use Rattle.set_shared.specs.Asking.{IsAnsweredWith, IsFull};
 ghost use Rattle.bank_crew.specs.Jobs.{Calls};
 ghost use Rattle.bank_crew.specs.Seats.{AreAll};
 
@@ -175,7 +175,8 @@ impl<O: Opening> Caller<O, TermSeat<O>> {
         self.seat.link()
     }
 
-    /// One step on the terminal's own link, whose answer is put into the reply; `held` is called once the lock is had.
+    /// One step on the terminal's own link, whose answer is put into the reply; `held` is called once the lock is had. It tells
+    /// how many changeover orders about the link had come late by then.
     pub(crate) fn step<R: Wait, F: FnOnce()>(
         &mut self,
         rt: &R,
@@ -183,13 +184,14 @@ impl<O: Opening> Caller<O, TermSeat<O>> {
         event: &EventRef<'_>,
         reply: &mut Reply,
         held: F,
-    ) -> Result<(), SetFault>
+    ) -> Result<u32, SetFault>
         requires own { IsOwn self.old.seat.who (event_in event.now) }
         requires fits { HasFitUnit event.now }
         requires callable { F.IsAlwaysCallable held }
         ensures who { self.new.seat.who ≡ self.old.seat.who }
         ensures ok { OnOk result (self.new.all ≡ self.old.all
             ++ record { who = self.old.seat.who; event = event_in event.now; answer = reply.new } ∷ []) }
+        ensures late { IfOk result (IsAnsweredWith O.settings self.old.seat.who (event_in event.now) reply.new) }
         ensures err { OnErr result (self.new.all ≡ self.old.all) }
         ensures exhausted { result ≡ Err SetFault.Exhausted → IsFull O.settings }
     {

@@ -39,7 +39,7 @@ pub use carried::Carried;
 pub use crew::{ask_for_stack, why_unstarted};
 pub use end::SetEnd;
 pub use fault::{CrewFault, UserFault};
-pub use manager::{Instruction, LinkManager};
+pub use manager::{Instruction, LinkManager, Sight};
 pub use plan::{Job, Managed, Plan};
 pub use report::{Answered, ShiftReport, UserReport};
 pub use seat_door::SeatDoor;

@@ -10,12 +10,24 @@ use set_events::{AnswerRef, Counts, EventRef};
 pub enum Instruction {
     /// Nothing.
     Run,
-    /// To come up in an emergency, if it's out of service.
+    /// To come up in an emergency, if it's out of service and its set has settled it.
     Start,
     /// To go out of service.
     Stop,
     /// That it takes no more turns.
     End,
+}
+
+/// What the terminal of a link sees of its set before a slice of turns.
+#[derive(Clone, Copy, Debug, PartialEq, Eq)]
+pub struct Sight {
+    /// How many messages of users stand in each place.
+    pub counts: Counts,
+    /// The link is settled, as one is that never was up: it may be started (Q.704 5).
+    pub settled: bool,
+    /// A changeover order about the link came late, since the terminal looked last: the far end has left a life to which this
+    /// end may be coming up, so the terminal is stopped, unless it's out of service (own).
+    pub late: bool,
 }
 
 /// Who manages the links of sets (Q.704 12), and holds their users up, where a plan has its links managed. It's told what
@@ -27,8 +39,9 @@ pub trait LinkManager: Gate {
     /// The set gave this answer to the terminal of this link.
     fn answered(&self, set: u16, link: u8, event: &EventRef<'_>, answer: &AnswerRef<'_>);
 
-    /// What the terminal of this link is told now, when so many of its set's messages stand in each place.
-    fn instruct(&self, set: u16, link: u8, counts: &Counts) -> Instruction;
+    /// What the terminal of this link is told now, when it sees this. It isn't told so where it's stopped for an order that
+    /// came late.
+    fn instruct(&self, set: u16, link: u8, sight: &Sight) -> Instruction;
 
     /// The terminal of this link takes no more turns.
     fn ended(&self, set: u16, link: u8);
@@ -42,7 +55,7 @@ impl LinkManager for OpenGate {
 
     fn answered(&self, _set: u16, _link: u8, _event: &EventRef<'_>, _answer: &AnswerRef<'_>) {}
 
-    fn instruct(&self, _set: u16, _link: u8, _counts: &Counts) -> Instruction {
+    fn instruct(&self, _set: u16, _link: u8, _sight: &Sight) -> Instruction {
         Instruction::Run
     }
 
@@ -61,7 +74,7 @@ pub(crate) trait SetManager {
     ghost lets: { Self → ℕ → Type 0 };
 
     /// What the terminal of this link is told now.
-    fn instruct(&self, link: u8, counts: &Counts) -> Instruction
+    fn instruct(&self, link: u8, sight: &Sight) -> Instruction
         ensures { may self.now link result };
 
     /// Whether this user is to wait yet.
@@ -74,8 +87,8 @@ impl<G: LinkManager> SetManager for Assignment<G> {
 
     ghost lets = { λ assignment user. Unit {0} };
 
-    fn instruct(&self, link: u8, counts: &Counts) -> Instruction {
-        self.gate.instruct(self.set, link, counts)
+    fn instruct(&self, link: u8, sight: &Sight) -> Instruction {
+        self.gate.instruct(self.set, link, sight)
     }
 
     fn holds_up(&self, user: u16) -> bool {

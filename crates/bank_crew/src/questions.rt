@@ -1,22 +1,25 @@
-//! What level 3 asks of a set when time has passed, counted by what a link's terminal asks (Q.704 5.7, 6.4).
-ghost use Rattle.std.specs.Prelude.{◌≡◌, true, IfSome, option_map};
+//! What level 3 asks of a set when time has passed (Q.704 5.7, 6.4), and where a link came up too late (own).
+ghost use Rattle.std.specs.Prelude.{◌≡◌, true, IfSome, is_some, option_map, if◌then◌else◌};
 ghost use Rattle.set_events.specs.Lent.{HasFitUnit, answer_in, event_in};
-ghost use Rattle.set_events.specs.declared.event.Event.TheVariants.{Up};
-ghost use Rattle.bank_crew.specs.Awaiting.{asked_behind, awaited_behind, awaited_by, is_unsettled};
+ghost use Rattle.bank_crew.specs.Awaiting.{asked_at_rest, asked_behind, asked_late, awaited_behind, awaited_by, rested};
 ghost use Rattle.bank_crew.specs.Managing.{is_question};
 
-use super::report::{tells_up, was_done};
-use set_events::{AnswerRef, EventRef, Refusal};
+use super::plan::Managed;
+use super::report::{counts_up, tells_up};
+use set_events::{AnswerRef, EventRef};
 
-/// After so many asks of a link's terminal the answer to an order about it is waited for no more. At 64 kbit/s 4,096 FISUs
-/// take 3 s, so it's 3 s for a changeover, and 1.5 s for a changeback where FISUs come in, too.
+/// After so many asks of a link's terminal the answer to a changeback order is waited for no more. At 64 kbit/s 4,096 FISUs
+/// take 3 s, so it's 1.5 s where FISUs come in, too.
 const PATIENCE: u32 = 4_096;
+
+/// After so many slices of 256 turns at rest the answer to a changeover order is waited for no more: 3 s at 64 kbit/s.
+const LONGEST_REST: u32 = 96;
 
 /// What is waited for.
 #[derive(Clone, Copy, Debug, Drop, PartialEq, Eq)]
 pub(crate) struct Awaited {
-    /// How often the set refused an Up of the link, since it isn't settled what the far end has.
-    refused: u32,
+    /// How many slices of turns the terminal rested, since it isn't settled what the far end has.
+    rests: u32,
     /// How often the terminal asked, Ups left out, since streams were asked back to the link; `None` where they weren't.
     asks: Option<u32>,
 }
@@ -24,56 +27,79 @@ pub(crate) struct Awaited {
 impl Awaited {
     /// Nothing.
     pub(crate) const NOTHING: Awaited = Awaited {
-        refused: 0,
+        rests: 0,
         asks: None,
     };
 
-    /// What is asked behind this answer to an event of the terminal: streams are asked back to a link that came up
-    /// (Q.704 6.2); that no answer came to its changeover (5.7.2), or to its changeback (6.4), after a while.
+    /// What is asked behind this answer to an event of the terminal: a link that came up too late is down at once, whether
+    /// links are managed or not; where they are, streams are asked back to one that came up (Q.704 6.2), and that no answer came
+    /// to its changeback (6.4), after a while.
     pub(crate) fn question(
         &mut self,
+        managed: Option<Managed>,
+        link: u8,
+        event: &EventRef<'_>,
+        answer: &AnswerRef<'_>,
+        late: bool,
+    ) -> Option<EventRef<'static>>
+        ensures awaited { self.new ≡ awaited_behind link (event_in event.now) (answer_in answer.now) self.old }
+        ensures asked { option_map event_in result
+            ≡ asked_late late managed link (event_in event.now) (answer_in answer.now) self.old }
+        ensures question { IfSome result (λ question.
+            (is_question link (event_in question) ≡ true) × HasFitUnit question) }
+    {
+        let rises_late = late && counts_up(link, event, answer);
+        let asked = self.managed_question(managed, link, event, answer);
+        if rises_late {
+            return Some(EventRef::Down { link });
+        }
+        asked
+    }
+
+    /// What is asked behind it where nothing came late.
+    fn managed_question(
+        &mut self,
+        managed: Option<Managed>,
         link: u8,
         event: &EventRef<'_>,
         answer: &AnswerRef<'_>,
     ) -> Option<EventRef<'static>>
         ensures awaited { self.new ≡ awaited_behind link (event_in event.now) (answer_in answer.now) self.old }
         ensures asked { option_map event_in result
-            ≡ asked_behind link (event_in event.now) (answer_in answer.now) self.old }
+            ≡ asked_behind managed link (event_in event.now) (answer_in answer.now) self.old }
         ensures question { IfSome result (λ question.
             (is_question link (event_in question) ≡ true) × HasFitUnit question) }
     {
+        if counts_up(link, event, answer) {
+            *self = Awaited::NOTHING;
+            return where_managed(managed, EventRef::Restore { link });
+        }
         if tells_up(link, event) {
-            return self.behind_up(link, answer);
+            return None;
         }
         let asks = self.asks?;
-        self.asks = Some(asks.saturating_add(1));
         if asks < PATIENCE {
+            self.asks = Some(asks + 1);
             return None;
         }
         self.asks = None;
-        Some(EventRef::BackTimeout { link })
+        where_managed(managed, EventRef::BackTimeout { link })
     }
 
-    /// What is asked behind this answer to an Up of the link.
-    fn behind_up(&mut self, link: u8, answer: &AnswerRef<'_>) -> Option<EventRef<'static>>
-        ensures awaited { self.new ≡ awaited_behind link (Up link) (answer_in answer.now) self.old }
-        ensures asked { option_map event_in result ≡ asked_behind link (Up link) (answer_in answer.now) self.old }
+    /// The terminal rests for a slice of turns more: what is asked then where links are managed, that no answer came to the
+    /// link's changeover, after a while (Q.704 5.7.2).
+    pub(crate) fn rest(&mut self, managed: Option<Managed>, link: u8) -> Option<EventRef<'static>>
+        ensures awaited { self.new ≡ rested self.old }
+        ensures asked { option_map event_in result ≡ asked_at_rest managed link self.old }
         ensures question { IfSome result (λ question.
             (is_question link (event_in question) ≡ true) × HasFitUnit question) }
     {
-        if was_done(answer) {
-            *self = Awaited::NOTHING;
-            return Some(EventRef::Restore { link });
-        }
-        if !is_unsettled(answer) {
+        self.rests = self.rests.saturating_add(1);
+        if self.rests < LONGEST_REST {
             return None;
         }
-        self.refused = self.refused.saturating_add(1);
-        if self.refused < PATIENCE {
-            return None;
-        }
-        self.refused = 0;
-        Some(EventRef::NoAnswer { link })
+        self.rests = 0;
+        where_managed(managed, EventRef::NoAnswer { link })
     }
 
     /// The set gave this answer to a question.
@@ -86,14 +112,12 @@ impl Awaited {
     }
 }
 
-/// Whether the set refused, since it isn't settled what the far end has.
-fn is_unsettled(answer: &AnswerRef<'_>) -> bool
-    ensures { result ≡ is_unsettled (answer_in answer.now) }
+/// A question that is asked only where links are managed.
+fn where_managed(managed: Option<Managed>, question: EventRef<'static>) -> Option<EventRef<'static>>
+    ensures { option_map event_in result ≡ (if is_some managed then Some (event_in question.entry) else None) }
 {
-    matches!(
-        answer,
-        AnswerRef::Refused {
-            why: Refusal::Unsettled
-        }
-    )
+    match managed {
+        Some(_) => Some(question),
+        None => None,
+    }
 }

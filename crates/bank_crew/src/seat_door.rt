@@ -1,21 +1,24 @@
 //! The door of a set that threads share.
-ghost use Rattle.std.specs.Prelude.{◌≡◌, true, [], ◌∷◌, ◌++◌, IsSome, OnOk, OnErr};
+ghost use Rattle.std.specs.Prelude.{◌≡◌, ◌==◌, ℕ, true, not, false, [], ◌∷◌, ◌++◌, IfOk, IsSome, OnOk, OnErr};
 ghost use Rattle.set_events.specs.Lent.{HasFitUnit, answer_in, event_in};
 ghost use Rattle.set_events.specs.Owners.{IsOwn};
 ghost use Rattle.bank_crew.specs.Carrying.{carried_in};
 ghost use Rattle.bank_crew.specs.Counts.{answered_in};
 ghost use Rattle.bank_crew.specs.Awaiting.{nothing};
-ghost use Rattle.bank_crew.specs.Doors.{Asked, Follows, IsMarked, IsRefused, Unasked};
-ghost use Rattle.bank_crew.specs.Managing.{is_mark, is_question, of_turns};
+ghost use Rattle.bank_crew.specs.Doors.{Asked, AskedDue, Follows, IsMarked, IsRefused, IsRestRefused, Rests, Unasked, sight_of};
+ghost use Rattle.bank_crew.specs.Managing.{is_question, mark_of, of_turns};
 ghost use Rattle.bank_crew.specs.Seats.{AreAll, link_in};
+ghost use Rattle.set_shared.specs.Asking.{IsAnsweredWith, IsSeen};
+ghost use Rattle.set_shared.specs.declared.link_set.LinkNow.{LinkNow};
 
 use super::caller::Caller;
 use super::carried::{Carried, NOTHING_CARRIED};
-use super::manager::LinkManager;
+use super::manager::{LinkManager, Sight};
 use super::pauses::Pauses;
 use super::plan::Managed;
 use super::questions::Awaited;
 use super::report::{Answered, NOTHING};
+use super::slices::SliceDoor;
 use line_ring::Past;
 use link_term::{Door, Faults};
 use set_events::{AnswerRef, EventRef, Reply, SetFault};
@@ -26,8 +29,9 @@ use std::sync::Wait;
 
 /// A terminal's own seat at a set that threads share. Each step takes the set's lock, passes the gate's `inside`
 /// under it, and leaves its entry among the seat's receipts. Those are all that this door made, but for what the seat
-/// forgot, and for what level 3 asks between two steps where links are managed: that streams come back to a link that came
-/// up, and that an answer didn't come, each when it's due and only then. The lock may be waited for.
+/// forgot, and for what level 3 asks between two steps, each when it's due and only then: that a link is down that came up into a
+/// life which the far end has left; and where links are managed, that streams come back to a link that came up, and that an
+/// answer didn't come. The lock may be waited for.
 #[derive(Drop)]
 pub struct SeatDoor<'a, O: Opening, R: Wait, G: LinkManager> {
     rt: &'a R,
@@ -37,7 +41,9 @@ pub struct SeatDoor<'a, O: Opening, R: Wait, G: LinkManager> {
     gate: &'a G,
     managed: Option<Managed>,
     awaited: Awaited,
-    /// Of each entry whose it is, for contracts alone.
+    /// How many changeover orders about the link had come late when the terminal looked last.
+    noted: u32,
+    /// Of each entry whose it is, and of each slice at rest, for contracts alone.
     marks: Past,
     faults: Faults,
     answered: Answered,
@@ -52,9 +58,9 @@ impl<'a, O: Opening, R: Wait, G: LinkManager> Model for SeatDoor<'a, O, R, G> {
 
     ghost use Rattle.bank_crew.specs.Doors.{IsCounted, door_state};
 
-    ghost view = { λ d. door_state d.caller d.marks d.faults d.managed d.awaited };
+    ghost view = { λ d. door_state d.caller d.marks d.faults d.managed d.awaited d.noted };
 
-    ghost invariant = { λ d. IsCounted (door_state d.caller d.marks d.faults d.managed d.awaited) d.answered d.carried };
+    ghost invariant = { λ d. IsCounted (door_state d.caller d.marks d.faults d.managed d.awaited d.noted) d.answered d.carried };
 }
 
 impl<'a, O: Opening, R: Wait, G: LinkManager> SeatDoor<'a, O, R, G> {
@@ -88,6 +94,7 @@ impl<'a, O: Opening, R: Wait, G: LinkManager> SeatDoor<'a, O, R, G> {
             gate,
             managed,
             awaited: Awaited::NOTHING,
+            noted: 0,
             marks: Past::new(),
             faults: Faults::new(),
             answered: NOTHING,
@@ -119,14 +126,24 @@ impl<'a, O: Opening, R: Wait, G: LinkManager> SeatDoor<'a, O, R, G> {
         self.caller.into_seat()
     }
 
-    /// One step, which this mark tells: its answer is put into the reply.
-    fn ask(&mut self, event: &EventRef<'_>, reply: &mut Reply, mark: u8) -> Result<(), SetFault>
+    /// One step, of a turn or of level 3: its answer is put into the reply. It tells whether a changeover order about the link had
+    /// come late since the terminal looked last.
+    fn ask(
+        &mut self,
+        event: &EventRef<'_>,
+        reply: &mut Reply,
+        of_turn: bool,
+    ) -> Result<bool, SetFault>
         requires own { IsOwn self.old.seat.who (event_in event.now) }
         requires fits { HasFitUnit event.now }
-        requires mark { is_mark (link_in self.old.seat.who) (event_in event.now) mark ≡ true }
-        ensures ok { OnOk result ((self.new.all ≡ self.old.all
-            ++ record { who = self.old.seat.who; event = event_in event.now; answer = reply.new } ∷ [])
-            × (self.new.marks ≡ self.old.marks ++ mark ∷ [])) }
+        requires question { of_turn ≡ false → is_question (link_in self.old.seat.who) (event_in event.now) ≡ true }
+        ensures ok { OnOk result (self.new.all ≡ self.old.all
+            ++ record { who = self.old.seat.who; event = event_in event.now; answer = reply.new } ∷ []) }
+        ensures marks { IfOk result (λ late. self.new.marks ≡ self.old.marks
+            ++ mark_of of_turn late ∷ []) }
+        ensures late { IfOk result (λ late. (orders : ℕ)
+            × IsAnsweredWith O.settings self.old.seat.who (event_in event.now) reply.new orders
+            × (late ≡ not (orders == self.old.noted))) }
         ensures err { OnErr result ((self.new.all ≡ self.old.all)
             × (self.new.marks ≡ self.old.marks)) }
         ensures who { self.new.seat.who ≡ self.old.seat.who }
@@ -137,65 +154,108 @@ impl<'a, O: Opening, R: Wait, G: LinkManager> SeatDoor<'a, O, R, G> {
         let link = self.caller.link();
         let (set, gate) = (self.number, self.gate);
         let inside = || gate.inside(set, link);
-        self.caller.step(self.rt, self.set, event, reply, inside)?;
+        let orders = self.caller.step(self.rt, self.set, event, reply, inside)?;
+        let late = orders != self.noted;
         let answer = reply.get();
         // each that is counted is a call
         self.caller.count();
-        self.marks.note(mark);
+        self.marks.note(mark_of(of_turn, late));
         self.answered = self.answered.with(link, event, &answer);
         self.carried = self.carried.with(self.managed, link, event, &answer);
-        Ok(())
+        Ok(late)
     }
 
     /// Level 3 hears this answer, and asks what is due behind it, unless memory is refused to that.
-    fn follow(&mut self, event: &EventRef<'_>, answer: &AnswerRef<'_>) -> Result<(), SetFault>
-        ensures ok { OnOk result (Follows self.old.managed (event_in event.now) (answer_in answer.now)
-            self.old self.new) }
-        ensures err { OnErr result (IsRefused self.old.managed (event_in event.now) (answer_in answer.now)
-            self.old self.new) }
-        ensures made { of_turns self.new.managed self.new.marks self.new.all
-            ≡ of_turns self.old.managed self.old.marks self.old.all }
+    fn follow(
+        &mut self,
+        event: &EventRef<'_>,
+        answer: &AnswerRef<'_>,
+        late: bool,
+    ) -> Result<(), SetFault>
+        ensures ok { OnOk result (Follows late (event_in event.now) (answer_in answer.now) self.old self.new) }
+        ensures err { OnErr result (IsRefused late (event_in event.now) (answer_in answer.now) self.old self.new) }
+        ensures made { of_turns self.new.marks self.new.all ≡ of_turns self.old.marks self.old.all }
         ensures who { self.new.seat.who ≡ self.old.seat.who }
         ensures faults { self.new.faults ≡ self.old.faults }
         ensures managed { self.new.managed ≡ self.old.managed }
     {
-        let Some(_) = self.managed else {
-            return Ok(());
-        };
         let link = self.caller.link();
-        self.gate.answered(self.number, link, event, answer);
-        let Some(question) = self.awaited.question(link, event, answer) else {
-            return Ok(());
-        };
-        self.ask_more(&question)
+        self.tell(event, answer);
+        let asked = self
+            .awaited
+            .question(self.managed, link, event, answer, late);
+        match asked {
+            Some(question) => self.ask_more(&question),
+            None => Ok(()),
+        }
+    }
+
+    /// Whoever manages links hears this answer.
+    fn tell(&self, event: &EventRef<'_>, answer: &AnswerRef<'_>) {
+        if let Some(_) = self.managed {
+            self.gate
+                .answered(self.number, self.caller.link(), event, answer);
+        }
     }
 
     /// Asks what level 3 asks of its own. That is seldom, so the answer's place is made for it, in this function's own
     /// frame.
     #[inline(never)]
     fn ask_more(&mut self, question: &EventRef<'_>) -> Result<(), SetFault>
-        requires managed { IsSome self.old.managed }
         requires question { is_question (link_in self.old.seat.who) (event_in question.now) ≡ true }
         requires fits { HasFitUnit question.now }
         ensures asked { OnOk result (Asked (event_in question.now) self.old self.new) }
         ensures unasked { OnErr result (Unasked self.old self.new) }
-        ensures made { of_turns self.new.managed self.new.marks self.new.all
-            ≡ of_turns self.old.managed self.old.marks self.old.all }
+        ensures made { of_turns self.new.marks self.new.all ≡ of_turns self.old.marks self.old.all }
         ensures who { self.new.seat.who ≡ self.old.seat.who }
         ensures faults { self.new.faults ≡ self.old.faults }
         ensures managed { self.new.managed ≡ self.old.managed }
     {
-        let link = self.caller.link();
+        // it's the seat of that link still
+        self.caller.link();
         let mut reply = Reply::new();
-        match self.ask(question, &mut reply, 0) {
-            Ok(()) => {
+        match self.ask(question, &mut reply, false) {
+            Ok(_late) => {
                 let answer = reply.get();
-                self.gate.answered(self.number, link, question, &answer);
+                self.tell(question, &answer);
                 self.awaited.hear(question, &answer);
                 Ok(())
             }
             Err(fault) => Err(fault),
         }
+    }
+
+    /// A slice at rest: level 3 asks what is due then, unless memory is refused to that.
+    fn rest(&mut self) -> Result<(), SetFault>
+        ensures ok { OnOk result (Rests self.old self.new) }
+        ensures err { OnErr result (IsRestRefused self.old self.new) }
+        ensures made { of_turns self.new.marks self.new.all ≡ of_turns self.old.marks self.old.all }
+        ensures who { self.new.seat.who ≡ self.old.seat.who }
+        ensures faults { self.new.faults ≡ self.old.faults }
+        ensures managed { self.new.managed ≡ self.old.managed }
+    {
+        let link = self.caller.link();
+        self.marks.note(AT_REST);
+        match self.awaited.rest(self.managed, link) {
+            Some(question) => self.ask_more(&question),
+            None => Ok(()),
+        }
+    }
+}
+
+/// The mark of a slice at rest.
+const AT_REST: u8 = 3;
+
+/// The mark of an entry.
+fn mark_of(of_turn: bool, late: bool) -> u8
+    ensures { result ≡ mark_of of_turn late }
+{
+    if !of_turn {
+        0
+    } else if late {
+        2
+    } else {
+        1
     }
 }
 
@@ -208,7 +268,7 @@ impl<'a, O: Opening, R: Wait, G: LinkManager> Door for SeatDoor<'a, O, R, G> {
 
     ghost number = { λ door. link_in door.seat.who };
 
-    ghost made = { λ door. of_turns door.managed door.marks door.all };
+    ghost made = { λ door. of_turns door.marks door.all };
 
     ghost faults = { λ door. door.faults };
 
@@ -225,10 +285,10 @@ impl<'a, O: Opening, R: Wait, G: LinkManager> Door for SeatDoor<'a, O, R, G> {
     fn step(&mut self, event: &EventRef<'_>, reply: &mut Reply) -> Result<(), SetFault> {
         // it's the seat of that link still
         self.caller.link();
-        match self.ask(event, reply, 1) {
-            Ok(()) => {
+        match self.ask(event, reply, true) {
+            Ok(late) => {
                 // it's no matter that memory is refused to level 3
-                let _ = self.follow(event, &reply.get());
+                let _ = self.follow(event, &reply.get(), late);
                 self.pauses
                     .pause(self.rt, self.set, self.caller.share().calls);
                 Ok(())
@@ -237,6 +297,32 @@ impl<'a, O: Opening, R: Wait, G: LinkManager> Door for SeatDoor<'a, O, R, G> {
                 self.faults.note(fault);
                 Err(fault)
             }
+        }
+    }
+}
+
+impl<'a, O: Opening, R: Wait, G: LinkManager> SliceDoor for SeatDoor<'a, O, R, G> {
+    ghost use Rattle.std.specs.Prelude.{◌≡◌, ℕ};
+    ghost use Rattle.bank_crew.specs.Doors.{sight_of};
+    ghost use Rattle.bank_crew.specs.Seats.{link_in};
+    ghost use Rattle.set_shared.specs.Asking.{IsSeen};
+    ghost use Rattle.set_shared.specs.declared.link_set.LinkNow.{LinkNow};
+
+    ghost sees = { λ door sight. (now : LinkNow) × IsSeen O.settings (link_in door.seat.who) now
+        × (sight ≡ sight_of door.noted now) };
+
+    fn look(&mut self, out: bool) -> Sight {
+        let now = self.set.look(self.rt, self.caller.link());
+        let late = now.late != self.noted;
+        self.noted = now.late;
+        if out && !now.settled {
+            // it's no matter that memory is refused to level 3
+            let _ = self.rest();
+        }
+        Sight {
+            counts: now.counts,
+            settled: now.settled,
+            late,
         }
     }
 }

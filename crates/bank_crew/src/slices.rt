@@ -1,42 +1,65 @@
-//! A terminal's turns where its link is managed.
+//! A terminal's turns, by slices: before each it looks at its set.
 ghost use Rattle.std.specs.Prelude.{◌≡◌, ◌≤◌, ◌^◌, false, OnOk};
-ghost use Rattle.link_term.specs.Standing.{stands};
-ghost use Rattle.bank_crew.specs.Shifts.{Slice, SlicesBy};
+ghost use Rattle.link_term.specs.Standing.{lent, stands};
+ghost use Rattle.bank_crew.specs.Shifts.{SlicesBy, ordered};
 
-use super::manager::{Instruction, SetManager};
-use super::terminal::{one_report, so_many};
+use super::assignment::Assignment;
+use super::manager::{Instruction, LinkManager, SetManager, Sight};
+use super::terminal::one_report;
 use line_ring::Line;
-use link_term::{Command, Door, Gate, TermFault, TermReport, Terminal};
-use set_shared::{LinkSet, Opening};
-use std::sync::Wait;
+use link_term::{Command, Door, TermFault, TermReport, Works};
 
-/// How many turns a managed terminal takes before it's told anew what to do.
+/// How many turns a terminal takes before it looks at its set again, and is told anew what to do.
 const SLICE: u64 = 256;
 
-/// Turns by slices, each behind what is instructed, until that ends them, or so many were taken.
-pub(crate) fn managed_turns<O: Opening, D: Door, L: Line, T: Gate, M: SetManager, R: Wait>(
-    rt: &R,
-    set: &LinkSet<O>,
+/// The door of a terminal that takes its turns by slices.
+pub(crate) trait SliceDoor: Door {
+    ghost use Rattle.bank_crew.specs.declared.manager.Sight.{Sight};
+
+    /// This may be seen through it.
+    ghost sees: { Self → Sight → Type 0 };
+
+    /// What the terminal sees of its set, and of the link since it looked last. A terminal that is out of service rests for a
+    /// slice where the set hasn't settled its link, and level 3 may ask the set for it.
+    fn look(&mut self, out: bool) -> Sight
+        ensures seen { sees self.old result }
+        ensures made { Self.made self.new ≡ Self.made self.old }
+        ensures faults { Self.faults self.new ≡ Self.faults self.old }
+        ensures number { Self.number self.new ≡ Self.number self.old }
+        ensures same { Self.is_same self.old self.new };
+}
+
+/// Turns by slices, each behind what is seen and instructed, until that ends them, or so many were taken.
+pub(crate) fn sliced<D: SliceDoor, L: Line, G: LinkManager, M: SetManager>(
+    assignment: &Assignment<G>,
     manager: &M,
-    link: u8,
+    works: &mut Works,
+    door: &mut D,
+    line: &mut L,
     turns: u64,
-    terminal: &mut Terminal<D, L, T>,
 ) -> Result<TermReport, TermFault>
-    requires failed { terminal.old.failed ≡ false }
-    ensures turns { SlicesBy (M.may manager.now link) turns result
-        (stands D.Door L.Line terminal.old) (stands D.Door L.Line terminal.new) }
-    ensures number { D.number terminal.new.door ≡ D.number terminal.old.door }
-    ensures door { D.is_same terminal.old.door terminal.new.door }
+    requires at { D.number door.old ≡ works.old.inside.link }
+    requires failed { works.old.failed ≡ false }
+    ensures turns { SlicesBy (M.may manager.now (D.number door.old)) turns result
+        (stands D.Door L.Line (lent works.old door.old line.old)) (stands D.Door L.Line (lent works.new door.new line.new)) }
+    ensures at { D.number door.new ≡ works.new.inside.link }
+    ensures number { D.number door.new ≡ D.number door.old }
+    ensures door { D.is_same door.old door.new }
+    ensures line { L.is_same line.old line.new }
+    ensures goes_on { OnOk result (works.new.failed ≡ false) }
 {
+    let link = door.link();
     let mut counted = NO_TURNS;
     let mut left = turns;
     while left > 0 {
-        let instruction = manager.instruct(link, &set.counts(rt));
+        let sight = door.look(works.is_out_of_service());
+        let instruction = manager.instruct(link, &sight);
         if let Instruction::End = instruction {
             return Ok(counted);
         }
+        order(works, &sight, instruction);
         let turns = left.min(SLICE);
-        match one_slice(terminal, instruction, turns) {
+        match works.run(door, line, &assignment.gate, assignment.set, turns) {
             Ok(more) => counted = one_report(counted, more),
             Err(fault) => return Err(fault),
         }
@@ -55,27 +78,19 @@ const NO_TURNS: TermReport = TermReport {
     cause: 0,
 };
 
-/// What is instructed, and so many turns.
-fn one_slice<D: Door, L: Line, T: Gate>(
-    terminal: &mut Terminal<D, L, T>,
-    instruction: Instruction,
-    turns: u64,
-) -> Result<TermReport, TermFault>
-    requires failed { terminal.old.failed ≡ false }
-    requires few { turns ≤ 2 ^ 32 }
-    ensures turns { Slice instruction turns result
-        (stands D.Door L.Line terminal.old) (stands D.Door L.Line terminal.new) }
-    ensures number { D.number terminal.new.door ≡ D.number terminal.old.door }
-    ensures door { D.is_same terminal.old.door terminal.new.door }
-    ensures goes_on { OnOk result (terminal.new.failed ≡ false) }
+/// What is ordered of a terminal that sees this, and is instructed so.
+fn order(works: &mut Works, sight: &Sight, instruction: Instruction)
+    ensures { works.new ≡ record works.old { inside = ordered sight.now instruction works.old.inside } }
 {
-    match instruction {
-        Instruction::Run | Instruction::End => {}
-        Instruction::Start => {
-            terminal.command(Command::Emergency);
-            terminal.command(Command::Start);
-        }
-        Instruction::Stop => terminal.command(Command::Stop),
+    if sight.late && !works.is_out_of_service() {
+        return works.command(Command::Stop);
     }
-    so_many(terminal, turns)
+    match instruction {
+        Instruction::Start if sight.settled => {
+            works.command(Command::Emergency);
+            works.command(Command::Start);
+        }
+        Instruction::Stop => works.command(Command::Stop),
+        Instruction::Run | Instruction::Start | Instruction::End => {}
+    }
 }

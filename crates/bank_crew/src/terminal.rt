@@ -1,20 +1,20 @@
 //! What a terminal's thread does.
-ghost use Rattle.std.specs.Prelude.{◌≡◌, ◌≤◌, ◌^◌, false, List, [], Ok, OnOk};
+ghost use Rattle.std.specs.Prelude.{◌≡◌, false, List, []};
 ghost use Rattle.set_events.specs.declared.history.Entry.{Entry};
 ghost use Rattle.bank_crew.specs.Seats.{AreAll, link_in};
-ghost use Rattle.link_term.specs.Standing.{stands};
-ghost use Rattle.bank_crew.specs.Shifts.{AfterHalf, DoesShift, Halves, Turns, TurnsBy, TurnsOf, both, is_to_fail, with_first};
+ghost use Rattle.link_term.specs.Standing.{lent, stands};
+ghost use Rattle.bank_crew.specs.Shifts.{DoesShift, Halves, TurnsOf, both, with_first};
 
-use super::assignment::{Assignment, Lent};
+use super::assignment::Assignment;
 use super::crew::{Ended, TermEnd};
-use super::manager::LinkManager;
+use super::manager::{Instruction, LinkManager, SetManager, Sight};
 use super::plan::Plan;
 use super::report::reported;
 use super::seat_door::SeatDoor;
-use super::slices::managed_turns;
+use super::slices::{SliceDoor, sliced};
 use line_ring::Line;
 use line_tape::{Tape, TapedLine};
-use link_term::{Command, Door, Gate, TermFault, TermReport, Terminal};
+use link_term::{Command, TermFault, TermReport, Works};
 use set_shared::{LinkSet, Opening, TermSeat};
 use std::alloc::Global;
 use std::sync::Wait;
@@ -65,7 +65,7 @@ impl<'a, O: Opening, L: Line + Drop, G: LinkManager, R: Wait> TermShift<'a, O, L
         let link = seat.link();
         let plan = &assignment.plan;
         let (managed, every) = (plan.managed, plan.steps_between());
-        let door = SeatDoor::new(
+        let mut door = SeatDoor::new(
             rt,
             alloc,
             set,
@@ -75,17 +75,13 @@ impl<'a, O: Opening, L: Line + Drop, G: LinkManager, R: Wait> TermShift<'a, O, L
             managed,
             every,
         );
-        let gate = Lent {
-            gate: &assignment.gate,
-        };
         let keeps = plan.keeps;
-        let line = TapedLine::new(line, Tape::new(alloc, keeps));
-        let mut terminal = Terminal::new(door, line, gate, assignment.set, link, plan.timers);
-        terminal.command(Command::Emergency);
-        terminal.command(Command::Start);
-        let report = planned_turns(rt, set, assignment, link, &mut terminal);
+        let mut line = TapedLine::new(line, Tape::new(alloc, keeps));
+        let mut works = Works::new(link, plan.timers);
+        works.command(Command::Emergency);
+        works.command(Command::Start);
+        let report = planned_turns(assignment, &mut works, &mut door, &mut line);
         assignment.gate.ended(assignment.set, link);
-        let (door, line, _gate) = terminal.into_parts();
         let tape = line.into_tape(keeps);
         let told = reported(report, door.answered(), door.carried(), tape);
         let seat = door.into_seat();
@@ -95,95 +91,73 @@ impl<'a, O: Opening, L: Line + Drop, G: LinkManager, R: Wait> TermShift<'a, O, L
     }
 }
 
-/// The turns of a plan: by slices where links are managed.
-fn planned_turns<O: Opening, D: Door, L: Line, T: Gate, G: LinkManager, R: Wait>(
-    rt: &R,
-    set: &LinkSet<O>,
+/// Nothing is instructed of a terminal whose link isn't managed.
+struct RunOn;
+
+impl SetManager for RunOn {
+    ghost use Rattle.std.specs.Prelude.{◌≡◌};
+    ghost use Rattle.bank_crew.specs.declared.manager.Instruction.{Instruction};
+
+    ghost may = { λ all link instruction. instruction ≡ Instruction.Run };
+
+    ghost lets = { λ all user. Unit {0} };
+
+    fn instruct(&self, _link: u8, _sight: &Sight) -> Instruction {
+        Instruction::Run
+    }
+
+    fn holds_up(&self, _user: u16) -> bool {
+        false
+    }
+}
+
+/// The turns of a plan, of a terminal of this link.
+fn planned_turns<D: SliceDoor, L: Line, G: LinkManager>(
     assignment: &Assignment<G>,
-    link: u8,
-    terminal: &mut Terminal<D, L, T>,
+    works: &mut Works,
+    door: &mut D,
+    line: &mut L,
 ) -> Result<TermReport, TermFault>
-    requires failed { terminal.old.failed ≡ false }
-    ensures turns { TurnsOf assignment.now.plan link result
-        (stands D.Door L.Line terminal.old) (stands D.Door L.Line terminal.new) }
-    ensures number { D.number terminal.new.door ≡ D.number terminal.old.door }
-    ensures door { D.is_same terminal.old.door terminal.new.door }
+    requires at { D.number door.old ≡ works.old.inside.link }
+    requires failed { works.old.failed ≡ false }
+    ensures turns { TurnsOf assignment.now.plan (D.number door.old) result
+        (stands D.Door L.Line (lent works.old door.old line.old)) (stands D.Door L.Line (lent works.new door.new line.new)) }
+    ensures number { D.number door.new ≡ D.number door.old }
+    ensures door { D.is_same door.old door.new }
+    ensures line { L.is_same line.old line.new }
 {
-    match assignment.plan.managed {
-        None => all_turns(terminal, link, &assignment.plan),
-        Some(_) => managed_turns(rt, set, assignment, link, assignment.plan.turns, terminal),
+    let plan = &assignment.plan;
+    match plan.managed {
+        Some(_) => sliced(assignment, assignment, works, door, line, plan.turns),
+        None if plan.fail == Some(works.link()) => both_halves(assignment, works, door, line),
+        None => sliced(assignment, &RunOn, works, door, line, plan.turns),
     }
 }
 
-/// All turns of a plan, with Stop half way where it's this link that is to fail.
-fn all_turns<D: Door, L: Line, G: Gate>(
-    terminal: &mut Terminal<D, L, G>,
-    link: u8,
-    plan: &Plan,
+/// Half of a plan's turns, Stop, and the rest of them.
+fn both_halves<D: SliceDoor, L: Line, G: LinkManager>(
+    assignment: &Assignment<G>,
+    works: &mut Works,
+    door: &mut D,
+    line: &mut L,
 ) -> Result<TermReport, TermFault>
-    requires failed { terminal.old.failed ≡ false }
-    ensures turns { TurnsBy (is_to_fail plan.now.fail link) plan.now.turns result
-        (stands D.Door L.Line terminal.old) (stands D.Door L.Line terminal.new) }
-    ensures number { D.number terminal.new.door ≡ D.number terminal.old.door }
-    ensures door { D.is_same terminal.old.door terminal.new.door }
+    requires at { D.number door.old ≡ works.old.inside.link }
+    requires failed { works.old.failed ≡ false }
+    ensures turns { Halves assignment.now.plan.turns result
+        (stands D.Door L.Line (lent works.old door.old line.old)) (stands D.Door L.Line (lent works.new door.new line.new)) }
+    ensures number { D.number door.new ≡ D.number door.old }
+    ensures door { D.is_same door.old door.new }
+    ensures line { L.is_same line.old line.new }
 {
-    if plan.fail == Some(link) {
-        both_halves(terminal, plan.turns)
-    } else {
-        so_many(terminal, plan.turns)
-    }
-}
-
-/// Half of so many turns, Stop, and the rest of them.
-fn both_halves<D: Door, L: Line, G: Gate>(
-    terminal: &mut Terminal<D, L, G>,
-    turns: u64,
-) -> Result<TermReport, TermFault>
-    requires failed { terminal.old.failed ≡ false }
-    requires few { turns ≤ 2 ^ 32 }
-    ensures turns { Halves turns result
-        (stands D.Door L.Line terminal.old) (stands D.Door L.Line terminal.new) }
-    ensures number { D.number terminal.new.door ≡ D.number terminal.old.door }
-    ensures door { D.is_same terminal.old.door terminal.new.door }
-{
-    match so_many(terminal, turns / 2) {
-        Ok(first) => after_half(terminal, turns, first),
+    let turns = assignment.plan.turns;
+    match sliced(assignment, &RunOn, works, door, line, turns / 2) {
+        Ok(first) => {
+            works.command(Command::Stop);
+            let second = sliced(assignment, &RunOn, works, door, line, turns - turns / 2);
+            with_first(first, second)
+        }
         Err(fault) => Err(fault),
     }
-}
-
-/// Stop, and the rest of so many turns, of whose first half this was counted.
-fn after_half<D: Door, L: Line, G: Gate>(
-    terminal: &mut Terminal<D, L, G>,
-    turns: u64,
-    first: TermReport,
-) -> Result<TermReport, TermFault>
-    requires failed { terminal.old.failed ≡ false }
-    requires few { turns ≤ 2 ^ 32 }
-    ensures turns { AfterHalf turns (Ok first) result
-        (stands D.Door L.Line terminal.old) (stands D.Door L.Line terminal.new) }
-    ensures number { D.number terminal.new.door ≡ D.number terminal.old.door }
-    ensures door { D.is_same terminal.old.door terminal.new.door }
-{
-    terminal.command(Command::Stop);
-    let second = so_many(terminal, turns - turns / 2);
-    with_first(first, second)
-}
-
-/// So many turns.
-pub(crate) fn so_many<D: Door, L: Line, G: Gate>(
-    terminal: &mut Terminal<D, L, G>,
-    turns: u64,
-) -> Result<TermReport, TermFault>
-    requires failed { terminal.old.failed ≡ false }
-    requires few { turns ≤ 2 ^ 32 }
-    ensures turns { Turns turns result
-        (stands D.Door L.Line terminal.old) (stands D.Door L.Line terminal.new) }
-    ensures number { D.number terminal.new.door ≡ D.number terminal.old.door }
-    ensures door { D.is_same terminal.old.door terminal.new.door }
-    ensures goes_on { OnOk result (terminal.new.failed ≡ false) }
-{
-    terminal.run(turns)
 }
 
 /// What two runs of one terminal counted together, where the second one went whole.

@@ -64,7 +64,7 @@ fn ends_of_both<R: Threads + Wait + Clock + Copy + Send + Sync + 'static>(
 }
 
 /// Waits for both banks, or where the far one wasn't started for the near one.
-fn joined<R: Threads + Wait>(
+pub(crate) fn joined<R: Threads + Wait>(
     rt: &R,
     near: Running,
     far: Result<Running, Fail>,
@@ -113,7 +113,7 @@ fn was_told_to_stop(end: &SetEnd, link: u8) -> bool {
 }
 
 /// So it is; if it isn't, the test says this.
-fn is_so(fact: bool, otherwise: &'static str) -> Result<(), Fail> {
+pub(crate) fn is_so(fact: bool, otherwise: &'static str) -> Result<(), Fail> {
     if fact {
         Ok(())
     } else {

@@ -4,7 +4,7 @@
 use super::openings::{
     are_legal, bank_of, configs_of, ends_of, holds, loops_of, offers_of, plan_of,
 };
-use bank_crew::{Instruction, LinkManager};
+use bank_crew::{Instruction, LinkManager, Sight};
 use link_term::Gate;
 use set_events::{AnswerRef, Counts, EventRef, Method};
 use std::alloc::{AllocError, Global};
@@ -183,7 +183,7 @@ impl LinkManager for MeetingGate {
 
     fn answered(&self, _set: u16, _link: u8, _event: &EventRef<'_>, _answer: &AnswerRef<'_>) {}
 
-    fn instruct(&self, _set: u16, _link: u8, _counts: &Counts) -> Instruction {
+    fn instruct(&self, _set: u16, _link: u8, _sight: &Sight) -> Instruction {
         Instruction::Run
     }
 

@@ -8,6 +8,8 @@ mod failing;
 #[cfg(test)]
 mod gates;
 #[cfg(test)]
+mod late;
+#[cfg(test)]
 mod managed;
 #[cfg(test)]
 mod openings;

@@ -22,7 +22,7 @@ pub(crate) fn holds(fact: bool) -> Result<(), Fail> {
 }
 
 /// Timers that are long beside the time that a link takes to come up.
-const LONG: Timers = Timers {
+pub(crate) const LONG: Timers = Timers {
     t1: 100_000,
     t2: 100_000,
     t3: 100_000,

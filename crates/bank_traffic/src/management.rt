@@ -6,7 +6,7 @@ ghost use Rattle.bank_traffic.specs.Managing.{open_in, stream_brought};
 use super::asked::Traffic;
 use super::pace::{PaceGate, pace_gates};
 use super::watch::SetWatch;
-use bank_core::{Instruction, LinkManager};
+use bank_core::{Instruction, LinkManager, Sight};
 use l2_units::UnitRef;
 use set_events::{AnswerRef, Counts, EventRef, Took};
 use std::alloc::{AllocError, Global};
@@ -24,7 +24,7 @@ pub(crate) struct Management {
 /// - a user at an end a begins when each link of its set has come up at both ends, or ten seconds of turns went by, and
 ///   has at most 64 messages on their way, beside as many as its set gave up; the user at an end b asks for a message when
 ///   one has come;
-/// - a link that is out of service is started again after a rest, T17;
+/// - a link that is out of service, or was stopped since an order about it came late, is started again after a rest, T17;
 /// - the link at an end a that is to fail is told Stop four turns for each message of a user after the users began;
 /// - terminals take no more turns once all was offered, nothing waits or is unacknowledged, and the link that was told Stop
 ///   came up again.
@@ -107,13 +107,14 @@ impl LinkManager for PaceGate {
         }
     }
 
-    fn instruct(&self, set: u16, link: u8, counts: &Counts) -> Instruction {
+    fn instruct(&self, set: u16, link: u8, sight: &Sight) -> Instruction {
         let Some(watch) = self.watch(set) else {
             return Instruction::Run;
         };
+        let open = open_in(&sight.counts);
         if self.is_near() {
-            watch.give_up(counts.discarded);
-            self.settle(watch, open_in(counts));
+            watch.give_up(sight.counts.discarded);
+            self.settle(watch, open);
         }
         if watch.is_over(self.is_near()) {
             return Instruction::End;
@@ -122,7 +123,11 @@ impl LinkManager for PaceGate {
             return Instruction::Run;
         };
         let turn = self.turn(set, link);
-        if self.fails(link) && watch.stops(at, self.messages(), turn, open_in(counts)) {
+        if sight.late {
+            // it's stopped, and rests as a link that failed
+            at.fall(turn);
+        }
+        if self.fails(link) && watch.stops(at, self.messages(), turn, open) {
             return Instruction::Stop;
         }
         if at.is_rested(turn) {

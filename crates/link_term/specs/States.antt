@@ -1,5 +1,5 @@
 -- WHERE A TERMINAL STANDS, as those who look at it are told.
-use Rattle.std.specs.Prelude.{Bool, false}
+use Rattle.std.specs.Prelude.{Bool, true, false}
 use Rattle.l2_align.specs.declared.align.State.{State as AlignState}
 use Rattle.l2_state.specs.declared.link_state.State.{State}
 use Rattle.term_model.specs.Terminal.{Terminal}
@@ -26,3 +26,7 @@ state_of t = stands_as t.state t.align.state
 abbrev pub is_paused : State → Bool
 is_paused (State.InService paused) = paused
 is_paused _ = false
+
+abbrev pub is_out_of_service : TermState → Bool
+is_out_of_service TermState.OutOfService = true
+is_out_of_service _ = false

@@ -1,12 +1,11 @@
 //! A terminal with its door, its line and its gate.
-ghost use Rattle.std.specs.Prelude.{◌≡◌, ◌+◌, ◌^◌, ◌<◌, ◌≤◌, [], false};
+ghost use Rattle.std.specs.Prelude.{◌≡◌, ◌^◌, ◌≤◌, [], false};
 ghost use Rattle.link_term.specs.Running.{Runs, RunFails};
 ghost use Rattle.link_term.specs.Taking.{TakesTurns};
-ghost use Rattle.link_term.specs.Turning.{TurnsOnce, TurnFails, one_if_chosen};
-ghost use Rattle.term_model.specs.Runs.{cause_or_0};
+ghost use Rattle.link_term.specs.Turning.{TurnsOnce, TurnFails};
 ghost use Rattle.term_model.specs.Terminal.{opened, told};
 
-use super::counts::{Filling, Turned};
+use super::counts::Turned;
 use super::door::{Door, Gate};
 use super::fault::TermFault;
 use super::works::Works;
@@ -79,8 +78,7 @@ impl<D: Door, L: Line, G: Gate> Terminal<D, L, G> {
         self.works.turn(&mut self.door, &mut self.line)
     }
 
-    /// So many turns, one after another, at most 2^32: what they counted, and why the link failed last. Each took an octet
-    /// where its end of the line knew of one, and put one where it knew of a free place.
+    /// So many turns, one after another, at most 2^32: [`Works::run`].
     ///
     /// Faults as of [`Terminal::turn`]: the turns before the one that was broken off went whole, and it's the last.
     pub fn run(&mut self, turns: u64) -> Result<TermReport, TermFault>
@@ -88,17 +86,7 @@ impl<D: Door, L: Line, G: Gate> Terminal<D, L, G> {
         ensures runs { TakesTurns D.Door L.Line (Runs turns) (λ fault before after. RunFails fault turns before after)
             self.old result self.new }
     {
-        if self.works.has_failed() {
-            return Err(TermFault::Failed);
-        }
-        let mut report = NO_TURNS;
-        for _turn in 0..turns {
-            report = and_one(report, self.turn()?);
-        }
-        Ok(TermReport {
-            cause: last_cause(&self.works),
-            ..report
-        })
+        self.works.run(&mut self.door, &mut self.line, &self.gate, self.set, turns)
     }
 
     /// The door, the line and the gate, with all that passed them.
@@ -107,59 +95,5 @@ impl<D: Door, L: Line, G: Gate> Terminal<D, L, G> {
         ensures line { result.1 ≡ self.line }
     {
         (self.door, self.line, self.gate)
-    }
-}
-
-/// No turn was counted yet.
-const NO_TURNS: TermReport = TermReport {
-    turns: 0,
-    sent: 0,
-    good: 0,
-    bad: 0,
-    sixteen: 0,
-    cause: 0,
-};
-
-/// One turn more was counted.
-fn and_one(report: TermReport, turned: Turned) -> TermReport
-    requires turns { report.turns < 2 ^ 33 }
-    requires sent { report.sent < 2 ^ 33 }
-    requires good { report.good < 2 ^ 48 }
-    requires bad { report.bad < 2 ^ 48 }
-    requires sixteen { report.sixteen < 2 ^ 48 }
-    ensures turns { result.turns ≡ report.turns + 1 }
-    ensures sent { result.sent ≡ report.sent + one_if_chosen turned.filling }
-    ensures good { (result.good ≡ report.good + turned.marks.good) × (turned.marks.good < 256) }
-    ensures bad { (result.bad ≡ report.bad + turned.marks.bad) × (turned.marks.bad < 256) }
-    ensures sixteen { (result.sixteen ≡ report.sixteen + turned.marks.sixteen)
-        × (turned.marks.sixteen < 256) }
-{
-    TermReport {
-        turns: report.turns + 1,
-        sent: report.sent + one_if_chosen(turned.filling),
-        good: report.good + u64::from(turned.marks.good),
-        bad: report.bad + u64::from(turned.marks.bad),
-        sixteen: report.sixteen + u64::from(turned.marks.sixteen),
-        cause: report.cause,
-    }
-}
-
-/// 1 where a unit was appended to what is left to send.
-fn one_if_chosen(filling: Filling) -> u64
-    ensures { result ≡ one_if_chosen filling }
-{
-    match filling {
-        Filling::Chosen => 1,
-        Filling::Enough | Filling::Wide => 0,
-    }
-}
-
-/// The number of the cause for which the link failed last; 0: it didn't.
-fn last_cause(works: &Works) -> u8
-    ensures { result ≡ cause_or_0 works.now.inside.cause }
-{
-    match works.cause() {
-        None => 0,
-        Some(cause) => cause.number(),
     }
 }

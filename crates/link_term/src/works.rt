@@ -1,14 +1,16 @@
 //! A terminal without its surroundings: its door and its line are lent to it for a turn.
-ghost use Rattle.std.specs.Prelude.{◌≡◌, [], false, OnErr};
+ghost use Rattle.std.specs.Prelude.{◌≡◌, ◌+◌, ◌^◌, ◌<◌, ◌≤◌, [], false, OnErr};
 ghost use Rattle.link_term.specs.Filling.{Taps};
+ghost use Rattle.link_term.specs.Running.{Runs, RunFails};
 ghost use Rattle.link_term.specs.Standing.{lent};
-ghost use Rattle.link_term.specs.States.{aligning_as, is_paused, state_of};
+ghost use Rattle.link_term.specs.States.{aligning_as, is_out_of_service, is_paused, state_of};
 ghost use Rattle.link_term.specs.Taking.{TakesTurns, TurnsTapped};
-ghost use Rattle.link_term.specs.Turning.{TurnsOnce, TurnFails};
+ghost use Rattle.link_term.specs.Turning.{TurnsOnce, TurnFails, one_if_chosen};
+ghost use Rattle.term_model.specs.Runs.{cause_or_0};
 ghost use Rattle.term_model.specs.Terminal.{opened, told};
 
-use super::counts::Turned;
-use super::door::Door;
+use super::counts::{Filling, Turned};
+use super::door::{Door, Gate};
 use super::fault::TermFault;
 use super::receiver::Receiver;
 use super::tap::{NoTap, Tap};
@@ -20,7 +22,7 @@ use line_ring::Line;
 use set_events::Reply;
 use std::marker::Model;
 use term_core::Inside;
-use term_model::{Command, Timers};
+use term_model::{Command, TermReport, Timers};
 
 /// Where a terminal stands (Q.703 7.3, 12).
 #[derive(Clone, Copy, Debug, PartialEq, Eq)]
@@ -132,6 +134,38 @@ impl Works {
         }
     }
 
+    /// So many turns, one after another, at most 2^32, each behind the gate, to which the number of the set is told: what they
+    /// counted, and why the link failed last. Each took an octet where its end of the line knew of one, and put one where it
+    /// knew of a free place.
+    ///
+    /// Faults as of [`Works::turn`]: the turns before the one that was broken off went whole, and it's the last.
+    pub fn run<D: Door, L: Line, G: Gate>(
+        &mut self,
+        door: &mut D,
+        line: &mut L,
+        gate: &G,
+        set: u16,
+        turns: u64,
+    ) -> Result<TermReport, TermFault>
+        requires at { D.number door.old ≡ self.old.inside.link }
+        requires few { turns ≤ 2 ^ 32 }
+        ensures runs { TakesTurns D.Door L.Line (Runs turns) (λ fault before after. RunFails fault turns before after)
+            (lent self.old door.old line.old) result (lent self.new door.new line.new) }
+    {
+        if self.has_failed() {
+            return Err(TermFault::Failed);
+        }
+        let mut report = NO_TURNS;
+        for _turn in 0..turns {
+            gate.outside(set, self.link());
+            report = and_one(report, self.turn(door, line)?);
+        }
+        Ok(TermReport {
+            cause: last_cause(self),
+            ..report
+        })
+    }
+
     /// Whether a turn was broken off.
     pub(crate) fn has_failed(&self) -> bool
         ensures { result ≡ self.now.failed }
@@ -156,6 +190,13 @@ impl Works {
             State::Ready => TermState::Ready,
             State::InService { .. } => TermState::InService,
         }
+    }
+
+    /// Whether it's out of service (Q.703 12.1).
+    pub fn is_out_of_service(&self) -> bool
+        ensures { result ≡ is_out_of_service (state_of self.now.inside) }
+    {
+        matches!(self.state(), TermState::OutOfService)
     }
 
     /// Whether it's up at the set: that has answered Done to an Up, and the link didn't fail since.
@@ -191,5 +232,59 @@ fn aligning_as(alignment: Alignment) -> TermState
         Alignment::Idle | Alignment::NotAligned => TermState::NotAligned,
         Alignment::Aligned => TermState::Aligned,
         Alignment::Proving => TermState::Proving,
+    }
+}
+
+/// No turn was counted yet.
+const NO_TURNS: TermReport = TermReport {
+    turns: 0,
+    sent: 0,
+    good: 0,
+    bad: 0,
+    sixteen: 0,
+    cause: 0,
+};
+
+/// One turn more was counted.
+fn and_one(report: TermReport, turned: Turned) -> TermReport
+    requires turns { report.turns < 2 ^ 33 }
+    requires sent { report.sent < 2 ^ 33 }
+    requires good { report.good < 2 ^ 48 }
+    requires bad { report.bad < 2 ^ 48 }
+    requires sixteen { report.sixteen < 2 ^ 48 }
+    ensures turns { result.turns ≡ report.turns + 1 }
+    ensures sent { result.sent ≡ report.sent + one_if_chosen turned.filling }
+    ensures good { (result.good ≡ report.good + turned.marks.good) × (turned.marks.good < 256) }
+    ensures bad { (result.bad ≡ report.bad + turned.marks.bad) × (turned.marks.bad < 256) }
+    ensures sixteen { (result.sixteen ≡ report.sixteen + turned.marks.sixteen)
+        × (turned.marks.sixteen < 256) }
+{
+    TermReport {
+        turns: report.turns + 1,
+        sent: report.sent + one_if_chosen(turned.filling),
+        good: report.good + u64::from(turned.marks.good),
+        bad: report.bad + u64::from(turned.marks.bad),
+        sixteen: report.sixteen + u64::from(turned.marks.sixteen),
+        cause: report.cause,
+    }
+}
+
+/// 1 where a unit was appended to what is left to send.
+fn one_if_chosen(filling: Filling) -> u64
+    ensures { result ≡ one_if_chosen filling }
+{
+    match filling {
+        Filling::Chosen => 1,
+        Filling::Enough | Filling::Wide => 0,
+    }
+}
+
+/// The number of the cause for which the link failed last; 0: it didn't.
+fn last_cause(works: &Works) -> u8
+    ensures { result ≡ cause_or_0 works.now.inside.cause }
+{
+    match works.cause() {
+        None => 0,
+        Some(cause) => cause.number(),
     }
 }

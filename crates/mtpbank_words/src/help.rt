@@ -309,14 +309,16 @@ With --report links are managed. A user begins when each link of its set came up
 at both ends, or 80,000 turns went by, and has 64 messages on their way at most,
 beside as many as its set gave up; its stream has the user's number, whose home
 is the link of that number modulo L. A link that is out of service is started
-again 6,400 turns later (T17, Q.704 16.8), and each time that it came up its
-streams are asked back to it. Where the answer to a changeover stays out for
-4,096 units that were sent, or that to a changeback for 4,096 that were sent or
-heard, it's waited for no more. With --fail the link is told to stop 4 turns for
-each message of a user after they began. T, 1,000,000 where it isn't told, is
-the most turns: terminals take no more once all is offered, nothing waits or is
-unacknowledged, and the link of --fail came back. The user of end b keeps what
-it takes. Behind the lines above, for each set, each end and each link:
+again 6,400 turns later (T17, Q.704 16.8), once its set has settled it, and each
+time that it came up its streams are asked back to it. Where the answer to a
+changeover stays out for 24,576 turns, or that to a changeback for 4,096 units
+that were sent or heard, it's waited for no more. A link of which the far end
+has left a life that this end hasn't joined is stopped. With --fail the link is
+told to stop 4 turns for each message of a user after they began. T, 1,000,000
+where it isn't told, is the most turns: terminals take no more once all is
+offered, nothing waits or is unacknowledged, and the link of --fail came back.
+The user of end b keeps what it takes. Behind the lines above, for each set,
+each end and each link:
   set=I end=a offered=.. delivered=.. acknowledged=.. taken=.. waiting=..
       unacked=.. diverted=.. discarded=.. retransmitted=..
                     the messages of users there: those that were accepted, that

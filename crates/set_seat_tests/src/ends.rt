@@ -14,13 +14,13 @@ use std::marker::Brand;
 use std::sync::Wait;
 use std::test::Fail;
 
-/// A terminal tells that its link is up, and what it was handed is called under the lock.
+/// A terminal tells that its link is up, and what it was handed is called under the lock. No order came late.
 fn rises<O: Opening, R: Wait>(rt: &R, set: &LinkSet<O>, seat: &mut TermSeat<O>) -> bool {
     let called = Cell::new(false);
     let event = EventRef::Up { link: seat.link() };
     let mut reply = Reply::new();
     match set.term_step_held(rt, seat, &event, &mut reply, || called.set(true)) {
-        Ok(()) => called.get() && reply.get().same(&AnswerRef::Done),
+        Ok(late) => late == 0 && called.get() && reply.get().same(&AnswerRef::Done),
         Err(_) => false,
     }
 }

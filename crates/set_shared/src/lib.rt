@@ -20,7 +20,7 @@
 
 mod link_set;
 
-pub use link_set::{LinkSet, Opened};
+pub use link_set::{LinkNow, LinkSet, Opened};
 pub use set_ledger::{
     Back, Base, Blanks, Closed, CreateFault, EndFault, Forgotten, Held, Opening, Seat, SeatShare,
     SetFault, TermSeat, UserSeat,

@@ -8,10 +8,9 @@ ghost use Rattle.set_ledger.specs.Openings.{IsBaseOf};
 ghost use Rattle.set_ledger.specs.Seats.{Forgets, Receives, new_seats};
 ghost use Rattle.set_ledger.specs.Totals.{AreParts, HeldState};
 ghost use Rattle.set_ledger.specs.Ending.{calls_at, is_complete, AreFaithful, IsClosed};
-ghost use Rattle.set_model.specs.Checkpoint.{counts_in};
 ghost use Rattle.set_model.specs.History.{IsStep};
-ghost use Rattle.set_model.specs.State.{settings_of};
-ghost use Rattle.set_shared.specs.Asking.{ForgetsBehind, IsAnswered, IsCounted, IsFull};
+ghost use Rattle.set_model.specs.State.{late_at, settings_of};
+ghost use Rattle.set_shared.specs.Asking.{ForgetsBehind, IsAnswered, IsAnsweredWith, IsFull, IsSeen, link_now};
 
 use set_events::{Answer, Counts, Event, EventRef, Reply, SetConfig};
 use set_ledger::{
@@ -52,6 +51,17 @@ pub struct Opened<O: Opening> {
     pub users: Vec<UserSeat<O>>,
     /// A seat for the terminal of each link, 0, 1, ..
     pub terminals: Vec<TermSeat<O>>,
+}
+
+/// How a link stands at its set at some moment, with the set's messages.
+#[derive(Clone, Copy, Debug, PartialEq, Eq)]
+pub struct LinkNow {
+    /// How many messages of users stand in each place.
+    pub counts: Counts,
+    /// The link is settled, as one is that never was up.
+    pub settled: bool,
+    /// How many changeover orders about the link were heard while it was settled, modulo 2^32 (own).
+    pub late: u32,
 }
 
 impl<O: Opening> LinkSet<O> {
@@ -173,7 +183,8 @@ impl<O: Opening> LinkSet<O> {
     }
 
     /// [`LinkSet::term_step`] whose answer is put into the reply, and that calls `held` once it has the lock. A heard unit
-    /// has a body of at most 273 octets.
+    /// has a body of at most 273 octets. It tells how many changeover orders about the link had been heard by then while it
+    /// was settled, modulo 2^32.
     pub fn term_step_held<R: Wait, F: FnOnce()>(
         &self,
         rt: &R,
@@ -181,20 +192,21 @@ impl<O: Opening> LinkSet<O> {
         event: &EventRef<'_>,
         reply: &mut Reply,
         held: F,
-    ) -> Result<(), SetFault>
+    ) -> Result<u32, SetFault>
         requires own { IsOwn seat.old.who (event_in event.now) }
         requires fits { HasFitUnit event.now }
         requires callable { F.IsAlwaysCallable held }
         ensures receipt { OnOk result (Receives seat.old (event_in event.now) reply.new seat.new) }
-        ensures answer { OnOk result (IsAnswered O.settings (event_in event.now) reply.new) }
+        ensures answer { IfOk result (IsAnsweredWith O.settings seat.old.who (event_in event.now) reply.new) }
         ensures called { OnOk result (F.post held tt) }
         ensures exhausted { result ≡ Err SetFault.Exhausted → IsFull O.settings }
         ensures err { OnErr result (seat.new ≡ seat.old) }
     {
         reserve_receipt(seat, event)?;
+        let link = seat.link();
         let mut guard = self.held.lock(rt);
         held();
-        ask(&mut *guard, seat, event, reply)
+        ask_with(&mut *guard, seat, link, event, reply)
     }
 
     /// A checkpoint: what stands under the lock goes on from what it holds, with a history that begins anew. No seat
@@ -207,11 +219,12 @@ impl<O: Opening> LinkSet<O> {
         self.held.lock(rt).checkpoint()
     }
 
-    /// How many messages of users stand in each place at some moment of the call: so many do in a set of these settings.
-    pub fn counts<R: Wait>(&self, rt: &R) -> Counts
-        ensures { IsCounted O.settings result }
+    /// How this link stands at some moment of the call, and how many messages of users stand in each place then: so it is in
+    /// a set of these settings. A link that the set hasn't isn't settled, and no order came late about it.
+    pub fn look<R: Wait>(&self, rt: &R, link: u8) -> LinkNow
+        ensures { IsSeen O.settings link result }
     {
-        counts_of(&*self.held.lock(rt))
+        now_of(&*self.held.lock(rt), link)
     }
 
     /// One step, and its answer by itself. The seat has room for its receipt before the lock is taken.
@@ -301,13 +314,42 @@ fn ask<O: Opening, S: Seat<O>>(
     step_in(held, seat, event, reply)
 }
 
-/// How many messages of users stand in each place of what stands under the lock.
-fn counts_of<O: Opening>(held: &Held<O>) -> Counts
-    ensures value { result ≡ counts_in held.now.set.state }
-    ensures set { IsCounted O.settings result }
+/// [`ask`] of a terminal, which tells how many orders came late about its link before it.
+fn ask_with<O: Opening>(
+    held: &mut Held<O>,
+    seat: &mut TermSeat<O>,
+    link: u8,
+    event: &EventRef<'_>,
+    reply: &mut Reply,
+) -> Result<u32, SetFault>
+    requires own { IsOwn seat.old.who (event_in event.now) }
+    requires fits { HasFitUnit event.now }
+    requires link { seat.old.who ≡ Terminal link }
+    ensures step { OnOk result (IsStep held.old.set seat.old.who (event_in event.now) reply.new held.new.set) }
+    ensures late { IfOk result (λ late. late ≡ late_at link held.old.set.state) }
+    ensures receipt { OnOk result (Receives seat.old (event_in event.now) reply.new seat.new) }
+    ensures answer { IfOk result (IsAnsweredWith O.settings seat.old.who (event_in event.now) reply.new) }
+    ensures exhausted { result ≡ Err SetFault.Exhausted → IsFull O.settings }
+    ensures err { OnErr result ((held.new ≡ held.old) × (seat.new ≡ seat.old)) }
 {
     held.replays();
-    held.core().counts()
+    let late = held.core().late(link);
+    ask(held, seat, event, reply)?;
+    Ok(late)
+}
+
+/// How this link stands at what stands under the lock, and how many messages of users in each place.
+fn now_of<O: Opening>(held: &Held<O>, link: u8) -> LinkNow
+    ensures value { result ≡ link_now link held.now.set.state }
+    ensures set { IsSeen O.settings link result }
+{
+    held.replays();
+    let set = held.core();
+    LinkNow {
+        counts: set.counts(),
+        settled: set.is_settled(link),
+        late: set.late(link),
+    }
 }
 
 /// A seat forgets what lies behind the base of what stands under the lock.

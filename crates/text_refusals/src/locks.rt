@@ -102,6 +102,7 @@ fn calls<O: Opening, R: Wait>(
         Call::NextHeld => {
             let mut reply = Reply::new();
             set.term_step_held(rt, terminal, &EventRef::Next { link }, &mut reply, || ())
+                .map(|_late| ())
         }
         Call::Checkpoint => set.checkpoint(rt),
         Call::ForgetUser => set.forget(rt, user),

@@ -8,5 +8,5 @@ use Rattle.bank_crew.proofs.seat_door.SeatDoor.ask_more.Goals as goal
 -- src/seat_door.rt
 pub returns-in-Ok-clause-made : goal.returns-in-Ok-clause-made
 returns-in-Ok-clause-made g c =
-    ap (λ (d : DoorState). of_turns d.managed d.marks d.all) c.self-2.view_is ∙ questioned c.args.self.now.seat.who (event_in c.args.question.now) c.ask.new.reply c.args.self.now.managed c.ask.new.self.managed c.args.self.now.all c.ask.new.self.all c.args.self.now.marks c.ask.new.self.marks
-    c.in-Ok.ensures.ok c.ask.ensures.managed c.requires.managed (subst IsMarked c.self.view_is c.self.invariant.marked)
+    ap (λ (d : DoorState). of_turns d.marks d.all) c.self-2.view_is ∙ questioned c.args.self.now.seat.who (event_in c.args.question.now) c.ask.new.reply c.args.self.now.all c.ask.new.self.all c.args.self.now.marks c.ask.new.self.marks
+    c.in-Ok.ensures.ok c.in-Ok.ensures.marks (subst IsMarked c.self.view_is c.self.invariant.marked)

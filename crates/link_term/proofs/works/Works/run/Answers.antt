@@ -2,12 +2,12 @@ use Rattle.std.proofs.Common.{refl, ap, subst, arith, rules, ◌≡◌, ◌∙�
 use Rattle.term_model.specs.Runs.{cause_or_0}
 use Rattle.link_term.specs.Turning.{one_if_chosen}
 use Rattle.link_term.proofs.Turns.{ran_none, ran_more, ran_all, run_failed, at_most_one}
-use Rattle.link_term.proofs.terminal.Terminal.run.Goals as goal
+use Rattle.link_term.proofs.works.Works.run.Goals as goal
 
 pub loop-turn-init : goal.loop-turn-init
 loop-turn-init g c = record {
   so = ran_none _ _ refl;
-  at = subst (λ t. g.D.Door.number t.door ≡ t.inside.link) c.self.view_is c.self.invariant;
+  at = c.requires.at;
   number = refl;
   door = g.met.D.Door.same_self _;
   same = g.met.L.Line.same_self _;
@@ -65,7 +65,7 @@ returns g c =
           search rules,
           ran_all _ _ _ _ _ so.so all
               (ap (λ x. record c.loop-turn.report { cause = x })
-              (c.last_cause.ensures ∙ ap (λ t. cause_or_0 t.inside.cause) c.self-2.view_is)),
+              c.last_cause.ensures),
         );
         breaks = λ _. tt;
         failed = search rules;

@@ -1,16 +1,16 @@
 use Rattle.std.proofs.Common.{◌≡◌, ◌≤◌, ◌*◌, false}
-use Rattle.link_term.specs.Standing.{stands}
+use Rattle.link_term.specs.Standing.{lent, stands}
 use Rattle.link_term.proofs.Turns.{RanSo}
-use Rattle.link_term.proofs.terminal.Terminal.run.Given as goal
+use Rattle.link_term.proofs.works.Works.run.Given as goal
 
 -- the turns so far, and that no count is too large
 abbrev pub invariant-loop-turn : goal.invariant-loop-turn
 invariant-loop-turn g l = record {
-  so : RanSo (stands g.D.Door g.L.Line l.initial.self) l.report (stands g.D.Door g.L.Line l.self);
-  at : g.D.Door.number l.self.door ≡ l.self.inside.link;
-  number : g.D.Door.number l.self.door ≡ g.D.Door.number l.initial.self.door;
-  door : g.D.Door.is_same l.initial.self.door l.self.door;
-  same : g.L.Line.is_same l.initial.self.line l.self.line;
+  so : RanSo (stands g.D.Door g.L.Line (lent l.initial.self l.initial.door l.initial.line)) l.report (stands g.D.Door g.L.Line (lent l.self l.door l.line));
+  at : g.D.Door.number l.door ≡ l.self.inside.link;
+  number : g.D.Door.number l.door ≡ g.D.Door.number l.initial.door;
+  door : g.D.Door.is_same l.initial.door l.door;
+  same : g.L.Line.is_same l.initial.line l.line;
   works : l.self.failed ≡ false;
   turns : l.report.turns ≡ l._turn;
   sent : l.report.sent ≤ l._turn;

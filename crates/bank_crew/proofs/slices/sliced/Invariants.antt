@@ -1,0 +1,23 @@
+use Rattle.std.proofs.Common.{◌≡◌, ◌≤◌, false, Result}
+use Rattle.link_term.specs.declared.fault.TermFault.{TermFault}
+use Rattle.term_model.specs.declared.report.TermReport.{TermReport}
+use Rattle.link_term.specs.Standing.{Standing, lent, stands}
+use Rattle.bank_crew.specs.Shifts.{SlicesBy, SlicesFrom}
+use Rattle.bank_crew.proofs.slices.sliced.Given as goal
+
+-- what is left completes it
+abbrev pub invariant-loop-left : goal.invariant-loop-left
+invariant-loop-left g l = record {
+  few : l.left ≤ l.fn.turns;
+  works : l.works.failed ≡ false;
+  at : g.D.Door.number l.door ≡ l.works.inside.link;
+  number : g.D.Door.number l.door ≡ g.D.Door.number l.fn.door;
+  door : g.D.Door.is_same l.fn.door l.door;
+  line : g.L.Line.is_same l.fn.line l.line;
+  rest : (ended : Result TermReport TermFault) (after : Standing)
+      → SlicesFrom (g.M.SetManager.may l.fn.manager (g.D.Door.number l.fn.door)) l.left l.counted ended (stands g.D.Door g.L.Line (lent l.works l.door l.line)) after
+      → SlicesBy (g.M.SetManager.may l.fn.manager (g.D.Door.number l.fn.door)) l.fn.turns ended (stands g.D.Door g.L.Line (lent l.fn.works l.fn.door l.fn.line)) after;
+}
+
+abbrev pub decreases-loop-left : goal.decreases-loop-left
+decreases-loop-left g l = l.left
