@@ -29,7 +29,9 @@ use Rattle.pair_model.specs.Run.{Stage, passed, with_past, past_arrived, OnShows
 use Rattle.pair_model.proofs.Rising.{settled_at}
 use Rattle.pair_model.proofs.Runs.{is_at_up}
 use Rattle.pair_rises.specs.Counted.{IsCounted, HoldsAtEachMove, EveryMissedLifeIsCounted}
-use Rattle.pair_rises.specs.Rises.{Cover, inside, awaited, missed, is_covered, Move, steps, rises, fills, Rising, opening, told_at, open_at, with_open, is_first, risen_at, is_order, takes_order, about_of, order_about, missed_by, missed_at, covers_heard, moved, moved_on, IsPlainMove, AreMoves, MayMove, HoldsBefore}
+use Rattle.pair_rises.specs.Rises.{Cover, inside, awaited, missed, is_covered, Rising, opening, told_at, open_at, with_open, is_first, risen_at, is_order, takes_order, about_of, order_about, missed_by, missed_at, covers_heard, moved, moved_on, IsPlainMove, AreMoves, MayMove, HoldsBefore}
+use Rattle.pair_rises.specs.declared.moves.Move.{Move}
+use Rattle.pair_rises.specs.declared.moves.Move.TheVariants.{Step as MoveStep, Rise, Fill}
 use Rattle.pair_rises.proofs.Brought.{about_in, brought_in}
 use Rattle.pair_rises.proofs.Covers.{told_each}
 use Rattle.pair_rises.proofs.Heard as under_veils
@@ -186,15 +188,15 @@ module _ (emergencies : Bool) (ma mb : Method) (one : IsOneMethod ma mb) where
         go true e false full = tt
         go false e known full = lost
 
-    arrives_at : (end : End) (k : ℕ) → Counts_at (steps (Arrive end k)) (front_arrives w end k (line_to w end k))
+    arrives_at : (end : End) (k : ℕ) → Counts_at (MoveStep (Arrive end k)) (front_arrives w end k (line_to w end k))
     arrives_at A k = front_a k (units_on k w.to_a)
     arrives_at B k = front_b k (units_on k w.to_b)
 
-    arrive_counts : (end : End) (k : ℕ) → Counts_at (steps (Arrive end k)) (carried_out w (Arrive end k))
+    arrive_counts : (end : End) (k : ℕ) → Counts_at (MoveStep (Arrive end k)) (carried_out w (Arrive end k))
     unfolding carried_out
     arrive_counts end k = go (has_link w k)
       where
-        go : (known : Bool) → Counts_at (steps (Arrive end k)) (cond known (front_arrives w end k (line_to w end k)) impossible)
+        go : (known : Bool) → Counts_at (MoveStep (Arrive end k)) (cond known (front_arrives w end k (line_to w end k)) impossible)
         go true = arrives_at end k
         go false = tt
 
@@ -202,11 +204,11 @@ module _ (emergencies : Bool) (ma mb : Method) (one : IsOneMethod ma mb) where
     same_stands stage A l = refl
     same_stands stage B l = refl
 
-    other_counts : (step : Step) → IsNoArrival step → Counts_at (steps step) (carried_out w step)
+    other_counts : (step : Step) → IsNoArrival step → Counts_at (MoveStep step) (carried_out w step)
     other_counts step other = all_shows _ (carried_out w step) (λ shown new. subst (IsCounted g) (sym (none_told g step shown new other))
         (stays (record g { stage = passed g.stage step shown new }) (same_stands (passed g.stage step shown new))))
 
-    step_counts : (step : Step) → Counts_at (steps step) (carried_out w step)
+    step_counts : (step : Step) → Counts_at (MoveStep step) (carried_out w step)
     step_counts (Act end event) = other_counts (Act end event) tt
     step_counts (Emit end k) = other_counts (Emit end k) tt
     step_counts (Arrive end k) = arrive_counts end k
@@ -215,9 +217,9 @@ module _ (emergencies : Bool) (ma mb : Method) (one : IsOneMethod ma mb) where
     step_counts (Inject end k unit) = other_counts (Inject end k unit) tt
 
     move_counts : (move : Move) → Counts_at move (moved w move)
-    move_counts (steps step) = step_counts step
-    move_counts (rises end k) = all_shows _ (moved w (rises end k)) (λ shown new. risen (is_first w end k) end k new)
-    move_counts (fills end k) = all_shows _ (moved w (fills end k)) (λ shown new. stays (moved_on g (fills end k) shown new) (same_stands (record g.stage { world = new })))
+    move_counts (MoveStep step) = step_counts step
+    move_counts (Rise end k) = all_shows _ (moved w (Rise end k)) (λ shown new. risen (is_first w end k) end k new)
+    move_counts (Fill end k) = all_shows _ (moved w (Fill end k)) (λ shown new. stays (moved_on g (Fill end k) shown new) (same_stands (record g.stage { world = new })))
 
   -- ALL ALONG
   onward : (g : Rising) (move : Move) (moves : List Move) (outcome : Outcome)

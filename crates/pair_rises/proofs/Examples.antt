@@ -11,7 +11,9 @@ use Rattle.pair_steps.specs.declared.step.End.TheVariants.{A, B}
 use Rattle.pair_steps.specs.declared.step.Shown.{Shown}
 use Rattle.pair_steps.specs.declared.step.Step.TheVariants.{Act, Emit, Arrive}
 use Rattle.pair_model.specs.World.{World, Outcome, shows, impossible, exhausted, carried_out}
-use Rattle.pair_rises.specs.Rises.{missed, Move, steps, rises, fills, Rising, opening, moved, moved_on, IsRun, HoldsBefore, MayMove}
+use Rattle.pair_rises.specs.Rises.{missed, Rising, opening, moved, moved_on, IsRun, HoldsBefore, MayMove}
+use Rattle.pair_rises.specs.declared.moves.Move.{Move}
+use Rattle.pair_rises.specs.declared.moves.Move.TheVariants.{Step as MoveStep, Rise, Fill}
 
 config : SetConfig
 config = record {
@@ -43,7 +45,7 @@ body : List ℕ
 body = 133 ∷ 1 ∷ 128 ∷ 0 ∷ 48 ∷ []
 
 moves : List Move
-moves = rises A 0 ∷ steps (Act A (Offer body)) ∷ steps (Emit A 0) ∷ fills B 0 ∷ steps (Arrive A 0) ∷ rises B 0 ∷ steps (Arrive B 0) ∷ []
+moves = Rise A 0 ∷ MoveStep (Act A (Offer body)) ∷ MoveStep (Emit A 0) ∷ Fill B 0 ∷ MoveStep (Arrive A 0) ∷ Rise B 0 ∷ MoveStep (Arrive B 0) ∷ []
 
 got : (run (opening config config) moves).stage.b.got 3 ≡ record { number = 0; body = body } ∷ []
 unfolding carried_out step config reached_by run body moves
@@ -82,15 +84,15 @@ even = 133 ∷ 1 ∷ 128 ∷ 0 ∷ 32 ∷ []
 
 first_moves : List Move
 first_moves =
-    rises A 1 ∷ rises B 1 ∷ rises A 0 ∷ steps (Act A (Offer even)) ∷ steps (Emit A 0) ∷ steps (Act A (DownEvent 0)) ∷ steps (Emit A 1)
-    ∷ steps (Arrive B 1) ∷ []
+    Rise A 1 ∷ Rise B 1 ∷ Rise A 0 ∷ MoveStep (Act A (Offer even)) ∷ MoveStep (Emit A 0) ∷ MoveStep (Act A (DownEvent 0)) ∷ MoveStep (Emit A 1)
+    ∷ MoveStep (Arrive B 1) ∷ []
 
 missed_there : (run (opening two_links two_links) first_moves).open_b 0 ≡ missed
 unfolding carried_out step two_links reached_by run even first_moves
 missed_there = refl
 
 then_moves : List Move
-then_moves = steps (Emit B 1) ∷ steps (Arrive A 1) ∷ steps (Emit A 1) ∷ steps (Arrive B 1) ∷ rises B 0 ∷ rises A 0 ∷ []
+then_moves = MoveStep (Emit B 1) ∷ MoveStep (Arrive A 1) ∷ MoveStep (Emit A 1) ∷ MoveStep (Arrive B 1) ∷ Rise B 0 ∷ Rise A 0 ∷ []
 
 got_once : (run (opening two_links two_links) (first_moves ++ then_moves)).stage.b.got 2 ≡ record { number = 0; body = even } ∷ []
 unfolding carried_out step two_links reached_by run even first_moves then_moves

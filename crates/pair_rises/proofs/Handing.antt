@@ -23,7 +23,9 @@ use Rattle.pair_model.specs.Run.{Message, Past, Stage, bodies, past_asked, past_
 use Rattle.pair_streams.specs.Handed.{delivered_by, handed_in, bodies_of, taken_of, UsersTakeAll, UsersTakeFirst, UsersTakePart}
 use Rattle.pair_streams.specs.Streams.{IsPart, StreamsArrive, PartsArrive}
 use Rattle.pair_rises.specs.Handed.{EveryRisingRunHandsOutInOrder, EveryRisingRunHandsOutAPart}
-use Rattle.pair_rises.specs.Rises.{Move, steps, rises, fills, Rising, opening, is_first, risen_so, risen_at, comes_up, fills_line, moved, moved_on, as_seen, idle_at, IsPlainStep, IsPlainMove, AreMoves, HoldsAllAlong}
+use Rattle.pair_rises.specs.Rises.{Rising, opening, is_first, risen_so, risen_at, comes_up, fills_line, moved, moved_on, as_seen, idle_at, IsPlainStep, IsPlainMove, AreMoves, HoldsAllAlong}
+use Rattle.pair_rises.specs.declared.moves.Move.{Move}
+use Rattle.pair_rises.specs.declared.moves.Move.TheVariants.{Step as MoveStep, Rise, Fill}
 use Rattle.pair_rises.proofs.Runs.{Prefixes, every_rising_run_so, every_rising_run_so_in_part}
 use Rattle.pair_rises.proofs.Taking.{passes, Takes, keeps, hears}
 
@@ -54,10 +56,10 @@ module _ (g : Rising) (t : TakeAll g.stage) where
   abbrev Goes : Move → Outcome → Type 0
   Goes move outcome = OnShows outcome (λ shown new. Prefixes (moved_on g move shown new) → TakeAll (moved_on g move shown new).stage)
 
-  act_goes : (end : End) (event : Event) → has_own_step event ≡ false → Goes (steps (Act end event)) (acts w end event)
+  act_goes : (end : End) (event : Event) → has_own_step event ≡ false → Goes (MoveStep (Act end event)) (acts w end event)
   act_goes end event own = go (has_actor w (actor_of event)) (is_full (at_end w end))
     where
-      shown : (end : End) → Goes (steps (Act end event)) (shows (Answered (answer_to (at_end w end) event)) (with_end w end (after (at_end w end) event)))
+      shown : (end : End) → Goes (MoveStep (Act end event)) (shows (Answered (answer_to (at_end w end) event)) (with_end w end (after (at_end w end) event)))
       shown A = λ first. (
         keeps g.stage.a (past_asked event (Answered (answer_to w.a event)) g.stage.a) w.a event (asked_got event (Answered (answer_to w.a event)) g.stage.a)
             (own_delivers (answer_to w.a event) event own) t.0,
@@ -69,26 +71,26 @@ module _ (g : Rising) (t : TakeAll g.stage) where
             (own_delivers (answer_to w.b event) event own) t.1,
       )
 
-      go : (known full : Bool) → Goes (steps (Act end event))
+      go : (known full : Bool) → Goes (MoveStep (Act end event))
           (cond known (cond full exhausted (shows (Answered (answer_to (at_end w end) event)) (with_end w end (after (at_end w end) event)))) impossible)
       go true true = tt
       go true false = shown end
       go false full = tt
 
-  own_goes : (end : End) (event : Event) (own : Bool) → has_own_step event ≡ own → Goes (steps (Act end event)) (cond own impossible (acts w end event))
+  own_goes : (end : End) (event : Event) (own : Bool) → has_own_step event ≡ own → Goes (MoveStep (Act end event)) (cond own impossible (acts w end event))
   own_goes end event true e = tt
   own_goes end event false e = act_goes end event e
 
   -- what is sent joins a line, and no set
   sends : (end : End) (k : ℕ) (answer : Answer) → answer ≡ answer_to (at_end w end) (Next k)
-      → Goes (steps (Emit end k)) (shows (Answered answer) (with_sent (with_end w end (after (at_end w end) (Next k))) end k (Answered answer)))
+      → Goes (MoveStep (Emit end k)) (shows (Answered answer) (with_sent (with_end w end (after (at_end w end) (Next k))) end k (Answered answer)))
   sends A k answer e = go answer e
     where
       here : (then : Past) → ((stream : ℕ) → then.got stream ≡ g.stage.a.got stream) → Takes then (after w.a (Next k))
       here then same = keeps g.stage.a then w.a (Next k) same (next_delivers (answer_to w.a (Next k)) k) t.0
 
       go : (answer : Answer) → answer ≡ answer_to w.a (Next k)
-          → Goes (steps (Emit A k)) (shows (Answered answer) (with_sent (with_end w A (after w.a (Next k))) A k (Answered answer)))
+          → Goes (MoveStep (Emit A k)) (shows (Answered answer) (with_sent (with_end w A (after w.a (Next k))) A k (Answered answer)))
       go (Sent unit) e = λ first. (here (past_sent k w.a.state (after w.a (Next k)).state g.stage.a) (λ stream. refl), t.1)
       go _ e = λ first. (here (past_sent k w.a.state (after w.a (Next k)).state g.stage.a) (λ stream. refl), t.1)
   sends B k answer e = go answer e
@@ -97,14 +99,14 @@ module _ (g : Rising) (t : TakeAll g.stage) where
       here then same = keeps g.stage.b then w.b (Next k) same (next_delivers (answer_to w.b (Next k)) k) t.1
 
       go : (answer : Answer) → answer ≡ answer_to w.b (Next k)
-          → Goes (steps (Emit B k)) (shows (Answered answer) (with_sent (with_end w B (after w.b (Next k))) B k (Answered answer)))
+          → Goes (MoveStep (Emit B k)) (shows (Answered answer) (with_sent (with_end w B (after w.b (Next k))) B k (Answered answer)))
       go (Sent unit) e = λ first. (t.0, here (past_sent k w.b.state (after w.b (Next k)).state g.stage.b) (λ stream. refl))
       go _ e = λ first. (t.0, here (past_sent k w.b.state (after w.b (Next k)).state g.stage.b) (λ stream. refl))
 
-  emit_goes : (end : End) (k : ℕ) → Goes (steps (Emit end k)) (sends_on end k (acts w end (Next k)))
+  emit_goes : (end : End) (k : ℕ) → Goes (MoveStep (Emit end k)) (sends_on end k (acts w end (Next k)))
   emit_goes end k = go (has_link w k) (is_full (at_end w end))
     where
-      go : (known full : Bool) → Goes (steps (Emit end k)) (sends_on end k (cond known (cond full exhausted
+      go : (known full : Bool) → Goes (MoveStep (Emit end k)) (sends_on end k (cond known (cond full exhausted
           (shows (Answered (answer_to (at_end w end) (Next k))) (with_end w end (after (at_end w end) (Next k))))) impossible))
       go true true = tt
       go true false = sends end k (answer_to (at_end w end) (Next k)) refl
@@ -118,15 +120,15 @@ module _ (g : Rising) (t : TakeAll g.stage) where
       go true = goes
       go false = tt
 
-  lose_goes : (end : End) (k place : ℕ) → Goes (steps (Lose end k place)) (cond (nat_lt place (length (line_to w end k)))
+  lose_goes : (end : End) (k place : ℕ) → Goes (MoveStep (Lose end k place)) (cond (nat_lt place (length (line_to w end k)))
       (shows Lost (with_line w end k (without place (line_to w end k)))) impossible)
   lose_goes end k place = go (nat_lt place (length (line_to w end k)))
     where
-      lost : (end : End) → Goes (steps (Lose end k place)) (shows Lost (with_line w end k (without place (line_to w end k))))
+      lost : (end : End) → Goes (MoveStep (Lose end k place)) (shows Lost (with_line w end k (without place (line_to w end k))))
       lost A = λ first. t
       lost B = λ first. t
 
-      go : (within : Bool) → Goes (steps (Lose end k place)) (cond within (shows Lost (with_line w end k (without place (line_to w end k)))) impossible)
+      go : (within : Bool) → Goes (MoveStep (Lose end k place)) (cond within (shows Lost (with_line w end k (without place (line_to w end k)))) impossible)
       go true = lost end
       go false = tt
 
@@ -164,7 +166,7 @@ module _ (g : Rising) (t : TakeAll g.stage) where
   front_goes B k [] = tt
   front_goes end k (unit ∷ rest) = reach_goes end k unit rest
 
-  taken_on : (end : End) (k : ℕ) (outcome : Outcome) → Taken end k (line_to w end k) outcome → Goes (steps (Arrive end k)) outcome
+  taken_on : (end : End) (k : ℕ) (outcome : Outcome) → Taken end k (line_to w end k) outcome → Goes (MoveStep (Arrive end k)) outcome
   taken_on A k (shows shown new) goes = λ first. goes (first k).0
   taken_on B k (shows shown new) goes = λ first. goes (first k).1
   taken_on end k impossible goes = tt
@@ -174,20 +176,20 @@ module _ (g : Rising) (t : TakeAll g.stage) where
   not_injected false end k unit plain = plain
   not_injected true end k unit plain = plain
 
-  done_goes : (em : Bool) (step : Step) → IsPlainStep em step → Goes (steps step) (done_by w step)
+  done_goes : (em : Bool) (step : Step) → IsPlainStep em step → Goes (MoveStep step) (done_by w step)
   done_goes em (Act end event) plain = own_goes end event (has_own_step event) refl
   done_goes em (Emit end k) plain = emit_goes end k
-  done_goes em (Arrive end k) plain = on_link (steps (Arrive end k)) k _ (taken_on end k _ (front_goes end k (line_to w end k)))
-  done_goes em (Lose end k place) plain = on_link (steps (Lose end k place)) k _ (lose_goes end k place)
+  done_goes em (Arrive end k) plain = on_link (MoveStep (Arrive end k)) k _ (taken_on end k _ (front_goes end k (line_to w end k)))
+  done_goes em (Lose end k place) plain = on_link (MoveStep (Lose end k place)) k _ (lose_goes end k place)
   done_goes em (Together k) plain = absurd plain
   done_goes em (Inject end k unit) plain = absurd (not_injected em end k unit plain)
 
-  step_goes : (em : Bool) (step : Step) → IsPlainStep em step → Goes (steps step) (carried_out w step)
+  step_goes : (em : Bool) (step : Step) → IsPlainStep em step → Goes (MoveStep step) (carried_out w step)
   unfolding carried_out
   step_goes em step plain = done_goes em step plain
 
-  rises_goes : (end : End) (k : ℕ) → Goes (rises end k) (comes_up w end k)
-  rises_goes end k = on_link (rises end k) k _ (go (is_settled k (at_end w end).state) (is_full (at_end w end)))
+  rises_goes : (end : End) (k : ℕ) → Goes (Rise end k) (comes_up w end k)
+  rises_goes end k = on_link (Rise end k) k _ (go (is_settled k (at_end w end).state) (is_full (at_end w end)))
     where
       risen : (end : End) (first : Bool) → TakeAll (risen_at first end k (risen_so first w end k) g).stage
       risen A true = (keeps g.stage.a (past_risen k g.stage.a) w.a (UpEvent k) (λ stream. refl) (up_delivers (answer_to w.a (UpEvent k)) k) t.0, t.1)
@@ -195,22 +197,22 @@ module _ (g : Rising) (t : TakeAll g.stage) where
       risen B true = (t.0, keeps g.stage.b (past_risen k g.stage.b) w.b (UpEvent k) (λ stream. refl) (up_delivers (answer_to w.b (UpEvent k)) k) t.1)
       risen B false = (t.0, keeps g.stage.b g.stage.b w.b (UpEvent k) (λ stream. refl) (up_delivers (answer_to w.b (UpEvent k)) k) t.1)
 
-      go : (settled full : Bool) → Goes (rises end k) (cond settled (cond full exhausted (shows CameUp (risen_so (is_first w end k) w end k))) impossible)
+      go : (settled full : Bool) → Goes (Rise end k) (cond settled (cond full exhausted (shows CameUp (risen_so (is_first w end k) w end k))) impossible)
       go true true = tt
       go true false = λ first. risen end (is_first w end k)
       go false full = tt
 
-  fills_goes : (end : End) (k : ℕ) → Goes (fills end k) (fills_line w end k)
-  fills_goes end k = on_link (fills end k) k _ (filled end)
+  fills_goes : (end : End) (k : ℕ) → Goes (Fill end k) (fills_line w end k)
+  fills_goes end k = on_link (Fill end k) k _ (filled end)
     where
-      filled : (end : End) → Goes (fills end k) (shows Lost (joined w end k (idle_at w end)))
+      filled : (end : End) → Goes (Fill end k) (shows Lost (joined w end k (idle_at w end)))
       filled A = λ first. t
       filled B = λ first. t
 
   move_goes : (em : Bool) (move : Move) → IsPlainMove em move → Goes move (moved w move)
-  move_goes em (steps step) plain = step_goes em step plain
-  move_goes em (rises end k) plain = rises_goes end k
-  move_goes em (fills end k) plain = fills_goes end k
+  move_goes em (MoveStep step) plain = step_goes em step plain
+  move_goes em (Rise end k) plain = rises_goes end k
+  move_goes em (Fill end k) plain = fills_goes end k
 
 -- ALL ALONG
 module _ (Arrive Say : Rising → Type 0) (says : (g : Rising) → TakeAll g.stage → Arrive g → Say g) where

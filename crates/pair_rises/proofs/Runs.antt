@@ -28,7 +28,9 @@ use Rattle.pair_model.proofs.Runs as links
 use Rattle.pair_streams.specs.Streams.{StreamsArrive, PartsArrive}
 use Rattle.pair_streams.proofs.Acting.{IsSafe, Streams}
 use Rattle.pair_streams.proofs.Runs.{arrives_so, arrives_in_part, first_streams, step_keeps, is_safe_honest}
-use Rattle.pair_rises.specs.Rises.{Cover, awaited, is_covered, Move, steps, rises, fills, Rising, opening, all_inside, open_at, with_open, is_first, risen_so, risen_at, comes_up, fills_line, moved, moved_on, covers_heard, seen_under, laid, cover_of, as_seen, seen_at, idle_at, MayRise, MayMove, IsPlainStep, IsPlainMove, AreMoves, HoldsAllAlong, HoldsBefore, IsRun, EveryRisingRunKeepsStreams, EveryRisingRunKeepsOrder}
+use Rattle.pair_rises.specs.Rises.{Cover, awaited, is_covered, Rising, opening, all_inside, open_at, with_open, is_first, risen_so, risen_at, comes_up, fills_line, moved, moved_on, covers_heard, seen_under, laid, cover_of, as_seen, seen_at, idle_at, MayRise, MayMove, IsPlainStep, IsPlainMove, AreMoves, HoldsAllAlong, HoldsBefore, IsRun, EveryRisingRunKeepsStreams, EveryRisingRunKeepsOrder}
+use Rattle.pair_rises.specs.declared.moves.Move.{Move}
+use Rattle.pair_rises.specs.declared.moves.Move.TheVariants.{Step as MoveStep, Rise, Fill}
 use Rattle.pair_rises.proofs.Open.{IsOpen}
 use Rattle.pair_rises.proofs.Opens.{IsOpenAt, IsOpenStep, step_opens}
 use Rattle.pair_rises.proofs.Replies.{first_replies}
@@ -73,7 +75,7 @@ module _ (emergencies : Bool) (ma mb : Method) (one : IsOneMethod ma mb) where
         → OnShows (under g.open_a g.open_b outcome) (λ shown new. Streams emergencies (seen A (passed (as_seen g) step shown new)))
         → OnShows outcome (λ shown new. IsBare g.open_a g.open_b new)
         → ((owner : End) (l : ℕ) → open_at g owner l ≡ awaited → OnShows (under g.open_a g.open_b outcome) (λ shown new. IsOpenAt owner l new))
-        → Goes g (steps step) outcome
+        → Goes g (MoveStep step) outcome
     step_on step (shows shown new) other holds keeps bare_then opens =
         let is = sym (passed_world g.stage step shown new) in
         let b = subst (λ (x : World). IsBare g.open_a g.open_b x) is bare_then in
@@ -128,7 +130,7 @@ module _ (emergencies : Bool) (ma mb : Method) (one : IsOneMethod ma mb) where
         (let few = open_few w.b.state l (h.fit_y l (ap is_covered e)) in omega (arith, few, h.links.far_links, seen_length g.open_b w.b.state))
         (open_down g.open_b w.b.state h.fit_y l e) (h.opens_y l e) step (plain_safe emergencies step plain) (opens_on step plain other)
 
-    step_holds : (step : Step) → IsPlainStep emergencies step → IsNoArrival step → Goes g (steps step) (carried_out w step)
+    step_holds : (step : Step) → IsPlainStep emergencies step → IsNoArrival step → Goes g (MoveStep step) (carried_out w step)
     step_holds step plain other =
         let went = step_went g.open_a g.open_b emergencies w step bare plain other in
         let safe = plain_safe emergencies step plain in
@@ -172,19 +174,19 @@ module _ (emergencies : Bool) (ma mb : Method) (one : IsOneMethod ma mb) where
         go true e false full = tt
         go false e known full = turned (loses (turned h) k few unit rest front)
 
-    arrives_at : (end : End) (k : ℕ) → k < length w.a.state.links → Goes g (steps (Arrive end k)) (front_arrives w end k (line_to w end k))
+    arrives_at : (end : End) (k : ℕ) → k < length w.a.state.links → Goes g (MoveStep (Arrive end k)) (front_arrives w end k (line_to w end k))
     arrives_at A k few = front_a k few (units_on k w.to_a) refl
     arrives_at B k few = front_b k (few_b k few) (units_on k w.to_b) refl
 
-    arrive_holds : (end : End) (k : ℕ) → Goes g (steps (Arrive end k)) (carried_out w (Arrive end k))
+    arrive_holds : (end : End) (k : ℕ) → Goes g (MoveStep (Arrive end k)) (carried_out w (Arrive end k))
     unfolding carried_out
     arrive_holds end k = go (has_link w k) refl
       where
-        go : (known : Bool) → has_link w k ≡ known → Goes g (steps (Arrive end k)) (cond known (front_arrives w end k (line_to w end k)) impossible)
+        go : (known : Bool) → has_link w k ≡ known → Goes g (MoveStep (Arrive end k)) (cond known (front_arrives w end k (line_to w end k)) impossible)
         go true e = arrives_at end k (ltb-true k (link_count w.a.state) e)
         go false e = tt
 
-    each_step : (step : Step) → IsPlainStep emergencies step → Goes g (steps step) (carried_out w step)
+    each_step : (step : Step) → IsPlainStep emergencies step → Goes g (MoveStep step) (carried_out w step)
     each_step (Act end event) plain = step_holds (Act end event) plain tt
     each_step (Emit end k) plain = step_holds (Emit end k) plain tt
     each_step (Arrive end k) plain = arrive_holds end k
@@ -194,47 +196,47 @@ module _ (emergencies : Bool) (ma mb : Method) (one : IsOneMethod ma mb) where
 
     -- A RISE
     risen_a : (k : ℕ) → is_settled k w.a.state ≡ true → (first : Bool) → is_settled k w.b.state ≡ first
-        → MayMove g (rises A k) → is_first w A k ≡ first → Holds (risen_at first A k (risen_so first w A k) g)
+        → MayMove g (Rise A k) → is_first w A k ≡ first → Holds (risen_at first A k (risen_so first w A k) g)
     risen_a k settled true far may e = begins h k settled far
     risen_a k settled false far may e = joins h k (subst (λ (b : Bool). MayRise b g A k) e may)
 
     risen_b : (k : ℕ) → is_settled k w.b.state ≡ true → (first : Bool) → is_settled k w.a.state ≡ first
-        → MayMove g (rises B k) → is_first w B k ≡ first → Holds (risen_at first B k (risen_so first w B k) g)
+        → MayMove g (Rise B k) → is_first w B k ≡ first → Holds (risen_at first B k (risen_so first w B k) g)
     risen_b k settled true far may e = turned (begins (turned h) k settled far)
     risen_b k settled false far may e = turned (joins (turned h) k (subst (λ (b : Bool). MayRise b g B k) e may))
 
-    rises_holds : (end : End) (k : ℕ) → MayMove g (rises end k) → Goes g (rises end k) (comes_up w end k)
+    rises_holds : (end : End) (k : ℕ) → MayMove g (Rise end k) → Goes g (Rise end k) (comes_up w end k)
     rises_holds end k may = go (has_link w k) (is_settled k (at_end w end).state) refl (is_full (at_end w end))
       where
-        shown : (end : End) → MayMove g (rises end k) → is_settled k (at_end w end).state ≡ true
-            → Holds (moved_on g (rises end k) CameUp (risen_so (is_first w end k) w end k))
+        shown : (end : End) → MayMove g (Rise end k) → is_settled k (at_end w end).state ≡ true
+            → Holds (moved_on g (Rise end k) CameUp (risen_so (is_first w end k) w end k))
         shown A may settled = risen_a k settled (is_settled k w.b.state) refl may refl
         shown B may settled = risen_b k settled (is_settled k w.a.state) refl may refl
 
         go : (known : Bool) (settled : Bool) → is_settled k (at_end w end).state ≡ settled → (full : Bool)
-            → Goes g (rises end k) (cond known (cond settled (cond full exhausted (shows CameUp (risen_so (is_first w end k) w end k))) impossible) impossible)
+            → Goes g (Rise end k) (cond known (cond settled (cond full exhausted (shows CameUp (risen_so (is_first w end k) w end k))) impossible) impossible)
         go true true f true = tt
         go true true f false = shown end may f
         go true false f full = tt
         go false settled f full = tt
 
     -- A FILL
-    fills_goes : (end : End) (k : ℕ) → MayMove g (fills end k) → Goes g (fills end k) (fills_line w end k)
+    fills_goes : (end : End) (k : ℕ) → MayMove g (Fill end k) → Goes g (Fill end k) (fills_line w end k)
     fills_goes end k may = go (has_link w k)
       where
-        filled : (end : End) → MayMove g (fills end k) → Holds (moved_on g (fills end k) Lost (joined w end k (idle_at w end)))
+        filled : (end : End) → MayMove g (Fill end k) → Holds (moved_on g (Fill end k) Lost (joined w end k (idle_at w end)))
         filled A may = fills_line_of h k may
         filled B may = turned (fills_line_of (turned h) k may)
 
-        go : (known : Bool) → Goes g (fills end k) (cond known (shows Lost (joined w end k (idle_at w end))) impossible)
+        go : (known : Bool) → Goes g (Fill end k) (cond known (shows Lost (joined w end k (idle_at w end))) impossible)
         go true = filled end may
         go false = tt
 
     -- EACH MOVE
     pub move_goes : (move : Move) → IsPlainMove emergencies move → MayMove g move → Goes g move (moved w move)
-    move_goes (steps step) plain may = each_step step plain
-    move_goes (rises end k) plain may = rises_holds end k may
-    move_goes (fills end k) plain may = fills_goes end k may
+    move_goes (MoveStep step) plain may = each_step step plain
+    move_goes (Rise end k) plain may = rises_holds end k may
+    move_goes (Fill end k) plain may = fills_goes end k may
 
   -- ALL ALONG
   module _ (Says : Rising → Type 0) (says : (g : Rising) → Holds g → Says g) where

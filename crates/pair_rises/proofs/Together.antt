@@ -11,7 +11,8 @@ use Rattle.pair_steps.specs.declared.step.Shown.TheVariants.{Up}
 use Rattle.pair_steps.specs.declared.step.Step.TheVariants.{Together}
 use Rattle.pair_model.specs.World.{World, shows, impossible, exhausted, after, is_full, has_link, risen, with_end, carried_out}
 use Rattle.pair_model.proofs.Rising.{settled_at}
-use Rattle.pair_rises.specs.Rises.{Rising, rises, moved, emptied, AreTwoRises, TogetherIsTwoRises}
+use Rattle.pair_rises.specs.Rises.{Rising, moved, emptied, AreTwoRises, TogetherIsTwoRises}
+use Rattle.pair_rises.specs.declared.moves.Move.TheVariants.{Rise}
 
 unsettled_then : (k : ℕ) (s : State) (link : LinkState) → IsAt k link Settled s → is_settled k (step s (UpEvent k)).state ≡ false
 unfolding step
@@ -27,7 +28,7 @@ module _ (g : Rising) (k : ℕ) where
 
   module _ (known : has_link w k ≡ true) (near : is_settled k w.a.state ≡ true) (far : is_settled k w.b.state ≡ true)
       (free : is_full w.a ≡ false) (far_free : is_full w.b ≡ false) where
-    first : moved w (rises A k) ≡ shows Up between
+    first : moved w (Rise A k) ≡ shows Up between
     first = rw (known, near, free, far) refl
 
     known_then : has_link between k ≡ true
@@ -36,7 +37,7 @@ module _ (g : Rising) (k : ℕ) where
     joins : is_settled k (step w.a.state (UpEvent k)).state ≡ false
     joins = let at = settled_at k w.a.state near in unsettled_then k w.a.state at.0 at.1
 
-    second : moved between (rises B k) ≡ shows Up (risen w k)
+    second : moved between (Rise B k) ≡ shows Up (risen w k)
     second = rw (known_then, far, far_free, joins) refl
 
     two : AreTwoRises g k (risen w k)

@@ -23,7 +23,8 @@ use Rattle.pair_steps.specs.declared.step.Step.{Step}
 use Rattle.pair_steps.specs.declared.step.Step.TheVariants.{Act, Emit, Arrive, Lose, Together, Inject}
 use Rattle.pair_model.specs.World.{World, Outcome, shows, impossible, exhausted, at_end, with_end, actor_of, answer_to, after, is_full, has_link, has_actor, acts, with_sent, sends_on, loses_from, has_own_step, done_by, carried_out}
 use Rattle.pair_model.specs.Run.{Stage, passed, OnShows}
-use Rattle.pair_rises.specs.Rises.{Cover, Rising, set_under, world_under, as_seen, IsPlainStep, moved_on, steps}
+use Rattle.pair_rises.specs.Rises.{Cover, Rising, set_under, world_under, as_seen, IsPlainStep, moved_on}
+use Rattle.pair_rises.specs.declared.moves.Move.TheVariants.{Step as MoveStep}
 use Rattle.pair_rises.proofs.Replies.{Older, Replies, replies_kept, asked_older, next_older}
 use Rattle.pair_rises.proofs.Veils.{Fits, SameUnder, same_under, seen_length}
 
@@ -236,7 +237,7 @@ passed_world g (Inject A k unit) shown new = refl
 passed_world g (Inject B k unit) shown new = refl
 
 -- and but for what arrives each end stands to each link as it did
-pub none_told : (g : Rising) (step : Step) (shown : Shown) (new : World) → IsNoArrival step → moved_on g (steps step) shown new ≡ record g { stage = passed g.stage step shown new }
+pub none_told : (g : Rising) (step : Step) (shown : Shown) (new : World) → IsNoArrival step → moved_on g (MoveStep step) shown new ≡ record g { stage = passed g.stage step shown new }
 none_told g (Act end event) shown new other = refl
 none_told g (Emit end k) shown new other = refl
 none_told g (Arrive end k) shown new other = absurd other

@@ -7,7 +7,8 @@ use Rattle.set_model.specs.State.{late_at}
 use Rattle.pair_steps.specs.declared.step.End.{End}
 use Rattle.pair_model.specs.Run.{OnShows}
 use Rattle.pair_model.specs.World.{at_end}
-use Rattle.pair_rises.specs.Rises.{awaited, missed, Move, Rising, opening, open_at, moved, moved_on, IsRun}
+use Rattle.pair_rises.specs.declared.moves.Move.{Move}
+use Rattle.pair_rises.specs.Rises.{awaited, missed, Rising, opening, open_at, moved, moved_on, IsRun}
 
 abbrev pub IsCounted : Rising → Rising → Type 0
 IsCounted g then =

@@ -2,7 +2,8 @@
 -- see them.
 use Rattle.set_events.specs.declared.config.SetConfig.{SetConfig}
 use Rattle.pair_streams.specs.Handed.{UsersTakeFirst, UsersTakePart}
-use Rattle.pair_rises.specs.Rises.{Move, opening, HoldsAllAlong, IsRun}
+use Rattle.pair_rises.specs.declared.moves.Move.{Move}
+use Rattle.pair_rises.specs.Rises.{opening, HoldsAllAlong, IsRun}
 use Rattle.std.specs.Prelude.{List, true, false}
 
 -- LAWS

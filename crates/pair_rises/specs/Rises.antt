@@ -33,13 +33,11 @@ use Rattle.pair_model.specs.Promises.{IsOneMethod, IsSoundStep, IsQuietStep}
 use Rattle.pair_model.specs.Run.{Stage, begun, passed, past_risen, OnShows}
 use Rattle.pair_model.specs.World.{World, Outcome, shows, impossible, exhausted, at_end, with_end, other, line_to, joined, after, is_full, done_on, carried_out}
 use Rattle.pair_streams.specs.Streams.{StreamsArrive, PartsArrive}
+use Rattle.pair_rises.specs.declared.moves.Move.{Move}
+use Rattle.pair_rises.specs.declared.moves.Move.TheVariants.{Step as MoveStep, Rise, Fill}
 
--- WHAT CAN HAPPEN: a step as in the world of pair_model, where Together is left out; a link comes up at one end; or an end
--- that may yet join a life fills the line
-pub data Move : Type 0 where
-  steps : Step → Move
-  rises : End → ℕ → Move
-  fills : End → ℕ → Move
+-- WHAT CAN HAPPEN is a Move: a step as in the world of pair_model; a link comes up at one end; or an end that may yet join a
+-- life fills the line.
 
 -- A terminal that is ready sends FISUs before its link is up at the set: they are those of an end that sent and accepted
 -- nothing yet (Q.703 12.1), and the set isn't asked for them.
@@ -74,9 +72,9 @@ abbrev pub fills_line : World → End → ℕ → Outcome
 fills_line w end link = done_on w link (shows Lost (joined w end link (idle_at w end)))
 
 abbrev pub moved : World → Move → Outcome
-moved w (steps step) = carried_out w step
-moved w (rises end link) = comes_up w end link
-moved w (fills end link) = fills_line w end link
+moved w (MoveStep step) = carried_out w step
+moved w (Rise end link) = comes_up w end link
+moved w (Fill end link) = fills_line w end link
 
 -- HOW AN END STANDS to a life of a link: it's in it, or the link has none; it may join yet; or it heard first that the other
 -- left it, and missed it
@@ -167,9 +165,9 @@ risen_at true end link w g = began end link (begun_at link w g)
 risen_at false end link w g = with_open end (told_at link inside (open_at g end)) (then_at w g)
 
 abbrev pub moved_on : Rising → Move → Shown → World → Rising
-moved_on g (steps step) shown new = heard_at g step shown (record g { stage = passed g.stage step shown new })
-moved_on g (rises end link) shown new = risen_at (is_first g.stage.world end link) end link new g
-moved_on g (fills end link) shown new = then_at new g
+moved_on g (MoveStep step) shown new = heard_at g step shown (record g { stage = passed g.stage step shown new })
+moved_on g (Rise end link) shown new = risen_at (is_first g.stage.world end link) end link new g
+moved_on g (Fill end link) shown new = then_at new g
 
 -- UNDER THE VEIL: an awaited link as one that was left at once and in silence; a missed one as settled, answered, and
 -- with nothing counted. Neither shows the late orders that the set counts of it: the terminal alone asks for their number.
@@ -227,9 +225,9 @@ MayRise true g end link = Unit {0}
 MayRise false g end link = open_at g end link ≡ awaited
 
 abbrev pub MayMove : Rising → Move → Type 0
-MayMove g (steps step) = Unit {0}
-MayMove g (rises end link) = MayRise (is_first g.stage.world end link) g end link
-MayMove g (fills end link) = open_at g end link ≡ awaited
+MayMove g (MoveStep step) = Unit {0}
+MayMove g (Rise end link) = MayRise (is_first g.stage.world end link) g end link
+MayMove g (Fill end link) = open_at g end link ≡ awaited
 
 -- without emergencies, or with them
 abbrev pub IsPlainStep : Bool → Step → Type 0
@@ -238,9 +236,9 @@ IsPlainStep false step = IsSoundStep step
 IsPlainStep true step = IsQuietStep step
 
 abbrev pub IsPlainMove : Bool → Move → Type 0
-IsPlainMove emergencies (steps step) = IsPlainStep emergencies step
-IsPlainMove emergencies (rises end link) = Unit {0}
-IsPlainMove emergencies (fills end link) = Unit {0}
+IsPlainMove emergencies (MoveStep step) = IsPlainStep emergencies step
+IsPlainMove emergencies (Rise end link) = Unit {0}
+IsPlainMove emergencies (Fill end link) = Unit {0}
 
 abbrev pub AreMoves : (Move → Type 0) → List Move → Type 0
 AreMoves P [] = Unit {0}
@@ -268,9 +266,9 @@ EveryRisingRunKeepsOrder =
 -- with the same past
 pub record AreTwoRises (g : Rising) (link : ℕ) (new : World) : Type 0 where
   pub between : World
-  pub first : moved g.stage.world (rises A link) ≡ shows Up between
-  pub second : moved between (rises B link) ≡ shows Up new
-  pub stage : (moved_on (moved_on g (rises A link) Up between) (rises B link) Up new).stage ≡ passed g.stage (Together link) Up new
+  pub first : moved g.stage.world (Rise A link) ≡ shows Up between
+  pub second : moved between (Rise B link) ≡ shows Up new
+  pub stage : (moved_on (moved_on g (Rise A link) Up between) (Rise B link) Up new).stage ≡ passed g.stage (Together link) Up new
 
 abbrev pub TogetherIsTwoRises : Type 0
 TogetherIsTwoRises =
