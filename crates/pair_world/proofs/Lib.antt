@@ -1,2 +1,4 @@
+pub mod Moving
 pub mod Playing
+pub mod RisingLemmas
 pub mod WorldLemmas

@@ -12,8 +12,8 @@ pub enum PlayFault {
     /// 1: memory is wanted.
     #[error("out of memory")]
     NoMemory,
-    /// 2: the step at this place, from 0, can't be done: the world has no such link, the link isn't settled, no
-    /// unit is at that place of the line, or the event has a step of its own.
+    /// 2: the step (or move) at this place, from 0, can't be done: the world has no such link, the link isn't settled,
+    /// no unit is at that place of the line, or the event has a step of its own.
     #[error("the step at place {place} can't be done")]
     Impossible { place: u64 },
     /// 3: a history is full.

@@ -26,8 +26,8 @@ const LONGEST_HISTORY: u64 = 0x1_0000_0000_0000;
 pub struct World<G: Allocator = Global> {
     a: Box<SetCore<G>, G>,
     b: Box<SetCore<G>, G>,
-    to_a: Lines<G>,
-    to_b: Lines<G>,
+    pub(crate) to_a: Lines<G>,
+    pub(crate) to_b: Lines<G>,
 }
 
 impl<G: Allocator> Model for World<G> {
@@ -253,7 +253,12 @@ impl<G: Allocator + Copy> World<G> {
     }
 
     /// One event at an end.
-    fn act(&mut self, end: End, event: &EventRef<'_>, shown: &mut Showing) -> Result<(), PlayFault>
+    pub(crate) fn act(
+        &mut self,
+        end: End,
+        event: &EventRef<'_>,
+        shown: &mut Showing,
+    ) -> Result<(), PlayFault>
         requires { HasFitUnit event.now }
         ensures acts { IsCarriedOut result (acts self.old end (event_in event.now)) shown.new self.new }
         ensures impossible { StaysIfImpossible result self.old self.new }
@@ -303,7 +308,7 @@ impl<G: Allocator + Copy> World<G> {
     }
 
     /// Whether the world has this link.
-    fn holds_link(&self, link: u8) -> bool
+    pub(crate) fn holds_link(&self, link: u8) -> bool
         ensures value { result ≡ has_link self.now link }
         ensures few { result ≡ true → link < 16 }
     {
