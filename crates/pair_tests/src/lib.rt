@@ -5,4 +5,6 @@
 #![tactic(auto)]
 
 #[cfg(test)]
+mod rises;
+#[cfg(test)]
 mod runs;

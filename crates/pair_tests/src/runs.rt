@@ -10,12 +10,12 @@ use std::alloc::Global;
 use std::test::Fail;
 
 /// An end with so many links, its own point code and the far end's.
-fn end_of(links: u8, own: u16, far: u16) -> Option<SetConfig> {
+pub(crate) fn end_of(links: u8, own: u16, far: u16) -> Option<SetConfig> {
     SetConfig::new(0, links, own, far, 0x80, Method::Basic).ok()
 }
 
 /// What this line asks for, if anything.
-fn read(alloc: Global, line: &str) -> Option<Step> {
+pub(crate) fn read(alloc: Global, line: &str) -> Option<Step> {
     match read_step(alloc, Profile::Narrow, line.as_bytes()) {
         Ok(step) => step,
         Err(_) => None,
@@ -104,7 +104,7 @@ fn lines_fail(alloc: Global, links: [u8; 2], lines: &[&str], wanted: PlayFault) 
 
 /// The messages 0, 1, .. of end a stand so; the links 0, 1, .. are up at both ends, or settled at both with nothing on
 /// its way.
-fn stands(world: &World, fates: &[Fate], up: &[bool]) -> bool {
+pub(crate) fn stands(world: &World, fates: &[Fate], up: &[bool]) -> bool {
     for (number, fate) in fates.iter().enumerate() {
         if world.core(End::A).place_of(number as u64) != Some(*fate) {
             return false;
@@ -128,7 +128,7 @@ fn link_is(world: &World, link: u8, up: bool) -> bool {
     }
 }
 
-fn holds(it: bool) -> Result<(), Fail> {
+pub(crate) fn holds(it: bool) -> Result<(), Fail> {
     if it {
         Ok(())
     } else {
@@ -165,7 +165,7 @@ fn one_link_against_two(rt: HostRuntime) -> Result<(), Fail> {
 }
 
 /// An end of the wide profile.
-fn wide_end_of(links: u8, own: u16, far: u16) -> Option<SetConfig> {
+pub(crate) fn wide_end_of(links: u8, own: u16, far: u16) -> Option<SetConfig> {
     SetConfig::new_wide(0, links, own, far, 0x80, Method::Basic).ok()
 }
 
