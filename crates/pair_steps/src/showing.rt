@@ -56,7 +56,7 @@ impl Showing {
         }
     }
 
-    /// The link came up at both ends.
+    /// The link came up, at both ends or at the one that it was to come up at.
     pub fn set_up(&mut self)
         ensures { self.new ≡ Up }
     {

@@ -34,7 +34,7 @@ pub enum Step {
 pub enum Shown {
     /// The end answered.
     Answered(Answer),
-    /// The link came up at both ends.
+    /// The link came up, at both ends or at the one that it was to come up at.
     Up,
     /// A unit was lost.
     Lost,

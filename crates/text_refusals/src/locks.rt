@@ -101,8 +101,10 @@ fn calls<O: Opening, R: Wait>(
         Call::Up => is_done(set.term_step(rt, terminal, &Event::Up { link })),
         Call::NextHeld => {
             let mut reply = Reply::new();
-            set.term_step_held(rt, terminal, &EventRef::Next { link }, &mut reply, || ())
-                .map(|_late| ())
+            match set.term_step_held(rt, terminal, &EventRef::Next { link }, &mut reply, || ()) {
+                Ok(_late) => Ok(()),
+                Err(fault) => Err(fault),
+            }
         }
         Call::Checkpoint => set.checkpoint(rt),
         Call::ForgetUser => set.forget(rt, user),
