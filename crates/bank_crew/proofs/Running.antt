@@ -23,7 +23,7 @@ use Rattle.line_tape.specs.Taping.{IsTape}
 use Rattle.link_term.specs.Looking.{Seen}
 use Rattle.link_term.specs.Standing.{Standing, standing}
 use Rattle.bank_crew.specs.declared.manager.Sight.{Sight}
-use Rattle.bank_crew.specs.Shifts.{AfterHalf, DoesShift, Halves, RunTurns, Turns, TurnsBy, Slices, SlicesFrom, all_taken, broken_off, told_end, one_more, TurnsOf, TurnsWhere, both, fresh, is_to_fail, longest_slice, Slice}
+use Rattle.bank_crew.specs.Shifts.{AfterHalf, DoesShift, Halves, Turns, TurnsBy, Slices, SlicesFrom, all_taken, broken_off, told_end, one_more, TurnsOf, TurnsWhere, both, fresh, is_to_fail, longest_slice, Slice}
 
 -- it went, or it failed
 pub either_way : (A : Type 0) (P : TermReport → Type 0) (Q : TermFault → Type 0) (result : Result TermReport TermFault) → IfOk result (λ report. A × P report) → IfErr result Q → MatchResult result P Q

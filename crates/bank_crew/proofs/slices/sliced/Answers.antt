@@ -1,4 +1,4 @@
-use Rattle.std.proofs.Common.{◌≡◌, ◌∙◌, arith, ap, subst, Ok, Err}
+use Rattle.std.proofs.Common.{◌∙◌, arith, ap, subst, Ok, Err}
 use Rattle.link_term.specs.Standing.{lent, stands}
 use Rattle.bank_crew.specs.Shifts.{RunTurns}
 use Rattle.bank_crew.proofs.Running.{all_slices, looked_on, slice_breaks, slice_more, slices_end}

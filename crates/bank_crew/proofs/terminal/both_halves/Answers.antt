@@ -1,4 +1,4 @@
-use Rattle.std.proofs.Common.{◌∙◌, ap}
+use Rattle.std.proofs.Common.{ap}
 use Rattle.link_term.specs.Standing.{lent, stands}
 use Rattle.bank_crew.proofs.Running.{by_first_half, by_halves, turned_from}
 use Rattle.bank_crew.proofs.terminal.both_halves.Goals as goal

@@ -1,4 +1,4 @@
-use Rattle.std.proofs.Common.{◌≡◌, ◌∙◌, ap, subst, sym, not, ◌==◌, true, false, ℕ, List, [], ◌∷◌, ◌++◌}
+use Rattle.std.proofs.Common.{◌≡◌, ◌∙◌, ap, subst, sym, not, ◌==◌, true, false, ℕ, [], ◌∷◌, ◌++◌}
 use Rattle.set_shared.specs.Asking.{IsAnsweredWith}
 use Rattle.set_events.specs.Lent.{event_in}
 use Rattle.bank_crew.specs.Doors.{DoorState}

@@ -1,4 +1,4 @@
-use Rattle.std.proofs.Common.{◌≡◌, ◌∙◌, ap, subst, sym}
+use Rattle.std.proofs.Common.{◌∙◌, ap, subst, sym}
 use Rattle.bank_crew.specs.Doors.{AskedDue, DoorState, door_state}
 use Rattle.bank_crew.specs.Seats.{link_in}
 use Rattle.bank_crew.proofs.Due.{rest_due}

@@ -1,5 +1,4 @@
-use Rattle.std.proofs.Common.{refl, ap, subst, arith, rules, ◌≡◌, ◌∙◌, ◌≤◌}
-use Rattle.term_model.specs.Runs.{cause_or_0}
+use Rattle.std.proofs.Common.{refl, ap, arith, rules, ◌≡◌, ◌∙◌, ◌≤◌}
 use Rattle.link_term.specs.Turning.{one_if_chosen}
 use Rattle.link_term.proofs.Turns.{ran_none, ran_more, ran_all, run_failed, at_most_one}
 use Rattle.link_term.proofs.works.Works.run.Goals as goal
