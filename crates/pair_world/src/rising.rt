@@ -19,7 +19,7 @@ impl<G: Allocator + Copy> World<G> {
     ghost use Rattle.pair_streams.specs.Handed.{UsersTakeFirst, UsersTakePart};
     ghost use Rattle.pair_streams.specs.Streams.{PartsArrive, StreamsArrive};
     ghost use Rattle.pair_rises.specs.Counted.{HoldsAtEachMove, IsCounted};
-    ghost use Rattle.pair_rises.specs.Rises.{HoldsAllAlong, IsRun, as_seen, comes_up, emptied, fills_line, is_first, moved, opening};
+    ghost use Rattle.pair_rises.specs.Rises.{HoldsAllAlong, IsRun, as_seen, comes_up, emptied, fills_line, idle_at, is_first, moved, opening};
     ghost use Rattle.pair_world.specs.Carried.{AreCarriedOut, IsCarriedOut, StaysIfImpossible};
     ghost use Rattle.pair_world.specs.Moved.{ArePlayed, moved_from};
 
@@ -135,6 +135,14 @@ impl<G: Allocator + Copy> World<G> {
         }
     }
 
+    /// The header of the FISUs with which this end's terminal fills a line before the end's set has the link up: that of
+    /// an end that sent and accepted nothing (Q.703 12.1).
+    pub fn fill_head(&self, end: End) -> Header
+        ensures { SignalUnit.Fisu result ≡ idle_at self.now end }
+    {
+        idle_head(self.profile(end))
+    }
+
     /// A FISU of an end that sent and accepted nothing joins the link's line to the other end.
     fn fill_line(&mut self, end: End, link: u8, shown: &mut Showing) -> Result<(), PlayFault>
         ensures carried { IsCarriedOut result (fills_line self.old end link) shown.new self.new }
@@ -144,7 +152,7 @@ impl<G: Allocator + Copy> World<G> {
             return Err(PlayFault::Impossible { place: 0 });
         }
         let unit = UnitRef::Fisu {
-            head: idle_head(self.profile(end)),
+            head: self.fill_head(end),
         };
         match end {
             End::A => self.to_b.join(link, &unit)?,
