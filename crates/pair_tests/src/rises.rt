@@ -1,11 +1,9 @@
-//! Runs of two ends whose links come up at one end and then at the other. A move is written as the line of a script, or
-//! as `rise END LINK` or `fill END LINK`.
+//! Runs of two ends whose links come up at one end and then at the other. A move is written as the line of a script.
 //!
 //! Each run gives a world, or a fault; what is looked at borrows it.
 use super::runs::{end_of, holds, read, stands, wide_end_of};
 use l2_units::UnitRef;
 use pair_world::{End, Move, PlayFault, Showing, ShownRef, Step, World};
-use script_grammar::{cut, read_end, read_link};
 use set_events::{AnswerRef, Event, Fate, SetConfig};
 use std::alloc::Global;
 use std::test::Fail;
@@ -13,35 +11,10 @@ use std::test::Fail;
 /// What these lines lead to.
 type Ended = Option<Result<World, PlayFault>>;
 
-/// What happens at one end alone by this line, if anything.
-fn at_one_end(line: &str) -> Option<Move> {
-    let (name, others) = cut(line.as_bytes());
-    let (end, link) = cut(others?);
-    let end = read_end(end)?;
-    let link = read_link(link?)?;
-    if name == b"rise".as_slice() {
-        Some(Move::Rise { end, link })
-    } else if name == b"fill".as_slice() {
-        Some(Move::Fill { end, link })
-    } else {
-        None
-    }
-}
-
-fn read_move(alloc: Global, line: &str) -> Option<Move> {
-    match at_one_end(line) {
-        Some(next) => Some(next),
-        None => match read(alloc, line) {
-            Some(step) => Some(Move::Step(step)),
-            None => None,
-        },
-    }
-}
-
 /// Adds the moves of these lines; whether each is one.
 fn add_moves(alloc: Global, lines: &[&str], moves: &mut Vec<Move>) -> bool {
     for line in lines {
-        let Some(next) = read_move(alloc, line) else {
+        let Some(next) = read(alloc, line) else {
             return false;
         };
         if moves.push(next).is_err() {

@@ -3,8 +3,8 @@
 //! To let a world go is dear to prove, and dearer in a function that branches: only `ends` and `has_nothing_to_lose` do so,
 //! in a straight line. Others borrow one, hand it on, or have plain values.
 use l2_units::Profile;
-use pair_world::{End, PlayFault, Shown, Step, World};
-use script_grammar::read_step;
+use pair_world::{End, Move, PlayFault, Shown, Step, World};
+use script_grammar::read_move;
 use set_events::{Event, Fate, Method, SetConfig};
 use std::alloc::Global;
 use std::test::Fail;
@@ -15,9 +15,9 @@ pub(crate) fn end_of(links: u8, own: u16, far: u16) -> Option<SetConfig> {
 }
 
 /// What this line asks for, if anything.
-pub(crate) fn read(alloc: Global, line: &str) -> Option<Step> {
-    match read_step(alloc, Profile::Narrow, line.as_bytes()) {
-        Ok(step) => step,
+pub(crate) fn read(alloc: Global, line: &str) -> Option<Move> {
+    match read_move(alloc, Profile::Narrow, line.as_bytes()) {
+        Ok(next) => next,
         Err(_) => None,
     }
 }
@@ -25,7 +25,7 @@ pub(crate) fn read(alloc: Global, line: &str) -> Option<Step> {
 /// Adds the steps that these lines ask for; whether each asks for one.
 fn add_steps(alloc: Global, lines: &[&str], steps: &mut Vec<Step>) -> bool {
     for line in lines {
-        let Some(step) = read(alloc, line) else {
+        let Some(Move::Step(step)) = read(alloc, line) else {
             return false;
         };
         if steps.push(step).is_err() {

@@ -10,11 +10,12 @@ use Rattle.set_events.specs.declared.answer.Answer.{Answer}
 use Rattle.set_events.specs.declared.answer.Answer.TheVariants.{Accepted, Taken, Found, Sent, Heard, Done, Refused}
 use Rattle.pair_steps.specs.declared.step.End.{End}
 use Rattle.pair_steps.specs.declared.step.End.TheVariants.{A, B}
-use Rattle.pair_steps.specs.declared.step.Step.{Step}
 use Rattle.pair_steps.specs.declared.step.Step.TheVariants.{Act, Emit, Arrive, Lose, Together, Inject}
 use Rattle.pair_steps.specs.declared.step.Shown.{Shown}
 use Rattle.pair_steps.specs.declared.step.Shown.TheVariants.{Up, Lost, Answered}
 use Rattle.pair_model.specs.World.{World}
+use Rattle.pair_rises.specs.declared.moves.Move.{Move}
+use Rattle.pair_rises.specs.declared.moves.Move.TheVariants.{Step as MoveStep, Rise, Fill}
 use Rattle.script_answers.specs.Texts.{unit_octets}
 use Rattle.text_printing.specs.Printing.{Printed}
 use Rattle.script_walk.specs.declared.fault.ScriptFault.{ScriptFault}
@@ -88,14 +89,17 @@ shown_record profile n header Up = []
 shown_record profile n header Lost = []
 shown_record profile n header (Answered answer) = answer_record profile n header answer
 
--- a unit is sent by the step of an end on a link
-abbrev pub step_record : Profile → ℕ → Step → Shown → List ℕ
-step_record profile n (Emit end link) shown = shown_record profile n (pseudo_header profile end link) shown
-step_record profile n (Act end event) shown = []
-step_record profile n (Arrive end link) shown = []
-step_record profile n (Lose end link place) shown = []
-step_record profile n (Together link) shown = []
-step_record profile n (Inject end link unit) shown = []
+-- a unit is sent by the move of an end on a link
+abbrev pub move_record : Profile → ℕ → Move → Shown → List ℕ
+move_record profile n (MoveStep (Emit end link)) shown =
+    shown_record profile n (pseudo_header profile end link) shown
+move_record profile n (Fill end link) shown = shown_record profile n (pseudo_header profile end link) shown
+move_record profile n (Rise end link) shown = []
+move_record profile n (MoveStep (Act end event)) shown = []
+move_record profile n (MoveStep (Arrive end link)) shown = []
+move_record profile n (MoveStep (Lose end link place)) shown = []
+move_record profile n (MoveStep (Together link)) shown = []
+move_record profile n (MoveStep (Inject end link unit)) shown = []
 
 -- a script that makes no world leaves the head alone, that of the narrow profile
 abbrev pub at_the_end : Option World → List ℕ
@@ -105,7 +109,7 @@ at_the_end (Some w) = []
 abbrev pub capture_told : Told
 capture_told = record {
   opening = λ w. file_head (profile_of w);
-  step = λ n before step shown w. step_record (profile_of w) n step shown;
+  step = λ n before move shown w. move_record (profile_of w) n move shown;
   at_the_end = at_the_end;
 }
 

@@ -6,7 +6,7 @@ ghost use Rattle.script_capture.specs.Capture.{IsCapture, pseudo_header, shown_r
 use super::records::{head_of_file, write_record};
 use l2_units::Profile;
 use pair_steps::{End, Showing, ShownRef, Step};
-use pair_world::World;
+use pair_world::{Move, World};
 use script_walk::{Account, ScriptFault, tell_script, world_profile};
 use set_events::AnswerRef;
 use std::alloc::{AllocError, Global};
@@ -22,9 +22,9 @@ impl Account for Units {
 
     ghost told = { capture_told };
 
-    ghost is_note = { λ world step note. Unit {0} };
+    ghost is_note = { λ world move note. Unit {0} };
 
-    fn note(_alloc: Global, _world: &World, _step: &Step) {}
+    fn note(_alloc: Global, _world: &World, _next: &Move) {}
 
     fn tell_opening(_alloc: Global, world: &World, out: &mut Vec<u8>) -> Result<(), AllocError> {
         out.extend_from_slice(&head_of_file(world_profile(world)))
@@ -34,13 +34,13 @@ impl Account for Units {
         alloc: Global,
         number: u64,
         _note: (),
-        step: &Step,
+        next: &Move,
         shown: &Showing,
         world: &World,
         out: &mut Vec<u8>,
     ) -> Result<(), AllocError> {
-        match step {
-            Step::Emit { end, link } => {
+        match next {
+            Move::Step(Step::Emit { end, link }) | Move::Fill { end, link } => {
                 tell_sent(alloc, world_profile(world), number, *end, *link, shown, out)
             }
             _ => Ok(()),

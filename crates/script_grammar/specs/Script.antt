@@ -17,6 +17,8 @@ use Rattle.pair_steps.specs.declared.step.End.{End}
 use Rattle.pair_steps.specs.declared.step.End.TheVariants.{A, B}
 use Rattle.pair_steps.specs.declared.step.Step.{Step}
 use Rattle.pair_steps.specs.declared.step.Step.TheVariants.{Act, Emit, Arrive, Lose, Together, Inject}
+use Rattle.pair_rises.specs.declared.moves.Move.{Move}
+use Rattle.pair_rises.specs.declared.moves.Move.TheVariants.{Step as MoveStep, Rise, Fill}
 use Rattle.script_grammar.specs.declared.script.Values.{Values}
 
 -- Words.
@@ -127,9 +129,22 @@ step_by profile name (Some words) =
 abbrev pub if_found : {A : Type 0} → Bool → A → Option A
 if_found found a = if found then Some a else None
 
--- the step that a line after the first asks for, where a unit has the form of this profile; None: it's unreadable
-abbrev pub step_of : Profile → List ℕ → Option Step
-step_of profile text = step_by profile (first_word text) (other_words text)
+-- The moves: rise END LINK, fill END LINK, what happens at one end alone, and the steps.
+abbrev pub at_one_end : (End → ℕ → Move) → List ℕ → Option Move
+at_one_end happens words =
+    option_and_then (λ end. option_map (happens end) (option_and_then link_of (other_words words)))
+    (end_of (first_word words))
+
+abbrev pub move_by : Profile → List ℕ → Option (List ℕ) → Option Move
+move_by profile name None = None
+move_by profile name (Some words) =
+    if bytes_eq name (codes "rise") then at_one_end Rise words
+    else (if bytes_eq name (codes "fill") then at_one_end Fill words
+    else option_map MoveStep (step_by profile name (Some words)))
+
+-- the move that a line after the first asks for, where a unit has the form of this profile; None: it's unreadable
+abbrev pub move_of : Profile → List ℕ → Option Move
+move_of profile text = move_by profile (first_word text) (other_words text)
 
 -- The first line: set links=L method=W a=X b=Y sio=HH, behind which profile=narrow or profile=wide may stand.
 

@@ -1,45 +1,96 @@
-//! A step, from the octets of its line.
-ghost use Rattle.std.specs.Prelude.{◌≡◌, ◌<◌, false, IfOk, Some, codes, length, position};
+//! A move, from the octets of its line.
+ghost use Rattle.std.specs.Prelude.{◌≡◌, ◌<◌, ℕ, false, IfOk, Some, codes, length, position};
 ghost use Rattle.std.specs.Option.{option_map, option_copied, ForSome};
 ghost use Rattle.std.specs.Str.{bytes_eq};
 ghost use Rattle.l2_units.specs.declared.profile.Profile.{Profile};
 ghost use Rattle.l2_units.specs.Grammar.{unit_of as unit_of_octets};
-ghost use Rattle.script_grammar.specs.Script.{if_found, is_space, first_word, other_words, end_of, link_of, some_octets, step_of, step_at, step_with, together, offer, body_of, take_message, find, lose, hear, unit_of, on_link, link_event};
+ghost use Rattle.pair_rises.specs.declared.moves.Move.{Move as MoveModel};
+ghost use Rattle.pair_rises.specs.declared.moves.Move.TheVariants.{Rise, Fill};
+ghost use Rattle.pair_steps.specs.declared.step.End.{End as ModelEnd};
+ghost use Rattle.script_grammar.specs.Script.{if_found, is_space, first_word, other_words, end_of, link_of, some_octets, at_one_end, move_of, step_at, step_by, step_with, together, offer, body_of, take_message, find, lose, hear, unit_of, on_link, link_event};
 
 use l2_units::{Profile, Unit, read, read_wide};
+use pair_rises::Move;
 use pair_steps::{End, Step};
 use set_events::{Body, Event};
 use std::alloc::{AllocError, Global};
 use text_base::{is_word, read_number, read_octets};
 
-/// The step that a line after the first asks for; `None`: it's unreadable.
+/// The move that a line after the first asks for; `None`: it's unreadable.
 ///
 /// A unit has the form of this profile. A link's number over 255 is read as 255, since no world has either link.
-pub fn read_step(alloc: Global, profile: Profile, text: &[u8]) -> Result<Option<Step>, AllocError>
-    ensures { IfOk result (λ step. step ≡ step_of profile text.now) }
+pub fn read_move(alloc: Global, profile: Profile, text: &[u8]) -> Result<Option<Move>, AllocError>
+    ensures { IfOk result (λ next. next ≡ move_of profile text.now) }
 {
-    let mut step = Step::Together { link: 0 };
-    if read_step_into(alloc, profile, text, &mut step)? {
-        Ok(Some(step))
+    let mut next = Move::Step(Step::Together { link: 0 });
+    if read_move_into(alloc, profile, text, &mut next)? {
+        Ok(Some(next))
     } else {
         Ok(None)
     }
 }
 
-/// Whether a line after the first can be read; the step that it asks for then stands in `step`, else what stands there
+/// Whether a line after the first can be read; the move that it asks for then stands in `next`, else what stands there
 /// isn't told. A step has room for a unit, so that it's better filled in its place than handed on.
-pub fn read_step_into(
+pub fn read_move_into(
     alloc: Global,
     profile: Profile,
     text: &[u8],
-    step: &mut Step,
+    next: &mut Move,
 ) -> Result<bool, AllocError>
-    ensures { IfOk result (λ found. if_found found step.new ≡ step_of profile text.now) }
+    ensures { IfOk result (λ found. if_found found next.new ≡ move_of profile text.now) }
 {
     let (name, words) = cut(text);
     let Some(words) = words else {
         return Ok(false);
     };
+    if is_word(name, b"rise") {
+        return Ok(read_rise(words, next));
+    }
+    if is_word(name, b"fill") {
+        return Ok(read_fill(words, next));
+    }
+    if !matches!(next, Move::Step(_)) {
+        *next = Move::Step(Step::Together { link: 0 });
+    }
+    match next {
+        Move::Step(step) => read_step(alloc, profile, name, words, step),
+        Move::Rise { .. } | Move::Fill { .. } => unreachable!(),
+    }
+}
+
+/// `rise END LINK`, behind the name.
+fn read_rise(words: &[u8], next: &mut Move) -> bool
+    ensures { if_found result next.new ≡ at_one_end Rise words.now }
+{
+    let Some((end, link)) = read_end_and_link(words) else {
+        return false;
+    };
+    *next = Move::Rise { end, link };
+    true
+}
+
+/// `fill END LINK`, behind the name.
+fn read_fill(words: &[u8], next: &mut Move) -> bool
+    ensures { if_found result next.new ≡ at_one_end Fill words.now }
+{
+    let Some((end, link)) = read_end_and_link(words) else {
+        return false;
+    };
+    *next = Move::Fill { end, link };
+    true
+}
+
+/// The step of this name and the words behind it.
+fn read_step(
+    alloc: Global,
+    profile: Profile,
+    name: &[u8],
+    words: &[u8],
+    step: &mut Step,
+) -> Result<bool, AllocError>
+    ensures { IfOk result (λ found. if_found found step.new ≡ step_by profile name.now (Some words.now)) }
+{
     if is_word(name, b"together") {
         return Ok(read_together(words, step));
     }
@@ -80,6 +131,17 @@ pub fn read_end(word: &[u8]) -> Option<End>
     } else {
         None
     }
+}
+
+/// An end and a link.
+fn read_end_and_link(words: &[u8]) -> Option<(End, u8)>
+    ensures { (happens : ModelEnd → ℕ → MoveModel) → option_map (λ both. happens both.0 both.1) result
+        ≡ at_one_end happens words.now }
+{
+    let (word, words) = cut(words);
+    let end = read_end(word)?;
+    let link = read_link(words?)?;
+    Some((end, link))
 }
 
 /// A link's number.

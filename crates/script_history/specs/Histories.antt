@@ -21,7 +21,7 @@ at_the_end end (Some w) = set_text (at_end w end)
 abbrev pub history_told : End → Told
 history_told end = record {
   opening = λ w. [];
-  step = λ n before step shown w. [];
+  step = λ n before move shown w. [];
   at_the_end = at_the_end end;
 }
 

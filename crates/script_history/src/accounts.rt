@@ -4,8 +4,8 @@ ghost use Rattle.pair_steps.specs.declared.step.End.{End};
 ghost use Rattle.script_history.specs.Histories.{set_text, at_the_end};
 
 use history_text::write_history;
-use pair_steps::{Showing, Step};
-use pair_world::{End, World};
+use pair_steps::Showing;
+use pair_world::{End, Move, World};
 use script_walk::Account;
 use set_core::SetCore;
 use std::alloc::{AllocError, Global};
@@ -59,9 +59,9 @@ impl<E: NamesEnd> Account for History<E> {
 
     ghost told = { history_told E.end };
 
-    ghost is_note = { λ world step note. Unit {0} };
+    ghost is_note = { λ world move note. Unit {0} };
 
-    fn note(_alloc: Global, _world: &World, _step: &Step) {}
+    fn note(_alloc: Global, _world: &World, _next: &Move) {}
 
     fn tell_opening(_alloc: Global, _world: &World, _out: &mut Vec<u8>) -> Result<(), AllocError> {
         Ok(())
@@ -71,7 +71,7 @@ impl<E: NamesEnd> Account for History<E> {
         _alloc: Global,
         _number: u64,
         _note: (),
-        _step: &Step,
+        _next: &Move,
         _shown: &Showing,
         _world: &World,
         _out: &mut Vec<u8>,

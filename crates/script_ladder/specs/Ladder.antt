@@ -24,10 +24,11 @@ use Rattle.set_model.specs.State.{State, is_settled, unacked_in}
 use Rattle.set_model.specs.declared.numbered.Numbered.{Numbered}
 use Rattle.pair_steps.specs.declared.step.End.{End}
 use Rattle.pair_steps.specs.declared.step.End.TheVariants.{A, B}
-use Rattle.pair_steps.specs.declared.step.Step.{Step}
 use Rattle.pair_steps.specs.declared.step.Step.TheVariants.{Act, Emit, Arrive, Lose, Together, Inject}
 use Rattle.pair_steps.specs.declared.step.Shown.{Shown}
 use Rattle.pair_steps.specs.declared.step.Shown.TheVariants.{Up, Lost, Answered}
+use Rattle.pair_rises.specs.declared.moves.Move.{Move}
+use Rattle.pair_rises.specs.declared.moves.Move.TheVariants.{Step as MoveStep, Rise, Fill}
 use Rattle.pair_model.specs.World.{World, line_to, at_end, counts_at, other}
 use Rattle.script_answers.specs.Texts.{shown_text, took_text, fault_code}
 use Rattle.text_base.specs.Figures.{bit, hex_text}
@@ -223,20 +224,22 @@ unit_words p number (Msu head body) = message_words p number head (order_of p bo
 abbrev pub sent_words : Profile → State → ℕ → SignalUnit → List ℕ
 sent_words p s link unit = unit_words p (unit_number p s link unit) unit
 
--- the unit that a step is about, in the world before it
-abbrev pub affected : World → Step → Option SignalUnit
-affected w (Act end event) = None
-affected w (Emit end link) = None
-affected w (Arrive end link) = slice_get (line_to w end link) 0
-affected w (Lose end link place) = slice_get (line_to w end link) place
-affected w (Together link) = None
-affected w (Inject end link unit) = Some unit
+-- the unit that a move is about, in the world before it
+abbrev pub affected : World → Move → Option SignalUnit
+affected w (MoveStep (Act end event)) = None
+affected w (MoveStep (Emit end link)) = None
+affected w (MoveStep (Arrive end link)) = slice_get (line_to w end link) 0
+affected w (MoveStep (Lose end link place)) = slice_get (line_to w end link) place
+affected w (MoveStep (Together link)) = None
+affected w (MoveStep (Inject end link unit)) = Some unit
+affected w (Rise end link) = None
+affected w (Fill end link) = None
 
 abbrev pub words_of : Profile → State → ℕ → Option SignalUnit → List ℕ
 words_of p s link None = []
 words_of p s link (Some unit) = sent_words p s link unit
 
--- WHAT A STEP SHOWED
+-- WHAT A MOVE SHOWED
 
 -- what users take has its name first
 abbrev pub spaced : List ℕ → List ℕ
@@ -342,7 +345,7 @@ event_words p event shown =
 
 -- THE ROWS OF A LINE: what happened first, with the line's number
 
--- (a unit's number is told by the world after the step: the set that sent it is as it was, or has sent it just now)
+-- (a unit's number is told by the world after the move: the set that sent it is as it was, or has sent it just now)
 abbrev pub sent_row : List ℕ → List ℕ → World → End → ℕ → Shown → Option SignalUnit → List ℕ
 sent_row number u w end link shown (Some unit) =
     row_at end number u (going end link) (sent_words (profile_of w) (at_end w end).state link unit)
@@ -364,32 +367,38 @@ abbrev pub far_words : World → End → ℕ → Option SignalUnit → List ℕ
 far_words w end link unit = words_of (profile_of w) (at_end w (other end)).state link unit
 
 -- and what nobody sent has no number
-abbrev pub first_row : List ℕ → List ℕ → World → Step → Shown → World → List ℕ
-first_row number u before (Act end event) shown after =
+abbrev pub first_row : List ℕ → List ℕ → World → Move → Shown → World → List ℕ
+first_row number u before (MoveStep (Act end event)) shown after =
     row_at end number u [] (event_words (profile_of after) event shown)
-first_row number u before (Emit end link) shown after =
+first_row number u before (MoveStep (Emit end link)) shown after =
     sent_row number u after end link shown (sent_in shown)
-first_row number u before (Arrive end link) shown after =
+first_row number u before (MoveStep (Arrive end link)) shown after =
     arrived_row number u end link (report_in shown)
-    (far_words after end link (affected before (Arrive end link)))
-first_row number u before (Lose end link place) shown after =
+    (far_words after end link (affected before (MoveStep (Arrive end link))))
+first_row number u before (MoveStep (Lose end link place)) shown after =
     row_at end number u (losing end link)
-    (far_words after end link (affected before (Lose end link place)))
-first_row number u before (Together link) shown after =
+    (far_words after end link (affected before (MoveStep (Lose end link place))))
+first_row number u before (MoveStep (Together link)) shown after =
     row_text number (link_words [] link (codes " up")) [] u [] (link_words [] link (codes " up"))
-first_row number u before (Inject end link unit) shown after =
+first_row number u before (Rise end link) shown after =
+    row_at end number u [] (link_words [] link (codes " up"))
+first_row number u before (Fill end link) shown after =
+    sent_row number u after end link shown (sent_in shown)
+first_row number u before (MoveStep (Inject end link unit)) shown after =
     forged_row (profile_of after) number u end link shown (report_in shown)
     (unit_words (profile_of after) None unit)
 
 -- then what a unit that arrived did
 
-abbrev pub end_of : Step → End
-end_of (Act end event) = end
-end_of (Emit end link) = end
-end_of (Arrive end link) = end
-end_of (Lose end link place) = end
-end_of (Together link) = A
-end_of (Inject end link unit) = end
+abbrev pub end_of : Move → End
+end_of (MoveStep (Act end event)) = end
+end_of (MoveStep (Emit end link)) = end
+end_of (MoveStep (Arrive end link)) = end
+end_of (MoveStep (Lose end link place)) = end
+end_of (MoveStep (Together link)) = A
+end_of (MoveStep (Inject end link unit)) = end
+end_of (Rise end link) = end
+end_of (Fill end link) = end
 
 abbrev pub report_words : Report → List ℕ
 report_words r = codes " took " ++ (took_text r.took ++ (codes ", acked " ++ decimal r.acked))
@@ -437,7 +446,7 @@ heard_rows u w end unit (Some r) =
 
 -- THE MESSAGES THAT ARE DIVERTED (specs/Diverted.antt), where a link settles at an end
 
--- the link that a step could settle: its changeover is given up, or an order about it comes
+-- the link that a move could settle: its changeover is given up, or an order about it comes
 abbrev pub given_up : Event → Option ℕ
 given_up (NoAnswer link) = Some link
 given_up (Down link) = None
@@ -451,26 +460,28 @@ given_up (Next link) = None
 given_up (HeardEvent link unit) = None
 given_up (UpEvent link) = None
 
-abbrev pub named_link : Profile → Step → Option SignalUnit → Option ℕ
-named_link p (Act end event) unit = given_up event
-named_link p (Emit end link) unit = None
-named_link p (Arrive end link) unit = changed_over (order_in p unit)
-named_link p (Lose end link place) unit = None
-named_link p (Together link) unit = None
-named_link p (Inject end link forged) unit = changed_over (order_in p unit)
+abbrev pub named_link : Profile → Move → Option SignalUnit → Option ℕ
+named_link p (MoveStep (Act end event)) unit = given_up event
+named_link p (MoveStep (Emit end link)) unit = None
+named_link p (MoveStep (Arrive end link)) unit = changed_over (order_in p unit)
+named_link p (MoveStep (Lose end link place)) unit = None
+named_link p (MoveStep (Together link)) unit = None
+named_link p (MoveStep (Inject end link forged)) unit = changed_over (order_in p unit)
+named_link p (Rise end link) unit = None
+named_link p (Fill end link) unit = None
 
 -- if it hasn't settled yet
 abbrev pub unsettled : State → Option ℕ → Option ℕ
 unsettled s None = None
 unsettled s (Some link) = if is_settled link s then None else Some link
 
-abbrev pub link_at_stake : World → Step → Option ℕ
-link_at_stake w step =
-    unsettled (at_end w (end_of step)).state (named_link (profile_of w) step (affected w step))
+abbrev pub link_at_stake : World → Move → Option ℕ
+link_at_stake w move =
+    unsettled (at_end w (end_of move)).state (named_link (profile_of w) move (affected w move))
 
--- the messages that stand on it before the step
-abbrev pub stood_before : World → Step → List ℕ
-stood_before w step = stood (link_at_stake w step) (at_end w (end_of step)).state
+-- the messages that stand on it before the move
+abbrev pub stood_before : World → Move → List ℕ
+stood_before w move = stood (link_at_stake w move) (at_end w (end_of move)).state
 
 abbrev pub numbers_words : List ℕ → List ℕ
 numbers_words [] = []
@@ -519,7 +530,7 @@ abbrev pub change_rows : List ℕ → World → Counts → Counts → List ℕ
 change_rows u after a b =
     further A u (changes a (counts_at after A)) ++ further B u (changes b (counts_at after B))
 
--- what is kept of the world before a step for its rows: the unit that it's about, the link that it could settle and
+-- what is kept of the world before a move for its rows: the unit that it's about, the link that it could settle and
 -- what stood there, and how the messages of both ends stood
 pub record Past : Type 0 where
   pub unit : Option SignalUnit
@@ -528,11 +539,11 @@ pub record Past : Type 0 where
   pub a : Counts
   pub b : Counts
 
-abbrev pub past_of : World → Step → Past
-past_of w step = record {
-  unit = affected w step;
-  link = link_at_stake w step;
-  stood = stood_before w step;
+abbrev pub past_of : World → Move → Past
+past_of w move = record {
+  unit = affected w move;
+  link = link_at_stake w move;
+  stood = stood_before w move;
   a = counts_at w A;
   b = counts_at w B;
 }
@@ -542,21 +553,21 @@ effect_rows u after end report past =
     heard_rows u after end past.unit report
     ++ (diverted_rows u after end past.link past.stood ++ change_rows u after past.a past.b)
 
-abbrev pub rows_with : List ℕ → List ℕ → World → Step → Shown → World → List ℕ
-rows_with u number before step shown after =
-    first_row number u before step shown after
-    ++ effect_rows u after (end_of step) (report_in shown) (past_of before step)
+abbrev pub rows_with : List ℕ → List ℕ → World → Move → Shown → World → List ℕ
+rows_with u number before move shown after =
+    first_row number u before move shown after
+    ++ effect_rows u after (end_of move) (report_in shown) (past_of before move)
 
 -- a name of its own, so that who speaks of it doesn't compute it
-unfoldable pub step_rows : ℕ → World → Step → Shown → World → List ℕ
-step_rows n before step shown after =
-    rows_with (under_way after) (decimal n) before step shown after
+unfoldable pub move_rows : ℕ → World → Move → Shown → World → List ℕ
+move_rows n before move shown after =
+    rows_with (under_way after) (decimal n) before move shown after
 
 unfoldable pub heading : List ℕ
 heading = row_text (codes "line") (codes "end a") [] (codes "under way") [] (codes "end b")
 
 abbrev pub ladder_told : Told
-ladder_told = record { opening = λ w. heading; step = step_rows; at_the_end = λ w. [] }
+ladder_told = record { opening = λ w. heading; step = move_rows; at_the_end = λ w. [] }
 
 -- THE TEXT (script_walk, specs/Scripts.antt)
 abbrev pub IsLadder : List ℕ → Printed ScriptFault → Type 0

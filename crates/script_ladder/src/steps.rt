@@ -4,7 +4,7 @@ ghost use Rattle.text_printing.specs.Printing.{Prints, FailsByDevices};
 ghost use Rattle.pair_model.specs.World.{World as ModelWorld, other};
 ghost use Rattle.script_ladder.specs.Ladder.{IsLadder, affected, arrived_row, change_rows, effect_rows, end_of, far_words, first_row};
 ghost use Rattle.script_ladder.specs.Ladder.{forged_row, given_up, heading, link_at_stake, link_words, named_link, past_of, report_in, row_text};
-ghost use Rattle.script_ladder.specs.Ladder.{rows_with, sent_row, sent_in, step_rows, unit_words, unsettled};
+ghost use Rattle.script_ladder.specs.Ladder.{row_at, rows_with, sent_row, sent_in, move_rows, unit_words, unsettled};
 ghost use Rattle.script_ladder.specs.Notes.{IsBefore, IsNote, kept};
 
 use super::cells::{find_report, write_event, write_link, write_plain};
@@ -15,7 +15,7 @@ use super::under_way::write_under_way;
 use super::units::{find_carried, write_any, write_sent_unit, write_unit};
 use l2_units::{Profile, Unit, UnitRef, copy_of_unit};
 use pair_steps::{Showing, ShownRef, Step};
-use pair_world::{End, Line, World};
+use pair_world::{End, Line, Move, World};
 use script_walk::{Account, ScriptFault, tell_script, world_profile};
 use set_core::SetCore;
 use set_events::{AnswerRef, Counts, Event, Report};
@@ -26,12 +26,12 @@ use text_printing::{Fault, Sink, Source};
 /// The chart of a script.
 struct Chart;
 
-/// What the rows of a step want of the world before it.
+/// What the rows of a move want of the world before it.
 #[derive(Drop)]
 pub(crate) struct Before {
-    /// The unit that the step is about.
+    /// The unit that the move is about.
     unit: Option<Unit>,
-    /// The link that the step could settle at its end.
+    /// The link that the move could settle at its end.
     link: Option<u8>,
     /// All messages that stand on that link.
     stood: Vec<u64>,
@@ -52,8 +52,8 @@ impl Account for Chart {
 
     ghost is_note = { IsNote };
 
-    fn note(alloc: Global, world: &World, step: &Step) -> Result<Before, AllocError> {
-        keep_before(alloc, world, step)
+    fn note(alloc: Global, world: &World, next: &Move) -> Result<Before, AllocError> {
+        keep_before(alloc, world, next)
     }
 
     fn tell_opening(alloc: Global, _world: &World, out: &mut Vec<u8>) -> Result<(), AllocError> {
@@ -64,13 +64,13 @@ impl Account for Chart {
         alloc: Global,
         number: u64,
         note: Result<Before, AllocError>,
-        step: &Step,
+        next: &Move,
         shown: &Showing,
         world: &World,
         out: &mut Vec<u8>,
     ) -> Result<(), AllocError> {
         let before = note?;
-        out.extend_from_slice(&write_step(alloc, number, &before, step, shown, world)?)
+        out.extend_from_slice(&write_move(alloc, number, &before, next, shown, world)?)
     }
 
     fn tell_end(
@@ -101,13 +101,13 @@ pub fn ladder<S: Source, W: Sink>(
     tell_script::<Chart, S, W>(alloc, source, sink)
 }
 
-/// What the rows of a step want of the world before it.
-fn keep_before(alloc: Global, world: &World, step: &Step) -> Result<Before, AllocError>
-    ensures { IsNote world.now step.now result }
+/// What the rows of a move want of the world before it.
+fn keep_before(alloc: Global, world: &World, next: &Move) -> Result<Before, AllocError>
+    ensures { IsNote world.now next.now result }
 {
-    let unit = find_affected(world, step);
-    let set = world.core(find_end(step));
-    let link = find_unsettled(set, find_named(world_profile(world), step, &unit));
+    let unit = find_affected(world, next);
+    let set = world.core(find_end(next));
+    let link = find_unsettled(set, find_named(world_profile(world), next, &unit));
     Ok(Before {
         unit,
         link,
@@ -125,26 +125,32 @@ fn write_heading(alloc: Global) -> Result<Vec<u8>, AllocError>
     write_row(alloc, b"line", b"end a", &[], b"under way", &[], b"end b")
 }
 
-/// The unit that a step is about, in the world before it.
-fn find_affected(world: &World, step: &Step) -> Option<Unit>
-    ensures { result ≡ affected world.now step.now }
+/// The unit that a move is about, in the world before it.
+fn find_affected(world: &World, next: &Move) -> Option<Unit>
+    ensures { result ≡ affected world.now next.now }
 {
-    match step {
-        Step::Arrive { end, link } => world.line(*end, *link).unit(0),
-        Step::Lose { end, link, place } => world.line(*end, *link).unit(*place),
-        Step::Inject { unit, .. } => Some(copy_of_unit(unit)),
-        Step::Act { .. } | Step::Emit { .. } | Step::Together { .. } => None,
+    match next {
+        Move::Step(Step::Arrive { end, link }) => world.line(*end, *link).unit(0),
+        Move::Step(Step::Lose { end, link, place }) => world.line(*end, *link).unit(*place),
+        Move::Step(Step::Inject { unit, .. }) => Some(copy_of_unit(unit)),
+        Move::Step(Step::Act { .. } | Step::Emit { .. } | Step::Together { .. })
+        | Move::Rise { .. }
+        | Move::Fill { .. } => None,
     }
 }
 
-/// The link that a step could settle, as it's given up or the unit's order is about it.
-fn find_named(profile: Profile, step: &Step, unit: &Option<Unit>) -> Option<u8>
-    ensures { result ≡ named_link profile step.now unit.now }
+/// The link that a move could settle, as it's given up or the unit's order is about it.
+fn find_named(profile: Profile, next: &Move, unit: &Option<Unit>) -> Option<u8>
+    ensures { result ≡ named_link profile next.now unit.now }
 {
-    match step {
-        Step::Act { event, .. } => find_given_up(event),
-        Step::Arrive { .. } | Step::Inject { .. } => find_changed_link(find_carried(profile, unit)),
-        Step::Emit { .. } | Step::Lose { .. } | Step::Together { .. } => None,
+    match next {
+        Move::Step(Step::Act { event, .. }) => find_given_up(event),
+        Move::Step(Step::Arrive { .. } | Step::Inject { .. }) => {
+            find_changed_link(find_carried(profile, unit))
+        }
+        Move::Step(Step::Emit { .. } | Step::Lose { .. } | Step::Together { .. })
+        | Move::Rise { .. }
+        | Move::Fill { .. } => None,
     }
 }
 
@@ -168,18 +174,18 @@ fn find_unsettled(set: &SetCore, link: Option<u8>) -> Option<u8>
     }
 }
 
-/// The rows of a step.
-#[tactic(auto, unfolding(crate::specs::Ladder::step_rows))]
-fn write_step(
+/// The rows of a move.
+#[tactic(auto, unfolding(crate::specs::Ladder::move_rows))]
+fn write_move(
     alloc: Global,
     number: u64,
     note: &Before,
-    step: &Step,
+    next: &Move,
     shown: &Showing,
     world: &World,
 ) -> Result<Vec<u8>, AllocError>
-    ensures { (before : ModelWorld) → IsBefore before step.now note.now
-        → IfOk result (λ rows. rows.items ≡ step_rows number before step.now shown.now world.now) }
+    ensures { (before : ModelWorld) → IsBefore before next.now note.now
+        → IfOk result (λ rows. rows.items ≡ move_rows number before next.now shown.now world.now) }
 {
     let number = format!(in alloc; "{number}")?.into_bytes();
     write_rows(
@@ -187,39 +193,39 @@ fn write_step(
         &write_under_way(alloc, world)?,
         &number,
         note,
-        step,
+        next,
         shown,
         world,
     )
 }
 
-/// The rows of a step, with what is under way after it.
+/// The rows of a move, with what is under way after it.
 fn write_rows(
     alloc: Global,
     under_way: &[u8],
     number: &[u8],
     note: &Before,
-    step: &Step,
+    next: &Move,
     shown: &Showing,
     world: &World,
 ) -> Result<Vec<u8>, AllocError>
-    ensures { (before : ModelWorld) → IsBefore before step.now note.now
+    ensures { (before : ModelWorld) → IsBefore before next.now note.now
         → IfOk result (λ rows. rows.items
-        ≡ rows_with under_way.now number.now before step.now shown.now world.now) }
+        ≡ rows_with under_way.now number.now before next.now shown.now world.now) }
 {
-    let first = write_first(alloc, number, under_way, &note.unit, step, shown, world)?;
+    let first = write_first(alloc, number, under_way, &note.unit, next, shown, world)?;
     let effects = write_effects(
         alloc,
         under_way,
         note,
-        find_end(step),
+        find_end(next),
         find_report(shown),
         world,
     )?;
     write_both(first, &effects)
 }
 
-/// The rows of what a step did.
+/// The rows of what a move did.
 fn write_effects(
     alloc: Global,
     under_way: &[u8],
@@ -254,17 +260,19 @@ fn write_both_changes(
     )
 }
 
-/// The end that a step is about.
-fn find_end(step: &Step) -> End
-    ensures { result ≡ end_of step.now }
+/// The end that a move is about.
+fn find_end(next: &Move) -> End
+    ensures { result ≡ end_of next.now }
 {
-    match step {
-        Step::Act { end, .. } => *end,
-        Step::Emit { end, .. } => *end,
-        Step::Arrive { end, .. } => *end,
-        Step::Lose { end, .. } => *end,
-        Step::Inject { end, .. } => *end,
-        Step::Together { .. } => End::A,
+    match next {
+        Move::Step(Step::Act { end, .. }) => *end,
+        Move::Step(Step::Emit { end, .. }) => *end,
+        Move::Step(Step::Arrive { end, .. }) => *end,
+        Move::Step(Step::Lose { end, .. }) => *end,
+        Move::Step(Step::Inject { end, .. }) => *end,
+        Move::Step(Step::Together { .. }) => End::A,
+        Move::Rise { end, .. } => *end,
+        Move::Fill { end, .. } => *end,
     }
 }
 
@@ -297,22 +305,22 @@ fn write_far(
     )
 }
 
-/// The first row of a step, about this unit.
+/// The first row of a move, about this unit.
 fn write_first(
     alloc: Global,
     number: &[u8],
     under_way: &[u8],
     unit: &Option<Unit>,
-    step: &Step,
+    next: &Move,
     shown: &Showing,
     world: &World,
 ) -> Result<Vec<u8>, AllocError>
-    ensures { (before : ModelWorld) → unit.now ≡ affected before step.now
+    ensures { (before : ModelWorld) → unit.now ≡ affected before next.now
         → IfOk result (λ row. row.items
-        ≡ first_row number.now under_way.now before step.now shown.now world.now) }
+        ≡ first_row number.now under_way.now before next.now shown.now world.now) }
 {
-    match step {
-        Step::Act { end, event } => {
+    match next {
+        Move::Step(Step::Act { end, event }) => {
             write_row_at(
                 alloc,
                 *end,
@@ -322,10 +330,10 @@ fn write_first(
                 &write_event(alloc, world_profile(world), event, shown)?,
             )
         }
-        Step::Emit { end, link } => {
+        Move::Step(Step::Emit { end, link }) | Move::Fill { end, link } => {
             write_sent(alloc, number, under_way, world, *end, *link, shown)
         }
-        Step::Arrive { end, link } => {
+        Move::Step(Step::Arrive { end, link }) => {
             write_arrived(
                 alloc,
                 number,
@@ -336,7 +344,7 @@ fn write_first(
                 &write_far(alloc, world, *end, *link, unit)?,
             )
         }
-        Step::Lose { end, link, .. } => {
+        Move::Step(Step::Lose { end, link, .. }) => {
             write_row_at(
                 alloc,
                 *end,
@@ -346,8 +354,9 @@ fn write_first(
                 &write_far(alloc, world, *end, *link, unit)?,
             )
         }
-        Step::Together { link } => write_up(alloc, number, under_way, *link),
-        Step::Inject { end, link, unit } => write_forged(
+        Move::Step(Step::Together { link }) => write_up(alloc, number, under_way, *link),
+        Move::Rise { end, link } => write_up_at(alloc, number, under_way, *end, *link),
+        Move::Step(Step::Inject { end, link, unit }) => write_forged(
             alloc,
             world_profile(world),
             number,
@@ -368,6 +377,21 @@ fn write_up(alloc: Global, number: &[u8], under_way: &[u8], link: u8) -> Result<
 {
     let words = write_link(alloc, "", link, " up")?;
     write_row(alloc, number, &words, &[], under_way, &[], &words)
+}
+
+/// A link that comes up at one end.
+fn write_up_at(
+    alloc: Global,
+    number: &[u8],
+    under_way: &[u8],
+    end: End,
+    link: u8,
+) -> Result<Vec<u8>, AllocError>
+    ensures { IfOk result (λ row. row.items
+        ≡ row_at end number.now under_way.now [] (link_words [] link (codes " up"))) }
+{
+    let words = write_link(alloc, "", link, " up")?;
+    write_row_at(alloc, end, number, under_way, &[], &words)
 }
 
 /// A unit that goes out, or the answer.

@@ -5,10 +5,12 @@ use Rattle.std.specs.Option.{option_map, option_and_then}
 use Rattle.std.specs.Str.{bytes_eq}
 use Rattle.text_base.specs.Figures.{number_of}
 use Rattle.pair_steps.specs.declared.step.End.{End as AnEnd}
+use Rattle.pair_rises.specs.declared.moves.Move.{Move}
+use Rattle.pair_rises.specs.declared.moves.Move.TheVariants.{Step as MoveStep, Rise, Fill}
 use Rattle.pair_steps.specs.declared.step.Step.TheVariants.{Act, Emit, Arrive, Lose as LoseStep, Inject, Together as TogetherStep}
 use Rattle.set_events.specs.declared.event.Event.TheVariants.{Down, DownBlind, NoAnswer, Restore, BackTimeout}
 use Rattle.l2_units.specs.declared.profile.Profile.{Profile}
-use Rattle.script_grammar.specs.Script.{is_space, first_word, other_words, end_of, link_of, some_octets, unit_of, together, offer, take_message, find, lose, hear, step_on, on_link, step_at, step_by, step_of}
+use Rattle.script_grammar.specs.Script.{is_space, first_word, other_words, end_of, link_of, some_octets, unit_of, together, offer, take_message, find, lose, hear, step_on, on_link, step_at, step_by, at_one_end, move_by, move_of}
 use Rattle.script_mistakes.specs.declared.mistake.Mistake.{Mistake}
 use Rattle.script_mistakes.specs.declared.mistake.Mistake.TheVariants.{TogetherWants, OfferWants, TakeWants, FindWants, OnLinkWants, LoseWants, HearWants}
 use Rattle.script_mistakes.specs.declared.words.Kind.{Kind}
@@ -17,7 +19,7 @@ use Rattle.script_mistakes.specs.declared.forms.Form.{Form}
 use Rattle.script_mistakes.specs.declared.forms.Form.TheVariants.{Together, Offer, Take, Find, Lose, Hear, OnLink}
 use Rattle.script_mistakes.specs.declared.lines.Blame.{Blame}
 use Rattle.script_mistakes.specs.Mistakes.{wrong}
-use Rattle.script_mistakes.specs.Blaming.{misread, or_else, blamed_as, blamed_step, form_of, is_on_link}
+use Rattle.script_mistakes.specs.Blaming.{misread, or_else, blamed_as, blamed_step, form_of, step_form, is_on_link}
 use Rattle.script_mistakes.proofs.Spaces.{either, alone, first_is, number_alone, link_alone, some_octets_alone, unit_alone}
 
 -- Both sides, word by word.
@@ -135,10 +137,10 @@ on_links name end link = by (bytes_eq name (codes "emit")) (bytes_eq name (codes
 
 module _ (p : Profile) (name : List ℕ) (size : ℕ) (words : List ℕ) (t : bytes_eq name (codes "together") ≡ false) where
   -- a form whose lines begin with an end
-  formed : (form : Form) (short : Mistake) (kinds : List Kind) → form_of name ≡ Some form
+  formed : (form : Form) (short : Mistake) (kinds : List Kind) → step_form name ≡ Some form
       → is_none (blamed_as p (Some form) name size (Some words)) ≡ is_none (misread short size (End ∷ kinds) (Some words))
       → ((end : AnEnd) → is_none (misread short size kinds (other_words words)) ≡ is_some (step_at p name end (other_words words)))
-      → is_none (blamed_as p (form_of name) name size (Some words)) ≡ is_some (step_by p name (Some words))
+      → is_none (blamed_as p (step_form name) name size (Some words)) ≡ is_some (step_by p name (Some words))
   formed form short kinds f same h = ap (λ x. is_none (blamed_as p x name size (Some words))) f ∙ same ∙ at_end p name size words short kinds t h
 
   module _ (o : bytes_eq name (codes "offer") ≡ false) (k : bytes_eq name (codes "take") ≡ false) where
@@ -154,9 +156,9 @@ module _ (p : Profile) (name : List ℕ) (size : ℕ) (words : List ℕ) (t : by
       nameless : (other : is_on_link name ≡ false) → false ≡ is_some (step_by p name (Some words))
       nameless other = sym (then_none (λ end. step_at p name end (other_words words)) (end_of (first_word words)) (λ end. unknown other end (other_words words))) ∙ rw t refl
 
-      rest_by : (b : Bool) → is_on_link name ≡ b → is_none (blamed_as p (form_of name) name size (Some words)) ≡ is_some (step_by p name (Some words))
+      rest_by : (b : Bool) → is_on_link name ≡ b → is_none (blamed_as p (step_form name) name size (Some words)) ≡ is_some (step_by p name (Some words))
       rest_by true e = formed OnLink OnLinkWants (Link ∷ []) (rw (t, o, k, f, l, h, e) refl) refl (λ end. linked e end (other_words words))
-      rest_by false e = let none : form_of name ≡ None = rw (t, o, k, f, l, h, e) refl in
+      rest_by false e = let none : step_form name ≡ None = rw (t, o, k, f, l, h, e) refl in
           ap (λ x. is_none (blamed_as p x name size (Some words))) none ∙ nameless e
 
     found : (f : bytes_eq name (codes "find") ≡ true) (end : AnEnd) (rest : Option (List ℕ)) → is_none (misread FindWants size (Number ∷ []) rest) ≡ is_some (step_at p name end rest)
@@ -171,7 +173,7 @@ module _ (p : Profile) (name : List ℕ) (size : ℕ) (words : List ℕ) (t : by
     heard f l h end None = rw (o, k) refl
     heard f l h end (Some w) = of_hear p size end w ∙ rw (o, k, f, l, h) refl
 
-    others_by : is_none (blamed_as p (form_of name) name size (Some words)) ≡ is_some (step_by p name (Some words))
+    others_by : is_none (blamed_as p (step_form name) name size (Some words)) ≡ is_some (step_by p name (Some words))
     others_by =
         elim (either (bytes_eq name (codes "find"))) [
           | inl f ↦ formed Find FindWants (Number ∷ []) (rw (t, o, k, f) refl) refl (λ end. found f end (other_words words))
@@ -184,7 +186,7 @@ module _ (p : Profile) (name : List ℕ) (size : ℕ) (words : List ℕ) (t : by
           ]
         ]
 
-  not_together : is_none (blamed_as p (form_of name) name size (Some words)) ≡ is_some (step_by p name (Some words))
+  not_together : is_none (blamed_as p (step_form name) name size (Some words)) ≡ is_some (step_by p name (Some words))
   not_together =
       elim (either (bytes_eq name (codes "offer"))) [
         | inl o ↦ formed Offer OfferWants (Octets ∷ []) (rw (t, o) refl) refl (λ end. of_offer size end (other_words words) ∙ rw o refl)
@@ -205,14 +207,38 @@ lone p (Some Lose) name size = refl
 lone p (Some Hear) name size = refl
 lone p (Some OnLink) name size = refl
 
-named : (p : Profile) (name : List ℕ) (size : ℕ) (o : Option (List ℕ)) → is_none (blamed_as p (form_of name) name size o) ≡ is_some (step_by p name o)
-named p name size None = lone p (form_of name) name size
-named p name size (Some words) =
+named_step : (p : Profile) (name : List ℕ) (size : ℕ) (words : List ℕ) → is_none (blamed_as p (step_form name) name size (Some words)) ≡ is_some (step_by p name (Some words))
+named_step p name size words =
     elim (either (bytes_eq name (codes "together"))) [
-      | inl t ↦ let form : form_of name ≡ Some Together = rw t refl in
+      | inl t ↦ let form : step_form name ≡ Some Together = rw t refl in
           ap (λ x. is_none (blamed_as p x name size (Some words))) form ∙ of_together size words ∙ rw t refl
       | inr t ↦ not_together p name size words t
     ]
 
-pub steps_are_blamed : (p : Profile) (text : List ℕ) → is_none (blamed_step p text) ≡ is_some (step_of p text)
+-- what happens at one end alone
+of_one_end_link : (happens : AnEnd → ℕ → Move) (size : ℕ) (end : AnEnd) (o : Option (List ℕ)) → is_none (misread OnLinkWants size (Link ∷ []) o) ≡ is_some (option_map (happens end) (option_and_then link_of o))
+of_one_end_link happens size end None = refl
+of_one_end_link happens size end (Some w) = last (λ w. is_some (link_of w)) link_alone OnLinkWants (wrong Link (first_word w)) size w ∙ sym (map_is (happens end) (link_of w))
+
+of_one_end : (happens : AnEnd → ℕ → Move) (size : ℕ) (words : List ℕ) → is_none (misread OnLinkWants size (End ∷ Link ∷ []) (Some words)) ≡ is_some (at_one_end happens words)
+of_one_end happens size words =
+    goes_on (end_of (first_word words)) (λ end. option_map (happens end) (option_and_then link_of (other_words words))) (wrong End (first_word words)) size words
+    (misread OnLinkWants size (Link ∷ []) (other_words words)) (λ end. of_one_end_link happens size end (other_words words))
+
+named : (p : Profile) (name : List ℕ) (size : ℕ) (o : Option (List ℕ)) → is_none (blamed_as p (form_of name) name size o) ≡ is_some (move_by p name o)
+named p name size None = lone p (form_of name) name size
+named p name size (Some words) =
+    elim (either (bytes_eq name (codes "rise"))) [
+      | inl r ↦ let form : form_of name ≡ Some OnLink = rw r refl in
+          ap (λ x. is_none (blamed_as p x name size (Some words))) form ∙ of_one_end Rise size words ∙ rw r refl
+      | inr r ↦ elim (either (bytes_eq name (codes "fill"))) [
+        | inl f ↦ let form : form_of name ≡ Some OnLink = rw (r, f) refl in
+            ap (λ x. is_none (blamed_as p x name size (Some words))) form ∙ of_one_end Fill size words ∙ rw (r, f) refl
+        | inr f ↦ let form : form_of name ≡ step_form name = rw (r, f) refl in
+            ap (λ x. is_none (blamed_as p x name size (Some words))) form ∙ named_step p name size words
+            ∙ sym (map_is MoveStep (step_by p name (Some words))) ∙ rw (r, f) refl
+      ]
+    ]
+
+pub steps_are_blamed : (p : Profile) (text : List ℕ) → is_none (blamed_step p text) ≡ is_some (move_of p text)
 steps_are_blamed p text = named p (first_word text) (length text) (other_words text)

@@ -28,8 +28,9 @@ is_on_link name =
     else (if bytes_eq name (codes "restore") then true
     else bytes_eq name (codes "backtimeout"))))))
 
-abbrev pub form_of : List ℕ → Option Form
-form_of name =
+-- the steps
+abbrev pub step_form : List ℕ → Option Form
+step_form name =
     if bytes_eq name (codes "together") then Some Together
     else (if bytes_eq name (codes "offer") then Some Offer
     else (if bytes_eq name (codes "take") then Some Take
@@ -37,6 +38,14 @@ form_of name =
     else (if bytes_eq name (codes "lose") then Some Lose
     else (if bytes_eq name (codes "hear") then Some Hear
     else (if is_on_link name then Some OnLink else None))))))
+
+-- rise and fill
+abbrev pub is_at_one_end : List ℕ → Bool
+is_at_one_end name = if bytes_eq name (codes "rise") then true else bytes_eq name (codes "fill")
+
+-- the moves
+abbrev pub form_of : List ℕ → Option Form
+form_of name = if is_at_one_end name then Some OnLink else step_form name
 
 -- what each word behind the first has to be, of a set of this profile
 abbrev pub kinds_of : Profile → Form → List Kind

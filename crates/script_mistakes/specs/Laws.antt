@@ -1,7 +1,7 @@
 -- THE LAWS of what is told of a line.
 use Rattle.std.specs.Prelude.{◌≡◌, ℕ, Bool, true, false, ◌||◌, List, is_none, is_some}
 use Rattle.l2_units.specs.declared.profile.Profile.{Profile}
-use Rattle.script_grammar.specs.Script.{step_of, first_line}
+use Rattle.script_grammar.specs.Script.{move_of, first_line}
 use Rattle.terminal_script.specs.Lines.{asked_of}
 use Rattle.terminal_script.specs.Timers.{lengths_of}
 use Rattle.script_mistakes.specs.Blaming.{blamed_opening, blamed_step}
@@ -10,7 +10,7 @@ use Rattle.script_mistakes.specs.TerminalBlaming.{blamed_line}
 -- a line after the first has a word at fault exactly where it can't be read
 abbrev pub StepsBlamed : Type 0
 StepsBlamed =
-    (profile : Profile) (text : List ℕ) → is_none (blamed_step profile text) ≡ is_some (step_of profile text)
+    (profile : Profile) (text : List ℕ) → is_none (blamed_step profile text) ≡ is_some (move_of profile text)
 
 -- so too a first line
 abbrev pub OpeningsBlamed : Type 0

@@ -1,7 +1,7 @@
 -- THE TEXT of each mistake: what is wanted in its place.
 use Rattle.std.specs.Prelude.{ℕ, List, codes}
 use Rattle.script_mistakes.specs.declared.mistake.Mistake.{Mistake}
-use Rattle.script_mistakes.specs.declared.mistake.Mistake.TheVariants.{NotSet, OpeningShort, LinksName, LinksRange, MethodName, MethodLimits, WideMethodLimits, CodeAName, CodeBName, CodeRange, SioName, SioDigits, SioIndicator, ProfileValue, Space, CarriageReturn, NotPrintable, Surplus, UnknownWord, SecondSet, TogetherWants, OfferWants, TakeWants, FindWants, OnLinkWants, LoseWants, HearWants, End, Link, Number, OddDigits, NotHexadecimal, UnitShort, WideUnitShort, UnitLong, UnitLength, WideUnitLength, NoSuchLink, NotSettled, NothingUnderWay, NoUnitThere, Terminal}
+use Rattle.script_mistakes.specs.declared.mistake.Mistake.TheVariants.{NotSet, OpeningShort, LinksName, LinksRange, MethodName, MethodLimits, WideMethodLimits, CodeAName, CodeBName, CodeRange, SioName, SioDigits, SioIndicator, ProfileValue, Space, CarriageReturn, NotPrintable, Surplus, UnknownWord, SecondSet, TogetherWants, OfferWants, TakeWants, FindWants, OnLinkWants, LoseWants, HearWants, End, Link, Number, OddDigits, NotHexadecimal, UnitShort, WideUnitShort, UnitLong, UnitLength, WideUnitLength, NoSuchLink, NotSettled, NotSettledThere, NothingUnderWay, NoUnitThere, Terminal}
 use Rattle.script_mistakes.specs.TerminalTexts.{terminal_text}
 
 abbrev pub mistake_text : Mistake → List ℕ
@@ -51,6 +51,8 @@ mistake_text WideUnitLength =
 mistake_text NoSuchLink = codes "the set has no link of this number; its links are counted from 0"
 mistake_text NotSettled =
     codes "together wants a link that is up at neither end, and no changeover of it open"
+mistake_text NotSettledThere =
+    codes "rise wants a link that isn't up at this end, and no changeover of it open there"
 mistake_text NothingUnderWay = codes "no unit is under way to this end on this link"
 mistake_text NoUnitThere = codes "no unit under way to this end on this link has this place, from 0"
 mistake_text (Terminal mistake) = terminal_text mistake

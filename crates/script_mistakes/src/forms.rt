@@ -1,7 +1,7 @@
 //! The forms of a script's lines: which words each wants.
 ghost use Rattle.std.specs.Prelude.{◌≡◌};
 ghost use Rattle.script_mistakes.specs.declared.forms.Form.TheVariants.{Hear};
-ghost use Rattle.script_mistakes.specs.Blaming.{form_of, kinds_of, is_on_link, wants, may_miss, opening_kinds};
+ghost use Rattle.script_mistakes.specs.Blaming.{form_of, is_at_one_end, kinds_of, is_on_link, step_form, wants, may_miss, opening_kinds};
 
 use super::mistake::Mistake;
 use super::named::Named;
@@ -24,13 +24,31 @@ pub enum Form {
     Lose,
     /// `hear END LINK HEX`
     Hear,
-    /// `emit END LINK`, and six more
+    /// `emit END LINK`, and eight more
     OnLink,
 }
 
 /// The form of the lines that begin with this word, if there is one.
 pub(crate) fn find_form(name: &[u8]) -> Option<Form>
     ensures { result ≡ form_of name.now }
+{
+    if is_about_one_end(name) {
+        Some(Form::OnLink)
+    } else {
+        find_step_form(name)
+    }
+}
+
+/// Whether lines with this word are about a link that comes up at one end.
+fn is_about_one_end(name: &[u8]) -> bool
+    ensures { result ≡ is_at_one_end name.now }
+{
+    is_word(name, b"rise") || is_word(name, b"fill")
+}
+
+/// The form of the steps that begin with this word, if there is one.
+fn find_step_form(name: &[u8]) -> Option<Form>
+    ensures { result ≡ step_form name.now }
 {
     if is_word(name, b"together") {
         Some(Form::Together)

@@ -1,28 +1,40 @@
-//! Why a step can't be done.
+//! Why a move can't be done.
 ghost use Rattle.std.specs.Prelude.{◌≡◌};
-ghost use Rattle.script_mistakes.specs.Impossible.{blamed_impossible, why_not, words_from, behind};
+ghost use Rattle.script_mistakes.specs.Impossible.{blamed_impossible, why_no_step, why_not, words_from, behind};
 
 use super::lines::Blame;
 use super::mistake::Mistake;
+use pair_rises::Move;
 use pair_steps::Step;
 use script_grammar::cut;
 
-/// Why the step that this line asks for can't be done, in a world of so many links in which it can't be.
+/// Why the move that this line asks for can't be made, in a world of so many links in which it can't be.
 ///
 /// The word at fault is the link's, or the place's where no unit has it.
-pub fn blame_impossible(links: u8, step: &Step, text: &[u8]) -> Blame
-    ensures { result ≡ blamed_impossible links step.now text.now }
+pub fn blame_impossible(links: u8, next: &Move, text: &[u8]) -> Blame
+    ensures { result ≡ blamed_impossible links next.now text.now }
 {
-    let (place, mistake) = find_reason(links, step);
+    let (place, mistake) = find_reason(links, next);
     Blame {
         column: text.len().saturating_sub(skip_words(place, text).len()),
         mistake,
     }
 }
 
-/// Why this step can't be done with so many links, and which word of its line says so, from 0.
-fn find_reason(links: u8, step: &Step) -> (u8, Mistake)
-    ensures { result ≡ why_not links step.now }
+/// Why this move can't be made with so many links, and which word of its line says so, from 0.
+fn find_reason(links: u8, next: &Move) -> (u8, Mistake)
+    ensures { result ≡ why_not links next.now }
+{
+    match next {
+        Move::Step(step) => find_reason_of_step(links, step),
+        Move::Rise { link, .. } if *link < links => (2, Mistake::NotSettledThere),
+        Move::Rise { .. } | Move::Fill { .. } => (2, Mistake::NoSuchLink),
+    }
+}
+
+/// The same of a step.
+fn find_reason_of_step(links: u8, step: &Step) -> (u8, Mistake)
+    ensures { result ≡ why_no_step links step.now }
 {
     match step {
         Step::Together { link } if *link < links => (1, Mistake::NotSettled),

@@ -3,8 +3,8 @@
 //! | line | is told by |
 //! |---|---|
 //! | the first that is no remark, where `script_grammar::read_opening` refuses it | [`blame_opening`] |
-//! | any other, where `script_grammar::read_step` refuses it | [`blame_step`] |
-//! | one whose step can't be done | [`blame_impossible`] |
+//! | any other, where `script_grammar::read_move` refuses it | [`blame_step`] |
+//! | one whose move can't be made | [`blame_impossible`] |
 //! | a terminal's line after the first, where `terminal_script` refuses it | [`blame_terminal_line`] |
 //! | one of a link that the set hasn't | [`blame_link`] |
 //! | a terminal's first line, where it tells the wide profile | [`blame_profile`] |

@@ -54,7 +54,7 @@ fn find_profile(text: &[u8]) -> Profile
 }
 
 /// What is wrong with a line after the first, where sets are of this profile, if anything: nothing exactly where
-/// `script_grammar::read_step` reads it. It fails only where memory is wanted.
+/// `script_grammar::read_move` reads it. It fails only where memory is wanted.
 pub fn blame_step(alloc: Global, profile: Profile, text: &[u8]) -> Result<Option<Blame>, AllocError>
     ensures { IfOk result (λ blame. blame ≡ blamed_step profile text.now) }
 {

@@ -55,7 +55,7 @@ pub enum Mistake {
     TakeWants,
     /// `find` without its end or number.
     FindWants,
-    /// `emit`, `arrive`, `down`, `blind`, `noanswer`, `restore` or `backtimeout` without its end or link.
+    /// `emit`, `arrive`, `rise`, `fill`, `down`, `blind`, `noanswer`, `restore` or `backtimeout` without its end or link.
     OnLinkWants,
     /// `lose` without its end, link or place.
     LoseWants,
@@ -85,6 +85,8 @@ pub enum Mistake {
     NoSuchLink,
     /// A link that isn't settled at both ends is to come up.
     NotSettled,
+    /// A link that isn't settled at an end is to come up there.
+    NotSettledThere,
     /// A unit is to arrive, and none is under way.
     NothingUnderWay,
     /// A unit is to be lost, and none is at that place.
@@ -149,6 +151,8 @@ impl Mistake {
                 "the set has no link of this number; its links are counted from 0",
             Mistake::NotSettled =>
                 "together wants a link that is up at neither end, and no changeover of it open",
+            Mistake::NotSettledThere =>
+                "rise wants a link that isn't up at this end, and no changeover of it open there",
             Mistake::NothingUnderWay => "no unit is under way to this end on this link",
             Mistake::NoUnitThere =>
                 "no unit under way to this end on this link has this place, from 0",

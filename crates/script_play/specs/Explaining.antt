@@ -3,8 +3,8 @@ use Rattle.std.specs.Prelude.{◌≡◌, ◌≢◌, ℕ, List, [], ◌++◌, cod
 use Rattle.std.specs.Option.{option_map}
 use Rattle.set_model.specs.State.{link_count}
 use Rattle.pair_model.specs.World.{World}
-use Rattle.pair_steps.specs.declared.step.Step.{Step as WorldStep}
-use Rattle.script_grammar.specs.Script.{step_of}
+use Rattle.pair_rises.specs.declared.moves.Move.{Move}
+use Rattle.script_grammar.specs.Script.{move_of}
 use Rattle.text_printing.specs.declared.fault.Fault.{Fault}
 use Rattle.text_printing.specs.declared.fault.Fault.TheVariants.{Input as InputFault, Memory as NoMemory, Read, Long as TooLong, Write}
 use Rattle.text_printing.specs.declared.fault.Stop.{Stop}
@@ -44,14 +44,14 @@ abbrev pub unread : Option Made → List ℕ → Option Blame
 unread None text = blamed_opening text
 unread (Some made) text = blamed_step made.profile text
 
--- the word at fault of a line whose step can't be done
-abbrev pub undone_step : ℕ → List ℕ → Option WorldStep → Option Blame
-undone_step links text None = None
-undone_step links text (Some step) = Some (blamed_impossible links step text)
+-- the word at fault of a line whose move can't be made
+abbrev pub undone_move : ℕ → List ℕ → Option Move → Option Blame
+undone_move links text None = None
+undone_move links text (Some move) = Some (blamed_impossible links move text)
 
 abbrev pub undone : Option Made → List ℕ → Option Blame
 undone None text = None
-undone (Some made) text = undone_step made.links text (step_of made.profile text)
+undone (Some made) text = undone_move made.links text (move_of made.profile text)
 
 -- the lines that explain a fault on this line, in a world that was made so
 abbrev pub said : Option Made → List ℕ → ScriptFault → Option (List ℕ)

@@ -20,7 +20,7 @@ at_the_end (Some w) = ends_text w
 abbrev pub play_told : Told
 play_told = record {
   opening = λ w. [];
-  step = λ n before step shown w. shown_text (profile_of w) shown;
+  step = λ n before move shown w. shown_text (profile_of w) shown;
   at_the_end = at_the_end;
 }
 

@@ -2,8 +2,8 @@
 ghost use Rattle.std.specs.Prelude.{◌≡◌, IfOk};
 ghost use Rattle.script_play.specs.PlayText.{ends_text};
 
-use pair_steps::{Showing, Step};
-use pair_world::{End, World};
+use pair_steps::Showing;
+use pair_world::{End, Move, World};
 use script_answers::{push_shown, write_end};
 use script_walk::{Account, world_profile};
 use std::alloc::{AllocError, Global};
@@ -18,9 +18,9 @@ impl Account for Answers {
 
     ghost told = { play_told };
 
-    ghost is_note = { λ world step note. Unit {0} };
+    ghost is_note = { λ world move note. Unit {0} };
 
-    fn note(_alloc: Global, _world: &World, _step: &Step) {}
+    fn note(_alloc: Global, _world: &World, _next: &Move) {}
 
     fn tell_opening(_alloc: Global, _world: &World, _out: &mut Vec<u8>) -> Result<(), AllocError> {
         Ok(())
@@ -30,7 +30,7 @@ impl Account for Answers {
         _alloc: Global,
         _number: u64,
         _note: (),
-        _step: &Step,
+        _next: &Move,
         shown: &Showing,
         world: &World,
         out: &mut Vec<u8>,

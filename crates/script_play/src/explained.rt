@@ -7,7 +7,7 @@ ghost use Rattle.script_mistakes.specs.Showing.{explanation};
 
 use super::fault::ExplainedFault;
 use l2_units::Profile;
-use script_grammar::read_step;
+use script_grammar::read_move;
 use script_mistakes::{Blame, blame_impossible, blame_opening, blame_step, explain};
 use script_walk::{Account, LineFlaw, Script, ScriptFault};
 use std::alloc::{AllocError, Global};
@@ -173,15 +173,15 @@ fn blame_unread(alloc: Global, made: Option<Made>, text: &[u8]) -> Result<Option
     }
 }
 
-/// The word at fault of a line whose step can't be done.
+/// The word at fault of a line whose move can't be made.
 fn blame_undone(alloc: Global, made: Option<Made>, text: &[u8]) -> Result<Option<Blame>, AllocError>
     ensures { IfOk result (λ blame. blame ≡ undone made text.now) }
 {
     let Some(made) = made else {
         return Ok(None);
     };
-    match read_step(alloc, made.profile, text)? {
-        Some(step) => Ok(Some(blame_impossible(made.links, &step, text))),
+    match read_move(alloc, made.profile, text)? {
+        Some(next) => Ok(Some(blame_impossible(made.links, &next, text))),
         None => Ok(None),
     }
 }

@@ -15,7 +15,7 @@
 //! [`tell_explained`] does so for any account, as `script_walk::tell_script` without it: the same octets and the same fault. It
 //! tells which line it is, what is wanted there (`script_mistakes`), the line itself, and a caret under the word at
 //! fault. `specs/Explaining.antt` says what it is: a function of the line, and of whether a first line has made the world, with
-//! how many links and of which profile. What it says of a step that can't be done is so in the world
+//! how many links and of which profile. What it says of a move that can't be made is so in the world
 //! (`specs/Reasons.antt`). A line of over 4,096 octets isn't kept, and so not shown.
 #![tactic(auto)]
 

@@ -1,2 +1,3 @@
 pub mod Scripts
 pub mod Faults
+pub mod Runs

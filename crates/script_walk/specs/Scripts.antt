@@ -7,22 +7,26 @@ use Rattle.set_model.specs.State.{Settings, opened_with}
 use Rattle.set_model.specs.History.{LinkSet, no_books}
 use Rattle.pair_steps.specs.declared.step.End.{End}
 use Rattle.pair_steps.specs.declared.step.End.TheVariants.{A, B}
-use Rattle.pair_steps.specs.declared.step.Step.{Step as WorldStep}
 use Rattle.pair_steps.specs.declared.step.Shown.{Shown}
-use Rattle.pair_model.specs.World.{World, Outcome, shows, impossible, exhausted, world_of, carried_out}
+use Rattle.pair_steps.specs.declared.step.Shown.TheVariants.{Answered}
+use Rattle.set_events.specs.declared.answer.Answer.TheVariants.{Sent}
+use Rattle.pair_model.specs.World.{World, Outcome, shows, impossible, exhausted, world_of}
+use Rattle.pair_rises.specs.declared.moves.Move.{Move}
+use Rattle.pair_rises.specs.declared.moves.Move.TheVariants.{Step as MoveStep, Rise, Fill}
+use Rattle.pair_rises.specs.Rises.{idle_at, moved}
 use Rattle.script_grammar.specs.declared.script.Values.{Values}
-use Rattle.script_grammar.specs.Script.{step_of, first_line}
+use Rattle.script_grammar.specs.Script.{move_of, first_line}
 use Rattle.text_printing.specs.Printing.{Printed}
 use Rattle.text_lines.specs.declared.flaw.LineFlaw.TheVariants.{Long}
 use Rattle.text_lines.specs.Flaws.{flaw_of}
 use Rattle.text_lines.specs.Lines.{LineOutcome, Rules, prints, stops, IsLinesText}
 
 -- WHAT IS TOLD of a script: of the world that its first line makes; on the line of a number, of the world before its
--- step, the step, what it showed and the world that it left; and of the world behind the last line, if a line has
+-- move, the move, what it showed and the world that it left; and of the world behind the last line, if a line has
 -- made one.
 pub record Told : Type 0 where
   pub opening : World → List ℕ
-  pub step : ℕ → World → WorldStep → Shown → World → List ℕ
+  pub step : ℕ → World → Move → Shown → World → List ℕ
   pub at_the_end : Option World → List ℕ
 
 -- A line of a script leaves a world, if one is made yet.
@@ -72,19 +76,26 @@ abbrev pub opened : Told → ℕ → List ℕ → Option Values → ScriptOutcom
 opened t n text None = stops (Text n (flaw_of text))
 opened t n text (Some v) = prints (t.opening (opened_world v)) (Some (opened_world v))
 
--- each further one asks for a step, which is carried out
-abbrev pub outcome_of : Told → ℕ → World → WorldStep → Outcome → ScriptOutcome
-outcome_of t n before step (shows s w) = prints (t.step n before step s w) (Some w)
-outcome_of t n before step impossible = stops (Step n)
-outcome_of t n before step exhausted = stops Exhausted
+-- what a move is told to have shown in the world that it left: of a fill, of which the end's set knows nothing, that the
+-- unit was sent
+abbrev pub told_of : Move → Shown → World → Shown
+told_of (MoveStep step) shown w = shown
+told_of (Rise end link) shown w = shown
+told_of (Fill end link) shown w = Answered (Sent (idle_at w end))
 
-abbrev pub asked : Told → ℕ → World → List ℕ → Option WorldStep → ScriptOutcome
+-- each further one asks for a move, which is made
+abbrev pub outcome_of : Told → ℕ → World → Move → Outcome → ScriptOutcome
+outcome_of t n before move (shows s w) = prints (t.step n before move (told_of move s w) w) (Some w)
+outcome_of t n before move impossible = stops (Step n)
+outcome_of t n before move exhausted = stops Exhausted
+
+abbrev pub asked : Told → ℕ → World → List ℕ → Option Move → ScriptOutcome
 asked t n w text None = stops (Text n (flaw_of text))
-asked t n w text (Some step) = outcome_of t n w step (carried_out w step)
+asked t n w text (Some move) = outcome_of t n w move (moved w move)
 
 abbrev pub read_script : Told → ℕ → Option World → List ℕ → ScriptOutcome
 read_script t n None text = opened t n text (first_line text)
-read_script t n (Some w) text = asked t n w text (step_of (profile_of w) text)
+read_script t n (Some w) text = asked t n w text (move_of (profile_of w) text)
 
 abbrev pub script_rules : Told → Rules (Option World) ScriptFault
 script_rules t = record {

@@ -1,24 +1,28 @@
 //! A script of two ends, carried out line by line, and whatever is told of it.
 //!
 //! ```text
-//! octets -> lines (text_lines) -> what each asks for (script_grammar) -> what it shows (pair_world) -> an account of it
+//! octets -> lines (text_lines) -> the move of each (script_grammar) -> what it shows (pair_world) -> an account of it
 //! ```
 //!
 //! [`tell_script`] reads a source's script and writes what an [`Account`] tells of it: of the world that the first line
-//! makes, of each step when it's carried out, and of both ends at last. The lines' rules and the faults stand here, once,
+//! makes, of each move when it's made, and of both ends at last. The lines' rules and the faults stand here, once,
 //! for every account; `script_play` has the one of answers. `specs/Scripts.antt` is the text: a function from the octets of
 //! the input and from what the account tells.
+//!
+//! A script that ends without a fault is a run of the moves of its lines ([`every_script_is_a_run`]; `specs/Runs.antt`).
 //!
 //! Units stand in the profile that the first line tells ([`world_profile`]). This crate knows no account.
 #![tactic(auto)]
 
 mod account;
 mod fault;
+mod laws;
 mod script;
 mod text;
 
 pub use account::Account;
 pub use fault::ScriptFault;
+pub use laws::{every_script_is_a_run, steps_lead_alike};
 pub use script::{Script, world_profile};
 pub use text::tell_script;
 pub use text_lines::LineFlaw;

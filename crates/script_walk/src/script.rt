@@ -1,22 +1,23 @@
 //! A script under way, and what a line of it does.
 ghost use Rattle.std.specs.Prelude.{◌≡◌, ◌≢◌, Err, None, Some, IsSome, MatchResult};
 ghost use Rattle.script_grammar.specs.Script.{first_line};
-ghost use Rattle.pair_model.specs.World.{World as ModelWorld, Outcome, carried_out};
+ghost use Rattle.pair_model.specs.World.{World as ModelWorld, Outcome};
+ghost use Rattle.pair_rises.specs.declared.moves.Move.{Move as ModelMove};
+ghost use Rattle.pair_rises.specs.Rises.{moved};
 ghost use Rattle.pair_world.specs.Carried.{CanBeDone, Fails};
 ghost use Rattle.text_printing.specs.declared.fault.Stop.TheVariants.{Input, Memory};
 ghost use Rattle.text_lines.specs.Flaws.{flaw_of};
 ghost use Rattle.text_lines.specs.Lines.{prints};
 ghost use Rattle.text_lines.specs.Reading.{IsDone, Tells};
 ghost use Rattle.script_walk.specs.declared.fault.ScriptFault.TheVariants.{Text};
-ghost use Rattle.script_walk.specs.Scripts.{Told, opened, outcome_of, profile_of, read_script};
-ghost use Rattle.pair_steps.specs.declared.step.Step.{Step as ModelStep};
+ghost use Rattle.script_walk.specs.Scripts.{Told, opened, outcome_of, profile_of, read_script, told_of};
 
 use super::account::Account;
 use super::fault::ScriptFault;
 use l2_units::Profile;
 use pair_steps::{Showing, Step};
-use pair_world::{End, PlayFault, World};
-use script_grammar::{read_opening, read_step_into};
+use pair_world::{End, Move, PlayFault, World};
+use script_grammar::{read_move_into, read_opening};
 use std::alloc::Global;
 use std::marker::{Model, PhantomData};
 use text_lines::{LineFlaw, LineText, find_flaw};
@@ -27,8 +28,8 @@ use text_printing::Stop;
 pub struct Script<A> {
     /// The world, once the first line has made it.
     world: Option<World>,
-    /// The last line's step, and what it showed: both have room for a unit, and are filled where they stand.
-    step: Step,
+    /// The last line's move, and what it showed: both have room for a unit, and are filled where they stand.
+    next: Move,
     shown: Showing,
     account: PhantomData<A>,
 }
@@ -54,7 +55,7 @@ impl<A: Account> Script<A> {
     {
         Script {
             world: None,
-            step: Step::Together { link: 0 },
+            next: Move::Step(Step::Together { link: 0 }),
             shown: Showing::new(),
             account: PhantomData,
         }
@@ -114,11 +115,11 @@ impl<A: Account> LineText for Script<A> {
         } else {
             let Script {
                 world,
-                step,
+                next,
                 shown,
                 ..
             } = self;
-            do_line::<A>(alloc, world, step, shown, number, text, out)
+            do_line::<A>(alloc, world, next, shown, number, text, out)
         }
     }
 
@@ -175,11 +176,11 @@ fn unread(number: u64, text: &[u8]) -> Stop<ScriptFault>
     })
 }
 
-/// A line after the first asks for a step, which is carried out.
+/// A line after the first asks for a move, which is made.
 fn do_line<A: Account>(
     alloc: Global,
     world: &mut Option<World>,
-    step: &mut Step,
+    next: &mut Move,
     shown: &mut Showing,
     number: u64,
     text: &[u8],
@@ -192,40 +193,52 @@ fn do_line<A: Account>(
     let Some(world) = world.as_mut() else {
         unreachable!();
     };
-    match read_step_into(alloc, world_profile(world), text, step) {
-        Ok(true) => do_step::<A>(alloc, world, number, step, shown, out),
+    match read_move_into(alloc, world_profile(world), text, next) {
+        Ok(true) => do_move::<A>(alloc, world, number, next, shown, out),
         Ok(false) => Err(unread(number, text)),
         Err(_) => Err(Stop::Memory),
     }
 }
 
-/// The step of this line is carried out, and what it shows is told. Memory is wanted only of a step that can be done.
-fn do_step<A: Account>(
+/// The move of this line is made, and what it shows is told. Memory is wanted only of a move that can be made.
+fn do_move<A: Account>(
     alloc: Global,
     world: &mut World,
     number: u64,
-    step: &Step,
+    next: &Move,
     shown: &mut Showing,
     out: &mut Vec<u8>,
 ) -> Result<(), Stop<ScriptFault>>
     ensures done { IsDone result
-        (outcome_of A.told number world.old step.now (carried_out world.old step.now))
+        (outcome_of A.told number world.old next.now (moved world.old next.now))
         out.old.items out.new.items (Some world.new) }
-    ensures memory { result ≡ Err Memory → CanBeDone (carried_out world.old step.now) }
+    ensures memory { result ≡ Err Memory → CanBeDone (moved world.old next.now) }
 {
-    let note = A::note(alloc, world, step);
-    match world.carry_out(step, shown) {
-        Ok(()) => Ok(A::tell_step(alloc, number, note, step, shown, world, out)?),
+    let note = A::note(alloc, world, next);
+    match world.make_move(next, shown) {
+        Ok(()) => {
+            show_fill(world, next, shown);
+            Ok(A::tell_step(alloc, number, note, next, shown, world, out)?)
+        }
         Err(fault) => Err(stop_of(fault, number)),
     }
 }
 
-/// Why a step that fails so stops the script at this line.
+/// Of a fill it's shown that its unit was sent; of another move it stays what it showed.
+fn show_fill(world: &World, next: &Move, shown: &mut Showing)
+    ensures { shown.new ≡ told_of next.now shown.old world.now }
+{
+    if let Move::Fill { end, .. } = next {
+        shown.reply().set_fill_in(world.fill_head(*end));
+    }
+}
+
+/// Why a move that fails so stops the script at this line.
 fn stop_of(fault: PlayFault, number: u64) -> Stop<ScriptFault>
     requires links { fault ≢ PlayFault.Links }
     requires profiles { fault ≢ PlayFault.Profile }
-    ensures tells { (t : Told) (w : ModelWorld) (step : ModelStep) (outcome : Outcome) → Fails fault outcome
-        → Tells result (outcome_of t number w step outcome) }
+    ensures tells { (t : Told) (w : ModelWorld) (move : ModelMove) (outcome : Outcome) → Fails fault outcome
+        → Tells result (outcome_of t number w move outcome) }
     ensures memory { result ≡ Memory → fault ≡ PlayFault.NoMemory }
 {
     match fault {

@@ -1,0 +1,15 @@
+//! Laws over definitions alone.
+ghost use Rattle.script_walk.specs.Runs.{EveryScriptIsARun, StepsLeadAlike};
+
+/// A script that ends without a fault is a run: its first line makes the two ends, and the moves that its other lines ask
+/// for lead from them, one after another, to the world of which its end tells. Of such a run
+/// `pair_world::World::play_moves` tells what holds.
+pub fn every_script_is_a_run()
+    ensures { EveryScriptIsARun }
+{}
+
+/// Moves that are all steps lead where these lead, and stop where these stop: so of a script without `rise` and `fill`
+/// `pair_world::World::play` tells what holds.
+pub fn steps_lead_alike()
+    ensures { StepsLeadAlike }
+{}
