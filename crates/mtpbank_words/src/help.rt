@@ -22,6 +22,7 @@ thing, mostly on link L:
   emit, arrive, lose      a unit is sent, arrives at the other end, is lost
   hear                    octets of any unit are heard
   together                the link comes up, at both ends
+  rise, fill              it comes up at one; before that its end sends a FISU
   down, blind             the link fails, and an order tells the other end
   noanswer                nobody answered that order
   restore, backtimeout    streams are asked back to it, nobody answered that
@@ -51,7 +52,8 @@ and answered is printed, an entry a line, in the order in which it was:
   set links=L method=W a=X b=Y sio=HH                what the end was opened with; here X is its own point code, and Y
                       the far end's. Behind it stands profile=wide where the script says so
   user 0 ..           what the script offers, takes and looks for at this end
-  terminal L ..       what happens to link L there: next is a unit that is sent, hear one that arrives
+  terminal L ..       what happens to link L there: next is a unit that is sent (not by fill, of which the set knows
+                      nothing), hear one that arrives
 `mtpbank audit --help` says how each line is written. A script without a line prints nothing.
 A fault ends the script: one line on standard error, with status 1, and no history is printed, of which `mtpbank audit`
 behind a pipe says `fault line 1 text`. The faults are those of `mtpbank play`, whose --explain says more:
@@ -189,8 +191,8 @@ The status is 0 for legal=yes, and 1 else.";
 
 pub(crate) const CAPTURE_HELP: &str = "\
 Standard input is a script, as `mtpbank play --help` says. Standard output is a pcap file of link type 139
-(MTP2_WITH_PHDR), low octet first, with a record for each unit that end a or b sends (the lines `emit E L`), in the
-order in which they are sent, whether or not they arrive:
+(MTP2_WITH_PHDR), low octet first, with a record for each unit that end a or b sends (the lines `emit E L` and
+`fill E L`), in the order in which they are sent, whether or not they arrive:
   time                a millisecond for each line of the script: the unit of line 12 has 0.012000 seconds
   direction, link     sent for the units of end a and received for those of end b, and the link's number: Wireshark and
                       tshark show both (frame.p2p_dir, frame.link_nr)
@@ -419,6 +421,10 @@ messages are unacknowledged, bodies have 272 octets at most, and a cycle is forc
 (E is an end, a or b, L a link, HEX octets of two hexadecimal digits each):
   together L          link L comes up, which is settled at both ends: not up there, and no changeover of it is open;
                       nothing is under way on it then
+  rise E L            link L, which is settled at end E, comes up there alone, as the links of two ends do, one after
+                      the other; where it's settled at the other end too, nothing is under way on it then
+  fill E L            the terminal of link L at end E, ready before the set of end E has it up, sends a FISU, which is
+                      under way to the other end then; the set isn't asked for it
   offer E HEX         a user of end E offers a message: SIO and SIF, the label first; without HEX the empty body
   take E              a user of end E takes the oldest message that was heard
   find E N            a user of end E asks where message N stands
@@ -436,7 +442,7 @@ messages are unacknowledged, bodies have 272 octets at most, and a cycle is forc
 Words are separated by one space, numbers are decimal without leading zeros, and lines end in LF.
 
 Each of these lines prints one:
-  up                  the link is up at both ends
+  up                  the link is up, at both ends or, by rise, at that one
   accepted N          the message has number N; messages and orders of an end are counted together, from 0
   taken HEX           the message that was taken
   found waiting L, found unacked L, found acked L       to be sent, sent, acknowledged on link L
@@ -446,7 +452,7 @@ Each of these lines prints one:
   found back C        its stream is on its way home; the message waits for the answer with code C, which is 16
                       times the number of the home plus that of the link the stream comes from
   found discarded C   given up: 1 an emergency, 2 the other end told an FSN that can't be, 3 no answer
-  sent HEX            the unit that was sent; its last two octets are the check octets
+  sent HEX            the unit that was sent, by emit or fill; its last two octets are the check octets
   heard acked=K took=T asked=0|1 resend=0|1 fault=F     what the unit did: K messages are acknowledged;
                       T is nothing, message (new, for users), order, or ignored (an order without effect, or another
                       message of the management, which users don't get);
@@ -477,8 +483,8 @@ A fault ends the script: one line on standard error, with status 1; what was pri
                       words, a leading zero, a number out of its range, an odd number of digits, or in hear octets
                       that are no unit. Behind it stands what else is wrong: more than 4,096 octets, a carriage return
                       or a space at its end, a tab, a space before it, two spaces
-  fault line N step   it can't be done: no such link, together where the link isn't settled at both ends, or
-                      arrive or lose where no such unit is under way
+  fault line N step   it can't be done: no such link, together where the link isn't settled at both ends, rise where it
+                      isn't at that one, or arrive or lose where no such unit is under way
   fault read          standard input failed
   fault long          standard input has more than 2^24 octets
   fault write, fault memory, fault exhausted (a history has 2^48 entries)

@@ -329,6 +329,8 @@ fn the_help_shows_each_line(rt: HostRuntime) -> Result<(), Fail> {
         "set links=L method=W a=X b=Y sio=HH\n",
         " profile=wide: ",
         "  together L ",
+        "  rise E L ",
+        "  fill E L ",
         "  offer E HEX ",
         "  take E ",
         "  find E N ",
