@@ -26,7 +26,7 @@ from line_bits import NARROW, WIDE, Unit, check_octets, unit_of
 
 NUMBER = rb"(0|[1-9][0-9]*)"
 HEX = rb"((?:[0-9a-fA-F]{2})+)"
-SHAPE = re.compile(rb"(together) N|(take) ([ab])|(offer) ([ab])(?: X)?|(emit|arrive|find) ([ab]) N"
+SHAPE = re.compile(rb"(together) N|(take) ([ab])|(offer) ([ab])(?: X)?|(emit|arrive|find|rise|fill) ([ab]) N"
                    rb"|(down|blind|noanswer|restore|backtimeout) ([ab]) N"
                    rb"|(lose) ([ab]) N N|(hear) ([ab]) N X".replace(b"N", NUMBER).replace(b"X", HEX))
 OPENING = re.compile(rb"set links=N method=(?:basic|cyclic:N:N) a=N b=N sio=([0-9a-fA-F]{2})(?: profile=(narrow|wide))?".replace(b"N", NUMBER))
@@ -102,13 +102,13 @@ class Link:
     def __init__(self):
         self.phase = "settled"
         self.coming = deque()
+        self.cover = "inside"  # of a life at the other end: awaited where this end may join it, missed where it heard first that it's over
         self.rise()
 
     def rise(self):
         self.sent = []
         self.acked = 0
         self.accepted = 0
-        self.coming.clear()
 
 
 class Streams:
@@ -211,6 +211,7 @@ class Trace:
         self.profile = NARROW
         self.by_hand = False
         self.gave_up = False
+        self.strayed = False  # an end came up in a life that it left or missed, or filled a line that it doesn't rise on
         self.was_blind = False
         self.timed_out = False
 
@@ -219,7 +220,7 @@ class Trace:
 
     def is_sound(self):
         """Whether the error control may be held to what it promises of two ends."""
-        return not self.by_hand and not self.gave_up
+        return not self.by_hand and not self.gave_up and not self.strayed
 
     def fault_of(self, text):
         """None, or why this line ends the script."""
@@ -243,6 +244,8 @@ class Trace:
             return False
         if line.kind == "together":
             return self.is_settled(line.number)
+        if line.kind == "rise":
+            return self.ends[line.end].links[line.number].phase == "settled"
         under_way = len(self.ends[line.end].links[line.number].coming) if line.end else 0
         return line.kind not in ("arrive", "lose") or (line.place or 0) < under_way
 
@@ -269,9 +272,36 @@ class Trace:
     def on_together(self, line, _end, answer):
         expect(answer == "up", "together isn't answered up")
         for end in self.ends.values():
-            end.links[line.number].phase = "up"
-            end.links[line.number].rise()
-            end.streams.rise(line.number)
+            end.links[line.number].coming.clear()
+            self.comes_up(end, line.number)
+
+    @staticmethod
+    def comes_up(end, number):
+        link = end.links[number]
+        link.phase, link.cover = "up", "inside"
+        link.rise()
+        end.streams.rise(number)
+
+    def on_rise(self, line, end, answer):
+        expect(answer == "up", "a rise isn't answered up")
+        link, far = end.links[line.number], self.ends[OTHER[line.end]].links[line.number]
+        if far.phase == "settled":
+            far.cover = "awaited"
+            far.coming.clear()
+            link.coming.clear()
+        elif link.cover != "awaited":
+            self.strayed = True
+        self.comes_up(end, line.number)
+
+    def on_fill(self, line, end, answer):
+        link = end.links[line.number]
+        octets = bytes.fromhex(answer.removeprefix("sent "))
+        expect(answer == f"sent {octets.hex()}" and list(octets[-2:]) == check_octets(octets[:-2]), "check octets are wrong")
+        unit = unit_of(octets[:-2], self.profile)
+        last = self.profile.numbers - 1
+        expect(unit and unit.kind == "fisu" and unit.bsn == unit.fsn == last and unit.bib == unit.fib == 1, "a fill isn't the first FISU of an end")
+        self.strayed = self.strayed or link.cover != "awaited"
+        self.ends[OTHER[line.end]].links[line.number].coming.append(unit)
 
     def on_offer(self, line, end, answer):
         body = line.octets
@@ -392,6 +422,8 @@ class Trace:
             return "ignored"
         if name in ("coo", "eco") and link.phase != "down":
             end.rows += 1
+        if name in ("coo", "eco") and link.phase == "settled" and link.cover == "awaited":
+            link.cover = "missed"
         if link.phase == "up":
             end.streams.leave(number)
         if link.phase != "settled":
