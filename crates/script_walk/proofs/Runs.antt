@@ -1,8 +1,8 @@
 -- A SCRIPT IS A RUN: an induction over its lines. No move changes what the ends were opened with, so each line is read in
 -- the profile of the first.
-use Rattle.std.proofs.Common.{refl, ◌≡◌, sym, ap, ap₂, ◌∙◌, ℕ, Bool, true, false, suc, ◌||◌, nat_lt, List, [], ◌∷◌, ◌++◌, length, map, Option, Some, None, cond}
+use Rattle.std.proofs.Common.{refl, ◌≡◌, sym, ap, ap₂, ◌∙◌, ℕ, Bool, true, false, suc, ◌||◌, nat_lt, List, [], ◌∷◌, ◌++◌, length, Option, Some, None, cond}
 use Rattle.std.proofs.lemmas.List.{append_assoc}
-use Rattle.std.specs.Option.{option_map, option_and_then}
+use Rattle.std.specs.Option.{option_map}
 use Rattle.l2_units.specs.declared.profile.Profile.{Profile}
 use Rattle.l2_units.specs.declared.unit.Unit.{Unit as SignalUnit}
 use Rattle.set_events.specs.declared.answer.Answer.TheVariants.{Accepted, Taken, Found, Sent, Heard as HeardBack, Done, Refused}
@@ -11,28 +11,26 @@ use Rattle.set_events.specs.declared.event.Event.{Event}
 use Rattle.set_events.specs.declared.event.Event.TheVariants.{Next, Heard}
 use Rattle.set_model.specs.History.{LinkSet, new_set}
 use Rattle.set_model.specs.State.{is_settled, is_up}
-use Rattle.pair_steps.specs.Lines.{without}
 use Rattle.pair_steps.specs.declared.step.End.{End}
 use Rattle.pair_steps.specs.declared.step.End.TheVariants.{A, B}
 use Rattle.pair_steps.specs.declared.step.Shown.{Shown}
 use Rattle.pair_steps.specs.declared.step.Shown.TheVariants.{Answered, Up, Lost}
 use Rattle.pair_steps.specs.declared.step.Step.{Step}
 use Rattle.pair_steps.specs.declared.step.Step.TheVariants.{Act, Emit, Arrive, Lose, Together, Inject}
-use Rattle.pair_model.specs.Run.{OnShows, Played, goes_on as plays_on, leads_to, begun, played_from}
-use Rattle.pair_model.specs.World.{World, Outcome, shows, impossible, exhausted, world_of, at_end, with_end, line_to, with_line, joined, actor_of, answer_to, after, is_full, has_link, has_actor, has_own_step, acts, asks, with_sent, sends_on, emits, reaches, front_arrives, arrives, loses, risen, is_settled_at_both, rises, carried_out}
+use Rattle.pair_model.specs.Run.{OnShows, Played, goes_on as plays_on, leads_to, begun}
+use Rattle.pair_model.specs.World.{World, Outcome, shows, impossible, exhausted, world_of, at_end, with_end, line_to, with_line, joined, actor_of, answer_to, after, is_full, has_link, has_actor, has_own_step, acts, with_sent, sends_on, emits, reaches, front_arrives, is_settled_at_both, carried_out}
 use Rattle.pair_rises.specs.declared.moves.Move.{Move}
 use Rattle.pair_rises.specs.declared.moves.Move.TheVariants.{Step as MoveStep, Rise, Fill}
-use Rattle.pair_rises.specs.Rises.{comes_up, emptied, fills_line, idle_at, is_first, moved, risen_so}
-use Rattle.pair_world.specs.Moved.{moved_from, played_by}
+use Rattle.pair_rises.specs.Rises.{idle_at, is_first, moved, risen_so}
+use Rattle.pair_world.specs.Moved.{moved_from}
 use Rattle.script_grammar.specs.declared.script.Opening.{Opening}
 use Rattle.script_grammar.specs.declared.script.Values.{Values}
 use Rattle.script_grammar.specs.Opened.{IsEnd, IsMadeOf}
 use Rattle.script_grammar.specs.Script.{first_line, move_of}
-use Rattle.text_printing.specs.Printing.{Printed, behind}
-use Rattle.text_lines.specs.Lines.{LineOutcome, prints, stops, goes_on, is_remark, lines_of, lines_text, text_of_lines}
-use Rattle.text_lines.specs.Flaws.{flaw_of}
+use Rattle.text_printing.specs.Printing.{Printed}
+use Rattle.text_lines.specs.Lines.{prints, stops, goes_on, is_remark, lines_of, text_of_lines}
 use Rattle.script_walk.specs.declared.fault.ScriptFault.{ScriptFault}
-use Rattle.script_walk.specs.Scripts.{Told, asked, opened, opened_set, opened_world, outcome_of, profile_of, script_rules, settings_at, told_of}
+use Rattle.script_walk.specs.Scripts.{Told, asked, opened, opened_set, opened_world, outcome_of, profile_of, script_rules, told_of}
 use Rattle.script_walk.specs.Runs.{EveryScriptIsARun, StepsLeadAlike, IsRunFrom, IsRunOf, behind_remarks, moves_of}
 
 -- What the ends were opened with stays.
