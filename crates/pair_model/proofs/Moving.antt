@@ -50,7 +50,7 @@ added_none k l f = go (l == k) refl
     go true e = rw e (append-nil (f l))
     go false e = rw e refl
 
-same_side : {s s' : State} {sent sent' : List Message} {taken taken' : List (List ℕ)} → s' ≡ s → sent' ≡ sent
+pub same_side : {s s' : State} {sent sent' : List Message} {taken taken' : List (List ℕ)} → s' ≡ s → sent' ≡ sent
     → taken' ≡ taken → ◌≡◌ {A = Side} (record { state = s'; sent = sent'; taken = taken' })
     (record { state = s; sent = sent; taken = taken })
 same_side a b c = rw (a, b, c) refl

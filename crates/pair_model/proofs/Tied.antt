@@ -213,7 +213,7 @@ waiting unsent w = record w { near = record w.near { window = record w.near.wind
 abbrev pub pushed : List ℕ → LinkWorld Control → LinkWorld Control
 pushed more w = waiting (w.near.window.unsent ++ more) w
 
-push_all : (p : Profile) (near far : Control) (more : List ℕ) (w : LinkWorld Control) → Run rules p near far w → Run rules p near far (pushed more w)
+pub push_all : (p : Profile) (near far : Control) (more : List ℕ) (w : LinkWorld Control) → Run rules p near far w → Run rules p near far (pushed more w)
 push_all p near far [] w r = rw (append-nil w.near.window.unsent) r
 push_all p near far (n ∷ more) w r =
     let one = pushed (n ∷ []) w in

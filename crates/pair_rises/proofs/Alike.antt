@@ -21,9 +21,10 @@ use Rattle.pair_changeover.proofs.Changes.{Both, by_link}
 use Rattle.pair_changeover.proofs.Views.{view, last_of, last_on, Among, In, stands_aside, stayed, was_in, carries}
 use Rattle.pair_streams.proofs.Acting.{Streams}
 use Rattle.pair_streams.proofs.Codes.{far_carried, far_in}
+use Rattle.pair_rises.proofs.Covers.{each}
 use Rattle.pair_rises.proofs.Going.{still_in, still_flow}
 use Rattle.pair_rises.proofs.Open.{IsOpen}
-use Rattle.pair_rises.proofs.Pair.{each, veil_follows, veil_counts}
+use Rattle.pair_rises.proofs.Pair.{veil_follows, veil_counts}
 
 pub record IsLike (link new : LinkState) : Type 0 where
   pub up : has_phase_up new.phase ≡ has_phase_up link.phase

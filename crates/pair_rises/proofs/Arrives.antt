@@ -31,18 +31,23 @@ use Rattle.pair_model.specs.Run.{Past, past_heard}
 use Rattle.pair_model.proofs.Moving as moving
 use Rattle.pair_model.proofs.Pairs.{Two, HoldsOf, settings_stay}
 use Rattle.pair_model.proofs.Rising.{settled_at}
+use Rattle.pair_changeover.proofs.Arriving.{hears_did}
+use Rattle.pair_changeover.proofs.Counted.{Counts, heard_counts}
 use Rattle.pair_changeover.proofs.Views.{IsChangeover}
+use Rattle.pair_changeover.proofs.Whole.{SettlesSo}
 use Rattle.pair_streams.proofs.Acting.{Streams}
 use Rattle.pair_streams.proofs.Hearing.{hears_streams}
 use Rattle.pair_model.proofs.Tied.{KeepBodies, keep_bodies}
 use Rattle.pair_rises.specs.Rises.{cover_of, Cover, inside, awaited, missed, is_covered, closed, told_at, seen_under, about_of, order_about, is_order, takes_order, missed_by, missed_at, covers_heard}
 use Rattle.pair_rises.proofs.Brought.{is_no_message, leaves_took, order_in, about_in, elsewhere_in, brought_in, link_in, about_link, of_other, order_about_link, takes_took, past_same}
 use Rattle.pair_rises.proofs.Covers.{told_here, told_other, told_each, ft, off_other, off_fits}
+use Rattle.pair_rises.proofs.Halves.{Halves, hears_halves, whole_of}
 use Rattle.pair_rises.proofs.Heard as under_veils
 use Rattle.pair_rises.proofs.Late as late
 use Rattle.pair_rises.proofs.Missing as missing
 use Rattle.pair_rises.proofs.Open.{IsOpen, hears_near, hears_far, not_about}
 use Rattle.pair_rises.proofs.Replies.{Replies}
+use Rattle.pair_rises.proofs.Unveiled.{bare_settles}
 use Rattle.pair_rises.proofs.Veils.{Fits, SameUnder, same_under, seen_up, seen_off, seen_more, seen_same, seen_sound, seen_length}
 
 -- WHO MISSES WHAT
@@ -66,6 +71,8 @@ module _ {emergencies : Bool} (mx my : Method) (one : IsOneMethod mx my) (ox : �
     (out back : List (List SignalUnit)) (sound : IsSound s) (fits : Fits ox s) (replies : Replies s)
     (h : HoldsOf mx my (record { near = seen_under ox s; far = f; near_past = x_past; far_past = y_past; out = out; back = back }))
     (v : Streams emergencies (record { near = seen_under ox s; far = f; near_past = x_past; far_past = y_past; out = out; back = back }))
+    (counts_each : Counts (seen_under ox s) f)
+    (half_each : emergencies ≡ false → Halves (record { near = seen_under ox s; far = f; near_past = x_past; far_past = y_past; out = out; back = back }))
     (opens : (l : ℕ) → ox l ≡ awaited → IsOpen l (seen_under ox s) f)
     (k : ℕ) (few : k < length s.links) (unit : SignalUnit) (rest : List SignalUnit) (front : units_on k back ≡ unit ∷ rest)
     (link : LinkState) (at : IsAt k link Up s) where
@@ -112,6 +119,12 @@ module _ {emergencies : Bool} (mx my : Method) (one : IsOneMethod mx my) (ox : �
   heard_streams : Streams emergencies (around (HeardBack report_seen) then_near)
   heard_streams = hears_streams mx my one p h v k few_seen unit rest front link at_seen
 
+  heard_halves : emergencies ≡ false → Halves (around (HeardBack report_seen) then_near)
+  heard_halves e = hears_halves mx my one p h v e k few_seen unit rest front link at_seen (half_each e)
+
+  heard_each : Counts then_near f
+  heard_each = heard_counts mx my one p h v.ordered counts_each k few_seen unit rest front link at_seen
+
   far_there : (l : ℕ) → is_settled l s ≡ true → (there : LinkState) × (slice_get f.links l ≡ Some there)
   far_there l e =
       let was = settled_at l s e in
@@ -133,6 +146,10 @@ module _ {emergencies : Bool} (mx my : Method) (one : IsOneMethod mx my) (ox : �
   pub record Arrived (told : ℕ → Cover) : Type 0 where
     pub links : HoldsOf mx my (around answer_here (seen_under told then_s))
     pub streams : Streams emergencies (around answer_here (seen_under told then_s))
+    pub counts : Counts (seen_under told then_s) f
+    pub halves : emergencies ≡ false → Halves (around answer_here (seen_under told then_s))
+    -- what settles diverts the rest
+    pub diverts : emergencies ≡ false → SettlesSo x_past y_past s then_s
     pub fit : Fits told then_s
     pub near : (l : ℕ) → told l ≡ awaited → IsOpen l (seen_under told then_s) f
     pub far : (l : ℕ) → IsOpen l f (seen_under ox s) → IsOpen l f (seen_under told then_s)
@@ -147,6 +164,12 @@ module _ {emergencies : Bool} (mx my : Method) (one : IsOneMethod mx my) (ox : �
             (subst (λ (near : State). HoldsOf mx my (around (HeardBack report_seen) near)) same.state heard_holds);
         streams = subst (λ (a : Answer). Streams emergencies (around a (seen_under ox then_s))) answer
             (subst (λ (near : State). Streams emergencies (around (HeardBack report_seen) near)) same.state heard_streams);
+        counts = subst (λ (near : State). Counts near f) same.state heard_each;
+        halves = λ e. subst (λ (a : Answer). Halves (around a (seen_under ox then_s))) answer
+            (subst (λ (near : State). Halves (around (HeardBack report_seen) near)) same.state (heard_halves e));
+        diverts = λ e. bare_settles ox s then_s fits same.fits x_past y_past
+            (subst (λ (near : State). SettlesSo x_past y_past (seen_under ox s) near) same.state
+            (hears_did mx my one p h (whole_of p e v (half_each e)) k few_seen unit rest front link at_seen).near);
         fit = same.fits;
         near = λ l e. subst (λ (near : State). IsOpen l near f) same.state (near_open l e);
         far = λ l was. subst (λ (near : State). IsOpen l f near) same.state (far_open l was);
@@ -160,6 +183,9 @@ module _ {emergencies : Bool} (mx my : Method) (one : IsOneMethod mx my) (ox : �
       record {
         links = subst (λ (near : State). HoldsOf mx my (around answer_here near)) is a.links;
         streams = subst (λ (near : State). Streams emergencies (around answer_here near)) is a.streams;
+        counts = subst (λ (near : State). Counts near f) is a.counts;
+        halves = λ e. subst (λ (near : State). Halves (around answer_here near)) is (a.halves e);
+        diverts = a.diverts;
         fit = λ l e. a.fit l (ap is_covered (sym (same l)) ∙ e);
         near = λ l e. subst (λ (near : State). IsOpen l near f) is (a.near l (sym (same l) ∙ e));
         far = λ l was. subst (λ (near : State). IsOpen l f near) is (a.far l was);
@@ -263,6 +289,12 @@ module _ {emergencies : Bool} (mx my : Method) (one : IsOneMethod mx my) (ox : �
     v_u : Streams emergencies (q (veil (dormant u.settings) n u))
     v_u = subst (λ (near : State). Streams emergencies (q near)) near_is v
 
+    counts_u : Counts (veil (dormant u.settings) n u) f
+    counts_u = subst (λ (near : State). Counts near f) near_is counts_each
+
+    halves_u : emergencies ≡ false → Halves (q (veil (dormant u.settings) n u))
+    halves_u e = subst (λ (near : State). Halves (q near)) near_is (half_each e)
+
     open_u : IsOpen n (veil (dormant u.settings) n u) f
     open_u = subst (λ (near : State). IsOpen n near f) near_is (opens n waits)
 
@@ -286,7 +318,7 @@ module _ {emergencies : Bool} (mx my : Method) (one : IsOneMethod mx my) (ox : �
         ∙ ap (λ (profile : Profile). Coa n (fsn_before_first profile)) (sound.links n was.0 was.1.there).profile
 
     few_under : k < length (veil (dormant u.settings) n u).links
-    few_under = missing.few_under mx my one u f x_past y_past out back n sound_u was.0 was_u h_u v_u open_u there.0 there.1 k few_u unit rest front link at_under
+    few_under = missing.few_under mx my one u f x_past y_past out back n sound_u was.0 was_u h_u v_u counts_u halves_u open_u there.0 there.1 k few_u unit rest front link at_under
 
     abbrev report_under : Report
     report_under = moving.report mx my one (q (veil (dormant u.settings) n u)) h_u k few_under unit rest front link at_under
@@ -326,6 +358,11 @@ module _ {emergencies : Bool} (mx my : Method) (one : IsOneMethod mx my) (ox : �
             ∙ sym (seen_more off now then_s n is (cover then_s.settings) (told_here n inside ox) here (by then_s.settings)
             (λ l d. same l d ∙ sym (told_other n inside ox l d)) few_then)
 
+        -- no link settles
+        none_settle : SettlesSo x_past y_past s then_s
+        none_settle l before now =
+            absurd (let no : false ≡ true = sym before ∙ late.settled_before k n s sound was.0 was.1 link at unit fit body some order over of is l now in cc)
+
         settled_then : is_settled n then_s ≡ true
         settled_then = late.settled_after k n s sound was.0 was.1 link at unit fit body some order over of is
 
@@ -355,7 +392,7 @@ module _ {emergencies : Bool} (mx my : Method) (one : IsOneMethod mx my) (ox : �
 
           late_arrived : Arrived told
           late_arrived =
-              let m = missing.missed mx my one u f x_past y_past out back n sound_u was.0 was_u h_u v_u open_u there.0 there.1 k few_u unit rest front link at_under
+              let m = missing.missed mx my one u f x_past y_past out back n sound_u was.0 was_u h_u v_u counts_u halves_u open_u there.0 there.1 k few_u unit rest front link at_under
               mid mid_few refl settles (veil (closed u.settings) n then_u) answers in
               let seen = seen_as missed closed (λ settings. refl) told (told_here n missed ox) (told_other n missed ox) in
               record {
@@ -363,6 +400,10 @@ module _ {emergencies : Bool} (mx my : Method) (one : IsOneMethod mx my) (ox : �
                     (subst (λ (near : State). HoldsOf mx my (with_past (past_with (HeardBack report_under)) near)) seen m.links);
                 streams = subst (λ (past : Past). Streams emergencies (with_past past (seen_under told then_s))) past_is
                     (subst (λ (near : State). Streams emergencies (with_past (past_with (HeardBack report_under)) near)) seen m.streams);
+                counts = subst (λ (near : State). Counts near f) seen m.counts;
+                halves = λ e. subst (λ (past : Past). Halves (with_past past (seen_under told then_s))) past_is
+                    (subst (λ (near : State). Halves (with_past (past_with (HeardBack report_under)) near)) seen (m.halves e));
+                diverts = λ e. none_settle;
                 fit = told_each n missed ox (λ l c. is_covered c ≡ true → is_settled l then_s ≡ true) (λ e. settled_then) (λ l d e. others.fits l (other_covered l d e));
                 near = told_each n missed ox (λ l c. c ≡ awaited → IsOpen l (seen_under told then_s) f) (λ e. absurd cc)
                     (λ l d e. subst (λ (near : State). IsOpen l near f) seen (m.near_open l d (subst (λ (near : State). IsOpen l near f) after_is (near_open l e))));
@@ -375,7 +416,7 @@ module _ {emergencies : Bool} (mx my : Method) (one : IsOneMethod mx my) (ox : �
           still_arrived : Arrived ox
           still_arrived =
               let keep = subst (λ (t : State). KeepBodies u.rows t.rows) ignores (keep_bodies u then_u sound_u.numbered (keeps_messages u (HeardEvent k unit) sound_u.numbered)) in
-              let m = missing.ignored mx my one u f x_past y_past out back n sound_u was.0 was_u h_u v_u open_u there.0 there.1 k few_u unit rest front link at_under
+              let m = missing.ignored mx my one u f x_past y_past out back n sound_u was.0 was_u h_u v_u counts_u halves_u open_u there.0 there.1 k few_u unit rest front link at_under
               mid mid_few refl settles (late.mid_sound k n u sound_u was.0 was_u link at_u unit fit) (late.mid_at k n u sound_u was.0 was_u link at_u unit fit)
               keep (late.mid_untouched k n u sound_u was.0 was_u link at_u unit fit) (late.other k n u sound_u was.0 was_u link at_u unit fit) in
               let seen = ap (veil (dormant u.settings) n) (sym ignores) ∙ seen_as awaited dormant (λ settings. refl) ox waits (λ l d. refl) in
@@ -384,6 +425,10 @@ module _ {emergencies : Bool} (mx my : Method) (one : IsOneMethod mx my) (ox : �
                     (subst (λ (near : State). HoldsOf mx my (with_past (past_with (HeardBack report_under)) near)) seen m.links);
                 streams = subst (λ (past : Past). Streams emergencies (with_past past (seen_under ox then_s))) past_is
                     (subst (λ (near : State). Streams emergencies (with_past (past_with (HeardBack report_under)) near)) seen m.streams);
+                counts = subst (λ (near : State). Counts near f) seen m.counts;
+                halves = λ e. subst (λ (past : Past). Halves (with_past past (seen_under ox then_s))) past_is
+                    (subst (λ (near : State). Halves (with_past (past_with (HeardBack report_under)) near)) seen (m.halves e));
+                diverts = λ e. none_settle;
                 fit = λ l e. split_link l e (n == l) refl;
                 near = λ l e. subst (λ (near : State). IsOpen l near f) seen (m.near_open l (subst (λ (near : State). IsOpen l near f) after_is (near_open l e)));
                 far = λ l open_then. subst (λ (near : State). IsOpen l f near) seen (m.far_open l (subst (λ (near : State). IsOpen l f near) after_is (far_open l open_then)));

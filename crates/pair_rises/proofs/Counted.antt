@@ -1,7 +1,7 @@
 -- A LIFE THAT AN END MISSES IS COUNTED (`every_missed_life_is_counted`): a unit that it hears brought a changeover order about
 -- a link that it had settled, and the set counts that (`counted`). Any other move leaves each link as it stands, or
 -- begins a life, or joins one.
-use Rattle.std.proofs.Common.{refl, ◌≡◌, ◌∙◌, ap, sym, subst, ℕ, ◌==◌, Bool, true, false, List, [], ◌∷◌, Option, Some, None, cond}
+use Rattle.std.proofs.Common.{refl, arith, ◌≡◌, ◌∙◌, ap, sym, subst, ℕ, ◌==◌, Bool, true, false, List, ◌∷◌, length, Option, Some, None, cond}
 use Rattle.std.proofs.lemmas.Bool.{eqb-true}
 use Rattle.l2_units.specs.declared.unit.Unit.{Unit as SignalUnit}
 use Rattle.l3_orders.specs.declared.order.Order.{Order}
@@ -13,31 +13,30 @@ use Rattle.set_events.specs.declared.event.Event.TheVariants.{Heard as HeardEven
 use Rattle.set_model.specs.declared.phase.Phase.TheVariants.{Up, Settled}
 use Rattle.set_model.specs.Changeover.{one_later}
 use Rattle.set_model.specs.Sound.{IsSound}
-use Rattle.set_model.specs.State.{LinkState, State, late_at, late_in, is_up}
+use Rattle.set_model.specs.State.{LinkState, State, late_at, late_in}
 use Rattle.set_model.specs.Step.{Outcome as SetOutcome, brought, takes, part_in, controlled, is_heard, step}
 use Rattle.set_model.proofs.Walk.{IsAt}
-use Rattle.pair_steps.specs.Lines.{units_on}
 use Rattle.pair_steps.specs.declared.step.End.{End}
 use Rattle.pair_steps.specs.declared.step.End.TheVariants.{A, B}
 use Rattle.pair_steps.specs.declared.step.Shown.{Shown}
 use Rattle.pair_steps.specs.declared.step.Shown.TheVariants.{Answered, Lost}
 use Rattle.pair_steps.specs.declared.step.Step.{Step}
 use Rattle.pair_steps.specs.declared.step.Step.TheVariants.{Act, Emit, Arrive, Lose, Together, Inject}
-use Rattle.pair_model.specs.World.{World, Outcome, shows, impossible, exhausted, with_end, with_line, line_to, answer_to, after, has_link, is_full, front_arrives, carried_out}
+use Rattle.pair_model.specs.World.{World, Outcome, shows, impossible, exhausted, with_end, with_line, answer_to, after, carried_out}
 use Rattle.pair_model.specs.Promises.{IsOneMethod}
-use Rattle.pair_model.specs.Run.{Stage, passed, with_past, past_arrived, OnShows}
+use Rattle.pair_model.specs.Run.{Stage, passed, OnShows}
 use Rattle.pair_model.proofs.Rising.{settled_at}
-use Rattle.pair_model.proofs.Runs.{is_at_up}
-use Rattle.pair_rises.specs.Counted.{IsCounted, HoldsAtEachMove, EveryMissedLifeIsCounted}
-use Rattle.pair_rises.specs.Rises.{Cover, inside, awaited, missed, is_covered, Rising, opening, told_at, open_at, with_open, is_first, risen_at, is_order, takes_order, about_of, order_about, missed_by, missed_at, covers_heard, moved, moved_on, IsPlainMove, AreMoves, MayMove, HoldsBefore}
+use Rattle.pair_rises.specs.Counted.{IsCounted, EveryMissedLifeIsCounted}
+use Rattle.pair_rises.specs.Rises.{Cover, inside, awaited, missed, is_covered, Rising, opening, told_at, open_at, is_first, risen_at, is_order, takes_order, about_of, order_about, missed_by, missed_at, covers_heard, moved, moved_on}
 use Rattle.pair_rises.specs.declared.moves.Move.{Move}
 use Rattle.pair_rises.specs.declared.moves.Move.TheVariants.{Step as MoveStep, Rise, Fill}
+use Rattle.pair_rises.proofs.Arriving.{heard_a, heard_b, Cases, arrives}
 use Rattle.pair_rises.proofs.Brought.{about_in, brought_in}
 use Rattle.pair_rises.proofs.Covers.{told_each}
 use Rattle.pair_rises.proofs.Heard as under_veils
 use Rattle.pair_rises.proofs.Late as late
-use Rattle.pair_rises.proofs.Runs.{Holds, move_goes, first_holds}
-use Rattle.pair_rises.proofs.Veils.{Fits}
+use Rattle.pair_rises.proofs.Runs.{Holds, each_along, first_holds}
+use Rattle.pair_rises.proofs.Veils.{Fits, seen_length}
 use Rattle.pair_rises.proofs.Worlds.{IsNoArrival, none_told}
 
 not_both : {X : Type 0} (c : Cover) → c ≡ awaited → c ≡ missed → X
@@ -140,65 +139,34 @@ module _ (emergencies : Bool) (ma mb : Method) (one : IsOneMethod ma mb) where
     risen false B k new B l e f = absurd (told_not k inside g.open_b (λ x. absurd cc) l e f)
 
     -- a unit arrives
-    abbrev ArriveCounts : (end : End) (k : ℕ) → List SignalUnit → Outcome → Type 0
-    ArriveCounts A k line outcome = OnShows outcome (λ shown new. IsCounted g (with_open A (covers_heard w.a.state.settings.profile line shown g.open_a)
-        (record g { stage = with_past A (past_arrived k line (g.stage.b.sent k) shown g.stage.a) new g.stage })))
-    ArriveCounts B k line outcome = OnShows outcome (λ shown new. IsCounted g (with_open B (covers_heard w.b.state.settings.profile line shown g.open_b)
-        (record g { stage = with_past B (past_arrived k line (g.stage.a.sent k) shown g.stage.b) new g.stage })))
-
-    front_a : (k : ℕ) (line : List SignalUnit) → ArriveCounts A k line (front_arrives w A k line)
-    front_a k [] = tt
-    front_a k (unit ∷ rest) = go (is_up k w.a.state) refl (has_link w k) (is_full w.a)
+    cases : Cases g (λ end k shown then. IsCounted g then)
+    cases = record {
+      hears_a = λ k unit rest few front link at. heard_at_a k unit rest link at;
+      loses_a = λ k unit rest few front. lost_at_a k unit rest;
+      hears_b = λ k unit rest few front link at. heard_at_b k unit rest link at;
+      loses_b = λ k unit rest few front. lost_at_b k unit rest;
+    }
       where
-        heard : (link : LinkState) → IsAt k link Up w.a.state
-            → ArriveCounts A k (unit ∷ rest) (shows (Answered (answer_to w.a (HeardEvent k unit))) (with_end (with_line w A k rest) A (after w.a (HeardEvent k unit))))
-        heard link at A l e f = counted g.open_a w.a.state h.sound_x h.fit_x k unit rest link at l e f
-        heard link at B l e f = not_both (g.open_b l) e f
+        heard_at_a : (k : ℕ) (unit : SignalUnit) (rest : List SignalUnit) (link : LinkState) → IsAt k link Up w.a.state
+            → IsCounted g (heard_a g k (unit ∷ rest) (Answered (answer_to w.a (HeardEvent k unit))) (with_end (with_line w A k rest) A (after w.a (HeardEvent k unit))))
+        heard_at_a k unit rest link at A l e f = counted g.open_a w.a.state h.sound_x h.fit_x k unit rest link at l e f
+        heard_at_a k unit rest link at B l e f = not_both (g.open_b l) e f
 
-        lost : ArriveCounts A k (unit ∷ rest) (shows Lost (with_line w A k rest))
-        lost A l e f = not_both (g.open_a l) e f
-        lost B l e f = not_both (g.open_b l) e f
+        lost_at_a : (k : ℕ) (unit : SignalUnit) (rest : List SignalUnit) → IsCounted g (heard_a g k (unit ∷ rest) Lost (with_line w A k rest))
+        lost_at_a k unit rest A l e f = not_both (g.open_a l) e f
+        lost_at_a k unit rest B l e f = not_both (g.open_b l) e f
 
-        go : (up : Bool) → is_up k w.a.state ≡ up → (known full : Bool)
-            → ArriveCounts A k (unit ∷ rest) (cond up (cond known (cond full exhausted
-            (shows (Answered (answer_to w.a (HeardEvent k unit))) (with_end (with_line w A k rest) A (after w.a (HeardEvent k unit))))) impossible) (shows Lost (with_line w A k rest)))
-        go true e true true = tt
-        go true e true false = let at = is_at_up k w.a.state e in heard at.0 at.1
-        go true e false full = tt
-        go false e known full = lost
+        heard_at_b : (k : ℕ) (unit : SignalUnit) (rest : List SignalUnit) (link : LinkState) → IsAt k link Up w.b.state
+            → IsCounted g (heard_b g k (unit ∷ rest) (Answered (answer_to w.b (HeardEvent k unit))) (with_end (with_line w B k rest) B (after w.b (HeardEvent k unit))))
+        heard_at_b k unit rest link at A l e f = not_both (g.open_a l) e f
+        heard_at_b k unit rest link at B l e f = counted g.open_b w.b.state h.sound_y h.fit_y k unit rest link at l e f
 
-    front_b : (k : ℕ) (line : List SignalUnit) → ArriveCounts B k line (front_arrives w B k line)
-    front_b k [] = tt
-    front_b k (unit ∷ rest) = go (is_up k w.b.state) refl (has_link w k) (is_full w.b)
-      where
-        heard : (link : LinkState) → IsAt k link Up w.b.state
-            → ArriveCounts B k (unit ∷ rest) (shows (Answered (answer_to w.b (HeardEvent k unit))) (with_end (with_line w B k rest) B (after w.b (HeardEvent k unit))))
-        heard link at A l e f = not_both (g.open_a l) e f
-        heard link at B l e f = counted g.open_b w.b.state h.sound_y h.fit_y k unit rest link at l e f
+        lost_at_b : (k : ℕ) (unit : SignalUnit) (rest : List SignalUnit) → IsCounted g (heard_b g k (unit ∷ rest) Lost (with_line w B k rest))
+        lost_at_b k unit rest A l e f = not_both (g.open_a l) e f
+        lost_at_b k unit rest B l e f = not_both (g.open_b l) e f
 
-        lost : ArriveCounts B k (unit ∷ rest) (shows Lost (with_line w B k rest))
-        lost A l e f = not_both (g.open_a l) e f
-        lost B l e f = not_both (g.open_b l) e f
-
-        go : (up : Bool) → is_up k w.b.state ≡ up → (known full : Bool)
-            → ArriveCounts B k (unit ∷ rest) (cond up (cond known (cond full exhausted
-            (shows (Answered (answer_to w.b (HeardEvent k unit))) (with_end (with_line w B k rest) B (after w.b (HeardEvent k unit))))) impossible) (shows Lost (with_line w B k rest)))
-        go true e true true = tt
-        go true e true false = let at = is_at_up k w.b.state e in heard at.0 at.1
-        go true e false full = tt
-        go false e known full = lost
-
-    arrives_at : (end : End) (k : ℕ) → Counts_at (MoveStep (Arrive end k)) (front_arrives w end k (line_to w end k))
-    arrives_at A k = front_a k (units_on k w.to_a)
-    arrives_at B k = front_b k (units_on k w.to_b)
-
-    arrive_counts : (end : End) (k : ℕ) → Counts_at (MoveStep (Arrive end k)) (carried_out w (Arrive end k))
-    unfolding carried_out
-    arrive_counts end k = go (has_link w k)
-      where
-        go : (known : Bool) → Counts_at (MoveStep (Arrive end k)) (cond known (front_arrives w end k (line_to w end k)) impossible)
-        go true = arrives_at end k
-        go false = tt
+    same_links : length w.b.state.links ≡ length w.a.state.links
+    same_links = omega (arith, h.links.far_links, seen_length g.open_a w.a.state, seen_length g.open_b w.b.state)
 
     same_stands : (stage : Stage) (end : End) (l : ℕ) → open_at (record g { stage = stage }) end l ≡ open_at g end l
     same_stands stage A l = refl
@@ -211,7 +179,7 @@ module _ (emergencies : Bool) (ma mb : Method) (one : IsOneMethod ma mb) where
     step_counts : (step : Step) → Counts_at (MoveStep step) (carried_out w step)
     step_counts (Act end event) = other_counts (Act end event) tt
     step_counts (Emit end k) = other_counts (Emit end k) tt
-    step_counts (Arrive end k) = arrive_counts end k
+    step_counts (Arrive end k) = arrives g (λ end k shown then. IsCounted g then) same_links cases end k
     step_counts (Lose end k place) = other_counts (Lose end k place) tt
     step_counts (Together k) = other_counts (Together k) tt
     step_counts (Inject end k unit) = other_counts (Inject end k unit) tt
@@ -221,23 +189,8 @@ module _ (emergencies : Bool) (ma mb : Method) (one : IsOneMethod ma mb) where
     move_counts (Rise end k) = all_shows _ (moved w (Rise end k)) (λ shown new. risen (is_first w end k) end k new)
     move_counts (Fill end k) = all_shows _ (moved w (Fill end k)) (λ shown new. stays (moved_on g (Fill end k) shown new) (same_stands (record g.stage { world = new })))
 
-  -- ALL ALONG
-  onward : (g : Rising) (move : Move) (moves : List Move) (outcome : Outcome)
-      → ((later : Rising) → Holds emergencies ma mb one later → HoldsBefore MayMove later moves → HoldsAtEachMove IsCounted later moves)
-      → OnShows outcome (λ shown new. IsCounted g (moved_on g move shown new))
-      → OnShows outcome (λ shown new. Holds emergencies ma mb one (moved_on g move shown new))
-      → OnShows outcome (λ shown new. HoldsBefore MayMove (moved_on g move shown new) moves)
-      → OnShows outcome (λ shown new. IsCounted g (moved_on g move shown new) × HoldsAtEachMove IsCounted (moved_on g move shown new) moves)
-  onward g move moves (shows shown new) next counts goes may = (counts, next (moved_on g move shown new) goes may)
-  onward g move moves impossible next counts goes may = tt
-  onward g move moves exhausted next counts goes may = tt
-
-  along : (moves : List Move) (g : Rising) → Holds emergencies ma mb one g → AreMoves (IsPlainMove emergencies) moves → HoldsBefore MayMove g moves
-      → HoldsAtEachMove IsCounted g moves
-  along [] g h plain may = tt
-  along (move ∷ moves) g h plain may = onward g move moves (moved g.stage.world move) (λ later holds mays. along moves later holds plain.1 mays)
-      (move_counts g h move) (move_goes emergencies ma mb one g h move plain.0 may.0) may.1
-
 pub every_missed_life : EveryMissedLifeIsCounted
 every_missed_life em a b moves run =
-    along em a.method b.method run.one_method moves (opening a b) (first_holds em a b run.one_method run.links run.profiles) run.moves_are run.may
+    each_along em a.method b.method run.one_method (λ before move shown after. IsCounted before after)
+    (λ g h move plain. move_counts em a.method b.method run.one_method g h move)
+    moves (opening a b) (first_holds em a b run.one_method run.links run.profiles) run.moves_are run.may

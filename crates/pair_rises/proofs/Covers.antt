@@ -7,6 +7,14 @@ use Rattle.set_model.proofs.Places.{itself, apart_back}
 use Rattle.pair_rises.specs.Rises.{Cover, inside, is_covered, told_at}
 use Rattle.pair_rises.proofs.Veils.{Fits}
 
+-- the link itself, or another
+pub each : (k : ℕ) (P : ℕ → Type 0) → P k → ((l : ℕ) → (k == l) ≡ false → P l) → (l : ℕ) → P l
+each k P own other l = go (k == l) refl
+  where
+    go : (c : Bool) → (k == l) ≡ c → P l
+    go true e = subst P (eqb-true k l e) own
+    go false e = other l e
+
 pub told_here : (k : ℕ) (is : Cover) (told : ℕ → Cover) → told_at k is told k ≡ is
 told_here k is told = rw (itself k) refl
 

@@ -2,7 +2,7 @@
 -- that it left too, and settles it, which moves nothing; and the end acknowledges, with the number of a link on which
 -- nothing was accepted. `told_holds` and `told_streams` say that what holds of both ends is kept when an end queues such
 -- an acknowledgement about a link that isn't up at it, about which none stands there, and that the far end hasn't settled.
-use Rattle.std.proofs.Common.{◌⊎◌, inl, inr, refl, arith, ◌≡◌, ◌∙◌, ap, ap₂, sym, ℕ, zero, suc, ◌<◌, ◌≤◌, ◌==◌, slice_set, slice_index_or, ◌%◌, Bool, true, false, not, List, [], ◌∷◌, ◌++◌, length, map, slice_get, Option, Some, None, cond}
+use Rattle.std.proofs.Common.{◌⊎◌, inl, inr, refl, arith, ◌≡◌, ◌∙◌, ap, ap₂, sym, subst, ℕ, zero, suc, ◌<◌, ◌≤◌, ◌==◌, slice_set, slice_index_or, ◌%◌, Bool, true, false, not, List, [], ◌∷◌, ◌++◌, length, map, slice_get, Option, Some, None, cond}
 use Rattle.std.proofs.lemmas.Bool.{eq-eqb, eqb-true, leb-true}
 use Rattle.std.proofs.lemmas.List.{append-nil, length-map}
 use Rattle.l2_window.specs.Window.{fsn_count, fsn_before_first}
@@ -438,6 +438,33 @@ module _ (k l : ℕ) (u : State) (sound : IsSound u) (was : LinkState) (was_at :
         ap (is_settled l) (ignores_eca e) ∙ ap link_is_settled mid_at.there ∙ ap has_phase_settled was_at.phase_is
     settled_after (Cbd m code) over same is = absurd over
     settled_after (Cba m code) over same is = absurd over
+
+    -- nor does any other settle
+    mid_before : (m : ℕ) → is_settled m mid ≡ true → is_settled m u ≡ true
+    mid_before m e = go (k == m) refl
+      where
+        go : (b : Bool) → (k == m) ≡ b → is_settled m u ≡ true
+        go true d = absurd (let there : has_phase_settled link.phase ≡ true =
+            sym (ap link_is_settled (get_set_same u.links k _ (within u.links k link at.there))) ∙ subst (λ (n : ℕ). is_settled n mid ≡ true) (sym (eqb-true k m d)) e in
+            let no : true ≡ false = sym there ∙ ap has_phase_settled at.phase_is in cc)
+        go false d = ap link_is_settled (sym (get_set_other u.links k m _ (λ same. false_true (k == m) d (ap (λ (n : ℕ). k == n) (sym same) ∙ itself k)))) ∙ e
+
+    answered_before : (m : ℕ) (s : State) → s ≡ with_link l (answered_link was) (queued (reply_of l was) mid) → is_settled m s ≡ true → is_settled m u ≡ true
+    answered_before m s is e = go (l == m) refl
+      where
+        go : (b : Bool) → (l == m) ≡ b → is_settled m u ≡ true
+        go true d = subst (λ (n : ℕ). is_settled n u ≡ true) (eqb-true l m d) (ap link_is_settled was_at.there ∙ ap has_phase_settled was_at.phase_is)
+        go false d = mid_before m (ap link_is_settled (sym (get_set_other mid.links l m (answered_link was)
+            (λ same. false_true (l == m) d (ap (λ (n : ℕ). l == n) (sym same) ∙ itself l)))) ∙ sym (ap (is_settled m) is) ∙ e)
+
+    pub settled_before : (order : Order) → IsChangeover order → link_of order ≡ l → order_of u.settings.profile body ≡ Some order
+        → (m : ℕ) → is_settled m after ≡ true → is_settled m u ≡ true
+    settled_before (Coo n fsn) over same is m e = answered_before m after (answers_coo fsn (is ∙ ap (λ (x : ℕ). Some (Coo x fsn)) same)) e
+    settled_before (Eco n) over same is m e = answered_before m after (answers_eco (is ∙ ap (λ (x : ℕ). Some (Eco x)) same)) e
+    settled_before (Coa n fsn) over same is m e = mid_before m (sym (ap (is_settled m) (ignores_coa fsn (is ∙ ap (λ (x : ℕ). Some (Coa x fsn)) same))) ∙ e)
+    settled_before (Eca n) over same is m e = mid_before m (sym (ap (is_settled m) (ignores_eca (is ∙ ap (λ (x : ℕ). Some (Eca x)) same))) ∙ e)
+    settled_before (Cbd n code) over same is m e = absurd over
+    settled_before (Cba n code) over same is m e = absurd over
 
 -- A LINK COMES UP AGAIN: what it counted is over, but for the late orders
 abbrev pub closed_after : LinkState → Settings → LinkState

@@ -1,11 +1,15 @@
 pub mod Alike
 pub mod Arrives
+pub mod Arriving
 pub mod Brought
 pub mod Closed
 pub mod Counted
+pub mod Counting
 pub mod Covers
+pub mod Diverting
 pub mod Examples
 pub mod Going
+pub mod Halves
 pub mod Handing
 pub mod Heard
 pub mod Late
@@ -18,7 +22,9 @@ pub mod Rising
 pub mod Runs
 pub mod Sides
 pub mod Taking
+pub mod Telling
 pub mod Together
 pub mod Tying
+pub mod Unveiled
 pub mod Veils
 pub mod Worlds

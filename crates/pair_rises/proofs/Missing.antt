@@ -2,7 +2,7 @@
 -- as one that was answered and counts nothing from then on. Under the veil the order settles a link that both left
 -- (`after_under` of Late.antt); then the answer is queued. An acknowledgement settles it there too; the end as it is
 -- ignores it, and goes on to await the link (`ignored`).
-use Rattle.std.proofs.Common.{refl, arith, ◌≡◌, ◌∙◌, ap, sym, subst, ℕ, ◌<◌, ◌+◌, ◌==◌, Bool, true, false, List, ◌∷◌, length, slice_get, Some}
+use Rattle.std.proofs.Common.{refl, arith, ◌≡◌, ◌∙◌, ap, sym, subst, ℕ, ◌<◌, ◌+◌, ◌==◌, Bool, true, false, List, ◌∷◌, length, slice_get, Some, inr}
 use Rattle.l2_units.specs.declared.profile.Profile.{Profile}
 use Rattle.l2_units.specs.declared.unit.Unit.{Unit as SignalUnit}
 use Rattle.l2_window.specs.Window.{fsn_count, fsn_before_first}
@@ -22,19 +22,24 @@ use Rattle.set_veiled.specs.Veil.{dormant, veil}
 use Rattle.set_veiled.proofs.Sound.{veils_stay_sound}
 use Rattle.set_model.proofs.Events.{Untouched}
 use Rattle.set_model.proofs.Places.{apart_back}
+use Rattle.set_model.proofs.Settling.{settled_empty}
 use Rattle.pair_model.proofs.Counts.{CountStays}
 use Rattle.pair_model.proofs.Following.{follows_untouched}
 use Rattle.pair_model.proofs.Tied.{KeepBodies, follows}
 use Rattle.pair_rises.proofs.Alike.{IsLike, shows_holds, shows_streams, shows_near, shows_far}
-use Rattle.pair_rises.proofs.Pair.{same_side}
 use Rattle.pair_model.specs.Promises.{IsOneMethod}
 use Rattle.pair_model.specs.Run.{Past, added_at}
+use Rattle.pair_model.proofs.Moving.{same_side}
 use Rattle.pair_model.proofs.Moving as moving
 use Rattle.pair_model.proofs.Pairs.{Two, side, TiedAt, HoldsOf, like, on_other}
+use Rattle.pair_changeover.proofs.Acked.{IsRest}
+use Rattle.pair_changeover.proofs.Counted.{Counts, heard_counts}
 use Rattle.pair_changeover.proofs.Ordered.{heard}
 use Rattle.pair_changeover.proofs.Views.{last_of, last_on}
 use Rattle.pair_streams.proofs.Acting.{Streams}
 use Rattle.pair_streams.proofs.Hearing.{hears_streams}
+use Rattle.pair_rises.proofs.Counting.{shows_counts}
+use Rattle.pair_rises.proofs.Halves.{Halves, hears_halves, shows_halves, told_halves}
 use Rattle.pair_rises.proofs.Late.{told_holds, told_streams, told_near, told_far, veil_over}
 use Rattle.pair_rises.proofs.Open.{IsOpen, hears_near}
 use Rattle.pair_rises.specs.Rises.{closed}
@@ -43,6 +48,8 @@ module _ {emergencies : Bool} (mx my : Method) (one : IsOneMethod mx my) (u f : 
     (out back : List (List SignalUnit)) (l : ℕ) (sound : IsSound u) (was : LinkState) (was_at : IsAt l was Settled u)
     (h : HoldsOf mx my (record { near = veil (dormant u.settings) l u; far = f; near_past = near_past; far_past = far_past; out = out; back = back }))
     (v : Streams emergencies (record { near = veil (dormant u.settings) l u; far = f; near_past = near_past; far_past = far_past; out = out; back = back }))
+    (counts_each : Counts (veil (dormant u.settings) l u) f)
+    (half_each : emergencies ≡ false → Halves (record { near = veil (dormant u.settings) l u; far = f; near_past = near_past; far_past = far_past; out = out; back = back }))
     (awaited : IsOpen l (veil (dormant u.settings) l u) f) (there : LinkState) (found : slice_get f.links l ≡ Some there)
     (k : ℕ) (few : k < length u.links) (unit : SignalUnit) (rest : List SignalUnit) (front : units_on k back ≡ unit ∷ rest)
     (link : LinkState) (at : IsAt k link Up (veil (dormant u.settings) l u)) where
@@ -67,6 +74,12 @@ module _ {emergencies : Bool} (mx my : Method) (one : IsOneMethod mx my) (u f : 
   heard_streams : Streams emergencies heard_two
   heard_streams = hears_streams mx my one p h v k few_under unit rest front link at
 
+  heard_halves : emergencies ≡ false → Halves heard_two
+  heard_halves e = hears_halves mx my one p h v e k few_under unit rest front link at (half_each e)
+
+  heard_each : Counts after_under f
+  heard_each = heard_counts mx my one p h v.ordered counts_each k few_under unit rest front link at
+
   still_open : IsOpen l after_under f
   still_open = hears_near mx my one p h v.ordered k few_under unit rest front link at l there found down_before awaited
 
@@ -74,6 +87,8 @@ module _ {emergencies : Bool} (mx my : Method) (one : IsOneMethod mx my) (u f : 
   pub record Missed (near : State) : Type 0 where
     pub links : HoldsOf mx my (record heard_two { near = near })
     pub streams : Streams emergencies (record heard_two { near = near })
+    pub counts : Counts near f
+    pub halves : emergencies ≡ false → Halves (record heard_two { near = near })
     pub near_open : (n : ℕ) → (l == n) ≡ false → IsOpen n after_under f → IsOpen n near f
     pub far_open : (n : ℕ) → IsOpen n f after_under → IsOpen n f near
 
@@ -103,6 +118,8 @@ module _ {emergencies : Bool} (mx my : Method) (one : IsOneMethod mx my) (u f : 
     missed near answered = subst (λ (s : State). Missed s) (sym answered) (record {
       links = told_holds mx my heard_two heard_holds heard_streams l (fsn_before_first u.settings.profile) below_16 in_range tells still_open.none down_then still_open.goes;
       streams = told_streams mx my heard_two heard_holds heard_streams l (fsn_before_first u.settings.profile) below_16 in_range tells still_open.none down_then still_open.goes;
+      counts = record { near = heard_each.near; far = heard_each.far };
+      halves = λ e. told_halves heard_two l (fsn_before_first u.settings.profile) (heard_halves e);
       near_open = λ n d was. told_near mx my heard_two heard_holds heard_streams l (fsn_before_first u.settings.profile) below_16 in_range tells still_open.none down_then still_open.goes n d was;
       far_open = λ n was. told_far mx my heard_two heard_holds heard_streams l (fsn_before_first u.settings.profile) below_16 in_range tells still_open.none down_then still_open.goes n was;
     })
@@ -158,9 +175,17 @@ module _ {emergencies : Bool} (mx my : Method) (one : IsOneMethod mx my) (u f : 
       shut_streams : Streams emergencies shut_two
       shut_streams = subst (λ (s : State). Streams emergencies (record heard_two { near = s })) settles heard_streams
 
+      shut_halves : emergencies ≡ false → Halves shut_two
+      shut_halves e = subst (λ (s : State). Halves (record heard_two { near = s })) settles (heard_halves e)
+
+      none_sent : IsRest l (dormant u.settings) shut.rows (heard_two.near_past.sent l)
+      none_sent = inr (refl, (settled_empty mid l was mid_sound mid_at.there mid_at.phase_is).unack_none)
+
       pub record Awaited (near : State) : Type 0 where
         pub links : HoldsOf mx my (record heard_two { near = near })
         pub streams : Streams emergencies (record heard_two { near = near })
+        pub counts : Counts near f
+        pub halves : emergencies ≡ false → Halves (record heard_two { near = near })
         pub near_open : (n : ℕ) → IsOpen n after_under f → IsOpen n near f
         pub far_open : (n : ℕ) → IsOpen n f after_under → IsOpen n f near
 
@@ -168,6 +193,8 @@ module _ {emergencies : Bool} (mx my : Method) (one : IsOneMethod mx my) (u f : 
       ignored = subst Awaited left_is (record {
         links = shows_holds mx my shut_two shut_holds l (closed u.settings) (dormant u.settings) shut_there as_left sound_left tied_left;
         streams = shows_streams mx my shut_two shut_holds l (closed u.settings) (dormant u.settings) shut_there as_left sound_left shut_streams;
+        counts = shows_counts l shut f (closed u.settings) (dormant u.settings) shut_there as_left (subst (λ (s : State). Counts s f) settles heard_each);
+        halves = λ e. shows_halves shut_two l (closed u.settings) (dormant u.settings) shut_there as_left (λ unsettled. none_sent) (shut_halves e);
         near_open = λ n was. shows_near shut f l (closed u.settings) (dormant u.settings) shut_there as_left n (subst (λ (s : State). IsOpen n s f) settles was);
         far_open = λ n was. shows_far shut f l (closed u.settings) (dormant u.settings) shut_there as_left n (subst (λ (s : State). IsOpen n f s) settles was);
       })

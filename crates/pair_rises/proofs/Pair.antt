@@ -2,7 +2,6 @@
 -- end joins it (`joins_holds`, `joins_streams`), or fills its line before that (`fills_holds`). What holds of both ends
 -- in pair_model (`HoldsOf`) and in pair_streams (`Streams`) is kept, word for word.
 use Rattle.std.proofs.Common.{refl, arith, ◌≡◌, ◌∙◌, ap, sym, subst, ℕ, ◌<◌, ◌==◌, ◌-◌, Bool, true, false, List, [], ◌∷◌, ◌++◌, length, slice_get}
-use Rattle.std.proofs.lemmas.Bool.{eqb-true}
 use Rattle.std.proofs.lemmas.List.{append-nil}
 use Rattle.l2_units.specs.declared.unit.Unit.{Unit as SignalUnit}
 use Rattle.pair_steps.specs.Lines.{units_on, with_units, joined_on}
@@ -24,12 +23,13 @@ use Rattle.set_model.proofs.Staying.{keeps_messages}
 use Rattle.set_model.proofs.Walk.{link_count_stays, IsAt}
 use Rattle.set_veiled.specs.Veil.{dormant, veil}
 use Rattle.set_veiled.proofs.Sound.{veils_stay_sound}
-use Rattle.pair_model.specs.Run.{Message, messages, Past, past_risen, cleared_at}
+use Rattle.pair_model.specs.Run.{messages, Past, past_risen, cleared_at}
 use Rattle.pair_model.proofs.Counts.{count_stays, CountStays}
 use Rattle.pair_model.proofs.Following.{Follows, up_follows}
+use Rattle.pair_model.proofs.Moving.{same_side}
 use Rattle.pair_model.proofs.Pairs.{Two, side, TiedAt, HoldsOf, on_set, on_other, no_other, like, settings_stay, goes_on}
 use Rattle.pair_model.proofs.Rising.{settled_at, new_side}
-use Rattle.pair_model.proofs.Tied.{KeepBodies, keep_bodies, Side, Tied, turned, follows}
+use Rattle.pair_model.proofs.Tied.{KeepBodies, keep_bodies, Tied, turned, follows}
 use Rattle.pair_changeover.specs.Pending.{queue, pending, acked_of, acked_on, accepted_of, accepted_on}
 use Rattle.pair_changeover.proofs.Arriving.{rises_at}
 use Rattle.pair_changeover.proofs.Passing.{Rises}
@@ -41,23 +41,11 @@ use Rattle.pair_streams.proofs.Flowing.{back_by}
 use Rattle.pair_streams.proofs.Known.{covers_on}
 use Rattle.pair_streams.proofs.Rising.{rising_on}
 use Rattle.pair_rises.specs.Rises.{idle_unit}
+use Rattle.pair_rises.proofs.Covers.{each}
 use Rattle.pair_rises.proofs.Going.{up_in, up_flow, still_in, still_flow}
 use Rattle.pair_rises.proofs.Open.{IsOpen}
 use Rattle.pair_rises.proofs.Rising.{Veils, veils_at, begins_both, begins_none, joins_both}
 use Rattle.pair_rises.proofs.Tying.{first_tied, joins_tied, fills_tied}
-
-pub same_side : {s s' : State} {sent sent' : List Message} {taken taken' : List (List ℕ)} → s' ≡ s → sent' ≡ sent
-    → taken' ≡ taken → ◌≡◌ {A = Side} (record { state = s'; sent = sent'; taken = taken' })
-    (record { state = s; sent = sent; taken = taken })
-same_side a b c = rw (a, b, c) refl
-
--- the link itself, or another
-pub each : (k : ℕ) (P : ℕ → Type 0) → P k → ((l : ℕ) → (k == l) ≡ false → P l) → (l : ℕ) → P l
-each k P own other l = go (k == l) refl
-  where
-    go : (c : Bool) → (k == l) ≡ c → P l
-    go true e = subst P (eqb-true k l e) own
-    go false e = other l e
 
 -- another link follows under a veil
 module _ (k : ℕ) (s : State) (cover : LinkState) where

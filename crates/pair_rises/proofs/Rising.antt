@@ -2,7 +2,6 @@
 -- between it is, at the end that hasn't joined, as one that this end left at once and in silence (set_veiled): `Both` of
 -- pair_changeover holds of that state, and no order about the link stands at that end (`begins_none`).
 use Rattle.std.proofs.Common.{refl, ◌≡◌, ◌∙◌, ap, sym, subst, ℕ, ◌==◌, ◌-◌, Bool, true, false, List, [], slice_get, ◌⊎◌, inl, inr}
-use Rattle.std.proofs.lemmas.Bool.{eqb-true}
 use Rattle.set_model.specs.declared.phase.Phase.TheVariants.{Settled}
 use Rattle.set_model.specs.Rows.{Row, parked}
 use Rattle.set_model.specs.Sound.{IsSound}
@@ -14,6 +13,7 @@ use Rattle.set_model.proofs.Settling.{settled_empty}
 use Rattle.set_model.proofs.Walk.{IsAt}
 use Rattle.set_events.specs.declared.event.Event.TheVariants.{Up as UpEvent}
 use Rattle.set_veiled.specs.Veil.{dormant, veil}
+use Rattle.pair_rises.proofs.Covers.{each, ft}
 use Rattle.pair_model.specs.Run.{Message, messages}
 use Rattle.pair_changeover.proofs.Arriving.{rises_at}
 use Rattle.pair_changeover.proofs.Changes.{Both}
@@ -45,17 +45,6 @@ veils_at k f sound link at =
       links = λ l d. get_set_other f.links k l (dormant f.settings) (λ same. false_true (k == l) d (rw same (itself l)));
     }
 
--- the link itself, or another
-split : (k : ℕ) (P : ℕ → Type 0) → P k → ((l : ℕ) → (k == l) ≡ false → P l) → (l : ℕ) → P l
-split k P own other l = go (k == l) refl
-  where
-    go : (c : Bool) → (k == l) ≡ c → P l
-    go true e = subst P (eqb-true k l e) own
-    go false e = other l e
-
-ft : {X : Type 0} → false ≡ true → X
-ft e = absurd cc
-
 tf : {X : Type 0} → true ≡ false → X
 tf e = absurd cc
 
@@ -78,33 +67,33 @@ module _ {emergencies : Bool} (k : ℕ) (s t f g : State) (a : Rises k s t) (b :
 
   near_passes : Passes (view s f) (view t g) (view g t)
   near_passes = record {
-    came = split k (λ l. (m : Message) → Among m (pending l t g) → Came (view s f) l m)
+    came = each k (λ l. (m : Message) → Among m (pending l t g) → Came (view s f) l m)
         (λ m among. let stood : In m (view s f) =
         stands_aside (subst (λ (q : List Message). Among m q) (a.own (accepted_on k g - acked_on k t)) among)
         in moved stood (λ about. o.near.none_settled k b.settled_was m stood about))
         (λ l d m among. stayed (subst (λ (q : List Message). Among m q) (near_queue l d) among));
     came_aside = λ m among. absurd (subst (λ (q : List Message). Among m q) (ap messages a.none_aside) among);
-    none_up = split k (λ l. is_up l t ≡ true → NoneAbout l (view s f)) (λ e. o.near.none_settled k b.settled_was)
+    none_up = each k (λ l. is_up l t ≡ true → NoneAbout l (view s f)) (λ e. o.near.none_settled k b.settled_was)
         (λ l d e. o.near.none_up l (ap link_is_up (sym (a.links l d)) ∙ e));
-    none_settled = split k (λ l. is_settled l g ≡ true → NoneAbout l (view s f)) (λ e. ft (sym b.unsettled_then ∙ e))
+    none_settled = each k (λ l. is_settled l g ≡ true → NoneAbout l (view s f)) (λ e. ft (sym b.unsettled_then ∙ e))
         (λ l d e. o.near.none_settled l (ap link_is_settled (sym (b.links l d)) ∙ e));
-    accepted = split k (λ l. (last_on l t ≡ last_on l s) ⊎ NoneAbout l (view s f)) (inr (o.near.none_settled k b.settled_was)) (λ l d. inl (ap last_of (a.links l d)));
-    apart = split k (λ l. is_settled l t ≡ true → is_up l g ≡ false) (λ e. ft (sym a.unsettled_then ∙ e))
+    accepted = each k (λ l. (last_on l t ≡ last_on l s) ⊎ NoneAbout l (view s f)) (inr (o.near.none_settled k b.settled_was)) (λ l d. inl (ap last_of (a.links l d)));
+    apart = each k (λ l. is_settled l t ≡ true → is_up l g ≡ false) (λ e. ft (sym a.unsettled_then ∙ e))
         (λ l d e. ap link_is_up (b.links l d) ∙ o.near.apart l (ap link_is_settled (sym (a.links l d)) ∙ e));
   }
 
   far_passes : Passes (view f s) (view g t) (view t g)
   far_passes = record {
-    came = split k (λ l. (m : Message) → Among m (pending l g t) → Came (view f s) l m)
+    came = each k (λ l. (m : Message) → Among m (pending l g t) → Came (view f s) l m)
         (λ m among. absurd (subst (λ (q : List Message). Among m q) far_own among))
         (λ l d m among. stayed (subst (λ (q : List Message). Among m q) (far_queue l d) among));
     came_aside = λ m among. was_in (stands_aside (subst (λ (rows : List Row). Among m (messages (parked rows))) b.rows among));
-    none_up = split k (λ l. is_up l g ≡ true → NoneAbout l (view f s)) (λ e. ft (sym b.down_then ∙ e))
+    none_up = each k (λ l. is_up l g ≡ true → NoneAbout l (view f s)) (λ e. ft (sym b.down_then ∙ e))
         (λ l d e. o.far.none_up l (ap link_is_up (sym (b.links l d)) ∙ e));
-    none_settled = split k (λ l. is_settled l t ≡ true → NoneAbout l (view f s)) (λ e. ft (sym a.unsettled_then ∙ e))
+    none_settled = each k (λ l. is_settled l t ≡ true → NoneAbout l (view f s)) (λ e. ft (sym a.unsettled_then ∙ e))
         (λ l d e. o.far.none_settled l (ap link_is_settled (sym (a.links l d)) ∙ e));
-    accepted = split k (λ l. (last_on l g ≡ last_on l f) ⊎ NoneAbout l (view f s)) (inr (o.far.none_settled k a.settled_was)) (λ l d. inl (ap last_of (b.links l d)));
-    apart = split k (λ l. is_settled l g ≡ true → is_up l t ≡ false) (λ e. ft (sym b.unsettled_then ∙ e))
+    accepted = each k (λ l. (last_on l g ≡ last_on l f) ⊎ NoneAbout l (view f s)) (inr (o.far.none_settled k a.settled_was)) (λ l d. inl (ap last_of (b.links l d)));
+    apart = each k (λ l. is_settled l g ≡ true → is_up l t ≡ false) (λ e. ft (sym b.unsettled_then ∙ e))
         (λ l d e. ap link_is_up (a.links l d) ∙ o.far.apart l (ap link_is_settled (sym (b.links l d)) ∙ e));
   }
 
@@ -116,7 +105,7 @@ module _ {emergencies : Bool} (k : ℕ) (s t f g : State) (a : Rises k s t) (b :
 
   -- no order about it stands at the end that hasn't joined
   pub begins_none : NoneAbout k (view g t)
-  begins_none m (stands_on l among) about = split k (λ l. Among m (pending l g t) → ⊥)
+  begins_none m (stands_on l among) about = each k (λ l. Among m (pending l g t) → ⊥)
       (λ there. subst (λ (q : List Message). Among m q) far_own there)
       (λ l d there. o.far.none_settled k a.settled_was m (stands_on l (subst (λ (q : List Message). Among m q) (far_queue l d) there)) about) l among
   begins_none m (stands_aside among) about = o.far.none_settled k a.settled_was m
@@ -132,22 +121,22 @@ module _ {emergencies : Bool} (k : ℕ) (s v t f : State) (a : Rises k s t) (b :
       ∙ ap (λ (rows : List Row). queue (accepted_on l f - acked_on l v) l rows) (sym b.rows)
 
   same_accepted : (l : ℕ) → accepted_on l t ≡ accepted_on l v
-  same_accepted = split k (λ l. accepted_on l t ≡ accepted_on l v) (a.accepted_then ∙ sym b.accepted_then) (λ l d. ap accepted_of (a.links l d ∙ sym (b.links l d)))
+  same_accepted = each k (λ l. accepted_on l t ≡ accepted_on l v) (a.accepted_then ∙ sym b.accepted_then) (λ l d. ap accepted_of (a.links l d ∙ sym (b.links l d)))
 
   joined_passes : Passes (view v f) (view t f) (view f t)
   joined_passes = record {
-    came = split k (λ l. (m : Message) → Among m (pending l t f) → Came (view v f) l m)
+    came = each k (λ l. (m : Message) → Among m (pending l t f) → Came (view v f) l m)
         (λ m among. let stood : In m (view v f) =
         stands_aside (subst (λ (rows : List Row). Among m (messages (parked rows))) (sym b.rows)
         (subst (λ (q : List Message). Among m q) (a.own (accepted_on k f - acked_on k t)) among))
         in moved stood (λ about. none m stood about))
         (λ l d m among. stayed (subst (λ (q : List Message). Among m q) (joined_queue l d) among));
     came_aside = λ m among. absurd (subst (λ (q : List Message). Among m q) (ap messages a.none_aside) among);
-    none_up = split k (λ l. is_up l t ≡ true → NoneAbout l (view v f)) (λ e. none)
+    none_up = each k (λ l. is_up l t ≡ true → NoneAbout l (view v f)) (λ e. none)
         (λ l d e. o.near.none_up l (ap link_is_up (b.links l d ∙ sym (a.links l d)) ∙ e));
     none_settled = λ l e. o.near.none_settled l e;
-    accepted = split k (λ l. (last_on l t ≡ last_on l v) ⊎ NoneAbout l (view v f)) (inr none) (λ l d. inl (ap last_of (a.links l d ∙ sym (b.links l d))));
-    apart = split k (λ l. is_settled l t ≡ true → is_up l f ≡ false) (λ e. ft (sym a.unsettled_then ∙ e))
+    accepted = each k (λ l. (last_on l t ≡ last_on l v) ⊎ NoneAbout l (view v f)) (inr none) (λ l d. inl (ap last_of (a.links l d ∙ sym (b.links l d))));
+    apart = each k (λ l. is_settled l t ≡ true → is_up l f ≡ false) (λ e. ft (sym a.unsettled_then ∙ e))
         (λ l d e. o.near.apart l (ap link_is_settled (b.links l d ∙ sym (a.links l d)) ∙ e));
   }
 
@@ -156,10 +145,10 @@ module _ {emergencies : Bool} (k : ℕ) (s v t f : State) (a : Rises k s t) (b :
     came = λ l m among. stayed (subst (λ (i : ℕ). Among m (queue (i - acked_on l f) l f.rows)) (same_accepted l) among);
     came_aside = λ m among. was_in (stands_aside among);
     none_up = λ l e. o.far.none_up l e;
-    none_settled = split k (λ l. is_settled l t ≡ true → NoneAbout l (view f v)) (λ e. ft (sym a.unsettled_then ∙ e))
+    none_settled = each k (λ l. is_settled l t ≡ true → NoneAbout l (view f v)) (λ e. ft (sym a.unsettled_then ∙ e))
         (λ l d e. o.far.none_settled l (ap link_is_settled (b.links l d ∙ sym (a.links l d)) ∙ e));
     accepted = λ l. inl refl;
-    apart = split k (λ l. is_settled l f ≡ true → is_up l t ≡ false) (λ e. tf (sym e ∙ goes))
+    apart = each k (λ l. is_settled l f ≡ true → is_up l t ≡ false) (λ e. tf (sym e ∙ goes))
         (λ l d e. ap link_is_up (a.links l d ∙ sym (b.links l d)) ∙ o.far.apart l e);
   }
 

@@ -22,11 +22,16 @@ use Rattle.pair_model.proofs.Moving as moving
 use Rattle.pair_model.proofs.Pairs.{Two, HoldsOf, swap}
 use Rattle.pair_model.proofs.Rising.{settled_at}
 use Rattle.pair_changeover.proofs.Arriving.{rises_at}
+use Rattle.pair_changeover.proofs.Counted.{Counts, counts_back}
+use Rattle.pair_changeover.proofs.Whole.{SettlesSo}
 use Rattle.pair_streams.proofs.Acting.{Streams, streams_back}
+use Rattle.pair_streams.proofs.Runs.{on_lines}
 use Rattle.pair_rises.specs.Rises.{Cover, inside, awaited, missed, is_covered, closed, cover_of, told_at, seen_under, idle_unit, covers_heard}
 use Rattle.pair_rises.proofs.Arrives as arrival
 use Rattle.pair_rises.proofs.Closed.{closed_after_sound}
 use Rattle.pair_rises.proofs.Covers.{told_here, told_other, told_each, ft, off_other, off_same, told_fits, off_fits}
+use Rattle.pair_rises.proofs.Counting.{begins_counts, joins_counts, shows_counts}
+use Rattle.pair_rises.proofs.Halves.{Halves, begins_halves, joins_halves, shows_halves}
 use Rattle.pair_rises.proofs.Late.{closed_after, rises_over, veil_over}
 use Rattle.pair_rises.proofs.Open.{IsOpen}
 use Rattle.pair_rises.proofs.Pair.{begins_holds, begins_streams, begins_opens, begins_near, begins_far, joins_holds, joins_streams, joins_near, joins_far, fills_holds}
@@ -42,6 +47,10 @@ two ox oy sx sy x_past y_past out back =
 pub record Sides (emergencies : Bool) (mx my : Method) (ox oy : ℕ → Cover) (sx sy : State) (x_past y_past : Past) (out back : List (List SignalUnit)) : Type 0 where
   pub links : HoldsOf mx my (two ox oy sx sy x_past y_past out back)
   pub streams : Streams emergencies (two ox oy sx sy x_past y_past out back)
+  -- what a settled link counts as acknowledged was accepted
+  pub counts : Counts (seen_under ox sx) (seen_under oy sy)
+  -- and without emergencies what a changeover needs of each end
+  pub halves : emergencies ≡ false → Halves (two ox oy sx sy x_past y_past out back)
   pub sound_x : IsSound sx
   pub sound_y : IsSound sy
   pub fit_x : Fits ox sx
@@ -121,23 +130,6 @@ module _ (k : ℕ) (told : ℕ → Cover) (s : State) (sound : IsSound s) (settl
     pub fits_then : Fits (told_at k inside told) (step s (UpEvent k)).state
     fits_then = still_fits (told_at k inside told) s fits_off (UpEvent k) (λ l e. off_other k (told_at k inside told) l (told_here k inside told) e)
 
--- other units are under way
-on_lines : {emergencies : Bool} (p : Two) (out back : List (List SignalUnit)) → Streams emergencies p
-    → Streams emergencies (record p { out = out; back = back })
-on_lines p out back v = record {
-  ordered = record { both = v.ordered.both; near_codes = v.ordered.near_codes; far_codes = v.ordered.far_codes };
-  out_lost = v.out_lost;
-  back_lost = v.back_lost;
-  out = v.out;
-  back = v.back;
-  near_covers = v.near_covers;
-  far_covers = v.far_covers;
-  near_rises = v.near_rises;
-  far_rises = v.far_rises;
-  out_whole = v.out_whole;
-  back_whole = v.back_whole;
-}
-
 uncovered : (c : Cover) → (is_covered c ≡ true → ⊥) → c ≡ inside
 uncovered inside never = refl
 uncovered awaited never = absurd (never refl)
@@ -153,6 +145,8 @@ module _ {emergencies : Bool} {mx my : Method} {ox oy : ℕ → Cover} {sx sy : 
   turned = record {
     links = swap mx my p h.links;
     streams = streams_back p h.streams;
+    counts = counts_back (seen_under ox sx) (seen_under oy sy) h.counts;
+    halves = λ e. let both = h.halves e in (both.1, both.0);
     sound_x = h.sound_y;
     sound_y = h.sound_x;
     fit_x = h.fit_y;
@@ -187,6 +181,8 @@ module _ {emergencies : Bool} {mx my : Method} {ox oy : ℕ → Cover} {sx sy : 
     record Ready (near : State) : Type 0 where
       links : HoldsOf mx my (record p { near = near })
       streams : Streams emergencies (record p { near = near })
+      counts : Counts near p.far
+      halves : emergencies ≡ false → Halves (record p { near = near })
       near_open : (l : ℕ) → IsOpen l (seen_under ox sx) p.far → IsOpen l near p.far
       far_open : (l : ℕ) → IsOpen l p.far (seen_under ox sx) → IsOpen l p.far near
       settled : is_settled k near ≡ true
@@ -197,6 +193,8 @@ module _ {emergencies : Bool} {mx my : Method} {ox oy : ℕ → Cover} {sx sy : 
     ready_inside e = record {
       links = h.links;
       streams = h.streams;
+      counts = h.counts;
+      halves = h.halves;
       near_open = λ l was. was;
       far_open = λ l was. was;
       settled = ap (is_settled k) (inside_off k ox sx h.sound_x near_settled e) ∙ settled_off k ox sx h.sound_x near_settled;
@@ -231,6 +229,8 @@ module _ {emergencies : Bool} {mx my : Method} {ox oy : ℕ → Cover} {sx sy : 
       ready_missed = record {
         links = shows_holds mx my p h.links k (closed sx.settings) last there like sound_near (recounts_tied mx my p h.links k (closed sx.settings) there was.0.late);
         streams = shows_streams mx my p h.links k (closed sx.settings) last there like sound_near h.streams;
+        counts = shows_counts k p.near p.far (closed sx.settings) last there like h.counts;
+        halves = λ e. shows_halves p k (closed sx.settings) last there like (λ unsettled. absurd (let no : true ≡ false = unsettled in cc)) (h.halves e);
         near_open = λ l o. shows_near p.near p.far k (closed sx.settings) last there like l o;
         far_open = λ l o. shows_far p.near p.far k (closed sx.settings) last there like l o;
         settled = ap link_is_settled (get_set_same p.near.links k last few_x);
@@ -284,6 +284,8 @@ module _ {emergencies : Bool} {mx my : Method} {ox oy : ℕ → Cover} {sx sy : 
           record {
             links = both_seen (λ x y. HoldsOf mx my (shape x y)) (begins_holds mx my q r.links k r.few r.settled far_seen);
             streams = both_seen (λ x y. Streams emergencies (shape x y)) (begins_streams mx my q r.links k r.few r.settled far_seen r.streams);
+            counts = both_seen (λ x y. Counts x y) (begins_counts k near p.far r.links.near_sound h.links.far_sound r.settled far_seen r.counts);
+            halves = λ e. both_seen (λ x y. Halves (shape x y)) (begins_halves mx my q r.links k r.few r.settled far_seen (r.halves e));
             sound_x = step_sound sx (UpEvent k) h.sound_x;
             sound_y = h.sound_y;
             fit_x = fits_then k ox sx h.sound_x near_settled h.fit_x;
@@ -336,8 +338,8 @@ module _ {emergencies : Bool} {mx my : Method} {ox oy : ℕ → Cover} {sx sy : 
     far_inside : oy k ≡ inside
     far_inside = h.apart_x k (ap is_covered waits)
 
-    pub joins : Sides emergencies mx my (told_at k inside ox) oy (step sx (UpEvent k)).state sy x_past y_past out back
-    joins =
+    pub joins : IsOneMethod mx my → Sides emergencies mx my (told_at k inside ox) oy (step sx (UpEvent k)).state sy x_past y_past out back
+    joins one =
         let o = h.opens_x k waits in
         record {
           links = subst (λ (x : State). HoldsOf mx my (around out x)) near_then
@@ -346,6 +348,11 @@ module _ {emergencies : Bool} {mx my : Method} {ox oy : ℕ → Cover} {sx sy : 
               (joins_streams mx my u (seen_under oy sy) x_past y_past out back k sound_u u_at.0 u_at.1 few_u h_u
               (subst (λ (x : State). Streams emergencies (around out x)) near_was h.streams)
               (subst (λ (x : State). IsOpen k x (seen_under oy sy)) near_was o).none o.goes);
+          counts = subst (λ (x : State). Counts x (seen_under oy sy)) near_then
+              (joins_counts k u (seen_under oy sy) sound_u u_at.0 u_at.1 (subst (λ (x : State). Counts x (seen_under oy sy)) near_was h.counts));
+          halves = λ e. subst (λ (x : State). Halves (around out x)) near_then
+              (joins_halves mx my one u (seen_under oy sy) x_past y_past out back k sound_u u_at.0 u_at.1 few_u h_u
+              (subst (λ (x : State). Halves (around out x)) near_was (h.halves e)));
           sound_x = step_sound sx (UpEvent k) h.sound_x;
           sound_y = h.sound_y;
           fit_x = fits_then k ox sx h.sound_x settled_k h.fit_x;
@@ -368,6 +375,8 @@ module _ {emergencies : Bool} {mx my : Method} {ox oy : ℕ → Cover} {sx sy : 
       links = subst (λ (x : State). HoldsOf mx my (around (joined_on k (idle_unit sx.settings.profile sx.settings.method) out) x)) (sym near_was)
           (fills_holds mx my u (seen_under oy sy) x_past y_past out back k sound_u u_at.0 u_at.1 few_u h_u);
       streams = on_lines p _ _ h.streams;
+      counts = h.counts;
+      halves = h.halves;
       sound_x = h.sound_x;
       sound_y = h.sound_y;
       fit_x = h.fit_x;
@@ -390,14 +399,20 @@ module _ {emergencies : Bool} {mx my : Method} {ox oy : ℕ → Cover} {sx sy : 
       abbrev heard_past : Past
       heard_past = past_heard k unit (y_past.sent k) (Answered (step sx (HeardEvent k unit)).answer) x_past
 
+      pub diverts : emergencies ≡ false → SettlesSo x_past y_past sx heard
+      diverts = (arrival.arrives mx my one ox sx (seen_under oy sy) x_past y_past out back h.sound_x h.fit_x h.replies_x h.links h.streams h.counts h.halves h.opens_x
+          k few unit rest front link at).diverts
+
       pub hears : Sides emergencies mx my (covers_heard sx.settings.profile (unit ∷ rest) (Answered (step sx (HeardEvent k unit)).answer) ox) oy
           heard sy heard_past y_past out (with_units k rest back)
       hears =
-          let a = arrival.arrives mx my one ox sx (seen_under oy sy) x_past y_past out back h.sound_x h.fit_x h.replies_x h.links h.streams h.opens_x
+          let a = arrival.arrives mx my one ox sx (seen_under oy sy) x_past y_past out back h.sound_x h.fit_x h.replies_x h.links h.streams h.counts h.halves h.opens_x
           k few unit rest front link at in
           record {
             links = a.links;
             streams = a.streams;
+            counts = a.counts;
+            halves = a.halves;
             sound_x = step_sound sx (HeardEvent k unit) h.sound_x;
             sound_y = h.sound_y;
             fit_x = a.fit;
@@ -416,6 +431,8 @@ module _ {emergencies : Bool} {mx my : Method} {ox oy : ℕ → Cover} {sx sy : 
       links = subst (λ (line : List SignalUnit). HoldsOf mx my (record p { back = with_units k line back })) (ap (without 0) front)
           (swap my mx _ (moving.loses my mx _ (swap mx my p h.links) k 0 (omega (arith, few, seen_length ox sx, h.links.far_links)) (rw front (omega arith))));
       streams = on_lines p _ _ h.streams;
+      counts = h.counts;
+      halves = h.halves;
       sound_x = h.sound_x;
       sound_y = h.sound_y;
       fit_x = h.fit_x;

@@ -2,13 +2,13 @@
 -- beginning (`resting_goes`), and so the two begin a world of the law (`first_tied`). When that end comes up, what was
 -- parked is offered there (`joins_tied`); before it does it may send fill-in units, which change nothing of it
 -- (`fills_tied`).
-use Rattle.std.proofs.Common.{refl, arith, ◌≡◌, ◌∙◌, ap, sym, subst, ℕ, List, [], ◌∷◌, ◌++◌, length, slice_get, Some, None, append_assoc}
+use Rattle.std.proofs.Common.{refl, ◌≡◌, ◌∙◌, ap, sym, subst, ℕ, List, [], ◌∷◌, ◌++◌, length, slice_get, Some, None}
 use Rattle.std.proofs.lemmas.List.{append-nil}
 use Rattle.l2_units.specs.declared.profile.Profile.{Profile}
 use Rattle.l2_units.specs.declared.unit.Unit.{Unit as SignalUnit}
 use Rattle.l2_window.proofs.Numbers.{from_zero}
 use Rattle.l2_window.specs.Line.{Carried}
-use Rattle.l2_window.specs.Link.{End as LinkEnd, World as LinkWorld, Run, Begins, steps, offers, emits, Offers, Emits}
+use Rattle.l2_window.specs.Link.{End as LinkEnd, World as LinkWorld, Run, Begins, steps, emits, Emits}
 use Rattle.l2_window.specs.Window.{WindowState}
 use Rattle.set_events.specs.declared.config.Method.{Method}
 use Rattle.set_events.specs.declared.config.Method.TheVariants.{Basic, Cyclic}
@@ -26,7 +26,7 @@ use Rattle.set_veiled.specs.Veil.{dormant, veil}
 use Rattle.pair_model.specs.Run.{Message}
 use Rattle.pair_model.proofs.Controls.{rules}
 use Rattle.pair_model.proofs.Rising.{fresh, fresh_begins, fresh_goes, fresh_counts, new_side, rises_tied}
-use Rattle.pair_model.proofs.Tied.{Side, IsGoing, Goes, Counts, KeepBodies, Tied, IsUnitOf, units_joined, pushed, same_window, stand_kept, bodies_kept, units_kept}
+use Rattle.pair_model.proofs.Tied.{Side, IsGoing, Goes, Counts, KeepBodies, Tied, IsUnitOf, units_joined, pushed, same_window, stand_kept, bodies_kept, units_kept, push_all}
 use Rattle.pair_rises.specs.Rises.{first_window, idle_unit}
 
 -- an end at its beginning
@@ -86,21 +86,6 @@ first_tied k q mx my s f sound far_sound profile method far_profile far_method l
     (fresh_goes k q mx s sound profile method link at)
     (resting_goes k f far_sound far far_at q my far_profile far_method)
     (fresh_counts k q mx s sound profile method link at) (resting_counts k f far_sound far far_at)
-
--- what waits is offered
-push_all : (p : Profile) (near far : Control) (more : List ℕ) (w : LinkWorld Control) → Run rules p near far w → Run rules p near far (pushed more w)
-push_all p near far [] w r = rw (append-nil w.near.window.unsent) r
-push_all p near far (n ∷ more) w r =
-    let one = pushed (n ∷ []) w in
-    let offer : Offers rules n w one =
-    record {
-      pushes = record { profile = refl; last = refl; unacked = refl; unsent = refl; room = omega arith };
-      near = refl;
-      far = refl;
-      out = refl;
-      back = refl;
-    } in
-    rw (append_assoc w.near.window.unsent (n ∷ []) more) at (push_all p near far more one (steps w one r (offers w one n offer)))
 
 -- THE SECOND
 module _ (k : ℕ) (mx my : Method) (s : State) (sound : IsSound s) (method : s.settings.method ≡ mx) (link : LinkState)

@@ -10,13 +10,14 @@ use Rattle.set_events.specs.declared.event.Event.TheVariants.{Offer, Take, Find,
 use Rattle.set_model.specs.declared.phase.Phase.{Phase}
 use Rattle.set_model.specs.declared.phase.Phase.TheVariants.{Up, Down, Settled}
 use Rattle.set_model.specs.Sound.{IsSound}
-use Rattle.set_model.specs.State.{LinkState, State, Settings, has_phase_up, has_phase_settled, is_up, is_settled, link_is_settled}
+use Rattle.set_model.specs.State.{LinkState, State, Settings, has_phase_up, has_phase_settled, is_up, is_settled, link_is_settled, target}
+use Rattle.set_model.specs.Changeover.{left_by}
 use Rattle.set_model.specs.Step.{step}
 use Rattle.set_model.proofs.Lists.{get_set_same, get_set_other, set_same, length_set, within}
 use Rattle.set_model.proofs.Places.{false_true, itself}
 use Rattle.set_model.proofs.Walk.{link_count_stays}
 use Rattle.set_veiled.specs.Veil.{dormant, veil, IsElsewhere, IsAlike}
-use Rattle.set_veiled.proofs.Veiled.{up_same, settled_out, veils_keep_steps}
+use Rattle.set_veiled.proofs.Veiled.{up_same, target_same, left_same, settled_out, veils_keep_steps}
 use Rattle.set_veiled.proofs.Sound.{veils_stay_sound}
 use Rattle.pair_model.proofs.Pairs.{settings_stay}
 use Rattle.pair_rises.proofs.Closed.{closed_sound}
@@ -132,6 +133,37 @@ module _ (c : ℕ → Option LinkState) (s : State) (are : AreVeils c s) where
           let not_up = (are n x e).0 in
           up_same x not_up n (lay c n s) (settled_out x not_up n (lay c n s) (next_settled n x e)) l ∙ last
 
+  -- nor does the target of what is moved, or what leaves another link
+  pub laid_target : (n : ℕ) → target (lay c n s).links ≡ target s.links
+  laid_target zero = refl
+  laid_target (suc n) = go (c n) refl (laid_target n)
+    where
+      go : (o : Option LinkState) → c n ≡ o → target (lay c n s).links ≡ target s.links → target (laid_on o n (laid c n s.links)) ≡ target s.links
+      go None e last = last
+      go (Some x) e last =
+          let not_up = (are n x e).0 in
+          target_same x not_up n (lay c n s) (settled_out x not_up n (lay c n s) (next_settled n x e)) ∙ last
+
+  pub laid_left : (l : ℕ) (link : LinkState) → c l ≡ None → (n : ℕ) → left_by false l link (lay c n s) ≡ lay c n (left_by false l link s)
+  laid_left l link off zero = refl
+  laid_left l link off (suc n) = go (c n) refl (laid_left l link off n)
+    where
+      go : (o : Option LinkState) → c n ≡ o → left_by false l link (lay c n s) ≡ lay c n (left_by false l link s)
+          → left_by false l link (record s { links = laid_on o n (laid c n s.links) })
+          ≡ record (left_by false l link s) { links = laid_on o n (laid c n (left_by false l link s).links) }
+      go None e last = last
+      go (Some x) e last =
+          let not_up = (are n x e).0 in
+          let other : (l == n) ≡ false = not_same x e in
+          left_same x not_up n false l link (lay c n s) other (settled_out x not_up n (lay c n s) (next_settled n x e)) ∙ ap (veil x n) last
+        where
+          not_same : (x : LinkState) → c n ≡ Some x → (l == n) ≡ false
+          not_same x e = by (l == n) refl
+            where
+              by : (b : Bool) → (l == n) ≡ b → b ≡ false
+              by false d = refl
+              by true d = absurd (let no : None ≡ Some x = sym off ∙ ap c (eqb-true l n d) ∙ e in cc)
+
   pub laid_sound : ((l : ℕ) (x : LinkState) → c l ≡ Some x → (x ≡ dormant s.settings) ⊎ (x ≡ closed s.settings)) → IsSound s → (n : ℕ) → IsSound (lay c n s)
   laid_sound each sound zero = sound
   laid_sound each sound (suc n) = go (c n) refl (laid_sound each sound n)
@@ -225,6 +257,12 @@ module _ (told : ℕ → Cover) (s : State) (fits : Fits told s) where
 
   pub seen_sound : IsSound s → IsSound (seen_under told s)
   seen_sound sound = laid_sound covers s are_veils (λ l x e. (cover_settled s.settings (told l) x e).1) sound s.settings.links
+
+  pub seen_target : target (seen_under told s).links ≡ target s.links
+  seen_target = laid_target covers s are_veils s.settings.links
+
+  pub seen_left : (l : ℕ) (link : LinkState) → told l ≡ inside → left_by false l link (seen_under told s) ≡ seen_under told (left_by false l link s)
+  seen_left l link off = laid_left covers s are_veils l link (ap (cover_of s.settings) off) s.settings.links
 
   module _ (event : Event) (other : (l : ℕ) → is_covered (told l) ≡ true → IsElsewhere l s event) where
     alike : Alike covers s are_veils event (λ l x e. other l (cover_settled s.settings (told l) x e).0) s.settings.links

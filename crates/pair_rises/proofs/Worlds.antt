@@ -33,14 +33,14 @@ abbrev pub IsNoArrival : Step → Type 0
 IsNoArrival (Arrive end k) = ⊥
 IsNoArrival step = Unit {0}
 
--- of the two sets as they are
-pub record Bare (oa ob : ℕ → Cover) (sa sb : State) : Type 0 where
+-- of the two sets as they are; where no changeover is given up, it's known what a settled link replies
+pub record Bare (answers : Bool) (oa ob : ℕ → Cover) (sa sb : State) : Type 0 where
   pub sound_a : IsSound sa
   pub sound_b : IsSound sb
   pub fit_a : Fits oa sa
   pub fit_b : Fits ob sb
-  pub replies_a : Replies sa
-  pub replies_b : Replies sb
+  pub replies_a : answers ≡ true → Replies sa
+  pub replies_b : answers ≡ true → Replies sb
 
 pub set_after : (told : ℕ → Cover) (set : LinkSet) (event : Event) → SameUnder told set.state event → after (set_under told set) event ≡ set_under told (after set event)
 set_after told set event same =
@@ -50,25 +50,25 @@ set_after told set event same =
       history = set.history ++ record { who = actor_of event; event = event; answer = answer } ∷ [];
     }) same.state same.answer
 
-module _ (oa ob : ℕ → Cover) where
-  abbrev pub under : Outcome → Outcome
-  under (shows shown w) = shows shown (world_under oa ob w)
-  under impossible = impossible
-  under exhausted = exhausted
+abbrev pub under : (oa ob : ℕ → Cover) → Outcome → Outcome
+under oa ob (shows shown w) = shows shown (world_under oa ob w)
+under oa ob impossible = impossible
+under oa ob exhausted = exhausted
 
+module _ (answers : Bool) (oa ob : ℕ → Cover) where
   abbrev pub IsBare : World → Type 0
-  IsBare w = Bare oa ob w.a.state w.b.state
+  IsBare w = Bare answers oa ob w.a.state w.b.state
 
   abbrev pub AreBare : Outcome → Type 0
   AreBare outcome = OnShows outcome (λ shown new. IsBare new)
 
   -- the same under the veils, and what is bare stays so
   abbrev Same : Outcome → Outcome → Type 0
-  Same veiled outcome = (veiled ≡ under outcome) × AreBare outcome
+  Same veiled outcome = (veiled ≡ under oa ob outcome) × AreBare outcome
 
-  abbrev Other : End → World → Event → Type 0
-  Other A w event = SameUnder oa w.a.state event × Older w.a.state.links (step w.a.state event).state.links
-  Other B w event = SameUnder ob w.b.state event × Older w.b.state.links (step w.b.state event).state.links
+  abbrev pub Other : End → World → Event → Type 0
+  Other A w event = SameUnder oa w.a.state event × (answers ≡ true → Older w.a.state.links (step w.a.state event).state.links)
+  Other B w event = SameUnder ob w.b.state event × (answers ≡ true → Older w.b.state.links (step w.b.state event).state.links)
 
   link_same : (w : World) (k : ℕ) → has_link (world_under oa ob w) k ≡ has_link w k
   link_same w k = ap (nat_lt k) (seen_length oa w.a.state)
@@ -93,7 +93,7 @@ module _ (oa ob : ℕ → Cover) where
       sound_b = bare.sound_b;
       fit_a = other.0.fits;
       fit_b = bare.fit_b;
-      replies_a = replies_kept w.a.state (step w.a.state event).state other.1 bare.replies_a;
+      replies_a = λ e. replies_kept w.a.state (step w.a.state event).state (other.1 e) (bare.replies_a e);
       replies_b = bare.replies_b;
     },
   )
@@ -105,7 +105,7 @@ module _ (oa ob : ℕ → Cover) where
       fit_a = bare.fit_a;
       fit_b = other.0.fits;
       replies_a = bare.replies_a;
-      replies_b = replies_kept w.b.state (step w.b.state event).state other.1 bare.replies_b;
+      replies_b = λ e. replies_kept w.b.state (step w.b.state event).state (other.1 e) (bare.replies_b e);
     },
   )
 
@@ -136,14 +136,14 @@ module _ (oa ob : ℕ → Cover) where
   sent_same end k CameUp w bare = (refl, bare)
   sent_same end k Lost w bare = (refl, bare)
 
-  sends_same : (end : End) (k : ℕ) (outcome : Outcome) → AreBare outcome → Same (sends_on end k (under outcome)) (sends_on end k outcome)
+  sends_same : (end : End) (k : ℕ) (outcome : Outcome) → AreBare outcome → Same (sends_on end k (under oa ob outcome)) (sends_on end k outcome)
   sends_same end k (shows shown w) bare = let s = sent_same end k shown w bare in (ap (shows shown) s.0, s.1)
   sends_same end k impossible bare = (refl, tt)
   sends_same end k exhausted bare = (refl, tt)
 
   next_other : (end : End) (w : World) (k : ℕ) → IsBare w → Other end w (Next k)
-  next_other A w k bare = (same_under oa w.a.state bare.fit_a (Next k) (λ l e. tt), next_older k w.a.state)
-  next_other B w k bare = (same_under ob w.b.state bare.fit_b (Next k) (λ l e. tt), next_older k w.b.state)
+  next_other A w k bare = (same_under oa w.a.state bare.fit_a (Next k) (λ l e. tt), λ e. next_older k w.a.state)
+  next_other B w k bare = (same_under ob w.b.state bare.fit_b (Next k) (λ l e. tt), λ e. next_older k w.b.state)
 
   emits_same : (end : End) (w : World) (k : ℕ) → IsBare w → Same (sends_on end k (acts (world_under oa ob w) end (Next k))) (sends_on end k (acts w end (Next k)))
   emits_same end w k bare =
@@ -163,7 +163,36 @@ module _ (oa ob : ℕ → Cover) where
   lost_same A w k place line bare = chosen_same (nat_lt place (length line)) (nat_lt place (length line)) _ _ impossible impossible refl (refl, bare) (refl, tt)
   lost_same B w k place line bare = chosen_same (nat_lt place (length line)) (nat_lt place (length line)) _ _ impossible impossible refl (refl, bare) (refl, tt)
 
-  -- ACT
+  -- EACH STEP, where what's asked by an event is so
+  abbrev pub Acts : World → Step → Type 0
+  Acts w (Act end event) = has_own_step event ≡ false → Other end w event
+  Acts w (Emit end k) = Unit {0}
+  Acts w (Arrive end k) = ⊥
+  Acts w (Lose end k place) = Unit {0}
+  Acts w (Together k) = ⊥
+  Acts w (Inject end k unit) = ⊥
+
+  asked_same : (end : End) (w : World) (event : Event) → IsBare w → (has_own_step event ≡ false → Other end w event) → (own : Bool) → has_own_step event ≡ own
+      → Same (cond own impossible (acts (world_under oa ob w) end event)) (cond own impossible (acts w end event))
+  asked_same end w event bare other true e = (refl, tt)
+  asked_same end w event bare other false e = acts_same end w event bare (other e)
+
+  done_went : (w : World) (step : Step) → IsBare w → Acts w step → Same (done_by (world_under oa ob w) step) (done_by w step)
+  done_went w (Act end event) bare other = asked_same end w event bare other (has_own_step event) refl
+  done_went w (Emit end k) bare other = emits_same end w k bare
+  done_went w (Arrive end k) bare other = absurd other
+  done_went w (Lose A k place) bare other = on_same w k _ _ (lost_same A w k place (units_on k w.to_a) bare)
+  done_went w (Lose B k place) bare other = on_same w k _ _ (lost_same B w k place (units_on k w.to_b) bare)
+  done_went w (Together k) bare other = absurd other
+  done_went w (Inject end k unit) bare other = absurd other
+
+  pub step_went : (w : World) (step : Step) → IsBare w → Acts w step
+      → (carried_out (world_under oa ob w) step ≡ under oa ob (carried_out w step)) × AreBare (carried_out w step)
+  unfolding carried_out
+  step_went w step bare other = done_went w step bare other
+
+-- as of a run in which no changeover is given up
+module _ (oa ob : ℕ → Cover) where
   act_elsewhere : (emergencies : Bool) (end : End) (event : Event) → IsPlainStep emergencies (Act end event) → has_own_step event ≡ false
       → (l : ℕ) (s : State) → IsElsewhere l s event
   act_elsewhere em end (Offer body) plain own l s = tt
@@ -179,35 +208,24 @@ module _ (oa ob : ℕ → Cover) where
   act_elsewhere em end (Restore k) plain own l s = tt
   act_elsewhere em end (BackTimeout k) plain own l s = tt
 
-  act_other : (emergencies : Bool) (end : End) (w : World) (event : Event) → IsBare w → IsPlainStep emergencies (Act end event) → has_own_step event ≡ false → Other end w event
+  act_other : (emergencies : Bool) (end : End) (w : World) (event : Event) → IsBare true oa ob w → IsPlainStep emergencies (Act end event) → has_own_step event ≡ false
+      → Other true oa ob end w event
   act_other em A w event bare plain own =
-      (same_under oa w.a.state bare.fit_a event (λ l e. act_elsewhere em A event plain own l w.a.state), asked_older em A event w.a.state plain own)
+      (same_under oa w.a.state bare.fit_a event (λ l e. act_elsewhere em A event plain own l w.a.state), λ e. asked_older em A event w.a.state plain own)
   act_other em B w event bare plain own =
-      (same_under ob w.b.state bare.fit_b event (λ l e. act_elsewhere em B event plain own l w.b.state), asked_older em B event w.b.state plain own)
-
-  asked_same : (emergencies : Bool) (end : End) (w : World) (event : Event) → IsBare w → IsPlainStep emergencies (Act end event) → (own : Bool) → has_own_step event ≡ own
-      → Same (cond own impossible (acts (world_under oa ob w) end event)) (cond own impossible (acts w end event))
-  asked_same em end w event bare plain true e = (refl, tt)
-  asked_same em end w event bare plain false e = acts_same end w event bare (act_other em end w event bare plain e)
+      (same_under ob w.b.state bare.fit_b event (λ l e. act_elsewhere em B event plain own l w.b.state), λ e. asked_older em B event w.b.state plain own)
 
   injected : (emergencies : Bool) (end : End) (k : ℕ) (unit : SignalUnit) → IsPlainStep emergencies (Inject end k unit) → ⊥
   injected false end k unit plain = plain
   injected true end k unit plain = plain
 
-  -- EACH STEP
-  done_went : (emergencies : Bool) (w : World) (step : Step) → IsBare w → IsPlainStep emergencies step → IsNoArrival step → Same (done_by (world_under oa ob w) step) (done_by w step)
-  done_went em w (Act end event) bare plain may = asked_same em end w event bare plain (has_own_step event) refl
-  done_went em w (Emit end k) bare plain may = emits_same end w k bare
-  done_went em w (Arrive end k) bare plain may = absurd may
-  done_went em w (Lose A k place) bare plain may = on_same w k _ _ (lost_same A w k place (units_on k w.to_a) bare)
-  done_went em w (Lose B k place) bare plain may = on_same w k _ _ (lost_same B w k place (units_on k w.to_b) bare)
-  done_went em w (Together k) bare plain may = absurd plain
-  done_went em w (Inject end k unit) bare plain may = absurd (injected em end k unit plain)
-
-  pub step_went : (emergencies : Bool) (w : World) (step : Step) → IsBare w → IsPlainStep emergencies step → IsNoArrival step
-      → (carried_out (world_under oa ob w) step ≡ under (carried_out w step)) × AreBare (carried_out w step)
-  unfolding carried_out
-  step_went em w step bare plain may = done_went em w step bare plain may
+  pub plain_acts : (emergencies : Bool) (w : World) (step : Step) → IsBare true oa ob w → IsPlainStep emergencies step → IsNoArrival step → Acts true oa ob w step
+  plain_acts em w (Act end event) bare plain may = λ own. act_other em end w event bare plain own
+  plain_acts em w (Emit end k) bare plain may = tt
+  plain_acts em w (Arrive end k) bare plain may = may
+  plain_acts em w (Lose end k place) bare plain may = tt
+  plain_acts em w (Together k) bare plain may = plain
+  plain_acts em w (Inject end k unit) bare plain may = injected em end k unit plain
 
 -- the stage after it is that under the veils
 pub passed_same : (g : Rising) (step : Step) (shown : Shown) (new : World)

@@ -208,6 +208,13 @@ HoldsAllAlong P g [] = P g
 HoldsAllAlong P g (move ∷ moves) =
     P g × OnShows (moved g.stage.world move) (λ shown new. HoldsAllAlong P (moved_on g move shown new) moves)
 
+-- of each move that was made: the stage before it, what it showed, and the stage after it
+abbrev pub HoldsAtEachMove : (Rising → Move → Shown → Rising → Type 0) → Rising → List Move → Type 0
+HoldsAtEachMove P g [] = Unit {0}
+HoldsAtEachMove P g (move ∷ moves) =
+    OnShows (moved g.stage.world move)
+    (λ shown new. P g move shown (moved_on g move shown new) × HoldsAtEachMove P (moved_on g move shown new) moves)
+
 -- before each move
 abbrev pub HoldsBefore : (Rising → Move → Type 0) → Rising → List Move → Type 0
 HoldsBefore P g [] = Unit {0}
@@ -219,7 +226,9 @@ abbrev pub seen_at : Rising → End → State
 seen_at g end = (at_end (as_seen g).world end).state
 
 -- THE RUNS. A life that is on at the other end is joined where it may be yet: no link comes up at an end in a life that this
--- end has left, or missed. An end fills the line of a link that it may yet join.
+-- end has left, or missed. Of terminals that's so for one that it left, since the other's has to align anew for that, and
+-- starts only once its set has settled the link: then a life begins. One that it missed it heard of, by a late order, for
+-- which its terminal is stopped (term_bench). An end fills the line of a link that it may yet join.
 abbrev pub MayRise : Bool → Rising → End → ℕ → Type 0
 MayRise true g end link = Unit {0}
 MayRise false g end link = open_at g end link ≡ awaited

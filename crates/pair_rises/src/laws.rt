@@ -1,7 +1,27 @@
 //! Laws of two ends whose links come up one after the other, over definitions alone.
 ghost use Rattle.pair_rises.specs.Counted.{EveryMissedLifeIsCounted};
-ghost use Rattle.pair_rises.specs.Handed.{EveryRisingRunHandsOutInOrder, EveryRisingRunHandsOutAPart};
+ghost use Rattle.pair_rises.specs.Diverted.{EveryRisingRunAcksTheTaken, EveryRisingRunDivertsTheRest, EveryRisingRunTellsNumbers};
+ghost use Rattle.pair_rises.specs.Handed.{EveryRisingRunHandsOutAPart, EveryRisingRunHandsOutInOrder};
 ghost use Rattle.pair_rises.specs.Rises.{EveryRisingRunKeepsStreams, EveryRisingRunKeepsOrder, TogetherIsTwoRises};
+
+/// Without emergencies nothing is discarded, and of each link, as it's seen, what counts as acknowledged was
+/// accepted. And when a link settles at an end, of the messages that were first sent on it in that life exactly those
+/// that the far end accepted are acknowledged, and exactly the others, then those that wait for it, then those that
+/// are held for it as it's left, are moved to the target, in this order (Q.704 5.4, 5.5).
+pub fn every_rising_run_diverts_the_rest()
+    ensures { EveryRisingRunDivertsTheRest }
+{}
+
+/// In emergencies too the number of an order that is heard about a link that hasn't settled is that of the last
+/// message that its end accepted there, so it isn't unreasonable.
+pub fn every_rising_run_tells_numbers()
+    ensures { EveryRisingRunTellsNumbers }
+{}
+
+/// Of each link, as it's seen, settled or not, what counts as acknowledged was accepted by the far end.
+pub fn every_rising_run_acks_the_taken()
+    ensures { EveryRisingRunAcksTheTaken }
+{}
 
 /// Each stream arrives whole and in order, whichever end of a link comes up first, and whenever the other follows.
 pub fn every_rising_run_keeps_streams()
@@ -18,8 +38,8 @@ pub fn together_is_two_rises()
     ensures { TogetherIsTwoRises }
 {}
 
-/// What users took of a stream is the first of what was offered at the other end: none is missing among them, doubled, changed or
-/// out of order.
+/// What users took of a stream is the first of what was offered at the other end: none is missing among them,
+/// doubled, changed or out of order.
 pub fn every_rising_run_hands_out_in_order()
     ensures { EveryRisingRunHandsOutInOrder }
 {}

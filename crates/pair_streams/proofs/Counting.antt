@@ -59,7 +59,7 @@ event_kept s f end (Restore k) sound codes own safe = restore_kept k s f sound
 event_kept s f end (BackTimeout k) sound codes own safe = absurd safe
 
 -- a sent unit changes no end
-abbrev CountsIn : World → Type 0
+abbrev pub CountsIn : World → Type 0
 CountsIn w = Counts w.a.state w.b.state
 
 sent_counts : (w : World) (end : End) (k : ℕ) (answer : Answer) → CountsIn w → CountsIn (with_sent w end k (Answered answer))
@@ -73,7 +73,7 @@ sent_counts w end k Done c = c
 sent_counts w end k (Refused why) c = c
 
 module _ (ma mb : Method) (one : IsOneMethod ma mb) where
-  abbrev CountsThen : Outcome → Type 0
+  abbrev pub CountsThen : Outcome → Type 0
   CountsThen outcome = OnShows outcome (λ shown new. CountsIn new)
 
   module _ (g : Stage) (h : Holds ma mb one g) (v : Streams true (seen A g)) (c : CountsIn g.world) where
@@ -243,7 +243,7 @@ module _ (ma mb : Method) (one : IsOneMethod ma mb) where
     done_counts (Together k) safe = together_counts k
     done_counts (Inject end k unit) safe = absurd safe
 
-  step_counts : (g : Stage) → Holds ma mb one g → Streams true (seen A g) → CountsIn g.world → (step : Step)
+  pub step_counts : (g : Stage) → Holds ma mb one g → Streams true (seen A g) → CountsIn g.world → (step : Step)
       → IsSafe true step → CountsThen (carried_out g.world step)
   unfolding carried_out
   step_counts g h v c step safe = done_counts g h v c step safe
@@ -263,7 +263,7 @@ module _ (ma mb : Method) (one : IsOneMethod ma mb) where
           let is : acked_on link p.near ≡ state.acked = ap acked_of there in
           omega (arith, counted, few, is)
 
-  says : (g : Stage) → Holds ma mb one g → CountsIn g.world → AckedAreTaken g
+  pub says : (g : Stage) → Holds ma mb one g → CountsIn g.world → AckedAreTaken g
   says g h c = (says_of ma mb one (seen A g) h c.near, says_of mb ma (one_back ma mb one) (seen B g) (swap ma mb (seen A g) h) c.far)
 
   moved : (g : Stage) (step : Step) (outcome : Outcome) → CountsThen outcome → OnShows outcome (λ shown new. CountsIn (passed g step shown new).world)
@@ -301,7 +301,7 @@ module _ (ma mb : Method) (one : IsOneMethod ma mb) where
   )
 
 -- AT FIRST
-first_counts : (a b : Settings) → Counts (opened_with a) (opened_with b)
+pub first_counts : (a b : Settings) → Counts (opened_with a) (opened_with b)
 first_counts a b = record { near = λ l e. none a l; far = λ l e. none b l }
   where
     none : (s : Settings) (l : ℕ) {n : ℕ} → acked_on l (opened_with s) ≤ n

@@ -208,7 +208,7 @@ no_injection false end k unit safe = safe
 no_injection true end k unit safe = safe
 
 -- other units are under way
-on_lines : {emergencies : Bool} (p : Two) (out back : List (List SignalUnit)) → Streams emergencies p
+pub on_lines : {emergencies : Bool} (p : Two) (out back : List (List SignalUnit)) → Streams emergencies p
     → Streams emergencies (record p { out = out; back = back })
 on_lines p out back v = record {
   ordered = record { both = v.ordered.both; near_codes = v.ordered.near_codes; far_codes = v.ordered.far_codes };

@@ -17,9 +17,10 @@ impl<G: Allocator + Copy> World<G> {
     ghost use Rattle.set_model.specs.State.{is_settled};
     ghost use Rattle.pair_model.specs.World.{at_end, has_link};
     ghost use Rattle.pair_streams.specs.Handed.{UsersTakeFirst, UsersTakePart};
-    ghost use Rattle.pair_streams.specs.Streams.{PartsArrive, StreamsArrive};
-    ghost use Rattle.pair_rises.specs.Counted.{HoldsAtEachMove, IsCounted};
-    ghost use Rattle.pair_rises.specs.Rises.{HoldsAllAlong, IsRun, as_seen, comes_up, emptied, fills_line, idle_at, is_first, moved, opening};
+    ghost use Rattle.pair_streams.specs.Streams.{AckedAreTaken, PartsArrive, StreamsArrive};
+    ghost use Rattle.pair_rises.specs.Counted.{IsCounted};
+    ghost use Rattle.pair_rises.specs.Diverted.{MovesChangeOver, OrdersTellAt};
+    ghost use Rattle.pair_rises.specs.Rises.{HoldsAllAlong, HoldsAtEachMove, IsRun, as_seen, comes_up, emptied, fills_line, idle_at, is_first, moved, opening};
     ghost use Rattle.pair_world.specs.Carried.{AreCarriedOut, IsCarriedOut, StaysIfImpossible};
     ghost use Rattle.pair_world.specs.Moved.{ArePlayed, moved_from};
 
@@ -49,14 +50,20 @@ impl<G: Allocator + Copy> World<G> {
     /// [`PlayFault::Exhausted`] exactly where a move is, with the place of the first one, unless memory was refused
     /// before it; 1 [`PlayFault::NoMemory`] only where memory was refused.
     ///
-    /// It's proved here of every run in which links come up one after the other (`IsRun`): the ends have one method, the
-    /// steps are those of a sound run, or of a quiet one, in which a link may also be left blindly, and `Together` is two
-    /// rises; no link comes up at an end in a life that this end has left or missed, and an end fills the line only of a
-    /// link that it may yet join. Whichever end comes up first, and whenever the other follows, if it does, in a sound
-    /// run each of the 16 streams arrives whole and in order (`StreamsArrive`), and what users took is the first of what
-    /// was offered to them (`UsersTakeFirst`); in a quiet run it's an in-order part of it (`PartsArrive`,
-    /// `UsersTakePart`). And an end misses a life only by a changeover order that its set counts as late about that link
-    /// ([`SetCore::late`]; `IsCounted`).
+    /// It's proved here of every run in which links come up one after the other (`IsRun`): the ends have one method,
+    /// the steps are those of a sound run, or of a quiet one, in which a link may also be left blindly, and
+    /// `Together` is two rises; no link comes up at an end in a life that this end has left or missed, and an end
+    /// fills the line only of a link that it may yet join. Whichever end comes up first, and whenever the other
+    /// follows, if it does, in a sound run each of the 16 streams arrives whole and in order (`StreamsArrive`), and
+    /// what users took is the first of what was offered to them (`UsersTakeFirst`); in a quiet run it's an in-order
+    /// part of it (`PartsArrive`, `UsersTakePart`). And an end misses a life only by a changeover order that its set
+    /// counts as late about that link ([`SetCore::late`]; `IsCounted`).
+    ///
+    /// In a sound run, as [`World::play`] has it of steps: nothing is discarded, and when a link settles at an end
+    /// exactly the messages of its present life that the far end didn't accept move to the target, in order, with
+    /// what waited and was held behind them (`MovesChangeOver`). In a quiet one too an order that is heard about a
+    /// link that hasn't settled tells the number of the last message that its end accepted there (`OrdersTellAt`),
+    /// and of each link, settled or not, what counts as acknowledged was accepted (`AckedAreTaken`).
     ///
     /// [`SetCore::late`]: set_core::SetCore::late
     pub fn play_moves(
@@ -75,7 +82,13 @@ impl<G: Allocator + Copy> World<G> {
         ensures part_taken { IsRun true a.now b.now moves.now
             → HoldsAllAlong (λ g. UsersTakePart g.stage) (opening a.now b.now) moves.now }
         ensures counted { (emergencies : Bool) → IsRun emergencies a.now b.now moves.now
-            → HoldsAtEachMove IsCounted (opening a.now b.now) moves.now }
+            → HoldsAtEachMove (λ before move shown after. IsCounted before after) (opening a.now b.now) moves.now }
+        ensures diverts { IsRun false a.now b.now moves.now
+            → MovesChangeOver (opening a.now b.now) moves.now }
+        ensures numbers { (emergencies : Bool) → IsRun emergencies a.now b.now moves.now
+            → HoldsAtEachMove (λ before move shown after. OrdersTellAt before move shown) (opening a.now b.now) moves.now }
+        ensures acks { (emergencies : Bool) → IsRun emergencies a.now b.now moves.now
+            → HoldsAllAlong (λ g. AckedAreTaken (as_seen g)) (opening a.now b.now) moves.now }
     {
         let mut world = World::new(alloc, a, b)?;
         match world.make_all(moves) {

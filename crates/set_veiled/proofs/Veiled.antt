@@ -82,7 +82,7 @@ module _ (cover : LinkState) (not_up : has_phase_up cover.phase ≡ false) (l : 
       go true e = subst (λ (k : ℕ). is_up k (veil cover l s) ≡ is_up k s) (sym (eqb-true n l e)) (ap link_is_up (this_link s o) ∙ not_up ∙ sym o.out)
       go false e = ap link_is_up (other_link s n e)
 
-  target_same : (s : State) → IsOut s → target (veil cover l s).links ≡ target s.links
+  pub target_same : (s : State) → IsOut s → target (veil cover l s).links ≡ target s.links
   target_same s o =
       let p = present s.links l o.few in
       ap target_of (map_set_same (λ (k : LinkState). has_phase_up k.phase) s.links l p.0 cover p.1
@@ -124,7 +124,7 @@ module _ (cover : LinkState) (not_up : has_phase_up cover.phase ≡ false) (l : 
   left_out : (blind : Bool) (n : ℕ) (link : LinkState) (s : State) → (n == l) ≡ false → IsOut s → IsOut (left_by blind n link s)
   left_out blind n link s d o = let p = out_set s n (left_link blind link) d o in record { few = p.few; out = p.out }
 
-  left_same : (blind : Bool) (n : ℕ) (link : LinkState) (s : State) → (n == l) ≡ false → IsOut s
+  pub left_same : (blind : Bool) (n : ℕ) (link : LinkState) (s : State) → (n == l) ≡ false → IsOut s
       → left_by blind n link (veil cover l s) ≡ veil cover l (left_by blind n link s)
   left_same blind n link s d o =
       let p = out_set s n (left_link blind link) d o in

@@ -1,4 +1,5 @@
 use Rattle.pair_rises.proofs.Counted.{every_missed_life}
+use Rattle.pair_rises.proofs.Diverting.{every_rising_run_acks, every_rising_run_diverts, every_rising_run_tells}
 use Rattle.pair_rises.proofs.Handing.{hands_out, hands_out_a_part}
 use Rattle.pair_rises.proofs.Runs.{every_rising_run, every_rising_run_in_part}
 use Rattle.pair_world.proofs.Moving.{leads, fails}
@@ -48,6 +49,33 @@ returns-in-Ok-clause-counted o c = λ emergencies. every_missed_life emergencies
 
 pub returns-in-Err-clause-counted : goal.returns-in-Err-clause-counted
 returns-in-Err-clause-counted o c = λ emergencies. every_missed_life emergencies _ _ _
+
+pub returns-in_err-world-clause-diverts : goal.returns-in_err-world-clause-diverts
+returns-in_err-world-clause-diverts o c = every_rising_run_diverts _ _ _
+
+pub returns-in-Ok-clause-diverts : goal.returns-in-Ok-clause-diverts
+returns-in-Ok-clause-diverts o c = every_rising_run_diverts _ _ _
+
+pub returns-in-Err-clause-diverts : goal.returns-in-Err-clause-diverts
+returns-in-Err-clause-diverts o c = every_rising_run_diverts _ _ _
+
+pub returns-in_err-world-clause-numbers : goal.returns-in_err-world-clause-numbers
+returns-in_err-world-clause-numbers o c = λ emergencies. every_rising_run_tells emergencies _ _ _
+
+pub returns-in-Ok-clause-numbers : goal.returns-in-Ok-clause-numbers
+returns-in-Ok-clause-numbers o c = λ emergencies. every_rising_run_tells emergencies _ _ _
+
+pub returns-in-Err-clause-numbers : goal.returns-in-Err-clause-numbers
+returns-in-Err-clause-numbers o c = λ emergencies. every_rising_run_tells emergencies _ _ _
+
+pub returns-in_err-world-clause-acks : goal.returns-in_err-world-clause-acks
+returns-in_err-world-clause-acks o c = λ emergencies. every_rising_run_acks emergencies _ _ _
+
+pub returns-in-Ok-clause-acks : goal.returns-in-Ok-clause-acks
+returns-in-Ok-clause-acks o c = λ emergencies. every_rising_run_acks emergencies _ _ _
+
+pub returns-in-Err-clause-acks : goal.returns-in-Err-clause-acks
+returns-in-Err-clause-acks o c = λ emergencies. every_rising_run_acks emergencies _ _ _
 
 pub returns-in-Ok-clause-world : goal.returns-in-Ok-clause-world
 returns-in-Ok-clause-world o c = leads _ _ _ _ c.in_ok-world.ensures _ c.in-Ok.ensures
