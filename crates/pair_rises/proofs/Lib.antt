@@ -12,6 +12,8 @@ pub mod Going
 pub mod Halves
 pub mod Handing
 pub mod Heard
+pub mod Keeping
+pub mod Kept
 pub mod Late
 pub mod Missing
 pub mod Open
@@ -21,6 +23,7 @@ pub mod Replies
 pub mod Rising
 pub mod Runs
 pub mod Sides
+pub mod Staying
 pub mod Taking
 pub mod Telling
 pub mod Together

@@ -2,7 +2,15 @@
 ghost use Rattle.pair_rises.specs.Counted.{EveryMissedLifeIsCounted};
 ghost use Rattle.pair_rises.specs.Diverted.{EveryRisingRunAcksTheTaken, EveryRisingRunDivertsTheRest, EveryRisingRunTellsNumbers};
 ghost use Rattle.pair_rises.specs.Handed.{EveryRisingRunHandsOutAPart, EveryRisingRunHandsOutInOrder};
+ghost use Rattle.pair_rises.specs.Kept.{EveryHonestRisingRunKeepsLinks};
 ghost use Rattle.pair_rises.specs.Rises.{EveryRisingRunKeepsStreams, EveryRisingRunKeepsOrder, TogetherIsTwoRises};
+
+/// Whatever is lost, and also where a changeover is given up: on each link, as it's seen, the bodies that the far end
+/// accepted are the first of those that were sent in its present life, and what counts as acknowledged was accepted,
+/// for as long as the link isn't settled. And no unit that is heard tells a fault (Q.703 5 and 6).
+pub fn every_honest_rising_run_keeps_links()
+    ensures { EveryHonestRisingRunKeepsLinks }
+{}
 
 /// Without emergencies nothing is discarded, and of each link, as it's seen, what counts as acknowledged was
 /// accepted. And when a link settles at an end, of the messages that were first sent on it in that life exactly those

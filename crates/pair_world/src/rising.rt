@@ -20,6 +20,7 @@ impl<G: Allocator + Copy> World<G> {
     ghost use Rattle.pair_streams.specs.Streams.{AckedAreTaken, PartsArrive, StreamsArrive};
     ghost use Rattle.pair_rises.specs.Counted.{IsCounted};
     ghost use Rattle.pair_rises.specs.Diverted.{MovesChangeOver, OrdersTellAt};
+    ghost use Rattle.pair_rises.specs.Kept.{IsHonestRunOfMoves, LinksAreKept};
     ghost use Rattle.pair_rises.specs.Rises.{HoldsAllAlong, HoldsAtEachMove, IsRun, as_seen, comes_up, emptied, fills_line, idle_at, is_first, moved, opening};
     ghost use Rattle.pair_world.specs.Carried.{AreCarriedOut, IsCarriedOut, StaysIfImpossible};
     ghost use Rattle.pair_world.specs.Moved.{ArePlayed, moved_from};
@@ -65,6 +66,12 @@ impl<G: Allocator + Copy> World<G> {
     /// link that hasn't settled tells the number of the last message that its end accepted there (`OrdersTellAt`),
     /// and of each link, settled or not, what counts as acknowledged was accepted (`AckedAreTaken`).
     ///
+    /// Of every honest run of such moves (`IsHonestRunOfMoves`), in which a changeover may also be given up and a
+    /// changeback go home unacknowledged, it's proved that each link keeps its order and tells no fault in its
+    /// present life, as [`World::play`] has it of steps (`LinksAreKept`). It's told of a link as it's seen: to all
+    /// else, a link that an end hasn't joined is one that it left at once and in silence, so that end sent and
+    /// accepted nothing on it.
+    ///
     /// [`SetCore::late`]: set_core::SetCore::late
     pub fn play_moves(
         alloc: G,
@@ -83,6 +90,8 @@ impl<G: Allocator + Copy> World<G> {
             → HoldsAllAlong (λ g. UsersTakePart g.stage) (opening a.now b.now) moves.now }
         ensures counted { (emergencies : Bool) → IsRun emergencies a.now b.now moves.now
             → HoldsAtEachMove (λ before move shown after. IsCounted before after) (opening a.now b.now) moves.now }
+        ensures keeps { IsHonestRunOfMoves a.now b.now moves.now
+            → LinksAreKept (opening a.now b.now) moves.now }
         ensures diverts { IsRun false a.now b.now moves.now
             → MovesChangeOver (opening a.now b.now) moves.now }
         ensures numbers { (emergencies : Bool) → IsRun emergencies a.now b.now moves.now

@@ -1,6 +1,7 @@
 use Rattle.pair_rises.proofs.Counted.{every_missed_life}
 use Rattle.pair_rises.proofs.Diverting.{every_rising_run_acks, every_rising_run_diverts, every_rising_run_tells}
 use Rattle.pair_rises.proofs.Handing.{hands_out, hands_out_a_part}
+use Rattle.pair_rises.proofs.Kept.{every_honest_run}
 use Rattle.pair_rises.proofs.Runs.{every_rising_run, every_rising_run_in_part}
 use Rattle.pair_world.proofs.Moving.{leads, fails}
 use Rattle.pair_world.proofs.world.World.play_moves.Goals as goal
@@ -49,6 +50,15 @@ returns-in-Ok-clause-counted o c = λ emergencies. every_missed_life emergencies
 
 pub returns-in-Err-clause-counted : goal.returns-in-Err-clause-counted
 returns-in-Err-clause-counted o c = λ emergencies. every_missed_life emergencies _ _ _
+
+pub returns-in_err-world-clause-keeps : goal.returns-in_err-world-clause-keeps
+returns-in_err-world-clause-keeps o c = every_honest_run _ _ _
+
+pub returns-in-Ok-clause-keeps : goal.returns-in-Ok-clause-keeps
+returns-in-Ok-clause-keeps o c = every_honest_run _ _ _
+
+pub returns-in-Err-clause-keeps : goal.returns-in-Err-clause-keeps
+returns-in-Err-clause-keeps o c = every_honest_run _ _ _
 
 pub returns-in_err-world-clause-diverts : goal.returns-in_err-world-clause-diverts
 returns-in_err-world-clause-diverts o c = every_rising_run_diverts _ _ _
