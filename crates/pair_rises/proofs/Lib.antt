@@ -24,7 +24,6 @@ pub mod Rising
 pub mod Runs
 pub mod Sides
 pub mod Staying
-pub mod Taking
 pub mod Telling
 pub mod Together
 pub mod Tying

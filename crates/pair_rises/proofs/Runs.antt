@@ -1,7 +1,7 @@
 -- EVERY RUN IN WHICH LINKS COME UP ONE AFTER THE OTHER KEEPS EACH STREAM: one induction over the moves. What holds along
 -- is what pair_model's and pair_streams' runs keep, word for word, of the stage as it's seen under its veils (`Sides` of
 -- Sides.antt); a step is theirs (Worlds.antt), and a rise, a fill and a unit that arrives are those of Sides.antt.
-use Rattle.std.proofs.Common.{refl, arith, ◌≡◌, ◌∙◌, ap, ap₂, sym, subst, ℕ, zero, suc, ◌<◌, Bool, true, false, List, [], ◌∷◌, length, take, cond}
+use Rattle.std.proofs.Common.{refl, arith, ◌≡◌, ◌∙◌, ap, ap₂, sym, subst, ℕ, zero, suc, ◌<◌, Bool, true, false, List, [], ◌∷◌, length, cond}
 use Rattle.set_events.specs.declared.config.Method.{Method}
 use Rattle.set_events.specs.declared.config.SetConfig.{SetConfig}
 use Rattle.set_model.specs.State.{LinkState, State, Settings, is_up, link_is_up, has_phase_up, is_settled, settings_of}
@@ -15,10 +15,10 @@ use Rattle.pair_steps.specs.declared.step.Step.{Step}
 use Rattle.pair_steps.specs.declared.step.Step.TheVariants.{Act, Emit, Arrive, Lose, Together, Inject}
 use Rattle.pair_model.specs.World.{World, Outcome, shows, impossible, exhausted, at_end, has_link, is_full, joined, carried_out}
 use Rattle.pair_model.specs.Promises.{IsOneMethod, IsSoundStep}
-use Rattle.pair_model.specs.Run.{bodies, Stage, begun, passed, OnShows}
+use Rattle.pair_model.specs.Run.{Stage, begun, passed, OnShows}
 use Rattle.pair_model.proofs.Controls.{one_back}
-use Rattle.pair_model.proofs.Kept.{kept_on, at_first, settings_sound}
-use Rattle.pair_model.proofs.Pairs.{HoldsOf, swap}
+use Rattle.pair_model.proofs.Kept.{at_first, settings_sound}
+use Rattle.pair_model.proofs.Pairs.{HoldsOf}
 use Rattle.pair_model.proofs.Rising.{settled_at}
 use Rattle.pair_model.proofs.Runs.{seen, step_goes, is_at_up}
 use Rattle.pair_model.proofs.Runs as links
@@ -28,7 +28,7 @@ use Rattle.pair_streams.specs.Streams.{StreamsArrive, PartsArrive}
 use Rattle.pair_streams.proofs.Acting.{IsSafe, Streams}
 use Rattle.pair_streams.proofs.Counting.{CountsIn, first_counts, step_counts}
 use Rattle.pair_streams.proofs.Runs.{arrives_so, arrives_in_part, first_streams, step_keeps, is_safe_honest}
-use Rattle.pair_rises.specs.Rises.{Cover, awaited, is_covered, Rising, opening, all_inside, open_at, is_first, risen_so, risen_at, comes_up, fills_line, moved, moved_on, seen_under, laid, cover_of, as_seen, seen_at, idle_at, MayRise, MayMove, IsPlainStep, IsPlainMove, AreMoves, HoldsAllAlong, HoldsAtEachMove, HoldsBefore, IsRun, EveryRisingRunKeepsStreams, EveryRisingRunKeepsOrder}
+use Rattle.pair_rises.specs.Rises.{Cover, awaited, is_covered, Rising, opening, all_inside, open_at, is_first, risen_so, risen_at, comes_up, fills_line, moved, moved_on, seen_under, laid, cover_of, as_seen, seen_at, idle_at, MayRise, MayMove, IsPlainStep, IsPlainMove, AreMoves, HoldsAllAlong, HoldsAtEachMove, HoldsBefore, EveryRisingRunKeepsStreams, EveryRisingRunKeepsOrder}
 use Rattle.pair_rises.specs.declared.moves.Move.{Move}
 use Rattle.pair_rises.specs.declared.moves.Move.TheVariants.{Step as MoveStep, Rise, Fill}
 use Rattle.pair_rises.proofs.Arriving.{Cases, arrives}
@@ -335,32 +335,7 @@ first_holds emergencies a b one links profiles = record {
   apart_y = λ l e. refl;
 }
 
--- what was taken on a link is the first of what was sent there, in its life
-abbrev pub Prefixes : Rising → Type 0
-Prefixes g = (k : ℕ)
-    → (g.stage.a.taken k ≡ take (length (g.stage.a.taken k)) (bodies (g.stage.b.sent k)))
-    × (g.stage.b.taken k ≡ take (length (g.stage.b.taken k)) (bodies (g.stage.a.sent k)))
-
-prefixes : (emergencies : Bool) (ma mb : Method) (one : IsOneMethod ma mb) (g : Rising) → Holds emergencies ma mb one g → Prefixes g
-prefixes em ma mb one g h k = (
-  (kept_on mb ma (one_back ma mb one) (seen B (as_seen g)) (swap ma mb (seen A (as_seen g)) h.links) k).prefix,
-  (kept_on ma mb one (seen A (as_seen g)) h.links k).prefix,
-)
-
 -- ALL RUNS
-module _ (a b : SetConfig) (moves : List Move) where
-  pub every_rising_run_so : IsRun false a b moves → HoldsAllAlong (λ g. Prefixes g × StreamsArrive (as_seen g)) (opening a b) moves
-  every_rising_run_so run =
-      along false a.method b.method run.one_method (λ g. Prefixes g × StreamsArrive (as_seen g))
-      (λ g h. (prefixes false a.method b.method run.one_method g h, streams_arrive g h.streams)) moves (opening a b)
-      (first_holds false a b run.one_method run.links run.profiles) run.moves_are run.may
-
-  pub every_rising_run_so_in_part : IsRun true a b moves → HoldsAllAlong (λ g. Prefixes g × PartsArrive (as_seen g)) (opening a b) moves
-  every_rising_run_so_in_part run =
-      along true a.method b.method run.one_method (λ g. Prefixes g × PartsArrive (as_seen g))
-      (λ g h. (prefixes true a.method b.method run.one_method g h, parts_arrive g h.streams)) moves (opening a b)
-      (first_holds true a b run.one_method run.links run.profiles) run.moves_are run.may
-
 pub every_rising_run : EveryRisingRunKeepsStreams
 every_rising_run a b moves run =
     along false a.method b.method run.one_method (λ g. StreamsArrive (as_seen g)) (λ g h. streams_arrive g h.streams) moves (opening a b)

@@ -1,7 +1,7 @@
 //! Laws of two ends whose links come up one after the other, over definitions alone.
 ghost use Rattle.pair_rises.specs.Counted.{EveryMissedLifeIsCounted};
 ghost use Rattle.pair_rises.specs.Diverted.{EveryRisingRunAcksTheTaken, EveryRisingRunDivertsTheRest, EveryRisingRunTellsNumbers};
-ghost use Rattle.pair_rises.specs.Handed.{EveryRisingRunHandsOutAPart, EveryRisingRunHandsOutInOrder};
+ghost use Rattle.pair_rises.specs.Handed.{EveryIdleRisingRunAccountsForAll, EveryIdleRisingRunHandsOutAll, EveryHonestRisingRunHandsOutAll, EveryRisingRunHandsOutAPart, EveryRisingRunHandsOutInOrder};
 ghost use Rattle.pair_rises.specs.Kept.{EveryHonestRisingRunKeepsLinks};
 ghost use Rattle.pair_rises.specs.Rises.{EveryRisingRunKeepsStreams, EveryRisingRunKeepsOrder, TogetherIsTwoRises};
 
@@ -55,6 +55,22 @@ pub fn every_rising_run_hands_out_in_order()
 /// In emergencies it's some of what was offered there, in its order.
 pub fn every_rising_run_hands_out_a_part()
     ensures { EveryRisingRunHandsOutAPart }
+{}
+
+/// In every honest run what users took, and then what the inbox holds, are the bodies of what was got.
+pub fn every_honest_rising_run_hands_out_all()
+    ensures { EveryHonestRisingRunHandsOutAll }
+{}
+
+/// Where no message of the users waits, is unacknowledged, held, parked or waits for a changeback at either end, the
+/// users of each got all that the other's users offered, and took it, or find it in the inbox.
+pub fn every_idle_rising_run_hands_out_all()
+    ensures { EveryIdleRisingRunHandsOutAll }
+{}
+
+/// In emergencies they got each message, or it was discarded in one.
+pub fn every_idle_rising_run_accounts_for_all()
+    ensures { EveryIdleRisingRunAccountsForAll }
 {}
 
 /// An end misses a life only by a changeover order that its set counts as late about that link.

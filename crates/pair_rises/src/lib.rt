@@ -11,10 +11,11 @@ mod laws;
 mod moves;
 
 pub use laws::{
-    every_honest_rising_run_keeps_links, every_missed_life_is_counted,
-    every_rising_run_acks_the_taken, every_rising_run_diverts_the_rest,
-    every_rising_run_hands_out_a_part, every_rising_run_hands_out_in_order,
-    every_rising_run_keeps_order, every_rising_run_keeps_streams, every_rising_run_tells_numbers,
-    together_is_two_rises,
+    every_honest_rising_run_hands_out_all, every_honest_rising_run_keeps_links,
+    every_idle_rising_run_accounts_for_all, every_idle_rising_run_hands_out_all,
+    every_missed_life_is_counted, every_rising_run_acks_the_taken,
+    every_rising_run_diverts_the_rest, every_rising_run_hands_out_a_part,
+    every_rising_run_hands_out_in_order, every_rising_run_keeps_order,
+    every_rising_run_keeps_streams, every_rising_run_tells_numbers, together_is_two_rises,
 };
 pub use moves::Move;

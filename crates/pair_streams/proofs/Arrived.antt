@@ -86,7 +86,7 @@ module _ (stream : ℕ) (s f : State) (done : AreDone (counts_in s)) where
   none_kept : those_of stream (kept_back s) ≡ []
   none_kept = none_of stream stands_back stands_back (λ fate e. e) s.rows done.none_back
 
-all_got : (g : Stage) → IsIdle g.world → StreamsArrive g → AllGot g
+pub all_got : (g : Stage) → IsIdle g.world → StreamsArrive g → AllGot g
 all_got g idle arrive stream low =
     let both = arrive stream low in (
       both.0.all (none_pending stream g.world.a.state g.world.b.state idle.at_a)
@@ -107,7 +107,7 @@ all_handed g idle both stream low =
     let got = all_got g idle both.1 stream low in
     ((both.0 stream).0 ∙ ap bodies got.1, (both.0 stream).1 ∙ ap bodies got.0)
 
-all_told_of : (g : Stage) → IsIdle g.world → PartsArrive g → AllToldOf g
+pub all_told_of : (g : Stage) → IsIdle g.world → PartsArrive g → AllToldOf g
 all_told_of g idle arrive = (
   λ stream low. (arrive stream low).0.all (none_pending stream g.world.a.state g.world.b.state idle.at_a)
       (none_aside stream g.world.a.state g.world.b.state idle.at_a)

@@ -40,7 +40,7 @@ use Rattle.pair_streams.proofs.Inbox.{event_passes}
 use Rattle.pair_streams.proofs.Runs.{every_sound_run, every_quiet_run}
 
 -- WHAT HAS PASSED the inbox of a set, or stands in it
-passes : LinkSet → List (List ℕ)
+pub passes : LinkSet → List (List ℕ)
 passes set = handed_in set.history ++ set.state.inbox
 
 handed_joined : (some more : List Entry) → handed_in (some ++ more) ≡ handed_in some ++ handed_in more
@@ -62,11 +62,11 @@ passes_on set event =
     ∙ sym (append_assoc (handed_in set.history) set.state.inbox (delivered_by answer event))
 
 -- of each stream it's what was got
-abbrev Takes : Past → LinkSet → Type 0
+abbrev pub Takes : Past → LinkSet → Type 0
 Takes past set = (stream : ℕ) → bodies_of stream (passes set) ≡ bodies (past.got stream)
 
 -- an event that delivers nothing
-keeps : (past then : Past) (set : LinkSet) (event : Event) → ((stream : ℕ) → then.got stream ≡ past.got stream)
+pub keeps : (past then : Past) (set : LinkSet) (event : Event) → ((stream : ℕ) → then.got stream ≡ past.got stream)
     → delivered_by (answer_to set event) event ≡ [] → Takes past set → Takes then (after set event)
 keeps past then set event same none t stream =
     ap (bodies_of stream) (passes_on set event ∙ ap (λ (q : List (List ℕ)). passes set ++ q) none
@@ -80,7 +80,7 @@ next_delivers : (answer : Answer) (k : ℕ) → delivered_by answer (Next k) ≡
 next_delivers (Heard report) k = refl
 next_delivers _ k = refl
 
-up_delivers : (answer : Answer) (k : ℕ) → delivered_by answer (UpEvent k) ≡ []
+pub up_delivers : (answer : Answer) (k : ℕ) → delivered_by answer (UpEvent k) ≡ []
 up_delivers (Heard report) k = refl
 up_delivers _ k = refl
 
@@ -153,12 +153,21 @@ module _ (k : ℕ) (unit : SignalUnit) (sent : List Message) (past : Past) (set 
   hears prefix stream = ap (bodies_of stream) (passes_on set (HeardEvent k unit)) ∙ joins (answer_to set (HeardEvent k unit)) prefix stream
 
 -- A STAGE, and each step from it
-abbrev TakeAll : Stage → Type 0
+abbrev pub TakeAll : Stage → Type 0
 TakeAll g = Takes g.a g.world.a × Takes g.b g.world.b
 
--- what the links keep at the stage that it leads to
-abbrev Goes : Stage → Step → Outcome → Type 0
-Goes g step outcome = OnShows outcome (λ shown new. LinksKeep (passed g step shown new) → TakeAll (passed g step shown new))
+-- what was taken on each link is the first of what was sent there
+abbrev pub Prefixes : Stage → Type 0
+Prefixes g = (k : ℕ)
+    → (g.a.taken k ≡ take (length (g.a.taken k)) (bodies (g.b.sent k)))
+    × (g.b.taken k ≡ take (length (g.b.taken k)) (bodies (g.a.sent k)))
+
+pub prefixes : (g : Stage) → LinksKeep g → Prefixes g
+prefixes g kept k = ((kept k).1.prefix, (kept k).0.prefix)
+
+-- at the stage that it leads to
+abbrev pub Goes : Stage → Step → Outcome → Type 0
+Goes g step outcome = OnShows outcome (λ shown new. Prefixes (passed g step shown new) → TakeAll (passed g step shown new))
 
 module _ (g : Stage) (t : TakeAll g) where
   act_goes : (end : End) (event : Event) → has_own_step event ≡ false → Goes g (Act end event) (acts g.world end event)
@@ -245,10 +254,10 @@ module _ (g : Stage) (t : TakeAll g) where
   -- what arrives is heard, or lost
   abbrev ArriveGoes : (end : End) (k : ℕ) → List SignalUnit → Outcome → Type 0
   ArriveGoes A k line outcome = OnShows outcome
-      (λ shown new. LinksKeep (with_past A (past_arrived k line (g.b.sent k) shown g.a) new g)
+      (λ shown new. Prefixes (with_past A (past_arrived k line (g.b.sent k) shown g.a) new g)
       → TakeAll (with_past A (past_arrived k line (g.b.sent k) shown g.a) new g))
   ArriveGoes B k line outcome = OnShows outcome
-      (λ shown new. LinksKeep (with_past B (past_arrived k line (g.a.sent k) shown g.b) new g)
+      (λ shown new. Prefixes (with_past B (past_arrived k line (g.a.sent k) shown g.b) new g)
       → TakeAll (with_past B (past_arrived k line (g.a.sent k) shown g.b) new g))
 
   reach_goes : (end : End) (k : ℕ) (unit : SignalUnit) (rest : List SignalUnit)
@@ -261,7 +270,7 @@ module _ (g : Stage) (t : TakeAll g) where
           (with_end (with_line g.world A k rest) A (after g.world.a (HeardEvent k unit))))) impossible)
           (shows Lost (with_line g.world A k rest)))
       go true true true = tt
-      go true true false = λ kept. (hears k unit (g.b.sent k) g.a g.world.a t.0 (kept k).1.prefix, t.1)
+      go true true false = λ kept. (hears k unit (g.b.sent k) g.a g.world.a t.0 (kept k).0, t.1)
       go true false full = tt
       go false known full = λ kept. t
   reach_goes B k unit rest = go (is_up k g.world.b.state) (has_link g.world k) (is_full g.world.b)
@@ -272,7 +281,7 @@ module _ (g : Stage) (t : TakeAll g) where
           (with_end (with_line g.world B k rest) B (after g.world.b (HeardEvent k unit))))) impossible)
           (shows Lost (with_line g.world B k rest)))
       go true true true = tt
-      go true true false = λ kept. (t.0, hears k unit (g.a.sent k) g.b g.world.b t.1 (kept k).0.prefix)
+      go true true false = λ kept. (t.0, hears k unit (g.a.sent k) g.b g.world.b t.1 (kept k).1)
       go true false full = tt
       go false known full = λ kept. t
 
@@ -314,7 +323,7 @@ module _ (g : Stage) (t : TakeAll g) where
   done_goes (Together k) honest = together_goes k
   done_goes (Inject end k unit) honest = absurd honest
 
-step_goes : (g : Stage) → TakeAll g → (step : Step) → IsHonestStep step → Goes g step (carried_out g.world step)
+pub step_goes : (g : Stage) → TakeAll g → (step : Step) → IsHonestStep step → Goes g step (carried_out g.world step)
 unfolding carried_out
 step_goes g t step honest = done_goes g t step honest
 
@@ -323,7 +332,7 @@ at_once : (P : Stage → Type 0) (g : Stage) (steps : List Step) → HoldsAlong 
 at_once P g [] along = along
 at_once P g (step ∷ steps) along = along.0
 
-users_take : (g : Stage) → TakeAll g → UsersTakeAll g
+pub users_take : (g : Stage) → TakeAll g → UsersTakeAll g
 unfolding passes
 users_take g t stream = (
   sym (filter-append (λ body. stream == stream_of body) (handed_in g.world.a.history) g.world.a.state.inbox) ∙ t.0 stream,
@@ -335,7 +344,7 @@ onward : (g : Stage) (step : Step) (steps : List Step)
     → (outcome : Outcome) → Goes g step outcome
     → OnShows outcome (λ shown new. HoldsAlong LinksKeep (passed g step shown new) steps)
     → OnShows outcome (λ shown new. HoldsAlong UsersTakeAll (passed g step shown new) steps)
-onward g step steps next (shows shown new) goes kept = next (passed g step shown new) (goes (at_once LinksKeep (passed g step shown new) steps kept)) kept
+onward g step steps next (shows shown new) goes kept = next (passed g step shown new) (goes (prefixes (passed g step shown new) (at_once LinksKeep (passed g step shown new) steps kept))) kept
 onward g step steps next impossible goes kept = tt
 onward g step steps next exhausted goes kept = tt
 
@@ -346,7 +355,7 @@ along g t (step ∷ steps) honest kept = (
   onward g step steps (λ later takes rest. along later takes steps honest.1 rest) (carried_out g.world step) (step_goes g t step honest.0) kept.1,
 )
 
-first_take : (a b : SetConfig) → TakeAll (begun a b)
+pub first_take : (a b : SetConfig) → TakeAll (begun a b)
 unfolding passes
 first_take a b = (λ stream. refl, λ stream. refl)
 
@@ -368,7 +377,7 @@ bodies_first zero messages = refl
 bodies_first (suc n) [] = refl
 bodies_first (suc n) (m ∷ messages) = ap (λ (q : List (List ℕ)). m.body ∷ q) (bodies_first n messages)
 
-take_first : (g : Stage) → UsersTakeAll g → StreamsArrive g → UsersTakeFirst g
+pub take_first : (g : Stage) → UsersTakeAll g → StreamsArrive g → UsersTakeFirst g
 take_first g all arrive stream low = (
   prefix_of (taken_of stream g.world.a) (bodies_of stream g.world.a.state.inbox) (bodies (g.b.offered stream))
       (length (g.a.got stream)) ((all stream).0 ∙ ap bodies (arrive stream low).1.prefix
@@ -398,7 +407,7 @@ takes_part some more got offered e p = (
   part_taken (length some) got offered p,
 )
 
-take_part : (g : Stage) → UsersTakeAll g → PartsArrive g → UsersTakePart g
+pub take_part : (g : Stage) → UsersTakeAll g → PartsArrive g → UsersTakePart g
 take_part g all arrive stream low = (
   takes_part (taken_of stream g.world.a) (bodies_of stream g.world.a.state.inbox) (g.a.got stream) (g.b.offered stream)
       (all stream).0 (arrive stream low).1.in_order,

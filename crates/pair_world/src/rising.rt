@@ -16,10 +16,11 @@ impl<G: Allocator + Copy> World<G> {
     ghost use Rattle.std.specs.Prelude.{◌≡◌, Bool, true, false, if◌then◌else◌};
     ghost use Rattle.set_model.specs.State.{is_settled};
     ghost use Rattle.pair_model.specs.World.{at_end, has_link};
-    ghost use Rattle.pair_streams.specs.Handed.{UsersTakeFirst, UsersTakePart};
+    ghost use Rattle.pair_streams.specs.Handed.{UsersTakeAll, UsersTakeFirst, UsersTakePart};
     ghost use Rattle.pair_streams.specs.Streams.{AckedAreTaken, PartsArrive, StreamsArrive};
     ghost use Rattle.pair_rises.specs.Counted.{IsCounted};
     ghost use Rattle.pair_rises.specs.Diverted.{MovesChangeOver, OrdersTellAt};
+    ghost use Rattle.pair_rises.specs.Handed.{AccountsWhereIdle, HandsOutWhereIdle};
     ghost use Rattle.pair_rises.specs.Kept.{IsHonestRunOfMoves, LinksAreKept};
     ghost use Rattle.pair_rises.specs.Rises.{HoldsAllAlong, HoldsAtEachMove, IsRun, as_seen, comes_up, emptied, fills_line, idle_at, is_first, moved, opening};
     ghost use Rattle.pair_world.specs.Carried.{AreCarriedOut, IsCarriedOut, StaysIfImpossible};
@@ -58,7 +59,10 @@ impl<G: Allocator + Copy> World<G> {
     /// follows, if it does, in a sound run each of the 16 streams arrives whole and in order (`StreamsArrive`), and
     /// what users took is the first of what was offered to them (`UsersTakeFirst`); in a quiet run it's an in-order
     /// part of it (`PartsArrive`, `UsersTakePart`). And an end misses a life only by a changeover order that its set
-    /// counts as late about that link ([`SetCore::late`]; `IsCounted`).
+    /// counts as late about that link ([`SetCore::late`]; `IsCounted`). What users took, and then what the inbox
+    /// holds, is what they got (`UsersTakeAll`); where nothing is left at either end ([`World::is_idle`]) that's all
+    /// that was offered to them (`HandsOutWhereIdle`), but in a quiet run for what was discarded in an emergency
+    /// (`AccountsWhereIdle`).
     ///
     /// In a sound run, as [`World::play`] has it of steps: nothing is discarded, and when a link settles at an end
     /// exactly the messages of its present life that the far end didn't accept move to the target, in order, with
@@ -98,6 +102,12 @@ impl<G: Allocator + Copy> World<G> {
             → HoldsAtEachMove (λ before move shown after. OrdersTellAt before move shown) (opening a.now b.now) moves.now }
         ensures acks { (emergencies : Bool) → IsRun emergencies a.now b.now moves.now
             → HoldsAllAlong (λ g. AckedAreTaken (as_seen g)) (opening a.now b.now) moves.now }
+        ensures handed { IsHonestRunOfMoves a.now b.now moves.now
+            → HoldsAllAlong (λ g. UsersTakeAll g.stage) (opening a.now b.now) moves.now }
+        ensures idle_handed { IsRun false a.now b.now moves.now
+            → HoldsAllAlong HandsOutWhereIdle (opening a.now b.now) moves.now }
+        ensures idle_accounted { IsRun true a.now b.now moves.now
+            → HoldsAllAlong AccountsWhereIdle (opening a.now b.now) moves.now }
     {
         let mut world = World::new(alloc, a, b)?;
         match world.make_all(moves) {

@@ -53,6 +53,7 @@ impl<G: Allocator + Copy> World<G> {
     ghost use Rattle.pair_changeover.specs.Diverted.{ChangesOver};
     ghost use Rattle.pair_streams.specs.Streams.{AckedAreTaken, NumbersTell, PartsArrive, StreamsArrive};
     ghost use Rattle.pair_streams.specs.Arrived.{IsIdle, AllArrived, AllTaken, AllAccounted};
+    ghost use Rattle.pair_rises.specs.Handed.{AllAccountedByMoves, AllHandedByMoves};
     ghost use Rattle.set_events.specs.Lent.{HasFitUnit, event_in};
     ghost use Rattle.set_events.specs.declared.event.Event.{Event};
     ghost use Rattle.pair_world.specs.Carried.{IsBegun, FailsToBegin, IsCarriedOut, StaysIfImpossible, IsStepped, AreCarriedOut, IsPlayed, IsTakenFrom};
@@ -187,14 +188,17 @@ impl<G: Allocator + Copy> World<G> {
     /// end.
     ///
     /// Whichever sound run led to such a world, the users of each end got all that the other's users offered, in the
-    /// order of each stream (`AllArrived`; Q.704 5.1.1); and what they took, and then what waits in the inbox for them, is that,
-    /// octet by octet (`AllTaken`). Whichever quiet run did, they got each message, or it was discarded in an emergency
-    /// (`AllAccounted`; Q.704 5.6).
+    /// order of each stream (`AllArrived`; Q.704 5.1.1); and what they took, and then what waits in the inbox for
+    /// them, is that, octet by octet (`AllTaken`). Whichever quiet run did, they got each message, or it was
+    /// discarded in an emergency (`AllAccounted`; Q.704 5.6). The same holds whichever such run of moves led to it,
+    /// in which links come up one after the other (`AllHandedByMoves`, `AllAccountedByMoves`).
     pub fn is_idle(&self) -> bool
         ensures value { IsTrue result ↔ IsIdle self.now }
         ensures arrived { IsTrue result → AllArrived self.now }
         ensures taken { IsTrue result → AllTaken self.now }
         ensures accounted { IsTrue result → AllAccounted self.now }
+        ensures handed_by_moves { IsTrue result → AllHandedByMoves self.now }
+        ensures accounted_by_moves { IsTrue result → AllAccountedByMoves self.now }
     {
         are_done(self.counts(End::A)) && are_done(self.counts(End::B))
     }

@@ -1,6 +1,6 @@
 use Rattle.pair_rises.proofs.Counted.{every_missed_life}
 use Rattle.pair_rises.proofs.Diverting.{every_rising_run_acks, every_rising_run_diverts, every_rising_run_tells}
-use Rattle.pair_rises.proofs.Handing.{hands_out, hands_out_a_part}
+use Rattle.pair_rises.proofs.Handing.{hands_out, hands_out_a_part, hands_out_all, idle_hands_out, idle_accounts}
 use Rattle.pair_rises.proofs.Kept.{every_honest_run}
 use Rattle.pair_rises.proofs.Runs.{every_rising_run, every_rising_run_in_part}
 use Rattle.pair_world.proofs.Moving.{leads, fails}
@@ -59,6 +59,33 @@ returns-in-Ok-clause-keeps o c = every_honest_run _ _ _
 
 pub returns-in-Err-clause-keeps : goal.returns-in-Err-clause-keeps
 returns-in-Err-clause-keeps o c = every_honest_run _ _ _
+
+pub returns-in_err-world-clause-handed : goal.returns-in_err-world-clause-handed
+returns-in_err-world-clause-handed o c = hands_out_all _ _ _
+
+pub returns-in-Ok-clause-handed : goal.returns-in-Ok-clause-handed
+returns-in-Ok-clause-handed o c = hands_out_all _ _ _
+
+pub returns-in-Err-clause-handed : goal.returns-in-Err-clause-handed
+returns-in-Err-clause-handed o c = hands_out_all _ _ _
+
+pub returns-in_err-world-clause-idle_handed : goal.returns-in_err-world-clause-idle_handed
+returns-in_err-world-clause-idle_handed o c = idle_hands_out _ _ _
+
+pub returns-in-Ok-clause-idle_handed : goal.returns-in-Ok-clause-idle_handed
+returns-in-Ok-clause-idle_handed o c = idle_hands_out _ _ _
+
+pub returns-in-Err-clause-idle_handed : goal.returns-in-Err-clause-idle_handed
+returns-in-Err-clause-idle_handed o c = idle_hands_out _ _ _
+
+pub returns-in_err-world-clause-idle_accounted : goal.returns-in_err-world-clause-idle_accounted
+returns-in_err-world-clause-idle_accounted o c = idle_accounts _ _ _
+
+pub returns-in-Ok-clause-idle_accounted : goal.returns-in-Ok-clause-idle_accounted
+returns-in-Ok-clause-idle_accounted o c = idle_accounts _ _ _
+
+pub returns-in-Err-clause-idle_accounted : goal.returns-in-Err-clause-idle_accounted
+returns-in-Err-clause-idle_accounted o c = idle_accounts _ _ _
 
 pub returns-in_err-world-clause-diverts : goal.returns-in_err-world-clause-diverts
 returns-in_err-world-clause-diverts o c = every_rising_run_diverts _ _ _
