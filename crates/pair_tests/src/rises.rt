@@ -165,7 +165,16 @@ fn a_message_of_a_missed_life_comes_once(rt: HostRuntime) -> Result<(), Fail> {
     let waits = has(&moved, &[Fate::Waiting { link: 1 }, acked], 0, 1);
     let mut ended = played(rt.alloc(), 2, &MISSED, &then);
     let once = has(&ended, &[acked, acked], 0, 0) && is_up_at_both(&ended, 0);
-    holds(waits && once && are_taken(&mut ended, 1, &MESSAGE))
+    let done = !is_done(&moved) && is_done(&ended);
+    holds(waits && once && done && are_taken(&mut ended, 1, &MESSAGE))
+}
+
+/// Nothing of the users is left at either end, so they got all.
+fn is_done(ended: &Ended) -> bool {
+    match world_in(ended) {
+        Some(world) => world.is_idle(),
+        None => false,
+    }
 }
 
 fn is_up_at_both(ended: &Ended, link: u8) -> bool {
@@ -189,6 +198,39 @@ fn a_missed_life_is_not_to_be_joined(rt: HostRuntime) -> Result<(), Fail> {
     ];
     let mut ended = played(rt.alloc(), 2, &MISSED, &then);
     holds(are_taken(&mut ended, 2, &MESSAGE))
+}
+
+/// Were link 0 brought up at a in the life that a left, while b is in it, what a sends there begins anew with FSN 0,
+/// and b's BSN 0, of the message before, acknowledges it: a takes it for accepted, and it never is (Q.703 5.3). No
+/// promise speaks of such a run: a starts a link that it has settled, and b isn't ready for that unless it settled
+/// the link too.
+#[test]
+fn a_life_that_was_left_is_not_to_be_joined_again(rt: HostRuntime) -> Result<(), Fail> {
+    let first = [
+        "rise a 0",
+        "rise b 0",
+        "offer a 8501800020",
+        "emit a 0",
+        "arrive b 0",
+        "down a 0",
+        "noanswer a 0",
+    ];
+    let then = [
+        "rise a 0",
+        "offer a 850180002001",
+        "emit a 0",
+        "emit b 0",
+        "arrive a 0",
+        "arrive b 0",
+    ];
+    let mut ended = played(rt.alloc(), 1, &first, &then);
+    let acked = fate_at_a(&ended, 2) == Some(Fate::Acked { link: 0 });
+    holds(acked && are_taken(&mut ended, 1, &MESSAGE))
+}
+
+/// How the message of this number stands at end a.
+fn fate_at_a(ended: &Ended, number: u64) -> Option<Fate> {
+    world_in(ended)?.core(End::A).place_of(number)
 }
 
 /// The FISU that is under way to end a on link 0 has this number twice, and both indicator bits 1.
