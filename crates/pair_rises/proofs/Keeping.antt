@@ -44,7 +44,7 @@ use Rattle.pair_rises.proofs.Pair.{joins_holds, fills_holds}
 use Rattle.pair_rises.proofs.Sides.{two, off, few_off, settled_off, covered_off, sound_off, off_rises, fits_then}
 use Rattle.pair_rises.proofs.Staying.{settled_after}
 use Rattle.pair_rises.proofs.Tying.{first_tied}
-use Rattle.pair_rises.proofs.Veils.{Fits, cover_settled, seen_off, seen_sound, seen_length}
+use Rattle.pair_rises.proofs.Veils.{Fits, cover_settled, seen_off, seen_same, seen_sound, seen_length}
 
 -- HOW AN END STANDS to a link then: as it did, or it missed that life
 abbrev pub Turns : Cover → Cover → Type 0
@@ -189,6 +189,24 @@ pub record Linked (mx my : Method) (ox oy : ℕ → Cover) (sx sy : State) (x_pa
   -- an end that isn't in a life sent nothing in it
   pub none_x : (l : ℕ) → is_covered (ox l) ≡ true → x_past.sent l ≡ []
   pub none_y : (l : ℕ) → is_covered (oy l) ≡ true → y_past.sent l ≡ []
+
+-- told in other words
+pub retold : {mx my : Method} {ox oy : ℕ → Cover} {sx sy : State} {x_past y_past : Past} {out back : List (List SignalUnit)}
+    (more_x more_y : ℕ → Cover) → ((l : ℕ) → more_x l ≡ ox l) → ((l : ℕ) → more_y l ≡ oy l)
+    → Linked mx my ox oy sx sy x_past y_past out back → Linked mx my more_x more_y sx sy x_past y_past out back
+retold {mx} {my} {ox} {oy} {sx} {sy} {x_past} {y_past} {out} {back} more_x more_y near far h = record {
+  links = subst (λ (x : State). HoldsOf mx my (around x (seen_under more_y sy))) (sym (seen_same ox more_x sx near))
+      (subst (λ (y : State). HoldsOf mx my (around (seen_under ox sx) y)) (sym (seen_same oy more_y sy far)) h.links);
+  sound_x = h.sound_x;
+  sound_y = h.sound_y;
+  fit_x = λ l e. h.fit_x l (ap is_covered (sym (near l)) ∙ e);
+  fit_y = λ l e. h.fit_y l (ap is_covered (sym (far l)) ∙ e);
+  none_x = λ l e. h.none_x l (ap is_covered (sym (near l)) ∙ e);
+  none_y = λ l e. h.none_y l (ap is_covered (sym (far l)) ∙ e);
+}
+  where
+    around : State → State → Two
+    around x y = record { near = x; far = y; near_past = x_past; far_past = y_past; out = out; back = back }
 
 -- nothing was sent on a link whose life begins
 cleared_none : (k l : ℕ) (sent : ℕ → List Message) → ((k == l) ≡ false → sent l ≡ []) → cleared_at k sent l ≡ []

@@ -6,6 +6,7 @@ use Rattle.std.proofs.Common.{refl, arith, ◌≡◌, ◌∙◌, ap, sym, subst,
 use Rattle.std.proofs.lemmas.Bool.{eqb-true}
 use Rattle.std.proofs.Math.Seq.{drop-nil}
 use Rattle.std.proofs.lemmas.List.{append-nil}
+use Rattle.l2_units.specs.declared.unit.Unit.{Unit as SignalUnit}
 use Rattle.set_events.specs.declared.config.Method.{Method}
 use Rattle.set_events.specs.declared.config.SetConfig.{SetConfig}
 use Rattle.set_events.specs.declared.event.Event.{Event}
@@ -34,15 +35,16 @@ use Rattle.pair_model.proofs.Pairs.{HoldsOf}
 use Rattle.pair_model.proofs.Rising.{settled_at}
 use Rattle.pair_model.proofs.Runs.{seen}
 use Rattle.pair_model.proofs.Runs as links
-use Rattle.pair_rises.specs.Kept.{IsHonestMove, IsHonestRunOfMoves, NothingOutside, LinksAreKept, EveryHonestRisingRunKeepsLinks}
-use Rattle.pair_rises.specs.Rises.{Cover, inside, awaited, missed, is_covered, Rising, opening, open_at, is_first, risen_so, risen_at, comes_up, fills_line, moved, moved_on, as_seen, idle_at, MayRise, MayMove, AreMoves, IsPlainMove, IsRun, HoldsAllAlong, HoldsAtEachMove, HoldsBefore}
+use Rattle.pair_rises.specs.Kept.{IsHonestMove, MayComeUp, MayGoOn, IsHonestRunOfMoves, NothingOutside, LinksAreKept, EveryHonestRisingRunKeepsLinks}
+use Rattle.pair_rises.specs.Rises.{Cover, inside, awaited, missed, is_covered, Rising, opening, open_at, is_first, risen_so, risen_at, comes_up, fills_line, moved, moved_on, as_seen, idle_at, MayRise, MayMove, AreMoves, IsPlainMove, IsRun, HoldsAllAlong, HoldsAtEachMove, HoldsBefore, told_at, covers_heard}
 use Rattle.pair_rises.specs.declared.moves.Move.{Move}
 use Rattle.pair_rises.specs.declared.moves.Move.TheVariants.{Step as MoveStep, Rise, Fill}
 use Rattle.pair_rises.proofs.Arriving.{Cases, arrives}
 use Rattle.pair_rises.proofs.Covers.{off_other}
-use Rattle.pair_rises.proofs.Keeping.{Linked, turned, turns_heard, begins, joins, fills as fills_line_of, hears, tells, loses, none_taken}
+use Rattle.pair_rises.proofs.Keeping.{Linked, Turns, turned, retold, turns_heard, begins, joins, fills as fills_line_of, hears, tells, loses, none_taken}
 use Rattle.pair_rises.proofs.Runs.{first_seen}
 use Rattle.pair_rises.proofs.Veils.{Fits, same_under, seen_length}
+use Rattle.pair_rises.proofs.Waiting.{waits, wait_all, waits_covered, waits_so, waits_turn, waits_told, kept_seen}
 use Rattle.pair_rises.proofs.Worlds.{IsBare, Acts, under, IsNoArrival, step_went, passed_same, passed_world, none_told}
 
 -- GIVEN UP where the link is settled: nothing happens
@@ -71,8 +73,9 @@ elsewhere (Restore k) own told off s l on = tt
 elsewhere (BackTimeout k) own told off s l on = tt
 
 module _ (ma mb : Method) (one : IsOneMethod ma mb) where
+  -- as it's seen where a missed link is awaited still
   abbrev Holds : Rising → Type 0
-  Holds g = Linked ma mb g.open_a g.open_b g.stage.world.a.state g.stage.world.b.state g.stage.a g.stage.b g.stage.world.to_b g.stage.world.to_a
+  Holds g = Linked ma mb (wait_all g.open_a) (wait_all g.open_b) g.stage.world.a.state g.stage.world.b.state g.stage.a g.stage.b g.stage.world.to_b g.stage.world.to_a
 
   abbrev Goes : Rising → Move → Outcome → Type 0
   Goes g move outcome = OnShows outcome (λ shown new. TellsNoFault shown × Holds (moved_on g move shown new))
@@ -81,7 +84,10 @@ module _ (ma mb : Method) (one : IsOneMethod ma mb) where
     abbrev w : World
     w = g.stage.world
 
-    bare : IsBare false g.open_a g.open_b w
+    abbrev waiting : Rising
+    waiting = record g { open_a = wait_all g.open_a; open_b = wait_all g.open_b }
+
+    bare : IsBare false waiting.open_a waiting.open_b w
     bare = record {
       sound_a = h.sound_x;
       sound_b = h.sound_y;
@@ -133,38 +139,38 @@ module _ (ma mb : Method) (one : IsOneMethod ma mb) where
 
     -- A STEP, but for what arrives
     step_on : (step : Step) (outcome : Outcome) → IsNoArrival step → IsHonestMove (MoveStep step)
-        → links.Goes ma mb one (as_seen g) step (under g.open_a g.open_b outcome)
-        → OnShows outcome (λ shown new. IsBare false g.open_a g.open_b new)
+        → links.Goes ma mb one (as_seen waiting) step (under waiting.open_a waiting.open_b outcome)
+        → OnShows outcome (λ shown new. IsBare false waiting.open_a waiting.open_b new)
         → Goes g (MoveStep step) outcome
     step_on step (shows shown new) other honest goes bare_then = (
       goes.0,
       (let is = sym (passed_world g.stage step shown new) in
-          let b = subst (λ (x : World). IsBare false g.open_a g.open_b x) is bare_then in
+          let b = subst (λ (x : World). IsBare false waiting.open_a waiting.open_b x) is bare_then in
           subst Holds (sym (none_told g step shown new other)) (record {
-            links = subst (λ (s : Stage). HoldsOf ma mb (seen A s)) (passed_same g step shown new) goes.1;
+            links = subst (λ (s : Stage). HoldsOf ma mb (seen A s)) (passed_same waiting step shown new) goes.1;
             sound_x = b.sound_a;
             sound_y = b.sound_b;
             fit_x = b.fit_a;
             fit_y = b.fit_b;
-            none_x = λ l on. sent_a step shown new other honest l (none_on g.open_a new.a.state bare_then.sound_a bare_then.fit_a l on) ∙ h.none_x l on;
-            none_y = λ l on. sent_b step shown new other honest l (none_on g.open_b new.b.state bare_then.sound_b bare_then.fit_b l on) ∙ h.none_y l on;
+            none_x = λ l on. sent_a step shown new other honest l (none_on waiting.open_a new.a.state bare_then.sound_a bare_then.fit_a l on) ∙ h.none_x l on;
+            none_y = λ l on. sent_b step shown new other honest l (none_on waiting.open_b new.b.state bare_then.sound_b bare_then.fit_b l on) ∙ h.none_y l on;
           })),
     )
     step_on step impossible other honest goes bare_then = tt
     step_on step exhausted other honest goes bare_then = tt
 
-    step_holds : (step : Step) → IsHonestStep step → IsHonestMove (MoveStep step) → IsNoArrival step → Acts false g.open_a g.open_b w step → Goes g (MoveStep step) (carried_out w step)
+    step_holds : (step : Step) → IsHonestStep step → IsHonestMove (MoveStep step) → IsNoArrival step → Acts false waiting.open_a waiting.open_b w step → Goes g (MoveStep step) (carried_out w step)
     step_holds step honest move other acts =
-        let went = step_went false g.open_a g.open_b w step bare acts in
+        let went = step_went false waiting.open_a waiting.open_b w step bare acts in
         step_on step (carried_out w step) other move
-        (subst (links.Goes ma mb one (as_seen g) step) went.0 (links.step_goes ma mb one (as_seen g) h.links step honest)) went.1
+        (subst (links.Goes ma mb one (as_seen waiting) step) went.0 (links.step_goes ma mb one (as_seen waiting) h.links step honest)) went.1
 
     asked_holds : (end : End) (event : Event) → ((k : ℕ) → event ≡ NoAnswer k → open_at g end k ≡ inside)
         → Goes g (MoveStep (Act end event)) (carried_out w (Act end event))
     asked_holds A event off = step_holds (Act A event) tt tt tt
-        (λ own. (same_under g.open_a w.a.state h.fit_x event (λ l on. elsewhere event own g.open_a off w.a.state l on), λ e. absurd (let no : false ≡ true = e in cc)))
+        (λ own. (same_under waiting.open_a w.a.state h.fit_x event (λ l on. elsewhere event own waiting.open_a (λ k e. ap waits (off k e)) w.a.state l on), λ e. absurd (let no : false ≡ true = e in cc)))
     asked_holds B event off = step_holds (Act B event) tt tt tt
-        (λ own. (same_under g.open_b w.b.state h.fit_y event (λ l on. elsewhere event own g.open_b off w.b.state l on), λ e. absurd (let no : false ≡ true = e in cc)))
+        (λ own. (same_under waiting.open_b w.b.state h.fit_y event (λ l on. elsewhere event own waiting.open_b (λ k e. ap waits (off k e)) w.b.state l on), λ e. absurd (let no : false ≡ true = e in cc)))
 
     -- a changeover about a covered link is given up
     unanswered : (end : End) (k : ℕ) → is_covered (open_at g end k) ≡ true → Goes g (MoveStep (Act end (NoAnswer k))) (carried_out w (Act end (NoAnswer k)))
@@ -174,14 +180,14 @@ module _ (ma mb : Method) (one : IsOneMethod ma mb) where
         shown : (end : End) → is_covered (open_at g end k) ≡ true
             → Goes g (MoveStep (Act end (NoAnswer k))) (shows (Answered (answer_to (at_end w end) (NoAnswer k))) (with_end w end (after (at_end w end) (NoAnswer k))))
         shown A on =
-            let at = settled_at k w.a.state (h.fit_x k on) in (
+            let at = settled_at k w.a.state (h.fit_x k (waits_covered (g.open_a k) ∙ on)) in (
               unanswered_tells k w.a.state at.0 at.1,
-              subst (λ (s : State). Linked ma mb g.open_a g.open_b s w.b.state g.stage.a g.stage.b w.to_b w.to_a) (sym (unanswered_same k w.a.state at.0 at.1)) h,
+              subst (λ (s : State). Linked ma mb waiting.open_a waiting.open_b s w.b.state g.stage.a g.stage.b w.to_b w.to_a) (sym (unanswered_same k w.a.state at.0 at.1)) h,
             )
         shown B on =
-            let at = settled_at k w.b.state (h.fit_y k on) in (
+            let at = settled_at k w.b.state (h.fit_y k (waits_covered (g.open_b k) ∙ on)) in (
               unanswered_tells k w.b.state at.0 at.1,
-              subst (λ (s : State). Linked ma mb g.open_a g.open_b w.a.state s g.stage.a g.stage.b w.to_b w.to_a) (sym (unanswered_same k w.b.state at.0 at.1)) h,
+              subst (λ (s : State). Linked ma mb waiting.open_a waiting.open_b w.a.state s g.stage.a g.stage.b w.to_b w.to_a) (sym (unanswered_same k w.b.state at.0 at.1)) h,
             )
 
         go : (known full : Bool) → Goes g (MoveStep (Act end (NoAnswer k)))
@@ -210,16 +216,26 @@ module _ (ma mb : Method) (one : IsOneMethod ma mb) where
 
     -- A UNIT ARRIVES
     same_links : length w.b.state.links ≡ length w.a.state.links
-    same_links = omega (arith, h.links.far_links, seen_length g.open_a w.a.state, seen_length g.open_b w.b.state)
+    same_links = omega (arith, h.links.far_links, seen_length waiting.open_a w.a.state, seen_length waiting.open_b w.b.state)
+
+    turned_a : (k : ℕ) (unit : SignalUnit) (rest : List SignalUnit) (l : ℕ)
+        → Turns (waiting.open_a l) (wait_all (covers_heard w.a.state.settings.profile (unit ∷ rest) (Answered (answer_to w.a (HeardEvent k unit))) g.open_a) l)
+    turned_a k unit rest l = waits_turn (g.open_a l) (covers_heard w.a.state.settings.profile (unit ∷ rest) (Answered (answer_to w.a (HeardEvent k unit))) g.open_a l)
+        (turns_heard w.a.state.settings.profile (unit ∷ rest) (Answered (answer_to w.a (HeardEvent k unit))) g.open_a l)
+
+    turned_b : (k : ℕ) (unit : SignalUnit) (rest : List SignalUnit) (l : ℕ)
+        → Turns (waiting.open_b l) (wait_all (covers_heard w.b.state.settings.profile (unit ∷ rest) (Answered (answer_to w.b (HeardEvent k unit))) g.open_b) l)
+    turned_b k unit rest l = waits_turn (g.open_b l) (covers_heard w.b.state.settings.profile (unit ∷ rest) (Answered (answer_to w.b (HeardEvent k unit))) g.open_b l)
+        (turns_heard w.b.state.settings.profile (unit ∷ rest) (Answered (answer_to w.b (HeardEvent k unit))) g.open_b l)
 
     cases : Cases g (λ end k shown then. TellsNoFault shown × Holds then)
     cases = record {
       hears_a = λ k unit rest few front link at.
-          let turns = turns_heard w.a.state.settings.profile (unit ∷ rest) (Answered (answer_to w.a (HeardEvent k unit))) g.open_a in
+          let turns = turned_a k unit rest in
           (tells h one k few unit rest front link at _ turns, hears h one k few unit rest front link at _ turns);
       loses_a = λ k unit rest few front. (tt, loses h k unit rest few front);
       hears_b = λ k unit rest few front link at.
-          let turns = turns_heard w.b.state.settings.profile (unit ∷ rest) (Answered (answer_to w.b (HeardEvent k unit))) g.open_b in (
+          let turns = turned_b k unit rest in (
             tells (turned h) (one_back ma mb one) k few unit rest front link at _ turns,
             turned (hears (turned h) (one_back ma mb one) k few unit rest front link at _ turns),
           );
@@ -235,20 +251,27 @@ module _ (ma mb : Method) (one : IsOneMethod ma mb) where
     each_step (Inject end k unit) honest = absurd honest
 
     -- A RISE
+    abbrev Risen : End → ℕ → Bool → Type 0
+    Risen end k first = Holds (risen_at first end k (risen_so first w end k) g)
+
     risen_a : (k : ℕ) → is_settled k w.a.state ≡ true → (first : Bool) → is_settled k w.b.state ≡ first
-        → MayMove g (Rise A k) → is_first w A k ≡ first → Holds (risen_at first A k (risen_so first w A k) g)
-    risen_a k settled true far may e = begins h k settled far
-    risen_a k settled false far may e = joins h k (subst (λ (b : Bool). MayRise b g A k) e may)
+        → MayGoOn g (Rise A k) → is_first w A k ≡ first → Risen A k first
+    risen_a k settled true far may e = retold (wait_all (told_at k inside g.open_a)) (wait_all (told_at k awaited g.open_b))
+        (waits_told k inside g.open_a refl) (waits_told k awaited g.open_b refl) (begins h k settled far)
+    risen_a k settled false far may e = retold (wait_all (told_at k inside g.open_a)) waiting.open_b (waits_told k inside g.open_a refl) (λ l. refl)
+        (joins h k (waits_so (g.open_a k) (subst (λ (b : Bool). MayComeUp b g A k) e may)))
 
     risen_b : (k : ℕ) → is_settled k w.b.state ≡ true → (first : Bool) → is_settled k w.a.state ≡ first
-        → MayMove g (Rise B k) → is_first w B k ≡ first → Holds (risen_at first B k (risen_so first w B k) g)
-    risen_b k settled true far may e = turned (begins (turned h) k settled far)
-    risen_b k settled false far may e = turned (joins (turned h) k (subst (λ (b : Bool). MayRise b g B k) e may))
+        → MayGoOn g (Rise B k) → is_first w B k ≡ first → Risen B k first
+    risen_b k settled true far may e = retold (wait_all (told_at k awaited g.open_a)) (wait_all (told_at k inside g.open_b))
+        (waits_told k awaited g.open_a refl) (waits_told k inside g.open_b refl) (turned (begins (turned h) k settled far))
+    risen_b k settled false far may e = retold waiting.open_a (wait_all (told_at k inside g.open_b)) (λ l. refl) (waits_told k inside g.open_b refl)
+        (turned (joins (turned h) k (waits_so (g.open_b k) (subst (λ (b : Bool). MayComeUp b g B k) e may))))
 
-    rises_holds : (end : End) (k : ℕ) → MayMove g (Rise end k) → Goes g (Rise end k) (comes_up w end k)
+    rises_holds : (end : End) (k : ℕ) → MayGoOn g (Rise end k) → Goes g (Rise end k) (comes_up w end k)
     rises_holds end k may = go (has_link w k) (is_settled k (at_end w end).state) refl (is_full (at_end w end))
       where
-        shown : (end : End) → MayMove g (Rise end k) → is_settled k (at_end w end).state ≡ true
+        shown : (end : End) → MayGoOn g (Rise end k) → is_settled k (at_end w end).state ≡ true
             → Holds (moved_on g (Rise end k) CameUp (risen_so (is_first w end k) w end k))
         shown A may settled = risen_a k settled (is_settled k w.b.state) refl may refl
         shown B may settled = risen_b k settled (is_settled k w.a.state) refl may refl
@@ -261,31 +284,40 @@ module _ (ma mb : Method) (one : IsOneMethod ma mb) where
         go false settled f full = tt
 
     -- A FILL
-    fills_goes : (end : End) (k : ℕ) → MayMove g (Fill end k) → Goes g (Fill end k) (fills_line w end k)
+    fills_goes : (end : End) (k : ℕ) → MayGoOn g (Fill end k) → Goes g (Fill end k) (fills_line w end k)
     fills_goes end k may = go (has_link w k)
       where
-        filled : (end : End) → MayMove g (Fill end k) → Holds (moved_on g (Fill end k) Lost (joined w end k (idle_at w end)))
-        filled A may = fills_line_of h k may
-        filled B may = turned (fills_line_of (turned h) k may)
+        filled : (end : End) → MayGoOn g (Fill end k) → Holds (moved_on g (Fill end k) Lost (joined w end k (idle_at w end)))
+        filled A may = fills_line_of h k (waits_so (g.open_a k) may)
+        filled B may = turned (fills_line_of (turned h) k (waits_so (g.open_b k) may))
 
         go : (known : Bool) → Goes g (Fill end k) (cond known (shows Lost (joined w end k (idle_at w end))) impossible)
         go true = (tt, filled end may)
         go false = tt
 
     -- EACH MOVE
-    move_goes : (move : Move) → IsHonestMove move → MayMove g move → Goes g move (moved w move)
+    move_goes : (move : Move) → IsHonestMove move → MayGoOn g move → Goes g move (moved w move)
     move_goes (MoveStep step) honest may = each_step step honest
     move_goes (Rise end k) honest may = rises_holds end k may
     move_goes (Fill end k) honest may = fills_goes end k may
 
   nothing_outside : (g : Rising) → Holds g → NothingOutside g
-  nothing_outside g h A l on = (h.none_x l on, none_taken h l on)
-  nothing_outside g h B l on = (h.none_y l on, none_taken (turned h) l on)
+  nothing_outside g h A l on = let e = waits_covered (g.open_a l) ∙ on in (h.none_x l e, none_taken h l e)
+  nothing_outside g h B l on = let e = waits_covered (g.open_b l) ∙ on in (h.none_y l e, none_taken (turned h) l e)
+
+  keeps : (g : Rising) → Holds g → LinksKeep (as_seen g)
+  keeps g h link =
+      let k = links.links_keep ma mb one (as_seen (record g { open_a = wait_all g.open_a; open_b = wait_all g.open_b })) h.links link in
+      let fit_a : Fits g.open_a g.stage.world.a.state = λ l e. h.fit_x l (waits_covered (g.open_a l) ∙ e) in
+      let fit_b : Fits g.open_b g.stage.world.b.state = λ l e. h.fit_y l (waits_covered (g.open_b l) ∙ e) in (
+        kept_seen g.open_a g.open_b g.stage.world.a.state g.stage.world.b.state h.sound_x h.sound_y fit_a fit_b link g.stage.a g.stage.b k.0,
+        kept_seen g.open_b g.open_a g.stage.world.b.state g.stage.world.a.state h.sound_y h.sound_x fit_b fit_a link g.stage.b g.stage.a k.1,
+      )
 
   -- ALL ALONG
   onward : (g : Rising) (move : Move) (moves : List Move) (outcome : Outcome)
-      → ((later : Rising) → Holds later → HoldsBefore MayMove later moves → LinksAreKept later moves)
-      → Goes g move outcome → OnShows outcome (λ shown new. HoldsBefore MayMove (moved_on g move shown new) moves)
+      → ((later : Rising) → Holds later → HoldsBefore MayGoOn later moves → LinksAreKept later moves)
+      → Goes g move outcome → OnShows outcome (λ shown new. HoldsBefore MayGoOn (moved_on g move shown new) moves)
       → OnShows outcome (λ shown new. HoldsAllAlong (λ h. LinksKeep (as_seen h)) (moved_on g move shown new) moves)
       × OnShows outcome (λ shown new. HoldsAllAlong NothingOutside (moved_on g move shown new) moves)
       × OnShows outcome (λ shown new. TellsNoFault shown × HoldsAtEachMove (λ before done told later. TellsNoFault told) (moved_on g move shown new) moves)
@@ -295,12 +327,12 @@ module _ (ma mb : Method) (one : IsOneMethod ma mb) where
   onward g move moves impossible next goes may = (tt, tt, tt)
   onward g move moves exhausted next goes may = (tt, tt, tt)
 
-  along : (moves : List Move) (g : Rising) → Holds g → AreMoves IsHonestMove moves → HoldsBefore MayMove g moves → LinksAreKept g moves
-  along [] g h honest may = record { links = links.links_keep ma mb one (as_seen g) h.links; outside = nothing_outside g h; no_fault = tt }
+  along : (moves : List Move) (g : Rising) → Holds g → AreMoves IsHonestMove moves → HoldsBefore MayGoOn g moves → LinksAreKept g moves
+  along [] g h honest may = record { links = keeps g h; outside = nothing_outside g h; no_fault = tt }
   along (move ∷ moves) g h honest may =
       let rest = onward g move moves (moved g.stage.world move) (λ later holds mays. along moves later holds honest.1 mays)
       (move_goes g h move honest.0 may.0) may.1 in
-      record { links = (links.links_keep ma mb one (as_seen g) h.links, rest.0); outside = (nothing_outside g h, rest.1); no_fault = rest.2 }
+      record { links = (keeps g h, rest.0); outside = (nothing_outside g h, rest.1); no_fault = rest.2 }
 
 first_holds : (a b : SetConfig) (one : IsOneMethod a.method b.method) → a.links ≡ b.links → a.profile ≡ b.profile → Holds a.method b.method one (opening a b)
 first_holds a b one same profiles = record {
@@ -329,13 +361,32 @@ moves_honest : (emergencies : Bool) (moves : List Move) → AreMoves (IsPlainMov
 moves_honest em [] plain = tt
 moves_honest em (move ∷ moves) plain = (move_honest em move plain.0, moves_honest em moves plain.1)
 
+may_so : (b : Bool) (g : Rising) (end : End) (k : ℕ) → MayRise b g end k → MayComeUp b g end k
+may_so true g end k may = tt
+may_so false g end k may = ap is_covered may
+
+may_go : (g : Rising) (move : Move) → MayMove g move → MayGoOn g move
+may_go g (MoveStep step) may = tt
+may_go g (Rise end k) may = may_so (is_first g.stage.world end k) g end k may
+may_go g (Fill end k) may = ap is_covered may
+
+go_onward : (g : Rising) (move : Move) (moves : List Move) (outcome : Outcome) → ((later : Rising) → HoldsBefore MayMove later moves → HoldsBefore MayGoOn later moves)
+    → OnShows outcome (λ shown new. HoldsBefore MayMove (moved_on g move shown new) moves) → OnShows outcome (λ shown new. HoldsBefore MayGoOn (moved_on g move shown new) moves)
+go_onward g move moves (shows shown new) next may = next (moved_on g move shown new) may
+go_onward g move moves impossible next may = tt
+go_onward g move moves exhausted next may = tt
+
+may_go_on : (moves : List Move) (g : Rising) → HoldsBefore MayMove g moves → HoldsBefore MayGoOn g moves
+may_go_on [] g may = tt
+may_go_on (move ∷ moves) g may = (may_go g move may.0, go_onward g move moves (moved g.stage.world move) (λ later rest. may_go_on moves later rest) may.1)
+
 pub run_honest : (emergencies : Bool) (a b : SetConfig) (moves : List Move) → IsRun emergencies a b moves → IsHonestRunOfMoves a b moves
 run_honest em a b moves run = record {
   links = run.links;
   profiles = run.profiles;
   one_method = run.one_method;
   moves_are = moves_honest em moves run.moves_are;
-  may = run.may;
+  may = may_go_on moves (opening a b) run.may;
 }
 
 pub every_honest_run : EveryHonestRisingRunKeepsLinks

@@ -29,4 +29,5 @@ pub mod Together
 pub mod Tying
 pub mod Unveiled
 pub mod Veils
+pub mod Waiting
 pub mod Worlds

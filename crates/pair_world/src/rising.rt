@@ -70,11 +70,11 @@ impl<G: Allocator + Copy> World<G> {
     /// link that hasn't settled tells the number of the last message that its end accepted there (`OrdersTellAt`),
     /// and of each link, settled or not, what counts as acknowledged was accepted (`AckedAreTaken`).
     ///
-    /// Of every honest run of such moves (`IsHonestRunOfMoves`), in which a changeover may also be given up and a
-    /// changeback go home unacknowledged, it's proved that each link keeps its order and tells no fault in its
-    /// present life, as [`World::play`] has it of steps (`LinksAreKept`). It's told of a link as it's seen: to all
-    /// else, a link that an end hasn't joined is one that it left at once and in silence, so that end sent and
-    /// accepted nothing on it.
+    /// Of every honest run of such moves (`IsHonestRunOfMoves`), in which a changeover may also be given up, a
+    /// changeback go home unacknowledged, and a link come up in a life that its end missed, it's proved that each
+    /// link keeps its order and tells no fault in its present life, as [`World::play`] has it of steps
+    /// (`LinksAreKept`). It's told of a link as it's seen: to all else, a link that an end hasn't joined is one that
+    /// it left at once and in silence, so that end sent and accepted nothing on it.
     ///
     /// [`SetCore::late`]: set_core::SetCore::late
     pub fn play_moves(
