@@ -1,7 +1,9 @@
 pub mod Feeding
 pub mod Choices
 pub mod Links
+pub mod OneByOne
 pub mod Outages
+pub mod Passing
 pub mod Rows
 pub mod SixSteps
 pub mod Talking

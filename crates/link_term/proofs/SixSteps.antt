@@ -1,8 +1,7 @@
 -- THE STEPS OF A TURN, one after another, up to a whole turn (`TurnsOnce`), or to one that a fault or a unit of the wide
 -- profile broke off (`TurnFails`): the talk of each step is joined to those before it, and a fault ends the joined talk where
--- it ended the step's. No induction: by cases on a result and on what was chosen. Uses Talking.
-use Rattle.std.proofs.Common.{refl, sym, ap, subst, ◌≡◌, ◌∙◌, ℕ, Bool, true, false, List, [], ◌∷◌, ◌++◌, Option, Some, None, Result, Ok, Err, IfErr, IfSome, IsNone, append-nil, if◌then◌else◌}
-use mathlib.Core.List.{IsPrefix}
+-- it ended the step's. No induction: by cases on a result and on what was chosen. Uses Passing, Talking.
+use Rattle.std.proofs.Common.{refl, sym, ap, subst, ◌≡◌, ◌∙◌, ℕ, Bool, true, false, List, [], ◌∷◌, ◌++◌, Option, Some, None, Result, Ok, Err, IfErr, inl, inr, append-nil, if◌then◌else◌}
 use Rattle.std.specs.Option.{option_to_list}
 use Rattle.std.specs.Result.{IsErrAnd}
 use Rattle.l2_bits.specs.LineBits.{line_bits}
@@ -23,9 +22,12 @@ use Rattle.link_term.specs.declared.counts.Filling.{Filling}
 use Rattle.link_term.specs.declared.fault.TermFault.{TermFault}
 use Rattle.link_term.specs.Faults.{fault_of}
 use Rattle.link_term.specs.Filling.{FillsBits, Taps, filling_of, with_unit}
+use Rattle.link_term.specs.Looking.{Seen, Passes}
 use Rattle.link_term.specs.Standing.{Standing}
 use Rattle.link_term.specs.Talking.{AtDoor, Gains, Breaks}
 use Rattle.link_term.specs.Turning.{HearsMarks, BreaksMarks, from_marks, Steps, BrokenSteps, StepsTo, PutsOut, TurnsOnce, TurnBreaks, TurnFails, by_fault, by_profile}
+use Rattle.term_model.proofs.Talks.{breaks_first}
+use Rattle.link_term.proofs.Passing.{none_passed, passes_on}
 use Rattle.link_term.proofs.Talking.{gains_joined, breaks_at_first, breaks_at_last}
 
 -- the call that answers a fault of the door tells that one
@@ -122,27 +124,28 @@ wide_of f filling is wide = go f.narrow f.unit refl refl
 
 -- a fault at a command: no octet was taken
 pub breaks_at_command : (before after : Standing) → Breaks (commanded before.inside) before.made after.made
-    → after.taken ≡ before.taken → after.line.given ≡ before.line.given → after.line.put ≡ before.line.put
-    → TurnBreaks before after
-breaks_at_command before after broke took gave same =
-    let all = breaks_at_first (commanded before.inside) (λ v. from_marks [] v) before.made after.made broke in record {
-      octet = None;
-      entries = all.entries;
-      last = all.last;
-      turn = record { marks = []; gives = refl; broke_off = all.broke_off };
-      taken_is = took ∙ sym (append-nil before.taken);
-      made_is = all.made_is;
-      given_is = gave ∙ sym (append-nil before.line.given);
-      put_is = same;
-    }
+    → after.taken ≡ before.taken → after.line ≡ before.line → TurnBreaks before after
+breaks_at_command before after broke took same = record {
+  octet = None;
+  entries = broke.entries;
+  last = broke.last;
+  turn = record {
+    marks = [];
+    gives = refl;
+    broke_off = breaks_first (commanded before.inside) (λ v. from_marks [] v) broke.entries broke.last broke.broke_off;
+  };
+  taken_is = took ∙ sym (append-nil before.taken);
+  made_is = broke.made_is;
+  passes = subst (λ (l : Seen). Passes None [] before.line l) (sym same) (none_passed before.line);
+  none_waited = λ _. inr broke.broke_off;
+}
 
 -- a fault later on
 pub breaks_after : (before after : Standing) (octet : Option ℕ) (mid : AtDoor)
     → Gains (commanded before.inside) before.made mid.asked.made mid.inside
     → BrokenSteps (line_bits before.taken) octet mid after.made → after.taken ≡ before.taken ++ option_to_list octet
-    → after.line.given ≡ before.line.given ++ option_to_list octet → after.line.put ≡ before.line.put
-    → TurnBreaks before after
-breaks_after before after octet mid obeyed broke took gave same =
+    → Passes octet [] before.line after.line → (octet ≡ None → before.line.waiting ≡ []) → TurnBreaks before after
+breaks_after before after octet mid obeyed broke took passes none =
     let all = breaks_at_last (commanded before.inside) (λ v. from_marks broke.marks v) before.made mid.asked.made after.made
     mid.inside obeyed broke.breaks in record {
       octet = octet;
@@ -151,24 +154,31 @@ breaks_after before after octet mid obeyed broke took gave same =
       turn = record { marks = broke.marks; gives = broke.gives; broke_off = all.broke_off };
       taken_is = took;
       made_is = all.made_is;
-      given_is = gave;
-      put_is = same;
+      passes = passes;
+      none_waited = λ is. inl (none is);
     }
 
--- STEPS 1 TO 5 WENT: the commands, then the octet's marks, timers and the choice; nothing was put yet
-pub record FiveSteps (before : Standing) (turned : Turned) (after : Standing) (last : AtDoor) {T : Type 0}
+-- a place was known to be free only where an octet was put
+full_where_none_put : (has_room : Bool) (bits : List Bool) (free : ℕ) → (has_room ≡ false → free ≡ 0)
+    → put_of has_room bits ≡ [] → free ≡ 0
+full_where_none_put true bits free full none = absurd (cc none)
+full_where_none_put false bits free full none = full refl
+
+-- STEPS 1 TO 5 WENT: the commands, then the octet's marks, timers and the choice; so the line was, where nothing was put yet
+pub record FiveSteps (before : Standing) (turned : Turned) (after : Standing) (last : AtDoor) (line : Seen) {T : Type 0}
     (tells : T → SignalUnit → T → Type 0) (tap tap' : T) : Type 0 where
   pub octet : Option ℕ
   pub mid : AtDoor
   pub obeyed : Gains (commanded before.inside) before.made mid.asked.made mid.inside
   pub steps : Steps (line_bits before.taken) octet mid turned last tells tap tap'
   pub taken_is : after.taken ≡ before.taken ++ option_to_list octet
-  pub given_is : after.line.given ≡ before.line.given ++ option_to_list octet
+  pub passes : Passes octet [] before.line line
+  pub none_waited : octet ≡ None → before.line.waiting ≡ []
   pub made_is : after.made ≡ last.asked.made
   pub no_fault : after.faults ≡ before.faults
 
-module _ (before : Standing) (turned : Turned) (after : Standing) (last : AtDoor) {T : Type 0}
-    (tells : T → SignalUnit → T → Type 0) (tap tap' : T) (went : FiveSteps before turned after last tells tap tap') where
+module _ (before : Standing) (turned : Turned) (after : Standing) (last : AtDoor) (line : Seen) {T : Type 0}
+    (tells : T → SignalUnit → T → Type 0) (tap tap' : T) (went : FiveSteps before turned after last line tells tap tap') where
   steps : Steps (line_bits before.taken) went.octet went.mid turned last tells tap tap'
   steps = went.steps
 
@@ -179,11 +189,9 @@ module _ (before : Standing) (turned : Turned) (after : Standing) (last : AtDoor
       went.mid.inside steps.chosen went.obeyed steps.gains)
 
   -- and the sixth
-  pub turn_went : (put_mid : List ℕ) → PutsOut last.inside after.inside put_mid after.line.put after.line.free
-      → put_mid ≡ before.line.put → (went.octet ≡ None → before.line.waiting ≡ [])
-      → (turned.filling ≡ Filling.Wide → ⊥)
+  pub turn_went : PutsOut last.inside after.inside line after.line → (turned.filling ≡ Filling.Wide → ⊥)
       → (turns : TurnsOnce before turned after) × Taps tells turns.turn.chosen.unit tap tap'
-  turn_went put_mid puts same none not = (
+  turn_went puts not = (
     record {
       octet = went.octet;
       entries = all_gains.entries;
@@ -206,10 +214,11 @@ module _ (before : Standing) (turned : Turned) (after : Standing) (last : AtDoor
       taken_is = went.taken_is;
       made_is = all_gains.made_is;
       no_fault = went.no_fault;
-      given_is = went.given_is;
-      put_is = puts.put_is ∙ ap (λ (p : List ℕ). p ++ put_of puts.has_room last.inside.bits) same;
-      none_waited = none;
-      was_full = puts.was_full;
+      looks = record {
+        passes = passes_on went.octet (put_of puts.has_room last.inside.bits) before.line line after.line went.passes puts.passes;
+        none_waited = went.none_waited;
+        was_full = full_where_none_put puts.has_room last.inside.bits after.line.free puts.was_full;
+      };
       counts_are = steps.counts_are;
       filling_is = steps.filling_is;
     },
@@ -217,7 +226,7 @@ module _ (before : Standing) (turned : Turned) (after : Standing) (last : AtDoor
   )
 
   -- a unit of the wide profile was given
-  pub turn_wide : after.inside ≡ last.inside → after.line.put ≡ before.line.put → turned.filling ≡ Filling.Wide
+  pub turn_wide : after.inside ≡ last.inside → after.line ≡ line → turned.filling ≡ Filling.Wide
       → TurnFails TermFault.Profile before after × (tap' ≡ tap)
   turn_wide inside same is =
       let wide = wide_of steps.chosen turned.filling steps.filling_is is in (
@@ -227,20 +236,9 @@ module _ (before : Standing) (turned : Turned) (after : Standing) (last : AtDoor
           turn = record { marks = steps.marks; gives = steps.gives; chosen = steps.chosen; went = all_gains.went; wide = wide };
           taken_is = went.taken_is;
           made_is = all_gains.made_is;
-          given_is = went.given_is;
-          put_is = same;
+          passes = subst (λ (l : Seen). Passes went.octet [] before.line l) (sym same) went.passes;
+          none_waited = went.none_waited;
           after_is = inside ∙ steps.unchanged wide;
         }),
         steps.untold wide,
       )
-
--- what the line gave
-pub took : (octet : Option ℕ) (given given' waiting waiting' : List ℕ)
-    → IfSome octet (λ o. (given' ≡ given ++ o ∷ []) × IsPrefix waiting (o ∷ waiting'))
-    → (IsNone octet → (given' ≡ given) × (waiting ≡ []) × (waiting' ≡ [])) → given' ≡ given ++ option_to_list octet
-took (Some o) given given' waiting waiting' some none = some.0
-took None given given' waiting waiting' some none = (none refl).0 ∙ sym (append-nil given)
-
-pub none_waited : (octet : Option ℕ) (given given' waiting waiting' : List ℕ)
-    → (IsNone octet → (given' ≡ given) × (waiting ≡ []) × (waiting' ≡ [])) → octet ≡ None → waiting ≡ []
-none_waited octet given given' waiting waiting' none is = (none (subst (λ o. IsNone o) (sym is) refl)).1

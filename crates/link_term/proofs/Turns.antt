@@ -2,7 +2,7 @@
 -- but for the cause. None so far (`ran_none`), one more (`ran_more`), all of them (`ran_all`), and one that failed behind
 -- those that went whole (`run_failed`). Inductions over lists alone, for sums and for what each turn saw of the line; uses
 -- `runs_join` of `term_model`.
-use Rattle.std.proofs.Common.{refl, sym, ap, subst, arith, ◌≡◌, ◌∙◌, ℕ, ◌+◌, ◌≤◌, ◌<◌, Bool, true, false, List, [], ◌∷◌, ◌++◌, length, Option, Some, None, Result, Ok, Err, IfErr, append_assoc, append-nil, length-append}
+use Rattle.std.proofs.Common.{refl, sym, ap, subst, arith, ◌≡◌, ◌∙◌, ℕ, ◌+◌, ◌≤◌, ◌<◌, Bool, true, List, [], ◌∷◌, ◌++◌, length, Option, Some, None, Result, Ok, Err, IfErr, append_assoc, append-nil, length-append}
 use Rattle.std.proofs.lemmas.Grind.{flat_map-append}
 use Rattle.std.specs.List.{flat_map}
 use Rattle.std.specs.Result.{IsErrAnd}
@@ -20,7 +20,6 @@ use Rattle.link_term.specs.declared.counts.Filling.{Filling}
 use Rattle.link_term.specs.declared.fault.TermFault.{TermFault}
 use Rattle.link_term.specs.Filling.{filling_of, with_unit}
 use Rattle.link_term.specs.Looking.{Seen, Looks, AllLook}
-use Rattle.term_model.specs.OctetOut.{put_of}
 use Rattle.term_model.specs.Choosing.{Filled}
 use Rattle.link_term.specs.Running.{Runs, RunFails}
 use Rattle.link_term.specs.Standing.{Standing}
@@ -84,16 +83,10 @@ sent_one (Some unit) = refl
 chosen_one : (f : Filled) → f.narrow ≡ true → one_if_chosen (filling_of f) ≡ length (option_to_list f.unit)
 chosen_one f narrow = rw narrow (sent_one f.unit)
 
--- a place was known to be free only where an octet was put
-full_where_none_put : (has_room : Bool) (bits : List Bool) (out : List ℕ) (free : ℕ) → out ≡ put_of has_room bits
-    → (has_room ≡ false → free ≡ 0) → out ≡ [] → free ≡ 0
-full_where_none_put true bits out free is full none = let one = sym is ∙ none in cc
-full_where_none_put false bits out free is full none = full refl
-
 -- a turn more looked at the line
-looks_then : (doings : List Doing) (doing : Doing) (a b c : Seen) → AllLook doings a b → Looks doing b c
+looks_then : (doings : List Doing) (doing : Doing) (a b c : Seen) → AllLook doings a b → Looks doing.octet doing.put b c
     → AllLook (doings ++ doing ∷ []) a c
-looks_then [] doing a b c all one = (c, subst (λ x. Looks doing x c) all one, refl)
+looks_then [] doing a b c all one = (c, subst (λ x. Looks doing.octet doing.put x c) all one, refl)
 looks_then (d ∷ rest) doing a b c (mid, first, all) one = (mid, first, looks_then rest doing mid b c all one)
 
 -- ONE TURN MORE.
@@ -136,14 +129,9 @@ module _ (before mid after : Standing) (report report' : TermReport) (turned : T
     taken_is = grown (λ (d : Doing). option_to_list d.octet) so.doings did before.taken mid.taken after.taken so.taken_is once.taken_is;
     made_is = grown (λ (d : Doing). d.entries) so.doings did before.made mid.made after.made so.made_is once.made_is;
     no_fault = once.no_fault ∙ so.no_fault;
-    given_is = grown (λ (d : Doing). option_to_list d.octet) so.doings did before.line.given mid.line.given after.line.given so.given_is once.given_is;
-    put_is = grown (λ (d : Doing). d.put) so.doings did before.line.put mid.line.put after.line.put so.put_is once.put_is;
-    looks = looks_then so.doings did before.line mid.line after.line so.looks (record {
-      given_is = once.given_is;
-      put_is = once.put_is;
-      none_waited = once.none_waited;
-      was_full = full_where_none_put once.turn.puts.has_room once.turn.puts.bits once.out after.line.free once.turn.puts.put_is once.was_full;
-    });
+    given_is = grown (λ (d : Doing). option_to_list d.octet) so.doings did before.line.given mid.line.given after.line.given so.given_is once.looks.passes.given_is;
+    put_is = grown (λ (d : Doing). d.put) so.doings did before.line.put mid.line.put after.line.put so.put_is once.looks.passes.put_is;
+    looks = looks_then so.doings did before.line mid.line after.line so.looks once.looks;
     turns_are = omega (arith, turns, so.turns_are, length-append so.doings (did ∷ []));
     sent_are =
         let split : length (units_of (so.doings ++ did ∷ [])) ≡ length (units_of so.doings) + length (option_to_list once.turn.chosen.unit) =

@@ -1,5 +1,5 @@
 -- A TURN, as its calls tell it.
-use Rattle.std.specs.Prelude.{◌≡◌, ℕ, Bool, false, List, [], ◌∷◌, ◌++◌, Option, None, Result, MatchResult}
+use Rattle.std.specs.Prelude.{◌≡◌, ◌⊎◌, ℕ, Bool, false, List, [], ◌∷◌, ◌++◌, Option, None, Result, MatchResult}
 use Rattle.std.specs.Option.{option_to_list}
 use Rattle.l2_bits.specs.declared.marks.Mark.{Mark}
 use Rattle.l2_units.specs.declared.unit.Unit.{Unit as SignalUnit}
@@ -10,9 +10,10 @@ use Rattle.set_events.specs.declared.history.Entry.{Entry}
 use Rattle.set_events.specs.declared.fault.SetFault.{SetFault}
 use Rattle.term_model.specs.Choosing.{Filled, filled}
 use Rattle.term_model.specs.Hearing.{all_marked}
+use Rattle.term_model.specs.Obeying.{commanded}
 use Rattle.term_model.specs.OctetIn.{GivesMarks}
 use Rattle.term_model.specs.OctetOut.{Appends, put_of, left_of}
-use Rattle.term_model.specs.Talk.{Talk, and_then}
+use Rattle.term_model.specs.Talk.{Talk, and_then, BrokeOff}
 use Rattle.term_model.specs.Terminal.{Terminal}
 use Rattle.term_model.specs.Timing.{timed}
 use Rattle.term_model.specs.Turn.{IsTurn, IsBrokenTurn, IsWideTurn}
@@ -22,6 +23,7 @@ use Rattle.link_term.specs.declared.counts.Turned.{Turned}
 use Rattle.link_term.specs.declared.fault.TermFault.{TermFault}
 use Rattle.link_term.specs.Failing.{HasBroken}
 use Rattle.link_term.specs.Filling.{filling_of, Taps}
+use Rattle.link_term.specs.Looking.{Seen, Passes, Looks}
 use Rattle.link_term.specs.Octets.{counts_of}
 use Rattle.link_term.specs.Standing.{Standing}
 use Rattle.link_term.specs.Talking.{AtDoor, Gains, Breaks}
@@ -76,19 +78,18 @@ StepsTo past octet before result after tells tap tap' = MatchResult result
     × (after.asked.faults ≡ before.asked.faults ++ fault ∷ []) × (tap' ≡ tap))
 
 -- STEP 6: the next octet was put, or the line is full and it stays
-pub record PutsOut (before after : Terminal) (put put' : List ℕ) (free : ℕ) : Type 0 where
+pub record PutsOut (before after : Terminal) (line line' : Seen) : Type 0 where
   pub has_room : Bool
-  pub put_is : put' ≡ put ++ put_of has_room before.bits
+  pub passes : Passes None (put_of has_room before.bits) line line'
   pub after_is : after ≡ record before { bits = left_of has_room before.bits }
-  pub was_full : has_room ≡ false → free ≡ 0
+  pub was_full : has_room ≡ false → line'.free ≡ 0
 
 -- a report counts a unit that was appended
 abbrev pub one_if_chosen : Filling → ℕ
 one_if_chosen Filling.Chosen = 1
 one_if_chosen _ = 0
 
--- A TURN WENT: what it took of the line and put there, what the door made, and what the turn tells. Where no octet was taken
--- none waited; where none was put the line is full.
+-- A TURN WENT: what it took of the line and put there, what the door made, and what the turn tells
 pub record TurnsOnce (before : Standing) (turned : Turned) (after : Standing) : Type 0 where
   pub octet : Option ℕ
   pub entries : List Entry
@@ -98,14 +99,12 @@ pub record TurnsOnce (before : Standing) (turned : Turned) (after : Standing) : 
   pub taken_is : after.taken ≡ before.taken ++ option_to_list octet
   pub made_is : after.made ≡ before.made ++ entries
   pub no_fault : after.faults ≡ before.faults
-  pub given_is : after.line.given ≡ before.line.given ++ option_to_list octet
-  pub put_is : after.line.put ≡ before.line.put ++ out
-  pub none_waited : octet ≡ None → before.line.waiting ≡ []
-  pub was_full : turn.puts.has_room ≡ false → after.line.free ≡ 0
+  pub looks : Looks octet out before.line after.line
   pub counts_are : turned.marks ≡ counts_of marks
   pub filling_is : turned.filling ≡ filling_of turn.chosen
 
--- a fault broke it off: what the line gave by then; it took nothing
+-- a fault broke it off: what the line gave by then; it took nothing. Where it gave none, none waited, or a command broke the
+-- turn off, which comes before the line is looked at.
 pub record TurnBreaks (before after : Standing) : Type 0 where
   pub octet : Option ℕ
   pub entries : List Entry
@@ -113,18 +112,18 @@ pub record TurnBreaks (before after : Standing) : Type 0 where
   pub turn : IsBrokenTurn (line_bits before.taken) before.inside octet entries last
   pub taken_is : after.taken ≡ before.taken ++ option_to_list octet
   pub made_is : after.made ≡ before.made ++ entries
-  pub given_is : after.line.given ≡ before.line.given ++ option_to_list octet
-  pub put_is : after.line.put ≡ before.line.put
+  pub passes : Passes octet [] before.line after.line
+  pub none_waited : octet ≡ None → (before.line.waiting ≡ []) ⊎ BrokeOff (commanded before.inside) entries last
 
--- a unit of the wide profile ended it: what the line gave by then; it took nothing, and nothing of what's sent changed
+-- a unit of the wide profile ended it, behind its octet: the line took nothing, and nothing of what's sent changed
 pub record TurnIsWide (before after : Standing) : Type 0 where
   pub octet : Option ℕ
   pub entries : List Entry
   pub turn : IsWideTurn (line_bits before.taken) before.inside octet entries
   pub taken_is : after.taken ≡ before.taken ++ option_to_list octet
   pub made_is : after.made ≡ before.made ++ entries
-  pub given_is : after.line.given ≡ before.line.given ++ option_to_list octet
-  pub put_is : after.line.put ≡ before.line.put
+  pub passes : Passes octet [] before.line after.line
+  pub none_waited : octet ≡ None → before.line.waiting ≡ []
   pub after_is : after.inside ≡ turn.chosen.after
 
 -- A TURN FAILED: the door answered a fault, which is told, or gave a unit of the wide profile, whose entry stays there

@@ -4,7 +4,7 @@ ghost use Rattle.std.specs.Option.{option_to_list};
 ghost use Rattle.l2_bits.specs.LineBits.{line_bits};
 ghost use Rattle.link_term.specs.declared.counts.Filling.TheVariants.{Wide};
 ghost use Rattle.link_term.specs.Filling.{Taps};
-ghost use Rattle.link_term.specs.Standing.{standing_at};
+ghost use Rattle.link_term.specs.Standing.{seen_of, standing_at};
 ghost use Rattle.link_term.specs.Taking.{TurnsTapped};
 ghost use Rattle.link_term.specs.Talking.{at_door};
 ghost use Rattle.link_term.specs.Turning.{HearsOctet, StepsTo, PutsOut, TurnFails};
@@ -66,9 +66,7 @@ fn is_wide(filling: Filling) -> bool
 
 /// The next octet is put; where the line is full it stays for the next turn.
 fn put_octet<L: Line>(inside: &mut Inside, line: &mut L)
-    ensures puts { PutsOut inside.old inside.new (L.put_so_far line.old) (L.put_so_far line.new)
-        (L.free line.new) }
-    ensures taken { L.taken_so_far line.new ≡ L.taken_so_far line.old }
+    ensures puts { PutsOut inside.old inside.new (seen_of L.Line line.old) (seen_of L.Line line.new) }
     ensures same { L.is_same line.old line.new }
 {
     match line.put(inside.octet()) {

@@ -1,5 +1,5 @@
 -- A turn with the octet of a timeslot: that octet was taken, and one was put.
-use Rattle.std.proofs.Common.{refl, sym, ap, subst, arith, ◌≡◌, ◌∙◌, ℕ, ◌+◌, Bool, true, false, List, [], ◌∷◌, ◌++◌, take, Option, Some, None, if◌then◌else◌, zero-add}
+use Rattle.std.proofs.Common.{refl, sym, ap, subst, ◌≡◌, ◌∙◌, ℕ, ◌+◌, Bool, true, false, List, [], ◌∷◌, ◌++◌, Option, Some, None, if◌then◌else◌, zero-add}
 use Rattle.std.specs.Option.{ForSome, option_to_list}
 use Rattle.std.proofs.lemmas.List.{append_cancel_left}
 use Rattle.link_term.specs.Filling.{filling_of, with_unit}
@@ -15,10 +15,10 @@ use Rattle.set_model.specs.History.{LinkSet, IsLegal, after, entries_in}
 use Rattle.set_model.specs.State.{State}
 use Rattle.term_model.specs.Choosing.{Filled}
 use Rattle.term_model.specs.OctetIn.{GivesMarks}
-use Rattle.term_model.specs.OctetOut.{PutsOctet, put_of}
+use Rattle.term_model.specs.OctetOut.{PutsOctet}
 use Rattle.term_model.specs.Terminal.{Terminal}
 use Rattle.term_model.specs.Turn.{turn_talk}
-use Rattle.l2_bits.specs.LineBits.{line_bits, number_of}
+use Rattle.l2_bits.specs.LineBits.{line_bits}
 use Rattle.term_bench.specs.Going.{AreTold, GoesOn}
 use Rattle.term_bench.specs.Slots.{places_in}
 use Rattle.term_bench.specs.Taking.{Takes}
@@ -36,15 +36,6 @@ taken_octet (Some octet) there there' true given waiting none one same is none_w
     let both : there' ∷ [] ≡ octet ∷ [] = is ∙ ap (λ (os : List ℕ). os ++ octet ∷ []) none in cc
 taken_octet (Some octet) there there' false given waiting none one same is none_waited =
     let both : [] ≡ octet ∷ [] = is ∙ ap (λ (os : List ℕ). os ++ octet ∷ []) none in cc
-
--- an octet was put, since there was a place for it
-pub put_octet : (put : Option ℕ) (out old : List ℕ) (bits : List Bool) (has_room : Bool)
-    → old ≡ [] → option_to_list put ≡ old ++ out → out ≡ put_of has_room bits → (has_room ≡ false → places_in put ≡ 0)
-    → (octet : ℕ) × (put ≡ Some octet)
-put_octet None out old bits true none is put_is was_full =
-    let nothing : [] ≡ number_of (take 8 bits) ∷ [] = is ∙ ap (λ (os : List ℕ). os ++ out) none ∙ put_is in let no : ⊥ = cc in absurd no
-put_octet None out old bits false none is put_is was_full = let one : ◌≡◌ {A = ℕ} 1 0 = was_full refl in absurd (omega (arith, one))
-put_octet (Some octet) out old bits has_room none is put_is was_full = (octet, refl)
 
 out_is : (octet : ℕ) (put : Option ℕ) (out old : List ℕ) → put ≡ Some octet → old ≡ [] → option_to_list put ≡ old ++ out
     → out ≡ octet ∷ []
@@ -91,8 +82,9 @@ pub takes : (link link' octet : ℕ) (set set' : LinkSet) (heard heard' : ℕ) (
 takes link link' octet set set' heard heard' taken taken' before after turned there is_taken slot put given waiting old turns goes
     law law' unheard none one same unput some =
     let there_is : turns.octet ≡ Some octet =
-    taken_octet turns.octet octet there is_taken given waiting none one same turns.given_is turns.none_waited in
-    let out : turns.out ≡ put ∷ [] = out_is put slot turns.out old some unput turns.put_is in
+    taken_octet turns.octet octet there is_taken given waiting none one same turns.looks.passes.given_is
+    turns.looks.none_waited in
+    let out : turns.out ≡ put ∷ [] = out_is put slot turns.out old some unput turns.looks.passes.put_is in
     let entries : turns.entries ≡ goes.entries =
     append_cancel_left set.history turns.entries goes.entries (sym turns.made_is ∙ goes.history_is) in
     let on = leads_on set set' turns.entries law law' goes.base_is turns.made_is in
@@ -139,11 +131,11 @@ fails_by octet fault taken taken' before after link link' set set' heard heard' 
   by_set broken.told turn.octet turn.last broken.fault_is
       (subst (λ (fs : List SetFault). AreTold (entries_in set) (entries_in set') fs)
       (append_cancel_left faults goes.told (broken.told ∷ []) (sym goes.faults_are ∙ broken.faults_are)) goes.told_is).0
-      (came_is turn.octet octet there is_taken given none same turn.given_is) turn.taken_is
+      (came_is turn.octet octet there is_taken given none same turn.passes.given_is) turn.taken_is
       turn.turn,
 )
 fails_by octet fault taken taken' before after link link' set set' heard heard' there is_taken given (by_profile is unchanged turn) goes none same = (
   turn.entries,
   turn.made_is,
-  by_wide turn.octet is (came_is turn.octet octet there is_taken given none same turn.given_is) turn.taken_is turn.turn,
+  by_wide turn.octet is (came_is turn.octet octet there is_taken given none same turn.passes.given_is) turn.taken_is turn.turn,
 )
