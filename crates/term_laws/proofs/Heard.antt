@@ -7,10 +7,8 @@ use Rattle.l2_units.specs.declared.status.Status.{Status}
 use Rattle.l2_units.specs.Numbers.{status_number}
 use Rattle.l2_bits.specs.declared.marks.Mark.{Mark}
 use Rattle.term_laws.specs.Carrying.{Step, signal_unit, whole_flag, Carries, SoFar, all_heard}
-use Rattle.std.proofs.lemmas.Grind.{flat_map-append}
-use Rattle.std.specs.List.{flat_map}
-use Rattle.term_laws.specs.Damage.{Stretch, bits_in as damaged_bits, all_sent, sent_by, sent_in, AreSome, nothing, good_in}
-use Rattle.term_laws.proofs.DamageLemmas.{some-append, some_heard}
+use Rattle.term_laws.specs.Damage.{AreSome, all_sent, damaged_line, good_in, steps_by_then}
+use Rattle.term_laws.proofs.DamageLemmas.{some_heard}
 use Rattle.l2_bits.specs.Contents.{IsGood}
 use Rattle.l2_bits.specs.Flags.{flag}
 use Rattle.l2_bits.specs.LineBits.{line_bits}
@@ -29,7 +27,7 @@ use Rattle.l2_units.specs.declared.unit.Unit.{Unit as SignalUnit}
 use Rattle.l2_units.specs.Grammar.{IsUnit, IsBodyOf, body_of, head_of, length_indicator, sequence_octet, text, unit_of}
 use Rattle.l2_units.proofs.Texts.{stands_is}
 use Rattle.term_model.specs.Hearing.{unit_in}
-use Rattle.term_laws.specs.HeardLaws.{IsSendable, steps_of, AreHeard, AreDamaged}
+use Rattle.term_laws.specs.HeardLaws.{IsSendable, steps_of, AreHeard, AreDamaged, SomeHeard}
 use Rattle.term_model.specs.LineLaws.{AreOnLine, CarriesUnits}
 use Rattle.term_model.specs.OctetIn.{bits_in}
 use Rattle.term_model.specs.Runs.{Doing, AreTurns, units_of, octets_in, octets_out, marks_of}
@@ -207,28 +205,34 @@ hear_each_other sends hears taken a a' b b' rest sound first turns all others sa
 
 -- WHERE BITS WERE DAMAGED.
 
-all_stretches : (stretches : List Stretch) → flat_map sent_in stretches ≡ all_sent (flat_map (λ stretch. stretch.touched ++ stretch.kept) stretches)
-all_stretches [] = refl
-all_stretches (stretch ∷ stretches) =
-    ap (λ rest. sent_in stretch ++ rest) (all_stretches stretches)
-    ∙ ap (λ first. first ++ all_sent (flat_map (λ s. s.touched ++ s.kept) stretches)) (sym (flat_map-append sent_by stretch.touched stretch.kept))
-    ∙ sym (flat_map-append sent_by (stretch.touched ++ stretch.kept) (flat_map (λ s. s.touched ++ s.kept) stretches))
-
 texts_sent : (units : List SignalUnit) → all_sent (steps_of units) ≡ map (λ unit. text Narrow unit) units
 texts_sent [] = refl
 texts_sent (unit ∷ units) = ap (λ rest. text Narrow unit ∷ rest) (texts_sent units)
 
+-- what was sent by then are the first units
+some_of : (units : List SignalUnit) (front left : List Step) (marks : List Mark) → whole_flag ∷ steps_of units ≡ front ++ left
+    → AreSome (good_in marks) (all_sent front) → SomeHeard units front marks
+some_of units [] left marks same some =
+    record { sent = []; later = units; units_are = refl; sent_are = refl; heard = some }
+some_of units (step ∷ front) left marks same some =
+    let opening : whole_flag ≡ step = cc in
+    let rest : steps_of units ≡ front ++ left = cc in
+    let apart = steps_apart units front left rest in
+    let sent_are : map (λ unit. text Narrow unit) apart.0 ≡ all_sent (step ∷ front) =
+    sym (texts_sent apart.0) ∙ ap (λ steps. all_sent (whole_flag ∷ steps)) (sym apart.3) ∙ ap (λ s. all_sent (s ∷ front)) opening in
+    record {
+      sent = apart.0;
+      later = apart.1;
+      units_are = apart.2;
+      sent_are = sent_are;
+      heard = subst (λ all. AreSome (good_in marks) all) (sym sent_are) some;
+    }
+
 pub damage_loses : (units : List SignalUnit) (hears : List Doing) (b b' : Terminal) → AreTurns hears [] b b'
-    → AreDamaged units (line_bits (octets_in hears)) → AreSome (good_in (marks_of hears)) (map (text Narrow) units)
+    → (are : AreDamaged units (line_bits (octets_in hears)))
+    → SomeHeard units (steps_by_then are.steps are.stretches are.unended) (marks_of hears)
 damage_loses units hears b b' turns are =
-    let first = all_sent are.steps ++ flat_map sent_in are.stretches in
-    let marks : AreMarks [] (are.line ++ flat_map damaged_bits are.stretches) (marks_of hears) = subst (λ bits. AreMarks [] bits (marks_of hears)) are.bits_are (turns_give hears [] b b' turns) in
-    let some : AreSome (good_in (marks_of hears)) first = some_heard flag_first are.line are.steps are.stretches (marks_of hears) are.so_far are.kept are.shows_as_loss marks in
-    let more : AreSome (good_in (marks_of hears) ++ []) (first ++ all_sent are.left) = some-append _ first [] (all_sent are.left) some (nothing refl) in
-    let whole : first ++ all_sent are.left ≡ map (λ unit. text Narrow unit) units =
-    ap (λ all. all ++ all_sent are.left) (ap (λ rest. all_sent are.steps ++ rest) (all_stretches are.stretches)
-    ∙ sym (flat_map-append sent_by are.steps (flat_map (λ s. s.touched ++ s.kept) are.stretches)))
-    ∙ sym (flat_map-append sent_by (are.steps ++ flat_map (λ s. s.touched ++ s.kept) are.stretches) are.left)
-    ∙ ap (λ steps. all_sent steps) (sym are.sent) ∙ texts_sent units in
-    subst (λ few. AreSome few (map (λ unit. text Narrow unit) units)) (append-nil (good_in (marks_of hears)))
-    (subst (λ all. AreSome (good_in (marks_of hears) ++ []) all) whole more)
+    let marks : AreMarks [] (damaged_line are.line are.stretches are.unended) (marks_of hears) =
+    subst (λ bits. AreMarks [] bits (marks_of hears)) are.bits_are (turns_give hears [] b b' turns) in
+    some_of units (steps_by_then are.steps are.stretches are.unended) are.left (marks_of hears) are.sent
+    (some_heard flag_first are.line are.steps are.stretches are.unended (marks_of hears) are.so_far are.kept are.shows_as_loss marks)

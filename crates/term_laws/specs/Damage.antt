@@ -14,6 +14,11 @@ pub record Stretch : Type 0 where
   pub kept : List Step
   pub line : List Bool
 
+-- bits that came in place of some steps so far, and no whole flag behind them yet; there may be none
+pub record Unended : Type 0 where
+  pub damaged : List Bool
+  pub touched : List Step
+
 -- the bits of stretches
 abbrev pub bits_in : Stretch → List Bool
 bits_in stretch = (stretch.damaged ++ flag) ++ stretch.line
@@ -46,18 +51,28 @@ pub data AreSome : List (List ℕ) → List (List ℕ) → Type 0 where
   another : (octets : List ℕ) {some all rest : List (List ℕ)} → all ≡ octets ∷ rest → AreSome some rest → AreSome some all
 
 -- PREMISE: damage shows as loss: what is heard good of damaged bits was sent there
-abbrev pub ShowsAsLoss : List Bool → List Stretch → Type 0
-ShowsAsLoss past [] = Unit {0}
-ShowsAsLoss past (stretch ∷ stretches) =
-    ((marks : List Mark) → AreMarks past (stretch.damaged ++ flag) marks → AreSome (good_in marks) (all_sent stretch.touched))
-    × ShowsAsLoss (past ++ bits_in stretch) stretches
+abbrev pub HearsOf : List Step → List Bool → List Bool → Type 0
+HearsOf touched past bits = (marks : List Mark) → AreMarks past bits marks → AreSome (good_in marks) (all_sent touched)
 
-abbrev pub sent_in : Stretch → List (List ℕ)
-sent_in stretch = all_sent stretch.touched ++ all_sent stretch.kept
+abbrev pub ShowsAsLoss : List Bool → List Stretch → Unended → Type 0
+ShowsAsLoss past [] unended = HearsOf unended.touched past unended.damaged
+ShowsAsLoss past (stretch ∷ stretches) unended =
+    HearsOf stretch.touched past (stretch.damaged ++ flag) × ShowsAsLoss (past ++ bits_in stretch) stretches unended
 
--- LAW: of a line that was damaged in any number of places, some of the signal units that were sent are heard, in order, and no other
+-- the bits that came of such a line, and the steps that were sent by then
+abbrev pub damaged_line : List Bool → List Stretch → Unended → List Bool
+damaged_line line stretches unended = line ++ (flat_map bits_in stretches ++ unended.damaged)
+
+abbrev pub steps_in : Stretch → List Step
+steps_in stretch = stretch.touched ++ stretch.kept
+
+abbrev pub steps_by_then : List Step → List Stretch → Unended → List Step
+steps_by_then steps stretches unended = steps ++ (flat_map steps_in stretches ++ unended.touched)
+
+-- LAW: of a line that was damaged in any number of places, at any moment, also where no whole flag has come behind the last
+-- damaged bit, some of the signal units that were sent by then were heard, in order, and no other
 abbrev pub SomeAreHeard : Type 0
 SomeAreHeard =
-    (line : List Bool) (steps : List Step) (stretches : List Stretch) (marks : List Mark) → SoFar steps line
-    → AreKept stretches → ShowsAsLoss line stretches → AreMarks [] (line ++ flat_map bits_in stretches) marks
-    → AreSome (good_in marks) (all_sent steps ++ flat_map sent_in stretches)
+    (line : List Bool) (steps : List Step) (stretches : List Stretch) (unended : Unended) (marks : List Mark) → SoFar steps line
+    → AreKept stretches → ShowsAsLoss line stretches unended → AreMarks [] (damaged_line line stretches unended) marks
+    → AreSome (good_in marks) (all_sent (steps_by_then steps stretches unended))

@@ -1,10 +1,9 @@
 -- LAWS of the two ends of a line: what one terminal's turns put on it, another's turns hear, where the line neither loses
 -- nor changes an octet.
 use Rattle.std.specs.Prelude.{◌≡◌, ℕ, ◌<◌, ◌^◌, ◌⊎◌, Bool, List, [], ◌∷◌, ◌++◌, All, Some, map}
-use Rattle.std.specs.List.{flat_map}
 use Rattle.l2_bits.specs.declared.marks.Mark.{Mark}
 use Rattle.term_laws.specs.Carrying.{Step, signal_unit, whole_flag, SoFar, all_heard}
-use Rattle.term_laws.specs.Damage.{Stretch, bits_in, AreKept, AreSome, ShowsAsLoss, good_in}
+use Rattle.term_laws.specs.Damage.{Stretch, Unended, AreKept, AreSome, ShowsAsLoss, all_sent, damaged_line, good_in, steps_by_then}
 use Rattle.l2_bits.specs.Flags.{flag}
 use Rattle.l2_bits.specs.LineBits.{line_bits}
 use Rattle.l2_bits.specs.Marks.{AreMarks}
@@ -62,20 +61,32 @@ TerminalsHearEachOther =
     → AreTurns hears [] b b' → octets_out sends ≡ octets_in hears ++ rest
     → AreHeard (units_of sends) (line_bits (octets_in hears)) (marks_of hears)
 
--- a terminal's units, of which a first part came as it was sent, and then stretches that were damaged
+-- a terminal's units, of which a first part came as it was sent, and then stretches that were damaged, the last of which may
+-- have no end yet
 pub record AreDamaged (units : List SignalUnit) (bits : List Bool) : Type 0 where
   pub line : List Bool
   pub steps : List Step
   pub stretches : List Stretch
+  pub unended : Unended
   pub left : List Step
-  pub sent : whole_flag ∷ steps_of units ≡ (steps ++ flat_map (λ stretch. stretch.touched ++ stretch.kept) stretches) ++ left
+  pub sent : whole_flag ∷ steps_of units ≡ steps_by_then steps stretches unended ++ left
   pub so_far : SoFar steps line
   pub kept : AreKept stretches
-  pub shows_as_loss : ShowsAsLoss line stretches
-  pub bits_are : bits ≡ line ++ flat_map bits_in stretches
+  pub shows_as_loss : ShowsAsLoss line stretches unended
+  pub bits_are : bits ≡ damaged_line line stretches unended
 
--- LAW: where damage shows as loss, a terminal hears some of the units that the other sent, in order, and no other
+-- of these units the first ones were sent by these steps, and some of them were heard, in order, and no other
+pub record SomeHeard (units : List SignalUnit) (steps : List Step) (marks : List Mark) : Type 0 where
+  pub sent : List SignalUnit
+  pub later : List SignalUnit
+  pub units_are : units ≡ sent ++ later
+  pub sent_are : map (text Narrow) sent ≡ all_sent steps
+  pub heard : AreSome (good_in marks) (map (text Narrow) sent)
+
+-- LAW: where damage shows as loss, a terminal has heard at any moment some of the units that the other has sent by then, in
+-- order, and no other
 abbrev pub DamageOnlyLoses : Type 0
 DamageOnlyLoses =
     (units : List SignalUnit) (hears : List Doing) (b b' : Terminal) → AreTurns hears [] b b'
-    → AreDamaged units (line_bits (octets_in hears)) → AreSome (good_in (marks_of hears)) (map (text Narrow) units)
+    → (are : AreDamaged units (line_bits (octets_in hears)))
+    → SomeHeard units (steps_by_then are.steps are.stretches are.unended) (marks_of hears)

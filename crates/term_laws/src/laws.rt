@@ -19,15 +19,15 @@ pub fn what_is_put_is_heard()
     ensures sealed { HeardIsSealed }
 {}
 
-/// Of a line that was damaged in any number of places, where damage shows as loss, some of the signal units that were
-/// sent are heard, in order, and no other.
+/// Of a line that was damaged in any number of places, where damage shows as loss, at any moment some of the signal units
+/// that were sent by then were heard, in order, and no other: also before a whole flag has come behind the last damaged bit.
 pub fn damage_only_loses()
     ensures { SomeAreHeard }
 {}
 
 /// Over a line that neither loses nor changes an octet one terminal hears just the units that the other sends, each as
-/// soon as all its bits have come, and no damaged one; over a line that damages bits, some of them, in order, and no
-/// other, where damage shows as loss (Q.703 3, 4).
+/// soon as all its bits have come, and no damaged one; over a line that damages bits, at any moment some of those that
+/// were sent by then, in order, and no other, where damage shows as loss (Q.703 3, 4).
 pub fn terminals_hear_each_other()
     ensures join { StretchesJoin }
     ensures marks { TurnsGiveMarks }
