@@ -7,3 +7,6 @@ pub mod WaitingLemmas
 pub mod HearingLemmas
 pub mod OneLemmas
 pub mod LateLemmas
+pub mod MarksThere
+pub mod NarrowThere
+pub mod TurnsThere

@@ -7,3 +7,4 @@ pub mod Late
 pub mod Laws
 pub mod Waiting
 pub mod Going
+pub mod Ready

@@ -1,5 +1,6 @@
 //! Laws that speak of definitions alone.
 ghost use Rattle.term_bench.specs.Laws.{TurnsAreOfTerminals};
+ghost use Rattle.term_bench.specs.Ready.{EachIsHeard};
 ghost use Rattle.term_bench.specs.Talks.{TalksAreLegal};
 ghost use Rattle.term_bench.specs.Waiting.{AsManyArePut, OctetsAreWhole, OneHearing};
 ghost use Rattle.term_model.specs.Choosing.{Filled};
@@ -21,7 +22,8 @@ pub fn as_many_octets_are_put()
 {}
 
 /// A law: bits that come, in whatever pieces, decide what the turns do, the units that they append, and what the bench is
-/// then.
+/// then. And in pieces of an octet at most they are heard, at each link of a bench whose set is of the narrow profile.
 pub fn bits_have_one_hearing()
-    ensures { OneHearing }
+    ensures one { OneHearing }
+    ensures there { EachIsHeard }
 {}

@@ -1,3 +1,4 @@
 pub mod RowLemmas
 pub mod HearingLemmas
 pub mod OpenLemmas
+pub mod TextThere

@@ -119,3 +119,7 @@ terminal_rules = record {
 -- THE TEXT: lines of at most 4,096 octets, counted from 1; a remark prints nothing (text_lines, specs/Talks.antt)
 abbrev pub IsTerminalText : List ℕ → Printed TerminalFault → Type 0
 IsTerminalText = IsTalkText terminal_rules
+
+-- LAW: each input has a text
+abbrev pub HasText : Type 0
+HasText = (input : List ℕ) → (text : Printed TerminalFault) × IsTerminalText input text

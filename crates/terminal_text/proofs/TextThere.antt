@@ -1,0 +1,338 @@
+-- EACH INPUT OF `terminal` HAS A TEXT (`text_there`): an induction over its lines, each of which has an outcome (`line_there`) from
+-- every bench that lines before it may leave (`IsReady`, TurnsThere of term_bench). With `one_outcome` (specs/One) it's the only one.
+use Rattle.std.proofs.Common.{refl, sym, subst, arith, ◌≡◌, ◌∙◌, ◌<◌, ◌≤◌, ◌%◌, ◌&&◌, nat_lt, is_none, ℕ, zero, suc, Bool, true, false, List, [], ◌∷◌, ◌++◌, length, map, Option, None, Some, slice_set, if◌then◌else◌, codes}
+use Rattle.std.proofs.lemmas.Bool.Decides.{nat_tests}
+use Rattle.std.proofs.lemmas.List.{length_push}
+use Rattle.std.specs.Option.{ForSome, option_and_then}
+use Rattle.std.specs.Str.{bytes_eq}
+use Rattle.l2_bits.specs.Flags.{flag}
+use Rattle.l2_bits.specs.LineBits.{bits_of}
+use Rattle.l2_bits.proofs.BitLemmas.{length-bits_of}
+use Rattle.l2_units.specs.declared.profile.Profile.{Profile}
+use Rattle.l2_units.specs.declared.profile.Profile.TheVariants.{Narrow, Wide}
+use Rattle.script_grammar.specs.Script.{first_line, first_word, fitting, is_end_of, other_words, opening_words, values_of}
+use Rattle.script_grammar.specs.declared.script.Values.{Values}
+use Rattle.set_events.specs.Config.{fault_of}
+use Rattle.set_events.specs.declared.config.Method.{Method}
+use Rattle.set_events.specs.declared.event.Event.{Event}
+use Rattle.set_events.specs.declared.history.Entry.{Entry}
+use Rattle.set_model.specs.History.{based}
+use Rattle.set_model.specs.Sound.{IsSettings}
+use Rattle.set_model.specs.State.{Settings}
+use Rattle.set_model.specs.Step.{step}
+use Rattle.set_model.proofs.Checkpointing.{checkpoints}
+use Rattle.set_model.proofs.Soundness.{opened_sound}
+use Rattle.term_bench.specs.Ends.{AtLink, BenchState, new_link, new_links, told_at}
+use Rattle.term_bench.specs.Ready.{AreShort, FewWait, IsReady}
+use Rattle.term_bench.proofs.BenchLemmas.{there_is}
+use Rattle.term_bench.proofs.NarrowThere.{step_gives}
+use Rattle.term_bench.proofs.TurnsThere.{few_set, length_set, pieces_there}
+use Rattle.term_model.specs.declared.command.Command.{Command}
+use Rattle.term_model.specs.declared.timers.Timers.{Timers}
+use Rattle.terminal_script.specs.Lines.{asked_of}
+use Rattle.terminal_script.specs.Timers.{Lengths, length_in, lengths_behind, lengths_of, that_run, timers_of}
+use Rattle.terminal_script.specs.declared.asked.Asked.{Asked}
+use Rattle.terminal_text.specs.Answers.{CommandsBy, Does, Exchanges, HearsLine, asker, bits_in, done_text, is_below, is_refused, link_in, one_by_one, unit_bits}
+use Rattle.terminal_text.specs.Showing.{over}
+use Rattle.terminal_text.specs.Text.{HasText, MayDo, MayDoAt, MayFollow, MayOpen, MayOpenAs, MayRead, Opens, TerminalOutcome, opened_bench, settings_of, terminal_rules, told_lengths, usual}
+use Rattle.terminal_text.specs.declared.fault.TerminalFault.{TerminalFault}
+use Rattle.terminal_text.specs.declared.fault.TerminalFault.TheVariants.{Step, Text}
+use Rattle.terminal_text.specs.declared.open_end.End.{End as EndState}
+use Rattle.text_lines.specs.Flaws.{flaw_of}
+use Rattle.text_lines.specs.Lines.{is_remark, lines_of, prints, stops}
+use Rattle.text_lines.specs.Talks.{IsTextOfLines, MayBe}
+use Rattle.text_lines.specs.declared.flaw.LineFlaw.TheVariants.{Long}
+use Rattle.text_printing.specs.Printing.{Printed, behind}
+
+-- A BENCH THAT IS OPENED is ready.
+few_push : (links : List AtLink) (last : AtLink) → FewWait links → length last.waiting < 8 → FewWait (links ++ last ∷ [])
+few_push [] last few short zero at there =
+    let same : last ≡ at = cc in subst (λ (a : AtLink). length a.waiting < 8) same short
+few_push [] last few short (suc n) at there = absurd (cc there)
+few_push (x ∷ links) last few short zero at there = few 0 at there
+few_push (x ∷ links) last few short (suc n) at there = few_push links last (λ k a is. few (suc k) a is) short n at there
+
+few_new : (lengths : Timers) (links : ℕ) → FewWait (new_links lengths links)
+few_new lengths zero = λ n at there. absurd (cc there)
+few_new lengths (suc links) = few_push (new_links lengths links) (new_link lengths links) (few_new lengths links) (omega arith)
+
+so_many_new : (lengths : Timers) (links : ℕ) → length (new_links lengths links) ≡ links
+so_many_new lengths zero = refl
+so_many_new lengths (suc links) =
+    omega (arith, length_push (new_links lengths links) (new_link lengths links), so_many_new lengths links)
+
+opened_ready : (settings : Settings) (lengths : Timers) → IsSettings settings → settings.profile ≡ Narrow
+    → IsReady settings.links (opened_bench settings lengths)
+opened_ready settings lengths is narrow = record {
+  gives = record { sound = opened_sound settings is; settings = is; narrow = narrow };
+  settings = is;
+  narrow = narrow;
+  count = so_many_new lengths settings.links;
+  few = few_new lengths settings.links;
+}
+
+-- TIMERS of lengths that are told.
+abbrev Run : Lengths → Type 0
+Run l = (0 < l.t1) × (0 < l.t2) × (0 < l.t3) × (0 < l.t5) × (0 < l.t6) × (0 < l.t7)
+
+timers_there : (l : Lengths) → Run l → (timers : Timers) × (timers_of timers ≡ l)
+timers_there l run = (
+  record {
+    t1 = l.t1;
+    t2 = l.t2;
+    t3 = l.t3;
+    t5 = l.t5;
+    t6 = l.t6;
+    t7 = l.t7;
+    t1_set = run.0;
+    t2_set = run.1;
+    t3_set = run.2;
+    t5_set = run.3;
+    t6_set = run.4;
+    t7_set = run.5;
+  },
+  refl,
+)
+
+usual_run : Run usual
+usual_run = (omega arith, omega arith, omega arith, omega arith, omega arith, omega arith)
+
+then_for : {X Y : Type 0} (P : Y → Type 0) (next : X → Option Y) (found : Option X) → ((x : X) → ForSome (next x) P)
+    → ForSome (option_and_then next found) P
+then_for P next None all = λ y there. absurd (cc there)
+then_for P next (Some x) all = all x
+
+if_for : {X : Type 0} (P : X → Type 0) (b : Bool) (x : X) → (b ≡ true → P x) → ForSome (if b then Some x else None) P
+if_for P true x holds = λ y there. let same : x ≡ y = cc in subst P same (holds refl)
+if_for P false x holds = λ y there. absurd (cc there)
+
+that_run_for : (l : Lengths) → ForSome (that_run l) Run
+that_run_for l = λ m there. grind (arith, nat_tests, there)
+
+behind_for : (words : List ℕ) → ForSome (lengths_behind words) Run
+behind_for words =
+    then_for Run _ (other_words words) (λ w2. then_for Run _ (other_words w2) (λ w3. then_for Run _ (other_words w3) (λ w5.
+    then_for Run _ (other_words w5) (λ w6. then_for Run _ (other_words w6) (λ w7.
+    then_for Run _ (length_in (codes "t1=") (first_word words)) (λ t1. then_for Run _ (length_in (codes "t2=") (first_word w2)) (λ t2.
+    then_for Run _ (length_in (codes "t3=") (first_word w3)) (λ t3. then_for Run _ (length_in (codes "t5=") (first_word w5)) (λ t5.
+    then_for Run _ (length_in (codes "t6=") (first_word w6)) (λ t6. then_for Run _ (length_in (codes "t7=") w7) (λ t7.
+    that_run_for (record { t1 = t1; t2 = t2; t3 = t3; t5 = t5; t6 = t6; t7 = t7 }))))))))))))
+
+lengths_for : (line : List ℕ) → ForSome (lengths_of line) Run
+lengths_for line = go (bytes_eq (first_word line) (codes "timers"))
+  where
+    go : (b : Bool) → ForSome (if b then option_and_then lengths_behind (other_words line) else None) Run
+    go true = then_for Run lengths_behind (other_words line) behind_for
+    go false = λ l there. absurd (cc there)
+
+told_for : (is_new : Bool) (line : List ℕ) → ForSome (told_lengths is_new line) Run
+told_for true line = lengths_for line
+told_for false line = λ l there. absurd (cc there)
+
+-- THE FIRST LINE.
+end_fits : (profile : Profile) (links opc dpc sio : ℕ) (method : Method) → is_none (fault_of profile links opc dpc sio method) ≡ true
+    → (1 ≤ links) × (links ≤ 16) × (sio % 16 ≡ 0)
+end_fits profile links opc dpc sio method is = grind (arith, nat_tests, is)
+
+both_first : (a b : Bool) → a && b ≡ true → a ≡ true
+both_first true b is = refl
+both_first false b is = is
+
+fit_for : (v : Values) → ForSome (fitting v) (λ w. IsSettings (settings_of w))
+fit_for v =
+    if_for (λ w. IsSettings (settings_of w)) (is_end_of v v.code_a v.code_b && is_end_of v v.code_b v.code_a) v
+    (λ both. let fits = end_fits v.profile v.links v.code_a v.code_b v.sio v.method
+    (both_first (is_end_of v v.code_a v.code_b) (is_end_of v v.code_b v.code_a) both) in
+    record { some_link = fits.0; at_most_16 = fits.1; managed = fits.2 })
+
+first_for : (line : List ℕ) → ForSome (first_line line) (λ v. IsSettings (settings_of v))
+first_for line =
+    let P : Values → Type 0 = λ v. IsSettings (settings_of v) in
+    then_for P _ (opening_words line) (λ w. then_for P _ (values_of w) fit_for)
+
+-- AN OUTCOME THERE IS, and the end goes on from a bench that is ready
+abbrev IsGoing : Option EndState → Type 0
+IsGoing None = Unit {0}
+IsGoing (Some end) = (links : ℕ) × IsReady links end.bench
+
+abbrev GoesWell : TerminalOutcome → Type 0
+GoesWell (prints printed next) = IsGoing next
+GoesWell (stops fault) = Unit {0}
+
+abbrev Has : (TerminalOutcome → Type 0) → Type 0
+Has May = (outcome : TerminalOutcome) × May outcome × GoesWell outcome
+
+opens_there : (settings : Settings) (told : Lengths) (is_new : Bool) → IsSettings settings → settings.profile ≡ Narrow → Run told
+    → Has (Opens settings told is_new)
+opens_there settings told is_new is narrow run =
+    let timers = timers_there told run in (
+      prints [] (Some (record { bench = opened_bench settings timers.0; is_new = is_new })),
+      record { lengths = timers.0; lengths_are = timers.1; outcome_is = refl },
+      (settings.links, opened_ready settings timers.0 is narrow),
+    )
+
+open_as_there : (profile : Profile) (n : ℕ) (line : List ℕ) (v : Values) → IsSettings (settings_of v) → Has (MayOpenAs profile n line v)
+open_as_there Narrow n line v is = opens_there (settings_of v) usual true is refl usual_run
+open_as_there Wide n line v is = (stops (Text n (flaw_of line)), refl, tt)
+
+open_there : (n : ℕ) (line : List ℕ) (found : Option Values) → ForSome found (λ v. IsSettings (settings_of v)) → Has (MayOpen n line found)
+open_there n line None is = (stops (Text n (flaw_of line)), refl, tt)
+open_there n line (Some v) is = open_as_there v.profile n line v (is v refl)
+
+-- WHAT A LATER LINE ASKS FOR is done.
+abbrev IsDoneThere : ℕ → Asked → BenchState → Type 0
+IsDoneThere links asked old = (printed : List ℕ) × (new : BenchState) × Does asked old printed new × IsReady links new
+
+below : (link links : ℕ) → nat_lt link links ≡ true → link < links
+below link links is = grind (arith, nat_tests, is)
+
+command_there : (links link : ℕ) (command : Command) (refused : Bool) (old : BenchState) → IsReady links old → link < links
+    → (printed : List ℕ) × (new : BenchState) × CommandsBy refused link command old printed new × IsReady links new
+command_there links link command true old ready is = (codes "refused 7\n", old, (refl, refl), ready)
+command_there links link command false old ready is =
+    let there = there_is old.links link (subst (λ n. link < n) (sym ready.count) is) in
+    let now : AtLink = told_at command there.0 in (
+      done_text,
+      record { set = old.set; links = slice_set old.links link now },
+      (refl, record { was = there.0; is_at = there.1; links_are = refl; set_is = refl }),
+      record {
+        gives = ready.gives;
+        settings = ready.settings;
+        narrow = ready.narrow;
+        count = length_set old.links link now ∙ ready.count;
+        few = few_set old.links link now ready.few (ready.few link there.0 there.1);
+      },
+    )
+
+octets_short : (octets : List ℕ) → AreShort (map (bits_of 8) octets)
+octets_short [] = tt
+octets_short (octet ∷ octets) = (omega (arith, length-bits_of 8 octet), octets_short octets)
+
+bits_short : (bits : List Bool) → AreShort (one_by_one bits)
+bits_short [] = tt
+bits_short (bit ∷ bits) = (omega arith, bits_short bits)
+
+hears_there : (links link : ℕ) (bits : List Bool) (old : BenchState) → IsReady links old → link < links
+    → (printed : List ℕ) × (new : BenchState) × HearsLine link bits old printed new × IsReady links new
+hears_there links link bits old ready is =
+    let all = pieces_there links link (one_by_one bits) old ready is (bits_short bits) in
+    (_, all.1, record { heard = all.0; hears = all.2; printed_is = refl }, all.3)
+
+exchanges_there : (links link : ℕ) (octets : List ℕ) (old : BenchState) → IsReady links old → link < links
+    → (printed : List ℕ) × (new : BenchState) × Exchanges link octets old printed new × IsReady links new
+exchanges_there links link octets old ready is =
+    let all = pieces_there links link (map (bits_of 8) octets) old ready is (octets_short octets) in
+    (_, all.1, record { heard = all.0; hears = all.2; printed_is = refl }, all.3)
+
+event_there : (links : ℕ) (event : Event) (old : BenchState) → IsReady links old → IsDoneThere links (Asked.Event event) old
+event_there links event old ready =
+    let answer = (step old.set.state event).answer in
+    let entry : Entry = record { who = asker event; event = event; answer = answer } in (
+      _,
+      record {
+        set = record { base = old.set.base; state = (step old.set.state event).state; history = old.set.history ++ entry ∷ [] };
+        links = old.links;
+      },
+      record {
+        answer = answer;
+        step = record { base_is = refl; answer_is = refl; state_is = refl; history_is = refl };
+        links_are = refl;
+        printed_is = refl;
+      },
+      record {
+        gives = (step_gives old.set.state event ready.gives).1;
+        settings = ready.settings;
+        narrow = ready.narrow;
+        count = ready.count;
+        few = ready.few;
+      },
+    )
+
+checkpoint_there : (links : ℕ) (old : BenchState) → IsReady links old → IsDoneThere links Asked.Checkpoint old
+checkpoint_there links old ready = (
+  _,
+  record { set = based old.set; links = old.links },
+  (refl, refl),
+  record {
+    gives = record {
+      sound = (checkpoints old.set.state).sound ready.gives.sound;
+      settings = ready.gives.settings;
+      narrow = ready.gives.narrow;
+    };
+    settings = ready.gives.settings;
+    narrow = ready.gives.narrow;
+    count = ready.count;
+    few = ready.few;
+  },
+)
+
+does_there : (links : ℕ) (asked : Asked) (old : BenchState) → IsReady links old → is_below links (link_in asked) ≡ true
+    → IsDoneThere links asked old
+does_there links (Asked.Command link command) old ready is =
+    command_there links link command (is_refused command link old) old ready (below link links is)
+does_there links (Asked.Octets link octets) old ready is = exchanges_there links link octets old ready (below link links is)
+does_there links (Asked.Hear link unit) old ready is =
+    hears_there links link (over unit.times (unit_bits unit.octets)) old ready (below link links is)
+does_there links (Asked.Flags link times) old ready is = hears_there links link (over times flag) old ready (below link links is)
+does_there links (Asked.Bits link bits) old ready is =
+    hears_there links link (over bits.times (bits_in bits.octets)) old ready (below link links is)
+does_there links (Asked.Event event) old ready is = event_there links event old ready
+does_there links (Asked.Look link) old ready is =
+    let there = there_is old.links link (subst (λ n. link < n) (sym ready.count) (below link links is)) in
+    (_, old, record { at = there.0; is_at = there.1; printed_is = refl; new_is = refl }, ready)
+does_there links Asked.Checkpoint old ready is = checkpoint_there links old ready
+does_there links Asked.History old ready is = (_, old, (refl, refl), ready)
+
+do_at_there : (there : Bool) (links n : ℕ) (asked : Asked) (old : BenchState) → IsReady links old
+    → (there ≡ true → is_below links (link_in asked) ≡ true) → Has (MayDoAt there n asked old)
+do_at_there false links n asked old ready is = (stops (Step n), refl, tt)
+do_at_there true links n asked old ready is =
+    let all = does_there links asked old ready (is refl) in (
+      prints all.0 (Some (record { bench = all.1; is_new = false })),
+      record { printed = all.0; new = all.1; does = all.2; outcome_is = refl },
+      (links, all.3),
+    )
+
+do_there : (links n : ℕ) (line : List ℕ) (found : Option Asked) (old : BenchState) → IsReady links old → Has (MayDo n line found old)
+do_there links n line None old ready = (stops (Text n (flaw_of line)), refl, tt)
+do_there links n line (Some asked) old ready =
+    do_at_there (is_below (length old.links) (link_in asked)) links n asked old ready
+    (λ is. subst (λ k. is_below k (link_in asked) ≡ true) ready.count is)
+
+follow_there : (links n : ℕ) (line : List ℕ) (told : Option Lengths) (old : BenchState) → IsReady links old → ForSome told Run
+    → Has (MayFollow n line told old)
+follow_there links n line None old ready run = do_there links n line (asked_of line) old ready
+follow_there links n line (Some told) old ready run =
+    opens_there old.set.base.state.settings told false ready.settings ready.narrow (run told refl)
+
+line_there : (n : ℕ) (state : Option EndState) (line : List ℕ) → IsGoing state → Has (MayRead n state line)
+line_there n None line going = open_there n line (first_line line) (first_for line)
+line_there n (Some end) line going =
+    follow_there going.0 n line (told_lengths end.is_new line) end.bench going.1 (told_for end.is_new line)
+
+-- THE LINES, one after another.
+may_be_there : (long remark : Bool) (n : ℕ) (state : Option EndState) (line : List ℕ) → IsGoing state
+    → Has (MayBe long remark terminal_rules n state line)
+may_be_there true remark n state line going = (stops (Text n Long), refl, tt)
+may_be_there false true n state line going = (prints [] state, refl, going)
+may_be_there false false n state line going = line_there n state line going
+
+abbrev HasLines : ℕ → Option EndState → List (List ℕ) → Type 0
+HasLines n state lines = (text : Printed TerminalFault) × IsTextOfLines terminal_rules n state lines text
+
+line_then : (n : ℕ) (state : Option EndState) (line : List ℕ) (lines : List (List ℕ)) (outcome : TerminalOutcome)
+    → MayBe (nat_lt 4096 (length line)) (is_remark line) terminal_rules n state line outcome → GoesWell outcome
+    → ((next : Option EndState) → IsGoing next → HasLines (suc n) next lines) → HasLines n state (line ∷ lines)
+line_then n state line lines (stops fault) may well later =
+    (record { printed = []; fault = Some fault }, (stops fault, may, refl))
+line_then n state line lines (prints printed next) may well later =
+    let rest = later next well in (behind printed rest.0, (prints printed next, may, (rest.0, rest.1, refl)))
+
+lines_there : (n : ℕ) (state : Option EndState) (lines : List (List ℕ)) → IsGoing state → HasLines n state lines
+lines_there n state [] going = (_, refl)
+lines_there n state (line ∷ lines) going =
+    let one = may_be_there (nat_lt 4096 (length line)) (is_remark line) n state line going in
+    line_then n state line lines one.0 one.1 one.2 (λ next well. lines_there (suc n) next lines well)
+
+pub text_there : HasText
+text_there input = lines_there 1 None (lines_of input) tt
