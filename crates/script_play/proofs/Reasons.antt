@@ -14,8 +14,7 @@ use Rattle.pair_steps.specs.declared.step.End.TheVariants.{A, B}
 use Rattle.pair_steps.specs.declared.step.Shown.TheVariants.{Answered, Up as CameUp, Lost}
 use Rattle.pair_steps.specs.declared.step.Step.{Step}
 use Rattle.pair_steps.specs.declared.step.Step.TheVariants.{Act, Emit, Arrive, Lose, Together, Inject}
-use Rattle.pair_model.specs.World.{World, shows, impossible, exhausted, at_end, with_end, line_to, with_line, actor_of, answer_to, after, is_full, has_link, has_actor, acts, sends_on, emits, reaches, front_arrives, arrives, loses, risen, is_settled_at_both, rises, has_own_step, done_by, carried_out}
-use Rattle.pair_model.specs.World.{joined}
+use Rattle.pair_model.specs.World.{World, shows, impossible, exhausted, at_end, with_end, line_to, with_line, joined, actor_of, answer_to, after, is_full, has_link, has_actor, acts, sends_on, emits, reaches, front_arrives, arrives, loses, risen, is_settled_at_both, rises, has_own_step, done_by, carried_out}
 use Rattle.pair_rises.specs.declared.moves.Move.{Move}
 use Rattle.pair_rises.specs.declared.moves.Move.TheVariants.{Step as MoveStep, Rise, Fill}
 use Rattle.pair_rises.specs.Rises.{comes_up, fills_line, idle_at, is_first, moved, risen_so}
