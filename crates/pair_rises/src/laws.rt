@@ -7,7 +7,8 @@ ghost use Rattle.pair_rises.specs.Rises.{EveryRisingRunKeepsStreams, EveryRising
 
 /// Whatever is lost, and also where a changeover is given up: on each link, as it's seen, the bodies that the far end
 /// accepted are the first of those that were sent in its present life, and what counts as acknowledged was accepted,
-/// for as long as the link isn't settled. And no unit that is heard tells a fault (Q.703 5 and 6).
+/// for as long as the link isn't settled. An end that hasn't joined a life, or missed it, sent and accepted nothing in
+/// it. And no unit that is heard tells a fault (Q.703 5 and 6).
 pub fn every_honest_rising_run_keeps_links()
     ensures { EveryHonestRisingRunKeepsLinks }
 {}
