@@ -1,5 +1,5 @@
 -- What a call leaves at a seat of which all calls are known, and what it forgets.
-use Rattle.std.proofs.Common.{arith, ◌≡◌, ◌∙◌, ap, sym, ◌-◌, ◌≤◌, inl, inr, ℕ, List, [], ◌∷◌, ◌++◌, length, take, drop, Result, Ok, Err, IfOk, OnErr}
+use Rattle.std.proofs.Common.{arith, refl, ◌≡◌, ◌∙◌, ap, sym, ◌-◌, ◌≤◌, inl, inr, ℕ, List, [], ◌∷◌, ◌++◌, length, take, drop, true, Result, Ok, Err, IfOk, IfErr, OnOk}
 use Rattle.std.proofs.lemmas.List.{append_assoc, append-nil, drop_all, length-append, length-drop, take-append-drop, take_all}
 use Rattle.std.proofs.lemmas.Bool.{cases_lt}
 use Rattle.set_events.specs.declared.answer.Answer.{Answer}
@@ -7,26 +7,49 @@ use Rattle.set_events.specs.declared.event.Event.{Event}
 use Rattle.set_events.specs.declared.fault.SetFault.{SetFault}
 use Rattle.set_events.specs.declared.history.Entry.{Entry}
 use Rattle.set_ledger.specs.declared.share.Forgotten.{Forgotten}
-use Rattle.set_ledger.specs.Seats.{Forgets, Receives, SeatState}
+use Rattle.set_ledger.specs.Seats.{Forgets, Receives, SeatState, refused}
 use Rattle.bank_crew.specs.declared.caller.Forgetting.{Forgetting}
 use Rattle.bank_crew.specs.Jobs.{Calls}
 use Rattle.bank_crew.specs.Seats.{gone, joined}
 
-pub called : (event : Event) (result : Result Answer SetFault) (front : List Entry) (old new : SeatState) → IfOk result (λ answer. Receives old event answer new) → OnErr result (new ≡ old)
+-- AT A FAULT a seat is as it was, but for what it was told of a full history
+refused_receipts : (fault : SetFault) (seat : SeatState) → (refused fault seat).receipts ≡ seat.receipts
+refused_receipts SetFault.NoMemory seat = refl
+refused_receipts SetFault.Exhausted seat = refl
+
+refused_who : (fault : SetFault) (seat : SeatState) → (refused fault seat).who ≡ seat.who
+refused_who SetFault.NoMemory seat = refl
+refused_who SetFault.Exhausted seat = refl
+
+refused_forgotten : (fault : SetFault) (seat : SeatState) → (refused fault seat).forgotten ≡ seat.forgotten
+refused_forgotten SetFault.NoMemory seat = refl
+refused_forgotten SetFault.Exhausted seat = refl
+
+pub full_told : {T : Type 0} (result : Result T SetFault) (old new : SeatState) → IfErr result (λ fault. new ≡ refused fault old) → result ≡ Err SetFault.Exhausted → new.full ≡ true
+full_told (Ok done) old new err is = absurd (cc is)
+full_told (Err SetFault.NoMemory) old new err is = absurd (cc is)
+full_told (Err SetFault.Exhausted) old new err is = ap (λ (seat : SeatState). seat.full) err
+
+pub full_kept : {T : Type 0} (result : Result T SetFault) (old new : SeatState) (event : Event) (answer : Answer) → OnOk result (Receives old event answer new) → IfErr result (λ fault. new ≡ refused fault old) → old.full ≡ true → new.full ≡ true
+full_kept (Ok done) old new event answer receives err is = receives.full_same ∙ is
+full_kept (Err SetFault.NoMemory) old new event answer receives err is = ap (λ (seat : SeatState). seat.full) err ∙ is
+full_kept (Err SetFault.Exhausted) old new event answer receives err is = ap (λ (seat : SeatState). seat.full) err
+
+pub called : (event : Event) (result : Result Answer SetFault) (front : List Entry) (old new : SeatState) → IfOk result (λ answer. Receives old event answer new) → IfErr result (λ fault. new ≡ refused fault old)
     → Calls old.who event result (front ++ old.receipts) (front ++ new.receipts)
 called event (Ok answer) front old new receives err =
     let entry : Entry = record { who = old.who; event = event; answer = answer } in
     ap (λ (more : List Entry). front ++ more) receives.receipt ∙ sym (append_assoc front old.receipts (entry ∷ []))
-called event (Err fault) front old new receives err = ap (λ (seat : SeatState). front ++ seat.receipts) err
+called event (Err fault) front old new receives err = ap (λ (seat : SeatState). front ++ seat.receipts) err ∙ ap (λ (rs : List Entry). front ++ rs) (refused_receipts fault old)
 
-pub same_who : (event : Event) (result : Result Answer SetFault) (old new : SeatState) → IfOk result (λ answer. Receives old event answer new) → OnErr result (new ≡ old) → new.who ≡ old.who
+pub same_who : (event : Event) (result : Result Answer SetFault) (old new : SeatState) → IfOk result (λ answer. Receives old event answer new) → IfErr result (λ fault. new ≡ refused fault old) → new.who ≡ old.who
 same_who event (Ok answer) old new receives err = receives.who_same
-same_who event (Err fault) old new receives err = ap (λ (seat : SeatState). seat.who) err
+same_who event (Err fault) old new receives err = ap (λ (seat : SeatState). seat.who) err ∙ refused_who fault old
 
 -- no call forgets
-pub as_many : (event : Event) (result : Result Answer SetFault) (many : ℕ) (old new : SeatState) → IfOk result (λ answer. Receives old event answer new) → OnErr result (new ≡ old) → many ≡ old.forgotten.calls → many ≡ new.forgotten.calls
+pub as_many : (event : Event) (result : Result Answer SetFault) (many : ℕ) (old new : SeatState) → IfOk result (λ answer. Receives old event answer new) → IfErr result (λ fault. new ≡ refused fault old) → many ≡ old.forgotten.calls → many ≡ new.forgotten.calls
 as_many event (Ok answer) many old new receives err is = is ∙ sym (ap (λ (f : Forgotten). f.calls) receives.forgotten_same)
-as_many event (Err fault) many old new receives err is = is ∙ sym (ap (λ (seat : SeatState). seat.forgotten.calls) err)
+as_many event (Err fault) many old new receives err is = is ∙ sym (ap (λ (seat : SeatState). seat.forgotten.calls) err ∙ ap (λ (f : Forgotten). f.calls) (refused_forgotten fault old))
 
 -- what's gone, and what's left, are what was there
 pub split : {X : Type 0} (many : ℕ) (xs ys : List X) → ys ≡ drop many xs → take (length xs - length ys) xs ++ ys ≡ xs

@@ -1,10 +1,10 @@
 -- What threads promise, one after another, and what comes of it.
-use Rattle.std.proofs.Common.{refl, arith, ◌≡◌, ◌∙◌, ap, sym, subst, ◌+◌, ◌<◌, ◌≤◌, inl, inr, ℕ, zero, suc, List, [], ◌∷◌, ◌++◌, map, length, drop, All, Option, None, Result}
+use Rattle.std.proofs.Common.{refl, arith, ◌≡◌, ◌∙◌, ap, sym, subst, ◌+◌, ◌<◌, ◌≤◌, inl, inr, true, ℕ, zero, suc, List, [], ◌∷◌, ◌++◌, map, length, drop, All, Option, None, Result, Err}
 use Rattle.std.specs.Option.{option_to_list, unwrap_or}
 use Rattle.std.specs.List.{AllZip}
 use Rattle.std.proofs.lemmas.List.{append_assoc, length-append, length-map, map-append}
 use Rattle.std.proofs.lemmas.Bool.{cases_lt}
-use Rattle.std.proofs.lemmas.List.Elements.{All-head, All-tail}
+use Rattle.std.proofs.lemmas.List.Elements.{All-cons, All-head, All-nil, All-tail}
 use Rattle.set_events.specs.declared.books.Books.{Books}
 use Rattle.set_events.specs.declared.event.Actor.{Actor}
 use Rattle.set_events.specs.declared.event.Actor.TheVariants.{User, Terminal}
@@ -116,6 +116,17 @@ did_jobs user jobs (p ∷ ps) (end ∷ ends) books history are each faithful = (
   did_one user p.user end.seat (duty_of p.job.value) (first_or no_duty jobs) end.told books history are.0.0 each.0.0 are.0.1 (All-head (IsFaithful books history) end.seat _ faithful) each.0.1,
   did_jobs (suc user) (drop 1 jobs) ps ends books history are.1 each.1 (All-tail (IsFaithful books history) end.seat _ faithful),
 )
+
+-- WHO TELLS OF A FULL HISTORY tells the truth.
+pub told_truth : {P R F : Type 0} (kept : P → Ended SeatState (Result R F) → Type 0) (exhausted : F) (full : Type 0) → ((p : P) (end : Ended SeatState (Result R F)) → kept p end → end.told ≡ Err exhausted → end.seat.full ≡ true)
+    → (ps : List P) (ends : List (Ended SeatState (Result R F))) → AllZip kept ps ends → All (λ (seat : SeatState). seat.full ≡ true → full) (map (λ (end : Ended SeatState (Result R F)). end.seat) ends)
+    → All (λ (told : Result R F). told ≡ Err exhausted → full) (map (λ (end : Ended SeatState (Result R F)). end.told) ends)
+told_truth kept exhausted full keeps [] [] each all = All-nil (λ told. told ≡ Err exhausted → full)
+told_truth kept exhausted full keeps [] (end ∷ ends) each all = absurd each
+told_truth kept exhausted full keeps (p ∷ ps) [] each all = absurd each
+told_truth kept exhausted full keeps (p ∷ ps) (end ∷ ends) each all =
+    All-cons (λ told. told ≡ Err exhausted → full) end.told _ (λ told. All-head (λ (seat : SeatState). seat.full ≡ true → full) end.seat _ all (keeps p end each.0 told))
+    (told_truth kept exhausted full keeps ps ends each.1 (All-tail (λ (seat : SeatState). seat.full ≡ true → full) end.seat _ all))
 
 -- as many were waited for as were started
 pub many_kept : {P S T : Type 0} (kept : P → Ended S T → Type 0) (ps : List P) (seats : List S) (told : List T) → AreKept kept ps seats told → length told ≡ length ps

@@ -1,11 +1,12 @@
 -- What a set came to whose seats were gathered.
-use Rattle.std.proofs.Common.{arith, ◌≡◌, ◌∙◌, ap, sym, subst, ℕ, min, map, List, ◌++◌, length, All, Result, Ok, Err, IfOk}
-use Rattle.set_ledger.specs.Ending.{IsFaithful}
+use Rattle.std.proofs.Common.{arith, ◌≡◌, ◌∙◌, ap, sym, subst, ℕ, min, map, List, [], ◌∷◌, ◌++◌, length, All, Result, Ok, Err, IfOk}
+use Rattle.set_ledger.specs.Ending.{IsFaithful, IsTrulyFull}
+use Rattle.std.proofs.lemmas.List.Elements.{All-cons, All-head, All-nil, All-tail}
 use Rattle.set_ledger.specs.Seats.{SeatState}
 use Rattle.bank_crew.specs.declared.end.SetEnd.{SetEnd}
 use Rattle.bank_crew.specs.declared.fault.CrewFault.{CrewFault}
 use Rattle.bank_crew.specs.declared.fault.UserFault.{UserFault}
-use Rattle.bank_crew.specs.Ends.{IsDone, IsEndOf, Task}
+use Rattle.bank_crew.specs.Ends.{AreTrulyFull, EndsFull, IsDone, IsEndOf, Task}
 use Rattle.bank_crew.specs.Jobs.{DidJobs}
 use Rattle.bank_crew.specs.Keeping.{AreTerminals, AreUsers, KeepsJob, KeepsShift}
 use Rattle.bank_crew.specs.Shifts.{DidShifts}
@@ -13,12 +14,17 @@ use Rattle.bank_crew.specs.declared.crew.Ended.{Ended}
 use Rattle.link_term.specs.declared.fault.TermFault.{TermFault}
 use Rattle.bank_crew.specs.declared.report.ShiftReport.{ShiftReport}
 use Rattle.bank_crew.specs.declared.report.UserReport.{UserReport}
-use Rattle.bank_crew.proofs.Doing.{asked_nothing, did_jobs, did_shifts, many_kept}
+use Rattle.bank_crew.proofs.Doing.{asked_nothing, did_jobs, did_shifts, many_kept, told_truth}
+
+-- the first of some
+front_of : {X : Type 0} (P : X → Type 0) (xs ys : List X) → All P (xs ++ ys) → All P xs
+front_of P [] ys all = All-nil P
+front_of P (x ∷ xs) ys all = All-cons P x xs (All-head P x (xs ++ ys) all) (front_of P xs ys (All-tail P x (xs ++ ys) all))
 
 pub is_done : (task : Task) (result : Result SetEnd CrewFault) (many links : ℕ) (users terminals : List SeatState)
     (told : List (Result UserReport UserFault)) (reports : List (Result ShiftReport TermFault))
-    → IfOk result (IsEndOf task.config) → IfOk result (λ end. (end.users.items ≡ told) × All (IsFaithful end.closed.base.books end.closed.history.items) users)
-    → IfOk result (λ end. All (IsFaithful end.closed.base.books end.closed.history.items) terminals) → IfOk result (λ end. end.reports.items ≡ reports)
+    → IfOk result (IsEndOf task.config) → IfOk result (λ end. (end.users.items ≡ told) × All (IsFaithful end.closed.base.books end.closed.history.items) users × All (IsTrulyFull end.closed.base end.closed.history.items) users)
+    → IfOk result (λ end. All (IsFaithful end.closed.base.books end.closed.history.items) terminals × All (IsTrulyFull end.closed.base end.closed.history.items) terminals) → IfOk result (λ end. end.reports.items ≡ reports)
     → AreUsers many task.jobs users told → many ≡ task.users
     → AreTerminals task.lines links task.plan terminals reports → links ≡ task.config.links → IfOk result (IsDone task)
 is_done task (Err fault) many links users terminals told reports closed of_users of_terminals of_reports us all_users them all_links = tt
@@ -29,7 +35,7 @@ is_done task (Ok end) many links users terminals told reports closed of_users of
     let kept = them.gathered.kept in
     let seats : terminals ≡ map (λ (end : Ended SeatState (Result ShiftReport TermFault)). end.seat) kept.ends ++ them.idle =
     them.gathered.seats_are ∙ ap (λ (front : List SeatState). front ++ them.idle) kept.seats_are in
-    let shifts = did_shifts 0 task.plan them.promises kept.ends them.idle books history them.promised.are kept.each (subst (All (IsFaithful books history)) seats of_terminals) in
+    let shifts = did_shifts 0 task.plan them.promises kept.ends them.idle books history them.promised.are kept.each (subst (All (IsFaithful books history)) seats of_terminals.0) in
     let count = many_kept KeepsShift them.promises them.gathered.run reports kept in
     record {
       closed = closed;
@@ -40,4 +46,11 @@ is_done task (Ok end) many links users terminals told reports closed of_users of
       idle = λ link from to.
           asked_nothing (length them.promises) link them.idle books history them.promised.new shifts.1
           (omega (arith, from, them.promised.many)) (omega (arith, to, all_links, them.promised.all));
+      users_full = subst (AreTrulyFull UserFault.Exhausted end) (sym (of_users.0 ∙ us.kept.told_are))
+          (told_truth KeepsJob UserFault.Exhausted (EndsFull end) (λ p e kept. kept.2) us.promises us.kept.ends us.kept.each
+          (subst (All (IsTrulyFull end.closed.base history)) us.kept.seats_are of_users.2));
+      terminals_full = subst (AreTrulyFull TermFault.Exhausted end) (sym (of_reports ∙ kept.told_are))
+          (told_truth KeepsShift TermFault.Exhausted (EndsFull end) (λ p e kept. kept.2) them.promises kept.ends kept.each
+          (front_of (IsTrulyFull end.closed.base history) (map (λ (end : Ended SeatState (Result ShiftReport TermFault)). end.seat) kept.ends) them.idle
+          (subst (All (IsTrulyFull end.closed.base history)) seats of_terminals.1)));
     }

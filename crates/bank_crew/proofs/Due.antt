@@ -1,15 +1,16 @@
 -- What level 3 asks is due, entry by entry.
-use Rattle.std.proofs.Common.{refl, ◌≡◌, ap, sym, subst, ℕ, zero, suc, Bool, true, false, List, [], ◌∷◌, ◌++◌, Option, None, Some, Result, Ok, Err, OnOk, OnErr}
-use Rattle.std.specs.Prelude.{IsSome}
+use Rattle.std.proofs.Common.{refl, ◌≡◌, ap, sym, subst, not, ◌&&◌, ◌+◌, ℕ, zero, suc, Bool, true, false, List, [], ◌∷◌, ◌++◌, Option, None, Some, Result, Ok, Err, OnOk, OnErr}
+use Rattle.std.specs.Prelude.{IsSome, if◌then◌else◌}
 use Rattle.set_events.specs.declared.answer.Answer.{Answer}
 use Rattle.set_events.specs.declared.event.Event.{Event}
 use Rattle.set_events.specs.declared.fault.SetFault.{SetFault}
 use Rattle.set_events.specs.declared.history.Entry.{Entry}
 use Rattle.bank_crew.specs.declared.plan.Managed.{Managed}
 use Rattle.bank_crew.specs.declared.questions.Awaited.{Awaited}
-use Rattle.bank_crew.specs.Awaiting.{AsksDue, AsksFrom, asked_at_rest, asked_late, awaited_behind, awaited_by, nothing, rested}
-use Rattle.bank_crew.specs.Doors.{AskedDue, AsksIf, DoorState, Follows, IsRefused, IsRestRefused, Rests, Unasked, due_at_rest, due_in, hearing, resting}
-use Rattle.bank_crew.specs.Managing.{turns_mark}
+use Rattle.bank_crew.specs.declared.manager.Sight.{Sight}
+use Rattle.bank_crew.specs.Awaiting.{AsksDue, AsksFrom, asked_at, asked_at_rest, asked_late, awaited_at, awaited_behind, awaited_by, nothing, rested}
+use Rattle.bank_crew.specs.Doors.{AskedDue, AsksIf, DoorState, Follows, IsLookRefused, IsRefused, Looks, Unasked, due_at, due_in, hearing, looking}
+use Rattle.bank_crew.specs.Managing.{look_mark, turns_mark}
 use Rattle.bank_crew.specs.Seats.{link_in}
 
 -- SOME ENTRIES, AND MORE
@@ -26,9 +27,9 @@ module _ (managed : Option Managed) (link : ℕ) (b : Awaited) (t : Option Event
   joined (suc zero ∷ marks) (e ∷ entries) a d is = joined marks entries (awaited_behind link e.event e.answer a) (asked_late false managed link e.event e.answer a) is
   joined (suc (suc zero) ∷ marks) [] a d is = absurd is
   joined (suc (suc zero) ∷ marks) (e ∷ entries) a d is = joined marks entries (awaited_behind link e.event e.answer a) (asked_late true managed link e.event e.answer a) is
-  joined (suc (suc (suc m)) ∷ marks) entries a d is = joined marks entries (rested a) (asked_at_rest managed link a) is
+  joined (suc (suc (suc m)) ∷ marks) entries a d is = joined marks entries (awaited_at m a) (asked_at m managed link a) is
 
--- one entry of a turn alone, and a slice at rest
+-- one entry of a turn alone
 turn_alone : (late : Bool) (managed : Option Managed) (link : ℕ) (b : Awaited) (t : Option Event) (entry : Entry)
     → AsksDue managed link b t (turns_mark late ∷ []) (entry ∷ []) (awaited_behind link entry.event entry.answer b) (asked_late late managed link entry.event entry.answer b)
 turn_alone true managed link b t entry = (refl, refl)
@@ -101,14 +102,31 @@ step_due before mid after event answer late result made is_marked same managed_s
         (joined managed link before.awaited was.0 (turns_mark late ∷ []) (entry ∷ []) (awaited_behind link event answer before.awaited) (asked_late late managed link event answer before.awaited)
         (turn_alone late managed link before.awaited was.0 entry) before.marks before.all nothing None was.1))
 
--- A SLICE AT REST, and what level 3 asks then
-pub rest_due : (before after : DoorState) (result : Result (Unit {0}) SetFault) → after.managed ≡ before.managed → link_in after.seat.who ≡ link_in before.seat.who
-    → OnOk result (Rests before after) → OnErr result (IsRestRefused before after) → AskedDue before → AskedDue after
-rest_due before after result managed link ok err due =
-    due_on before after managed link (asks_or before.managed (link_in before.seat.who) (resting before) after (due_at_rest before) result ok err
-    (along before.managed (link_in before.seat.who) (before.all ++ []) before.all (before.marks ++ 3 ∷ []) (before.marks ++ 3 ∷ []) (rested before.awaited) (rested before.awaited) (due_at_rest before)
+-- A LOOK, and what level 3 asks then
+look_by : (managed : Option Managed) (link : ℕ) (b : Awaited) (t : Option Event) (out settled late : Bool)
+    → AsksDue managed link b t ((3 + ((if out then 4 else 0) + ((if settled then 2 else 0) + (if late then 1 else 0)))) ∷ []) [] (if (out && not settled) then rested b else b) (if (out && not settled) then asked_at_rest managed link b else None)
+look_by managed link b t true true true = (refl, refl)
+look_by managed link b t true true false = (refl, refl)
+look_by managed link b t true false true = (refl, refl)
+look_by managed link b t true false false = (refl, refl)
+look_by managed link b t false true true = (refl, refl)
+look_by managed link b t false true false = (refl, refl)
+look_by managed link b t false false true = (refl, refl)
+look_by managed link b t false false false = (refl, refl)
+
+look_alone : (managed : Option Managed) (link : ℕ) (b : Awaited) (t : Option Event) (out : Bool) (sight : Sight)
+    → AsksDue managed link b t (look_mark out sight ∷ []) [] (if (out && not sight.settled) then rested b else b) (if (out && not sight.settled) then asked_at_rest managed link b else None)
+look_alone managed link b t out sight = look_by managed link b t out sight.settled sight.late
+
+pub look_due : (before after : DoorState) (out : Bool) (sight : Sight) (result : Result (Unit {0}) SetFault) → after.managed ≡ before.managed → link_in after.seat.who ≡ link_in before.seat.who
+    → OnOk result (Looks out sight before after) → OnErr result (IsLookRefused out sight before after) → AskedDue before → AskedDue after
+look_due before after out sight result managed link ok err due =
+    due_on before after managed link (asks_or before.managed (link_in before.seat.who) (looking out sight before) after (due_at out sight before) result ok err
+    (along before.managed (link_in before.seat.who) (before.all ++ []) before.all (before.marks ++ look_mark out sight ∷ []) (looking out sight before).marks (looking out sight before).awaited
+    (looking out sight before).awaited (due_at out sight before)
     (sym (none_more before.all)) refl refl
-    (joined before.managed (link_in before.seat.who) before.awaited due.0 (3 ∷ []) [] (rested before.awaited) (due_at_rest before) (refl, refl) before.marks before.all nothing None due.1)))
+    (joined before.managed (link_in before.seat.who) before.awaited due.0 (look_mark out sight ∷ []) [] (looking out sight before).awaited (due_at out sight before)
+    (look_alone before.managed (link_in before.seat.who) before.awaited due.0 out sight) before.marks before.all nothing None due.1)))
 
 -- no entries, nothing asked
 pub none_due : (managed : Option Managed) (link : ℕ) (entries : List Entry) (marks : List ℕ) (awaited : Awaited) → entries ≡ [] → marks ≡ [] → awaited ≡ nothing → AsksFrom managed link marks entries awaited

@@ -7,6 +7,7 @@ pub mod Doing
 pub mod Done
 pub mod Due
 pub mod Ending
+pub mod Full
 pub mod Keeping
 pub mod Marking
 pub mod Running

@@ -1,5 +1,6 @@
 -- A terminal's turns.
-use Rattle.std.proofs.Common.{refl, true, ap, ap₂, ◌≡◌, ◌∙◌, sym, subst, ◌/◌, ◌-◌, ◌<◌, ◌≤◌, ℕ, Bool, Option, None, Some, List, [], Result, Ok, Err, IfOk, IfErr, MatchResult}
+use Rattle.std.proofs.Common.{refl, true, ap, ap₂, ◌≡◌, ◌∙◌, sym, subst, ◌/◌, ◌-◌, ◌<◌, ◌≤◌, ℕ, Bool, Option, None, Some, List, [], ◌∷◌, ◌++◌, length, Result, Ok, Err, IfOk, IfErr, MatchResult}
+use Rattle.std.proofs.lemmas.List.{append-nil, append_assoc}
 use Rattle.std.specs.Option.{option_eq}
 use Rattle.std.specs.Prelude.{nat_eq}
 use Rattle.term_model.specs.declared.report.TermReport.{TermReport}
@@ -18,36 +19,50 @@ use Rattle.bank_crew.specs.Carrying.{carried_in}
 use Rattle.bank_crew.specs.Counts.{answered_in, reported}
 use Rattle.bank_crew.specs.declared.questions.Awaited.{Awaited}
 use Rattle.bank_crew.specs.Awaiting.{AsksFrom}
-use Rattle.bank_crew.specs.Managing.{are_marks, of_turns}
+use Rattle.bank_crew.specs.Managing.{Look, are_marks, looks_in, of_turns}
 use Rattle.line_tape.specs.Taping.{IsTape}
 use Rattle.link_term.specs.Looking.{Seen}
 use Rattle.link_term.specs.Standing.{Standing, standing}
 use Rattle.bank_crew.specs.declared.manager.Sight.{Sight}
-use Rattle.bank_crew.specs.Shifts.{AfterHalf, DoesShift, Halves, Turns, TurnsBy, Slices, SlicesFrom, all_taken, broken_off, told_end, one_more, TurnsOf, TurnsWhere, both, fresh, is_to_fail, longest_slice, Slice}
+use Rattle.bank_crew.specs.Shifts.{AfterHalf, DoesShift, Halves, Turns, TurnsBy, Slices, SlicesFrom, all_taken, broken_off, told_end, one_more, TurnsOf, TurnsWhere, both, fresh, is_to_fail, look_at, look_of, longest_slice, Slice}
 
 -- it went, or it failed
 pub either_way : (A : Type 0) (P : TermReport → Type 0) (Q : TermFault → Type 0) (result : Result TermReport TermFault) → IfOk result (λ report. A × P report) → IfErr result Q → MatchResult result P Q
 either_way A P Q (Ok report) went failed = went.1
 either_way A P Q (Err fault) went failed = failed
 
-pub turned_from : (turns : ℕ) (told : Result TermReport TermFault) (before before' after : Standing) → Turns turns told before' after → before' ≡ before → Turns turns told before after
-turned_from turns told before before' after is same = subst (λ (it : Standing). Turns turns told it after) same is
+pub turned_from : (turns : ℕ) (told : Result TermReport TermFault) (looks : List Look) (before before' after : Standing) → Turns turns told looks before' after → before' ≡ before → Turns turns told looks before after
+turned_from turns told looks before before' after is same = subst (λ (it : Standing). Turns turns told looks it after) same is
 
-pub by_halves : (turns : ℕ) (first : Result TermReport TermFault) (report : TermReport) (ended : Result TermReport TermFault) (before between after : Standing) → first ≡ Ok report → Turns (turns / 2) first before between → AfterHalf turns (Ok report) ended between after
-    → Halves turns ended before after
-by_halves turns first report ended before between after is went rest =
-    (first, between, went, subst (λ (f : Result TermReport TermFault). AfterHalf turns f ended between after) (sym is) rest)
+pub by_halves : (turns : ℕ) (first : Result TermReport TermFault) (report : TermReport) (ended : Result TermReport TermFault) (seen more : List Look) (before between after : Standing) → first ≡ Ok report → Turns (turns / 2) first seen before between
+    → AfterHalf turns (Ok report) ended more between after → Halves turns ended (seen ++ more) before after
+by_halves turns first report ended seen more before between after is went rest = record {
+  first = first;
+  seen = seen;
+  between = between;
+  half = went;
+  more = more;
+  rest = subst (λ (f : Result TermReport TermFault). AfterHalf turns f ended more between after) (sym is) rest;
+  looks_are = refl;
+}
 
-pub by_first_half : (turns : ℕ) (first : Result TermReport TermFault) (fault : TermFault) (before between : Standing) → first ≡ Err fault → Turns (turns / 2) first before between → Halves turns (Err fault) before between
-by_first_half turns first fault before between is went =
-    (first, between, went, subst (λ (f : Result TermReport TermFault). AfterHalf turns f (Err fault) between between) (sym is) (refl, refl))
+pub by_first_half : (turns : ℕ) (first : Result TermReport TermFault) (fault : TermFault) (seen : List Look) (before between : Standing) → first ≡ Err fault → Turns (turns / 2) first seen before between → Halves turns (Err fault) seen before between
+by_first_half turns first fault seen before between is went = record {
+  first = first;
+  seen = seen;
+  between = between;
+  half = went;
+  more = [];
+  rest = subst (λ (f : Result TermReport TermFault). AfterHalf turns f (Err fault) [] between between) (sym is) (refl, refl, refl);
+  looks_are = sym (append-nil seen);
+}
 
 -- A SHIFT, from a new terminal on
-pub shift_of : (plan : Plan) (link number : ℕ) (counts : Result TermReport TermFault) (ended : Result ShiftReport TermFault) (answered : Answered) (carried : Carried) (tape : Option (List ℕ)) (marks : List ℕ) (awaited : Awaited) (before after : Standing) (made : List Entry)
-    → TurnsOf plan number counts before after → before.taken ≡ [] → before.inside ≡ told Start (told Emergency (opened number plan.timers))
+pub shift_of : (plan : Plan) (link number : ℕ) (counts : Result TermReport TermFault) (ended : Result ShiftReport TermFault) (answered : Answered) (carried : Carried) (tape : Option (List ℕ)) (marks : List ℕ) (looks : List Look) (awaited : Awaited) (before after : Standing) (made : List Entry)
+    → TurnsOf plan number counts looks before after → looks_in marks ≡ looks → before.taken ≡ [] → before.inside ≡ told Start (told Emergency (opened number plan.timers))
     → before.made ≡ [] → before.faults ≡ [] → number ≡ link → are_marks number marks made ≡ true → AsksFrom plan.managed number marks made awaited → of_turns marks made ≡ after.made → ended ≡ reported answered carried tape counts
     → answered ≡ answered_in number made → carried ≡ carried_in plan.managed number made → before.line.put ≡ [] → IsTape plan.keeps tape after.line.put → DoesShift plan link ended made
-shift_of plan link number counts ended answered carried tape marks awaited before after made turned taken_is inside_is made_is faults_is same marked asks end_is told_is counted carries none taped =
+shift_of plan link number counts ended answered carried tape marks looks awaited before after made turned looked taken_is inside_is made_is faults_is same marked asks end_is told_is counted carries none taped =
     let new = told Start (told Emergency (opened number plan.timers)) in
     let start : before ≡ fresh number plan.timers before.line =
     ap (λ (t : List ℕ). standing t before.inside before.made before.faults before.line) taken_is
@@ -59,8 +74,9 @@ shift_of plan link number counts ended answered carried tape marks awaited befor
       line = before.line;
       after = after;
       counts = counts;
-      turns = subst (λ (b : Standing). TurnsOf plan number counts b after) start turned;
       marks = marks;
+      turns = subst (λ (ls : List Look). TurnsOf plan number counts ls (fresh number plan.timers before.line) after) (sym looked)
+          (subst (λ (b : Standing). TurnsOf plan number counts looks b after) start turned);
       marks_are = marked;
       awaited = awaited;
       asks = asks;
@@ -75,35 +91,45 @@ shift_of plan link number counts ended answered carried tape marks awaited befor
 pub looked_on : (taken : List ℕ) (inside : Terminal) (line : Seen) (made made' : List Entry) (faults faults' : List SetFault) → made' ≡ made → faults' ≡ faults → standing taken inside made' faults' line ≡ standing taken inside made faults line
 looked_on taken inside line made made' faults faults' same quiet = ap₂ (λ (m : List Entry) (f : List SetFault). standing taken inside m f line) same quiet
 
+-- it saw how the terminal stood
+pub look_seen : (made : List Entry) (out is : Bool) (sight : Sight) → out ≡ is → look_of (length made) out sight ≡ look_of (length made) is sight
+look_seen made out is sight same = ap (λ (o : Bool). look_of (length made) o sight) same
+
+-- ONE LOOK MORE of a door: behind these from that one on
+pub looks_on : (start now looked ran looks : List Look) (look look' : Look) → now ≡ start ++ looks → looked ≡ now ++ look ∷ [] → ran ≡ looked → look ≡ look' → ran ≡ start ++ (looks ++ look' ∷ [])
+looks_on start now looked ran looks look look' so_far more same is =
+    same ∙ more ∙ ap₂ (λ (ls : List Look) (l : Look). ls ++ l ∷ []) so_far is ∙ append_assoc start looks (look' ∷ [])
+
 -- A SLICE more.
 module _ (may : Instruction → Type 0) (most turns : ℕ) (sight : Sight) (instruction : Instruction) (counted : TermReport) (before looked : Standing) (same : looked ≡ before) (told : may instruction) (few : turns ≤ most) (short : turns ≤ longest_slice) where
   seen : (ended : Result TermReport TermFault) (after : Standing) → Slice sight instruction turns ended looked after → Slice sight instruction turns ended before after
   seen ended after slice = subst (λ (it : Standing). Slice sight instruction turns ended it after) same slice
 
-  pub slice_more : (report total : TermReport) (ended : Result TermReport TermFault) (between after : Standing) → 0 < turns → Slice sight instruction turns (Ok report) looked between
-      → total ≡ both counted report → SlicesFrom may (most - turns) total ended between after → SlicesFrom may most counted ended before after
-  slice_more report total ended between after some slice is rest =
-      one_more most turns sight instruction counted report ended before between after told some few short (seen (Ok report) between slice)
-      (subst (λ (t : TermReport). SlicesFrom may (most - turns) t ended between after) is rest)
+  pub slice_more : (report total : TermReport) (ended : Result TermReport TermFault) (looks : List Look) (between after : Standing) → 0 < turns → Slice sight instruction turns (Ok report) looked between
+      → total ≡ both counted report → SlicesFrom may (most - turns) total ended looks between after → SlicesFrom may most counted ended (look_at before sight ∷ looks) before after
+  slice_more report total ended looks between after some slice is rest =
+      one_more most turns sight instruction counted report ended looks before between after told some few short (seen (Ok report) between slice)
+      (subst (λ (t : TermReport). SlicesFrom may (most - turns) t ended looks between after) is rest)
 
-  pub slice_breaks : (fault : TermFault) (after : Standing) → Slice sight instruction turns (Err fault) looked after → SlicesFrom may most counted (Err fault) before after
+  pub slice_breaks : (fault : TermFault) (after : Standing) → Slice sight instruction turns (Err fault) looked after → SlicesFrom may most counted (Err fault) (look_at before sight ∷ []) before after
   slice_breaks fault after slice = broken_off most turns sight instruction counted fault before after told few short (seen (Err fault) after slice)
 
 -- or none is left, or they end
-pub all_slices : (may : Instruction → Type 0) (most : ℕ) (counted : TermReport) (at : Standing) → most ≡ 0 → SlicesFrom may most counted (Ok counted) at at
-all_slices may most counted at none = subst (λ (n : ℕ). SlicesFrom may n counted (Ok counted) at at) (sym none) (all_taken counted at)
+pub all_slices : (may : Instruction → Type 0) (most : ℕ) (counted : TermReport) (at : Standing) → most ≡ 0 → SlicesFrom may most counted (Ok counted) [] at at
+all_slices may most counted at none = subst (λ (n : ℕ). SlicesFrom may n counted (Ok counted) [] at at) (sym none) (all_taken counted at)
 
-pub slices_end : (may : Instruction → Type 0) (most : ℕ) (counted : TermReport) (before looked : Standing) → looked ≡ before → may Instruction.End → SlicesFrom may most counted (Ok counted) before looked
-slices_end may most counted before looked same told = subst (λ (it : Standing). SlicesFrom may most counted (Ok counted) before it) (sym same) (told_end most counted before told)
+pub slices_end : (may : Instruction → Type 0) (most : ℕ) (sight : Sight) (counted : TermReport) (before looked : Standing) → looked ≡ before → may Instruction.End → 0 < most → SlicesFrom may most counted (Ok counted) (look_at before sight ∷ []) before looked
+slices_end may most sight counted before looked same told some =
+    subst (λ (it : Standing). SlicesFrom may most counted (Ok counted) (look_at before sight ∷ []) before it) (sym same) (told_end most sight counted before told some)
 
 -- THE TURNS where links are managed, and where they aren't
-pub managed_so : (managed : Option Managed) (it : Managed) (fails : Bool) (turns : ℕ) (ended : Result TermReport TermFault) (before after : Standing) → managed ≡ Some it → Slices turns ended before after → TurnsWhere managed fails turns ended before after
-managed_so None it fails turns ended before after is slices = absurd (cc is)
-managed_so (Some managed) it fails turns ended before after is slices = slices
+pub managed_so : (managed : Option Managed) (it : Managed) (fails : Bool) (turns : ℕ) (ended : Result TermReport TermFault) (looks : List Look) (before after : Standing) → managed ≡ Some it → Slices turns ended looks before after → TurnsWhere managed fails turns ended looks before after
+managed_so None it fails turns ended looks before after is slices = absurd (cc is)
+managed_so (Some managed) it fails turns ended looks before after is slices = slices
 
-pub unmanaged_so : (managed : Option Managed) (fails is : Bool) (turns : ℕ) (ended : Result TermReport TermFault) (before after : Standing) → managed ≡ None → fails ≡ is → TurnsBy is turns ended before after → TurnsWhere managed fails turns ended before after
-unmanaged_so None fails is turns ended before after none same turned = subst (λ (b : Bool). TurnsBy b turns ended before after) (sym same) turned
-unmanaged_so (Some managed) fails is turns ended before after none same turned = absurd (cc none)
+pub unmanaged_so : (managed : Option Managed) (fails is : Bool) (turns : ℕ) (ended : Result TermReport TermFault) (looks : List Look) (before after : Standing) → managed ≡ None → fails ≡ is → TurnsBy is turns ended looks before after → TurnsWhere managed fails turns ended looks before after
+unmanaged_so None fails is turns ended looks before after none same turned = subst (λ (b : Bool). TurnsBy b turns ended looks before after) (sym same) turned
+unmanaged_so (Some managed) fails is turns ended looks before after none same turned = absurd (cc none)
 
 -- this link is the one that is to fail
 pub fails_as : (fail : Option ℕ) (link : ℕ) → is_to_fail fail link ≡ option_eq nat_eq fail (Some link)

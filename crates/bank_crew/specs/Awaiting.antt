@@ -10,6 +10,7 @@ use Rattle.set_events.specs.declared.history.Entry.{Entry}
 use Rattle.bank_crew.specs.declared.plan.Managed.{Managed}
 use Rattle.bank_crew.specs.declared.questions.Awaited.{Awaited}
 use Rattle.bank_crew.specs.Counts.{counts_up, is_done, is_up}
+use Rattle.bank_crew.specs.Managing.{rests_by}
 
 -- SO MANY ASKS T4 lasts, and so many slices T2
 abbrev pub patience : ℕ
@@ -44,6 +45,13 @@ abbrev pub t4_after : Option ℕ → Option ℕ
 t4_after None = None
 t4_after (Some asks) = if nat_le patience asks then None else Some (asks + 1)
 
+-- BEHIND A LOOK
+abbrev pub awaited_at : ℕ → Awaited → Awaited
+awaited_at look awaited = if rests_by look then rested awaited else awaited
+
+abbrev pub asked_at : ℕ → Option Managed → ℕ → Awaited → Option Event
+asked_at look managed link awaited = if rests_by look then asked_at_rest managed link awaited else None
+
 -- BEHIND AN ANSWER to an event of the link's terminal this is awaited: nothing of a link that came up
 abbrev pub awaited_behind : ℕ → Event → Answer → Awaited → Awaited
 awaited_behind link event answer awaited =
@@ -74,10 +82,9 @@ abbrev pub awaited_by : Event → Answer → Awaited → Awaited
 awaited_by question answer awaited =
     if is_restore question && is_done answer then record awaited { asks = Some 0 } else awaited
 
--- OVER THE ENTRIES of a terminal's seat with their marks (0 of an entry of level 3, 1 of a turn's, 2 of a turn's by which an order
--- about the link had come late, 3 of a slice at rest), level 3 asked nothing but what was due behind the turn's entry, or the
--- rest, before, where this was awaited before them and this was due, and that after them. What was due and isn't asked was
--- refused for want of memory.
+-- OVER THE ENTRIES of a terminal's seat and its looks, by their marks, level 3 asked nothing but what was due behind the turn's
+-- entry, or the look, before, where this was awaited before them and this was due, and that after them. What was due and isn't
+-- asked was refused for want of memory.
 abbrev pub AsksDue : Option Managed → ℕ → Awaited → Option Event → List ℕ → List Entry → Awaited → Option Event → Type 0
 AsksDue managed link awaited due [] [] after last = (after ≡ awaited) × (last ≡ due)
 AsksDue managed link awaited due [] (entry ∷ entries) after last = ⊥
@@ -93,8 +100,8 @@ AsksDue managed link awaited due (suc (suc zero) ∷ marks) [] after last = ⊥
 AsksDue managed link awaited due (suc (suc zero) ∷ marks) (entry ∷ entries) after last =
     AsksDue managed link (awaited_behind link entry.event entry.answer awaited)
     (asked_late true managed link entry.event entry.answer awaited) marks entries after last
-AsksDue managed link awaited due (suc (suc (suc mark)) ∷ marks) entries after last =
-    AsksDue managed link (rested awaited) (asked_at_rest managed link awaited) marks entries after last
+AsksDue managed link awaited due (suc (suc (suc look)) ∷ marks) entries after last =
+    AsksDue managed link (awaited_at look awaited) (asked_at look managed link awaited) marks entries after last
 
 -- FROM THE FIRST ENTRY on, behind which this is awaited
 abbrev pub AsksFrom : Option Managed → ℕ → List ℕ → List Entry → Awaited → Type 0

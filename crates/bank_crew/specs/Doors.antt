@@ -1,5 +1,5 @@
 -- A SEAT'S DOOR, as contracts see it, and what it counts of what was made through it.
-use Rattle.std.specs.Prelude.{◌≡◌, ◌==◌, ℕ, Bool, not, true, List, [], ◌∷◌, ◌++◌, Option, None, Some, IsSome}
+use Rattle.std.specs.Prelude.{All, ◌≡◌, ◌==◌, ◌&&◌, ℕ, Bool, not, true, List, [], ◌∷◌, ◌++◌, Option, None, Some, IsSome, if◌then◌else◌}
 use Rattle.set_events.specs.declared.answer.Answer.{Answer}
 use Rattle.set_events.specs.declared.event.Event.{Event}
 use Rattle.set_events.specs.declared.fault.SetFault.{SetFault}
@@ -14,7 +14,7 @@ use Rattle.bank_crew.specs.declared.report.Answered.{Answered}
 use Rattle.bank_crew.specs.Awaiting.{AsksFrom, asked_at_rest, asked_late, awaited_behind, awaited_by, rested}
 use Rattle.bank_crew.specs.Carrying.{carried_in}
 use Rattle.bank_crew.specs.Counts.{answered_in}
-use Rattle.bank_crew.specs.Managing.{are_marks}
+use Rattle.bank_crew.specs.Managing.{are_marks, look_mark}
 use Rattle.bank_crew.specs.Seats.{CallerState, link_in}
 
 -- who asks, all that was made, the marks, the faults of the turns, whether links are managed, what level 3 awaits, and how many
@@ -43,11 +43,16 @@ door_state caller marks faults managed awaited noted = record {
 abbrev pub IsMarked : DoorState → Type 0
 IsMarked door = are_marks (link_in door.seat.who) door.marks door.all ≡ true
 
+-- a full history was told by the set
+abbrev pub HasToldFull : DoorState → Type 0
+HasToldFull door = All (λ (fault : SetFault). fault ≡ SetFault.Exhausted → door.seat.full ≡ true) door.faults
+
 -- IT COUNTS what was made
 pub record IsCounted (door : DoorState) (answered : Answered) (carried : Carried) : Type 0 where
   pub answered_is : answered ≡ answered_in (link_in door.seat.who) door.all
   pub carried_is : carried ≡ carried_in door.managed (link_in door.seat.who) door.all
   pub marked : IsMarked door
+  pub full : HasToldFull door
 
 -- LEVEL 3 ASKED nothing by the door
 abbrev pub Unasked : DoorState → DoorState → Type 0
@@ -80,18 +85,25 @@ abbrev pub IsRefused : Bool → Event → Answer → DoorState → DoorState →
 IsRefused late event answer before after =
     IsSome (due_in late event answer before) × Unasked (hearing event answer before) after
 
--- A SLICE AT REST
-abbrev pub resting : DoorState → DoorState
-resting door = record door { marks = door.marks ++ 3 ∷ []; awaited = rested door.awaited }
+-- A LOOK before a slice of turns; out of service the terminal rests for the slice where its set hasn't settled the link
+abbrev pub rests : Bool → Sight → Bool
+rests out sight = out && not sight.settled
 
-abbrev pub due_at_rest : DoorState → Option Event
-due_at_rest door = asked_at_rest door.managed (link_in door.seat.who) door.awaited
+abbrev pub looking : Bool → Sight → DoorState → DoorState
+looking out sight door = record door {
+  marks = door.marks ++ look_mark out sight ∷ [];
+  awaited = if rests out sight then rested door.awaited else door.awaited;
+}
 
-abbrev pub Rests : DoorState → DoorState → Type 0
-Rests before after = AsksIf (due_at_rest before) (resting before) after
+abbrev pub due_at : Bool → Sight → DoorState → Option Event
+due_at out sight door =
+    if rests out sight then asked_at_rest door.managed (link_in door.seat.who) door.awaited else None
 
-abbrev pub IsRestRefused : DoorState → DoorState → Type 0
-IsRestRefused before after = IsSome (due_at_rest before) × Unasked (resting before) after
+abbrev pub Looks : Bool → Sight → DoorState → DoorState → Type 0
+Looks out sight before after = AsksIf (due_at out sight before) (looking out sight before) after
+
+abbrev pub IsLookRefused : Bool → Sight → DoorState → DoorState → Type 0
+IsLookRefused out sight before after = IsSome (due_at out sight before) × Unasked (looking out sight before) after
 
 -- WHAT IS SEEN where the set tells this, and so many orders had come late by the last look
 abbrev pub sight_of : ℕ → LinkNow → Sight

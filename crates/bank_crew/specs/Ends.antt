@@ -1,13 +1,15 @@
 -- THE END of a set: what it came to, whatever its threads did.
-use Rattle.std.specs.Prelude.{◌≡◌, ◌≤◌, ℕ, min, List, length}
+use Rattle.std.specs.Prelude.{◌≡◌, ◌≤◌, ℕ, min, All, List, length, Result, Err}
 use Rattle.set_events.specs.declared.config.SetConfig.{SetConfig}
 use Rattle.set_ledger.specs.Openings.{IsBaseOf}
 use Rattle.set_ledger.specs.declared.ending.Closed.{Closed}
 use Rattle.set_model.specs.State.{settings_of}
 use Rattle.set_model.specs.Checkpoint.{counts_in}
-use Rattle.set_model.specs.History.{IsLegal, after, books_of, longest_history}
+use Rattle.set_model.specs.History.{IsLegal, after, books_of, entries_of, longest_history}
 use Rattle.set_model.specs.Rows.{total_of}
+use Rattle.link_term.specs.declared.fault.TermFault.{TermFault}
 use Rattle.bank_crew.specs.declared.end.SetEnd.{SetEnd}
+use Rattle.bank_crew.specs.declared.fault.UserFault.{UserFault}
 use Rattle.bank_crew.specs.declared.plan.Plan.{Plan}
 use Rattle.bank_crew.specs.Jobs.{Duty, DidJobs}
 use Rattle.bank_crew.specs.Shifts.{AskNothing, DidShifts}
@@ -37,6 +39,14 @@ abbrev pub task_of : SetConfig → ℕ → ℕ → List Duty → Plan → Task
 task_of config users lines jobs plan =
     record { config = config; users = users; lines = lines; jobs = jobs; plan = plan }
 
+-- its history, and what lies before its base, have as many entries as a history can
+abbrev pub EndsFull : SetEnd → Type 0
+EndsFull end = entries_of end.closed.base end.closed.history.items ≡ longest_history
+
+-- who tells of a full history tells the truth
+abbrev pub AreTrulyFull : {R F : Type 0} → F → SetEnd → List (Result R F) → Type 0
+AreTrulyFull exhausted end = All (λ told. told ≡ Err exhausted → EndsFull end)
+
 -- THE TASK WAS DONE: its history is legal, and the calls that it tells of each user are the last of those of its job, and
 -- of each terminal that has a line the last of what the turns of its plan asked, as far as they came; the books of its base
 -- count those before them. The others asked nothing.
@@ -47,3 +57,5 @@ pub record IsDone (task : Task) (end : SetEnd) : Type 0 where
   pub terminals : length end.reports.items ≡ min task.lines task.config.links
   pub shifts : DidShifts 0 task.plan end.reports.items end.closed.base.books end.closed.history.items
   pub idle : AskNothing task.lines task.config.links end.closed.base.books end.closed.history.items
+  pub users_full : AreTrulyFull UserFault.Exhausted end end.users.items
+  pub terminals_full : AreTrulyFull TermFault.Exhausted end end.reports.items

@@ -1,5 +1,5 @@
 -- WHAT THREADS PROMISE, and that they keep it.
-use Rattle.std.specs.Prelude.{◌≡◌, ℕ, suc, ◌+◌, min, List, [], ◌∷◌, ◌++◌, length, map, drop, Result}
+use Rattle.std.specs.Prelude.{◌≡◌, ℕ, suc, ◌+◌, min, true, List, [], ◌∷◌, ◌++◌, length, map, drop, Result, Err}
 use Rattle.std.specs.List.{AllZip}
 use Rattle.set_ledger.specs.Seats.{SeatState, new_seat}
 use Rattle.set_events.specs.declared.event.Actor.{Actor}
@@ -40,11 +40,13 @@ AreJobs user jobs (promise ∷ promises) =
 abbrev pub KeepsJob : JobOf → Ended SeatState (Result UserReport UserFault) → Type 0
 KeepsJob promise end = (end.seat.who ≡ User promise.user)
     × ((all : List Entry) × AreAll end.seat all × DoesJob (User promise.user) (duty_of promise.job.value) end.told all)
+    × (end.told ≡ Err UserFault.Exhausted → end.seat.full ≡ true)
 
 -- A TERMINAL'S: it's what its turns asked.
 abbrev pub KeepsShift : ShiftOf → Ended SeatState (Result ShiftReport TermFault) → Type 0
 KeepsShift promise end = (end.seat.who ≡ Terminal promise.link)
     × ((all : List Entry) × AreAll end.seat all × DoesShift promise.plan promise.link end.told all)
+    × (end.told ≡ Err TermFault.Exhausted → end.seat.full ≡ true)
 
 -- the terminals' promises, from this link on: all the same plan
 abbrev pub AreShifts : ℕ → Plan → List ShiftOf → Type 0

@@ -1,5 +1,5 @@
 -- WHAT A TERMINAL DOES, turn by turn, as the entries that it leaves in the set's history.
-use Rattle.std.specs.Prelude.{◌≡◌, ◌==◌, ◌&&◌, ◌<◌, ◌≤◌, ◌+◌, ◌-◌, ◌/◌, ◌^◌, ℕ, suc, min, Bool, not, true, false, if◌then◌else◌, List, [], ◌∷◌, Option, None, Some, Result, Ok, Err, MatchResult}
+use Rattle.std.specs.Prelude.{◌≡◌, ◌==◌, ◌&&◌, ◌<◌, ◌≤◌, ◌+◌, ◌-◌, ◌/◌, ◌^◌, ℕ, suc, min, Bool, not, true, false, if◌then◌else◌, List, [], ◌∷◌, ◌++◌, length, Option, None, Some, Result, Ok, Err, MatchResult}
 use Rattle.set_events.specs.declared.books.Books.{Books}
 use Rattle.set_events.specs.declared.event.Actor.{Actor}
 use Rattle.set_events.specs.declared.history.Entry.{Entry}
@@ -21,7 +21,7 @@ use Rattle.bank_crew.specs.Carrying.{carried_in}
 use Rattle.bank_crew.specs.Counts.{answered_in, reported}
 use Rattle.bank_crew.specs.declared.questions.Awaited.{Awaited}
 use Rattle.bank_crew.specs.Awaiting.{AsksFrom}
-use Rattle.bank_crew.specs.Managing.{are_marks, of_turns}
+use Rattle.bank_crew.specs.Managing.{Look, are_marks, looks_in, of_turns}
 use Rattle.line_tape.specs.Taping.{IsTape}
 use Rattle.bank_crew.specs.Seats.{AreCalls}
 
@@ -74,81 +74,95 @@ standing_told orders t = record t { inside = orders t.inside }
 abbrev pub Slice : Sight → Instruction → ℕ → Result TermReport TermFault → Standing → Standing → Type 0
 Slice sight instruction turns ended before after = RunTurns turns ended (standing_told (ordered sight instruction) before) after
 
--- slices one after another, each of 1 to 256 turns, behind what was seen before it and what may be instructed; what they
--- counted is added to what was counted before, up to the first that a fault broke off. They end behind End, or when so many
--- turns were taken
+-- the look by which that was seen
+abbrev pub look_of : ℕ → Bool → Sight → Look
+look_of made out sight = record { made = made; out = out; settled = sight.settled; late = sight.late }
+
+abbrev pub look_at : Standing → Sight → Look
+look_at before sight = look_of (length before.made) (is_out before.inside) sight
+
+-- slices one after another, each of 1 to 256 turns, behind a look and what may be instructed; what they counted is added to
+-- what was counted before, up to the first that a fault broke off. They end behind End, or when so many turns were taken
 abbrev pub longest_slice : ℕ
 longest_slice = 256
 
-pub data SlicesFrom (may : Instruction → Type 0) : ℕ → TermReport → Result TermReport TermFault → Standing → Standing → Type 0 where
-  all_taken : (counted : TermReport) (at : Standing) → SlicesFrom may 0 counted (Ok counted) at at
-  told_end : (most : ℕ) (counted : TermReport) (at : Standing) → may Instruction.End → SlicesFrom may most counted (Ok counted) at at
+pub data SlicesFrom (may : Instruction → Type 0) : ℕ → TermReport → Result TermReport TermFault → List Look → Standing → Standing → Type 0 where
+  all_taken : (counted : TermReport) (at : Standing) → SlicesFrom may 0 counted (Ok counted) [] at at
+  told_end : (most : ℕ) (sight : Sight) (counted : TermReport) (at : Standing) → may Instruction.End → 0 < most
+      → SlicesFrom may most counted (Ok counted) (look_at at sight ∷ []) at at
   broken_off : (most turns : ℕ) (sight : Sight) (instruction : Instruction) (counted : TermReport) (fault : TermFault)
       (before after : Standing) → may instruction → turns ≤ most → turns ≤ longest_slice
-      → Slice sight instruction turns (Err fault) before after → SlicesFrom may most counted (Err fault) before after
+      → Slice sight instruction turns (Err fault) before after
+      → SlicesFrom may most counted (Err fault) (look_at before sight ∷ []) before after
   one_more : (most turns : ℕ) (sight : Sight) (instruction : Instruction) (counted report : TermReport)
-      (ended : Result TermReport TermFault) (before between after : Standing) → may instruction → 0 < turns → turns ≤ most
-      → turns ≤ longest_slice → Slice sight instruction turns (Ok report) before between
-      → SlicesFrom may (most - turns) (both counted report) ended between after → SlicesFrom may most counted ended before after
+      (ended : Result TermReport TermFault) (looks : List Look) (before between after : Standing) → may instruction → 0 < turns
+      → turns ≤ most → turns ≤ longest_slice → Slice sight instruction turns (Ok report) before between
+      → SlicesFrom may (most - turns) (both counted report) ended looks between after
+      → SlicesFrom may most counted ended (look_at before sight ∷ looks) before after
 
 abbrev pub no_turns : TermReport
 no_turns = record { turns = 0; sent = 0; good = 0; bad = 0; sixteen = 0; cause = 0 }
 
 -- SLICES of turns, behind what may be instructed
-abbrev pub SlicesBy : (Instruction → Type 0) → ℕ → Result TermReport TermFault → Standing → Standing → Type 0
+abbrev pub SlicesBy : (Instruction → Type 0) → ℕ → Result TermReport TermFault → List Look → Standing → Standing → Type 0
 SlicesBy may turns = SlicesFrom may turns no_turns
 
 -- ALL TURNS, where nothing is instructed
-abbrev pub Turns : ℕ → Result TermReport TermFault → Standing → Standing → Type 0
+abbrev pub Turns : ℕ → Result TermReport TermFault → List Look → Standing → Standing → Type 0
 Turns = SlicesBy (λ instruction. instruction ≡ Instruction.Run)
 
 -- the rest of the turns, after Stop
-abbrev pub AfterHalf : ℕ → Result TermReport TermFault → Result TermReport TermFault → Standing → Standing → Type 0
-AfterHalf turns (Ok first) ended before after =
-    (second : Result TermReport TermFault) × Turns (turns - turns / 2) second (standing_told (told Stop) before) after
+abbrev pub AfterHalf : ℕ → Result TermReport TermFault → Result TermReport TermFault → List Look → Standing → Standing → Type 0
+AfterHalf turns (Ok first) ended looks before after =
+    (second : Result TermReport TermFault) × Turns (turns - turns / 2) second looks (standing_told (told Stop) before) after
     × (ended ≡ with_first first second)
-AfterHalf turns (Err fault) ended before after = (ended ≡ Err fault) × (after ≡ before)
+AfterHalf turns (Err fault) ended looks before after = (ended ≡ Err fault) × (looks ≡ []) × (after ≡ before)
 
 -- half of the turns, Stop, and the rest of them
-abbrev pub Halves : ℕ → Result TermReport TermFault → Standing → Standing → Type 0
-Halves turns ended before after =
-    (first : Result TermReport TermFault) × (between : Standing) × Turns (turns / 2) first before between
-    × AfterHalf turns first ended between after
+pub record Halves (turns : ℕ) (ended : Result TermReport TermFault) (looks : List Look) (before after : Standing) : Type 0 where
+  pub first : Result TermReport TermFault
+  pub seen : List Look
+  pub between : Standing
+  pub half : Turns (turns / 2) first seen before between
+  pub more : List Look
+  pub rest : AfterHalf turns first ended more between after
+  pub looks_are : looks ≡ seen ++ more
 
 -- THE TURNS OF A PLAN whose links aren't managed: all, but where this link is the one that is to fail
 abbrev pub is_to_fail : Option ℕ → ℕ → Bool
 is_to_fail None link = false
 is_to_fail (Some number) link = number == link
 
-abbrev pub TurnsBy : Bool → ℕ → Result TermReport TermFault → Standing → Standing → Type 0
+abbrev pub TurnsBy : Bool → ℕ → Result TermReport TermFault → List Look → Standing → Standing → Type 0
 TurnsBy true = Halves
 TurnsBy false = Turns
 
 -- where they are, behind whatever was instructed: nothing is promised of who manages links
-abbrev pub Slices : ℕ → Result TermReport TermFault → Standing → Standing → Type 0
+abbrev pub Slices : ℕ → Result TermReport TermFault → List Look → Standing → Standing → Type 0
 Slices = SlicesBy (λ instruction. Unit {0})
 
 -- THE TURNS OF A SHIFT
-abbrev pub TurnsWhere : Option Managed → Bool → ℕ → Result TermReport TermFault → Standing → Standing → Type 0
+abbrev pub TurnsWhere : Option Managed → Bool → ℕ → Result TermReport TermFault → List Look → Standing → Standing → Type 0
 TurnsWhere None fails turns = TurnsBy fails turns
 TurnsWhere (Some managed) fails turns = Slices turns
 
-abbrev pub TurnsOf : Plan → ℕ → Result TermReport TermFault → Standing → Standing → Type 0
+abbrev pub TurnsOf : Plan → ℕ → Result TermReport TermFault → List Look → Standing → Standing → Type 0
 TurnsOf plan link = TurnsWhere plan.managed (is_to_fail plan.fail link) plan.turns
 
 -- a terminal that did nothing yet, and is told to come up in an emergency
 abbrev pub fresh : ℕ → Timers → Seen → Standing
 fresh link timers line = standing [] (told Start (told Emergency (opened link timers))) [] [] line
 
--- A SHIFT: the turns of the plan over some line left these entries, but those that level 3 asked for, and it asked each of
--- its own when it was due, whatever is awaited after; what is reported of both; and the tape of what they put into the line, of
--- which nothing was put before
+-- A SHIFT: the turns of the plan over some line left these entries, but those that level 3 asked for, and the terminal looked
+-- before each slice of them, as the marks tell; level 3 asked each of its own when it was due behind a turn's entry or a look,
+-- whatever is awaited after; what is reported of both; and the tape of what they put into the line, of which nothing was put
+-- before. What the set told at a look, and by which entries an order had come late, the marks alone tell.
 pub record DoesShift (plan : Plan) (link : ℕ) (ended : Result ShiftReport TermFault) (made : List Entry) : Type 0 where
   pub line : Seen
   pub after : Standing
   pub counts : Result TermReport TermFault
-  pub turns : TurnsOf plan link counts (fresh link plan.timers line) after
   pub marks : List ℕ
+  pub turns : TurnsOf plan link counts (looks_in marks) (fresh link plan.timers line) after
   pub marks_are : are_marks link marks made ≡ true
   pub awaited : Awaited
   pub asks : AsksFrom plan.managed link marks made awaited

@@ -1,10 +1,10 @@
 //! A seat with all that was asked at it, of which it may forget some.
-ghost use Rattle.std.specs.Prelude.{◌≡◌, ◌<◌, ◌^◌, [], ◌∷◌, ◌++◌, length, IfOk, OnOk, OnErr};
+ghost use Rattle.std.specs.Prelude.{◌≡◌, ◌<◌, ◌^◌, true, [], ◌∷◌, ◌++◌, length, IfOk, OnOk, OnErr};
 ghost use Rattle.set_events.specs.Lent.{HasFitUnit, event_in};
 ghost use Rattle.set_events.specs.Owners.{IsOwn};
 ghost use Rattle.set_events.specs.declared.event.Actor.TheVariants.{User, Terminal};
 ghost use Rattle.set_events.specs.declared.event.Event.TheVariants.{Offer, Take, Find};
-ghost use Rattle.set_shared.specs.Asking.{IsAnsweredWith, IsFull};
+ghost use Rattle.set_shared.specs.Asking.{IsAnsweredWith};
 ghost use Rattle.bank_crew.specs.Jobs.{Calls};
 ghost use Rattle.bank_crew.specs.Seats.{AreAll};
 
@@ -93,6 +93,7 @@ impl<O: Opening, S: Seat<O> + Drop> Caller<O, S> {
     fn forget<R: Wait>(&mut self, rt: &R, set: &LinkSet<O>)
         ensures who { self.new.seat.who ≡ self.old.seat.who }
         ensures all { self.new.all ≡ self.old.all }
+        ensures full { self.new.seat.full ≡ self.old.seat.full }
     {
         if self.seat.receipts().len() < self.many {
             return;
@@ -105,6 +106,7 @@ impl<O: Opening, S: Seat<O> + Drop> Caller<O, S> {
     fn forget_now<R: Wait>(&mut self, rt: &R, set: &LinkSet<O>) -> Result<(), SetFault>
         ensures who { self.new.seat.who ≡ self.old.seat.who }
         ensures all { self.new.all ≡ self.old.all }
+        ensures full { self.new.seat.full ≡ self.old.seat.full }
     {
         self.forgettings.reserve(1)?;
         let before = Snapshot::of(&self.seat);
@@ -132,7 +134,7 @@ impl<O: Opening> Caller<O, UserSeat<O>> {
     ) -> Result<Answer, SetFault>
         ensures who { self.new.seat.who ≡ self.old.seat.who }
         ensures calls { Calls self.old.seat.who (Offer octets.now) result self.old.all self.new.all }
-        ensures exhausted { result ≡ Err SetFault.Exhausted → IsFull O.settings }
+        ensures full { result ≡ Err SetFault.Exhausted → self.new.seat.full ≡ true }
     {
         let answered = set.offer(rt, &mut self.seat, octets);
         self.forget(rt, set);
@@ -143,7 +145,7 @@ impl<O: Opening> Caller<O, UserSeat<O>> {
     pub(crate) fn take<R: Wait>(&mut self, rt: &R, set: &LinkSet<O>) -> Result<Answer, SetFault>
         ensures who { self.new.seat.who ≡ self.old.seat.who }
         ensures calls { Calls self.old.seat.who Take result self.old.all self.new.all }
-        ensures exhausted { result ≡ Err SetFault.Exhausted → IsFull O.settings }
+        ensures full { result ≡ Err SetFault.Exhausted → self.new.seat.full ≡ true }
     {
         let answered = set.take(rt, &mut self.seat);
         self.forget(rt, set);
@@ -159,7 +161,7 @@ impl<O: Opening> Caller<O, UserSeat<O>> {
     ) -> Result<Answer, SetFault>
         ensures who { self.new.seat.who ≡ self.old.seat.who }
         ensures calls { Calls self.old.seat.who (Find number) result self.old.all self.new.all }
-        ensures exhausted { result ≡ Err SetFault.Exhausted → IsFull O.settings }
+        ensures full { result ≡ Err SetFault.Exhausted → self.new.seat.full ≡ true }
     {
         let answered = set.find(rt, &mut self.seat, number);
         self.forget(rt, set);
@@ -193,7 +195,8 @@ impl<O: Opening> Caller<O, TermSeat<O>> {
             ++ record { who = self.old.seat.who; event = event_in event.now; answer = reply.new } ∷ []) }
         ensures late { IfOk result (IsAnsweredWith O.settings self.old.seat.who (event_in event.now) reply.new) }
         ensures err { OnErr result (self.new.all ≡ self.old.all) }
-        ensures exhausted { result ≡ Err SetFault.Exhausted → IsFull O.settings }
+        ensures full_stays { self.old.seat.full ≡ true → self.new.seat.full ≡ true }
+        ensures full { result ≡ Err SetFault.Exhausted → self.new.seat.full ≡ true }
     {
         let answered = set.term_step_held(rt, &mut self.seat, event, reply, held);
         self.forget(rt, set);

@@ -1,5 +1,5 @@
 //! A user that keeps what it takes.
-ghost use Rattle.std.specs.Prelude.{◌≡◌, [], IfOk, OnOk};
+ghost use Rattle.std.specs.Prelude.{◌≡◌, true, [], IfOk, OnOk};
 ghost use Rattle.std.specs.Option.{option_map, option_to_list};
 ghost use Rattle.bank_crew.specs.Jobs.{bodies_of, ended_by, kept_by, taken_in, Takes, TakesOne};
 
@@ -29,6 +29,7 @@ pub(crate) fn collect_often<O: Opening, G: LinkManager, R: Wait + Clock>(
     ensures who { caller.new.seat.who ≡ caller.old.seat.who }
     ensures takes { Takes caller.old.seat.who times (ended_by result) [] caller.new.all }
     ensures kept { IfOk result (λ report. kept_by report ≡ taken_in caller.new.all) }
+    ensures full { result ≡ Err UserFault.Exhausted → caller.new.seat.full ≡ true }
 {
     let mut pauses = Pauses::of(assignment.plan.checkpoint.map(u64::from));
     let mut report = UserReport {
@@ -56,6 +57,7 @@ fn collect_one<O: Opening, G: LinkManager, R: Wait + Clock>(
     ensures takes { TakesOne caller.old.seat.who result caller.old.all caller.new.all }
     ensures kept { kept_by report.old ≡ taken_in caller.old.all
         → OnOk result (kept_by report.new ≡ taken_in caller.new.all) }
+    ensures full { result ≡ Err UserFault.Exhausted → caller.new.seat.full ≡ true }
 {
     if report.taken.reserve(1).is_err() {
         return Err(UserFault::NoMemory);

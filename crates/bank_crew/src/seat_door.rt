@@ -5,8 +5,8 @@ ghost use Rattle.set_events.specs.Owners.{IsOwn};
 ghost use Rattle.bank_crew.specs.Carrying.{carried_in};
 ghost use Rattle.bank_crew.specs.Counts.{answered_in};
 ghost use Rattle.bank_crew.specs.Awaiting.{nothing};
-ghost use Rattle.bank_crew.specs.Doors.{Asked, AskedDue, Follows, IsMarked, IsRefused, IsRestRefused, Rests, Unasked, sight_of};
-ghost use Rattle.bank_crew.specs.Managing.{is_question, mark_of, of_turns};
+ghost use Rattle.bank_crew.specs.Doors.{Asked, AskedDue, HasToldFull, Follows, IsLookRefused, IsMarked, IsRefused, Looks, Unasked, sight_of};
+ghost use Rattle.bank_crew.specs.Managing.{is_question, look_mark, looks_in, mark_of, of_turns};
 ghost use Rattle.bank_crew.specs.Seats.{AreAll, link_in};
 ghost use Rattle.set_shared.specs.Asking.{IsAnsweredWith, IsSeen};
 ghost use Rattle.set_shared.specs.declared.link_set.LinkNow.{LinkNow};
@@ -43,7 +43,7 @@ pub struct SeatDoor<'a, O: Opening, R: Wait, G: LinkManager> {
     awaited: Awaited,
     /// How many changeover orders about the link had come late when the terminal looked last.
     noted: u32,
-    /// Of each entry whose it is, and of each slice at rest, for contracts alone.
+    /// Of each entry whose it is, and of each look what it saw, for contracts alone.
     marks: Past,
     faults: Faults,
     answered: Answered,
@@ -114,6 +114,7 @@ impl<'a, O: Opening, R: Wait, G: LinkManager> SeatDoor<'a, O, R, G> {
     pub fn carried(&self) -> Carried
         ensures carried { result ≡ carried_in self.now.managed (link_in self.now.seat.who) self.now.all }
         ensures marks { IsMarked self.now }
+        ensures full { HasToldFull self.now }
     {
         self.carried
     }
@@ -146,6 +147,7 @@ impl<'a, O: Opening, R: Wait, G: LinkManager> SeatDoor<'a, O, R, G> {
             × (late ≡ not (orders == self.old.noted))) }
         ensures err { OnErr result ((self.new.all ≡ self.old.all)
             × (self.new.marks ≡ self.old.marks)) }
+        ensures full { result ≡ Err SetFault.Exhausted → self.new.seat.full ≡ true }
         ensures who { self.new.seat.who ≡ self.old.seat.who }
         ensures faults { self.new.faults ≡ self.old.faults }
         ensures managed { self.new.managed ≡ self.old.managed }
@@ -175,6 +177,7 @@ impl<'a, O: Opening, R: Wait, G: LinkManager> SeatDoor<'a, O, R, G> {
         ensures ok { OnOk result (Follows late (event_in event.now) (answer_in answer.now) self.old self.new) }
         ensures err { OnErr result (IsRefused late (event_in event.now) (answer_in answer.now) self.old self.new) }
         ensures made { of_turns self.new.marks self.new.all ≡ of_turns self.old.marks self.old.all }
+        ensures looks { looks_in self.new.marks ≡ looks_in self.old.marks }
         ensures who { self.new.seat.who ≡ self.old.seat.who }
         ensures faults { self.new.faults ≡ self.old.faults }
         ensures managed { self.new.managed ≡ self.old.managed }
@@ -207,6 +210,7 @@ impl<'a, O: Opening, R: Wait, G: LinkManager> SeatDoor<'a, O, R, G> {
         ensures asked { OnOk result (Asked (event_in question.now) self.old self.new) }
         ensures unasked { OnErr result (Unasked self.old self.new) }
         ensures made { of_turns self.new.marks self.new.all ≡ of_turns self.old.marks self.old.all }
+        ensures looks { looks_in self.new.marks ≡ looks_in self.old.marks }
         ensures who { self.new.seat.who ≡ self.old.seat.who }
         ensures faults { self.new.faults ≡ self.old.faults }
         ensures managed { self.new.managed ≡ self.old.managed }
@@ -225,17 +229,21 @@ impl<'a, O: Opening, R: Wait, G: LinkManager> SeatDoor<'a, O, R, G> {
         }
     }
 
-    /// A slice at rest: level 3 asks what is due then, unless memory is refused to that.
-    fn rest(&mut self) -> Result<(), SetFault>
-        ensures ok { OnOk result (Rests self.old self.new) }
-        ensures err { OnErr result (IsRestRefused self.old self.new) }
+    /// A look that saw this: level 3 asks what is due where the terminal rests behind it, unless memory is refused to that.
+    fn note_look(&mut self, out: bool, sight: &Sight) -> Result<(), SetFault>
+        ensures ok { OnOk result (Looks out sight.now self.old self.new) }
+        ensures err { OnErr result (IsLookRefused out sight.now self.old self.new) }
         ensures made { of_turns self.new.marks self.new.all ≡ of_turns self.old.marks self.old.all }
+        ensures looks { looks_in self.new.marks ≡ looks_in (self.old.marks ++ look_mark out sight.now ∷ []) }
         ensures who { self.new.seat.who ≡ self.old.seat.who }
         ensures faults { self.new.faults ≡ self.old.faults }
         ensures managed { self.new.managed ≡ self.old.managed }
     {
         let link = self.caller.link();
-        self.marks.note(AT_REST);
+        self.marks.note(look_mark(out, sight));
+        if !out || sight.settled {
+            return Ok(());
+        }
         match self.awaited.rest(self.managed, link) {
             Some(question) => self.ask_more(&question),
             None => Ok(()),
@@ -243,8 +251,15 @@ impl<'a, O: Opening, R: Wait, G: LinkManager> SeatDoor<'a, O, R, G> {
     }
 }
 
-/// The mark of a slice at rest.
-const AT_REST: u8 = 3;
+/// The mark of a look.
+fn look_mark(out: bool, sight: &Sight) -> u8
+    ensures { result ≡ look_mark out sight.now }
+{
+    let late = if sight.late { 1 } else { 0 };
+    let settled = if sight.settled { 2 } else { 0 };
+    let out = if out { 4 } else { 0 };
+    3 + (out + (settled + late))
+}
 
 /// The mark of an entry.
 fn mark_of(of_turn: bool, late: bool) -> u8
@@ -263,7 +278,7 @@ impl<'a, O: Opening, R: Wait, G: LinkManager> Door for SeatDoor<'a, O, R, G> {
     ghost use Rattle.std.specs.Prelude.{◌≡◌, refl};
     ghost use Rattle.std.proofs.Common.{◌∙◌};
     ghost use Rattle.bank_crew.specs.Doors.{AskedDue};
-    ghost use Rattle.bank_crew.specs.Managing.{of_turns};
+    ghost use Rattle.bank_crew.specs.Managing.{looks_in, of_turns};
     ghost use Rattle.bank_crew.specs.Seats.{link_in};
 
     ghost number = { λ door. link_in door.seat.who };
@@ -272,11 +287,12 @@ impl<'a, O: Opening, R: Wait, G: LinkManager> Door for SeatDoor<'a, O, R, G> {
 
     ghost faults = { λ door. door.faults };
 
-    ghost is_same = { λ first second. (second.managed ≡ first.managed) × (AskedDue first → AskedDue second) };
+    ghost is_same = { λ first second. (second.managed ≡ first.managed) × (looks_in second.marks ≡ looks_in first.marks)
+        × (AskedDue first → AskedDue second) };
 
-    ghost same_self = { λ door. (refl, λ due. due) };
+    ghost same_self = { λ door. (refl, refl, λ due. due) };
 
-    ghost same_on = { λ first second third a b. (b.0 ∙ a.0, λ due. b.1 (a.1 due)) };
+    ghost same_on = { λ first second third a b. (b.0 ∙ a.0, b.1 ∙ a.1, λ due. b.2 (a.2 due)) };
 
     fn link(&self) -> u8 {
         self.caller.link()
@@ -303,7 +319,9 @@ impl<'a, O: Opening, R: Wait, G: LinkManager> Door for SeatDoor<'a, O, R, G> {
 
 impl<'a, O: Opening, R: Wait, G: LinkManager> SliceDoor for SeatDoor<'a, O, R, G> {
     ghost use Rattle.std.specs.Prelude.{◌≡◌, ℕ};
-    ghost use Rattle.bank_crew.specs.Doors.{sight_of};
+    ghost use Rattle.std.proofs.Common.{◌∙◌};
+    ghost use Rattle.bank_crew.specs.Doors.{AskedDue, sight_of};
+    ghost use Rattle.bank_crew.specs.Managing.{looks_in};
     ghost use Rattle.bank_crew.specs.Seats.{link_in};
     ghost use Rattle.set_shared.specs.Asking.{IsSeen};
     ghost use Rattle.set_shared.specs.declared.link_set.LinkNow.{LinkNow};
@@ -311,18 +329,26 @@ impl<'a, O: Opening, R: Wait, G: LinkManager> SliceDoor for SeatDoor<'a, O, R, G
     ghost sees = { λ door sight. (now : LinkNow) × IsSeen O.settings (link_in door.seat.who) now
         × (sight ≡ sight_of door.noted now) };
 
+    ghost looks = { λ door. looks_in door.marks };
+
+    ghost goes_on = { λ first second. (second.managed ≡ first.managed) × (AskedDue first → AskedDue second) };
+
+    ghost same_looks = { λ first second same. same.1 };
+
+    ghost same_goes_on = { λ first second same. (same.0, same.2) };
+
+    ghost goes_on_on = { λ first second third a b. (b.0 ∙ a.0, λ due. b.1 (a.1 due)) };
+
     fn look(&mut self, out: bool) -> Sight {
         let now = self.set.look(self.rt, self.caller.link());
-        let late = now.late != self.noted;
-        self.noted = now.late;
-        if out && !now.settled {
-            // it's no matter that memory is refused to level 3
-            let _ = self.rest();
-        }
-        Sight {
+        let sight = Sight {
             counts: now.counts,
             settled: now.settled,
-            late,
-        }
+            late: now.late != self.noted,
+        };
+        self.noted = now.late;
+        // it's no matter that memory is refused to level 3
+        let _ = self.note_look(out, &sight);
+        sight
     }
 }

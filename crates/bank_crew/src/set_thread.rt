@@ -2,7 +2,7 @@
 ghost use Rattle.std.specs.Prelude.{◌≡◌, ◌<◌, ◌≤◌, ◌↔◌, [], length, map, vec_len, All, IsTrue, IfErr, IfOk};
 ghost use Rattle.std.specs.Vec.Iter.{into_iter_items};
 ghost use Rattle.set_events.specs.declared.event.Actor.TheVariants.{User, Terminal};
-ghost use Rattle.set_ledger.specs.Ending.{IsFaithful};
+ghost use Rattle.set_ledger.specs.Ending.{IsFaithful, IsTrulyFull};
 ghost use Rattle.set_ledger.specs.Seats.{new_seats};
 ghost use Rattle.set_ledger.specs.Totals.{AreParts};
 ghost use Rattle.set_events.specs.declared.config.SetConfig.{SetConfig};
@@ -65,6 +65,7 @@ pub fn one_set<
         messages: Blank::new(users),
         octets: Blank::new(users),
         acknowledged: Blank::new(links),
+        full: Blank::new(users + links),
     };
     run_set::<Brand, L, G, R>(rt, alloc, work, blanks)
 }
@@ -128,8 +129,10 @@ fn run_opened<
 fn end_set<O: Opening>(set: LinkSet<O>, gathered: Gathered<O>) -> Result<SetEnd, CrewFault>
     ensures closed { (config : SetConfig) → settings_of config ≡ O.settings → IfOk result (IsEndOf config) }
     ensures users { IfOk result (λ end. (end.users.items ≡ gathered.user_ends.items)
-        × All (IsFaithful end.closed.base.books end.closed.history.items) gathered.users.items) }
-    ensures terminals { IfOk result (λ end. All (IsFaithful end.closed.base.books end.closed.history.items) gathered.terminals.items) }
+        × All (IsFaithful end.closed.base.books end.closed.history.items) gathered.users.items
+        × All (IsTrulyFull end.closed.base end.closed.history.items) gathered.users.items) }
+    ensures terminals { IfOk result (λ end. All (IsFaithful end.closed.base.books end.closed.history.items) gathered.terminals.items
+        × All (IsTrulyFull end.closed.base end.closed.history.items) gathered.terminals.items) }
     ensures reports { IfOk result (λ end. end.reports.items ≡ gathered.reports.items) }
     ensures unclosed { IfErr result (λ fault. fault ≡ Unclosed) }
 {
@@ -154,8 +157,10 @@ fn close<O: Opening>(
     terminals: Vec<TermSeat<O>>,
 ) -> Result<Closed, CrewFault>
     ensures closed { (config : SetConfig) → settings_of config ≡ O.settings → IfOk result (IsClosedAs config) }
-    ensures users { IfOk result (λ closed. All (IsFaithful closed.base.books closed.history.items) users.items) }
-    ensures terminals { IfOk result (λ closed. All (IsFaithful closed.base.books closed.history.items) terminals.items) }
+    ensures users { IfOk result (λ closed. All (IsFaithful closed.base.books closed.history.items) users.items
+        × All (IsTrulyFull closed.base closed.history.items) users.items) }
+    ensures terminals { IfOk result (λ closed. All (IsFaithful closed.base.books closed.history.items) terminals.items
+        × All (IsTrulyFull closed.base closed.history.items) terminals.items) }
     ensures unclosed { IfErr result (λ fault. fault ≡ Unclosed) }
 {
     match set.close(users, terminals) {

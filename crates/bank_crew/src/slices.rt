@@ -1,6 +1,7 @@
 //! A terminal's turns, by slices: before each it looks at its set.
-ghost use Rattle.std.specs.Prelude.{◌≡◌, ◌≤◌, ◌^◌, false, OnOk};
+ghost use Rattle.std.specs.Prelude.{◌≡◌, ◌≤◌, ◌^◌, false, List, ◌++◌, OnOk};
 ghost use Rattle.link_term.specs.Standing.{lent, stands};
+ghost use Rattle.bank_crew.specs.Managing.{Look};
 ghost use Rattle.bank_crew.specs.Shifts.{SlicesBy, ordered};
 
 use super::assignment::Assignment;
@@ -14,19 +15,35 @@ const SLICE: u64 = 256;
 
 /// The door of a terminal that takes its turns by slices.
 pub(crate) trait SliceDoor: Door {
+    ghost use Rattle.std.specs.Prelude.{◌≡◌, [], ◌∷◌, ◌++◌, length, List};
     ghost use Rattle.bank_crew.specs.declared.manager.Sight.{Sight};
+    ghost use Rattle.bank_crew.specs.Managing.{Look};
+    ghost use Rattle.bank_crew.specs.Shifts.{look_of};
 
     /// This may be seen through it.
     ghost sees: { Self → Sight → Type 0 };
+
+    /// Each look through it, oldest first.
+    ghost looks: { Self → List Look };
+
+    /// The second is the same door as the first, which may have looked.
+    ghost goes_on: { Self → Self → Type 0 };
 
     /// What the terminal sees of its set, and of the link since it looked last. A terminal that is out of service rests for a
     /// slice where the set hasn't settled its link, and level 3 may ask the set for it.
     fn look(&mut self, out: bool) -> Sight
         ensures seen { sees self.old result }
+        ensures looks { looks self.new ≡ looks self.old ++ look_of (length (Self.made self.old)) out result ∷ [] }
         ensures made { Self.made self.new ≡ Self.made self.old }
         ensures faults { Self.faults self.new ≡ Self.faults self.old }
         ensures number { Self.number self.new ≡ Self.number self.old }
-        ensures same { Self.is_same self.old self.new };
+        ensures same { goes_on self.old self.new };
+
+    ghost same_looks: { (first second : Self) → Self.is_same first second → looks second ≡ looks first };
+
+    ghost same_goes_on: { (first second : Self) → Self.is_same first second → goes_on first second };
+
+    ghost goes_on_on: { (first second third : Self) → goes_on first second → goes_on second third → goes_on first third };
 }
 
 /// Turns by slices, each behind what is seen and instructed, until that ends them, or so many were taken.
@@ -40,11 +57,12 @@ pub(crate) fn sliced<D: SliceDoor, L: Line, G: LinkManager, M: SetManager>(
 ) -> Result<TermReport, TermFault>
     requires at { D.number door.old ≡ works.old.inside.link }
     requires failed { works.old.failed ≡ false }
-    ensures turns { SlicesBy (M.may manager.now (D.number door.old)) turns result
+    ensures turns { (looks : List Look) × (D.looks door.new ≡ D.looks door.old ++ looks)
+        × SlicesBy (M.may manager.now (D.number door.old)) turns result looks
         (stands D.Door L.Line (lent works.old door.old line.old)) (stands D.Door L.Line (lent works.new door.new line.new)) }
     ensures at { D.number door.new ≡ works.new.inside.link }
     ensures number { D.number door.new ≡ D.number door.old }
-    ensures door { D.is_same door.old door.new }
+    ensures door { D.goes_on door.old door.new }
     ensures line { L.is_same line.old line.new }
     ensures goes_on { OnOk result (works.new.failed ≡ false) }
 {

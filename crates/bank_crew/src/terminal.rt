@@ -1,8 +1,9 @@
 //! What a terminal's thread does.
-ghost use Rattle.std.specs.Prelude.{◌≡◌, false, List, []};
+ghost use Rattle.std.specs.Prelude.{◌≡◌, true, false, List, [], ◌++◌};
 ghost use Rattle.set_events.specs.declared.history.Entry.{Entry};
 ghost use Rattle.bank_crew.specs.Seats.{AreAll, link_in};
 ghost use Rattle.link_term.specs.Standing.{lent, stands};
+ghost use Rattle.bank_crew.specs.Managing.{Look};
 ghost use Rattle.bank_crew.specs.Shifts.{DoesShift, Halves, TurnsOf, both, with_first};
 
 use super::assignment::Assignment;
@@ -53,6 +54,7 @@ impl<'a, O: Opening, L: Line + Drop, G: LinkManager, R: Wait> TermShift<'a, O, L
         ensures who { result.seat.who ≡ self.entry.seat.who }
         ensures shift { (all : List Entry) × AreAll result.seat all
             × DoesShift self.entry.assignment.now.plan (link_in self.entry.seat.who) result.told all }
+        ensures full { result.told ≡ Err TermFault.Exhausted → result.seat.full ≡ true }
     {
         let TermShift {
             rt,
@@ -120,10 +122,11 @@ fn planned_turns<D: SliceDoor, L: Line, G: LinkManager>(
 ) -> Result<TermReport, TermFault>
     requires at { D.number door.old ≡ works.old.inside.link }
     requires failed { works.old.failed ≡ false }
-    ensures turns { TurnsOf assignment.now.plan (D.number door.old) result
+    ensures turns { (looks : List Look) × (D.looks door.new ≡ D.looks door.old ++ looks)
+        × TurnsOf assignment.now.plan (D.number door.old) result looks
         (stands D.Door L.Line (lent works.old door.old line.old)) (stands D.Door L.Line (lent works.new door.new line.new)) }
     ensures number { D.number door.new ≡ D.number door.old }
-    ensures door { D.is_same door.old door.new }
+    ensures door { D.goes_on door.old door.new }
     ensures line { L.is_same line.old line.new }
 {
     let plan = &assignment.plan;
@@ -143,10 +146,11 @@ fn both_halves<D: SliceDoor, L: Line, G: LinkManager>(
 ) -> Result<TermReport, TermFault>
     requires at { D.number door.old ≡ works.old.inside.link }
     requires failed { works.old.failed ≡ false }
-    ensures turns { Halves assignment.now.plan.turns result
+    ensures turns { (looks : List Look) × (D.looks door.new ≡ D.looks door.old ++ looks)
+        × Halves assignment.now.plan.turns result looks
         (stands D.Door L.Line (lent works.old door.old line.old)) (stands D.Door L.Line (lent works.new door.new line.new)) }
     ensures number { D.number door.new ≡ D.number door.old }
-    ensures door { D.is_same door.old door.new }
+    ensures door { D.goes_on door.old door.new }
     ensures line { L.is_same line.old line.new }
 {
     let turns = assignment.plan.turns;

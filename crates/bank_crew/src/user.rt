@@ -1,5 +1,5 @@
 //! What a user's thread does.
-ghost use Rattle.std.specs.Prelude.{◌≡◌, List, [], map, IfOk};
+ghost use Rattle.std.specs.Prelude.{◌≡◌, true, List, [], map, IfOk};
 ghost use Rattle.set_events.specs.declared.history.Entry.{Entry};
 ghost use Rattle.bank_crew.specs.Seats.{AreAll};
 ghost use Rattle.bank_crew.specs.Jobs.{Does, DoesJob, duty_of, ended_by, Finds, kept_by, Offers, OffersOne, Takes, TakesOne, end_of_call, end_of_find, number_of};
@@ -57,6 +57,7 @@ impl<'a, O: Opening, G: LinkManager, R: Wait + Clock> UserShift<'a, O, G, R> {
         ensures who { result.seat.who ≡ self.entry.seat.who }
         ensures job { (all : List Entry) × AreAll result.seat all
             × DoesJob self.entry.seat.who (duty_of self.entry.job) result.told all }
+        ensures full { result.told ≡ Err UserFault.Exhausted → result.seat.full ≡ true }
     {
         let UserShift {
             rt,
@@ -85,6 +86,7 @@ fn do_job<O: Opening, G: LinkManager, R: Wait + Clock>(
     requires none { caller.old.all ≡ [] }
     ensures who { caller.new.seat.who ≡ caller.old.seat.who }
     ensures job { DoesJob caller.old.seat.who (duty_of job.now) result caller.new.all }
+    ensures full { result ≡ Err UserFault.Exhausted → caller.new.seat.full ≡ true }
 {
     match job {
         Job::Offer { bodies } => nothing_kept(
@@ -100,6 +102,7 @@ fn do_job<O: Opening, G: LinkManager, R: Wait + Clock>(
 fn nothing_kept(alloc: Global, ended: Result<(), UserFault>) -> Result<UserReport, UserFault>
     ensures ended { ended_by result ≡ ended }
     ensures kept { IfOk result (λ report. kept_by report ≡ []) }
+    ensures full { result ≡ Err UserFault.Exhausted → ended ≡ Err UserFault.Exhausted }
 {
     match ended {
         Ok(()) => Ok(UserReport {
@@ -120,6 +123,7 @@ fn offer_all<O: Opening, G: LinkManager, R: Wait + Clock>(
     ensures who { caller.new.seat.who ≡ caller.old.seat.who }
     ensures offers { Offers caller.old.seat.who (map (λ body. body.items) bodies.now) result
         caller.old.all caller.new.all }
+    ensures full { result ≡ Err UserFault.Exhausted → caller.new.seat.full ≡ true }
 {
     let mut pauses = Pauses::of(assignment.plan.checkpoint.map(u64::from));
     for body in bodies {
@@ -142,6 +146,7 @@ fn offer_one<O: Opening, G: LinkManager, R: Wait + Clock>(
 ) -> Result<(), UserFault>
     ensures who { caller.new.seat.who ≡ caller.old.seat.who }
     ensures offers { OffersOne caller.old.seat.who octets.now result caller.old.all caller.new.all }
+    ensures full { result ≡ Err UserFault.Exhausted → caller.new.seat.full ≡ true }
 {
     wait_to_call(rt, assignment, caller.number());
     let offered = caller.offer(rt, set, octets);
@@ -161,6 +166,7 @@ fn find_one<O: Opening, G: LinkManager, R: Wait + Clock>(
 ) -> Result<(), UserFault>
     ensures who { caller.new.seat.who ≡ caller.old.seat.who }
     ensures finds { Finds caller.old.seat.who number result caller.old.all caller.new.all }
+    ensures full { result ≡ Err UserFault.Exhausted → caller.new.seat.full ≡ true }
 {
     wait_to_call(rt, assignment, caller.number());
     end_of_find(&caller.find(rt, set, number))
@@ -176,6 +182,7 @@ fn take_often<O: Opening, G: LinkManager, R: Wait + Clock>(
 ) -> Result<(), UserFault>
     ensures who { caller.new.seat.who ≡ caller.old.seat.who }
     ensures takes { Takes caller.old.seat.who times result caller.old.all caller.new.all }
+    ensures full { result ≡ Err UserFault.Exhausted → caller.new.seat.full ≡ true }
 {
     let mut pauses = Pauses::of(assignment.plan.checkpoint.map(u64::from));
     for _time in 0..times {
@@ -197,6 +204,7 @@ fn take_one<O: Opening, G: LinkManager, R: Wait + Clock>(
 ) -> Result<(), UserFault>
     ensures who { caller.new.seat.who ≡ caller.old.seat.who }
     ensures takes { TakesOne caller.old.seat.who result caller.old.all caller.new.all }
+    ensures full { result ≡ Err UserFault.Exhausted → caller.new.seat.full ≡ true }
 {
     wait_to_call(rt, assignment, caller.number());
     end_of_call(&caller.take(rt, set))

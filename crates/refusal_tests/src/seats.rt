@@ -25,12 +25,14 @@ fn blanks() -> Blanks
     ensures messages { result.messages.parts ≡ 1 }
     ensures octets { result.octets.parts ≡ 1 }
     ensures acknowledged { result.acknowledged.parts ≡ 2 }
+    ensures full { result.full.parts ≡ 3 }
 {
     Blanks {
         calls: Blank::new(3),
         messages: Blank::new(1),
         octets: Blank::new(1),
         acknowledged: Blank::new(2),
+        full: Blank::new(3),
     }
 }
 

@@ -1,7 +1,8 @@
 -- What is needed where a set comes to its end.
-use Rattle.std.proofs.Common.{refl, arith, ◌≡◌, ◌∙◌, ap, sym, subst, ◌≤◌, ◌<◌, ◌⊎◌, inl, inr, ◌↔◌, IsTrue, ◌==◌, Bool, true, false, [], ◌∷◌, ◌++◌, length, ℕ, List, ◌+◌, sum_by}
+use Rattle.std.proofs.Common.{refl, arith, ◌≡◌, ◌∙◌, ap, sym, subst, ◌≤◌, ◌<◌, ◌⊎◌, inl, inr, ◌↔◌, IsTrue, ◌==◌, Bool, true, false, [], ◌∷◌, ◌++◌, length, ℕ, List, All, ◌+◌, sum_by}
 use Rattle.std.proofs.lemmas.Bool.Decides.{nat_tests}
 use Rattle.std.proofs.lemmas.List.{length-append}
+use Rattle.std.proofs.lemmas.List.Elements.{All-append, All-cons, All-nil}
 use Rattle.std.proofs.lemmas.List.Sums.{sum_by-append, sum_by-cons}
 use Rattle.std.specs.Prelude.{if◌then◌else◌}
 use Rattle.set_events.specs.declared.answer.Counts.{Counts}
@@ -10,12 +11,12 @@ use Rattle.set_events.specs.declared.event.Actor.TheVariants.{User, Terminal}
 use Rattle.set_events.specs.declared.history.Entry.{Entry}
 use Rattle.set_model.specs.Checkpoint.{counts_in}
 use Rattle.set_core.specs.Gaining.{AreBounded}
-use Rattle.set_model.specs.History.{LinkSet, IsLegal, after, books_of}
+use Rattle.set_model.specs.History.{LinkSet, IsLegal, after, books_of, entries_in, longest_history}
 use Rattle.set_model.specs.Rows.{total_of}
 use Rattle.set_ledger.specs.declared.share.SeatShare.{SeatShare}
-use Rattle.set_ledger.specs.Seats.{SeatState, Returns}
-use Rattle.set_ledger.specs.Ending.{are_seats, is_complete, AreFaithful, IsClosed, IsMerged}
-use Rattle.set_ledger.specs.Totals.{AreTotals, totals_of}
+use Rattle.set_ledger.specs.Seats.{SeatState, Returns, ReturnsFull}
+use Rattle.set_ledger.specs.Ending.{are_seats, is_complete, AreFaithful, IsClosed, IsMerged, IsMergedFull, IsTrulyFull}
+use Rattle.set_ledger.specs.Totals.{AreTotals, TellsFull, totals_of}
 
 -- a complete set of seats has as many as there are users and links
 as_many : (b rest : Bool) → (if b then rest else false) ≡ true → b ≡ true
@@ -54,6 +55,36 @@ merged_more number seats seat parts amount parts' amount' parts'' amount'' merge
       amount_is = omega (arith, amount_was, amount_is, sum_by-append told seats (seat ∷ []), sum_by-cons told seat []);
     }
 
+-- and its part of the ledger of a full history
+all_on : {X : Type 0} (P Q : X → Type 0) → ((x : X) → P x → Q x) → (xs : List X) → All P xs → All Q xs
+all_on P Q onward xs all = λ k d lt. onward _ (all k d lt)
+
+all_more : {X : Type 0} (P Q : X → Type 0) → ((x : X) → P x → Q x) → (xs : List X) (y : X) → All P xs → Q y → All Q (xs ++ y ∷ [])
+all_more P Q onward xs y all is = All-append Q xs (y ∷ []) (all_on P Q onward xs all) (All-cons Q y [] is (All-nil Q))
+
+pub merged_full : (seats : List SeatState) (seat : SeatState) (parts amount parts' amount' parts'' amount'' : ℕ) → IsMergedFull seats parts amount parts' amount' → ReturnsFull parts' amount' seat.full parts'' amount'' → IsMergedFull (seats ++ seat ∷ []) parts amount parts'' amount''
+merged_full seats seat parts amount parts' amount' parts'' amount'' merged returns =
+    let parts_were = merged.parts_are in
+    let amount_was = merged.amount_stays in
+    let parts_are = returns.parts_are in
+    let amount_is = returns.amount_stays in
+    record {
+      parts_are = omega (arith, parts_were, parts_are, length-append seats (seat ∷ []));
+      amount_stays = omega (arith, amount_was, amount_is);
+      some = all_more (λ (s : SeatState). s.full ≡ true → 0 < amount') (λ (s : SeatState). s.full ≡ true → 0 < amount'')
+          (λ s some told. let was = some told in omega (arith, was, amount_is)) seats seat merged.some returns.some;
+    }
+
+-- WHO WAS TOLD of a full history was told the truth
+pub told_truly : (set : LinkSet) (seats : List SeatState) (total parts amount parts' amount' last : ℕ) → TellsFull total set → entries_in set ≤ longest_history → IsMergedFull seats parts amount parts' amount' → amount' ≤ last → last ≤ total
+    → All (IsTrulyFull set.base set.history) seats
+told_truly set seats total parts amount parts' amount' last full short merged before all =
+    all_on (λ (seat : SeatState). seat.full ≡ true → 0 < amount') (IsTrulyFull set.base set.history)
+    (λ seat some told.
+    let is = some told in
+    let were = full (omega (arith, is, before, all)) in
+    omega (arith, were, short)) seats merged.some
+
 -- The seats have all parts of a ledger, so what their shares tell is its total.
 pub whole_sum : (number : SeatShare → ℕ) (seats : List SeatState) (parts amount parts' amount' all total : ℕ) → parts ≡ 0 → amount ≡ 0 → IsMerged number seats parts amount parts' amount' → length seats ≡ all → (parts' ≡ all → amount' ≡ total)
     → total ≡ sum_by (λ (seat : SeatState). number seat.share) seats
@@ -78,8 +109,9 @@ whole_sums number us ts parts amount parts' amount' parts'' amount'' all total n
 pub closes : (us ts : List SeatState) (set : LinkSet) (books : Books) (counts : Counts) (calls messages octets acknowledged : ℕ) → IsLegal set.base.state set.history → set.state ≡ after set.base.state set.history → books ≡ books_of set.base set.history → counts ≡ counts_in set.state → AreFaithful set.base.books set.history us ts
     → total_of counts ≡ (books_of set.base set.history).messages → AreBounded books → AreTotals (totals_of calls messages octets acknowledged) set
     → calls ≡ sum_by (λ (seat : SeatState). seat.share.calls) us + sum_by (λ (seat : SeatState). seat.share.calls) ts → messages ≡ sum_by (λ (seat : SeatState). seat.share.messages) us → octets ≡ sum_by (λ (seat : SeatState). seat.share.octets) us → acknowledged ≡ sum_by (λ (seat : SeatState). seat.share.acknowledged) ts
+    → All (IsTrulyFull set.base set.history) us → All (IsTrulyFull set.base set.history) ts
     → IsClosed us ts set.base set.history books counts
-closes us ts set books counts calls messages octets acknowledged legal replays books_are counts_are faithful placed bounded totals c m o a = record {
+closes us ts set books counts calls messages octets acknowledged legal replays books_are counts_are faithful placed bounded totals c m o a us_full ts_full = record {
   legal = legal;
   books_are = books_are;
   counts_are = counts_are ∙ ap counts_in replays;
@@ -91,6 +123,8 @@ closes us ts set books counts calls messages octets acknowledged legal replays b
   messages = ap (λ (b : Books). b.messages) books_are ∙ sym totals.messages_is ∙ m;
   octets = ap (λ (b : Books). b.octets) books_are ∙ sym totals.octets_is ∙ o;
   acknowledged = ap (λ (b : Books). b.acknowledged) books_are ∙ sym totals.acknowledged_is ∙ a;
+  users_full = us_full;
+  terminals_full = ts_full;
 }
 
 -- a number of users that was tested is in range

@@ -1,5 +1,5 @@
 -- What an entry adds to a seat, and what seats that are back come to.
-use Rattle.std.proofs.Common.{arith, ◌≡◌, ◌∙◌, ap, sym, refl, ℕ, ◌+◌, ◌-◌, ◌*◌, ◌^◌, ◌<◌, ◌≤◌, [], ◌∷◌, ◌++◌, List}
+use Rattle.std.proofs.Common.{arith, ◌≡◌, ◌∙◌, ap, sym, refl, ℕ, Bool, ◌+◌, ◌-◌, ◌*◌, ◌^◌, ◌<◌, ◌≤◌, [], ◌∷◌, ◌++◌, List}
 use Rattle.std.proofs.lemmas.List.{length-append}
 use Rattle.set_events.specs.declared.answer.Answer.{Answer}
 use Rattle.set_events.specs.declared.event.Actor.{Actor}
@@ -14,12 +14,12 @@ use Rattle.set_model.specs.Step.{messages_in, octets_of}
 use Rattle.set_ledger.specs.declared.share.Forgotten.{Forgotten}
 use Rattle.set_ledger.specs.declared.share.SeatShare.{SeatShare}
 use Rattle.set_ledger.specs.Seats.{ShareGrows, AddsUp, acked_in, user_share, term_share, user_state, term_state}
-use Rattle.set_ledger.specs.Totals.{AreTotals, Gains, GainsNoOther, totals_of}
+use Rattle.set_ledger.specs.Totals.{AreTotals, Gains, GainsNoOther, TellsFull, totals_of}
 
 -- a share that grew by an entry is what the receipts with that entry add up to
-pub adds_up_more : (who : Actor) (old new : SeatShare) (forgotten : Forgotten) (receipts more : List Entry) (event : Event) (answer : Answer) → AddsUp (record { who = who; share = old; forgotten = forgotten; receipts = receipts }) → ShareGrows old event answer new → more ≡ receipts ++ record { who = who; event = event; answer = answer } ∷ []
-    → AddsUp (record { who = who; share = new; forgotten = forgotten; receipts = more })
-adds_up_more who old new forgotten receipts more event answer sums grows e =
+pub adds_up_more : (who : Actor) (old new : SeatShare) (forgotten : Forgotten) (receipts more : List Entry) (full : Bool) (event : Event) (answer : Answer) → AddsUp (record { who = who; share = old; forgotten = forgotten; receipts = receipts; full = full }) → ShareGrows old event answer new → more ≡ receipts ++ record { who = who; event = event; answer = answer } ∷ []
+    → AddsUp (record { who = who; share = new; forgotten = forgotten; receipts = more; full = full })
+adds_up_more who old new forgotten receipts more full event answer sums grows e =
     let entry : Entry = record { who = who; event = event; answer = answer } in
     let calls_were = sums.calls in
     let calls_more = grows.calls in
@@ -50,15 +50,15 @@ term_grows link calls acknowledged calls' acknowledged' event answer gained old 
 }
 
 -- A SEAT at a step that brought this much: its parts gained so much, and the receipt was put last.
-pub user_adds_up : (number calls messages octets calls' messages' octets' : ℕ) (forgotten : Forgotten) (receipts more : List Entry) (event : Event) (answer : Answer) (gained : SeatShare) (old new : LinkSet) → AddsUp (user_state number calls messages octets forgotten receipts) → Gains old (User number) event answer gained new
-    → calls' ≡ calls + gained.calls → messages' ≡ messages + gained.messages → octets' ≡ octets + gained.octets → more ≡ receipts ++ record { who = User number; event = event; answer = answer } ∷ [] → AddsUp (user_state number calls' messages' octets' forgotten more)
-user_adds_up number calls messages octets calls' messages' octets' forgotten receipts more event answer gained old new sums gains c m o e =
-    adds_up_more (User number) _ _ forgotten receipts more event answer sums (user_grows number calls messages octets calls' messages' octets' event answer gained old new gains c m o) e
+pub user_adds_up : (number calls messages octets calls' messages' octets' : ℕ) (forgotten : Forgotten) (receipts more : List Entry) (full : Bool) (event : Event) (answer : Answer) (gained : SeatShare) (old new : LinkSet) → AddsUp (user_state number calls messages octets forgotten receipts full) → Gains old (User number) event answer gained new
+    → calls' ≡ calls + gained.calls → messages' ≡ messages + gained.messages → octets' ≡ octets + gained.octets → more ≡ receipts ++ record { who = User number; event = event; answer = answer } ∷ [] → AddsUp (user_state number calls' messages' octets' forgotten more full)
+user_adds_up number calls messages octets calls' messages' octets' forgotten receipts more full event answer gained old new sums gains c m o e =
+    adds_up_more (User number) _ _ forgotten receipts more full event answer sums (user_grows number calls messages octets calls' messages' octets' event answer gained old new gains c m o) e
 
-pub term_adds_up : (link calls acknowledged calls' acknowledged' : ℕ) (forgotten : Forgotten) (receipts more : List Entry) (event : Event) (answer : Answer) (gained : SeatShare) (old new : LinkSet) → AddsUp (term_state link calls acknowledged forgotten receipts) → Gains old (Terminal link) event answer gained new
-    → calls' ≡ calls + gained.calls → more ≡ receipts ++ record { who = Terminal link; event = event; answer = answer } ∷ [] → AddsUp (term_state link calls' acknowledged' forgotten more)
-term_adds_up link calls acknowledged calls' acknowledged' forgotten receipts more event answer gained old new sums gains c e =
-    adds_up_more (Terminal link) _ _ forgotten receipts more event answer sums (term_grows link calls acknowledged calls' acknowledged' event answer gained old new gains c) e
+pub term_adds_up : (link calls acknowledged calls' acknowledged' : ℕ) (forgotten : Forgotten) (receipts more : List Entry) (full : Bool) (event : Event) (answer : Answer) (gained : SeatShare) (old new : LinkSet) → AddsUp (term_state link calls acknowledged forgotten receipts full) → Gains old (Terminal link) event answer gained new
+    → calls' ≡ calls + gained.calls → more ≡ receipts ++ record { who = Terminal link; event = event; answer = answer } ∷ [] → AddsUp (term_state link calls' acknowledged' forgotten more full)
+term_adds_up link calls acknowledged calls' acknowledged' forgotten receipts more full event answer gained old new sums gains c e =
+    adds_up_more (Terminal link) _ _ forgotten receipts more full event answer sums (term_grows link calls acknowledged calls' acknowledged' event answer gained old new gains c) e
 
 -- THE TOTALS then: the books of the seat's ledgers gained as much, and the others nothing.
 pub user_totals : (number calls messages octets acknowledged calls' messages' octets' : ℕ) (event : Event) (answer : Answer) (gained : SeatShare) (old new : LinkSet) → AreTotals (totals_of calls messages octets acknowledged) old → Gains old (User number) event answer gained new
@@ -85,6 +85,13 @@ user_acknowledges number event answer gained old new gains = let is = gains.ackn
 
 pub term_acknowledges : (link acknowledged acknowledged' : ℕ) (event : Event) (answer : Answer) (gained : SeatShare) (old new : LinkSet) → Gains old (Terminal link) event answer gained new → acknowledged' ≡ acknowledged + gained.acknowledged → acknowledged' + acked_in old ≡ acknowledged + acked_in new
 term_acknowledges link acknowledged acknowledged' event answer gained old new gains a = let is = gains.acknowledged in omega (arith, is, a)
+
+-- a history that was full is full still
+pub full_stays : (total : ℕ) (old new : LinkSet) (who : Actor) (event : Event) (answer : Answer) (gained : SeatShare) → Gains old who event answer gained new → TellsFull total old → TellsFull total new
+full_stays total old new who event answer gained gains full some =
+    let were = full some in
+    let more = gains.calls in
+    omega (arith, were, more)
 
 -- room in a book for what a step brought
 pub room_for : (total gained was is : ℕ) → total ≡ was → is ≡ was + gained → is ≤ 273 * 2 ^ 48 → total + gained < 2 ^ 64

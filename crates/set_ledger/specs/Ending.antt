@@ -1,5 +1,5 @@
 -- THE END of a set: all its seats are back, and their receipts end with its history.
-use Rattle.std.specs.Prelude.{◌≡◌, ◌≤◌, ◌+◌, ◌==◌, ℕ, zero, suc, Bool, true, false, List, [], ◌∷◌, ◌++◌, length, filter, sum_by, slice_get, unwrap_or, All, if◌then◌else◌}
+use Rattle.std.specs.Prelude.{◌≡◌, ◌<◌, ◌≤◌, ◌+◌, ◌==◌, ℕ, zero, suc, Bool, true, false, List, [], ◌∷◌, ◌++◌, length, filter, sum_by, slice_get, unwrap_or, All, if◌then◌else◌}
 use Rattle.set_events.specs.declared.event.Actor.{Actor}
 use Rattle.set_events.specs.declared.event.Actor.TheVariants.{User, Terminal}
 use Rattle.set_events.specs.declared.history.Entry.{Entry}
@@ -53,6 +53,10 @@ IsFaithful books history seat =
 abbrev pub AreFaithful : Books → List Entry → List SeatState → List SeatState → Type 0
 AreFaithful books history users terminals = All (IsFaithful books history) users × All (IsFaithful books history) terminals
 
+-- where a seat was told of a full history, the history and what lies before its base have as many entries as one can
+abbrev pub IsTrulyFull : Base → List Entry → SeatState → Type 0
+IsTrulyFull base history seat = seat.full ≡ true → entries_of base history ≡ longest_history
+
 -- CLOSED: what a set went on from, its history since and its totals, once its seats are back.
 pub record IsClosed (users terminals : List SeatState) (base : Base) (history : List Entry) (books : Books)
     (counts : Counts) : Type 0 where
@@ -70,8 +74,17 @@ pub record IsClosed (users terminals : List SeatState) (base : Base) (history : 
   pub messages : books.messages ≡ sum_by (λ (seat : SeatState). seat.share.messages) users
   pub octets : books.octets ≡ sum_by (λ (seat : SeatState). seat.share.octets) users
   pub acknowledged : books.acknowledged ≡ sum_by (λ (seat : SeatState). seat.share.acknowledged) terminals
+  -- who was told of a full history was told the truth
+  pub users_full : All (IsTrulyFull base history) users
+  pub terminals_full : All (IsTrulyFull base history) terminals
 
 -- seats were taken apart: each has one part of a ledger, and its share's number is the amount
 pub record IsMerged (number : SeatShare → ℕ) (seats : List SeatState) (parts amount parts' amount' : ℕ) : Type 0 where
   pub parts_are : parts' ≡ parts + length seats
   pub amount_is : amount' ≡ amount + sum_by (λ (seat : SeatState). number seat.share) seats
+
+-- and its part of the ledger of a full history, with an amount where one of them was told so
+pub record IsMergedFull (seats : List SeatState) (parts amount parts' amount' : ℕ) : Type 0 where
+  pub parts_are : parts' ≡ parts + length seats
+  pub amount_stays : amount ≤ amount'
+  pub some : All (λ (seat : SeatState). seat.full ≡ true → 0 < amount') seats

@@ -44,7 +44,7 @@ abbrev pub no_blank : Blank
 no_blank = record { marker = record {}; name = 0; parts = 0 }
 
 abbrev pub no_blanks : Blanks
-no_blanks = record { calls = no_blank; messages = no_blank; octets = no_blank; acknowledged = no_blank }
+no_blanks = record { calls = no_blank; messages = no_blank; octets = no_blank; acknowledged = no_blank; full = no_blank }
 
 abbrev pub no_settings : Settings
 no_settings = record { set = 0; links = 0; method = Basic; profile = Narrow; sio = 0; dpc = 0; opc = 0 }

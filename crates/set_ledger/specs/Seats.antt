@@ -1,9 +1,10 @@
 -- SEATS: who asks a set, what share of the totals each has, and a receipt for each step that it made.
-use Rattle.std.specs.Prelude.{◌≡◌, ℕ, zero, suc, List, [], ◌∷◌, ◌++◌, ◌+◌, ◌<◌, ◌^◌, drop, length}
+use Rattle.std.specs.Prelude.{◌≡◌, ℕ, zero, suc, Bool, true, false, List, [], ◌∷◌, ◌++◌, ◌+◌, ◌<◌, ◌≤◌, ◌^◌, drop, length}
 use Rattle.set_events.specs.declared.answer.Answer.{Answer}
 use Rattle.set_events.specs.declared.event.Actor.{Actor}
 use Rattle.set_events.specs.declared.event.Actor.TheVariants.{User, Terminal}
 use Rattle.set_events.specs.declared.event.Event.{Event}
+use Rattle.set_events.specs.declared.fault.SetFault.{SetFault}
 use Rattle.set_events.specs.declared.history.Entry.{Entry}
 use Rattle.set_ledger.specs.declared.share.Forgotten.{Forgotten}
 use Rattle.set_ledger.specs.declared.share.SeatShare.{SeatShare}
@@ -16,6 +17,8 @@ pub record SeatState : Type 0 where
   -- what the receipts that it forgot added up to
   pub forgotten : Forgotten
   pub receipts : List Entry
+  -- it was told that the history is full
+  pub full : Bool
 
 -- what a user's numbers and receipts show, and a terminal's
 abbrev pub user_share : ℕ → ℕ → ℕ → SeatShare
@@ -24,20 +27,22 @@ user_share calls messages octets = record { calls = calls; messages = messages; 
 abbrev pub term_share : ℕ → ℕ → SeatShare
 term_share calls acknowledged = record { calls = calls; messages = 0; octets = 0; acknowledged = acknowledged }
 
-abbrev pub user_state : ℕ → ℕ → ℕ → ℕ → Forgotten → List Entry → SeatState
-user_state number calls messages octets forgotten receipts = record {
+abbrev pub user_state : ℕ → ℕ → ℕ → ℕ → Forgotten → List Entry → Bool → SeatState
+user_state number calls messages octets forgotten receipts full = record {
   who = User number;
   share = user_share calls messages octets;
   forgotten = forgotten;
   receipts = receipts;
+  full = full;
 }
 
-abbrev pub term_state : ℕ → ℕ → ℕ → Forgotten → List Entry → SeatState
-term_state link calls acknowledged forgotten receipts = record {
+abbrev pub term_state : ℕ → ℕ → ℕ → Forgotten → List Entry → Bool → SeatState
+term_state link calls acknowledged forgotten receipts full = record {
   who = Terminal link;
   share = term_share calls acknowledged;
   forgotten = forgotten;
   receipts = receipts;
+  full = full;
 }
 
 -- a seat from which nothing was asked
@@ -48,7 +53,7 @@ abbrev pub nothing_forgotten : Forgotten
 nothing_forgotten = record { calls = 0; messages = 0; octets = 0 }
 
 abbrev pub new_seat : Actor → SeatState
-new_seat who = record { who = who; share = no_share; forgotten = nothing_forgotten; receipts = [] }
+new_seat who = record { who = who; share = no_share; forgotten = nothing_forgotten; receipts = []; full = false }
 
 -- the seats of the actors 0, 1, .. below a number
 abbrev pub new_seats : (ℕ → Actor) → ℕ → List SeatState
@@ -97,8 +102,14 @@ acked_in set = (books_in set).acknowledged
 pub record Receives (old : SeatState) (event : Event) (answer : Answer) (new : SeatState) : Type 0 where
   pub who_same : new.who ≡ old.who
   pub forgotten_same : new.forgotten ≡ old.forgotten
+  pub full_same : new.full ≡ old.full
   pub receipt : new.receipts ≡ old.receipts ++ record { who = old.who; event = event; answer = answer } ∷ []
   pub grows : ShareGrows old.share event answer new.share
+
+-- AT A FAULT a seat is as it was, but that it keeps that it was told of a full history
+abbrev pub refused : SetFault → SeatState → SeatState
+refused SetFault.NoMemory seat = seat
+refused SetFault.Exhausted seat = record seat { full = true }
 
 -- what a step acknowledged is the share's of the seat that made it
 abbrev pub AcknowledgesAs : LinkSet → LinkSet → SeatShare → SeatShare → Type 0
@@ -109,6 +120,7 @@ AcknowledgesAs set set' old new = new.acknowledged + acked_in set ≡ old.acknow
 pub record Forgets (many : ℕ) (old new : SeatState) : Type 0 where
   pub who_same : new.who ≡ old.who
   pub share_same : new.share ≡ old.share
+  pub full_same : new.full ≡ old.full
   pub receipts_are : new.receipts ≡ drop many old.receipts
   pub sum_same : with_entries new.forgotten new.receipts ≡ with_entries old.forgotten old.receipts
 
@@ -116,3 +128,9 @@ pub record Forgets (many : ℕ) (old new : SeatState) : Type 0 where
 pub record Returns (parts amount told parts' amount' : ℕ) : Type 0 where
   pub parts_are : parts' ≡ parts + 1
   pub amount_is : amount' ≡ amount + told
+
+-- and its part of the ledger of a full history, with an amount where it was told so
+pub record ReturnsFull (parts amount : ℕ) (told : Bool) (parts' amount' : ℕ) : Type 0 where
+  pub parts_are : parts' ≡ parts + 1
+  pub amount_stays : amount ≤ amount'
+  pub some : told ≡ true → 0 < amount'

@@ -1,5 +1,5 @@
 -- THE TOTALS of a set: what its ledgers' books say, which is what its history adds up to.
-use Rattle.std.specs.Prelude.{◌≡◌, ◌+◌, ◌*◌, ◌≤◌, ℕ, [], Vec, vec_len, vec_capacity}
+use Rattle.std.specs.Prelude.{◌≡◌, ◌+◌, ◌*◌, ◌<◌, ◌≤◌, ℕ, [], Vec, vec_len, vec_capacity}
 use Rattle.set_events.specs.declared.answer.Answer.{Answer}
 use Rattle.set_events.specs.declared.event.Actor.{Actor}
 use Rattle.set_events.specs.declared.event.Actor.TheVariants.{User, Terminal}
@@ -23,6 +23,10 @@ pub record AreTotals (totals : SeatShare) (set : LinkSet) : Type 0 where
   pub messages_is : totals.messages ≡ (books_in set).messages
   pub octets_is : totals.octets ≡ (books_in set).octets
   pub acknowledged_is : totals.acknowledged ≡ acked_in set
+
+-- THE LEDGER OF A FULL HISTORY has an amount only where it's full
+abbrev pub TellsFull : ℕ → LinkSet → Type 0
+TellsFull total set = 0 < total → longest_history ≤ entries_in set
 
 -- four totals together
 abbrev pub totals_of : ℕ → ℕ → ℕ → ℕ → SeatShare
@@ -50,13 +54,14 @@ pub record Gains (old : LinkSet) (who : Actor) (event : Event) (answer : Answer)
   pub few_octets : (books_in new).octets ≤ 273 * longest_history
   pub few_acknowledged : acked_in new ≤ longest_history
 
--- each seat has one part of each ledger that it moves: calls are everybody's, messages and octets the users',
--- acknowledgements the terminals'
+-- each seat has one part of each ledger that it moves: calls, and what tells of a full history, are everybody's, messages and
+-- octets the users', acknowledgements the terminals'
 pub record AreParts (blanks : Blanks) (users links : ℕ) : Type 0 where
   pub calls_cut : blanks.calls.parts ≡ users + links
   pub messages_cut : blanks.messages.parts ≡ users
   pub octets_cut : blanks.octets.parts ≡ users
   pub acknowledged_cut : blanks.acknowledged.parts ≡ links
+  pub full_cut : blanks.full.parts ≡ users + links
 
 -- nothing yet, and room for so many
 pub record IsRoom {T Z : Type 0} (seats : Vec T Z) (many : ℕ) : Type 0 where

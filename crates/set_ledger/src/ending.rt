@@ -1,12 +1,12 @@
 //! The end of a set: all its seats are back, and their receipts are held against its base and its history.
 ghost use Rattle.std.specs.Prelude.{◌≡◌, ◌↔◌, true, IsTrue, IfOk, IfErr, OnOk, OnErr, if◌then◌else◌};
 ghost use Rattle.set_model.specs.State.{settings_of};
-ghost use Rattle.set_ledger.specs.Ending.{is_complete, AreFaithful, IsClosed, IsMerged};
+ghost use Rattle.set_ledger.specs.Ending.{is_complete, AreFaithful, IsClosed, IsMerged, IsMergedFull};
 ghost use Rattle.set_ledger.specs.Openings.{IsBaseOf};
 
 use super::checking::{are_faithful, are_terminals, are_users};
 use super::held::{Held, Rest};
-use super::opening::{Acknowledged, Calls, Messages, Octets, Opening};
+use super::opening::{Acknowledged, Calls, Full, Messages, Octets, Opening};
 use super::seat::{TermSeat, UserSeat};
 use set_core::Base;
 use set_events::{Books, Counts, SetConfig};
@@ -61,8 +61,9 @@ impl<O: Opening> EndFault<O> {
 
 impl<O: Opening> Held<O> {
     /// Ends a set with all its seats: the history is legal from its base, each seat's receipts end with its entries in
-    /// order, and the totals are the sums of the shares. The configuration is that which the set was opened with, by the
-    /// settings of its type, and the base is one that legal histories lead to from there. It takes no memory.
+    /// order, and the totals are the sums of the shares. Where a seat was told of a full history it has 2^48 entries. The
+    /// configuration is that which the set was opened with, by the settings of its type, and the base is one that legal
+    /// histories lead to from there. It takes no memory.
     ///
     /// Faults, which hand back the set and the seats: 1 [`EndFault::Missing`] exactly where there isn't one seat for
     /// each user and each link of the set and no other; else 2 [`EndFault::Strange`] exactly where the receipts of a
@@ -148,6 +149,7 @@ impl<O: Opening> Held<O> {
             messages: mut message_book,
             octets: mut octet_book,
             acknowledged: mut acked_book,
+            full: mut full_book,
             rest,
         } = self;
         let Rest {
@@ -155,13 +157,15 @@ impl<O: Opening> Held<O> {
             mut messages,
             mut octets,
             mut acknowledged,
+            mut full,
         } = rest;
-        merge_users(users, &mut calls, &mut messages, &mut octets);
-        merge_terminals(terminals, &mut calls, &mut acknowledged);
+        merge_users(users, &mut calls, &mut messages, &mut octets, &mut full);
+        merge_terminals(terminals, &mut calls, &mut acknowledged, &mut full);
         call_book.audit(&mut calls);
         message_book.audit(&mut messages);
         octet_book.audit(&mut octets);
         acked_book.audit(&mut acknowledged);
+        full_book.audit(&mut full);
         let (base, history) = core.into_base_and_history();
         Closed {
             config,
@@ -179,6 +183,7 @@ fn merge_users<O: Opening>(
     calls: &mut Share<Calls<O>>,
     messages: &mut Share<Messages<O>>,
     octets: &mut Share<Octets<O>>,
+    full: &mut Share<Full<O>>,
 )
     ensures calls { IsMerged (λ share. share.calls) seats.items
         calls.old.parts calls.old.amount calls.new.parts calls.new.amount }
@@ -186,9 +191,10 @@ fn merge_users<O: Opening>(
         messages.old.parts messages.old.amount messages.new.parts messages.new.amount }
     ensures octets { IsMerged (λ share. share.octets) seats.items
         octets.old.parts octets.old.amount octets.new.parts octets.new.amount }
+    ensures full { IsMergedFull seats.items full.old.parts full.old.amount full.new.parts full.new.amount }
 {
     for seat in seats {
-        seat.give_back(calls, messages, octets);
+        seat.give_back(calls, messages, octets, full);
     }
 }
 
@@ -197,14 +203,16 @@ fn merge_terminals<O: Opening>(
     seats: Vec<TermSeat<O>>,
     calls: &mut Share<Calls<O>>,
     acknowledged: &mut Share<Acknowledged<O>>,
+    full: &mut Share<Full<O>>,
 )
     ensures calls { IsMerged (λ share. share.calls) seats.items
         calls.old.parts calls.old.amount calls.new.parts calls.new.amount }
     ensures acknowledged { IsMerged
         (λ share. share.acknowledged) seats.items acknowledged.old.parts acknowledged.old.amount
         acknowledged.new.parts acknowledged.new.amount }
+    ensures full { IsMergedFull seats.items full.old.parts full.old.amount full.new.parts full.new.amount }
 {
     for seat in seats {
-        seat.give_back(calls, acknowledged);
+        seat.give_back(calls, acknowledged, full);
     }
 }

@@ -7,7 +7,7 @@ ghost use Rattle.set_ledger.specs.Openings.{IsBaseOf, IsSetOf};
 ghost use Rattle.set_ledger.specs.Seats.{new_seats, no_share};
 ghost use Rattle.set_ledger.specs.Totals.{AreTotals, AreParts, IsRoom};
 
-use super::opening::{Acknowledged, Calls, Messages, Octets, Opening};
+use super::opening::{Acknowledged, Calls, Full, Messages, Octets, Opening};
 use super::seat::{TermSeat, UserSeat, put_terminals, put_users};
 use super::share::{Blanks, SeatShare};
 use set_core::{SetCore, SetFault};
@@ -23,7 +23,8 @@ pub const MOST_USERS: u16 = 64;
 /// A set with the books of its ledgers. Contracts see how many users and links have a seat, the books' totals, and the set.
 ///
 /// Of every value it holds that the totals are what the set's history adds up to since its opening ([`Held::totals`]), and
-/// that legal histories lead to its base from what its type says that it was opened with ([`Held::replays`]).
+/// that legal histories lead to its base from what its type says that it was opened with ([`Held::replays`]). Where the ledger
+/// of a full history has an amount its history is full.
 #[derive(Drop)]
 pub struct Held<O: Opening, G: Allocator = Global> {
     pub(crate) core: SetCore<G>,
@@ -33,6 +34,7 @@ pub struct Held<O: Opening, G: Allocator = Global> {
     pub(crate) messages: Book<Messages<O>>,
     pub(crate) octets: Book<Octets<O>>,
     pub(crate) acknowledged: Book<Acknowledged<O>>,
+    pub(crate) full: Book<Full<O>>,
     pub(crate) rest: Rest<O>,
 }
 
@@ -43,7 +45,7 @@ impl<O: Opening, G: Allocator> Model for Held<O, G> {
 
     ghost use Rattle.std.specs.Prelude.{◌≡◌};
     ghost use Rattle.set_ledger.specs.Openings.{IsBaseOf};
-    ghost use Rattle.set_ledger.specs.Totals.{AreTotals, AreParts, totals_of};
+    ghost use Rattle.set_ledger.specs.Totals.{AreTotals, AreParts, TellsFull, totals_of};
 
     ghost view = { λ h. record {
       users = h.users;
@@ -56,7 +58,8 @@ impl<O: Opening, G: Allocator> Model for Held<O, G> {
     ghost invariant = { λ h. AreTotals (totals_of
         h.calls.total h.messages.total h.octets.total h.acknowledged.total) h.core
         × AreParts O.blanks h.users h.links
-        × IsBaseOf O.settings h.core.base };
+        × IsBaseOf O.settings h.core.base
+        × TellsFull h.full.total h.core };
 }
 
 /// What is left of the ledgers once each seat has its parts: none, and no amount.
@@ -66,10 +69,11 @@ pub(crate) struct Rest<O: Opening> {
     pub(crate) messages: Share<Messages<O>>,
     pub(crate) octets: Share<Octets<O>>,
     pub(crate) acknowledged: Share<Acknowledged<O>>,
+    pub(crate) full: Share<Full<O>>,
     pub(crate) ghost no_parts: { (calls.parts ≡ 0) × (messages.parts ≡ 0)
-        × (octets.parts ≡ 0) × (acknowledged.parts ≡ 0) },
+        × (octets.parts ≡ 0) × (acknowledged.parts ≡ 0) × (full.parts ≡ 0) },
     pub(crate) ghost no_amount: { (calls.amount ≡ 0) × (messages.amount ≡ 0)
-        × (octets.amount ≡ 0) × (acknowledged.amount ≡ 0) },
+        × (octets.amount ≡ 0) × (acknowledged.amount ≡ 0) × (full.amount ≡ 0) },
 }
 
 /// Why a set can't be opened. The blanks are given up.
@@ -231,6 +235,7 @@ fn with_seats<O: Opening, G: Allocator + Copy>(
     let (message_book, mut messages) = blanks.messages.open::<Messages<O>>();
     let (octet_book, mut octets) = blanks.octets.open::<Octets<O>>();
     let (acked_book, mut acknowledged) = blanks.acknowledged.open::<Acknowledged<O>>();
+    let (full_book, mut full) = blanks.full.open::<Full<O>>();
     let mut user_seats = user_seats;
     put_users(
         &mut user_seats,
@@ -238,14 +243,22 @@ fn with_seats<O: Opening, G: Allocator + Copy>(
         &mut calls,
         &mut messages,
         &mut octets,
+        &mut full,
     );
     let mut term_seats = term_seats;
-    put_terminals(&mut term_seats, links, &mut calls, &mut acknowledged);
+    put_terminals(
+        &mut term_seats,
+        links,
+        &mut calls,
+        &mut acknowledged,
+        &mut full,
+    );
     let rest = Rest {
         calls,
         messages,
         octets,
         acknowledged,
+        full,
     };
     Opened {
         held: Held {
@@ -256,6 +269,7 @@ fn with_seats<O: Opening, G: Allocator + Copy>(
             messages: message_book,
             octets: octet_book,
             acknowledged: acked_book,
+            full: full_book,
             rest,
         },
         users: user_seats,

@@ -1,9 +1,9 @@
 //! Seats, and the ledgers that say that a set's totals are the sums of the seats' shares.
 //!
-//! A [`Held`] is what stands under the lock of a set: a `SetCore` and the books of four ledgers, which count
-//! calls, accepted messages, their octets, and acknowledged messages. Each user and each link's terminal has a
-//! seat: its actor, a share of each ledger that it moves, and a receipt for each step that it made. A share
-//! moves only together with its book, and [`step_in`] alone makes receipts, so that whoever gets all seats back
+//! A [`Held`] is what stands under the lock of a set: a `SetCore` and the books of five ledgers, which count calls, accepted
+//! messages, their octets, and acknowledged messages, and tell of a full history. Each user and each link's terminal has
+//! a seat: its actor, a share of each ledger that it moves, and a receipt for each step that it made. A share moves only
+//! together with its book, and [`step_in`] alone makes receipts, so that whoever gets all seats back
 //! can hold them against the history: [`Held::end`] does.
 //!
 //! [`Held::checkpoint`] makes what the set holds its base, from which the history begins anew; the seats keep their

@@ -1,4 +1,4 @@
-//! What a set was opened with, as its type tells it, and the four ledgers that it names so.
+//! What a set was opened with, as its type tells it, and the five ledgers that it names so.
 
 use std::marker::{Brand, PhantomData};
 use std::sync::ledger::Ledger;
@@ -9,7 +9,7 @@ pub trait Opening {
     ghost use Rattle.set_ledger.specs.declared.share.Blanks.{Blanks};
     ghost use Rattle.set_model.specs.State.{Settings};
 
-    /// The blanks of its four ledgers, which name those.
+    /// The blanks of its five ledgers, which name those.
     ghost blanks: { Blanks };
 
     /// Its configuration's settings.
@@ -36,6 +36,9 @@ pub(crate) struct Octets<O>(PhantomData<O>);
 /// The ledger of its acknowledged messages.
 pub(crate) struct Acknowledged<O>(PhantomData<O>);
 
+/// The ledger of a set whose history is full: it has an amount only then.
+pub(crate) struct Full<O>(PhantomData<O>);
+
 impl<O: Opening> Ledger for Calls<O> {
     ghost name = { O.blanks.calls.name };
 
@@ -58,4 +61,10 @@ impl<O: Opening> Ledger for Acknowledged<O> {
     ghost name = { O.blanks.acknowledged.name };
 
     ghost parts = { O.blanks.acknowledged.parts };
+}
+
+impl<O: Opening> Ledger for Full<O> {
+    ghost name = { O.blanks.full.name };
+
+    ghost parts = { O.blanks.full.parts };
 }

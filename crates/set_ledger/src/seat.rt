@@ -1,17 +1,17 @@
 //! Seats of users and of terminals.
-ghost use Rattle.std.specs.Prelude.{◌≡◌, ◌<◌, ◌≤◌, ◌+◌, length, OnOk, OnErr};
+ghost use Rattle.std.specs.Prelude.{◌≡◌, ◌<◌, ◌≤◌, ◌+◌, length, IfErr, OnOk};
 ghost use Rattle.set_events.specs.declared.event.Actor.TheVariants.{User, Terminal};
 ghost use Rattle.set_events.specs.Lent.{HasFitUnit, event_in};
 ghost use Rattle.set_events.specs.Owners.{IsOwn};
 ghost use Rattle.set_model.specs.History.{IsStep, entries_in, longest_history};
-ghost use Rattle.set_ledger.specs.Seats.{Receives, AcknowledgesAs, AddsUp, Returns, new_seats};
+ghost use Rattle.set_ledger.specs.Seats.{Receives, AcknowledgesAs, AddsUp, Returns, ReturnsFull, new_seats, refused};
 ghost use Rattle.set_ledger.specs.Totals.{IsRoom};
 
 use super::forgetting::forget_first;
 use super::held::Held;
 use super::making::make;
-use super::opening::{Acknowledged, Calls, Messages, Octets, Opening};
-use super::share::{Forgotten, NOTHING_FORGOTTEN, SeatShare, Stake};
+use super::opening::{Acknowledged, Calls, Full, Messages, Octets, Opening};
+use super::share::{Forgotten, FullMark, NOTHING_FORGOTTEN, SeatShare, Stake};
 use super::stepping::Step;
 use set_core::SetFault;
 use set_events::{Actor, EventRef, Reply};
@@ -40,6 +40,10 @@ pub trait Seat<O: Opening>: Step<O> {
     /// What the receipts that it forgot added up to.
     fn forgotten(&self) -> Forgotten
         ensures { result ≡ (Self.state self.now).forgotten };
+
+    /// Whether it was told that the set's history is full.
+    fn is_told_full(&self) -> bool
+        ensures { result ≡ (Self.state self.now).full };
 }
 
 /// A user's seat. Only [`step_in`] and [`forget`] change it.
@@ -51,6 +55,7 @@ pub struct UserSeat<O: Opening, G: Allocator = Global> {
     pub(crate) octets: Stake<Octets<O>>,
     receipts: History<G>,
     forgotten: Forgotten,
+    pub(crate) full: FullMark<Full<O>>,
     /// What the receipts take memory from.
     alloc: G,
 }
@@ -63,10 +68,10 @@ impl<O: Opening, G: Allocator> Model for UserSeat<O, G> {
     ghost use Rattle.std.specs.Prelude.{◌<◌};
     ghost use Rattle.set_ledger.specs.Seats.{AddsUp, user_state};
 
-    ghost view = { λ s. user_state s.number s.calls.told s.messages.told s.octets.told s.forgotten s.receipts.items };
+    ghost view = { λ s. user_state s.number s.calls.told s.messages.told s.octets.told s.forgotten s.receipts.items s.full.told };
 
     ghost invariant = { λ s. (s.number < 64)
-        × AddsUp (user_state s.number s.calls.told s.messages.told s.octets.told s.forgotten s.receipts.items) };
+        × AddsUp (user_state s.number s.calls.told s.messages.told s.octets.told s.forgotten s.receipts.items s.full.told) };
 }
 
 /// The seat of a link's terminal. Only [`step_in`] and [`forget`] change it.
@@ -77,6 +82,7 @@ pub struct TermSeat<O: Opening, G: Allocator = Global> {
     pub(crate) acknowledged: Stake<Acknowledged<O>>,
     receipts: History<G>,
     forgotten: Forgotten,
+    pub(crate) full: FullMark<Full<O>>,
     /// What the receipts take memory from.
     alloc: G,
 }
@@ -89,10 +95,10 @@ impl<O: Opening, G: Allocator> Model for TermSeat<O, G> {
     ghost use Rattle.std.specs.Prelude.{◌<◌};
     ghost use Rattle.set_ledger.specs.Seats.{AddsUp, term_state};
 
-    ghost view = { λ s. term_state s.link s.calls.told s.acknowledged.told s.forgotten s.receipts.items };
+    ghost view = { λ s. term_state s.link s.calls.told s.acknowledged.told s.forgotten s.receipts.items s.full.told };
 
     ghost invariant = { λ s. (s.link < 16)
-        × AddsUp (term_state s.link s.calls.told s.acknowledged.told s.forgotten s.receipts.items) };
+        × AddsUp (term_state s.link s.calls.told s.acknowledged.told s.forgotten s.receipts.items s.full.told) };
 }
 
 impl<O: Opening, G: Allocator + Copy> Step<O> for UserSeat<O, G> {
@@ -116,7 +122,12 @@ impl<O: Opening, G: Allocator + Copy> Step<O> for UserSeat<O, G> {
                 self.octets.gain(&mut held.octets, gained.octets);
                 Ok(())
             }
-            Err(fault) => Err(fault),
+            Err(fault) => {
+                if let SetFault::Exhausted = fault {
+                    self.full.tell(&mut held.full);
+                }
+                Err(fault)
+            }
         }
     }
 
@@ -146,6 +157,10 @@ impl<O: Opening, G: Allocator + Copy> Seat<O> for UserSeat<O, G> {
     fn forgotten(&self) -> Forgotten {
         self.forgotten
     }
+
+    fn is_told_full(&self) -> bool {
+        self.full.told
+    }
 }
 
 impl<O: Opening, G: Allocator + Copy> Step<O> for TermSeat<O, G> {
@@ -169,7 +184,12 @@ impl<O: Opening, G: Allocator + Copy> Step<O> for TermSeat<O, G> {
                     .gain(&mut held.acknowledged, gained.acknowledged);
                 Ok(())
             }
-            Err(fault) => Err(fault),
+            Err(fault) => {
+                if let SetFault::Exhausted = fault {
+                    self.full.tell(&mut held.full);
+                }
+                Err(fault)
+            }
         }
     }
 
@@ -199,6 +219,10 @@ impl<O: Opening, G: Allocator + Copy> Seat<O> for TermSeat<O, G> {
     fn forgotten(&self) -> Forgotten {
         self.forgotten
     }
+
+    fn is_told_full(&self) -> bool {
+        self.full.told
+    }
 }
 
 impl<O: Opening, G: Allocator + Copy> UserSeat<O, G> {
@@ -216,6 +240,7 @@ impl<O: Opening, G: Allocator + Copy> UserSeat<O, G> {
         calls: &mut Share<Calls<O>>,
         messages: &mut Share<Messages<O>>,
         octets: &mut Share<Octets<O>>,
+        full: &mut Share<Full<O>>,
     )
         ensures calls { Returns calls.old.parts calls.old.amount self.share.calls calls.new.parts
             calls.new.amount }
@@ -223,10 +248,12 @@ impl<O: Opening, G: Allocator + Copy> UserSeat<O, G> {
             messages.new.parts messages.new.amount }
         ensures octets { Returns octets.old.parts octets.old.amount self.share.octets
             octets.new.parts octets.new.amount }
+        ensures full { ReturnsFull full.old.parts full.old.amount self.full full.new.parts full.new.amount }
     {
         self.calls.give_back(calls);
         self.messages.give_back(messages);
         self.octets.give_back(octets);
+        self.full.give_back(full);
     }
 }
 
@@ -244,14 +271,17 @@ impl<O: Opening, G: Allocator + Copy> TermSeat<O, G> {
         self,
         calls: &mut Share<Calls<O>>,
         acknowledged: &mut Share<Acknowledged<O>>,
+        full: &mut Share<Full<O>>,
     )
         ensures calls { Returns calls.old.parts calls.old.amount self.share.calls calls.new.parts
             calls.new.amount }
         ensures acknowledged { Returns acknowledged.old.parts acknowledged.old.amount
             self.share.acknowledged acknowledged.new.parts acknowledged.new.amount }
+        ensures full { ReturnsFull full.old.parts full.old.amount self.full full.new.parts full.new.amount }
     {
         self.calls.give_back(calls);
         self.acknowledged.give_back(acknowledged);
+        self.full.give_back(full);
     }
 }
 
@@ -271,7 +301,8 @@ pub fn reserve_receipt<O: Opening, S: Seat<O>>(
 /// A user's own events are Offer, Take and Find; a terminal's those on its own link.
 ///
 /// Faults: 2 [`SetFault::Exhausted`] only where the history has 2^48 entries; 1 [`SetFault::NoMemory`] only
-/// where memory was refused. After a fault the set and the seat are as they were.
+/// where memory was refused. After a fault the set and the seat are as they were, but that a seat keeps that it was told of a
+/// full history: [`Held::end`] knows by it that it was so.
 pub fn step_in<O: Opening, G: Allocator + Copy, S: Seat<O>>(
     held: &mut Held<O, G>,
     seat: &mut S,
@@ -290,7 +321,7 @@ pub fn step_in<O: Opening, G: Allocator + Copy, S: Seat<O>>(
     ensures seats { (held.new.users ≡ held.old.users) × (held.new.links ≡ held.old.links) }
     ensures exhausted { result ≡ Err SetFault.Exhausted
         → longest_history ≤ entries_in held.old.set }
-    ensures err { OnErr result ((held.new ≡ held.old) × (S.state seat.new ≡ S.state seat.old)) }
+    ensures err { IfErr result (λ fault. (held.new ≡ held.old) × (S.state seat.new ≡ refused fault (S.state seat.old))) }
 {
     seat.step(held, event, reply)
 }
@@ -302,17 +333,20 @@ pub(crate) fn put_users<O: Opening, G: Allocator + Copy>(
     calls: &mut Share<Calls<O>>,
     messages: &mut Share<Messages<O>>,
     octets: &mut Share<Octets<O>>,
+    full: &mut Share<Full<O>>,
 )
     requires room { IsRoom seats.old users }
     requires range { users ≤ 64 }
     requires calls { (calls.old.amount ≡ 0) × (users ≤ calls.old.parts) }
     requires messages { (messages.old.amount ≡ 0) × (users ≤ messages.old.parts) }
     requires octets { (octets.old.amount ≡ 0) × (users ≤ octets.old.parts) }
+    requires full { (full.old.amount ≡ 0) × (users ≤ full.old.parts) }
     ensures seats { seats.new.items ≡ new_seats User users }
     ensures calls { (calls.new.amount ≡ 0) × (calls.new.parts + users ≡ calls.old.parts) }
     ensures messages { (messages.new.amount ≡ 0)
         × (messages.new.parts + users ≡ messages.old.parts) }
     ensures octets { (octets.new.amount ≡ 0) × (octets.new.parts + users ≡ octets.old.parts) }
+    ensures full { (full.new.amount ≡ 0) × (full.new.parts + users ≡ full.old.parts) }
 {
     let alloc = *seats.allocator();
     for number in 0..users {
@@ -323,6 +357,7 @@ pub(crate) fn put_users<O: Opening, G: Allocator + Copy>(
             octets: Stake::cut(octets),
             receipts: History::new(alloc),
             forgotten: NOTHING_FORGOTTEN,
+            full: FullMark::cut(full),
             alloc,
         };
         seats.push_reserved(seat);
@@ -336,15 +371,18 @@ pub(crate) fn put_terminals<O: Opening, G: Allocator + Copy>(
     links: u8,
     calls: &mut Share<Calls<O>>,
     acknowledged: &mut Share<Acknowledged<O>>,
+    full: &mut Share<Full<O>>,
 )
     requires room { IsRoom seats.old links }
     requires range { links ≤ 16 }
     requires calls { (calls.old.amount ≡ 0) × (links ≤ calls.old.parts) }
     requires acknowledged { (acknowledged.old.amount ≡ 0) × (links ≤ acknowledged.old.parts) }
+    requires full { (full.old.amount ≡ 0) × (links ≤ full.old.parts) }
     ensures seats { seats.new.items ≡ new_seats Terminal links }
     ensures calls { (calls.new.amount ≡ 0) × (calls.new.parts + links ≡ calls.old.parts) }
     ensures acknowledged { (acknowledged.new.amount ≡ 0)
         × (acknowledged.new.parts + links ≡ acknowledged.old.parts) }
+    ensures full { (full.new.amount ≡ 0) × (full.new.parts + links ≡ full.old.parts) }
 {
     let alloc = *seats.allocator();
     for link in 0..links {
@@ -354,6 +392,7 @@ pub(crate) fn put_terminals<O: Opening, G: Allocator + Copy>(
             acknowledged: Stake::cut(acknowledged),
             receipts: History::new(alloc),
             forgotten: NOTHING_FORGOTTEN,
+            full: FullMark::cut(full),
             alloc,
         };
         seats.push_reserved(seat);

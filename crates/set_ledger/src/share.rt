@@ -1,7 +1,7 @@
 //! What a seat has of the totals: plain numbers, and the tokens of the ledgers that say the same.
-ghost use Rattle.std.specs.Prelude.{◌≡◌, ◌<◌, ◌+◌, ◌^◌};
+ghost use Rattle.std.specs.Prelude.{◌≡◌, ◌<◌, ◌+◌, ◌^◌, true, false};
 ghost use Rattle.set_events.specs.Lent.{answer_in, event_in};
-ghost use Rattle.set_ledger.specs.Seats.{Returns};
+ghost use Rattle.set_ledger.specs.Seats.{Returns, ReturnsFull};
 ghost use Rattle.set_model.specs.Step.{messages_in, octets_of};
 
 use set_events::{AnswerRef, EventRef};
@@ -38,14 +38,15 @@ pub(crate) const NOTHING_FORGOTTEN: Forgotten = Forgotten {
     octets: 0,
 };
 
-/// A blank for each ledger of a set that is to be opened, cut into as many parts as seats move it: calls as many as
-/// there are users and links, messages and octets as many as users, acknowledgements as many as links.
+/// A blank for each ledger of a set that is to be opened, cut into as many parts as seats move it: calls, and what tells of a
+/// full history, as many as there are users and links, messages and octets as many as users, acknowledgements as many as links.
 #[derive(Drop)]
 pub struct Blanks {
     pub calls: Blank,
     pub messages: Blank,
     pub octets: Blank,
     pub acknowledged: Blank,
+    pub full: Blank,
 }
 
 /// A seat's one part of a ledger, and the plain number that tells its amount.
@@ -83,6 +84,44 @@ impl<L: Ledger> Stake<L> {
     /// The part goes back to these.
     pub(crate) fn give_back(self, to: &mut Share<L>)
         ensures { Returns to.old.parts to.old.amount self.told to.new.parts to.new.amount }
+    {
+        to.merge(self.share);
+    }
+}
+
+/// A seat's one part of the ledger of a full history, and whether the seat was told that it's full.
+#[derive(Drop)]
+pub(crate) struct FullMark<L: Ledger> {
+    pub(crate) told: bool,
+    share: Share<L>,
+    ghost is_told: { (share.parts ≡ 1) × (told ≡ true → 0 < share.amount) },
+}
+
+impl<L: Ledger> FullMark<L> {
+    /// One of these parts, with no amount.
+    pub(crate) fn cut(from: &mut Share<L>) -> FullMark<L>
+        requires { (0 < from.old.parts) × (from.old.amount ≡ 0) }
+        ensures told { result.told ≡ false }
+        ensures left { (from.new.amount ≡ 0) × (from.new.parts + 1 ≡ from.old.parts) }
+    {
+        FullMark {
+            told: false,
+            share: from.split_off(1, 0),
+        }
+    }
+
+    /// The history is full: the part has an amount, and the ledger's book with it.
+    pub(crate) fn tell(&mut self, book: &mut Book<L>)
+        ensures told { self.new.told ≡ true }
+        ensures total { 0 < book.new.total }
+    {
+        book.add(&mut self.share, 1);
+        self.told = true;
+    }
+
+    /// The part goes back to these.
+    pub(crate) fn give_back(self, to: &mut Share<L>)
+        ensures { ReturnsFull to.old.parts to.old.amount self.told to.new.parts to.new.amount }
     {
         to.merge(self.share);
     }

@@ -1,9 +1,9 @@
 //! How a seat makes a step, and forgets some. This module is private, so no other crate has a seat of its own.
-ghost use Rattle.std.specs.Prelude.{◌≡◌, ◌≤◌, OnOk, OnErr};
+ghost use Rattle.std.specs.Prelude.{◌≡◌, ◌≤◌, IfErr, OnOk, OnErr};
 ghost use Rattle.set_events.specs.Lent.{HasFitUnit, event_in};
 ghost use Rattle.set_events.specs.Owners.{IsOwn};
 ghost use Rattle.set_model.specs.History.{IsStep, entries_in, longest_history};
-ghost use Rattle.set_ledger.specs.Seats.{Receives, AcknowledgesAs, Forgets};
+ghost use Rattle.set_ledger.specs.Seats.{Receives, AcknowledgesAs, Forgets, refused};
 
 use super::held::Held;
 use super::opening::Opening;
@@ -41,7 +41,7 @@ pub trait Step<O: Opening> {
         ensures seats { (held.new.users ≡ held.old.users) × (held.new.links ≡ held.old.links) }
         ensures exhausted { result ≡ Err SetFault.Exhausted
             → longest_history ≤ entries_in held.old.set }
-        ensures err { OnErr result ((held.new ≡ held.old) × (state self.new ≡ state self.old)) };
+        ensures err { IfErr result (λ fault. (held.new ≡ held.old) × (state self.new ≡ refused fault (state self.old))) };
 
     /// The first so many receipts are forgotten, or all, where there are fewer. It fails only where memory is wanted.
     fn forget(&mut self, many: u64) -> Result<(), AllocError>

@@ -28,12 +28,14 @@ pub(crate) fn blanks_of(users: u64) -> Blanks
     ensures messages { result.messages.parts ≡ users }
     ensures octets { result.octets.parts ≡ users }
     ensures acknowledged { result.acknowledged.parts ≡ 1 }
+    ensures full { result.full.parts ≡ users + 1 }
 {
     Blanks {
         calls: Blank::new(users + 1),
         messages: Blank::new(users),
         octets: Blank::new(users),
         acknowledged: Blank::new(1),
+        full: Blank::new(users + 1),
     }
 }
 

@@ -1,14 +1,14 @@
 -- WHAT A CALL UNDER THE LOCK IS ANSWERED. What stands there has no name outside, so a call tells that there is a set of
 -- these settings that answers so: one that holds what legal histories lead to from their opening, with a checkpoint after
 -- each but the last.
-use Rattle.std.specs.Prelude.{◌≡◌, ◌≤◌, ◌-◌, ◌↔◌, ℕ}
+use Rattle.std.specs.Prelude.{◌≡◌, ◌-◌, ◌↔◌, ℕ}
 use Rattle.set_events.specs.declared.event.Actor.{Actor}
 use Rattle.set_events.specs.declared.event.Actor.TheVariants.{User, Terminal}
 use Rattle.set_ledger.specs.Ending.{IsFaithful, calls_at}
 use Rattle.set_ledger.specs.Openings.{IsSetOf}
 use Rattle.set_ledger.specs.Seats.{Forgets, SeatState}
 use Rattle.set_model.specs.Checkpoint.{counts_in}
-use Rattle.set_model.specs.History.{LinkSet, entries_in, longest_history}
+use Rattle.set_model.specs.History.{LinkSet}
 use Rattle.set_model.specs.State.{Settings, State, is_settled, late_at}
 use Rattle.set_model.specs.Step.{Answer, Event, step}
 use Rattle.set_shared.specs.declared.link_set.LinkNow.{LinkNow}
@@ -17,10 +17,6 @@ use Rattle.set_shared.specs.declared.link_set.LinkNow.{LinkNow}
 abbrev pub IsAnswered : Settings → Event → Answer → Type 0
 IsAnswered settings event answer =
     (set : LinkSet) × IsSetOf settings set × (answer ≡ (step set.state event).answer)
-
--- such a set has as many entries as a history can
-abbrev pub IsFull : Settings → Type 0
-IsFull settings = (set : LinkSet) × IsSetOf settings set × (longest_history ≤ entries_in set)
 
 -- before a terminal's event, so many changeover orders about its link had come late to that set
 abbrev pub late_to : Actor → State → ℕ

@@ -5,12 +5,12 @@ ghost use Rattle.set_events.specs.declared.event.Event.TheVariants.{Offer, Take,
 ghost use Rattle.set_events.specs.Lent.{HasFitUnit, event_in};
 ghost use Rattle.set_events.specs.Owners.{IsOwn};
 ghost use Rattle.set_ledger.specs.Openings.{IsBaseOf};
-ghost use Rattle.set_ledger.specs.Seats.{Forgets, Receives, new_seats};
+ghost use Rattle.set_ledger.specs.Seats.{Forgets, Receives, new_seats, refused};
 ghost use Rattle.set_ledger.specs.Totals.{AreParts, HeldState};
 ghost use Rattle.set_ledger.specs.Ending.{calls_at, is_complete, AreFaithful, IsClosed};
 ghost use Rattle.set_model.specs.History.{IsStep};
 ghost use Rattle.set_model.specs.State.{late_at, settings_of};
-ghost use Rattle.set_shared.specs.Asking.{ForgetsBehind, IsAnswered, IsAnsweredWith, IsFull, IsSeen, link_now};
+ghost use Rattle.set_shared.specs.Asking.{ForgetsBehind, IsAnswered, IsAnsweredWith, IsSeen, link_now};
 
 use set_events::{Answer, Counts, Event, EventRef, Reply, SetConfig};
 use set_ledger::{
@@ -110,8 +110,9 @@ impl<O: Opening> LinkSet<O> {
 
     /// A user offers a message of these octets: what the set answers. The seat has a receipt of it.
     ///
-    /// Faults, after which the seat is as it was: 2 [`SetFault::Exhausted`] only where the set's history has 2^48 entries;
-    /// 1 [`SetFault::NoMemory`] only where memory was refused.
+    /// Faults, after which the seat is as it was: 2 [`SetFault::Exhausted`] only where the set's history has 2^48 entries, which
+    /// the seat keeps ([`Seat::is_told_full`]) and [`LinkSet::close`] confirms; 1 [`SetFault::NoMemory`] only where memory was
+    /// refused.
     pub fn offer<R: Wait>(
         &self,
         rt: &R,
@@ -120,8 +121,7 @@ impl<O: Opening> LinkSet<O> {
     ) -> Result<Answer, SetFault>
         ensures receipt { IfOk result (λ answer. Receives seat.old (Offer octets.now) answer seat.new) }
         ensures answer { IfOk result (IsAnswered O.settings (Offer octets.now)) }
-        ensures exhausted { result ≡ Err SetFault.Exhausted → IsFull O.settings }
-        ensures err { OnErr result (seat.new ≡ seat.old) }
+        ensures err { IfErr result (λ fault. seat.new ≡ refused fault seat.old) }
     {
         // a user's number is below 64
         seat.number();
@@ -130,13 +130,13 @@ impl<O: Opening> LinkSet<O> {
 
     /// A user takes the oldest message that was heard for users: what the set answers. The seat has a receipt of it.
     ///
-    /// Faults, after which the seat is as it was: 2 [`SetFault::Exhausted`] only where the set's history has 2^48 entries;
-    /// 1 [`SetFault::NoMemory`] only where memory was refused.
+    /// Faults, after which the seat is as it was: 2 [`SetFault::Exhausted`] only where the set's history has 2^48 entries, which
+    /// the seat keeps ([`Seat::is_told_full`]) and [`LinkSet::close`] confirms; 1 [`SetFault::NoMemory`] only where memory was
+    /// refused.
     pub fn take<R: Wait>(&self, rt: &R, seat: &mut UserSeat<O>) -> Result<Answer, SetFault>
         ensures receipt { IfOk result (λ answer. Receives seat.old Take answer seat.new) }
         ensures answer { IfOk result (IsAnswered O.settings Take) }
-        ensures exhausted { result ≡ Err SetFault.Exhausted → IsFull O.settings }
-        ensures err { OnErr result (seat.new ≡ seat.old) }
+        ensures err { IfErr result (λ fault. seat.new ≡ refused fault seat.old) }
     {
         // a user's number is below 64
         seat.number();
@@ -145,8 +145,9 @@ impl<O: Opening> LinkSet<O> {
 
     /// A user asks where the message of this number stands: what the set answers. The seat has a receipt of it.
     ///
-    /// Faults, after which the seat is as it was: 2 [`SetFault::Exhausted`] only where the set's history has 2^48 entries;
-    /// 1 [`SetFault::NoMemory`] only where memory was refused.
+    /// Faults, after which the seat is as it was: 2 [`SetFault::Exhausted`] only where the set's history has 2^48 entries, which
+    /// the seat keeps ([`Seat::is_told_full`]) and [`LinkSet::close`] confirms; 1 [`SetFault::NoMemory`] only where memory was
+    /// refused.
     pub fn find<R: Wait>(
         &self,
         rt: &R,
@@ -155,8 +156,7 @@ impl<O: Opening> LinkSet<O> {
     ) -> Result<Answer, SetFault>
         ensures receipt { IfOk result (λ answer. Receives seat.old (Find number) answer seat.new) }
         ensures answer { IfOk result (IsAnswered O.settings (Find number)) }
-        ensures exhausted { result ≡ Err SetFault.Exhausted → IsFull O.settings }
-        ensures err { OnErr result (seat.new ≡ seat.old) }
+        ensures err { IfErr result (λ fault. seat.new ≡ refused fault seat.old) }
     {
         // a user's number is below 64
         seat.number();
@@ -165,8 +165,9 @@ impl<O: Opening> LinkSet<O> {
 
     /// One step of a terminal on its own link: what the set answers. The seat has a receipt of it.
     ///
-    /// Faults, after which the seat is as it was: 2 [`SetFault::Exhausted`] only where the set's history has 2^48 entries;
-    /// 1 [`SetFault::NoMemory`] only where memory was refused.
+    /// Faults, after which the seat is as it was: 2 [`SetFault::Exhausted`] only where the set's history has 2^48 entries, which
+    /// the seat keeps ([`Seat::is_told_full`]) and [`LinkSet::close`] confirms; 1 [`SetFault::NoMemory`] only where memory was
+    /// refused.
     pub fn term_step<R: Wait>(
         &self,
         rt: &R,
@@ -176,8 +177,7 @@ impl<O: Opening> LinkSet<O> {
         requires { IsOwn seat.old.who event.now }
         ensures receipt { IfOk result (λ answer. Receives seat.old event.now answer seat.new) }
         ensures answer { IfOk result (IsAnswered O.settings event.now) }
-        ensures exhausted { result ≡ Err SetFault.Exhausted → IsFull O.settings }
-        ensures err { OnErr result (seat.new ≡ seat.old) }
+        ensures err { IfErr result (λ fault. seat.new ≡ refused fault seat.old) }
     {
         self.answer_to(rt, seat, &EventRef::of(event))
     }
@@ -199,8 +199,7 @@ impl<O: Opening> LinkSet<O> {
         ensures receipt { OnOk result (Receives seat.old (event_in event.now) reply.new seat.new) }
         ensures answer { IfOk result (IsAnsweredWith O.settings seat.old.who (event_in event.now) reply.new) }
         ensures called { OnOk result (F.post held tt) }
-        ensures exhausted { result ≡ Err SetFault.Exhausted → IsFull O.settings }
-        ensures err { OnErr result (seat.new ≡ seat.old) }
+        ensures err { IfErr result (λ fault. seat.new ≡ refused fault seat.old) }
     {
         reserve_receipt(seat, event)?;
         let link = seat.link();
@@ -238,8 +237,7 @@ impl<O: Opening> LinkSet<O> {
         requires fits { HasFitUnit event.now }
         ensures receipt { IfOk result (λ answer. Receives (S.state seat.old) (event_in event.now) answer (S.state seat.new)) }
         ensures answer { IfOk result (IsAnswered O.settings (event_in event.now)) }
-        ensures exhausted { result ≡ Err SetFault.Exhausted → IsFull O.settings }
-        ensures err { OnErr result (S.state seat.new ≡ S.state seat.old) }
+        ensures err { IfErr result (λ fault. S.state seat.new ≡ refused fault (S.state seat.old)) }
     {
         reserve_receipt(seat, event)?;
         let mut reply = Reply::new();
@@ -261,7 +259,8 @@ impl<O: Opening> LinkSet<O> {
     }
 
     /// Ends a set with all its seats, under no lock: the history is legal from its base, each seat's receipts end with its
-    /// entries in order, and the totals are the sums of the shares. The configuration is that of [`LinkSet::create`], by
+    /// entries in order, and the totals are the sums of the shares. Where a seat was told of a full history, the history and what
+    /// lies before its base have 2^48 entries. The configuration is that of [`LinkSet::create`], by
     /// the settings that the type tells, and legal histories lead from there to the base. It takes no memory, and waits
     /// for nothing.
     ///
@@ -307,8 +306,7 @@ fn ask<O: Opening, S: Seat<O>>(
         (IsStep held.old.set (S.state seat.old).who (event_in event.now) reply.new held.new.set) }
     ensures receipt { OnOk result (Receives (S.state seat.old) (event_in event.now) reply.new (S.state seat.new)) }
     ensures answer { OnOk result (IsAnswered O.settings (event_in event.now) reply.new) }
-    ensures exhausted { result ≡ Err SetFault.Exhausted → IsFull O.settings }
-    ensures err { OnErr result ((held.new ≡ held.old) × (S.state seat.new ≡ S.state seat.old)) }
+    ensures err { IfErr result (λ fault. (held.new ≡ held.old) × (S.state seat.new ≡ refused fault (S.state seat.old))) }
 {
     held.replays();
     step_in(held, seat, event, reply)
@@ -329,8 +327,7 @@ fn ask_with<O: Opening>(
     ensures late { IfOk result (λ late. late ≡ late_at link held.old.set.state) }
     ensures receipt { OnOk result (Receives seat.old (event_in event.now) reply.new seat.new) }
     ensures answer { IfOk result (IsAnsweredWith O.settings seat.old.who (event_in event.now) reply.new) }
-    ensures exhausted { result ≡ Err SetFault.Exhausted → IsFull O.settings }
-    ensures err { OnErr result ((held.new ≡ held.old) × (seat.new ≡ seat.old)) }
+    ensures err { IfErr result (λ fault. (held.new ≡ held.old) × (seat.new ≡ refused fault seat.old)) }
 {
     held.replays();
     let late = held.core().late(link);

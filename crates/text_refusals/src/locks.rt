@@ -54,12 +54,14 @@ fn blanks() -> Blanks
     ensures messages { result.messages.parts ≡ 1 }
     ensures octets { result.octets.parts ≡ 1 }
     ensures acknowledged { result.acknowledged.parts ≡ 1 }
+    ensures full { result.full.parts ≡ 2 }
 {
     Blanks {
         calls: Blank::new(2),
         messages: Blank::new(1),
         octets: Blank::new(1),
         acknowledged: Blank::new(1),
+        full: Blank::new(2),
     }
 }
 

@@ -1,5 +1,5 @@
 use Rattle.set_ledger.specs.declared.share.SeatShare.{SeatShare}
-use Rattle.set_ledger.proofs.Closing.{merged_more}
+use Rattle.set_ledger.proofs.Closing.{merged_full, merged_more}
 use Rattle.set_ledger.proofs.ending.merge_users.Goals as goal
 
 pub loop-seat-preserved : goal.loop-seat-preserved
@@ -7,4 +7,5 @@ loop-seat-preserved g c = (
   merged_more (λ (share : SeatShare). share.calls) c.loop-seat.yielded c.in-Some.seat c.args.calls.now.parts c.args.calls.now.amount c.loop-seat.calls.parts c.loop-seat.calls.amount c.give_back.new.calls.parts c.give_back.new.calls.amount c.loop-seat.invariant.0 c.give_back.ensures.calls,
   merged_more (λ (share : SeatShare). share.messages) c.loop-seat.yielded c.in-Some.seat c.args.messages.now.parts c.args.messages.now.amount c.loop-seat.messages.parts c.loop-seat.messages.amount c.give_back.new.messages.parts c.give_back.new.messages.amount c.loop-seat.invariant.1 c.give_back.ensures.messages,
   merged_more (λ (share : SeatShare). share.octets) c.loop-seat.yielded c.in-Some.seat c.args.octets.now.parts c.args.octets.now.amount c.loop-seat.octets.parts c.loop-seat.octets.amount c.give_back.new.octets.parts c.give_back.new.octets.amount c.loop-seat.invariant.2 c.give_back.ensures.octets,
+  merged_full c.loop-seat.yielded c.in-Some.seat c.args.full.now.parts c.args.full.now.amount c.loop-seat.full.parts c.loop-seat.full.amount c.give_back.new.full.parts c.give_back.new.full.amount c.loop-seat.invariant.3 c.give_back.ensures.full,
 )

@@ -5,6 +5,7 @@ use Rattle.bank_crew.specs.Doors.{DoorState}
 use Rattle.bank_crew.specs.Managing.{is_question}
 use Rattle.bank_crew.specs.Seats.{link_in}
 use Rattle.bank_crew.proofs.Counting.{step_carried, step_counted, step_fits, step_marked}
+use Rattle.bank_crew.proofs.Full.{full_on}
 use Rattle.bank_crew.proofs.seat_door.SeatDoor.ask.Goals as goal
 
 -- src/seat_door.rt
@@ -28,6 +29,7 @@ invariant_of-self-2 g c =
       answered_is = step_counted who event c.step.new.reply old new counts made counted c.step.new.self.seat.who c.link-link.result c.with-self-inside.result c.step.ensures.who c.link-link.ensures (rw c.get-answer.ensures.value at c.with-self-inside.ensures);
       carried_is = step_carried who event c.step.new.reply old new counts made counted c.self.inside.managed c.self.inside.carried c.with-self-inside-2.result c.step.new.self.seat.who c.link-link.result c.step.ensures.who c.link-link.ensures c.self.invariant.carried_is (rw c.get-answer.ensures.value at c.with-self-inside-2.ensures);
       marked = step_marked who event c.step.new.reply old new counts made counted marks c.note.new.self c.args.of_turn _ c.step.new.self.seat.who c.step.ensures.who c.self.invariant.marked asked (c.note.ensures ∙ ap (λ (m : ℕ). marks ++ m ∷ []) c.mark_of.ensures);
+      full = full_on c.self.inside.caller.seat.full c.step.new.self.seat.full c.self.inside.faults c.step.ensures.full_stays c.self.invariant.full;
     }
 
 pub returns-clause-late : goal.returns-clause-late

@@ -4,10 +4,10 @@ use Rattle.set_events.specs.Owners.{IsOwn}
 use Rattle.set_events.specs.declared.event.Actor.{Actor}
 use Rattle.set_events.specs.declared.event.Actor.TheVariants.{Terminal}
 use Rattle.bank_crew.specs.Doors.{AskedDue, DoorState, IsMarked}
-use Rattle.bank_crew.specs.Managing.{of_turns}
+use Rattle.bank_crew.specs.Managing.{looks_in, of_turns}
 use Rattle.bank_crew.specs.Seats.{link_in}
 use Rattle.bank_crew.proofs.Due.{step_due}
-use Rattle.bank_crew.proofs.Marking.{stepped}
+use Rattle.bank_crew.proofs.Marking.{looks_turned, stepped}
 use Rattle.bank_crew.proofs.seat_door.SeatDoorDoor.step.Goals as goal
 
 -- src/seat_door.rt
@@ -27,6 +27,7 @@ returns-in-Ok-clause-ok g c =
 pub returns-in-Ok-clause-same : goal.returns-in-Ok-clause-same
 returns-in-Ok-clause-same g c = (
   ap (λ (d : DoorState). d.managed) c.self-in-Ok.view_is ∙ c.follow.ensures.managed ∙ c.ask.ensures.managed,
+  ap (λ (d : DoorState). looks_in d.marks) c.self-in-Ok.view_is ∙ c.follow.ensures.looks ∙ ap looks_in c.in-Ok.ensures.marks ∙ looks_turned c.in-Ok.late c.args.self.now.marks,
   (λ due. subst AskedDue (sym c.self-in-Ok.view_is)
       (step_due c.args.self.now c.ask.new.self c.follow.new.self (event_in c.args.event.now) c.ask.new.reply c.in-Ok.late c.follow.result
       c.in-Ok.ensures.ok c.in-Ok.ensures.marks c.ask.ensures.awaited c.ask.ensures.managed (ap link_in c.ask.ensures.who) c.follow.ensures.managed (ap link_in c.follow.ensures.who)

@@ -1,4 +1,4 @@
-use Rattle.std.proofs.Common.{refl, ◌∙◌, ap, sym, subst, ◌≡◌, ℕ, Option}
+use Rattle.std.proofs.Common.{refl, ◌∙◌, ap, sym, subst, ◌≡◌, ◌++◌, true, ℕ, List, Option}
 use Rattle.bank_crew.specs.declared.plan.Managed.{Managed}
 use Rattle.term_model.specs.Terminal.{opened, told}
 use Rattle.term_model.specs.declared.command.Command.TheVariants.{Emergency, Start}
@@ -6,9 +6,10 @@ use Rattle.bank_crew.specs.Awaiting.{AsksFrom}
 use Rattle.bank_crew.specs.Carrying.{carried_in}
 use Rattle.bank_crew.specs.Counts.{answered_in}
 use Rattle.bank_crew.specs.Doors.{AskedDue}
-use Rattle.bank_crew.specs.Managing.{are_marks}
+use Rattle.bank_crew.specs.Managing.{are_marks, looks_in}
 use Rattle.bank_crew.specs.Seats.{link_in}
 use Rattle.bank_crew.proofs.Due.{none_due}
+use Rattle.bank_crew.proofs.Full.{shift_full}
 use Rattle.bank_crew.proofs.Marking.{none_of_turns}
 use Rattle.bank_crew.proofs.Running.{shift_of}
 use Rattle.bank_crew.proofs.terminal.TermShift.work.Goals as goal
@@ -40,7 +41,8 @@ returns-clause-shift g c =
     (subst (λ (m : Option Managed). AsksFrom m (link_in out.seat.who) out.marks all out.awaited) managed due) in (
       all,
       c.into_seat-seat.ensures.all,
-      shift_of _ (link_in c.args.self.seat.who) (link_in door.seat.who) c.planned_turns-report.result _ _ _ c.into_tape-tape.result out.marks out.awaited _ _ _ did.turns
+      shift_of _ (link_in c.args.self.seat.who) (link_in door.seat.who) c.planned_turns-report.result _ _ _ c.into_tape-tape.result out.marks did.turns.0 out.awaited _ _ _ did.turns.2
+          (did.turns.1 ∙ ap (λ (ms : List ℕ). looks_in ms ++ did.turns.0) c.new-door.ensures.marks)
           (ap (λ it. it.taken) second ∙ ap (λ it. it.taken) first ∙ c.new-works.ensures.taken)
           (ap (λ it. it.inside) second ∙ ap (λ it. told Start it.inside) first ∙ ap (λ it. told Start (told Emergency it)) c.new-works.ensures.inside
           ∙ ap (λ (n : ℕ). told Start (told Emergency (opened n plan.timers))) (sym number))
@@ -56,3 +58,11 @@ returns-clause-shift g c =
           c.new-line.ensures.put
           c.into_tape-tape.ensures.kept,
     )
+
+-- the set told the door so
+pub returns-clause-full : goal.returns-clause-full
+returns-clause-full g c told =
+    let did = c.planned_turns-report.ensures in
+    ap (λ seat. seat.full) c.into_seat-seat.ensures.seat
+    ∙ shift_full (c.planned_turns-report.new.door.seat.full ≡ true) c.args.self.assignment.now.plan (link_in c.new-door.result.seat.who) _ _ _ c.planned_turns-report.result c.reported-told.result did.turns.0 _ _ did.turns.2
+    c.carried.ensures.full c.reported-told.ensures told

@@ -3,7 +3,7 @@ use Rattle.set_ledger.specs.declared.share.SeatShare.{SeatShare}
 use Rattle.set_ledger.specs.Ending.{AreFaithful}
 use Rattle.set_ledger.specs.Openings.{IsBaseOf}
 use Rattle.set_ledger.specs.Totals.{HeldState}
-use Rattle.set_ledger.proofs.Closing.{complete_lengths, whole_sum, whole_sums, closes}
+use Rattle.set_ledger.proofs.Closing.{complete_lengths, told_truly, whole_sum, whole_sums, closes}
 use Rattle.set_ledger.proofs.Telling.{settings_told}
 use Rattle.set_ledger.proofs.ending.Held+O.closed.Goals as goal
 
@@ -41,4 +41,6 @@ returns-clause-closed g c =
     (whole_sums (λ (share : SeatShare). share.calls) us ts _ _ _ _ _ _ _ _ rest.no_parts.0 rest.no_amount.0 c.merge_users.ensures.calls c.merge_terminals.ensures.calls (omega (arith, users_are, links_are, many, many_links, calls_cut)) c.audit.ensures.whole)
     (whole_sum (λ (share : SeatShare). share.messages) us _ _ _ _ _ _ rest.no_parts.1 rest.no_amount.1 c.merge_users.ensures.messages (omega (arith, users_are, many, messages_cut)) c.audit-2.ensures.whole)
     (whole_sum (λ (share : SeatShare). share.octets) us _ _ _ _ _ _ rest.no_parts.2 rest.no_amount.2 c.merge_users.ensures.octets (omega (arith, users_are, many, octets_cut)) c.audit-3.ensures.whole)
-    (whole_sum (λ (share : SeatShare). share.acknowledged) ts _ _ _ _ _ _ rest.no_parts.3 rest.no_amount.3 c.merge_terminals.ensures.acknowledged (omega (arith, links_are, many_links, acked_cut)) c.audit-4.ensures.whole))
+    (whole_sum (λ (share : SeatShare). share.acknowledged) ts _ _ _ _ _ _ rest.no_parts.3 rest.no_amount.3 c.merge_terminals.ensures.acknowledged (omega (arith, links_are, many_links, acked_cut)) c.audit-4.ensures.whole)
+    (told_truly c.self.inside.core us c.self.inside.full.total _ _ _ _ c.merge_terminals.new.full.amount c.self.invariant.3 c.replays.ensures.short c.merge_users.ensures.full c.merge_terminals.ensures.full.amount_stays c.audit-5.ensures.bound)
+    (told_truly c.self.inside.core ts c.self.inside.full.total _ _ _ _ c.merge_terminals.new.full.amount c.self.invariant.3 c.replays.ensures.short c.merge_terminals.ensures.full (omega arith) c.audit-5.ensures.bound))

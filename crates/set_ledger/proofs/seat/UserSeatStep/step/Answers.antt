@@ -1,11 +1,8 @@
-use Rattle.std.proofs.Common.{◌∙◌, ap, refl, subst, sym, List}
+use Rattle.std.proofs.Common.{ap, refl, subst, sym}
 use Rattle.set_events.specs.Lent.{event_in}
-use Rattle.set_events.specs.declared.history.Entry.{Entry}
-use Rattle.set_model.specs.History.{LinkSet}
-use Rattle.set_ledger.specs.Seats.{user_state}
 use Rattle.set_ledger.specs.Openings.{IsBaseOf}
-use Rattle.set_ledger.specs.Totals.{HeldState, totals_of}
-use Rattle.set_ledger.proofs.Growing.{user_adds_up, user_totals, user_grows, user_acknowledges, room_for, few_enough}
+use Rattle.set_ledger.specs.Totals.{HeldState}
+use Rattle.set_ledger.proofs.Growing.{user_adds_up, user_totals, user_grows, user_acknowledges, room_for, few_enough, full_stays}
 use Rattle.set_ledger.proofs.seat.UserSeatStep.step.Goals as goal
 
 pub gain-requires : goal.gain-requires
@@ -21,7 +18,7 @@ gain-requires-in-Ok-2 g c = let gains = c.in-Ok.ensures.gains in room_for _ _ _ 
 pub invariant_of-self : goal.invariant_of-self
 invariant_of-self g c = (
   c.self.invariant.0,
-  user_adds_up c.self.inside.number c.self.inside.calls.told c.self.inside.messages.told c.self.inside.octets.told c.gain.new.self.told c.gain-in-Ok.new.self.told c.gain-in-Ok-2.new.self.told c.self.inside.forgotten c.self.inside.receipts.items c.make.new.receipts.items (event_in c.args.event.now)
+  user_adds_up c.self.inside.number c.self.inside.calls.told c.self.inside.messages.told c.self.inside.octets.told c.gain.new.self.told c.gain-in-Ok.new.self.told c.gain-in-Ok-2.new.self.told c.self.inside.forgotten c.self.inside.receipts.items c.make.new.receipts.items c.self.inside.full.told (event_in c.args.event.now)
       c.make.new.reply c.in-Ok.gained c.held.inside.core c.make.new.core c.self.invariant.1 c.in-Ok.ensures.gains c.gain.ensures.told c.gain-in-Ok.ensures.told c.gain-in-Ok-2.ensures.told c.in-Ok.ensures.receipt,
 )
 
@@ -30,6 +27,7 @@ invariant_of-held g c = (
   user_totals c.self.inside.number _ _ _ _ _ _ _ (event_in c.args.event.now) c.make.new.reply c.in-Ok.gained c.held.inside.core c.make.new.core c.held.invariant.0 c.in-Ok.ensures.gains c.gain.ensures.total c.gain-in-Ok.ensures.total c.gain-in-Ok-2.ensures.total,
   c.held.invariant.1,
   subst (IsBaseOf g.O.Opening.settings) (sym c.in-Ok.ensures.step.base_is) c.held.invariant.2,
+  full_stays c.held.inside.full.total c.held.inside.core c.make.new.core _ (event_in c.args.event.now) c.make.new.reply c.in-Ok.gained c.in-Ok.ensures.gains c.held.invariant.3,
 )
 
 pub returns-in-Ok-clause-step : goal.returns-in-Ok-clause-step
@@ -39,6 +37,7 @@ pub returns-in-Ok-clause-receipt : goal.returns-in-Ok-clause-receipt
 returns-in-Ok-clause-receipt g c = rw (← c.self.view_is) (record {
   who_same = refl;
   forgotten_same = refl;
+  full_same = refl;
   receipt = c.in-Ok.ensures.receipt;
   grows = user_grows c.self.inside.number _ _ _ _ _ _ (event_in c.args.event.now) c.make.new.reply c.in-Ok.gained c.held.inside.core c.make.new.core c.in-Ok.ensures.gains c.gain.ensures.told c.gain-in-Ok.ensures.told c.gain-in-Ok-2.ensures.told;
 })
@@ -48,18 +47,3 @@ returns-in-Ok-clause-acknowledged g c = rw (← c.held.view_is, ← c.self.view_
 
 pub returns-in-Ok-clause-seats : goal.returns-in-Ok-clause-seats
 returns-in-Ok-clause-seats g c = (ap (λ (h : HeldState). h.users) c.held.view_is, ap (λ (h : HeldState). h.links) c.held.view_is)
-
-pub invariant_of-held-in-Err : goal.invariant_of-held-in-Err
-invariant_of-held-in-Err g c = rw c.in-Err.ensures.err.0 c.held.invariant
-
-pub invariant_of-self-in-Err : goal.invariant_of-self-in-Err
-invariant_of-self-in-Err g c = rw c.in-Err.ensures.err.1 c.self.invariant
-
-pub returns-in-Err-clause-seats : goal.returns-in-Err-clause-seats
-returns-in-Err-clause-seats g c = (ap (λ (h : HeldState). h.users) c.held.view_is, ap (λ (h : HeldState). h.links) c.held.view_is)
-
-pub returns-in-Err-clause-err : goal.returns-in-Err-clause-err
-returns-in-Err-clause-err g c = (
-  ap (λ (set : LinkSet). record { users = c.held.inside.users; links = c.held.inside.links; totals = totals_of c.held.inside.calls.total c.held.inside.messages.total c.held.inside.octets.total c.held.inside.acknowledged.total; set = set }) c.in-Err.ensures.err.0 ∙ c.held.view_is,
-  ap (λ (made : List Entry). user_state c.self.inside.number c.self.inside.calls.told c.self.inside.messages.told c.self.inside.octets.told c.self.inside.forgotten made) c.in-Err.ensures.err.1 ∙ c.self.view_is,
-)
