@@ -1,5 +1,8 @@
 //! Traffic between the ends of sets, for so many turns of their terminals.
-ghost use Rattle.std.specs.Prelude.{◌≡◌, ◌<◌, ◌^◌, None, Some, Ok, IfOk, IfErr, if◌then◌else◌};
+ghost use Rattle.std.specs.Prelude.{◌≡◌, ◌<◌, ◌^◌, map, None, Some, Ok, IfOk, IfErr, if◌then◌else◌};
+ghost use Rattle.std.specs.List.{AllZip};
+ghost use Rattle.bank_traffic.specs.Noise.{all_noises};
+ghost use Rattle.line_ring.specs.Rings.{AreJoined};
 ghost use Rattle.bank_core.specs.Ends.{AreEnds};
 ghost use Rattle.bank_core.specs.Faults.{EndsEarly};
 ghost use Rattle.bank_traffic.specs.Opening.{AreConfigs, AreEndsOf, AreTasks, IsPlan, each_set, far_end, far_jobs, links_managed, method_of, near_end};
@@ -107,8 +110,10 @@ fn near_side(
     lines: Vec<Vec<NoisyLine<RingLine>>>,
     gate: PaceGate,
 ) -> Result<Side, BankFault>
-    requires { line_counts lines ≡ each_set traffic.now.sets traffic.now.links }
+    requires counted { line_counts lines ≡ each_set traffic.now.sets traffic.now.links }
+    requires noises { map (λ of_set. map (λ own. own.first) of_set.items) lines.items ≡ all_noises traffic.now 0 }
     ensures tasks { IfOk result (λ side. AreTasks traffic.now (near_end traffic.now) (tasks_in side)) }
+    ensures lines { IfOk result (λ side. side.lines ≡ lines) }
     ensures early { IfErr result EndsEarly }
 {
     let jobs = offers_of(alloc, traffic.sets, traffic.users, traffic.messages)?;
@@ -130,8 +135,10 @@ fn far_side(
     lines: Vec<Vec<NoisyLine<RingLine>>>,
     gate: PaceGate,
 ) -> Result<Side, BankFault>
-    requires { line_counts lines ≡ each_set traffic.now.sets traffic.now.links }
+    requires counted { line_counts lines ≡ each_set traffic.now.sets traffic.now.links }
+    requires noises { map (λ of_set. map (λ own. own.first) of_set.items) lines.items ≡ all_noises traffic.now 1 }
     ensures tasks { IfOk result (λ side. AreTasks traffic.now (far_end traffic.now) (tasks_in side)) }
+    ensures lines { IfOk result (λ side. side.lines ≡ lines) }
     ensures early { IfErr result EndsEarly }
 {
     let jobs = far_jobs_of(alloc, traffic)?;
@@ -163,6 +170,7 @@ fn run_sides<R: Threads + Wait + Clock + Copy + Send + Sync + 'static>(
     near: Side,
     far: Side,
 ) -> Result<TrafficEnds, BankFault>
+    requires { AllZip (λ a b. AllZip (λ x y. AreJoined x.line y.line) a.items b.items) near.lines.items far.lines.items }
     ensures near { IfOk result (λ ends. AreEnds (tasks_in near) ends.near.items) }
     ensures far { IfOk result (λ ends. AreEnds (tasks_in far) ends.far.items) }
     ensures early { IfErr result EndsEarly }
