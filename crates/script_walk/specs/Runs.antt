@@ -2,11 +2,13 @@
 use Rattle.std.specs.Prelude.{◌≡◌, ℕ, List, [], ◌∷◌, ◌++◌, map, Option, Some, None, if◌then◌else◌}
 use Rattle.std.specs.Option.{option_map, option_and_then}
 use Rattle.l2_units.specs.declared.profile.Profile.{Profile}
+use Rattle.pair_steps.specs.declared.step.End.TheVariants.{A, B}
 use Rattle.pair_steps.specs.declared.step.Step.{Step}
+use Rattle.pair_steps.specs.declared.step.Step.TheVariants.{Together}
 use Rattle.pair_model.specs.Run.{leads_to, played_from}
 use Rattle.pair_model.specs.World.{World}
 use Rattle.pair_rises.specs.declared.moves.Move.{Move}
-use Rattle.pair_rises.specs.declared.moves.Move.TheVariants.{Step as MoveStep}
+use Rattle.pair_rises.specs.declared.moves.Move.TheVariants.{Step as MoveStep, Rise}
 use Rattle.pair_world.specs.Moved.{moved_from, played_by}
 use Rattle.script_grammar.specs.declared.script.Opening.{Opening}
 use Rattle.script_grammar.specs.declared.script.Values.{Values}
@@ -55,3 +57,18 @@ abbrev pub StepsLeadAlike : Type 0
 StepsLeadAlike =
     (place : ℕ) (w : World) (steps : List Step)
     → moved_from place w (map MoveStep steps) ≡ played_from place w steps
+
+-- each step by which a link comes up at both ends together, as its two rises
+abbrev pub rises_of : Move → List Move
+rises_of (MoveStep (Together link)) = Rise A link ∷ Rise B link ∷ []
+rises_of move = move ∷ []
+
+abbrev pub by_rises : List Move → List Move
+by_rises [] = []
+by_rises (move ∷ moves) = rises_of move ++ by_rises moves
+
+-- LAW: where moves lead to a world, they lead there by rises, too
+abbrev pub RisesLeadAlike : Type 0
+RisesLeadAlike =
+    (place : ℕ) (w new : World) (moves : List Move) → moved_from place w moves ≡ leads_to new
+    → moved_from place w (by_rises moves) ≡ leads_to new

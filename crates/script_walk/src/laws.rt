@@ -1,5 +1,5 @@
 //! Laws over definitions alone.
-ghost use Rattle.script_walk.specs.Runs.{EveryScriptIsARun, StepsLeadAlike};
+ghost use Rattle.script_walk.specs.Runs.{EveryScriptIsARun, RisesLeadAlike, StepsLeadAlike};
 
 /// A script that ends without a fault is a run: its first line makes the two ends, and the moves that its other lines ask
 /// for lead from them, one after another, to the world of which its end tells. Of such a run
@@ -12,4 +12,10 @@ pub fn every_script_is_a_run()
 /// `pair_world::World::play` tells what holds.
 pub fn steps_lead_alike()
     ensures { StepsLeadAlike }
+{}
+
+/// Where moves lead to a world they lead there, too, with two rises in the place of each step by which a link comes up at
+/// both ends together: so of a script that has both kinds `pair_world::World::play_moves` tells what holds.
+pub fn rises_lead_alike()
+    ensures { RisesLeadAlike }
 {}

@@ -22,7 +22,7 @@ mod text;
 
 pub use account::Account;
 pub use fault::ScriptFault;
-pub use laws::{every_script_is_a_run, steps_lead_alike};
+pub use laws::{every_script_is_a_run, rises_lead_alike, steps_lead_alike};
 pub use script::{Script, world_profile};
 pub use text::tell_script;
 pub use text_lines::LineFlaw;
