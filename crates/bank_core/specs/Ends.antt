@@ -1,11 +1,12 @@
 -- THE ENDS of sets: what each came to.
 use Rattle.std.specs.Prelude.{ℕ, List, [], ◌∷◌, drop, Result, Ok, Err}
+use Rattle.line_ring.specs.declared.line.Line as line_end
 use Rattle.set_events.specs.declared.config.SetConfig.{SetConfig}
 use Rattle.bank_crew.specs.declared.end.SetEnd.{SetEnd}
 use Rattle.bank_crew.specs.declared.fault.CrewFault.{CrewFault}
 use Rattle.bank_crew.specs.declared.plan.Plan.{Plan}
 use Rattle.bank_crew.specs.Jobs.{Duty, first_or}
-use Rattle.bank_crew.specs.Ends.{IsDone, Task, task_of}
+use Rattle.bank_crew.specs.Ends.{IsDone, IsDoneOver, LinedTask, Task, lined_task}
 
 -- set by set, in the order of the tasks
 abbrev pub AreEnds : List Task → List SetEnd → Type 0
@@ -14,6 +15,13 @@ AreEnds [] (end ∷ ends) = ⊥
 AreEnds (task ∷ tasks) [] = ⊥
 AreEnds (task ∷ tasks) (end ∷ ends) = IsDone task end × AreEnds tasks ends
 
+-- and each terminal over its own line
+abbrev pub AreEndsOver : {L : Type 0} → line_end.Ghosts L → List (LinedTask L) → List SetEnd → Type 0
+AreEndsOver l [] [] = Unit {0}
+AreEndsOver l [] (end ∷ ends) = ⊥
+AreEndsOver l (task ∷ tasks) [] = ⊥
+AreEndsOver l (task ∷ tasks) (end ∷ ends) = IsDoneOver l task end × AreEndsOver l tasks ends
+
 -- a bank that isn't started
 pub record BankState : Type 0 where
   pub configs : List SetConfig
@@ -21,10 +29,10 @@ pub record BankState : Type 0 where
 
 -- THE TASKS of a bank's sets: each set its own lines and jobs, in order, and all the same plan; one for which there
 -- are none has none
-abbrev pub tasks_from : ℕ → Plan → List SetConfig → List ℕ → List (List Duty) → List Task
+abbrev pub tasks_from : {L : Type 0} → ℕ → Plan → List SetConfig → List (List L) → List (List Duty) → List (LinedTask L)
 tasks_from users plan [] lines jobs = []
 tasks_from users plan (config ∷ configs) lines jobs =
-    task_of config users (first_or 0 lines) (first_or [] jobs) plan
+    lined_task config users (first_or [] lines) (first_or [] jobs) plan
     ∷ tasks_from users plan configs (drop 1 lines) (drop 1 jobs)
 
 -- what each set's thread answered, in order: its end, or else the first fault

@@ -1,6 +1,6 @@
 //! A bank of sets, and how it's started.
-ghost use Rattle.std.specs.Prelude.{◌≡◌, ◌<◌, ◌≤◌, ◌↔◌, ◌⊎◌, map, length, vec_len, All, IfOk, IfErr, IsTrue};
-ghost use Rattle.bank_crew.specs.Ends.{task_of};
+ghost use Rattle.std.specs.Prelude.{◌≡◌, ◌<◌, ◌≤◌, ◌↔◌, ◌⊎◌, map, length, All, IfOk, IfErr, IsTrue};
+ghost use Rattle.bank_crew.specs.Ends.{lined_task};
 ghost use Rattle.bank_crew.specs.Jobs.{duty_of};
 ghost use Rattle.bank_core.specs.Ends.{tasks_from};
 ghost use Rattle.bank_core.specs.Faults.{CannotMake, CannotStart, EndsEarly, IsNarrow};
@@ -78,7 +78,7 @@ impl Bank {
     /// Starts a thread for each set, which opens the set, runs its terminals and users in threads of their own, gathers
     /// their seats and closes it.
     ///
-    /// Set by set, and link by link, a terminal runs over its line; set by set, and user by user, a user does its job.
+    /// Set by set, and link by link, a terminal runs over its line, that which was handed in; set by set, and user by user, a user does its job.
     /// A link that has no line isn't run, and a user that has no job makes no call; lines and jobs that are over are
     /// given up. Each terminal is told to come up in an emergency before its first turn. Each set gets a clone of the
     /// gate.
@@ -96,9 +96,9 @@ impl Bank {
         jobs: Vec<Vec<Job>>,
         gate: G,
         plan: Plan,
-    ) -> Result<Running, BankFault>
+    ) -> Result<Running<L>, BankFault>
         ensures running { IfOk result (λ running. running ≡ tasks_from self.users plan self.configs
-            (map (λ of_set. vec_len of_set) lines.items) (map (λ of_set. map duty_of of_set.items) jobs.items)) }
+            (map (λ of_set. of_set.items) lines.items) (map (λ of_set. map duty_of of_set.items) jobs.items)) }
         ensures early { IfErr result EndsEarly }
         ensures fault { IfErr result CannotStart }
     {
@@ -115,9 +115,9 @@ impl Bank {
         gate: G,
         plan: Plan,
     ) -> Result<Vec<Work<L, G>>, BankFault>
-        ensures works { IfOk result (λ works. map (λ work. task_of work.config work.users (vec_len work.lines) (map duty_of work.jobs.items) work.assignment.plan) works.items
+        ensures works { IfOk result (λ works. map (λ work. lined_task work.config work.users work.lines.items (map duty_of work.jobs.items) work.assignment.plan) works.items
             ≡ tasks_from self.users plan self.configs
-            (map (λ of_set. vec_len of_set) lines.items) (map (λ of_set. map duty_of of_set.items) jobs.items)) }
+            (map (λ of_set. of_set.items) lines.items) (map (λ of_set. map duty_of of_set.items) jobs.items)) }
         ensures numbers { IfOk result (λ works. All (λ work. work.assignment.set ≡ work.config.set) works.items) }
         ensures fault { IfErr result CannotStart }
     {
@@ -137,9 +137,9 @@ impl Bank {
         plan: Plan,
     ) -> Result<Vec<Work<L, G>>, BankFault>
         requires { IsRoomFor (length self.configs) room }
-        ensures works { IfOk result (λ works. map (λ work. task_of work.config work.users (vec_len work.lines) (map duty_of work.jobs.items) work.assignment.plan) works.items
+        ensures works { IfOk result (λ works. map (λ work. lined_task work.config work.users work.lines.items (map duty_of work.jobs.items) work.assignment.plan) works.items
             ≡ tasks_from self.users plan self.configs
-            (map (λ of_set. vec_len of_set) lines.items) (map (λ of_set. map duty_of of_set.items) jobs.items)) }
+            (map (λ of_set. of_set.items) lines.items) (map (λ of_set. map duty_of of_set.items) jobs.items)) }
         ensures numbers { IfOk result (λ works. All (λ work. work.assignment.set ≡ work.config.set) works.items) }
         ensures fault { IfErr result CannotStart }
     {

@@ -1,9 +1,9 @@
 //! Sets that run in threads, and what they come to.
 ghost use Rattle.std.specs.Prelude.{◌≡◌, length, map, vec_len, Ok, IfOk, IfErr, OnOk};
 ghost use Rattle.std.specs.List.{AllZip};
-ghost use Rattle.bank_crew.specs.Ends.{task_of};
+ghost use Rattle.bank_crew.specs.Ends.{lined_task};
 ghost use Rattle.bank_crew.specs.Jobs.{duty_of};
-ghost use Rattle.bank_core.specs.Ends.{AreEnds, outcome};
+ghost use Rattle.bank_core.specs.Ends.{AreEndsOver, outcome};
 ghost use Rattle.bank_core.specs.Promises.{Keeps, promised};
 ghost use Rattle.bank_core.specs.Faults.{CannotStart, EndsEarly, TellsFirst};
 ghost use Rattle.bank_core.specs.Room.{IsRoomFor};
@@ -22,31 +22,31 @@ use std::thread;
 use std::thread::{Promise, PromisedHandle, Threads};
 use std::time::Clock;
 
-/// What a set's thread promises: the end of the set of this configuration, with so many users and lines, these jobs and
+/// What a set's thread promises: the end of the set of this configuration, with so many users, these lines and jobs, and
 /// this plan; or why there is none.
 #[derive(Drop)]
-pub(crate) struct EndOf {
+pub(crate) struct EndOf<L: Line + Drop> {
     pub(crate) config: SetConfig,
     pub(crate) users: u16,
-    pub(crate) lines: usize,
+    pub(crate) lines: Snapshot<Vec<L>>,
     pub(crate) jobs: Snapshot<Vec<Job>>,
     pub(crate) plan: Plan,
 }
 
-impl Promise<Result<SetEnd, CrewFault>> for EndOf {
+impl<L: Line + Drop> Promise<Result<SetEnd, CrewFault>> for EndOf<L> {
     ghost use Rattle.bank_core.specs.Promises.{Keeps};
 
-    ghost kept_by = { Keeps };
+    ghost kept_by = { Keeps L.Line };
 }
 
 /// The thread of a set.
-pub(crate) type SetThread = PromisedHandle<Result<SetEnd, CrewFault>, EndOf>;
+pub(crate) type SetThread<L> = PromisedHandle<Result<SetEnd, CrewFault>, EndOf<L>>;
 
 /// A bank whose sets run. Contracts see what each is to do, in order. Where it's dropped they run on, and nobody
 /// learns what they come to.
 #[derive(Drop)]
-pub struct Running {
-    threads: Vec<SetThread>,
+pub struct Running<L: Line + Drop> {
+    threads: Vec<SetThread<L>>,
     room: Room,
 }
 
@@ -57,11 +57,11 @@ pub(crate) struct Room {
     pub(crate) ends: Vec<SetEnd>,
 }
 
-impl Model for Running {
+impl<L: Line + Drop> Model for Running<L> {
     ghost use Rattle.std.specs.Prelude.{List};
-    ghost use Rattle.bank_crew.specs.Ends.{Task};
+    ghost use Rattle.bank_crew.specs.Ends.{LinedTask};
 
-    ghost Value = { List Task };
+    ghost Value = { List (LinedTask L) };
 
     ghost use Rattle.std.specs.Prelude.{◌≡◌, ◌≤◌, [], map, vec_len, vec_capacity};
     ghost use Rattle.bank_core.specs.Promises.{promised};
@@ -74,14 +74,13 @@ impl Model for Running {
         × (vec_len r.threads ≤ vec_capacity r.room.ends)) };
 }
 
-impl Running {
+impl<L: Line + Drop + Send + 'static> Running<L> {
     /// A thread for each of these sets.
     pub(crate) fn start<
-        L: Line + Drop + Send + 'static,
         G: LinkManager + Drop + Send + Sync + 'static,
         R: Threads + Wait + Clock + Copy + Send + Sync + 'static,
-    >(rt: &R, alloc: Global, works: Vec<Work<L, G>>) -> Result<Running, BankFault>
-        ensures running { IfOk result (λ running. running ≡ map (λ work. task_of work.config work.users (vec_len work.lines) (map duty_of work.jobs.items) work.assignment.plan) works.items) }
+    >(rt: &R, alloc: Global, works: Vec<Work<L, G>>) -> Result<Running<L>, BankFault>
+        ensures running { IfOk result (λ running. running ≡ map (λ work. lined_task work.config work.users work.lines.items (map duty_of work.jobs.items) work.assignment.plan) works.items) }
         ensures fault { IfErr result CannotStart }
     {
         match room_for(alloc, works.len()) {
@@ -96,12 +95,13 @@ impl Running {
         }
     }
 
-    /// Waits for all sets, and hands out what each came to, in the order of their configurations. It takes no memory.
+    /// Waits for all sets, and hands out what each came to, in the order of their configurations. Each terminal ran over the line
+    /// that was handed in for its link. It takes no memory.
     ///
     /// Faults, of the first set that ended so, once all threads have ended: 1 [`BankFault::NoMemory`],
     /// 4 [`BankFault::NoThread`], 5 [`BankFault::Unclosed`]. The ends of the other sets are given up then.
     pub fn join<R: Threads + Wait>(self, rt: &R) -> Result<Vec<SetEnd>, BankFault>
-        ensures ends { IfOk result (λ ends. AreEnds self ends.items) }
+        ensures ends { IfOk result (λ ends. AreEndsOver L.Line self ends.items) }
         ensures early { IfErr result EndsEarly }
     {
         let Room { answers, ends } = self.room;
@@ -111,13 +111,13 @@ impl Running {
 }
 
 /// Waits for all these threads: what each answers, put into this room.
-fn wait_for_all<R: Threads>(
+fn wait_for_all<L: Line + Drop, R: Threads>(
     rt: &R,
-    threads: Vec<SetThread>,
+    threads: Vec<SetThread<L>>,
     room: Vec<Result<SetEnd, CrewFault>>,
 ) -> Vec<Result<SetEnd, CrewFault>>
     requires { IsRoomFor (length threads.items) room }
-    ensures answers { AllZip Keeps (map (λ thread. thread.promise) threads.items) result.items }
+    ensures answers { AllZip (Keeps L.Line) (map (λ thread. thread.promise) threads.items) result.items }
     ensures few { length result.items ≡ length threads.items }
 {
     let mut answers = room;
@@ -149,7 +149,10 @@ pub fn sort_out(
 }
 
 /// Room for the threads of so many sets, for what they answer, and for their ends.
-fn room_for(alloc: Global, sets: usize) -> Result<(Vec<SetThread>, Room), AllocError>
+fn room_for<L: Line + Drop>(
+    alloc: Global,
+    sets: usize,
+) -> Result<(Vec<SetThread<L>>, Room), AllocError>
     ensures threads { IfOk result (λ room. IsRoomFor sets room.0) }
     ensures answers { IfOk result (λ room. IsRoomFor sets room.1.answers) }
     ensures ends { IfOk result (λ room. IsRoomFor sets room.1.ends) }
@@ -169,11 +172,11 @@ fn start_each<
     rt: &R,
     alloc: Global,
     works: Vec<Work<L, G>>,
-    threads: &mut Vec<SetThread>,
+    threads: &mut Vec<SetThread<L>>,
 ) -> Result<(), BankFault>
     requires room { IsRoomFor (length works.items) threads.old }
     ensures started { OnOk result (map (λ thread. promised thread.promise) threads.new.items
-        ≡ map (λ work. task_of work.config work.users (vec_len work.lines) (map duty_of work.jobs.items) work.assignment.plan) works.items) }
+        ≡ map (λ work. lined_task work.config work.users work.lines.items (map duty_of work.jobs.items) work.assignment.plan) works.items) }
     ensures few { OnOk result (vec_len threads.new ≡ length works.items) }
     ensures fault { IfErr result CannotStart }
 {
@@ -188,8 +191,8 @@ fn start_one<
     L: Line + Drop + Send + 'static,
     G: LinkManager + Drop + Send + Sync + 'static,
     R: Threads + Wait + Clock + Copy + Send + Sync + 'static,
->(rt: &R, alloc: Global, work: Work<L, G>) -> Result<SetThread, BankFault>
-    ensures started { IfOk result (λ thread. promised thread.promise ≡ task_of work.config work.users (vec_len work.lines)
+>(rt: &R, alloc: Global, work: Work<L, G>) -> Result<SetThread<L>, BankFault>
+    ensures started { IfOk result (λ thread. promised thread.promise ≡ lined_task work.config work.users work.lines.items
         (map duty_of work.jobs.items) work.assignment.plan) }
     ensures fault { IfErr result CannotStart }
 {
@@ -197,7 +200,7 @@ fn start_one<
     let end = EndOf {
         config: work.config,
         users: work.users,
-        lines: work.lines.len(),
+        lines: Snapshot::of(&work.lines),
         jobs: Snapshot::of(&work.jobs),
         plan: work.assignment.plan,
     };

@@ -23,7 +23,8 @@ use Rattle.bank_crew.specs.declared.user.JobOf.{JobOf}
 use Rattle.bank_crew.specs.Jobs.{DidJobs, DoesJob, Duty, duty_of, first_or, no_duty}
 use Rattle.bank_crew.specs.Keeping.{AreJobs, AreKept, AreNew, AreShifts, KeepsJob, KeepsShift}
 use Rattle.bank_crew.specs.Seats.{AreAll, AreCalls}
-use Rattle.bank_crew.specs.Shifts.{DidShifts, DoesShift}
+use Rattle.bank_crew.specs.Shifts.{DidShifts, DidShiftsOver, DoesShiftOver}
+use Rattle.line_ring.specs.declared.line.Line as line_end
 use Rattle.bank_crew.proofs.Taking.{drop_one, one_dropped, taken}
 
 -- NEW SEATS are numbered from 0.
@@ -140,46 +141,60 @@ many_kept {P} {S} {T} kept ps seats told are =
     many_each kept (p ∷ ps) (e ∷ es) each = omega (arith, many_each kept ps es each.1)
 
 -- A TERMINAL'S THREAD was started: its seat is the next.
-shifts_more : (link : ℕ) (plan : Plan) (ps : List ShiftOf) (p : ShiftOf) → p.link ≡ link + length ps → p.plan ≡ plan → AreShifts link plan ps → AreShifts link plan (ps ++ p ∷ [])
-shifts_more link plan [] p number same are = ((omega (arith, number), same), tt)
-shifts_more link plan (q ∷ ps) p number same are = (are.0, shifts_more (suc link) plan ps p (omega (arith, number)) same are.1)
+shifts_more : {L : Type 0} (link : ℕ) (plan : Plan) (lines left : List L) (line : L) (ps : List (ShiftOf L)) (p : ShiftOf L) → p.link ≡ link + length ps → p.plan ≡ plan → p.line.value ≡ line → drop (length ps) lines ≡ line ∷ left
+    → AreShifts link plan lines ps → AreShifts link plan lines (ps ++ p ∷ [])
+shifts_more link plan [] left line [] p number same own next are = absurd cc
+shifts_more link plan (first ∷ lines) left line [] p number same own next are = let front : first ≡ line = cc next in ((omega (arith, number), same, own ∙ sym front), tt)
+shifts_more link plan [] left line (q ∷ ps) p number same own next are = absurd are
+shifts_more link plan (first ∷ lines) left line (q ∷ ps) p number same own next are = (are.0, shifts_more (suc link) plan lines left line ps p (omega (arith, number)) same own next are.1)
 
-pub started_terminal : (plan : Plan) (ps ps' : List ShiftOf) (p : ShiftOf) (n n' : ℕ) (seats seats' : List SeatState) (seat : SeatState)
-    → AreNew Terminal n seats → seats ≡ seat ∷ seats' → AreShifts 0 plan ps → length ps ≡ n → ps' ≡ ps ++ p ∷ [] → length ps' ≡ n' → seat.who ≡ Terminal p.link → p.plan ≡ plan
-    → AreNew Terminal n' seats' × AreShifts 0 plan ps' × (n' ≡ suc n)
-started_terminal plan ps ps' p n n' seats seats' seat are is are_shifts many more many' who same =
+pub started_terminal : {L : Type 0} (plan : Plan) (lines left rest : List L) (line : L) (ps ps' : List (ShiftOf L)) (p : ShiftOf L) (n n' : ℕ) (seats seats' : List SeatState) (seat : SeatState)
+    → AreNew Terminal n seats → seats ≡ seat ∷ seats' → AreShifts 0 plan lines ps → length ps ≡ n → ps' ≡ ps ++ p ∷ [] → length ps' ≡ n' → seat.who ≡ Terminal p.link → p.plan ≡ plan
+    → p.line.value ≡ line → left ≡ drop n lines → left ≡ line ∷ rest
+    → AreNew Terminal n' seats' × AreShifts 0 plan lines ps' × (n' ≡ suc n) × (rest ≡ drop n' lines)
+started_terminal {L} plan lines left rest line ps ps' p n n' seats seats' seat are is are_shifts many more many' who same own left_is next =
     let new = subst (AreNew Terminal n) is are in
     let named : Terminal p.link ≡ Terminal n = sym who ∙ ap (λ (s : SeatState). s.who) new.0 in
     let number : p.link ≡ n = cc named in
     let next_is : n' ≡ suc n = omega (arith, many, many', ap length more, length-append ps (p ∷ [])) in (
       subst (λ (k : ℕ). AreNew Terminal k seats') (sym next_is) new.1,
-      subst (AreShifts 0 plan) (sym more) (shifts_more 0 plan ps p (omega (arith, number, many)) same are_shifts),
+      subst (AreShifts 0 plan lines) (sym more) (shifts_more 0 plan lines rest line ps p (omega (arith, number, many)) same own
+          (ap (λ (k : ℕ). drop k lines) many ∙ sym left_is ∙ next) are_shifts),
       next_is,
+      sym (ap (drop 1) (sym left_is ∙ next)) ∙ one_dropped n lines ∙ ap (λ (k : ℕ). drop k lines) (sym next_is),
     )
 
 -- WHAT CAME OF THE TERMINALS, in the history.
-did_turns : (link number : ℕ) (seat : SeatState) (plan plan' : Plan) (told : Result ShiftReport TermFault) (books : Books) (history : List Entry) → number ≡ link → seat.who ≡ Terminal number → plan ≡ plan' → IsFaithful books history seat
-    → (all : List Entry) × AreAll seat all × DoesShift plan number told all → (calls : List Entry) × AreCalls (Terminal link) books history calls × DoesShift plan' link told calls
-did_turns link number seat plan plan' told books history same is plans faithful does = (
+did_turns : {L : Type 0} (l : line_end.Ghosts L) (line line' : L) (link number : ℕ) (seat : SeatState) (plan plan' : Plan) (told : Result ShiftReport TermFault) (books : Books) (history : List Entry) → number ≡ link → seat.who ≡ Terminal number → plan ≡ plan' → line ≡ line' → IsFaithful books history seat
+    → (all : List Entry) × AreAll seat all × DoesShiftOver l line plan number told all → (calls : List Entry) × AreCalls (Terminal link) books history calls × DoesShiftOver l line' plan' link told calls
+did_turns {L} l line line' link number seat plan plan' told books history same is plans own faithful does = (
   does.0,
   all_calls (Terminal link) seat does.0 books history (is ∙ ap Terminal same) does.1 faithful,
-  subst (λ (n : ℕ). DoesShift plan' n told does.0) same (subst (λ (p : Plan). DoesShift p number told does.0) plans does.2),
+  subst (λ (it : L). DoesShiftOver l it plan' link told does.0) own
+      (subst (λ (n : ℕ). DoesShiftOver l line plan' n told does.0) same (subst (λ (p : Plan). DoesShiftOver l line p number told does.0) plans does.2)),
 )
 
-pub did_shifts : (link : ℕ) (plan : Plan) (ps : List ShiftOf) (ends : List (Ended SeatState (Result ShiftReport TermFault))) (idle : List SeatState) (books : Books) (history : List Entry) → AreShifts link plan ps → AllZip KeepsShift ps ends
+pub did_shifts_over : {L : Type 0} (l : line_end.Ghosts L) (link : ℕ) (plan : Plan) (lines : List L) (ps : List (ShiftOf L)) (ends : List (Ended SeatState (Result ShiftReport TermFault))) (idle : List SeatState) (books : Books) (history : List Entry) → AreShifts link plan lines ps → AllZip (KeepsShift l) ps ends
     → All (IsFaithful books history) (map (λ (end : Ended SeatState (Result ShiftReport TermFault)). end.seat) ends ++ idle)
-    → DidShifts link plan (map (λ (end : Ended SeatState (Result ShiftReport TermFault)). end.told) ends) books history × All (IsFaithful books history) idle
-did_shifts link plan [] [] idle books history are each faithful = (tt, faithful)
-did_shifts link plan [] (end ∷ ends) idle books history are each faithful = absurd each
-did_shifts link plan (p ∷ ps) [] idle books history are each faithful = absurd each
-did_shifts link plan (p ∷ ps) (end ∷ ends) idle books history are each faithful =
-    let later = did_shifts (suc link) plan ps ends idle books history are.1 each.1 (All-tail (IsFaithful books history) end.seat _ faithful) in (
+    → DidShiftsOver l link plan lines (map (λ (end : Ended SeatState (Result ShiftReport TermFault)). end.told) ends) books history × All (IsFaithful books history) idle
+did_shifts_over l link plan lines [] [] idle books history are each faithful = (tt, faithful)
+did_shifts_over l link plan lines [] (end ∷ ends) idle books history are each faithful = absurd each
+did_shifts_over l link plan lines (p ∷ ps) [] idle books history are each faithful = absurd each
+did_shifts_over l link plan [] (p ∷ ps) (end ∷ ends) idle books history are each faithful = absurd are
+did_shifts_over l link plan (line ∷ lines) (p ∷ ps) (end ∷ ends) idle books history are each faithful =
+    let later = did_shifts_over l (suc link) plan lines ps ends idle books history are.1 each.1 (All-tail (IsFaithful books history) end.seat _ faithful) in (
       (
-        did_turns link p.link end.seat p.plan plan end.told books history are.0.0 each.0.0 are.0.1 (All-head (IsFaithful books history) end.seat _ faithful) each.0.1,
+        did_turns l p.line.value line link p.link end.seat p.plan plan end.told books history are.0.0 each.0.0 are.0.1 are.0.2 (All-head (IsFaithful books history) end.seat _ faithful) each.0.1,
         later.0,
       ),
       later.1,
     )
+
+-- whatever the lines
+pub did_shifts : {L : Type 0} (l : line_end.Ghosts L) (link : ℕ) (plan : Plan) (lines : List L) (told : List (Result ShiftReport TermFault)) (books : Books) (history : List Entry) → DidShiftsOver l link plan lines told books history → DidShifts link plan told books history
+did_shifts l link plan lines [] books history did = tt
+did_shifts l link plan [] (ended ∷ told) books history did = absurd did
+did_shifts l link plan (line ∷ lines) (ended ∷ told) books history did = ((did.0.0, did.0.1, did.0.2.shift), did_shifts l (suc link) plan lines told books history did.1)
 
 -- and of those that have no line
 pub asked_nothing : (n link : ℕ) (seats : List SeatState) (books : Books) (history : List Entry) → AreNew Terminal n seats → All (IsFaithful books history) seats

@@ -21,10 +21,11 @@ use Rattle.bank_crew.specs.declared.questions.Awaited.{Awaited}
 use Rattle.bank_crew.specs.Awaiting.{AsksFrom}
 use Rattle.bank_crew.specs.Managing.{Look, are_marks, looks_in, of_turns}
 use Rattle.line_tape.specs.Taping.{IsTape}
-use Rattle.link_term.specs.Looking.{Seen}
+use Rattle.line_ring.specs.declared.line.Line as line_end
+use Rattle.link_term.specs.Looking.{Seen, seen as seen_line}
 use Rattle.link_term.specs.Standing.{Standing, standing}
 use Rattle.bank_crew.specs.declared.manager.Sight.{Sight}
-use Rattle.bank_crew.specs.Shifts.{AfterHalf, DoesShift, Halves, Turns, TurnsBy, Slices, SlicesFrom, all_taken, broken_off, told_end, one_more, TurnsOf, TurnsWhere, both, fresh, is_to_fail, look_at, look_of, longest_slice, Slice}
+use Rattle.bank_crew.specs.Shifts.{AfterHalf, DoesShift, RunsOver, Halves, Turns, TurnsBy, Slices, SlicesFrom, all_taken, broken_off, told_end, one_more, TurnsOf, TurnsWhere, both, fresh, is_to_fail, look_at, look_of, longest_slice, Slice}
 
 -- it went, or it failed
 pub either_way : (A : Type 0) (P : TermReport → Type 0) (Q : TermFault → Type 0) (result : Result TermReport TermFault) → IfOk result (λ report. A × P report) → IfErr result Q → MatchResult result P Q
@@ -61,7 +62,8 @@ by_first_half turns first fault seen before between is went = record {
 pub shift_of : (plan : Plan) (link number : ℕ) (counts : Result TermReport TermFault) (ended : Result ShiftReport TermFault) (answered : Answered) (carried : Carried) (tape : Option (List ℕ)) (marks : List ℕ) (looks : List Look) (awaited : Awaited) (before after : Standing) (made : List Entry)
     → TurnsOf plan number counts looks before after → looks_in marks ≡ looks → before.taken ≡ [] → before.inside ≡ told Start (told Emergency (opened number plan.timers))
     → before.made ≡ [] → before.faults ≡ [] → number ≡ link → are_marks number marks made ≡ true → AsksFrom plan.managed number marks made awaited → of_turns marks made ≡ after.made → ended ≡ reported answered carried tape counts
-    → answered ≡ answered_in number made → carried ≡ carried_in plan.managed number made → before.line.put ≡ [] → IsTape plan.keeps tape after.line.put → DoesShift plan link ended made
+    → answered ≡ answered_in number made → carried ≡ carried_in plan.managed number made → before.line.put ≡ [] → IsTape plan.keeps tape after.line.put
+    → (does : DoesShift plan link ended made) × (does.line ≡ before.line) × (does.after ≡ after)
 shift_of plan link number counts ended answered carried tape marks looks awaited before after made turned looked taken_is inside_is made_is faults_is same marked asks end_is told_is counted carries none taped =
     let new = told Start (told Emergency (opened number plan.timers)) in
     let start : before ≡ fresh number plan.timers before.line =
@@ -69,7 +71,7 @@ shift_of plan link number counts ended answered carried tape marks looks awaited
     ∙ ap (λ (t : Terminal). standing [] t before.made before.faults before.line) inside_is
     ∙ ap (λ (m : List Entry). standing [] new m before.faults before.line) made_is
     ∙ ap (λ (fs : List SetFault). standing [] new [] fs before.line) faults_is in
-    subst (λ (k : ℕ). DoesShift plan k ended made) same
+    subst (λ (k : ℕ). (does : DoesShift plan k ended made) × (does.line ≡ before.line) × (does.after ≡ after)) same
     (record {
       line = before.line;
       after = after;
@@ -85,7 +87,7 @@ shift_of plan link number counts ended answered carried tape marks looks awaited
       tape = tape;
       tape_is = taped;
       ended_is = told_is ∙ ap (λ (a : Answered). reported a carried tape counts) counted ∙ ap (λ (c : Carried). reported (answered_in number made) c tape counts) carries;
-    })
+    }, refl, refl)
 
 -- a look changes nothing of how a terminal stands
 pub looked_on : (taken : List ℕ) (inside : Terminal) (line : Seen) (made made' : List Entry) (faults faults' : List SetFault) → made' ≡ made → faults' ≡ faults → standing taken inside made' faults' line ≡ standing taken inside made faults line
@@ -135,3 +137,14 @@ unmanaged_so (Some managed) fails is turns ended looks before after none same tu
 pub fails_as : (fail : Option ℕ) (link : ℕ) → is_to_fail fail link ≡ option_eq nat_eq fail (Some link)
 fails_as None link = refl
 fails_as (Some number) link = refl
+
+-- THE LINE that was handed in, with a tape on which nothing stood, and how it's left
+pub runs_over : {L : Type 0} (l : line_end.Ghosts L) (line first left : L) (put : List ℕ) (before after : Seen) → first ≡ line → l.is_same first left → l.put_so_far left ≡ l.put_so_far line ++ put
+    → before ≡ seen_line (l.taken_so_far first) (l.waiting first) [] (l.free first) → after ≡ seen_line (l.taken_so_far left) (l.waiting left) put (l.free left) → RunsOver l line before after
+runs_over {L} l line first left put before after handed same passed was is = record {
+  left = left;
+  same = subst (λ (it : L). l.is_same it left) handed same;
+  first_is = was ∙ ap (λ (it : L). seen_line (l.taken_so_far it) (l.waiting it) [] (l.free it)) handed;
+  last_is = is ∙ ap (λ (p : List ℕ). seen_line (l.taken_so_far left) (l.waiting left) p (l.free left)) (ap (λ (s : Seen). s.put) (sym is));
+  put_is = passed ∙ ap (λ (p : List ℕ). l.put_so_far line ++ p) (ap (λ (s : Seen). s.put) (sym is));
+}

@@ -7,12 +7,13 @@ use Rattle.set_model.specs.State.{settings_of}
 use Rattle.set_model.specs.Checkpoint.{counts_in}
 use Rattle.set_model.specs.History.{IsLegal, after, books_of, entries_of, longest_history}
 use Rattle.set_model.specs.Rows.{total_of}
+use Rattle.line_ring.specs.declared.line.Line as line_end
 use Rattle.link_term.specs.declared.fault.TermFault.{TermFault}
 use Rattle.bank_crew.specs.declared.end.SetEnd.{SetEnd}
 use Rattle.bank_crew.specs.declared.fault.UserFault.{UserFault}
 use Rattle.bank_crew.specs.declared.plan.Plan.{Plan}
 use Rattle.bank_crew.specs.Jobs.{Duty, DidJobs}
-use Rattle.bank_crew.specs.Shifts.{AskNothing, DidShifts}
+use Rattle.bank_crew.specs.Shifts.{AskNothing, DidShifts, DidShiftsOver}
 
 -- what was closed has a history that is legal from a base of this configuration, with its books and counts
 pub record IsClosedAs (config : SetConfig) (closed : Closed) : Type 0 where
@@ -59,3 +60,23 @@ pub record IsDone (task : Task) (end : SetEnd) : Type 0 where
   pub idle : AskNothing task.lines task.config.links end.closed.base.books end.closed.history.items
   pub users_full : AreTrulyFull UserFault.Exhausted end end.users.items
   pub terminals_full : AreTrulyFull TermFault.Exhausted end end.reports.items
+
+-- A TASK WITH ITS LINES, by the links' numbers
+pub record LinedTask (L : Type 0) : Type 0 where
+  pub config : SetConfig
+  pub users : ℕ
+  pub lines : List L
+  pub jobs : List Duty
+  pub plan : Plan
+
+abbrev pub lined_task : {L : Type 0} → SetConfig → ℕ → List L → List Duty → Plan → LinedTask L
+lined_task config users lines jobs plan =
+    record { config = config; users = users; lines = lines; jobs = jobs; plan = plan }
+
+abbrev pub counted : {L : Type 0} → LinedTask L → Task
+counted task = task_of task.config task.users (length task.lines) task.jobs task.plan
+
+-- IT WAS DONE, and each terminal took its turns over its own line
+pub record IsDoneOver {L : Type 0} (l : line_end.Ghosts L) (task : LinedTask L) (end : SetEnd) : Type 0 where
+  pub done : IsDone (counted task) end
+  pub over : DidShiftsOver l 0 task.plan task.lines end.reports.items end.closed.base.books end.closed.history.items

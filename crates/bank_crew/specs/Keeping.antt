@@ -15,7 +15,8 @@ use Rattle.bank_crew.specs.declared.fault.UserFault.{UserFault}
 use Rattle.bank_crew.specs.Jobs.{DoesJob, Duty, duty_of, first_or, no_duty}
 use Rattle.set_events.specs.declared.history.Entry.{Entry}
 use Rattle.bank_crew.specs.Seats.{AreAll}
-use Rattle.bank_crew.specs.Shifts.{DoesShift}
+use Rattle.bank_crew.specs.Shifts.{DoesShiftOver}
+use Rattle.line_ring.specs.declared.line.Line as line_end
 
 -- thread by thread, what came of it keeps its promise: the seats, and what each thread tells
 pub record AreKept {P S T : Type 0} (kept : P → Ended S T → Type 0) (promises : List P) (seats : List S)
@@ -42,23 +43,25 @@ KeepsJob promise end = (end.seat.who ≡ User promise.user)
     × ((all : List Entry) × AreAll end.seat all × DoesJob (User promise.user) (duty_of promise.job.value) end.told all)
     × (end.told ≡ Err UserFault.Exhausted → end.seat.full ≡ true)
 
--- A TERMINAL'S: it's what its turns asked.
-abbrev pub KeepsShift : ShiftOf → Ended SeatState (Result ShiftReport TermFault) → Type 0
-KeepsShift promise end = (end.seat.who ≡ Terminal promise.link)
-    × ((all : List Entry) × AreAll end.seat all × DoesShift promise.plan promise.link end.told all)
+-- A TERMINAL'S: it's what its turns asked, over its line.
+abbrev pub KeepsShift : {L : Type 0} → line_end.Ghosts L → ShiftOf L → Ended SeatState (Result ShiftReport TermFault) → Type 0
+KeepsShift l promise end = (end.seat.who ≡ Terminal promise.link)
+    × ((all : List Entry) × AreAll end.seat all × DoesShiftOver l promise.line.value promise.plan promise.link end.told all)
     × (end.told ≡ Err TermFault.Exhausted → end.seat.full ≡ true)
 
--- the terminals' promises, from this link on: all the same plan
-abbrev pub AreShifts : ℕ → Plan → List ShiftOf → Type 0
-AreShifts link plan [] = Unit {0}
-AreShifts link plan (promise ∷ promises) =
-    ((promise.link ≡ link) × (promise.plan ≡ plan)) × AreShifts (suc link) plan promises
+-- the terminals' promises, from this link on: each its own line, and all the same plan
+abbrev pub AreShifts : {L : Type 0} → ℕ → Plan → List L → List (ShiftOf L) → Type 0
+AreShifts link plan lines [] = Unit {0}
+AreShifts link plan [] (promise ∷ promises) = ⊥
+AreShifts link plan (line ∷ lines) (promise ∷ promises) =
+    ((promise.link ≡ link) × (promise.plan ≡ plan) × (promise.line.value ≡ line)) × AreShifts (suc link) plan lines promises
 
--- of so many terminals those that have one of so many lines promise the turns of this plan; the seats of the others are
+-- of so many terminals those that have one of these lines promise the turns of this plan over it; the seats of the others are
 -- left, and new
-pub record PromiseShifts (lines links : ℕ) (plan : Plan) (promises : List ShiftOf) (idle : List SeatState) : Type 0 where
-  pub many : length promises ≡ min lines links
-  pub are : AreShifts 0 plan promises
+pub record PromiseShifts {L : Type 0} (lines : List L) (links : ℕ) (plan : Plan) (promises : List (ShiftOf L))
+    (idle : List SeatState) : Type 0 where
+  pub many : length promises ≡ min (length lines) links
+  pub are : AreShifts 0 plan lines promises
   pub new : AreNew Terminal (length promises) idle
   pub all : length promises + length idle ≡ links
 
@@ -75,16 +78,16 @@ pub record AreUsers (users : ℕ) (jobs : List Duty) (seats : List SeatState) (t
   pub kept : AreKept KeepsJob promises seats told
 
 -- the seats of these terminals, and then those of which nothing was asked
-pub record GathersTerminals (promises : List ShiftOf) (idle seats : List SeatState)
+pub record GathersTerminals {L : Type 0} (l : line_end.Ghosts L) (promises : List (ShiftOf L)) (idle seats : List SeatState)
     (told : List (Result ShiftReport TermFault)) : Type 0 where
   pub run : List SeatState
-  pub kept : AreKept KeepsShift promises run told
+  pub kept : AreKept (KeepsShift l) promises run told
   pub seats_are : seats ≡ run ++ idle
 
 -- AND OF THE TERMINALS: each that has a line took its turns, and of the others nothing was asked
-pub record AreTerminals (lines links : ℕ) (plan : Plan) (seats : List SeatState)
+pub record AreTerminals {L : Type 0} (l : line_end.Ghosts L) (lines : List L) (links : ℕ) (plan : Plan) (seats : List SeatState)
     (told : List (Result ShiftReport TermFault)) : Type 0 where
-  pub promises : List ShiftOf
+  pub promises : List (ShiftOf L)
   pub idle : List SeatState
   pub promised : PromiseShifts lines links plan promises idle
-  pub gathered : GathersTerminals promises idle seats told
+  pub gathered : GathersTerminals l promises idle seats told

@@ -8,7 +8,8 @@ use Rattle.term_model.specs.declared.report.TermReport.{TermReport}
 use Rattle.term_model.specs.declared.timers.Timers.{Timers}
 use Rattle.term_model.specs.Terminal.{Terminal, opened, told}
 use Rattle.link_term.specs.declared.fault.TermFault.{TermFault}
-use Rattle.link_term.specs.Looking.{Seen}
+use Rattle.line_ring.specs.declared.line.Line as line_end
+use Rattle.link_term.specs.Looking.{Seen, seen}
 use Rattle.link_term.specs.Running.{Runs, RunFails}
 use Rattle.link_term.specs.Standing.{Standing, standing}
 use Rattle.link_term.specs.States.{is_out_of_service, state_of}
@@ -153,7 +154,7 @@ TurnsOf plan link = TurnsWhere plan.managed (is_to_fail plan.fail link) plan.tur
 abbrev pub fresh : ℕ → Timers → Seen → Standing
 fresh link timers line = standing [] (told Start (told Emergency (opened link timers))) [] [] line
 
--- A SHIFT: the turns of the plan over some line left these entries, but those that level 3 asked for, and the terminal looked
+-- A SHIFT: the turns of the plan over a line left these entries, but those that level 3 asked for, and the terminal looked
 -- before each slice of them, as the marks tell; level 3 asked each of its own when it was due behind a turn's entry or a look,
 -- whatever is awaited after; what is reported of both; and the tape of what they put into the line, of which nothing was put
 -- before. What the set told at a look, and by which entries an order had come late, the marks alone tell.
@@ -172,12 +173,35 @@ pub record DoesShift (plan : Plan) (link : ℕ) (ended : Result ShiftReport Term
   pub tape_is : IsTape plan.keeps tape after.line.put
   pub ended_is : ended ≡ reported (answered_in link made) (carried_in plan.managed link made) tape counts
 
+-- OVER THIS LINE: what a shift found first was there when the line was handed in, of which nothing was put since; and what it
+-- saw last is of the same end of the same line, into which it put what it put
+pub record RunsOver {L : Type 0} (l : line_end.Ghosts L) (line : L) (first last : Seen) : Type 0 where
+  pub left : L
+  pub same : l.is_same line left
+  pub first_is : first ≡ seen (l.taken_so_far line) (l.waiting line) [] (l.free line)
+  pub last_is : last ≡ seen (l.taken_so_far left) (l.waiting left) last.put (l.free left)
+  pub put_is : l.put_so_far left ≡ l.put_so_far line ++ last.put
+
+-- so a shift over this line
+pub record DoesShiftOver {L : Type 0} (l : line_end.Ghosts L) (line : L) (plan : Plan) (link : ℕ)
+    (ended : Result ShiftReport TermFault) (made : List Entry) : Type 0 where
+  pub shift : DoesShift plan link ended made
+  pub over : RunsOver l line shift.line shift.after.line
+
 -- THE TERMINALS, from this link on, each took its own turns, and asked the set nothing else
 abbrev pub DidShifts : ℕ → Plan → List (Result ShiftReport TermFault) → Books → List Entry → Type 0
 DidShifts link plan [] books history = Unit {0}
 DidShifts link plan (ended ∷ more) books history =
     ((calls : List Entry) × AreCalls (Actor.Terminal link) books history calls × DoesShift plan link ended calls)
     × DidShifts (suc link) plan more books history
+
+-- and each over its own line
+abbrev pub DidShiftsOver : {L : Type 0} → line_end.Ghosts L → ℕ → Plan → List L → List (Result ShiftReport TermFault) → Books → List Entry → Type 0
+DidShiftsOver l link plan lines [] books history = Unit {0}
+DidShiftsOver l link plan [] (ended ∷ more) books history = ⊥
+DidShiftsOver l link plan (line ∷ lines) (ended ∷ more) books history =
+    ((calls : List Entry) × AreCalls (Actor.Terminal link) books history calls × DoesShiftOver l line plan link ended calls)
+    × DidShiftsOver l (suc link) plan lines more books history
 
 -- and those that have no line asked it nothing
 abbrev pub AskNothing : ℕ → ℕ → Books → List Entry → Type 0

@@ -4,12 +4,13 @@ ghost use Rattle.set_events.specs.Lent.{HasFitUnit, event_in};
 ghost use Rattle.set_events.specs.Owners.{IsOwn};
 ghost use Rattle.set_events.specs.declared.event.Actor.TheVariants.{User, Terminal};
 ghost use Rattle.set_events.specs.declared.event.Event.TheVariants.{Offer, Take, Find};
-ghost use Rattle.set_shared.specs.Asking.{IsAnsweredWith};
+ghost use Rattle.set_ledger.specs.Totals.{StandsIn};
+ghost use Rattle.set_shared.specs.Asking.{MayAnswer};
 ghost use Rattle.bank_crew.specs.Jobs.{Calls};
 ghost use Rattle.bank_crew.specs.Seats.{AreAll};
 
 use set_events::{Answer, EventRef, Reply, SetFault};
-use set_shared::{LinkSet, Opening, Seat, SeatShare, TermSeat, UserSeat};
+use set_shared::{LinkNow, LinkSet, Opening, Seat, SeatShare, TermSeat, UserSeat};
 use std::alloc::Global;
 use std::marker::{Model, PhantomData};
 use std::snapshot::Snapshot;
@@ -102,6 +103,15 @@ impl<O: Opening, S: Seat<O> + Drop> Caller<O, S> {
         self.many = self.seat.receipts().len().saturating_mul(2).max(FEW);
     }
 
+    /// A checkpoint of its set. Where memory is refused none is taken.
+    pub(crate) fn checkpoint<R: Wait>(&mut self, rt: &R, set: &LinkSet<O>)
+        ensures who { self.new.seat.who ≡ self.old.seat.who }
+        ensures all { self.new.all ≡ self.old.all }
+        ensures full { self.new.seat.full ≡ self.old.seat.full }
+    {
+        let _ = set.checkpoint(rt, &mut self.seat);
+    }
+
     /// Forgets what lies before the last checkpoint.
     fn forget_now<R: Wait>(&mut self, rt: &R, set: &LinkSet<O>) -> Result<(), SetFault>
         ensures who { self.new.seat.who ≡ self.old.seat.who }
@@ -177,6 +187,15 @@ impl<O: Opening> Caller<O, TermSeat<O>> {
         self.seat.link()
     }
 
+    /// How its link stands, and how many messages of users stand in each place: those that its own steps brought are among them.
+    pub(crate) fn look<R: Wait>(&mut self, rt: &R, set: &LinkSet<O>) -> LinkNow
+        ensures part { StandsIn self.old.seat.share result.counts }
+        ensures same { self.new ≡ self.old }
+    {
+        let link = self.seat.link();
+        set.look(rt, &mut self.seat, link)
+    }
+
     /// One step on the terminal's own link, whose answer is put into the reply; `held` is called once the lock is had. It tells
     /// how many changeover orders about the link had come late by then.
     pub(crate) fn step<R: Wait, F: FnOnce()>(
@@ -193,7 +212,7 @@ impl<O: Opening> Caller<O, TermSeat<O>> {
         ensures who { self.new.seat.who ≡ self.old.seat.who }
         ensures ok { OnOk result (self.new.all ≡ self.old.all
             ++ record { who = self.old.seat.who; event = event_in event.now; answer = reply.new } ∷ []) }
-        ensures late { IfOk result (IsAnsweredWith O.settings self.old.seat.who (event_in event.now) reply.new) }
+        ensures answer { OnOk result (MayAnswer (event_in event.now) reply.new) }
         ensures err { OnErr result (self.new.all ≡ self.old.all) }
         ensures full_stays { self.old.seat.full ≡ true → self.new.seat.full ≡ true }
         ensures full { result ≡ Err SetFault.Exhausted → self.new.seat.full ≡ true }

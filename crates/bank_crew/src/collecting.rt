@@ -1,5 +1,6 @@
 //! A user that keeps what it takes.
-ghost use Rattle.std.specs.Prelude.{◌≡◌, true, [], IfOk, OnOk};
+ghost use Rattle.std.specs.Prelude.{◌≡◌, true, [], IfOk, IsSome, OnOk};
+ghost use Rattle.set_events.specs.declared.event.Actor.TheVariants.{User};
 ghost use Rattle.std.specs.Option.{option_map, option_to_list};
 ghost use Rattle.bank_crew.specs.Jobs.{bodies_of, ended_by, kept_by, taken_in, Takes, TakesOne};
 
@@ -40,7 +41,7 @@ pub(crate) fn collect_often<O: Opening, G: LinkManager, R: Wait + Clock>(
             return Err(fault);
         }
         let asked = caller.share().calls;
-        pauses.pause(rt, set, asked);
+        pauses.pause(rt, set, caller, asked);
     }
     Ok(report)
 }
@@ -54,6 +55,8 @@ fn collect_one<O: Opening, G: LinkManager, R: Wait + Clock>(
     report: &mut UserReport,
 ) -> Result<(), UserFault>
     ensures who { caller.new.seat.who ≡ caller.old.seat.who }
+    ensures waits { OnOk result ((user : _) → caller.old.seat.who ≡ User user → IsSome assignment.now.plan.managed
+        → G.lets assignment.now.gate assignment.now.set user) }
     ensures takes { TakesOne caller.old.seat.who result caller.old.all caller.new.all }
     ensures kept { kept_by report.old ≡ taken_in caller.old.all
         → OnOk result (kept_by report.new ≡ taken_in caller.new.all) }

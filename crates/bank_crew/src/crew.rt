@@ -9,6 +9,7 @@ use super::fault::{CrewFault, UserFault};
 use super::report::{ShiftReport, UserReport};
 use super::terminal::ShiftOf;
 use super::user::JobOf;
+use line_ring::Line;
 use link_term::TermFault;
 use set_shared::{Opening, TermSeat, UserSeat};
 use std::alloc::{AllocError, Global};
@@ -32,13 +33,13 @@ pub(crate) type TermEnd<O> = Ended<TermSeat<O>, Result<ShiftReport, TermFault>>;
 pub(crate) type UserThread<O> = PromisedHandle<UserEnd<O>, JobOf>;
 
 /// The thread of a terminal.
-pub(crate) type TermThread<O> = PromisedHandle<TermEnd<O>, ShiftOf>;
+pub(crate) type TermThread<O, L> = PromisedHandle<TermEnd<O>, ShiftOf<L>>;
 
 /// The threads of a set's users and terminals, and the seats of the terminals that have no line.
 #[derive(Drop)]
-pub(crate) struct Crew<O: Opening> {
+pub(crate) struct Crew<O: Opening, L: Line + Drop> {
     pub(crate) users: Vec<UserThread<O>>,
-    pub(crate) terminals: Vec<TermThread<O>>,
+    pub(crate) terminals: Vec<TermThread<O, L>>,
     pub(crate) idle: IntoIter<TermSeat<O>, Global>,
 }
 
@@ -58,13 +59,13 @@ struct Back<S: Drop, T: Drop> {
     told: Vec<T>,
 }
 
-impl<O: Opening> Crew<O> {
+impl<O: Opening, L: Line + Drop> Crew<O, L> {
     /// Waits for the users and then for the terminals, whose seats stand before the idle ones. A fault is want of memory.
     pub(crate) fn gather<R: Threads>(self, rt: &R, alloc: Global) -> Result<Gathered<O>, CrewFault>
         ensures fault { IfErr result (λ fault. fault ≡ NoMemory) }
         ensures users { IfOk result (λ all. AreKept KeepsJob
             (map (λ thread. thread.promise) self.users.items) all.users.items all.user_ends.items) }
-        ensures terminals { IfOk result (λ all. GathersTerminals
+        ensures terminals { IfOk result (λ all. GathersTerminals L.Line
             (map (λ thread. thread.promise) self.terminals.items) (into_iter_items self.idle)
             all.terminals.items all.reports.items) }
     {

@@ -31,10 +31,17 @@ pub struct Sight {
 }
 
 /// Who manages the links of sets (Q.704 12), and holds their users up, where a plan has its links managed. It's told what
-/// happens, and asked what is to be done; nothing is promised of what it answers, so what comes of it is shown by tests.
+/// happens, and asked what is to be done. A user calls once it's held up no more; of all else that it answers nothing is
+/// promised, so what comes of it is shown by tests.
 pub trait LinkManager: Gate {
+    ghost use Rattle.std.specs.Prelude.{◌≡◌, ℕ, false};
+
+    /// This user of this set was held up no more.
+    ghost lets: { Self → ℕ → ℕ → Type 0 };
+
     /// Whether this user is to wait yet, before a call that was told to [`Gate::user`].
-    fn holds_up(&self, set: u16, user: u16) -> bool;
+    fn holds_up(&self, set: u16, user: u16) -> bool
+        ensures { result ≡ false → lets self.now set user };
 
     /// The set gave this answer to the terminal of this link.
     fn answered(&self, set: u16, link: u8, event: &EventRef<'_>, answer: &AnswerRef<'_>);
@@ -49,6 +56,8 @@ pub trait LinkManager: Gate {
 
 /// Nobody is held up, and each link runs on.
 impl LinkManager for OpenGate {
+    ghost lets = { λ gate set user. Unit {0} };
+
     fn holds_up(&self, _set: u16, _user: u16) -> bool {
         false
     }
@@ -85,7 +94,7 @@ pub(crate) trait SetManager {
 impl<G: LinkManager> SetManager for Assignment<G> {
     ghost may = { λ assignment link instruction. Unit {0} };
 
-    ghost lets = { λ assignment user. Unit {0} };
+    ghost lets = { λ assignment user. G.lets assignment.gate assignment.set user };
 
     fn instruct(&self, link: u8, sight: &Sight) -> Instruction {
         self.gate.instruct(self.set, link, sight)

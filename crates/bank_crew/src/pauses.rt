@@ -1,6 +1,8 @@
 //! When users and terminals take checkpoints of their set.
+ghost use Rattle.std.specs.Prelude.{◌≡◌};
 
-use set_shared::{LinkSet, Opening};
+use super::caller::Caller;
+use set_shared::{LinkSet, Opening, Seat};
 use std::sync::Wait;
 
 /// When a user or a terminal takes checkpoints: each time that so much more was done.
@@ -19,9 +21,19 @@ impl Pauses {
 
     /// A checkpoint, where one is due when so much is done. Where memory is refused all stays, and the next one makes up
     /// for it.
-    pub(crate) fn pause<O: Opening, R: Wait>(&mut self, rt: &R, set: &LinkSet<O>, done: u64) {
+    pub(crate) fn pause<O: Opening, S: Seat<O> + Drop, R: Wait>(
+        &mut self,
+        rt: &R,
+        set: &LinkSet<O>,
+        caller: &mut Caller<O, S>,
+        done: u64,
+    )
+        ensures who { caller.new.seat.who ≡ caller.old.seat.who }
+        ensures all { caller.new.all ≡ caller.old.all }
+        ensures full { caller.new.seat.full ≡ caller.old.seat.full }
+    {
         if self.are_due(done) {
-            let _ = set.checkpoint(rt);
+            caller.checkpoint(rt, set);
         }
     }
 

@@ -8,7 +8,7 @@ ghost use Rattle.bank_crew.specs.Awaiting.{nothing};
 ghost use Rattle.bank_crew.specs.Doors.{Asked, AskedDue, HasToldFull, Follows, IsLookRefused, IsMarked, IsRefused, Looks, Unasked, sight_of};
 ghost use Rattle.bank_crew.specs.Managing.{is_question, look_mark, looks_in, mark_of, of_turns};
 ghost use Rattle.bank_crew.specs.Seats.{AreAll, link_in};
-ghost use Rattle.set_shared.specs.Asking.{IsAnsweredWith, IsSeen};
+ghost use Rattle.set_shared.specs.Asking.{MayAnswer};
 ghost use Rattle.set_shared.specs.declared.link_set.LinkNow.{LinkNow};
 
 use super::caller::Caller;
@@ -142,9 +142,7 @@ impl<'a, O: Opening, R: Wait, G: LinkManager> SeatDoor<'a, O, R, G> {
             ++ record { who = self.old.seat.who; event = event_in event.now; answer = reply.new } ∷ []) }
         ensures marks { IfOk result (λ late. self.new.marks ≡ self.old.marks
             ++ mark_of of_turn late ∷ []) }
-        ensures late { IfOk result (λ late. (orders : ℕ)
-            × IsAnsweredWith O.settings self.old.seat.who (event_in event.now) reply.new orders
-            × (late ≡ not (orders == self.old.noted))) }
+        ensures answer { OnOk result (MayAnswer (event_in event.now) reply.new) }
         ensures err { OnErr result ((self.new.all ≡ self.old.all)
             × (self.new.marks ≡ self.old.marks)) }
         ensures full { result ≡ Err SetFault.Exhausted → self.new.seat.full ≡ true }
@@ -305,8 +303,9 @@ impl<'a, O: Opening, R: Wait, G: LinkManager> Door for SeatDoor<'a, O, R, G> {
             Ok(late) => {
                 // it's no matter that memory is refused to level 3
                 let _ = self.follow(event, &reply.get(), late);
+                let made = self.caller.share().calls;
                 self.pauses
-                    .pause(self.rt, self.set, self.caller.share().calls);
+                    .pause(self.rt, self.set, &mut self.caller, made);
                 Ok(())
             }
             Err(fault) => {
@@ -320,14 +319,12 @@ impl<'a, O: Opening, R: Wait, G: LinkManager> Door for SeatDoor<'a, O, R, G> {
 impl<'a, O: Opening, R: Wait, G: LinkManager> SliceDoor for SeatDoor<'a, O, R, G> {
     ghost use Rattle.std.specs.Prelude.{◌≡◌, ℕ};
     ghost use Rattle.std.proofs.Common.{◌∙◌};
-    ghost use Rattle.bank_crew.specs.Doors.{AskedDue, sight_of};
+    ghost use Rattle.bank_crew.specs.Doors.{AskedDue};
     ghost use Rattle.bank_crew.specs.Managing.{looks_in};
     ghost use Rattle.bank_crew.specs.Seats.{link_in};
-    ghost use Rattle.set_shared.specs.Asking.{IsSeen};
-    ghost use Rattle.set_shared.specs.declared.link_set.LinkNow.{LinkNow};
+    ghost use Rattle.set_ledger.specs.Totals.{StandsIn};
 
-    ghost sees = { λ door sight. (now : LinkNow) × IsSeen O.settings (link_in door.seat.who) now
-        × (sight ≡ sight_of door.noted now) };
+    ghost sees = { λ door sight. StandsIn door.seat.share sight.counts };
 
     ghost looks = { λ door. looks_in door.marks };
 
@@ -340,7 +337,7 @@ impl<'a, O: Opening, R: Wait, G: LinkManager> SliceDoor for SeatDoor<'a, O, R, G
     ghost goes_on_on = { λ first second third a b. (b.0 ∙ a.0, λ due. b.1 (a.1 due)) };
 
     fn look(&mut self, out: bool) -> Sight {
-        let now = self.set.look(self.rt, self.caller.link());
+        let now = self.caller.look(self.rt, self.set);
         let sight = Sight {
             counts: now.counts,
             settled: now.settled,

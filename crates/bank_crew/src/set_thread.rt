@@ -1,5 +1,5 @@
 //! What a set's thread does.
-ghost use Rattle.std.specs.Prelude.{◌≡◌, ◌<◌, ◌≤◌, ◌↔◌, [], length, map, vec_len, All, IsTrue, IfErr, IfOk};
+ghost use Rattle.std.specs.Prelude.{◌≡◌, ◌<◌, ◌≤◌, ◌↔◌, [], length, map, All, IsTrue, IfErr, IfOk};
 ghost use Rattle.std.specs.Vec.Iter.{into_iter_items};
 ghost use Rattle.set_events.specs.declared.event.Actor.TheVariants.{User, Terminal};
 ghost use Rattle.set_ledger.specs.Ending.{IsFaithful, IsTrulyFull};
@@ -7,7 +7,7 @@ ghost use Rattle.set_ledger.specs.Seats.{new_seats};
 ghost use Rattle.set_ledger.specs.Totals.{AreParts};
 ghost use Rattle.set_events.specs.declared.config.SetConfig.{SetConfig};
 ghost use Rattle.set_model.specs.State.{settings_of};
-ghost use Rattle.bank_crew.specs.Ends.{IsClosedAs, IsDone, IsEndOf, task_of};
+ghost use Rattle.bank_crew.specs.Ends.{IsClosedAs, IsDoneOver, IsEndOf, lined_task};
 ghost use Rattle.bank_crew.specs.Faults.{CannotStart};
 ghost use Rattle.bank_crew.specs.Jobs.{duty_of};
 ghost use Rattle.bank_crew.specs.declared.fault.CrewFault.TheVariants.{Unclosed};
@@ -56,7 +56,8 @@ pub fn one_set<
     G: LinkManager + Drop + Send + Sync,
     R: Threads + Wait + Clock + Sync,
 >(rt: &R, alloc: Global, work: Work<L, G>) -> Result<SetEnd, CrewFault>
-    ensures { IfOk result (IsDone (task_of work.config work.users (vec_len work.lines) (map duty_of work.jobs.items) work.assignment.plan)) }
+    ensures { IfOk result (IsDoneOver L.Line
+        (lined_task work.config work.users work.lines.items (map duty_of work.jobs.items) work.assignment.plan)) }
 {
     let users = u64::from(work.users);
     let links = u64::from(work.config.links);
@@ -66,6 +67,7 @@ pub fn one_set<
         octets: Blank::new(users),
         acknowledged: Blank::new(links),
         full: Blank::new(users + links),
+        checkpoints: Blank::new(users + links),
     };
     run_set::<Brand, L, G, R>(rt, alloc, work, blanks)
 }
@@ -80,7 +82,8 @@ fn run_set<
     requires blanks { blanks ≡ O.blanks }
     requires parts { AreParts O.blanks work.users work.config.links }
     requires opening { settings_of work.config ≡ O.settings }
-    ensures { IfOk result (IsDone (task_of work.config work.users (vec_len work.lines) (map duty_of work.jobs.items) work.assignment.plan)) }
+    ensures { IfOk result (IsDoneOver L.Line
+        (lined_task work.config work.users work.lines.items (map duty_of work.jobs.items) work.assignment.plan)) }
 {
     let config = work.config;
     match LinkSet::<O>::create(alloc, &config, work.users, blanks) {
@@ -99,7 +102,8 @@ fn run_opened<
     requires users { opened.users.items ≡ new_seats User work.users }
     requires terminals { opened.terminals.items ≡ new_seats Terminal work.config.links }
     requires opening { settings_of work.config ≡ O.settings }
-    ensures { IfOk result (IsDone (task_of work.config work.users (vec_len work.lines) (map duty_of work.jobs.items) work.assignment.plan)) }
+    ensures { IfOk result (IsDoneOver L.Line
+        (lined_task work.config work.users work.lines.items (map duty_of work.jobs.items) work.assignment.plan)) }
 {
     let Opened {
         set,
@@ -195,7 +199,7 @@ fn run_seats<
     requires terminals { AreNew Terminal 0 seats.terminals.items }
     ensures users { IfOk result (λ all.
         AreUsers (length seats.users.items) (map duty_of seats.jobs.items) all.users.items all.user_ends.items) }
-    ensures terminals { IfOk result (λ all. AreTerminals (vec_len seats.lines) (length seats.terminals.items)
+    ensures terminals { IfOk result (λ all. AreTerminals L.Line seats.lines.items (length seats.terminals.items)
         assignment.now.plan all.terminals.items all.reports.items) }
     ensures fault { IfErr result CannotStart }
 {
@@ -207,7 +211,7 @@ fn run_seats<
             requires terminals { AreNew Terminal 0 seats.terminals.items }
             ensures users { IfOk result (λ all.
                 AreUsers (length seats.users.items) (map duty_of seats.jobs.items) all.users.items all.user_ends.items) }
-            ensures terminals { IfOk result (λ all. AreTerminals (vec_len seats.lines) (length seats.terminals.items)
+            ensures terminals { IfOk result (λ all. AreTerminals L.Line seats.lines.items (length seats.terminals.items)
                 assignment.entry.now.plan all.terminals.items all.reports.items) }
             ensures fault { IfErr result CannotStart }
         {
@@ -234,12 +238,12 @@ fn start_all<
     set: &'s LinkSet<O>,
     seats: Seats<O, L>,
     assignment: &'s Assignment<G>,
-) -> Result<Crew<O>, CrewFault>
+) -> Result<Crew<O, L>, CrewFault>
     requires users { AreNew User 0 seats.users.items }
     requires terminals { AreNew Terminal 0 seats.terminals.items }
     ensures users { IfOk result (λ crew. PromiseJobs (length seats.users.items) (map duty_of seats.jobs.items)
         (map (λ thread. thread.promise) crew.users.items)) }
-    ensures terminals { IfOk result (λ crew. PromiseShifts (vec_len seats.lines) (length seats.terminals.items)
+    ensures terminals { IfOk result (λ crew. PromiseShifts seats.lines.items (length seats.terminals.items)
         assignment.now.plan (map (λ thread. thread.promise) crew.terminals.items) (into_iter_items crew.idle)) }
     ensures fault { IfErr result CannotStart }
 {
@@ -275,9 +279,9 @@ fn start_terminals<
     seats: &mut IntoIter<TermSeat<O>, Global>,
     lines: Vec<L>,
     assignment: &'s Assignment<G>,
-) -> Result<Vec<TermThread<O>>, CrewFault>
+) -> Result<Vec<TermThread<O, L>>, CrewFault>
     requires { AreNew Terminal 0 (into_iter_items seats.old) }
-    ensures shifts { IfOk result (λ threads. PromiseShifts (vec_len lines) (length (into_iter_items seats.old))
+    ensures shifts { IfOk result (λ threads. PromiseShifts lines.items (length (into_iter_items seats.old))
         assignment.now.plan (map (λ thread. thread.promise) threads.items) (into_iter_items seats.new)) }
     ensures fault { IfErr result CannotStart }
 {
@@ -290,6 +294,7 @@ fn start_terminals<
         let promise = ShiftOf {
             link: seat.link(),
             plan: assignment.plan,
+            line: Snapshot::of(&line),
         };
         let shift = TermShift {
             rt,

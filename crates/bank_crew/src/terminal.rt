@@ -4,7 +4,7 @@ ghost use Rattle.set_events.specs.declared.history.Entry.{Entry};
 ghost use Rattle.bank_crew.specs.Seats.{AreAll, link_in};
 ghost use Rattle.link_term.specs.Standing.{lent, stands};
 ghost use Rattle.bank_crew.specs.Managing.{Look};
-ghost use Rattle.bank_crew.specs.Shifts.{DoesShift, Halves, TurnsOf, both, with_first};
+ghost use Rattle.bank_crew.specs.Shifts.{DoesShiftOver, Halves, TurnsOf, both, with_first};
 
 use super::assignment::Assignment;
 use super::crew::{Ended, TermEnd};
@@ -18,20 +18,22 @@ use line_tape::{Tape, TapedLine};
 use link_term::{Command, TermFault, TermReport, Works};
 use set_shared::{LinkSet, Opening, TermSeat};
 use std::alloc::Global;
+use std::snapshot::Snapshot;
 use std::sync::Wait;
 use std::thread::Promise;
 
-/// What the thread of the terminal of this link promises: its seat's entries are those of this plan's turns.
+/// What the thread of the terminal of this link promises: its seat's entries are those of this plan's turns over this line.
 #[derive(Drop)]
-pub(crate) struct ShiftOf {
+pub(crate) struct ShiftOf<L: Line + Drop> {
     pub(crate) link: u8,
     pub(crate) plan: Plan,
+    pub(crate) line: Snapshot<L>,
 }
 
-impl<O: Opening> Promise<TermEnd<O>> for ShiftOf {
+impl<O: Opening, L: Line + Drop> Promise<TermEnd<O>> for ShiftOf<L> {
     ghost use Rattle.bank_crew.specs.Keeping.{KeepsShift};
 
-    ghost kept_by = { KeepsShift };
+    ghost kept_by = { KeepsShift L.Line };
 }
 
 /// A terminal's seat at its set, and the line over which it runs.
@@ -53,7 +55,7 @@ impl<'a, O: Opening, L: Line + Drop, G: LinkManager, R: Wait> TermShift<'a, O, L
         requires forgotten { self.seat.forgotten.calls ≡ 0 }
         ensures who { result.seat.who ≡ self.entry.seat.who }
         ensures shift { (all : List Entry) × AreAll result.seat all
-            × DoesShift self.entry.assignment.now.plan (link_in self.entry.seat.who) result.told all }
+            × DoesShiftOver L.Line self.entry.line self.entry.assignment.now.plan (link_in self.entry.seat.who) result.told all }
         ensures full { result.told ≡ Err TermFault.Exhausted → result.seat.full ≡ true }
     {
         let TermShift {

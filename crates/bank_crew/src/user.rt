@@ -1,5 +1,6 @@
 //! What a user's thread does.
-ghost use Rattle.std.specs.Prelude.{◌≡◌, true, List, [], map, IfOk};
+ghost use Rattle.std.specs.Prelude.{◌≡◌, true, List, [], map, IfOk, IsSome};
+ghost use Rattle.set_events.specs.declared.event.Actor.TheVariants.{User};
 ghost use Rattle.set_events.specs.declared.history.Entry.{Entry};
 ghost use Rattle.bank_crew.specs.Seats.{AreAll};
 ghost use Rattle.bank_crew.specs.Jobs.{Does, DoesJob, duty_of, ended_by, Finds, kept_by, Offers, OffersOne, Takes, TakesOne, end_of_call, end_of_find, number_of};
@@ -131,7 +132,7 @@ fn offer_all<O: Opening, G: LinkManager, R: Wait + Clock>(
             return Err(fault);
         }
         let accepted = caller.share().messages;
-        pauses.pause(rt, set, accepted);
+        pauses.pause(rt, set, caller, accepted);
     }
     Ok(())
 }
@@ -145,6 +146,8 @@ fn offer_one<O: Opening, G: LinkManager, R: Wait + Clock>(
     assignment: &Assignment<G>,
 ) -> Result<(), UserFault>
     ensures who { caller.new.seat.who ≡ caller.old.seat.who }
+    ensures waits { (user : _) → caller.old.seat.who ≡ User user → IsSome assignment.now.plan.managed
+        → G.lets assignment.now.gate assignment.now.set user }
     ensures offers { OffersOne caller.old.seat.who octets.now result caller.old.all caller.new.all }
     ensures full { result ≡ Err UserFault.Exhausted → caller.new.seat.full ≡ true }
 {
@@ -165,6 +168,8 @@ fn find_one<O: Opening, G: LinkManager, R: Wait + Clock>(
     assignment: &Assignment<G>,
 ) -> Result<(), UserFault>
     ensures who { caller.new.seat.who ≡ caller.old.seat.who }
+    ensures waits { (user : _) → caller.old.seat.who ≡ User user → IsSome assignment.now.plan.managed
+        → G.lets assignment.now.gate assignment.now.set user }
     ensures finds { Finds caller.old.seat.who number result caller.old.all caller.new.all }
     ensures full { result ≡ Err UserFault.Exhausted → caller.new.seat.full ≡ true }
 {
@@ -190,7 +195,7 @@ fn take_often<O: Opening, G: LinkManager, R: Wait + Clock>(
             return Err(fault);
         }
         let asked = caller.share().calls;
-        pauses.pause(rt, set, asked);
+        pauses.pause(rt, set, caller, asked);
     }
     Ok(())
 }
@@ -203,6 +208,8 @@ fn take_one<O: Opening, G: LinkManager, R: Wait + Clock>(
     assignment: &Assignment<G>,
 ) -> Result<(), UserFault>
     ensures who { caller.new.seat.who ≡ caller.old.seat.who }
+    ensures waits { (user : _) → caller.old.seat.who ≡ User user → IsSome assignment.now.plan.managed
+        → G.lets assignment.now.gate assignment.now.set user }
     ensures takes { TakesOne caller.old.seat.who result caller.old.all caller.new.all }
     ensures full { result ≡ Err UserFault.Exhausted → caller.new.seat.full ≡ true }
 {
@@ -218,7 +225,9 @@ pub(crate) fn wait_to_call<G: LinkManager, R: Wait + Clock>(
     rt: &R,
     assignment: &Assignment<G>,
     user: u16,
-) {
+)
+    ensures { IsSome assignment.now.plan.managed → G.lets assignment.now.gate assignment.now.set user }
+{
     assignment.gate.user(assignment.set, user);
     if assignment.plan.managed.is_some() {
         wait_as_held(rt, assignment, user);

@@ -24,7 +24,7 @@ fn started_near<R: Threads + Wait + Clock + Copy + Send + Sync + 'static>(
     alloc: Global,
     lines: Vec<Vec<RingLine>>,
     gate: MeetingGate,
-) -> Result<Running, Fail> {
+) -> Result<Running<RingLine>, Fail> {
     let configs = configs_of(alloc, 2, 2, Method::Basic, 2, 1)?;
     let jobs = offers_of(alloc, 2, 4, 100)?;
     let bank = bank_of(alloc, &configs, 4)?;
@@ -40,7 +40,7 @@ fn started_far<R: Threads + Wait + Clock + Copy + Send + Sync + 'static>(
     alloc: Global,
     lines: Vec<Vec<RingLine>>,
     gate: MeetingGate,
-) -> Result<Running, Fail> {
+) -> Result<Running<RingLine>, Fail> {
     let configs = configs_of(alloc, 2, 2, Method::Basic, 1, 2)?;
     let jobs = takes_of(alloc, 2, 1_000)?;
     let bank = bank_of(alloc, &configs, 1)?;
@@ -66,8 +66,8 @@ fn ends_of_both<R: Threads + Wait + Clock + Copy + Send + Sync + 'static>(
 /// Waits for both banks, or where the far one wasn't started for the near one.
 pub(crate) fn joined<R: Threads + Wait>(
     rt: &R,
-    near: Running,
-    far: Result<Running, Fail>,
+    near: Running<RingLine>,
+    far: Result<Running<RingLine>, Fail>,
 ) -> Result<TrafficEnds, Fail> {
     let near_ends = near.join(rt);
     let far_ends = far?.join(rt);

@@ -177,6 +177,8 @@ impl Clone for MeetingGate {
 }
 
 impl LinkManager for MeetingGate {
+    ghost lets = { λ gate set user. Unit {0} };
+
     fn holds_up(&self, _set: u16, _user: u16) -> bool {
         false
     }

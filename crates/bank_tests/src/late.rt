@@ -134,6 +134,8 @@ impl Gate for LateGate {
 }
 
 impl LinkManager for LateGate {
+    ghost lets = { λ gate set user. Unit {0} };
+
     fn holds_up(&self, _set: u16, _user: u16) -> bool {
         if read(&self.done.missed) > 0 {
             false
@@ -221,7 +223,7 @@ fn started<R: Threads + Wait + Clock + Copy + Send + Sync + 'static>(
     lines: Vec<Vec<RingLine>>,
     is_near: bool,
     done: &Arc<Done, Global>,
-) -> Result<Running, Fail> {
+) -> Result<Running<RingLine>, Fail> {
     let (own, far) = if is_near { (2, 1) } else { (1, 2) };
     let configs = configs_of(alloc, 1, 2, method, own, far)?;
     let gate = LateGate {

@@ -1,4 +1,5 @@
 pub mod Lines
-pub mod Passing
+pub mod Pairs
+mod Passing
 pub mod Tasks
 pub mod Plans

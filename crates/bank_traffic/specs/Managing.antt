@@ -1,5 +1,6 @@
 -- HOW GATES MANAGE LINKS, and end a run.
-use Rattle.std.specs.Prelude.{◌≡◌, ◌≤◌, ◌+◌, ◌-◌, ◌^◌, min, ℕ, Bool, true, false}
+use Rattle.std.specs.Prelude.{◌≡◌, ◌≤◌, ◌+◌, ◌-◌, ◌^◌, min, ℕ, Bool, true, false, if◌then◌else◌}
+use Rattle.bank_crew.specs.declared.manager.Instruction.{Instruction}
 use Rattle.l2_units.specs.Lent.{body_in}
 use Rattle.l2_units.specs.declared.lent.UnitRef.{UnitRef}
 use Rattle.set_events.specs.declared.answer.Counts.{Counts}
@@ -18,6 +19,11 @@ stream_brought unit = stream_of (body_in unit)
 pub record IsRested (up : Bool) (out_since turn : ℕ) : Type 0 where
   pub out : up ≡ false
   pub long : out_since + 6400 ≤ turn
+
+-- WHAT A TERMINAL IS TOLD: nothing more is to come, else it's stopped, else it rested long enough
+abbrev pub instruction_of : Bool → Bool → Bool → Instruction
+instruction_of over stops rested =
+    if over then Instruction.End else (if stops then Instruction.Stop else (if rested then Instruction.Start else Instruction.Run))
 
 -- A USER IS HELD UP where as many of its messages are on their way as may be (own): 64 of those that it offered, but for
 -- those that were heard, and for as many as its set gave up, whoever offered these

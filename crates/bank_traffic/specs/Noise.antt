@@ -1,5 +1,5 @@
 -- NOISE ON A LINE: what passes of the octets that are put into it.
-use Rattle.std.specs.Prelude.{◌==◌, ◌<◌, nat_lt, ◌+◌, ◌-◌, ◌*◌, ◌%◌, ◌^◌, ℕ, List, [], ◌∷◌, ◌++◌, map, Option, None, Some, if◌then◌else◌}
+use Rattle.std.specs.Prelude.{◌==◌, nat_lt, ◌+◌, ◌-◌, ◌*◌, ◌%◌, ◌^◌, ℕ, List, [], ◌∷◌, ◌++◌, map, Option, None, Some, if◌then◌else◌}
 use Rattle.bank_traffic.specs.declared.asked.Traffic.{Traffic}
 use Rattle.bank_traffic.specs.declared.noise.Noise.{Noise}
 use Rattle.bank_traffic.specs.Opening.{numbers_below}

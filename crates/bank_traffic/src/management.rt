@@ -1,7 +1,7 @@
 //! How the gates of two banks manage their links, and hold users up.
 
 ghost use Rattle.std.specs.Prelude.{◌≡◌};
-ghost use Rattle.bank_traffic.specs.Managing.{open_in, stream_brought};
+ghost use Rattle.bank_traffic.specs.Managing.{instruction_of, open_in, stream_brought};
 
 use super::asked::Traffic;
 use super::pace::{PaceGate, pace_gates};
@@ -66,6 +66,8 @@ impl Management {
 }
 
 impl LinkManager for PaceGate {
+    ghost lets = { λ gate set user. Unit {0} };
+
     fn holds_up(&self, set: u16, user: u16) -> bool {
         let Some(watch) = self.watch(set) else {
             return false;
@@ -116,24 +118,17 @@ impl LinkManager for PaceGate {
             watch.give_up(sight.counts.discarded);
             self.settle(watch, open);
         }
-        if watch.is_over(self.is_near()) {
-            return Instruction::End;
-        }
+        let over = watch.is_over(self.is_near());
         let Some(at) = watch.at(link, self.is_near()) else {
-            return Instruction::Run;
+            return instruction_of(over, false, false);
         };
         let turn = self.turn(set, link);
-        if sight.late {
+        if sight.late && !over {
             // it's stopped, and rests as a link that failed
             at.fall(turn);
         }
-        if self.fails(link) && watch.stops(at, self.messages(), turn, open) {
-            return Instruction::Stop;
-        }
-        if at.is_rested(turn) {
-            return Instruction::Start;
-        }
-        Instruction::Run
+        let stops = !over && self.fails(link) && watch.stops(at, self.messages(), turn, open);
+        instruction_of(over, stops, at.seen().is_rested(turn))
     }
 
     fn ended(&self, set: u16, link: u8) {
@@ -168,12 +163,28 @@ impl PaceGate {
     /// All may be done, where so many messages aren't finished.
     fn settle(&self, watch: &SetWatch, open: u64) {
         if let Some(both) = self.management() {
-            let failing = match both.traffic.fail {
-                Some(link) => watch.at(link, true),
-                None => None,
+            let came_back = match both.traffic.fail {
+                Some(link) => watch.has_come_back(link),
+                None => true,
             };
-            watch.settle(failing, both.traffic.messages, open);
+            let offered_all = watch.has_offered_all(both.traffic.messages);
+            watch.settle(came_back, offered_all, open);
         }
+    }
+}
+
+/// What a terminal is told: nothing more is to come, else it's stopped, else it rested long enough to be started again.
+fn instruction_of(over: bool, stops: bool, rested: bool) -> Instruction
+    ensures { result ≡ instruction_of over stops rested }
+{
+    if over {
+        Instruction::End
+    } else if stops {
+        Instruction::Stop
+    } else if rested {
+        Instruction::Start
+    } else {
+        Instruction::Run
     }
 }
 

@@ -3,10 +3,11 @@ ghost use Rattle.std.specs.Prelude.{◌≡◌, ◌<◌, ◌^◌, map, None, Some
 ghost use Rattle.std.specs.List.{AllZip};
 ghost use Rattle.bank_traffic.specs.Noise.{all_noises};
 ghost use Rattle.line_ring.specs.Rings.{AreJoined};
-ghost use Rattle.bank_core.specs.Ends.{AreEnds};
+ghost use Rattle.bank_core.specs.Ends.{AreEndsOver};
+ghost use Rattle.bank_crew.specs.Ends.{counted};
 ghost use Rattle.bank_core.specs.Faults.{EndsEarly};
 ghost use Rattle.bank_traffic.specs.Opening.{AreConfigs, AreEndsOf, AreTasks, IsPlan, each_set, far_end, far_jobs, links_managed, method_of, near_end};
-ghost use Rattle.bank_traffic.specs.Sides.{TellsNearFirst, duties, line_counts, tasks_in};
+ghost use Rattle.bank_traffic.specs.Sides.{AreLinesOf, RunOverPairs, TellsNearFirst, duties, tasks_over};
 
 use super::asked::Traffic;
 use super::management::gates_of;
@@ -14,7 +15,7 @@ use super::noise::NoisyLine;
 use super::opening::{collects_of, configs_of, lines_of, method_of, offers_of, takes_of};
 use super::pace::PaceGate;
 use bank_core::{Bank, BankFault, Job, Managed, Plan, Running, SetEnd};
-use line_ring::RingLine;
+use line_ring::{Line, RingLine};
 use link_term::Timers;
 use std::alloc::{AllocError, Global};
 use std::sync::Wait;
@@ -51,6 +52,8 @@ pub fn run_traffic<R: Threads + Wait + Clock + Copy + Send + Sync + 'static>(
 ) -> Result<TrafficEnds, BankFault>
     ensures near { IfOk result (λ ends. AreEndsOf traffic.now (near_end traffic.now) ends.near.items) }
     ensures far { IfOk result (λ ends. AreEndsOf traffic.now (far_end traffic.now) ends.far.items) }
+    ensures over { IfOk result (λ ends. RunOverPairs ⟦<NoisyLine<RingLine> as Line>⟧
+        (λ own. own.line) (λ own. own.first) traffic.now ends.near.items ends.far.items) }
     ensures early { IfErr result EndsEarly }
 {
     let (near_gate, far_gate) = gates_of(alloc, traffic)?;
@@ -58,7 +61,8 @@ pub fn run_traffic<R: Threads + Wait + Clock + Copy + Send + Sync + 'static>(
 }
 
 /// Runs this traffic: the ends a of all sets in one bank, the ends b in another, each link over a pair of rings, with
-/// these gates, which keep its two terminals beside one another: [`gates_of`] this traffic.
+/// these gates, which keep its two terminals beside one another: [`gates_of`] this traffic. Each terminal takes its turns over its
+/// end of its link's own pair, with the noise that is asked for on what it puts.
 ///
 /// Faults, once all threads that were started have ended: those of [`Bank::start`] and [`Running::join`], of the ends a
 /// first.
@@ -71,6 +75,8 @@ pub fn run_through<R: Threads + Wait + Clock + Copy + Send + Sync + 'static>(
 ) -> Result<TrafficEnds, BankFault>
     ensures near { IfOk result (λ ends. AreEndsOf traffic.now (near_end traffic.now) ends.near.items) }
     ensures far { IfOk result (λ ends. AreEndsOf traffic.now (far_end traffic.now) ends.far.items) }
+    ensures over { IfOk result (λ ends. RunOverPairs ⟦<NoisyLine<RingLine> as Line>⟧
+        (λ own. own.line) (λ own. own.first) traffic.now ends.near.items ends.far.items) }
     ensures early { IfErr result EndsEarly }
 {
     let lines = lines_of(alloc, traffic)?;
@@ -94,8 +100,8 @@ impl Side {
     fn start<R: Threads + Wait + Clock + Copy + Send + Sync + 'static>(
         self,
         rt: &R,
-    ) -> Result<Running, BankFault>
-        ensures running { IfOk result (λ running. running ≡ tasks_in self) }
+    ) -> Result<Running<NoisyLine<RingLine>>, BankFault>
+        ensures running { IfOk result (λ running. running ≡ tasks_over self.bank self.plan self.lines self.jobs) }
         ensures early { IfErr result EndsEarly }
     {
         self.bank
@@ -110,9 +116,10 @@ fn near_side(
     lines: Vec<Vec<NoisyLine<RingLine>>>,
     gate: PaceGate,
 ) -> Result<Side, BankFault>
-    requires counted { line_counts lines ≡ each_set traffic.now.sets traffic.now.links }
     requires noises { map (λ of_set. map (λ own. own.first) of_set.items) lines.items ≡ all_noises traffic.now 0 }
-    ensures tasks { IfOk result (λ side. AreTasks traffic.now (near_end traffic.now) (tasks_in side)) }
+    ensures tasks { IfOk result (λ side. AreTasks traffic.now (near_end traffic.now)
+        (map counted (tasks_over side.bank side.plan side.lines side.jobs))) }
+    ensures over { IfOk result (λ side. AreLinesOf lines (tasks_over side.bank side.plan side.lines side.jobs)) }
     ensures lines { IfOk result (λ side. side.lines ≡ lines) }
     ensures early { IfErr result EndsEarly }
 {
@@ -135,9 +142,10 @@ fn far_side(
     lines: Vec<Vec<NoisyLine<RingLine>>>,
     gate: PaceGate,
 ) -> Result<Side, BankFault>
-    requires counted { line_counts lines ≡ each_set traffic.now.sets traffic.now.links }
     requires noises { map (λ of_set. map (λ own. own.first) of_set.items) lines.items ≡ all_noises traffic.now 1 }
-    ensures tasks { IfOk result (λ side. AreTasks traffic.now (far_end traffic.now) (tasks_in side)) }
+    ensures tasks { IfOk result (λ side. AreTasks traffic.now (far_end traffic.now)
+        (map counted (tasks_over side.bank side.plan side.lines side.jobs))) }
+    ensures over { IfOk result (λ side. AreLinesOf lines (tasks_over side.bank side.plan side.lines side.jobs)) }
     ensures lines { IfOk result (λ side. side.lines ≡ lines) }
     ensures early { IfErr result EndsEarly }
 {
@@ -171,8 +179,10 @@ fn run_sides<R: Threads + Wait + Clock + Copy + Send + Sync + 'static>(
     far: Side,
 ) -> Result<TrafficEnds, BankFault>
     requires { AllZip (λ a b. AllZip (λ x y. AreJoined x.line y.line) a.items b.items) near.lines.items far.lines.items }
-    ensures near { IfOk result (λ ends. AreEnds (tasks_in near) ends.near.items) }
-    ensures far { IfOk result (λ ends. AreEnds (tasks_in far) ends.far.items) }
+    ensures near { IfOk result (λ ends. AreEndsOver ⟦<NoisyLine<RingLine> as Line>⟧
+        (tasks_over near.bank near.plan near.lines near.jobs) ends.near.items) }
+    ensures far { IfOk result (λ ends. AreEndsOver ⟦<NoisyLine<RingLine> as Line>⟧
+        (tasks_over far.bank far.plan far.lines far.jobs) ends.far.items) }
     ensures early { IfErr result EndsEarly }
 {
     match near.start(rt) {
@@ -184,11 +194,12 @@ fn run_sides<R: Threads + Wait + Clock + Copy + Send + Sync + 'static>(
 /// Runs the bank of the ends b beside that of the ends a, and waits for both.
 fn run_beside<R: Threads + Wait + Clock + Copy + Send + Sync + 'static>(
     rt: &R,
-    near: Running,
+    near: Running<NoisyLine<RingLine>>,
     far: Side,
 ) -> Result<TrafficEnds, BankFault>
-    ensures near { IfOk result (λ ends. AreEnds near ends.near.items) }
-    ensures far { IfOk result (λ ends. AreEnds (tasks_in far) ends.far.items) }
+    ensures near { IfOk result (λ ends. AreEndsOver ⟦<NoisyLine<RingLine> as Line>⟧ near ends.near.items) }
+    ensures far { IfOk result (λ ends. AreEndsOver ⟦<NoisyLine<RingLine> as Line>⟧
+        (tasks_over far.bank far.plan far.lines far.jobs) ends.far.items) }
     ensures early { IfErr result EndsEarly }
 {
     match far.start(rt) {
@@ -250,9 +261,13 @@ fn bank_of(
 }
 
 /// Waits for both banks.
-fn joined<R: Threads + Wait>(rt: &R, near: Running, far: Running) -> Result<TrafficEnds, BankFault>
-    ensures near { IfOk result (λ ends. AreEnds near ends.near.items) }
-    ensures far { IfOk result (λ ends. AreEnds far ends.far.items) }
+fn joined<R: Threads + Wait>(
+    rt: &R,
+    near: Running<NoisyLine<RingLine>>,
+    far: Running<NoisyLine<RingLine>>,
+) -> Result<TrafficEnds, BankFault>
+    ensures near { IfOk result (λ ends. AreEndsOver ⟦<NoisyLine<RingLine> as Line>⟧ near ends.near.items) }
+    ensures far { IfOk result (λ ends. AreEndsOver ⟦<NoisyLine<RingLine> as Line>⟧ far ends.far.items) }
     ensures early { IfErr result EndsEarly }
 {
     let near_ends = near.join(rt);

@@ -69,13 +69,30 @@ impl LinkWatch {
         self.up.load(Ordering::SeqCst)
     }
 
+    /// How it stands.
+    pub(crate) fn seen(&self) -> LinkSeen {
+        LinkSeen {
+            up: self.up.load(Ordering::SeqCst),
+            out_since: self.out_since.load(Ordering::SeqCst),
+        }
+    }
+}
+
+/// How one end of a link stands.
+#[derive(Clone, Copy)]
+pub(crate) struct LinkSeen {
+    /// It's up at its set.
+    pub(crate) up: bool,
+    /// The turn in which it went out of service.
+    pub(crate) out_since: u64,
+}
+
+impl LinkSeen {
     /// Whether it rested long enough in this turn to be started again.
-    pub(crate) fn is_rested(&self, turn: u64) -> bool {
-        is_rested(
-            self.up.load(Ordering::SeqCst),
-            self.out_since.load(Ordering::SeqCst),
-            turn,
-        )
+    pub(crate) fn is_rested(self, turn: u64) -> bool
+        ensures { IsTrue result ↔ IsRested self.up self.out_since turn }
+    {
+        !self.up && turn.saturating_sub(self.out_since) >= REST
     }
 }
 
@@ -202,7 +219,7 @@ impl SetWatch {
     }
 
     /// Whether each user at end a has offered all its messages.
-    fn has_offered_all(&self, messages: u16) -> bool {
+    pub(crate) fn has_offered_all(&self, messages: u16) -> bool {
         self.calls
             .iter()
             .all(|calls| read(calls) >= 2 * u64::from(messages))
@@ -226,23 +243,24 @@ impl SetWatch {
         stops
     }
 
-    /// Where all was offered, and no message is open, and the link that was to fail came back, all is done.
-    pub(crate) fn settle(&self, failing: Option<&LinkWatch>, messages: u16, open: u64) {
-        let came_back = match failing {
+    /// Whether this link at end a was told to stop, and came up since; true where the set hasn't got it.
+    pub(crate) fn has_come_back(&self, link: u8) -> bool {
+        match self.at(link, true) {
             Some(link) => link.came_back.load(Ordering::SeqCst),
             None => true,
-        };
-        if is_all_done(came_back, self.has_offered_all(messages), open) {
-            self.quiet.store(true, Ordering::SeqCst);
         }
     }
-}
 
-/// Whether a link, up or out of service since that turn, rested long enough in this one to be started again.
-fn is_rested(up: bool, out_since: u64, turn: u64) -> bool
-    ensures { IsTrue result ↔ IsRested up out_since turn }
-{
-    !up && turn.saturating_sub(out_since) >= REST
+    /// All is done where the link that was to fail came back, all was offered, and each message is finished: whether that is so.
+    pub(crate) fn settle(&self, came_back: bool, offered_all: bool, unfinished: u64) -> bool
+        ensures { IsTrue result ↔ IsAllDone came_back offered_all unfinished }
+    {
+        let done = ends_set(came_back, offered_all, unfinished);
+        if done {
+            self.quiet.store(true, Ordering::SeqCst);
+        }
+        done
+    }
 }
 
 /// Whether a user waits: so many messages that it offered are neither heard nor given up as may be on their way.
@@ -253,7 +271,7 @@ fn is_held_up(offered: u64, heard: u64, given_up: u64) -> bool
 }
 
 /// Whether all is done: the link that was to fail came back, all was offered, and so many messages aren't finished.
-fn is_all_done(came_back: bool, offered_all: bool, unfinished: u64) -> bool
+fn ends_set(came_back: bool, offered_all: bool, unfinished: u64) -> bool
     ensures { IsTrue result ↔ IsAllDone came_back offered_all unfinished }
 {
     came_back && offered_all && unfinished == 0

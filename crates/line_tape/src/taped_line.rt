@@ -26,6 +26,7 @@ impl<L: Line + Drop> TapedLine<L> {
         ensures line { result.line ≡ line }
         ensures tape { result.tape ≡ tape }
         ensures put { result.put ≡ [] }
+        ensures before { result.before.value ≡ line }
     {
         let before = Snapshot::of(&line);
         TapedLine {

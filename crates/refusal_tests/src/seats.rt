@@ -26,6 +26,7 @@ fn blanks() -> Blanks
     ensures octets { result.octets.parts ≡ 1 }
     ensures acknowledged { result.acknowledged.parts ≡ 2 }
     ensures full { result.full.parts ≡ 3 }
+    ensures checkpoints { result.checkpoints.parts ≡ 3 }
 {
     Blanks {
         calls: Blank::new(3),
@@ -33,6 +34,7 @@ fn blanks() -> Blanks
         octets: Blank::new(1),
         acknowledged: Blank::new(2),
         full: Blank::new(3),
+        checkpoints: Blank::new(3),
     }
 }
 
@@ -123,7 +125,10 @@ fn is_asked<O: Opening, G: Allocator + Copy>(
             return false;
         }
     }
-    is_based(held, twin) && all_forget(held, users, terminals)
+    let Some(first) = users.first_mut() else {
+        return false;
+    };
+    is_based(held, first, twin) && all_forget(held, users, terminals)
 }
 
 /// The seat whose the event is makes the step, and the twin answers the same.
@@ -223,13 +228,21 @@ fn are_held_alike<O: Opening, G: Allocator + Copy>(held: &Held<O, G>, twin: &Set
 }
 
 /// Both make what they hold their base; while that is refused, the set is as its twin.
-fn is_based<O: Opening, G: Allocator + Copy>(held: &mut Held<O, G>, twin: &mut SetCore) -> bool {
-    makes_base(held, twin) && bases(twin) && are_held_alike(held, twin)
+fn is_based<O: Opening, G: Allocator + Copy>(
+    held: &mut Held<O, G>,
+    seat: &mut UserSeat<O, G>,
+    twin: &mut SetCore,
+) -> bool {
+    makes_base(held, seat, twin) && bases(twin) && are_held_alike(held, twin)
 }
 
-fn makes_base<O: Opening, G: Allocator + Copy>(held: &mut Held<O, G>, twin: &SetCore) -> bool {
+fn makes_base<O: Opening, G: Allocator + Copy>(
+    held: &mut Held<O, G>,
+    seat: &mut UserSeat<O, G>,
+    twin: &SetCore,
+) -> bool {
     for _ in 0..TRIES {
-        match held.checkpoint() {
+        match held.checkpoint(seat) {
             Ok(()) => return true,
             Err(SetFault::NoMemory) if are_held_alike(held, twin) => {}
             Err(_) => return false,

@@ -13,7 +13,6 @@ use Rattle.set_model.specs.Checkpoint.{counts_in}
 use Rattle.set_core.specs.Gaining.{AreBounded}
 use Rattle.set_model.specs.History.{LinkSet, IsLegal, after, books_of, entries_in, longest_history}
 use Rattle.set_model.specs.Rows.{total_of}
-use Rattle.set_ledger.specs.declared.share.SeatShare.{SeatShare}
 use Rattle.set_ledger.specs.Seats.{SeatState, Returns, ReturnsFull}
 use Rattle.set_ledger.specs.Ending.{are_seats, is_complete, AreFaithful, IsClosed, IsMerged, IsMergedFull, IsTrulyFull}
 use Rattle.set_ledger.specs.Totals.{AreTotals, TellsFull, totals_of}
@@ -43,16 +42,15 @@ pub faithful_as : (before : Books) (history : List Entry) (us us' ts ts' : List 
 faithful_as before history us us' ts ts' told way same_users same_terms = subst (λ (seats : List SeatState). IsTrue told ↔ AreFaithful before history us seats) same_terms (subst (λ (seats : List SeatState). IsTrue told ↔ AreFaithful before history seats ts') same_users way)
 
 -- one seat more gave back its part
-pub merged_more : (number : SeatShare → ℕ) (seats : List SeatState) (seat : SeatState) (parts amount parts' amount' parts'' amount'' : ℕ) → IsMerged number seats parts amount parts' amount' → Returns parts' amount' (number seat.share) parts'' amount'' → IsMerged number (seats ++ seat ∷ []) parts amount parts'' amount''
+pub merged_more : (number : SeatState → ℕ) (seats : List SeatState) (seat : SeatState) (parts amount parts' amount' parts'' amount'' : ℕ) → IsMerged number seats parts amount parts' amount' → Returns parts' amount' (number seat) parts'' amount'' → IsMerged number (seats ++ seat ∷ []) parts amount parts'' amount''
 merged_more number seats seat parts amount parts' amount' parts'' amount'' merged returns =
-    let told : SeatState → ℕ = λ (seat : SeatState). number seat.share in
     let parts_were = merged.parts_are in
     let amount_was = merged.amount_is in
     let parts_are = returns.parts_are in
     let amount_is = returns.amount_is in
     record {
       parts_are = omega (arith, parts_were, parts_are, length-append seats (seat ∷ []));
-      amount_is = omega (arith, amount_was, amount_is, sum_by-append told seats (seat ∷ []), sum_by-cons told seat []);
+      amount_is = omega (arith, amount_was, amount_is, sum_by-append number seats (seat ∷ []), sum_by-cons number seat []);
     }
 
 -- and its part of the ledger of a full history
@@ -86,8 +84,8 @@ told_truly set seats total parts amount parts' amount' last full short merged be
     omega (arith, were, short)) seats merged.some
 
 -- The seats have all parts of a ledger, so what their shares tell is its total.
-pub whole_sum : (number : SeatShare → ℕ) (seats : List SeatState) (parts amount parts' amount' all total : ℕ) → parts ≡ 0 → amount ≡ 0 → IsMerged number seats parts amount parts' amount' → length seats ≡ all → (parts' ≡ all → amount' ≡ total)
-    → total ≡ sum_by (λ (seat : SeatState). number seat.share) seats
+pub whole_sum : (number : SeatState → ℕ) (seats : List SeatState) (parts amount parts' amount' all total : ℕ) → parts ≡ 0 → amount ≡ 0 → IsMerged number seats parts amount parts' amount' → length seats ≡ all → (parts' ≡ all → amount' ≡ total)
+    → total ≡ sum_by number seats
 whole_sum number seats parts amount parts' amount' all total none nothing merged many whole =
     let parts_are = merged.parts_are in
     let amount_is = merged.amount_is in
@@ -95,9 +93,9 @@ whole_sum number seats parts amount parts' amount' all total none nothing merged
     omega (arith, is, amount_is, nothing)
 
 -- likewise where two kinds of seats have them
-pub whole_sums : (number : SeatShare → ℕ) (us ts : List SeatState) (parts amount parts' amount' parts'' amount'' all total : ℕ) → parts ≡ 0 → amount ≡ 0 → IsMerged number us parts amount parts' amount' → IsMerged number ts parts' amount' parts'' amount''
+pub whole_sums : (number : SeatState → ℕ) (us ts : List SeatState) (parts amount parts' amount' parts'' amount'' all total : ℕ) → parts ≡ 0 → amount ≡ 0 → IsMerged number us parts amount parts' amount' → IsMerged number ts parts' amount' parts'' amount''
     → length us + length ts ≡ all → (parts'' ≡ all → amount'' ≡ total)
-    → total ≡ sum_by (λ (seat : SeatState). number seat.share) us + sum_by (λ (seat : SeatState). number seat.share) ts
+    → total ≡ sum_by number us + sum_by number ts
 whole_sums number us ts parts amount parts' amount' parts'' amount'' all total none nothing one other many whole =
     let parts_first = one.parts_are in
     let amount_first = one.amount_is in

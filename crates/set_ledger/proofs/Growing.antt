@@ -17,9 +17,9 @@ use Rattle.set_ledger.specs.Seats.{ShareGrows, AddsUp, acked_in, user_share, ter
 use Rattle.set_ledger.specs.Totals.{AreTotals, Gains, GainsNoOther, TellsFull, totals_of}
 
 -- a share that grew by an entry is what the receipts with that entry add up to
-pub adds_up_more : (who : Actor) (old new : SeatShare) (forgotten : Forgotten) (receipts more : List Entry) (full : Bool) (event : Event) (answer : Answer) → AddsUp (record { who = who; share = old; forgotten = forgotten; receipts = receipts; full = full }) → ShareGrows old event answer new → more ≡ receipts ++ record { who = who; event = event; answer = answer } ∷ []
-    → AddsUp (record { who = who; share = new; forgotten = forgotten; receipts = more; full = full })
-adds_up_more who old new forgotten receipts more full event answer sums grows e =
+pub adds_up_more : (who : Actor) (old new : SeatShare) (forgotten : Forgotten) (receipts more : List Entry) (full : Bool) (taken : ℕ) (event : Event) (answer : Answer) → AddsUp (record { who = who; share = old; forgotten = forgotten; receipts = receipts; full = full; checkpoints = taken }) → ShareGrows old event answer new → more ≡ receipts ++ record { who = who; event = event; answer = answer } ∷ []
+    → AddsUp (record { who = who; share = new; forgotten = forgotten; receipts = more; full = full; checkpoints = taken })
+adds_up_more who old new forgotten receipts more full taken event answer sums grows e =
     let entry : Entry = record { who = who; event = event; answer = answer } in
     let calls_were = sums.calls in
     let calls_more = grows.calls in
@@ -50,15 +50,15 @@ term_grows link calls acknowledged calls' acknowledged' event answer gained old 
 }
 
 -- A SEAT at a step that brought this much: its parts gained so much, and the receipt was put last.
-pub user_adds_up : (number calls messages octets calls' messages' octets' : ℕ) (forgotten : Forgotten) (receipts more : List Entry) (full : Bool) (event : Event) (answer : Answer) (gained : SeatShare) (old new : LinkSet) → AddsUp (user_state number calls messages octets forgotten receipts full) → Gains old (User number) event answer gained new
-    → calls' ≡ calls + gained.calls → messages' ≡ messages + gained.messages → octets' ≡ octets + gained.octets → more ≡ receipts ++ record { who = User number; event = event; answer = answer } ∷ [] → AddsUp (user_state number calls' messages' octets' forgotten more full)
-user_adds_up number calls messages octets calls' messages' octets' forgotten receipts more full event answer gained old new sums gains c m o e =
-    adds_up_more (User number) _ _ forgotten receipts more full event answer sums (user_grows number calls messages octets calls' messages' octets' event answer gained old new gains c m o) e
+pub user_adds_up : (number calls messages octets calls' messages' octets' : ℕ) (forgotten : Forgotten) (receipts more : List Entry) (full : Bool) (taken : ℕ) (event : Event) (answer : Answer) (gained : SeatShare) (old new : LinkSet) → AddsUp (user_state number calls messages octets forgotten receipts full taken) → Gains old (User number) event answer gained new
+    → calls' ≡ calls + gained.calls → messages' ≡ messages + gained.messages → octets' ≡ octets + gained.octets → more ≡ receipts ++ record { who = User number; event = event; answer = answer } ∷ [] → AddsUp (user_state number calls' messages' octets' forgotten more full taken)
+user_adds_up number calls messages octets calls' messages' octets' forgotten receipts more full taken event answer gained old new sums gains c m o e =
+    adds_up_more (User number) _ _ forgotten receipts more full taken event answer sums (user_grows number calls messages octets calls' messages' octets' event answer gained old new gains c m o) e
 
-pub term_adds_up : (link calls acknowledged calls' acknowledged' : ℕ) (forgotten : Forgotten) (receipts more : List Entry) (full : Bool) (event : Event) (answer : Answer) (gained : SeatShare) (old new : LinkSet) → AddsUp (term_state link calls acknowledged forgotten receipts full) → Gains old (Terminal link) event answer gained new
-    → calls' ≡ calls + gained.calls → more ≡ receipts ++ record { who = Terminal link; event = event; answer = answer } ∷ [] → AddsUp (term_state link calls' acknowledged' forgotten more full)
-term_adds_up link calls acknowledged calls' acknowledged' forgotten receipts more full event answer gained old new sums gains c e =
-    adds_up_more (Terminal link) _ _ forgotten receipts more full event answer sums (term_grows link calls acknowledged calls' acknowledged' event answer gained old new gains c) e
+pub term_adds_up : (link calls acknowledged calls' acknowledged' : ℕ) (forgotten : Forgotten) (receipts more : List Entry) (full : Bool) (taken : ℕ) (event : Event) (answer : Answer) (gained : SeatShare) (old new : LinkSet) → AddsUp (term_state link calls acknowledged forgotten receipts full taken) → Gains old (Terminal link) event answer gained new
+    → calls' ≡ calls + gained.calls → more ≡ receipts ++ record { who = Terminal link; event = event; answer = answer } ∷ [] → AddsUp (term_state link calls' acknowledged' forgotten more full taken)
+term_adds_up link calls acknowledged calls' acknowledged' forgotten receipts more full taken event answer gained old new sums gains c e =
+    adds_up_more (Terminal link) _ _ forgotten receipts more full taken event answer sums (term_grows link calls acknowledged calls' acknowledged' event answer gained old new gains c) e
 
 -- THE TOTALS then: the books of the seat's ledgers gained as much, and the others nothing.
 pub user_totals : (number calls messages octets acknowledged calls' messages' octets' : ℕ) (event : Event) (answer : Answer) (gained : SeatShare) (old new : LinkSet) → AreTotals (totals_of calls messages octets acknowledged) old → Gains old (User number) event answer gained new

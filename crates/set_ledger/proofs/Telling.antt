@@ -1,24 +1,27 @@
 -- What a set tells of its settings and its totals.
-use Rattle.std.proofs.Common.{◌≡◌, ◌∙◌, ap, refl, sym, subst, ◌≤◌, ℕ, List, [], ◌∷◌, ◌++◌}
+use Rattle.std.proofs.Common.{arith, ◌≡◌, ◌∙◌, ap, refl, sym, subst, ◌≤◌, ◌+◌, ℕ, List, [], ◌∷◌, ◌++◌}
+use Rattle.std.proofs.lemmas.List.{length-append}
 use Rattle.set_events.specs.declared.books.Books.{Books}
 use Rattle.set_events.specs.declared.config.SetConfig.{SetConfig}
 use Rattle.set_events.specs.declared.history.Entry.{Entry}
 use Rattle.set_model.proofs.Staying.{step_grows}
-use Rattle.set_model.specs.Checkpoint.{checkpointed}
+use Rattle.set_model.specs.Checkpoint.{checkpointed, counts_in}
+use Rattle.set_model.specs.Rows.{total_of}
+use Rattle.set_events.specs.declared.answer.Counts.{Counts}
 use Rattle.set_model.specs.History.{Base, LinkSet, IsLegal, after, based, books_in, entries_in, longest_history}
 use Rattle.set_model.specs.State.{Settings, State, settings_of}
 use Rattle.set_model.specs.Step.{step}
 use Rattle.set_ledger.specs.declared.share.SeatShare.{SeatShare}
-use Rattle.set_ledger.specs.Openings.{AreLegal, IsBaseOf, IsSetOf, base_after, next_base, opening_with}
-use Rattle.set_ledger.specs.Totals.{AreTotals, totals_of}
+use Rattle.set_ledger.specs.Openings.{AreLegal, IsBaseBehind, IsBaseOf, IsSetOf, base_after, next_base, opening_with}
+use Rattle.set_ledger.specs.Totals.{AreTotals, IsPartOf, StandsIn, totals_of}
 
 -- what goes on from a base of these settings is a set of theirs
 pub set_of : (settings : Settings) (set : LinkSet) → IsBaseOf settings set.base → IsLegal set.base.state set.history → set.state ≡ after set.base.state set.history → entries_in set ≤ longest_history → IsSetOf settings set
 set_of settings set is legal agrees short = record { base_of = is; legal = legal; state_is = agrees; short = short }
 
 -- AN OPENING is such a base
-pub opens : (settings : Settings) (base : Base) → base ≡ opening_with settings → IsBaseOf settings base
-opens settings base is = record { histories = []; legal = tt; base_is = is }
+pub opens : (settings : Settings) (base : Base) → base ≡ opening_with settings → IsBaseBehind settings 0 base
+opens settings base is = record { is_base = record { histories = []; legal = tt; base_is = is }; as_many = refl }
 
 -- one history more, and a checkpoint after it
 after_more : (base : Base) (histories : List (List Entry)) (history : List Entry) → base_after base (histories ++ history ∷ []) ≡ next_base (base_after base histories) history
@@ -29,12 +32,17 @@ legal_more : (base : Base) (histories : List (List Entry)) (history : List Entry
 legal_more base [] history legal more = (more, tt)
 legal_more base (first ∷ histories) history legal more = (legal.0, legal_more (next_base base first) histories history legal.1 more)
 
-pub checkpoints : (settings : Settings) (set : LinkSet) → IsBaseOf settings set.base → IsLegal set.base.state set.history → set.state ≡ after set.base.state set.history → IsBaseOf settings (based set).base
-checkpoints settings set is legal agrees = record {
-  histories = is.histories ++ set.history ∷ [];
-  legal = legal_more (opening_with settings) is.histories set.history is.legal (subst (λ (base : Base). IsLegal base.state set.history) is.base_is legal);
-  base_is = ap (λ (s : State). record { state = checkpointed s; books = books_in set }) agrees ∙ ap (λ (base : Base). next_base base set.history) is.base_is ∙ sym (after_more (opening_with settings) is.histories set.history);
-}
+pub checkpoints : (settings : Settings) (many : ℕ) (set : LinkSet) → IsBaseBehind settings many set.base → IsLegal set.base.state set.history → set.state ≡ after set.base.state set.history → IsBaseBehind settings (many + 1) (based set).base
+checkpoints settings many set behind legal agrees =
+    let is = behind.is_base in
+    let were = behind.as_many in record {
+      is_base = record {
+        histories = is.histories ++ set.history ∷ [];
+        legal = legal_more (opening_with settings) is.histories set.history is.legal (subst (λ (base : Base). IsLegal base.state set.history) is.base_is legal);
+        base_is = ap (λ (s : State). record { state = checkpointed s; books = books_in set }) agrees ∙ ap (λ (base : Base). next_base base set.history) is.base_is ∙ sym (after_more (opening_with settings) is.histories set.history);
+      };
+      as_many = omega (arith, were, length-append is.histories (set.history ∷ []));
+    }
 
 -- its settings are those that it was opened with
 settings_stay : (s : State) (history : List Entry) → (after s history).settings ≡ s.settings
@@ -73,3 +81,16 @@ same_totals set one other a b =
     ∙ ap (λ n. totals_of other.calls n one.octets one.acknowledged) (a.messages_is ∙ sym b.messages_is)
     ∙ ap (λ n. totals_of other.calls other.messages n one.acknowledged) (a.octets_is ∙ sym b.octets_is)
     ∙ ap (λ n. totals_of other.calls other.messages other.octets n) (a.acknowledged_is ∙ sym b.acknowledged_is)
+
+-- what a seat has of the totals stands in the set's counts
+pub stands_in : (set : LinkSet) (counts : Counts) (share totals : SeatShare) → AreTotals totals set → IsPartOf share totals → set.state ≡ after set.base.state set.history → counts ≡ counts_in set.state → total_of counts ≡ (books_in set).messages → StandsIn share counts
+stands_in set counts share totals are part agrees told all =
+    let messages_are = are.messages_is in
+    let acked_are = are.acknowledged_is in
+    let few_messages = part.messages in
+    let few_acked = part.acknowledged in
+    let acked : counts.acked ≡ (books_in set).acknowledged = ap (λ (c : Counts). c.acked) (told ∙ ap counts_in agrees) in
+    record {
+      messages = omega (arith, all, messages_are, few_messages);
+      acknowledged = omega (arith, acked, acked_are, few_acked);
+    }

@@ -8,7 +8,6 @@ use Rattle.set_events.specs.declared.books.Books.{Books}
 use Rattle.set_model.specs.Checkpoint.{counts_in}
 use Rattle.set_model.specs.History.{Base, IsLegal, after, books_of, entries_of, is_user, is_terminal, longest_history}
 use Rattle.set_model.specs.Rows.{total_of}
-use Rattle.set_ledger.specs.declared.share.SeatShare.{SeatShare}
 use Rattle.set_ledger.specs.Seats.{SeatState}
 
 -- COMPLETE: a seat of each user 0, 1, .. and of each terminal, and no seat more.
@@ -78,10 +77,15 @@ pub record IsClosed (users terminals : List SeatState) (base : Base) (history : 
   pub users_full : All (IsTrulyFull base history) users
   pub terminals_full : All (IsTrulyFull base history) terminals
 
--- seats were taken apart: each has one part of a ledger, and its share's number is the amount
-pub record IsMerged (number : SeatShare → ℕ) (seats : List SeatState) (parts amount parts' amount' : ℕ) : Type 0 where
+-- how many checkpoints these seats took
+abbrev pub checkpoints_by : List SeatState → List SeatState → ℕ
+checkpoints_by users terminals =
+    sum_by (λ (seat : SeatState). seat.checkpoints) users + sum_by (λ (seat : SeatState). seat.checkpoints) terminals
+
+-- seats were taken apart: each has one part of a ledger, and this number of it is the amount
+pub record IsMerged (number : SeatState → ℕ) (seats : List SeatState) (parts amount parts' amount' : ℕ) : Type 0 where
   pub parts_are : parts' ≡ parts + length seats
-  pub amount_is : amount' ≡ amount + sum_by (λ (seat : SeatState). number seat.share) seats
+  pub amount_is : amount' ≡ amount + sum_by number seats
 
 -- and its part of the ledger of a full history, with an amount where one of them was told so
 pub record IsMergedFull (seats : List SeatState) (parts amount parts' amount' : ℕ) : Type 0 where

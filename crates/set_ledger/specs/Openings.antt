@@ -1,5 +1,5 @@
 -- WHAT A SET WAS OPENED WITH, and what it stays from then on.
-use Rattle.std.specs.Prelude.{◌≡◌, ◌≤◌, List, [], ◌∷◌}
+use Rattle.std.specs.Prelude.{◌≡◌, ◌≤◌, ℕ, List, [], ◌∷◌, length}
 use Rattle.std.specs.declared.sync.ledger.Blank.{Blank}
 use Rattle.l2_units.specs.declared.profile.Profile.TheVariants.{Narrow}
 use Rattle.set_events.specs.declared.config.Method.TheVariants.{Basic}
@@ -32,6 +32,11 @@ pub record IsBaseOf (settings : Settings) (base : Base) : Type 0 where
   pub legal : AreLegal (opening_with settings) histories
   pub base_is : base ≡ base_after (opening_with settings) histories
 
+-- and there were so many of them
+pub record IsBaseBehind (settings : Settings) (checkpoints : ℕ) (base : Base) : Type 0 where
+  pub is_base : IsBaseOf settings base
+  pub as_many : length is_base.histories ≡ checkpoints
+
 -- A SET OF THESE SETTINGS: it holds what a legal history leads to from a base of theirs
 pub record IsSetOf (settings : Settings) (set : LinkSet) : Type 0 where
   pub base_of : IsBaseOf settings set.base
@@ -44,7 +49,7 @@ abbrev pub no_blank : Blank
 no_blank = record { marker = record {}; name = 0; parts = 0 }
 
 abbrev pub no_blanks : Blanks
-no_blanks = record { calls = no_blank; messages = no_blank; octets = no_blank; acknowledged = no_blank; full = no_blank }
+no_blanks = record { calls = no_blank; messages = no_blank; octets = no_blank; acknowledged = no_blank; full = no_blank; checkpoints = no_blank }
 
 abbrev pub no_settings : Settings
 no_settings = record { set = 0; links = 0; method = Basic; profile = Narrow; sio = 0; dpc = 0; opc = 0 }

@@ -19,6 +19,8 @@ pub record SeatState : Type 0 where
   pub receipts : List Entry
   -- it was told that the history is full
   pub full : Bool
+  -- how many checkpoints it took
+  pub checkpoints : ℕ
 
 -- what a user's numbers and receipts show, and a terminal's
 abbrev pub user_share : ℕ → ℕ → ℕ → SeatShare
@@ -27,22 +29,24 @@ user_share calls messages octets = record { calls = calls; messages = messages; 
 abbrev pub term_share : ℕ → ℕ → SeatShare
 term_share calls acknowledged = record { calls = calls; messages = 0; octets = 0; acknowledged = acknowledged }
 
-abbrev pub user_state : ℕ → ℕ → ℕ → ℕ → Forgotten → List Entry → Bool → SeatState
-user_state number calls messages octets forgotten receipts full = record {
+abbrev pub user_state : ℕ → ℕ → ℕ → ℕ → Forgotten → List Entry → Bool → ℕ → SeatState
+user_state number calls messages octets forgotten receipts full checkpoints = record {
   who = User number;
   share = user_share calls messages octets;
   forgotten = forgotten;
   receipts = receipts;
   full = full;
+  checkpoints = checkpoints;
 }
 
-abbrev pub term_state : ℕ → ℕ → ℕ → Forgotten → List Entry → Bool → SeatState
-term_state link calls acknowledged forgotten receipts full = record {
+abbrev pub term_state : ℕ → ℕ → ℕ → Forgotten → List Entry → Bool → ℕ → SeatState
+term_state link calls acknowledged forgotten receipts full checkpoints = record {
   who = Terminal link;
   share = term_share calls acknowledged;
   forgotten = forgotten;
   receipts = receipts;
   full = full;
+  checkpoints = checkpoints;
 }
 
 -- a seat from which nothing was asked
@@ -53,7 +57,7 @@ abbrev pub nothing_forgotten : Forgotten
 nothing_forgotten = record { calls = 0; messages = 0; octets = 0 }
 
 abbrev pub new_seat : Actor → SeatState
-new_seat who = record { who = who; share = no_share; forgotten = nothing_forgotten; receipts = []; full = false }
+new_seat who = record { who = who; share = no_share; forgotten = nothing_forgotten; receipts = []; full = false; checkpoints = 0 }
 
 -- the seats of the actors 0, 1, .. below a number
 abbrev pub new_seats : (ℕ → Actor) → ℕ → List SeatState
@@ -103,6 +107,7 @@ pub record Receives (old : SeatState) (event : Event) (answer : Answer) (new : S
   pub who_same : new.who ≡ old.who
   pub forgotten_same : new.forgotten ≡ old.forgotten
   pub full_same : new.full ≡ old.full
+  pub checkpoints_same : new.checkpoints ≡ old.checkpoints
   pub receipt : new.receipts ≡ old.receipts ++ record { who = old.who; event = event; answer = answer } ∷ []
   pub grows : ShareGrows old.share event answer new.share
 
@@ -110,6 +115,10 @@ pub record Receives (old : SeatState) (event : Event) (answer : Answer) (new : S
 abbrev pub refused : SetFault → SeatState → SeatState
 refused SetFault.NoMemory seat = seat
 refused SetFault.Exhausted seat = record seat { full = true }
+
+-- A CHECKPOINT that it took: its receipts stay
+abbrev pub one_checkpoint_more : SeatState → SeatState
+one_checkpoint_more seat = record seat { checkpoints = seat.checkpoints + 1 }
 
 -- what a step acknowledged is the share's of the seat that made it
 abbrev pub AcknowledgesAs : LinkSet → LinkSet → SeatShare → SeatShare → Type 0
@@ -121,6 +130,7 @@ pub record Forgets (many : ℕ) (old new : SeatState) : Type 0 where
   pub who_same : new.who ≡ old.who
   pub share_same : new.share ≡ old.share
   pub full_same : new.full ≡ old.full
+  pub checkpoints_same : new.checkpoints ≡ old.checkpoints
   pub receipts_are : new.receipts ≡ drop many old.receipts
   pub sum_same : with_entries new.forgotten new.receipts ≡ with_entries old.forgotten old.receipts
 

@@ -1,10 +1,12 @@
 -- THE TOTALS of a set: what its ledgers' books say, which is what its history adds up to.
 use Rattle.std.specs.Prelude.{◌≡◌, ◌+◌, ◌*◌, ◌<◌, ◌≤◌, ℕ, [], Vec, vec_len, vec_capacity}
 use Rattle.set_events.specs.declared.answer.Answer.{Answer}
+use Rattle.set_events.specs.declared.answer.Counts.{Counts}
 use Rattle.set_events.specs.declared.event.Actor.{Actor}
 use Rattle.set_events.specs.declared.event.Actor.TheVariants.{User, Terminal}
 use Rattle.set_events.specs.declared.event.Event.{Event}
 use Rattle.set_model.specs.History.{LinkSet, books_in, entries_in, longest_history}
+use Rattle.set_model.specs.Rows.{total_of}
 use Rattle.set_model.specs.Step.{messages_in, octets_of}
 use Rattle.set_ledger.specs.declared.share.Blanks.{Blanks}
 use Rattle.set_ledger.specs.declared.share.SeatShare.{SeatShare}
@@ -54,14 +56,26 @@ pub record Gains (old : LinkSet) (who : Actor) (event : Event) (answer : Answer)
   pub few_octets : (books_in new).octets ≤ 273 * longest_history
   pub few_acknowledged : acked_in new ≤ longest_history
 
--- each seat has one part of each ledger that it moves: calls, and what tells of a full history, are everybody's, messages and
--- octets the users', acknowledgements the terminals'
+-- each seat has one part of each ledger that it moves: calls, checkpoints, and what tells of a full history, are everybody's,
+-- messages and octets the users', acknowledgements the terminals'
 pub record AreParts (blanks : Blanks) (users links : ℕ) : Type 0 where
   pub calls_cut : blanks.calls.parts ≡ users + links
   pub messages_cut : blanks.messages.parts ≡ users
   pub octets_cut : blanks.octets.parts ≡ users
   pub acknowledged_cut : blanks.acknowledged.parts ≡ links
   pub full_cut : blanks.full.parts ≡ users + links
+  pub checkpoints_cut : blanks.checkpoints.parts ≡ users + links
+
+-- what a seat has is a part of the totals, and so of what stands in each place
+pub record IsPartOf (share totals : SeatShare) : Type 0 where
+  pub calls : share.calls ≤ totals.calls
+  pub messages : share.messages ≤ totals.messages
+  pub octets : share.octets ≤ totals.octets
+  pub acknowledged : share.acknowledged ≤ totals.acknowledged
+
+pub record StandsIn (share : SeatShare) (counts : Counts) : Type 0 where
+  pub messages : share.messages ≤ total_of counts
+  pub acknowledged : share.acknowledged ≤ counts.acked
 
 -- nothing yet, and room for so many
 pub record IsRoom {T Z : Type 0} (seats : Vec T Z) (many : ℕ) : Type 0 where

@@ -1,12 +1,19 @@
 //! The end of a set: all its seats are back, and their receipts are held against its base and its history.
 ghost use Rattle.std.specs.Prelude.{◌≡◌, ◌↔◌, true, IsTrue, IfOk, IfErr, OnOk, OnErr, if◌then◌else◌};
 ghost use Rattle.set_model.specs.State.{settings_of};
-ghost use Rattle.set_ledger.specs.Ending.{is_complete, AreFaithful, IsClosed, IsMerged, IsMergedFull};
-ghost use Rattle.set_ledger.specs.Openings.{IsBaseOf};
+ghost use Rattle.set_ledger.specs.Ending.{
+  is_complete,
+  checkpoints_by,
+  AreFaithful,
+  IsClosed,
+  IsMerged,
+  IsMergedFull,
+};
+ghost use Rattle.set_ledger.specs.Openings.{IsBaseBehind};
 
 use super::checking::{are_faithful, are_terminals, are_users};
 use super::held::{Held, Rest};
-use super::opening::{Acknowledged, Calls, Full, Messages, Octets, Opening};
+use super::opening::{Acknowledged, Calls, Checkpoints, Full, Messages, Octets, Opening};
 use super::seat::{TermSeat, UserSeat};
 use set_core::Base;
 use set_events::{Books, Counts, SetConfig};
@@ -63,7 +70,7 @@ impl<O: Opening> Held<O> {
     /// Ends a set with all its seats: the history is legal from its base, each seat's receipts end with its entries in
     /// order, and the totals are the sums of the shares. Where a seat was told of a full history it has 2^48 entries. The
     /// configuration is that which the set was opened with, by the settings of its type, and the base is one that legal
-    /// histories lead to from there. It takes no memory.
+    /// histories lead to from there, as many as these seats took checkpoints. It takes no memory.
     ///
     /// Faults, which hand back the set and the seats: 1 [`EndFault::Missing`] exactly where there isn't one seat for
     /// each user and each link of the set and no other; else 2 [`EndFault::Strange`] exactly where the receipts of a
@@ -80,7 +87,8 @@ impl<O: Opening> Held<O> {
             IsClosed users.items terminals.items closed.base closed.history.items
             closed.books closed.counts) }
         ensures base { IfOk result (λ closed. closed.base ≡ self.set.base) }
-        ensures opened { IfOk result (λ closed. IsBaseOf O.settings closed.base) }
+        ensures opened { IfOk result (λ closed.
+            IsBaseBehind O.settings (checkpoints_by users.items terminals.items) closed.base) }
         ensures opening { IfOk result (λ closed. settings_of closed.config ≡ O.settings) }
         ensures history { IfOk result (λ closed. closed.history.items ≡ self.set.history) }
         ensures back { IfErr result (λ fault. fault ≡
@@ -133,7 +141,7 @@ impl<O: Opening> Held<O> {
         ensures closed { IsClosed users.items terminals.items result.base
             result.history.items result.books result.counts }
         ensures base { result.base ≡ self.set.base }
-        ensures opened { IsBaseOf O.settings result.base }
+        ensures opened { IsBaseBehind O.settings (checkpoints_by users.items terminals.items) result.base }
         ensures opening { settings_of result.config ≡ O.settings }
         ensures history { result.history.items ≡ self.set.history }
     {
@@ -150,6 +158,7 @@ impl<O: Opening> Held<O> {
             octets: mut octet_book,
             acknowledged: mut acked_book,
             full: mut full_book,
+            checkpoints: mut checkpoint_book,
             rest,
         } = self;
         let Rest {
@@ -158,14 +167,29 @@ impl<O: Opening> Held<O> {
             mut octets,
             mut acknowledged,
             mut full,
+            mut checkpoints,
         } = rest;
-        merge_users(users, &mut calls, &mut messages, &mut octets, &mut full);
-        merge_terminals(terminals, &mut calls, &mut acknowledged, &mut full);
+        merge_users(
+            users,
+            &mut calls,
+            &mut messages,
+            &mut octets,
+            &mut full,
+            &mut checkpoints,
+        );
+        merge_terminals(
+            terminals,
+            &mut calls,
+            &mut acknowledged,
+            &mut full,
+            &mut checkpoints,
+        );
         call_book.audit(&mut calls);
         message_book.audit(&mut messages);
         octet_book.audit(&mut octets);
         acked_book.audit(&mut acknowledged);
         full_book.audit(&mut full);
+        checkpoint_book.audit(&mut checkpoints);
         let (base, history) = core.into_base_and_history();
         Closed {
             config,
@@ -184,17 +208,20 @@ fn merge_users<O: Opening>(
     messages: &mut Share<Messages<O>>,
     octets: &mut Share<Octets<O>>,
     full: &mut Share<Full<O>>,
+    checkpoints: &mut Share<Checkpoints<O>>,
 )
-    ensures calls { IsMerged (λ share. share.calls) seats.items
+    ensures calls { IsMerged (λ seat. seat.share.calls) seats.items
         calls.old.parts calls.old.amount calls.new.parts calls.new.amount }
-    ensures messages { IsMerged (λ share. share.messages) seats.items
+    ensures messages { IsMerged (λ seat. seat.share.messages) seats.items
         messages.old.parts messages.old.amount messages.new.parts messages.new.amount }
-    ensures octets { IsMerged (λ share. share.octets) seats.items
+    ensures octets { IsMerged (λ seat. seat.share.octets) seats.items
         octets.old.parts octets.old.amount octets.new.parts octets.new.amount }
     ensures full { IsMergedFull seats.items full.old.parts full.old.amount full.new.parts full.new.amount }
+    ensures checkpoints { IsMerged (λ seat. seat.checkpoints) seats.items checkpoints.old.parts
+        checkpoints.old.amount checkpoints.new.parts checkpoints.new.amount }
 {
     for seat in seats {
-        seat.give_back(calls, messages, octets, full);
+        seat.give_back(calls, messages, octets, full, checkpoints);
     }
 }
 
@@ -204,15 +231,18 @@ fn merge_terminals<O: Opening>(
     calls: &mut Share<Calls<O>>,
     acknowledged: &mut Share<Acknowledged<O>>,
     full: &mut Share<Full<O>>,
+    checkpoints: &mut Share<Checkpoints<O>>,
 )
-    ensures calls { IsMerged (λ share. share.calls) seats.items
+    ensures calls { IsMerged (λ seat. seat.share.calls) seats.items
         calls.old.parts calls.old.amount calls.new.parts calls.new.amount }
     ensures acknowledged { IsMerged
-        (λ share. share.acknowledged) seats.items acknowledged.old.parts acknowledged.old.amount
+        (λ seat. seat.share.acknowledged) seats.items acknowledged.old.parts acknowledged.old.amount
         acknowledged.new.parts acknowledged.new.amount }
     ensures full { IsMergedFull seats.items full.old.parts full.old.amount full.new.parts full.new.amount }
+    ensures checkpoints { IsMerged (λ seat. seat.checkpoints) seats.items checkpoints.old.parts
+        checkpoints.old.amount checkpoints.new.parts checkpoints.new.amount }
 {
     for seat in seats {
-        seat.give_back(calls, acknowledged, full);
+        seat.give_back(calls, acknowledged, full, checkpoints);
     }
 }

@@ -14,13 +14,15 @@ use std::alloc::{AllocError, Allocator};
 
 /// A seat forgets the receipts of its calls before the set's base, and keeps what they added up to: a set's history has
 /// no entry of them any more, and [`Held::end`] holds the others against it, as before. The share stays. Where there are
-/// such calls it takes time by how many receipts there are, and meanwhile memory by how many stay.
+/// such calls it takes time by how many receipts there are, and meanwhile memory by how many stay. It tells how many calls of the
+/// seat lie before the base.
 ///
 /// Fault: 1 [`SetFault::NoMemory`], only where memory was refused; the seat is then as it was.
 pub fn forget<O: Opening, G: Allocator + Copy, S: Seat<O>>(
     held: &Held<O, G>,
     seat: &mut S,
-) -> Result<(), SetFault>
+) -> Result<u64, SetFault>
+    ensures told { IfOk result (λ calls. calls ≡ calls_at (S.state seat.old).who held.now.set.base.books) }
     ensures forgets { OnOk result (Forgets
         (calls_at (S.state seat.old).who held.now.set.base.books - (S.state seat.old).forgotten.calls)
         (S.state seat.old) (S.state seat.new)) }
@@ -32,7 +34,7 @@ pub fn forget<O: Opening, G: Allocator + Copy, S: Seat<O>>(
     let calls = count_calls(&held.core().base().books(), seat.actor());
     let many = calls.saturating_sub(seat.forgotten().calls);
     seat.forget(many)?;
-    Ok(())
+    Ok(calls)
 }
 
 /// The first so many receipts are forgotten, or all, where there are fewer. What they added up to is kept.

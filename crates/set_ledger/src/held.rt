@@ -1,17 +1,18 @@
 //! What stands under the lock of a set: the set, and the books of its ledgers.
 ghost use Rattle.std.specs.Prelude.{◌≡◌, ◌<◌, ◌≤◌, ◌↔◌, ◌⊎◌, IfOk, IfErr, OnOk, OnErr};
 ghost use Rattle.set_events.specs.declared.event.Actor.TheVariants.{User, Terminal};
+ghost use Rattle.set_model.specs.Checkpoint.{counts_in};
 ghost use Rattle.set_model.specs.History.{based, new_set};
 ghost use Rattle.set_model.specs.State.{settings_of};
-ghost use Rattle.set_ledger.specs.Openings.{IsBaseOf, IsSetOf};
-ghost use Rattle.set_ledger.specs.Seats.{new_seats, no_share};
-ghost use Rattle.set_ledger.specs.Totals.{AreTotals, AreParts, IsRoom};
+ghost use Rattle.set_ledger.specs.Openings.{IsBaseBehind, IsSetOf};
+ghost use Rattle.set_ledger.specs.Seats.{new_seats, no_share, one_checkpoint_more};
+ghost use Rattle.set_ledger.specs.Totals.{AreTotals, AreParts, IsRoom, StandsIn};
 
-use super::opening::{Acknowledged, Calls, Full, Messages, Octets, Opening};
-use super::seat::{TermSeat, UserSeat, put_terminals, put_users};
+use super::opening::{Acknowledged, Calls, Checkpoints, Full, Messages, Octets, Opening};
+use super::seat::{Seat, TermSeat, UserSeat, put_terminals, put_users};
 use super::share::{Blanks, SeatShare};
 use set_core::{SetCore, SetFault};
-use set_events::SetConfig;
+use set_events::{Counts, SetConfig};
 use std::alloc::{AllocFailed, Allocator, Global};
 use std::marker::Model;
 use std::sync::ledger::{Book, Share};
@@ -35,6 +36,7 @@ pub struct Held<O: Opening, G: Allocator = Global> {
     pub(crate) octets: Book<Octets<O>>,
     pub(crate) acknowledged: Book<Acknowledged<O>>,
     pub(crate) full: Book<Full<O>>,
+    pub(crate) checkpoints: Book<Checkpoints<O>>,
     pub(crate) rest: Rest<O>,
 }
 
@@ -44,7 +46,7 @@ impl<O: Opening, G: Allocator> Model for Held<O, G> {
     ghost Value = { HeldState };
 
     ghost use Rattle.std.specs.Prelude.{◌≡◌};
-    ghost use Rattle.set_ledger.specs.Openings.{IsBaseOf};
+    ghost use Rattle.set_ledger.specs.Openings.{IsBaseBehind};
     ghost use Rattle.set_ledger.specs.Totals.{AreTotals, AreParts, TellsFull, totals_of};
 
     ghost view = { λ h. record {
@@ -58,7 +60,7 @@ impl<O: Opening, G: Allocator> Model for Held<O, G> {
     ghost invariant = { λ h. AreTotals (totals_of
         h.calls.total h.messages.total h.octets.total h.acknowledged.total) h.core
         × AreParts O.blanks h.users h.links
-        × IsBaseOf O.settings h.core.base
+        × IsBaseBehind O.settings h.checkpoints.total h.core.base
         × TellsFull h.full.total h.core };
 }
 
@@ -70,10 +72,11 @@ pub(crate) struct Rest<O: Opening> {
     pub(crate) octets: Share<Octets<O>>,
     pub(crate) acknowledged: Share<Acknowledged<O>>,
     pub(crate) full: Share<Full<O>>,
+    pub(crate) checkpoints: Share<Checkpoints<O>>,
     pub(crate) ghost no_parts: { (calls.parts ≡ 0) × (messages.parts ≡ 0)
-        × (octets.parts ≡ 0) × (acknowledged.parts ≡ 0) × (full.parts ≡ 0) },
+        × (octets.parts ≡ 0) × (acknowledged.parts ≡ 0) × (full.parts ≡ 0) × (checkpoints.parts ≡ 0) },
     pub(crate) ghost no_amount: { (calls.amount ≡ 0) × (messages.amount ≡ 0)
-        × (octets.amount ≡ 0) × (acknowledged.amount ≡ 0) × (full.amount ≡ 0) },
+        × (octets.amount ≡ 0) × (acknowledged.amount ≡ 0) × (full.amount ≡ 0) × (checkpoints.amount ≡ 0) },
 }
 
 /// Why a set can't be opened. The blanks are given up.
@@ -154,20 +157,32 @@ impl<O: Opening, G: Allocator + Copy> Held<O, G> {
         }
     }
 
-    /// A checkpoint, as of [`SetCore::checkpoint`]: what the set holds becomes its base, and its history begins anew. The
-    /// totals stay, and so do all seats: it's no step of any of them.
+    /// A checkpoint, as of [`SetCore::checkpoint`], which this seat takes: what the set holds becomes its base, and its history
+    /// begins anew. The totals stay, and so do the receipts: it's no step. The seat has taken one more: how many there were is at
+    /// a set's end what its seats took ([`Held::end`]).
     ///
     /// Fault: 1 [`SetFault::NoMemory`], only where memory was refused; all is then as it was.
-    pub fn checkpoint(&mut self) -> Result<(), SetFault>
+    pub fn checkpoint<S: Seat<O>>(&mut self, seat: &mut S) -> Result<(), SetFault>
         ensures set { OnOk result (self.new.set ≡ based self.old.set) }
         ensures totals { self.new.totals ≡ self.old.totals }
         ensures seats { (self.new.users ≡ self.old.users) × (self.new.links ≡ self.old.links) }
-        ensures err { OnErr result (self.new ≡ self.old) }
+        ensures taken { OnOk result (S.state seat.new ≡ one_checkpoint_more (S.state seat.old)) }
+        ensures err { OnErr result ((self.new ≡ self.old) × (S.state seat.new ≡ S.state seat.old)) }
         ensures fault { IfErr result (λ fault. fault ≡ SetFault.NoMemory) }
     {
+        seat.checkpoint(self)
+    }
+
+    /// How many messages of users stand in each place, or ended there. What a seat's own steps brought is among them; seat and set
+    /// stay as they are.
+    pub fn counts_at<S: Seat<O>>(&mut self, seat: &mut S) -> Counts
+        ensures value { result ≡ counts_in self.old.set.state }
+        ensures part { StandsIn (S.state seat.old).share result }
+        ensures same { (self.new ≡ self.old) × (S.state seat.new ≡ S.state seat.old) }
+    {
         self.core.replays();
-        self.core.checkpoint()?;
-        Ok(())
+        seat.audit(self);
+        self.core.counts()
     }
 
     /// A law: whenever the set is lent, it's one of the settings that its type tells: legal histories, with a checkpoint
@@ -222,7 +237,7 @@ fn with_seats<O: Opening, G: Allocator + Copy>(
 ) -> Opened<O, G>
     requires few { (users ≤ 64) × (links ≤ 16) }
     requires new { AreTotals no_share core }
-    requires opening { IsBaseOf O.settings core.base }
+    requires opening { IsBaseBehind O.settings 0 core.base }
     requires blanks { blanks ≡ O.blanks }
     requires parts { AreParts O.blanks users links }
     requires user_room { IsRoom user_seats users }
@@ -236,6 +251,7 @@ fn with_seats<O: Opening, G: Allocator + Copy>(
     let (octet_book, mut octets) = blanks.octets.open::<Octets<O>>();
     let (acked_book, mut acknowledged) = blanks.acknowledged.open::<Acknowledged<O>>();
     let (full_book, mut full) = blanks.full.open::<Full<O>>();
+    let (checkpoint_book, mut checkpoints) = blanks.checkpoints.open::<Checkpoints<O>>();
     let mut user_seats = user_seats;
     put_users(
         &mut user_seats,
@@ -244,6 +260,7 @@ fn with_seats<O: Opening, G: Allocator + Copy>(
         &mut messages,
         &mut octets,
         &mut full,
+        &mut checkpoints,
     );
     let mut term_seats = term_seats;
     put_terminals(
@@ -252,6 +269,7 @@ fn with_seats<O: Opening, G: Allocator + Copy>(
         &mut calls,
         &mut acknowledged,
         &mut full,
+        &mut checkpoints,
     );
     let rest = Rest {
         calls,
@@ -259,6 +277,7 @@ fn with_seats<O: Opening, G: Allocator + Copy>(
         octets,
         acknowledged,
         full,
+        checkpoints,
     };
     Opened {
         held: Held {
@@ -270,6 +289,7 @@ fn with_seats<O: Opening, G: Allocator + Copy>(
             octets: octet_book,
             acknowledged: acked_book,
             full: full_book,
+            checkpoints: checkpoint_book,
             rest,
         },
         users: user_seats,

@@ -1,7 +1,7 @@
 //! Seats, and the ledgers that say that a set's totals are the sums of the seats' shares.
 //!
-//! A [`Held`] is what stands under the lock of a set: a `SetCore` and the books of five ledgers, which count calls, accepted
-//! messages, their octets, and acknowledged messages, and tell of a full history. Each user and each link's terminal has
+//! A [`Held`] is what stands under the lock of a set: a `SetCore` and the books of six ledgers, which count calls, accepted
+//! messages, their octets, acknowledged messages and checkpoints, and tell of a full history. Each user and each link's terminal has
 //! a seat: its actor, a share of each ledger that it moves, and a receipt for each step that it made. A share moves only
 //! together with its book, and [`step_in`] alone makes receipts, so that whoever gets all seats back
 //! can hold them against the history: [`Held::end`] does.
@@ -15,7 +15,7 @@
 //! terminals  TermSeat 0, 1, ..     calls, acknowledged messages   /
 //! ```
 //!
-//! A set has one type parameter `O`, which tells what it was opened with ([`Opening`]): the blanks that name its four
+//! A set has one type parameter `O`, which tells what it was opened with ([`Opening`]): the blanks that name its six
 //! ledgers, and its settings. A value under a lock has no name in a contract, but its type has one. Whoever opens a set
 //! picks both anew, for a function that is generic over `O`, so a seat of another set doesn't compile: "expected `&mut
 //! UserSeat<O>`, found `&mut UserSeat<P>`". The fields of `Held` and of the seats are private here, and [`Seat`] is sealed,

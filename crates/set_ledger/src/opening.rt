@@ -1,4 +1,4 @@
-//! What a set was opened with, as its type tells it, and the five ledgers that it names so.
+//! What a set was opened with, as its type tells it, and the six ledgers that it names so.
 
 use std::marker::{Brand, PhantomData};
 use std::sync::ledger::Ledger;
@@ -9,7 +9,7 @@ pub trait Opening {
     ghost use Rattle.set_ledger.specs.declared.share.Blanks.{Blanks};
     ghost use Rattle.set_model.specs.State.{Settings};
 
-    /// The blanks of its five ledgers, which name those.
+    /// The blanks of its six ledgers, which name those.
     ghost blanks: { Blanks };
 
     /// Its configuration's settings.
@@ -39,6 +39,9 @@ pub(crate) struct Acknowledged<O>(PhantomData<O>);
 /// The ledger of a set whose history is full: it has an amount only then.
 pub(crate) struct Full<O>(PhantomData<O>);
 
+/// The ledger of its checkpoints.
+pub(crate) struct Checkpoints<O>(PhantomData<O>);
+
 impl<O: Opening> Ledger for Calls<O> {
     ghost name = { O.blanks.calls.name };
 
@@ -67,4 +70,10 @@ impl<O: Opening> Ledger for Full<O> {
     ghost name = { O.blanks.full.name };
 
     ghost parts = { O.blanks.full.parts };
+}
+
+impl<O: Opening> Ledger for Checkpoints<O> {
+    ghost name = { O.blanks.checkpoints.name };
+
+    ghost parts = { O.blanks.checkpoints.parts };
 }

@@ -10,8 +10,8 @@ ghost use Rattle.set_ledger.specs.Totals.{IsRoom};
 use super::forgetting::forget_first;
 use super::held::Held;
 use super::making::make;
-use super::opening::{Acknowledged, Calls, Full, Messages, Octets, Opening};
-use super::share::{Forgotten, FullMark, NOTHING_FORGOTTEN, SeatShare, Stake};
+use super::opening::{Acknowledged, Calls, Checkpoints, Full, Messages, Octets, Opening};
+use super::share::{Forgotten, FullMark, NOTHING_FORGOTTEN, SeatShare, Stake, Taken};
 use super::stepping::Step;
 use set_core::SetFault;
 use set_events::{Actor, EventRef, Reply};
@@ -56,6 +56,7 @@ pub struct UserSeat<O: Opening, G: Allocator = Global> {
     receipts: History<G>,
     forgotten: Forgotten,
     pub(crate) full: FullMark<Full<O>>,
+    pub(crate) checkpoints: Taken<Checkpoints<O>>,
     /// What the receipts take memory from.
     alloc: G,
 }
@@ -68,10 +69,10 @@ impl<O: Opening, G: Allocator> Model for UserSeat<O, G> {
     ghost use Rattle.std.specs.Prelude.{◌<◌};
     ghost use Rattle.set_ledger.specs.Seats.{AddsUp, user_state};
 
-    ghost view = { λ s. user_state s.number s.calls.told s.messages.told s.octets.told s.forgotten s.receipts.items s.full.told };
+    ghost view = { λ s. user_state s.number s.calls.told s.messages.told s.octets.told s.forgotten s.receipts.items s.full.told s.checkpoints.share.amount };
 
     ghost invariant = { λ s. (s.number < 64)
-        × AddsUp (user_state s.number s.calls.told s.messages.told s.octets.told s.forgotten s.receipts.items s.full.told) };
+        × AddsUp (user_state s.number s.calls.told s.messages.told s.octets.told s.forgotten s.receipts.items s.full.told s.checkpoints.share.amount) };
 }
 
 /// The seat of a link's terminal. Only [`step_in`] and [`forget`] change it.
@@ -83,6 +84,7 @@ pub struct TermSeat<O: Opening, G: Allocator = Global> {
     receipts: History<G>,
     forgotten: Forgotten,
     pub(crate) full: FullMark<Full<O>>,
+    pub(crate) checkpoints: Taken<Checkpoints<O>>,
     /// What the receipts take memory from.
     alloc: G,
 }
@@ -95,10 +97,10 @@ impl<O: Opening, G: Allocator> Model for TermSeat<O, G> {
     ghost use Rattle.std.specs.Prelude.{◌<◌};
     ghost use Rattle.set_ledger.specs.Seats.{AddsUp, term_state};
 
-    ghost view = { λ s. term_state s.link s.calls.told s.acknowledged.told s.forgotten s.receipts.items s.full.told };
+    ghost view = { λ s. term_state s.link s.calls.told s.acknowledged.told s.forgotten s.receipts.items s.full.told s.checkpoints.share.amount };
 
     ghost invariant = { λ s. (s.link < 16)
-        × AddsUp (term_state s.link s.calls.told s.acknowledged.told s.forgotten s.receipts.items s.full.told) };
+        × AddsUp (term_state s.link s.calls.told s.acknowledged.told s.forgotten s.receipts.items s.full.told s.checkpoints.share.amount) };
 }
 
 impl<O: Opening, G: Allocator + Copy> Step<O> for UserSeat<O, G> {
@@ -129,6 +131,19 @@ impl<O: Opening, G: Allocator + Copy> Step<O> for UserSeat<O, G> {
                 Err(fault)
             }
         }
+    }
+
+    fn checkpoint<H: Allocator + Copy>(&mut self, held: &mut Held<O, H>) -> Result<(), SetFault> {
+        held.core.replays();
+        held.core.checkpoint()?;
+        self.checkpoints.take(&mut held.checkpoints);
+        Ok(())
+    }
+
+    fn audit<H: Allocator + Copy>(&mut self, held: &mut Held<O, H>) {
+        self.calls.audit(&mut held.calls);
+        self.messages.audit(&mut held.messages);
+        self.octets.audit(&mut held.octets);
     }
 
     fn forget(&mut self, many: u64) -> Result<(), AllocError> {
@@ -193,6 +208,18 @@ impl<O: Opening, G: Allocator + Copy> Step<O> for TermSeat<O, G> {
         }
     }
 
+    fn checkpoint<H: Allocator + Copy>(&mut self, held: &mut Held<O, H>) -> Result<(), SetFault> {
+        held.core.replays();
+        held.core.checkpoint()?;
+        self.checkpoints.take(&mut held.checkpoints);
+        Ok(())
+    }
+
+    fn audit<H: Allocator + Copy>(&mut self, held: &mut Held<O, H>) {
+        self.calls.audit(&mut held.calls);
+        self.acknowledged.audit(&mut held.acknowledged);
+    }
+
     fn forget(&mut self, many: u64) -> Result<(), AllocError> {
         forget_first(self.alloc, &mut self.receipts, &mut self.forgotten, many)
     }
@@ -241,6 +268,7 @@ impl<O: Opening, G: Allocator + Copy> UserSeat<O, G> {
         messages: &mut Share<Messages<O>>,
         octets: &mut Share<Octets<O>>,
         full: &mut Share<Full<O>>,
+        checkpoints: &mut Share<Checkpoints<O>>,
     )
         ensures calls { Returns calls.old.parts calls.old.amount self.share.calls calls.new.parts
             calls.new.amount }
@@ -249,11 +277,14 @@ impl<O: Opening, G: Allocator + Copy> UserSeat<O, G> {
         ensures octets { Returns octets.old.parts octets.old.amount self.share.octets
             octets.new.parts octets.new.amount }
         ensures full { ReturnsFull full.old.parts full.old.amount self.full full.new.parts full.new.amount }
+        ensures checkpoints { Returns checkpoints.old.parts checkpoints.old.amount self.checkpoints
+            checkpoints.new.parts checkpoints.new.amount }
     {
         self.calls.give_back(calls);
         self.messages.give_back(messages);
         self.octets.give_back(octets);
         self.full.give_back(full);
+        self.checkpoints.give_back(checkpoints);
     }
 }
 
@@ -272,16 +303,20 @@ impl<O: Opening, G: Allocator + Copy> TermSeat<O, G> {
         calls: &mut Share<Calls<O>>,
         acknowledged: &mut Share<Acknowledged<O>>,
         full: &mut Share<Full<O>>,
+        checkpoints: &mut Share<Checkpoints<O>>,
     )
         ensures calls { Returns calls.old.parts calls.old.amount self.share.calls calls.new.parts
             calls.new.amount }
         ensures acknowledged { Returns acknowledged.old.parts acknowledged.old.amount
             self.share.acknowledged acknowledged.new.parts acknowledged.new.amount }
         ensures full { ReturnsFull full.old.parts full.old.amount self.full full.new.parts full.new.amount }
+        ensures checkpoints { Returns checkpoints.old.parts checkpoints.old.amount self.checkpoints
+            checkpoints.new.parts checkpoints.new.amount }
     {
         self.calls.give_back(calls);
         self.acknowledged.give_back(acknowledged);
         self.full.give_back(full);
+        self.checkpoints.give_back(checkpoints);
     }
 }
 
@@ -334,6 +369,7 @@ pub(crate) fn put_users<O: Opening, G: Allocator + Copy>(
     messages: &mut Share<Messages<O>>,
     octets: &mut Share<Octets<O>>,
     full: &mut Share<Full<O>>,
+    checkpoints: &mut Share<Checkpoints<O>>,
 )
     requires room { IsRoom seats.old users }
     requires range { users ≤ 64 }
@@ -341,12 +377,14 @@ pub(crate) fn put_users<O: Opening, G: Allocator + Copy>(
     requires messages { (messages.old.amount ≡ 0) × (users ≤ messages.old.parts) }
     requires octets { (octets.old.amount ≡ 0) × (users ≤ octets.old.parts) }
     requires full { (full.old.amount ≡ 0) × (users ≤ full.old.parts) }
+    requires checkpoints { (checkpoints.old.amount ≡ 0) × (users ≤ checkpoints.old.parts) }
     ensures seats { seats.new.items ≡ new_seats User users }
     ensures calls { (calls.new.amount ≡ 0) × (calls.new.parts + users ≡ calls.old.parts) }
     ensures messages { (messages.new.amount ≡ 0)
         × (messages.new.parts + users ≡ messages.old.parts) }
     ensures octets { (octets.new.amount ≡ 0) × (octets.new.parts + users ≡ octets.old.parts) }
     ensures full { (full.new.amount ≡ 0) × (full.new.parts + users ≡ full.old.parts) }
+    ensures checkpoints { (checkpoints.new.amount ≡ 0) × (checkpoints.new.parts + users ≡ checkpoints.old.parts) }
 {
     let alloc = *seats.allocator();
     for number in 0..users {
@@ -358,6 +396,7 @@ pub(crate) fn put_users<O: Opening, G: Allocator + Copy>(
             receipts: History::new(alloc),
             forgotten: NOTHING_FORGOTTEN,
             full: FullMark::cut(full),
+            checkpoints: Taken::cut(checkpoints),
             alloc,
         };
         seats.push_reserved(seat);
@@ -372,17 +411,20 @@ pub(crate) fn put_terminals<O: Opening, G: Allocator + Copy>(
     calls: &mut Share<Calls<O>>,
     acknowledged: &mut Share<Acknowledged<O>>,
     full: &mut Share<Full<O>>,
+    checkpoints: &mut Share<Checkpoints<O>>,
 )
     requires room { IsRoom seats.old links }
     requires range { links ≤ 16 }
     requires calls { (calls.old.amount ≡ 0) × (links ≤ calls.old.parts) }
     requires acknowledged { (acknowledged.old.amount ≡ 0) × (links ≤ acknowledged.old.parts) }
     requires full { (full.old.amount ≡ 0) × (links ≤ full.old.parts) }
+    requires checkpoints { (checkpoints.old.amount ≡ 0) × (links ≤ checkpoints.old.parts) }
     ensures seats { seats.new.items ≡ new_seats Terminal links }
     ensures calls { (calls.new.amount ≡ 0) × (calls.new.parts + links ≡ calls.old.parts) }
     ensures acknowledged { (acknowledged.new.amount ≡ 0)
         × (acknowledged.new.parts + links ≡ acknowledged.old.parts) }
     ensures full { (full.new.amount ≡ 0) × (full.new.parts + links ≡ full.old.parts) }
+    ensures checkpoints { (checkpoints.new.amount ≡ 0) × (checkpoints.new.parts + links ≡ checkpoints.old.parts) }
 {
     let alloc = *seats.allocator();
     for link in 0..links {
@@ -393,6 +435,7 @@ pub(crate) fn put_terminals<O: Opening, G: Allocator + Copy>(
             receipts: History::new(alloc),
             forgotten: NOTHING_FORGOTTEN,
             full: FullMark::cut(full),
+            checkpoints: Taken::cut(checkpoints),
             alloc,
         };
         seats.push_reserved(seat);

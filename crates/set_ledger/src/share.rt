@@ -1,5 +1,5 @@
 //! What a seat has of the totals: plain numbers, and the tokens of the ledgers that say the same.
-ghost use Rattle.std.specs.Prelude.{◌≡◌, ◌<◌, ◌+◌, ◌^◌, true, false};
+ghost use Rattle.std.specs.Prelude.{◌≡◌, ◌<◌, ◌≤◌, ◌+◌, ◌^◌, true, false};
 ghost use Rattle.set_events.specs.Lent.{answer_in, event_in};
 ghost use Rattle.set_ledger.specs.Seats.{Returns, ReturnsFull};
 ghost use Rattle.set_model.specs.Step.{messages_in, octets_of};
@@ -38,8 +38,9 @@ pub(crate) const NOTHING_FORGOTTEN: Forgotten = Forgotten {
     octets: 0,
 };
 
-/// A blank for each ledger of a set that is to be opened, cut into as many parts as seats move it: calls, and what tells of a
-/// full history, as many as there are users and links, messages and octets as many as users, acknowledgements as many as links.
+/// A blank for each ledger of a set that is to be opened, cut into as many parts as seats move it: calls, checkpoints, and what
+/// tells of a full history, as many as there are users and links, messages and octets as many as users, acknowledgements as many
+/// as links.
 #[derive(Drop)]
 pub struct Blanks {
     pub calls: Blank,
@@ -47,6 +48,7 @@ pub struct Blanks {
     pub octets: Blank,
     pub acknowledged: Blank,
     pub full: Blank,
+    pub checkpoints: Blank,
 }
 
 /// A seat's one part of a ledger, and the plain number that tells its amount.
@@ -79,6 +81,14 @@ impl<L: Ledger> Stake<L> {
         book.add(&mut self.share, more);
         book.audit(&mut self.share);
         self.told += more;
+    }
+
+    /// The part is one of the whole.
+    pub(crate) fn audit(&mut self, book: &mut Book<L>)
+        ensures same { (self.new.told ≡ self.old.told) × (book.new.total ≡ book.old.total) }
+        ensures part { self.old.told ≤ book.old.total }
+    {
+        book.audit(&mut self.share);
     }
 
     /// The part goes back to these.
@@ -122,6 +132,41 @@ impl<L: Ledger> FullMark<L> {
     /// The part goes back to these.
     pub(crate) fn give_back(self, to: &mut Share<L>)
         ensures { ReturnsFull to.old.parts to.old.amount self.told to.new.parts to.new.amount }
+    {
+        to.merge(self.share);
+    }
+}
+
+/// A seat's one part of the ledger of checkpoints: its amount is how many the seat took, which no plain number tells.
+#[derive(Drop)]
+pub(crate) struct Taken<L: Ledger> {
+    pub(crate) share: Share<L>,
+    ghost is_part: { share.parts ≡ 1 },
+}
+
+impl<L: Ledger> Taken<L> {
+    /// One of these parts, with no amount.
+    pub(crate) fn cut(from: &mut Share<L>) -> Taken<L>
+        requires { (0 < from.old.parts) × (from.old.amount ≡ 0) }
+        ensures none { result.share.amount ≡ 0 }
+        ensures left { (from.new.amount ≡ 0) × (from.new.parts + 1 ≡ from.old.parts) }
+    {
+        Taken {
+            share: from.split_off(1, 0),
+        }
+    }
+
+    /// One checkpoint more, in the ledger's book too.
+    pub(crate) fn take(&mut self, checkpoints: &mut Book<L>)
+        ensures taken { self.new.share.amount ≡ self.old.share.amount + 1 }
+        ensures total { checkpoints.new.total ≡ checkpoints.old.total + 1 }
+    {
+        checkpoints.add(&mut self.share, 1);
+    }
+
+    /// The part goes back to these.
+    pub(crate) fn give_back(self, to: &mut Share<L>)
+        ensures { Returns to.old.parts to.old.amount self.share.amount to.new.parts to.new.amount }
     {
         to.merge(self.share);
     }

@@ -2,8 +2,9 @@
 ghost use Rattle.std.specs.Prelude.{◌≡◌, ◌≤◌, IfErr, OnOk, OnErr};
 ghost use Rattle.set_events.specs.Lent.{HasFitUnit, event_in};
 ghost use Rattle.set_events.specs.Owners.{IsOwn};
-ghost use Rattle.set_model.specs.History.{IsStep, entries_in, longest_history};
-ghost use Rattle.set_ledger.specs.Seats.{Receives, AcknowledgesAs, Forgets, refused};
+ghost use Rattle.set_model.specs.History.{IsStep, based, entries_in, longest_history};
+ghost use Rattle.set_ledger.specs.Seats.{Receives, AcknowledgesAs, Forgets, one_checkpoint_more, refused};
+ghost use Rattle.set_ledger.specs.Totals.{IsPartOf};
 
 use super::held::Held;
 use super::opening::Opening;
@@ -42,6 +43,20 @@ pub trait Step<O: Opening> {
         ensures exhausted { result ≡ Err SetFault.Exhausted
             → longest_history ≤ entries_in held.old.set }
         ensures err { IfErr result (λ fault. (held.new ≡ held.old) × (state self.new ≡ refused fault (state self.old))) };
+
+    /// `Held::checkpoint`.
+    fn checkpoint<G: Allocator + Copy>(&mut self, held: &mut Held<O, G>) -> Result<(), SetFault>
+        ensures set { OnOk result (held.new.set ≡ based held.old.set) }
+        ensures totals { held.new.totals ≡ held.old.totals }
+        ensures seats { (held.new.users ≡ held.old.users) × (held.new.links ≡ held.old.links) }
+        ensures taken { OnOk result (state self.new ≡ one_checkpoint_more (state self.old)) }
+        ensures err { OnErr result ((held.new ≡ held.old) × (state self.new ≡ state self.old)) }
+        ensures fault { IfErr result (λ fault. fault ≡ SetFault.NoMemory) };
+
+    /// What it has is a part of the totals.
+    fn audit<G: Allocator + Copy>(&mut self, held: &mut Held<O, G>)
+        ensures part { IsPartOf (state self.old).share held.old.totals }
+        ensures same { (held.new ≡ held.old) × (state self.new ≡ state self.old) };
 
     /// The first so many receipts are forgotten, or all, where there are fewer. It fails only where memory is wanted.
     fn forget(&mut self, many: u64) -> Result<(), AllocError>

@@ -52,7 +52,7 @@ fn acknowledging() -> Unit {
 }
 
 /// The link comes up, sends what waits, and hears that it arrived: three steps of its terminal.
-fn sends_it<O: Opening, R: Wait>(rt: &R, set: &LinkSet<O>, seat: &mut TermSeat<O>) -> bool {
+pub(crate) fn sends_it<O: Opening, R: Wait>(rt: &R, set: &LinkSet<O>, seat: &mut TermSeat<O>) -> bool {
     let link = seat.link();
     let up = set.term_step(rt, seat, &Event::Up { link });
     let sent = set.term_step(rt, seat, &Event::Next { link });
@@ -93,7 +93,7 @@ fn with_both<O: Opening, R: Wait>(
     };
     accepts(rt, set, user, 0)
         && sends_it(rt, set, terminal)
-        && set.checkpoint(rt).is_ok()
+        && set.checkpoint(rt, terminal).is_ok()
         && is_finished(rt, set, user, 0)
         && user.receipts().len() == 2
         && terminal.receipts().len() == 3

@@ -42,11 +42,11 @@ fn forgets_behind_a_checkpoint<O: Opening, R: Wait>(
 ) -> bool {
     let offers = number.saturating_add(1);
     accepts(rt, set, seat, number)
-        && set.forget(rt, seat).is_ok()
+        && set.forget(rt, seat) == Ok(number)
         && has(seat, 1, number)
-        && set.checkpoint(rt).is_ok()
+        && set.checkpoint(rt, seat).is_ok()
         && has(seat, 1, number)
-        && set.forget(rt, seat).is_ok()
+        && set.forget(rt, seat) == Ok(offers)
         && has(seat, 0, offers)
         && has_share(seat, offers)
 }
@@ -65,7 +65,7 @@ fn over_three_checkpoints<O: Opening, R: Wait>(
             return false;
         }
     }
-    accepts(rt, set, seat, 3) && set.forget(rt, seat).is_ok() && has(seat, 1, 3)
+    accepts(rt, set, seat, 3) && set.forget(rt, seat) == Ok(3) && has(seat, 1, 3)
 }
 
 /// The base has three entries, and the history the fourth.

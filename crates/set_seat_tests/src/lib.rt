@@ -10,6 +10,8 @@ mod ends;
 #[cfg(test)]
 mod forgetting;
 #[cfg(test)]
+mod looks;
+#[cfg(test)]
 mod openings;
 #[cfg(test)]
 mod steps;

@@ -29,6 +29,7 @@ pub(crate) fn blanks_of(users: u64) -> Blanks
     ensures octets { result.octets.parts ≡ users }
     ensures acknowledged { result.acknowledged.parts ≡ 1 }
     ensures full { result.full.parts ≡ users + 1 }
+    ensures checkpoints { result.checkpoints.parts ≡ users + 1 }
 {
     Blanks {
         calls: Blank::new(users + 1),
@@ -36,6 +37,7 @@ pub(crate) fn blanks_of(users: u64) -> Blanks
         octets: Blank::new(users),
         acknowledged: Blank::new(1),
         full: Blank::new(users + 1),
+        checkpoints: Blank::new(users + 1),
     }
 }
 

@@ -4,13 +4,13 @@ ghost use Rattle.set_events.specs.declared.event.Actor.TheVariants.{User, Termin
 ghost use Rattle.set_events.specs.declared.event.Event.TheVariants.{Offer, Take, Find};
 ghost use Rattle.set_events.specs.Lent.{HasFitUnit, event_in};
 ghost use Rattle.set_events.specs.Owners.{IsOwn};
-ghost use Rattle.set_ledger.specs.Openings.{IsBaseOf};
-ghost use Rattle.set_ledger.specs.Seats.{Forgets, Receives, new_seats, refused};
-ghost use Rattle.set_ledger.specs.Totals.{AreParts, HeldState};
-ghost use Rattle.set_ledger.specs.Ending.{calls_at, is_complete, AreFaithful, IsClosed};
+ghost use Rattle.set_ledger.specs.Openings.{IsBaseBehind};
+ghost use Rattle.set_ledger.specs.Seats.{Forgets, Receives, new_seats, one_checkpoint_more, refused};
+ghost use Rattle.set_ledger.specs.Totals.{AreParts, HeldState, StandsIn};
+ghost use Rattle.set_ledger.specs.Ending.{calls_at, checkpoints_by, is_complete, AreFaithful, IsClosed};
 ghost use Rattle.set_model.specs.History.{IsStep};
 ghost use Rattle.set_model.specs.State.{late_at, settings_of};
-ghost use Rattle.set_shared.specs.Asking.{ForgetsBehind, IsAnswered, IsAnsweredWith, IsSeen, link_now};
+ghost use Rattle.set_shared.specs.Asking.{MayAnswer, link_now};
 
 use set_events::{Answer, Counts, Event, EventRef, Reply, SetConfig};
 use set_ledger::{
@@ -120,7 +120,7 @@ impl<O: Opening> LinkSet<O> {
         octets: &[u8],
     ) -> Result<Answer, SetFault>
         ensures receipt { IfOk result (λ answer. Receives seat.old (Offer octets.now) answer seat.new) }
-        ensures answer { IfOk result (IsAnswered O.settings (Offer octets.now)) }
+        ensures answer { IfOk result (MayAnswer (Offer octets.now)) }
         ensures err { IfErr result (λ fault. seat.new ≡ refused fault seat.old) }
     {
         // a user's number is below 64
@@ -135,7 +135,7 @@ impl<O: Opening> LinkSet<O> {
     /// refused.
     pub fn take<R: Wait>(&self, rt: &R, seat: &mut UserSeat<O>) -> Result<Answer, SetFault>
         ensures receipt { IfOk result (λ answer. Receives seat.old Take answer seat.new) }
-        ensures answer { IfOk result (IsAnswered O.settings Take) }
+        ensures answer { IfOk result (MayAnswer Take) }
         ensures err { IfErr result (λ fault. seat.new ≡ refused fault seat.old) }
     {
         // a user's number is below 64
@@ -155,7 +155,7 @@ impl<O: Opening> LinkSet<O> {
         number: u64,
     ) -> Result<Answer, SetFault>
         ensures receipt { IfOk result (λ answer. Receives seat.old (Find number) answer seat.new) }
-        ensures answer { IfOk result (IsAnswered O.settings (Find number)) }
+        ensures answer { IfOk result (MayAnswer (Find number)) }
         ensures err { IfErr result (λ fault. seat.new ≡ refused fault seat.old) }
     {
         // a user's number is below 64
@@ -176,7 +176,7 @@ impl<O: Opening> LinkSet<O> {
     ) -> Result<Answer, SetFault>
         requires { IsOwn seat.old.who event.now }
         ensures receipt { IfOk result (λ answer. Receives seat.old event.now answer seat.new) }
-        ensures answer { IfOk result (IsAnswered O.settings event.now) }
+        ensures answer { IfOk result (MayAnswer event.now) }
         ensures err { IfErr result (λ fault. seat.new ≡ refused fault seat.old) }
     {
         self.answer_to(rt, seat, &EventRef::of(event))
@@ -197,7 +197,7 @@ impl<O: Opening> LinkSet<O> {
         requires fits { HasFitUnit event.now }
         requires callable { F.IsAlwaysCallable held }
         ensures receipt { OnOk result (Receives seat.old (event_in event.now) reply.new seat.new) }
-        ensures answer { IfOk result (IsAnsweredWith O.settings seat.old.who (event_in event.now) reply.new) }
+        ensures answer { OnOk result (MayAnswer (event_in event.now) reply.new) }
         ensures called { OnOk result (F.post held tt) }
         ensures err { IfErr result (λ fault. seat.new ≡ refused fault seat.old) }
     {
@@ -208,22 +208,27 @@ impl<O: Opening> LinkSet<O> {
         ask_with(&mut *guard, seat, link, event, reply)
     }
 
-    /// A checkpoint: what stands under the lock goes on from what it holds, with a history that begins anew. No seat
-    /// has a receipt of it, and none changes. Of what stands there nothing can be said here: [`Held::checkpoint`] does.
+    /// A checkpoint, which this seat takes: what stands under the lock goes on from what it holds, with a history that begins anew.
+    /// No seat has a receipt of it. The seat has taken one more, and no other call takes one: [`LinkSet::close`] tells that there
+    /// were as many as its seats took.
     ///
     /// Fault: 1 [`SetFault::NoMemory`], only where memory was refused; all is then as it was.
-    pub fn checkpoint<R: Wait>(&self, rt: &R) -> Result<(), SetFault>
+    pub fn checkpoint<R: Wait, S: Seat<O>>(&self, rt: &R, seat: &mut S) -> Result<(), SetFault>
+        ensures taken { OnOk result (S.state seat.new ≡ one_checkpoint_more (S.state seat.old)) }
+        ensures err { OnErr result (S.state seat.new ≡ S.state seat.old) }
         ensures fault { IfErr result (λ fault. fault ≡ SetFault.NoMemory) }
     {
-        self.held.lock(rt).checkpoint()
+        self.held.lock(rt).checkpoint(seat)
     }
 
-    /// How this link stands at some moment of the call, and how many messages of users stand in each place then: so it is in
-    /// a set of these settings. A link that the set hasn't isn't settled, and no order came late about it.
-    pub fn look<R: Wait>(&self, rt: &R, link: u8) -> LinkNow
-        ensures { IsSeen O.settings link result }
+    /// How this link stands at some moment of the call, and how many messages of users stand in each place then. What the seat's
+    /// own calls brought is among these; the seat stays as it is. A link that the set hasn't isn't settled, and no order came late
+    /// about it.
+    pub fn look<R: Wait, S: Seat<O>>(&self, rt: &R, seat: &mut S, link: u8) -> LinkNow
+        ensures part { StandsIn (S.state seat.old).share result.counts }
+        ensures seat { S.state seat.new ≡ S.state seat.old }
     {
-        now_of(&*self.held.lock(rt), link)
+        now_of(&mut *self.held.lock(rt), seat, link)
     }
 
     /// One step, and its answer by itself. The seat has room for its receipt before the lock is taken.
@@ -236,7 +241,7 @@ impl<O: Opening> LinkSet<O> {
         requires own { IsOwn (S.state seat.old).who (event_in event.now) }
         requires fits { HasFitUnit event.now }
         ensures receipt { IfOk result (λ answer. Receives (S.state seat.old) (event_in event.now) answer (S.state seat.new)) }
-        ensures answer { IfOk result (IsAnswered O.settings (event_in event.now)) }
+        ensures answer { IfOk result (MayAnswer (event_in event.now)) }
         ensures err { IfErr result (λ fault. S.state seat.new ≡ refused fault (S.state seat.old)) }
     {
         reserve_receipt(seat, event)?;
@@ -246,12 +251,13 @@ impl<O: Opening> LinkSet<O> {
     }
 
     /// A seat forgets the receipts of its calls before the last checkpoint, and keeps what they added up to, as of
-    /// [`set_ledger::forget`]: those that are gone are its first. Which checkpoint was the last isn't said here.
+    /// [`set_ledger::forget`]. It tells how many calls those are, since the opening: the receipts of just these are gone. By this
+    /// number [`LinkSet::close`] finds the seat's others in the history.
     ///
     /// Fault: 1 [`SetFault::NoMemory`], only where memory was refused; the seat is then as it was.
-    pub fn forget<R: Wait, S: Seat<O>>(&self, rt: &R, seat: &mut S) -> Result<(), SetFault>
-        ensures forgets { OnOk result ((many : ℕ) × Forgets many (S.state seat.old) (S.state seat.new)) }
-        ensures behind { OnOk result (ForgetsBehind O.settings (S.state seat.old) (S.state seat.new)) }
+    pub fn forget<R: Wait, S: Seat<O>>(&self, rt: &R, seat: &mut S) -> Result<u64, SetFault>
+        ensures behind { IfOk result (λ calls. Forgets (calls - (S.state seat.old).forgotten.calls)
+            (S.state seat.old) (S.state seat.new)) }
         ensures fault { IfErr result (λ fault. fault ≡ SetFault.NoMemory) }
         ensures err { OnErr result (S.state seat.new ≡ S.state seat.old) }
     {
@@ -261,8 +267,8 @@ impl<O: Opening> LinkSet<O> {
     /// Ends a set with all its seats, under no lock: the history is legal from its base, each seat's receipts end with its
     /// entries in order, and the totals are the sums of the shares. Where a seat was told of a full history, the history and what
     /// lies before its base have 2^48 entries. The configuration is that of [`LinkSet::create`], by
-    /// the settings that the type tells, and legal histories lead from there to the base. It takes no memory, and waits
-    /// for nothing.
+    /// the settings that the type tells, and legal histories lead from there to the base, as many as these seats took
+    /// checkpoints. It takes no memory, and waits for nothing.
     ///
     /// Faults, which hand back the set, unlocked ([`LinkSet::of`] makes it shared again), and all seats:
     /// 1 [`EndFault::Missing`] exactly where there isn't one seat for each user and each link of the set and no
@@ -277,7 +283,8 @@ impl<O: Opening> LinkSet<O> {
         ensures closed { IfOk result (λ closed.
             IsClosed users.items terminals.items closed.base closed.history.items
             closed.books closed.counts) }
-        ensures opened { IfOk result (λ closed. IsBaseOf O.settings closed.base) }
+        ensures opened { IfOk result (λ closed.
+            IsBaseBehind O.settings (checkpoints_by users.items terminals.items) closed.base) }
         ensures config { IfOk result (λ closed. settings_of closed.config ≡ O.settings) }
         ensures back { IfErr result (λ fault. (held : HeldState) × (held.users ≡ self.users) × (held.links ≡ self.links)
             × (fault ≡ (if is_complete self.users self.links users.items terminals.items
@@ -305,10 +312,9 @@ fn ask<O: Opening, S: Seat<O>>(
     ensures step { OnOk result
         (IsStep held.old.set (S.state seat.old).who (event_in event.now) reply.new held.new.set) }
     ensures receipt { OnOk result (Receives (S.state seat.old) (event_in event.now) reply.new (S.state seat.new)) }
-    ensures answer { OnOk result (IsAnswered O.settings (event_in event.now) reply.new) }
+    ensures answer { OnOk result (MayAnswer (event_in event.now) reply.new) }
     ensures err { IfErr result (λ fault. (held.new ≡ held.old) × (S.state seat.new ≡ refused fault (S.state seat.old))) }
 {
-    held.replays();
     step_in(held, seat, event, reply)
 }
 
@@ -326,38 +332,36 @@ fn ask_with<O: Opening>(
     ensures step { OnOk result (IsStep held.old.set seat.old.who (event_in event.now) reply.new held.new.set) }
     ensures late { IfOk result (λ late. late ≡ late_at link held.old.set.state) }
     ensures receipt { OnOk result (Receives seat.old (event_in event.now) reply.new seat.new) }
-    ensures answer { IfOk result (IsAnsweredWith O.settings seat.old.who (event_in event.now) reply.new) }
+    ensures answer { OnOk result (MayAnswer (event_in event.now) reply.new) }
     ensures err { IfErr result (λ fault. (held.new ≡ held.old) × (seat.new ≡ refused fault seat.old)) }
 {
-    held.replays();
     let late = held.core().late(link);
     ask(held, seat, event, reply)?;
     Ok(late)
 }
 
 /// How this link stands at what stands under the lock, and how many messages of users in each place.
-fn now_of<O: Opening>(held: &Held<O>, link: u8) -> LinkNow
-    ensures value { result ≡ link_now link held.now.set.state }
-    ensures set { IsSeen O.settings link result }
+fn now_of<O: Opening, S: Seat<O>>(held: &mut Held<O>, seat: &mut S, link: u8) -> LinkNow
+    ensures value { result ≡ link_now link held.old.set.state }
+    ensures part { StandsIn (S.state seat.old).share result.counts }
+    ensures same { (held.new ≡ held.old) × (S.state seat.new ≡ S.state seat.old) }
 {
-    held.replays();
+    let counts = held.counts_at(seat);
     let set = held.core();
     LinkNow {
-        counts: set.counts(),
+        counts,
         settled: set.is_settled(link),
         late: set.late(link),
     }
 }
 
 /// A seat forgets what lies behind the base of what stands under the lock.
-fn forget_behind<O: Opening, S: Seat<O>>(held: &Held<O>, seat: &mut S) -> Result<(), SetFault>
-    ensures forgets { OnOk result (Forgets
-        (calls_at (S.state seat.old).who held.now.set.base.books - (S.state seat.old).forgotten.calls)
+fn forget_behind<O: Opening, S: Seat<O>>(held: &Held<O>, seat: &mut S) -> Result<u64, SetFault>
+    ensures told { IfOk result (λ calls. calls ≡ calls_at (S.state seat.old).who held.now.set.base.books) }
+    ensures behind { IfOk result (λ calls. Forgets (calls - (S.state seat.old).forgotten.calls)
         (S.state seat.old) (S.state seat.new)) }
-    ensures behind { OnOk result (ForgetsBehind O.settings (S.state seat.old) (S.state seat.new)) }
     ensures fault { IfErr result (λ fault. fault ≡ SetFault.NoMemory) }
     ensures err { OnErr result (S.state seat.new ≡ S.state seat.old) }
 {
-    held.replays();
     forget(held, seat)
 }

@@ -72,7 +72,7 @@ fn run<R: Threads + Wait + Clock + Copy + Send + Sync + 'static>(rt: &R, alloc: 
     }
 }
 
-fn joined<R: Threads + Wait>(rt: &R, running: Running) -> Came {
+fn joined<R: Threads + Wait>(rt: &R, running: Running<LossyLine>) -> Came {
     match running.join(rt) {
         Ok(ends) => match ends.first() {
             Some(end) => came(end),

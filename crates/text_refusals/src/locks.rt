@@ -55,6 +55,7 @@ fn blanks() -> Blanks
     ensures octets { result.octets.parts ≡ 1 }
     ensures acknowledged { result.acknowledged.parts ≡ 1 }
     ensures full { result.full.parts ≡ 2 }
+    ensures checkpoints { result.checkpoints.parts ≡ 2 }
 {
     Blanks {
         calls: Blank::new(2),
@@ -62,6 +63,7 @@ fn blanks() -> Blanks
         octets: Blank::new(1),
         acknowledged: Blank::new(1),
         full: Blank::new(2),
+        checkpoints: Blank::new(2),
     }
 }
 
@@ -78,6 +80,14 @@ fn seen_of<O: Opening>(user: &UserSeat<O>, terminal: &TermSeat<O>) -> Seen {
         user: user.share(),
         terminal: terminal.share(),
         receipts: (user.receipts().len(), terminal.receipts().len()),
+    }
+}
+
+/// How many calls a seat forgot is no matter here.
+fn is_told(calls: Result<u64, SetFault>) -> Result<(), SetFault> {
+    match calls {
+        Ok(_) => Ok(()),
+        Err(fault) => Err(fault),
     }
 }
 
@@ -108,9 +118,9 @@ fn calls<O: Opening, R: Wait>(
                 Err(fault) => Err(fault),
             }
         }
-        Call::Checkpoint => set.checkpoint(rt),
-        Call::ForgetUser => set.forget(rt, user),
-        Call::ForgetTerminal => set.forget(rt, terminal),
+        Call::Checkpoint => set.checkpoint(rt, user),
+        Call::ForgetUser => is_told(set.forget(rt, user)),
+        Call::ForgetTerminal => is_told(set.forget(rt, terminal)),
     }
 }
 

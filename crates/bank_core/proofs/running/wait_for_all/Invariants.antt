@@ -5,6 +5,6 @@ use Rattle.bank_core.specs.Promises.{Keeps}
 use Rattle.bank_core.proofs.running.wait_for_all.Given as goal
 
 abbrev pub invariant-loop-thread : goal.invariant-loop-thread
-invariant-loop-thread g l = AllZip Keeps (map (λ thread. thread.promise) l.yielded) l.answers.items
+invariant-loop-thread g l = AllZip (Keeps g.L.Line) (map (λ thread. thread.promise) l.yielded) l.answers.items
     × (vec_len l.answers ≡ length l.yielded)
     × (length l.fn.threads.items ≤ vec_capacity l.answers)

@@ -6,9 +6,9 @@ use Rattle.bank_crew.proofs.collecting.collect_often.Goals as goal
 pub loop-time-preserved : goal.loop-time-preserved
 loop-time-preserved g c =
     let kept = c.loop-time.invariant in (
-      c.collect_one.ensures.who ∙ kept.0,
-      c.in_default.ensures.kept kept.1,
-      (λ ended after rest. kept.2 ended after (one_taken _ _ c.args.times c.loop-time._time c.loop-time-test.true kept.0 c.collect_one.result _ _ c.in_default.is c.collect_one.ensures.takes ended after rest)),
+      c.pause.ensures.who ∙ c.collect_one.ensures.who ∙ kept.0,
+      rw c.pause.ensures.all (c.in_default.ensures.kept kept.1),
+      (λ ended after rest. kept.2 ended after (one_taken _ _ c.args.times c.loop-time._time c.loop-time-test.true kept.0 c.collect_one.result _ _ c.in_default.is c.collect_one.ensures.takes ended after (rw c.pause.ensures.all at rest))),
     )
 
 pub returns-in-Err-clause-takes : goal.returns-in-Err-clause-takes

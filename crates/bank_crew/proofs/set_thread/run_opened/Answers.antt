@@ -14,6 +14,6 @@ run_seats-requires-clause-terminals g c _ _ = subst (AreNew Terminal 0) (sym c.r
 
 pub returns-in-Ok : goal.returns-in-Ok
 returns-in-Ok g c =
-    is_done _ c.end_set.result _ _ _ _ _ _ (c.end_set.ensures.closed c.args.work.config c.requires.opening) c.end_set.ensures.users
+    is_done g.L.Line _ c.end_set.result _ _ _ _ _ _ (c.end_set.ensures.closed c.args.work.config c.requires.opening) c.end_set.ensures.users
     c.end_set.ensures.terminals c.end_set.ensures.reports c.in-Ok.ensures.users (ap length c.requires.users ∙ many_new User c.args.work.users)
     c.in-Ok.ensures.terminals (ap length c.requires.terminals ∙ many_new Terminal c.args.work.config.links)

@@ -6,8 +6,8 @@ use Rattle.bank_crew.proofs.user.take_often.Goals as goal
 pub loop-time-preserved : goal.loop-time-preserved
 loop-time-preserved g c =
     let kept = c.loop-time.invariant in (
-      c.take_one.ensures.who ∙ kept.0,
-      (λ ended after rest. kept.1 ended after (one_taken _ _ c.args.times c.loop-time._time c.loop-time-test.true kept.0 c.take_one.result _ _ c.in_default.is c.take_one.ensures.takes ended after rest)),
+      c.pause.ensures.who ∙ c.take_one.ensures.who ∙ kept.0,
+      (λ ended after rest. kept.1 ended after (one_taken _ _ c.args.times c.loop-time._time c.loop-time-test.true kept.0 c.take_one.result _ _ c.in_default.is c.take_one.ensures.takes ended after (rw c.pause.ensures.all at rest))),
     )
 
 pub returns-in-Err-clause-takes : goal.returns-in-Err-clause-takes

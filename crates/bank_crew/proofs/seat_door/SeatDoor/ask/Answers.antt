@@ -1,5 +1,4 @@
 use Rattle.std.proofs.Common.{◌≡◌, ◌∙◌, ap, subst, sym, not, ◌==◌, true, false, ℕ, [], ◌∷◌, ◌++◌}
-use Rattle.set_shared.specs.Asking.{IsAnsweredWith}
 use Rattle.set_events.specs.Lent.{event_in}
 use Rattle.bank_crew.specs.Doors.{DoorState}
 use Rattle.bank_crew.specs.Managing.{is_question}
@@ -31,11 +30,3 @@ invariant_of-self-2 g c =
       marked = step_marked who event c.step.new.reply old new counts made counted marks c.note.new.self c.args.of_turn _ c.step.new.self.seat.who c.step.ensures.who c.self.invariant.marked asked (c.note.ensures ∙ ap (λ (m : ℕ). marks ++ m ∷ []) c.mark_of.ensures);
       full = full_on c.self.inside.caller.seat.full c.step.new.self.seat.full c.self.inside.faults c.step.ensures.full_stays c.self.invariant.full;
     }
-
-pub returns-clause-late : goal.returns-clause-late
-returns-clause-late g c =
-    let orders = c.in_ok-orders.orders in (
-      orders,
-      subst (λ (d : DoorState). IsAnsweredWith g.O.Opening.settings d.seat.who (event_in c.args.event.now) c.step.new.reply orders) c.self.view_is c.in_ok-orders.ensures.late,
-      ap (λ (d : DoorState). not (orders == d.noted)) c.self.view_is,
-    )

@@ -22,14 +22,14 @@ returns-in-Ok-clause-ok g c =
     let went = stepped c.args.self.now.seat.who (event_in c.args.event.now) c.ask.new.reply c.in-Ok.late c.args.self.now.all c.ask.new.self.all c.follow.new.self.all
     c.args.self.now.marks c.ask.new.self.marks c.follow.new.self.marks c.args.self.now.faults c.follow.new.self.faults
     c.in-Ok.ensures.ok c.in-Ok.ensures.marks c.follow.ensures.made (subst IsMarked c.self.view_is c.self.invariant.marked) (who ∙ ap Terminal (sym (ap link_in who))) (c.follow.ensures.faults ∙ c.ask.ensures.faults) in
-    (ap (λ (d : DoorState). of_turns d.marks d.all) c.self-in-Ok.view_is ∙ went.0, ap (λ (d : DoorState). d.faults) c.self-in-Ok.view_is ∙ went.1)
+    (rw c.pause.ensures.all (ap (λ (d : DoorState). of_turns d.marks d.all) c.self-in-Ok.view_is ∙ went.0), ap (λ (d : DoorState). d.faults) c.self-in-Ok.view_is ∙ went.1)
 
 pub returns-in-Ok-clause-same : goal.returns-in-Ok-clause-same
 returns-in-Ok-clause-same g c = (
   ap (λ (d : DoorState). d.managed) c.self-in-Ok.view_is ∙ c.follow.ensures.managed ∙ c.ask.ensures.managed,
   ap (λ (d : DoorState). looks_in d.marks) c.self-in-Ok.view_is ∙ c.follow.ensures.looks ∙ ap looks_in c.in-Ok.ensures.marks ∙ looks_turned c.in-Ok.late c.args.self.now.marks,
-  (λ due. subst AskedDue (sym c.self-in-Ok.view_is)
+  (λ due. rw (c.pause.ensures.who, c.pause.ensures.all) (subst AskedDue (sym c.self-in-Ok.view_is)
       (step_due c.args.self.now c.ask.new.self c.follow.new.self (event_in c.args.event.now) c.ask.new.reply c.in-Ok.late c.follow.result
       c.in-Ok.ensures.ok c.in-Ok.ensures.marks c.ask.ensures.awaited c.ask.ensures.managed (ap link_in c.ask.ensures.who) c.follow.ensures.managed (ap link_in c.follow.ensures.who)
-      (rw c.get.ensures.value at c.follow.ensures.ok) (rw c.get.ensures.value at c.follow.ensures.err) due)),
+      (rw c.get.ensures.value at c.follow.ensures.ok) (rw c.get.ensures.value at c.follow.ensures.err) due))),
 )

@@ -20,8 +20,8 @@ pub returns-clause-same : goal.returns-clause-same
 returns-clause-same g c =
     let inside = c.self.inside in
     let sight : Sight = sight_of inside.noted c.look-now.result in
-    let looked : DoorState = door_state inside.caller inside.marks inside.faults inside.managed inside.awaited c.look-now.result.late in
-    let due_so : AskedDue c.args.self.now → AskedDue looked = λ due. subst AskedDue (sym c.self.view_is) due in (
+    let looked : DoorState = door_state c.look-now.new.self inside.marks inside.faults inside.managed inside.awaited c.look-now.result.late in
+    let due_so : AskedDue c.args.self.now → AskedDue looked = λ due. rw c.look-now.ensures.same (subst AskedDue (sym c.self.view_is) due) in (
       c.note_look.ensures.managed ∙ ap (λ (d : DoorState). d.managed) c.self.view_is,
       (λ due. look_due looked c.note_look.new.self c.args.out sight c.note_look.result c.note_look.ensures.managed (ap link_in c.note_look.ensures.who) c.note_look.ensures.ok c.note_look.ensures.err (due_so due)),
     )

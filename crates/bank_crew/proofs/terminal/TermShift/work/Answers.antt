@@ -11,7 +11,9 @@ use Rattle.bank_crew.specs.Seats.{link_in}
 use Rattle.bank_crew.proofs.Due.{none_due}
 use Rattle.bank_crew.proofs.Full.{shift_full}
 use Rattle.bank_crew.proofs.Marking.{none_of_turns}
-use Rattle.bank_crew.proofs.Running.{shift_of}
+use Rattle.bank_crew.proofs.Running.{runs_over, shift_of}
+use Rattle.link_term.specs.Looking.{seen}
+use Rattle.link_term.specs.Standing.{Standing}
 use Rattle.bank_crew.proofs.terminal.TermShift.work.Goals as goal
 
 -- src/terminal.rt
@@ -29,7 +31,7 @@ returns-clause-shift g c =
     let all = out.all in
     let plan = c.args.self.assignment.now.plan in
     let did = c.planned_turns-report.ensures in
-    let first = c.command.ensures in
+    let told_first = c.command.ensures in
     let second = c.command-2.ensures in
     let managed : out.managed ≡ plan.managed = did.door.0 ∙ c.new-door.ensures.managed in
     let seat = ap (λ seat. link_in seat.who) c.new-door.ensures.seat in
@@ -38,13 +40,14 @@ returns-clause-shift g c =
     let due : AskedDue out = did.door.1 first_due in
     let asks : AsksFrom plan.managed (link_in door.seat.who) out.marks all out.awaited =
     subst (λ (n : ℕ). AsksFrom plan.managed n out.marks all out.awaited) did.number
-    (subst (λ (m : Option Managed). AsksFrom m (link_in out.seat.who) out.marks all out.awaited) managed due) in (
-      all,
-      c.into_seat-seat.ensures.all,
-      shift_of _ (link_in c.args.self.seat.who) (link_in door.seat.who) c.planned_turns-report.result _ _ _ c.into_tape-tape.result out.marks did.turns.0 out.awaited _ _ _ did.turns.2
+    (subst (λ (m : Option Managed). AsksFrom m (link_in out.seat.who) out.marks all out.awaited) managed due) in
+    let first = c.new-line.result in
+    let left = c.planned_turns-report.new.line in
+    let does =
+    shift_of _ (link_in c.args.self.seat.who) (link_in door.seat.who) c.planned_turns-report.result _ _ _ c.into_tape-tape.result out.marks did.turns.0 out.awaited _ _ _ did.turns.2
           (did.turns.1 ∙ ap (λ (ms : List ℕ). looks_in ms ++ did.turns.0) c.new-door.ensures.marks)
-          (ap (λ it. it.taken) second ∙ ap (λ it. it.taken) first ∙ c.new-works.ensures.taken)
-          (ap (λ it. it.inside) second ∙ ap (λ it. told Start it.inside) first ∙ ap (λ it. told Start (told Emergency it)) c.new-works.ensures.inside
+          (ap (λ it. it.taken) second ∙ ap (λ it. it.taken) told_first ∙ c.new-works.ensures.taken)
+          (ap (λ it. it.inside) second ∙ ap (λ it. told Start it.inside) told_first ∙ ap (λ it. told Start (told Emergency it)) c.new-works.ensures.inside
           ∙ ap (λ (n : ℕ). told Start (told Emergency (opened n plan.timers))) (sym number))
           (none_of_turns door.all door.marks c.new-door.ensures.marks)
           c.new-door.ensures.faults
@@ -56,7 +59,16 @@ returns-clause-shift g c =
           (c.answered.ensures ∙ ap (λ n. answered_in n all) did.number)
           (c.carried.ensures.carried ∙ ap (λ (m : Option Managed). carried_in m (link_in out.seat.who) all) managed ∙ ap (λ n. carried_in plan.managed n all) did.number)
           c.new-line.ensures.put
-          c.into_tape-tape.ensures.kept,
+          c.into_tape-tape.ensures.kept in (
+      all,
+      c.into_seat-seat.ensures.all,
+      record {
+        shift = does.0;
+        over = runs_over g.L.Line c.args.self.line first.line left.line left.put does.0.line does.0.after.line c.new-line.ensures.line did.line.0
+            (left.passes ∙ ap (λ before. g.L.Line.put_so_far before.value ++ left.put) did.line.1 ∙ ap (λ line. g.L.Line.put_so_far line ++ left.put) c.new-line.ensures.before)
+            (does.1 ∙ ap (λ (p : List ℕ). seen (g.L.Line.taken_so_far first.line) (g.L.Line.waiting first.line) p (g.L.Line.free first.line)) c.new-line.ensures.put)
+            (ap (λ (s : Standing). s.line) does.2);
+      },
     )
 
 -- the set told the door so

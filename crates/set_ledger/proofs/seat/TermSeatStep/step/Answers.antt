@@ -1,6 +1,6 @@
 use Rattle.std.proofs.Common.{ap, refl, subst, sym}
 use Rattle.set_events.specs.Lent.{event_in}
-use Rattle.set_ledger.specs.Openings.{IsBaseOf}
+use Rattle.set_ledger.specs.Openings.{IsBaseBehind}
 use Rattle.set_ledger.specs.Totals.{HeldState}
 use Rattle.set_ledger.proofs.Growing.{term_adds_up, term_totals, term_grows, term_acknowledges, room_for, few_enough, full_stays}
 use Rattle.set_ledger.proofs.seat.TermSeatStep.step.Goals as goal
@@ -15,7 +15,7 @@ gain-requires-in-Ok g c = let gains = c.in-Ok.ensures.gains in room_for _ _ _ _ 
 pub invariant_of-self : goal.invariant_of-self
 invariant_of-self g c = (
   c.self.invariant.0,
-  term_adds_up c.self.inside.link c.self.inside.calls.told c.self.inside.acknowledged.told c.gain.new.self.told c.gain-in-Ok.new.self.told c.self.inside.forgotten c.self.inside.receipts.items c.make.new.receipts.items c.self.inside.full.told (event_in c.args.event.now)
+  term_adds_up c.self.inside.link c.self.inside.calls.told c.self.inside.acknowledged.told c.gain.new.self.told c.gain-in-Ok.new.self.told c.self.inside.forgotten c.self.inside.receipts.items c.make.new.receipts.items c.self.inside.full.told c.self.inside.checkpoints.share.amount (event_in c.args.event.now)
       c.make.new.reply c.in-Ok.gained c.held.inside.core c.make.new.core c.self.invariant.1 c.in-Ok.ensures.gains c.gain.ensures.told c.in-Ok.ensures.receipt,
 )
 
@@ -23,7 +23,7 @@ pub invariant_of-held : goal.invariant_of-held
 invariant_of-held g c = (
   term_totals c.self.inside.link _ _ _ _ _ _ (event_in c.args.event.now) c.make.new.reply c.in-Ok.gained c.held.inside.core c.make.new.core c.held.invariant.0 c.in-Ok.ensures.gains c.gain.ensures.total c.gain-in-Ok.ensures.total,
   c.held.invariant.1,
-  subst (IsBaseOf g.O.Opening.settings) (sym c.in-Ok.ensures.step.base_is) c.held.invariant.2,
+  subst (IsBaseBehind g.O.Opening.settings c.held.inside.checkpoints.total) (sym c.in-Ok.ensures.step.base_is) c.held.invariant.2,
   full_stays c.held.inside.full.total c.held.inside.core c.make.new.core _ (event_in c.args.event.now) c.make.new.reply c.in-Ok.gained c.in-Ok.ensures.gains c.held.invariant.3,
 )
 
@@ -35,6 +35,7 @@ returns-in-Ok-clause-receipt g c = rw (← c.self.view_is) (record {
   who_same = refl;
   forgotten_same = refl;
   full_same = refl;
+  checkpoints_same = refl;
   receipt = c.in-Ok.ensures.receipt;
   grows = term_grows c.self.inside.link _ _ _ _ (event_in c.args.event.now) c.make.new.reply c.in-Ok.gained c.held.inside.core c.make.new.core c.in-Ok.ensures.gains c.gain.ensures.told;
 })

@@ -1,6 +1,6 @@
 use Rattle.std.proofs.Common.{ap, refl, subst, sym}
 use Rattle.set_events.specs.Lent.{event_in}
-use Rattle.set_ledger.specs.Openings.{IsBaseOf}
+use Rattle.set_ledger.specs.Openings.{IsBaseBehind}
 use Rattle.set_ledger.specs.Totals.{HeldState}
 use Rattle.set_ledger.proofs.Growing.{user_adds_up, user_totals, user_grows, user_acknowledges, room_for, few_enough, full_stays}
 use Rattle.set_ledger.proofs.seat.UserSeatStep.step.Goals as goal
@@ -18,7 +18,7 @@ gain-requires-in-Ok-2 g c = let gains = c.in-Ok.ensures.gains in room_for _ _ _ 
 pub invariant_of-self : goal.invariant_of-self
 invariant_of-self g c = (
   c.self.invariant.0,
-  user_adds_up c.self.inside.number c.self.inside.calls.told c.self.inside.messages.told c.self.inside.octets.told c.gain.new.self.told c.gain-in-Ok.new.self.told c.gain-in-Ok-2.new.self.told c.self.inside.forgotten c.self.inside.receipts.items c.make.new.receipts.items c.self.inside.full.told (event_in c.args.event.now)
+  user_adds_up c.self.inside.number c.self.inside.calls.told c.self.inside.messages.told c.self.inside.octets.told c.gain.new.self.told c.gain-in-Ok.new.self.told c.gain-in-Ok-2.new.self.told c.self.inside.forgotten c.self.inside.receipts.items c.make.new.receipts.items c.self.inside.full.told c.self.inside.checkpoints.share.amount (event_in c.args.event.now)
       c.make.new.reply c.in-Ok.gained c.held.inside.core c.make.new.core c.self.invariant.1 c.in-Ok.ensures.gains c.gain.ensures.told c.gain-in-Ok.ensures.told c.gain-in-Ok-2.ensures.told c.in-Ok.ensures.receipt,
 )
 
@@ -26,7 +26,7 @@ pub invariant_of-held : goal.invariant_of-held
 invariant_of-held g c = (
   user_totals c.self.inside.number _ _ _ _ _ _ _ (event_in c.args.event.now) c.make.new.reply c.in-Ok.gained c.held.inside.core c.make.new.core c.held.invariant.0 c.in-Ok.ensures.gains c.gain.ensures.total c.gain-in-Ok.ensures.total c.gain-in-Ok-2.ensures.total,
   c.held.invariant.1,
-  subst (IsBaseOf g.O.Opening.settings) (sym c.in-Ok.ensures.step.base_is) c.held.invariant.2,
+  subst (IsBaseBehind g.O.Opening.settings c.held.inside.checkpoints.total) (sym c.in-Ok.ensures.step.base_is) c.held.invariant.2,
   full_stays c.held.inside.full.total c.held.inside.core c.make.new.core _ (event_in c.args.event.now) c.make.new.reply c.in-Ok.gained c.in-Ok.ensures.gains c.held.invariant.3,
 )
 
@@ -38,6 +38,7 @@ returns-in-Ok-clause-receipt g c = rw (← c.self.view_is) (record {
   who_same = refl;
   forgotten_same = refl;
   full_same = refl;
+  checkpoints_same = refl;
   receipt = c.in-Ok.ensures.receipt;
   grows = user_grows c.self.inside.number _ _ _ _ _ _ (event_in c.args.event.now) c.make.new.reply c.in-Ok.gained c.held.inside.core c.make.new.core c.in-Ok.ensures.gains c.gain.ensures.told c.gain-in-Ok.ensures.told c.gain-in-Ok-2.ensures.told;
 })
