@@ -120,7 +120,7 @@ pub breaks_off : (octet : ℕ) (fault : TermFault) (works works' : Works) (bits 
     (set set' : LinkSet) (failed : Bool) → works.failed ≡ failed
     → (works.failed ≡ true → (fault ≡ TermFault.Failed) × (works' ≡ works) × (set'.history ≡ set.history))
     → (works.failed ≡ false → (entries : List Entry) × (set'.history ≡ set.history ++ entries)
-    × FailsBy octet fault works.taken works'.taken works.inside set set' entries)
+    × FailsBy octet fault works.taken works'.taken works.inside works'.inside set set' entries)
     → works'.failed ≡ true
     → (entries : List Entry) × (set'.history ≡ set.history ++ entries)
     × BreaksOff octet fault set set' (at_link works bits waiting counts) (at_link works' bits waiting counts) entries

@@ -124,7 +124,7 @@ pub fails_by : (octet : ℕ) (fault : TermFault) (taken taken' : List ℕ) (befo
     → TurnFails fault (standing taken before set.history faults (seen given waiting put free))
     (standing taken' after set'.history faults' (seen (if is_taken then there ∷ [] else []) waiting' put' free'))
     → GoesOn link link' set set' heard heard' faults faults' late late' → given ≡ [] → there ≡ octet
-    → (entries : List Entry) × (set'.history ≡ set.history ++ entries) × FailsBy octet fault taken taken' before set set' entries
+    → (entries : List Entry) × (set'.history ≡ set.history ++ entries) × FailsBy octet fault taken taken' before after set set' entries
 fails_by octet fault taken taken' before after link link' set set' heard heard' there is_taken given {faults} (by_fault broken turn) goes none same = (
   turn.entries,
   turn.made_is,
@@ -137,5 +137,5 @@ fails_by octet fault taken taken' before after link link' set set' heard heard' 
 fails_by octet fault taken taken' before after link link' set set' heard heard' there is_taken given (by_profile is unchanged turn) goes none same = (
   turn.entries,
   turn.made_is,
-  by_wide turn.octet is (came_is turn.octet octet there is_taken given none same turn.passes.given_is) turn.taken_is turn.turn,
+  by_wide turn.octet is (came_is turn.octet octet there is_taken given none same turn.passes.given_is) turn.taken_is turn.turn turn.after_is,
 )

@@ -133,16 +133,16 @@ pub record IsTold (from to : ℕ) (fault : SetFault) : Type 0 where
   pub full : (fault ≡ SetFault.Exhausted) ↔ (longest_history ≤ entries)
 
 -- A TURN BY THIS OCTET FAILED, after these entries: the set told a fault in place of an answer, or it gave a unit of the wide
--- profile, whose entry stays. By then the terminal took the octet, or nothing yet.
-pub data FailsBy (octet : ℕ) (fault : TermFault) (heard heard' : List ℕ) (before : Terminal) (set set' : LinkSet)
+-- profile, whose entry stays, and the terminal is left as it was when it asked for that. By then it took the octet, or nothing yet.
+pub data FailsBy (octet : ℕ) (fault : TermFault) (heard heard' : List ℕ) (before after : Terminal) (set set' : LinkSet)
     (entries : List Entry) : Type 0 where
   by_set : (told : SetFault) (came : Option ℕ) (last : Event) → fault ≡ fault_of told
       → IsTold (entries_in set) (entries_in set') told → ForSome came (λ o. o ≡ octet)
       → heard' ≡ heard ++ option_to_list came → IsBrokenTurn (line_bits heard) before came entries last
-      → FailsBy octet fault heard heard' before set set' entries
+      → FailsBy octet fault heard heard' before after set set' entries
   by_wide : (came : Option ℕ) → fault ≡ TermFault.Profile → ForSome came (λ o. o ≡ octet)
-      → heard' ≡ heard ++ option_to_list came → IsWideTurn (line_bits heard) before came entries
-      → FailsBy octet fault heard heard' before set set' entries
+      → heard' ≡ heard ++ option_to_list came → (turn : IsWideTurn (line_bits heard) before came entries) → after ≡ turn.chosen.after
+      → FailsBy octet fault heard heard' before after set set' entries
 
 -- WHY A TURN OF A LINK WAS BROKEN OFF: it had taken all its turns, or a turn of it was broken off before, and nothing was done;
 -- or this one failed
@@ -152,7 +152,7 @@ pub data IsWhy (octet : ℕ) (fault : TermFault) (set set' : LinkSet) (was now :
       → IsWhy octet fault set set' was now entries
   had_failed : fault ≡ TermFault.Failed → was.failed ≡ true → now ≡ was → entries ≡ []
       → IsWhy octet fault set set' was now entries
-  fails_now : was.failed ≡ false → FailsBy octet fault was.heard now.heard was.terminal set set' entries
+  fails_now : was.failed ≡ false → FailsBy octet fault was.heard now.heard was.terminal now.terminal set set' entries
       → IsWhy octet fault set set' was now entries
 
 -- it isn't counted, the bits that wait stay, and each later turn fails

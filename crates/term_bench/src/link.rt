@@ -243,7 +243,7 @@ fn take_octet<T: Tap>(
     ensures fails { OnErr result (works.new.failed ≡ true) }
     ensures breaks { works.old.failed ≡ false → IfErr result (λ fault. (entries : List Entry)
         × (door.new.set.history ≡ door.old.set.history ++ entries)
-        × FailsBy octet fault works.old.taken works.new.taken works.old.inside door.old.set door.new.set entries) }
+        × FailsBy octet fault works.old.taken works.new.taken works.old.inside works.new.inside door.old.set door.new.set entries) }
     ensures goes_on { OnOk result (works.new.failed ≡ false) }
     ensures untold { OnErr result (tap.new ≡ tap.old) }
 {
