@@ -71,23 +71,26 @@ shift_of plan link number counts ended answered carried tape marks looks awaited
     ∙ ap (λ (t : Terminal). standing [] t before.made before.faults before.line) inside_is
     ∙ ap (λ (m : List Entry). standing [] new m before.faults before.line) made_is
     ∙ ap (λ (fs : List SetFault). standing [] new [] fs before.line) faults_is in
-    subst (λ (k : ℕ). (does : DoesShift plan k ended made) × (does.line ≡ before.line) × (does.after ≡ after)) same
-    (record {
-      line = before.line;
-      after = after;
-      counts = counts;
-      marks = marks;
-      turns = subst (λ (ls : List Look). TurnsOf plan number counts ls (fresh number plan.timers before.line) after) (sym looked)
-          (subst (λ (b : Standing). TurnsOf plan number counts looks b after) start turned);
-      marks_are = marked;
-      awaited = awaited;
-      asks = asks;
-      made_is = end_is;
-      none_put = none;
-      tape = tape;
-      tape_is = taped;
-      ended_is = told_is ∙ ap (λ (a : Answered). reported a carried tape counts) counted ∙ ap (λ (c : Carried). reported (answered_in number made) c tape counts) carries;
-    }, refl, refl)
+    subst (λ (k : ℕ). (does : DoesShift plan k ended made) × (does.line ≡ before.line) × (does.after ≡ after)) same (
+      record {
+        line = before.line;
+        after = after;
+        counts = counts;
+        marks = marks;
+        turns = subst (λ (ls : List Look). TurnsOf plan number counts ls (fresh number plan.timers before.line) after) (sym looked)
+            (subst (λ (b : Standing). TurnsOf plan number counts looks b after) start turned);
+        marks_are = marked;
+        awaited = awaited;
+        asks = asks;
+        made_is = end_is;
+        none_put = none;
+        tape = tape;
+        tape_is = taped;
+        ended_is = told_is ∙ ap (λ (a : Answered). reported a carried tape counts) counted ∙ ap (λ (c : Carried). reported (answered_in number made) c tape counts) carries;
+      },
+      refl,
+      refl,
+    )
 
 -- a look changes nothing of how a terminal stands
 pub looked_on : (taken : List ℕ) (inside : Terminal) (line : Seen) (made made' : List Entry) (faults faults' : List SetFault) → made' ≡ made → faults' ≡ faults → standing taken inside made' faults' line ≡ standing taken inside made faults line

@@ -304,8 +304,7 @@ impl<'a, O: Opening, R: Wait, G: LinkManager> Door for SeatDoor<'a, O, R, G> {
                 // it's no matter that memory is refused to level 3
                 let _ = self.follow(event, &reply.get(), late);
                 let made = self.caller.share().calls;
-                self.pauses
-                    .pause(self.rt, self.set, &mut self.caller, made);
+                self.pauses.pause(self.rt, self.set, &mut self.caller, made);
                 Ok(())
             }
             Err(fault) => {

@@ -1,4 +1,4 @@
-use Rattle.std.proofs.Common.{◌≡◌, ◌∙◌, ap, subst, sym, not, ◌==◌, true, false, ℕ, [], ◌∷◌, ◌++◌}
+use Rattle.std.proofs.Common.{◌≡◌, ◌∙◌, ap, subst, sym, true, false, ℕ, [], ◌∷◌, ◌++◌}
 use Rattle.set_events.specs.Lent.{event_in}
 use Rattle.bank_crew.specs.Doors.{DoorState}
 use Rattle.bank_crew.specs.Managing.{is_question}

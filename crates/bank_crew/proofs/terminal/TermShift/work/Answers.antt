@@ -45,21 +45,21 @@ returns-clause-shift g c =
     let left = c.planned_turns-report.new.line in
     let does =
     shift_of _ (link_in c.args.self.seat.who) (link_in door.seat.who) c.planned_turns-report.result _ _ _ c.into_tape-tape.result out.marks did.turns.0 out.awaited _ _ _ did.turns.2
-          (did.turns.1 ∙ ap (λ (ms : List ℕ). looks_in ms ++ did.turns.0) c.new-door.ensures.marks)
-          (ap (λ it. it.taken) second ∙ ap (λ it. it.taken) told_first ∙ c.new-works.ensures.taken)
-          (ap (λ it. it.inside) second ∙ ap (λ it. told Start it.inside) told_first ∙ ap (λ it. told Start (told Emergency it)) c.new-works.ensures.inside
-          ∙ ap (λ (n : ℕ). told Start (told Emergency (opened n plan.timers))) (sym number))
-          (none_of_turns door.all door.marks c.new-door.ensures.marks)
-          c.new-door.ensures.faults
-          seat
-          (ap (λ (n : ℕ). are_marks n out.marks all) (sym did.number) ∙ c.carried.ensures.marks)
-          asks
-          refl
-          c.reported-told.ensures
-          (c.answered.ensures ∙ ap (λ n. answered_in n all) did.number)
-          (c.carried.ensures.carried ∙ ap (λ (m : Option Managed). carried_in m (link_in out.seat.who) all) managed ∙ ap (λ n. carried_in plan.managed n all) did.number)
-          c.new-line.ensures.put
-          c.into_tape-tape.ensures.kept in (
+    (did.turns.1 ∙ ap (λ (ms : List ℕ). looks_in ms ++ did.turns.0) c.new-door.ensures.marks)
+    (ap (λ it. it.taken) second ∙ ap (λ it. it.taken) told_first ∙ c.new-works.ensures.taken)
+    (ap (λ it. it.inside) second ∙ ap (λ it. told Start it.inside) told_first ∙ ap (λ it. told Start (told Emergency it)) c.new-works.ensures.inside
+    ∙ ap (λ (n : ℕ). told Start (told Emergency (opened n plan.timers))) (sym number))
+    (none_of_turns door.all door.marks c.new-door.ensures.marks)
+    c.new-door.ensures.faults
+    seat
+    (ap (λ (n : ℕ). are_marks n out.marks all) (sym did.number) ∙ c.carried.ensures.marks)
+    asks
+    refl
+    c.reported-told.ensures
+    (c.answered.ensures ∙ ap (λ n. answered_in n all) did.number)
+    (c.carried.ensures.carried ∙ ap (λ (m : Option Managed). carried_in m (link_in out.seat.who) all) managed ∙ ap (λ n. carried_in plan.managed n all) did.number)
+    c.new-line.ensures.put
+    c.into_tape-tape.ensures.kept in (
       all,
       c.into_seat-seat.ensures.all,
       record {
