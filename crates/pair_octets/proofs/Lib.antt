@@ -1,1 +1,3 @@
 pub mod Ring
+pub mod Running
+pub mod Seen
