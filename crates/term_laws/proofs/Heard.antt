@@ -84,7 +84,7 @@ text_fits unit is =
     (All-cons Fits8 (sequence_octet head.fsn head.fib) third (number_fits head.fsn head.fib is.is_unit.0.1)
     (All-cons Fits8 (length_indicator body + 64 * 0) body (omega arith) is.in_range))
 
-unit_good : (unit : SignalUnit) (wire : List Bool) → IsSendable unit → Stuffed (line_bits (sealed_text (text Narrow unit))) wire → IsGood wire (text Narrow unit)
+pub unit_good : (unit : SignalUnit) (wire : List Bool) → IsSendable unit → Stuffed (line_bits (sealed_text (text Narrow unit))) wire → IsGood wire (text Narrow unit)
 unit_good unit wire is stuffed = record {
   in_range = text_fits unit is;
   shortest = omega arith;
@@ -94,7 +94,7 @@ unit_good unit wire is stuffed = record {
 
 -- UNITS ON THE LINE.
 
-units_carried : (units : List SignalUnit) (line : List Bool) → All IsSendable units → AreOnLine units line → Carries (steps_of units) line
+pub units_carried : (units : List SignalUnit) (line : List Bool) → All IsSendable units → AreOnLine units line → Carries (steps_of units) line
 units_carried [] line all none = none
 units_carried (unit ∷ units) line all on = (
   on.0 ++ flag,
@@ -104,7 +104,7 @@ units_carried (unit ∷ units) line all on = (
   on.4,
 )
 
-steps_apart : (units : List SignalUnit) (done left : List Step) → steps_of units ≡ done ++ left
+pub steps_apart : (units : List SignalUnit) (done left : List Step) → steps_of units ≡ done ++ left
     → (heard later : List SignalUnit) × (units ≡ heard ++ later) × (done ≡ steps_of heard)
 steps_apart units [] left same = ([], units, refl, refl)
 steps_apart [] (step ∷ done) left same = absurd (omega (arith, ap length same))
@@ -114,13 +114,13 @@ steps_apart (unit ∷ units) (step ∷ done) left same =
     let more = steps_apart units done left rest in
     (unit ∷ more.0, more.1, ap (λ all. unit ∷ all) more.2, ap (λ all. step ∷ all) more.3 ∙ ap (λ first. first ∷ steps_of more.0) (sym here))
 
-read_heard : (units : List SignalUnit) → All IsSendable units → map unit_in (all_heard (steps_of units)) ≡ map (λ unit. Some unit) units
+pub read_heard : (units : List SignalUnit) → All IsSendable units → map unit_in (all_heard (steps_of units)) ≡ map (λ unit. Some unit) units
 read_heard [] all = refl
 read_heard (unit ∷ units) all =
     ap (λ first. first ∷ map unit_in (all_heard (steps_of units))) (text_read unit (All-head IsSendable unit units all).is_unit)
     ∙ ap (λ rest. Some unit ∷ rest) (read_heard units (All-tail IsSendable unit units all))
 
-All-first : (first later : List SignalUnit) → All IsSendable (first ++ later) → All IsSendable first
+pub All-first : (first later : List SignalUnit) → All IsSendable (first ++ later) → All IsSendable first
 All-first [] later all = All-nil IsSendable
 All-first (unit ∷ first) later all =
     All-cons IsSendable unit first (All-head IsSendable unit (first ++ later) all) (All-first first later (All-tail IsSendable unit (first ++ later) all))
@@ -141,7 +141,7 @@ joins first second a b old mid new one more = record {
       ∙ ap (λ bits. bits ++ new) (sym (line_bits-append a b));
 }
 
-aligned : IsAligned []
+pub aligned : IsAligned []
 aligned = aligned_first flag_first
 
 heard_by : (units : List SignalUnit) (line : List Bool) (marks : List Mark) (steps left : List Step) → All IsSendable units
