@@ -1,8 +1,15 @@
-//! Laws of the loop of a link, over definitions alone.
+//! Laws of two ends joined by lines of octets, over definitions alone.
+ghost use Rattle.pair_octets.specs.Passing.{EachUnitIsHeard};
 ghost use Rattle.pair_octets.specs.Ring.{LoopsAreRings};
 
 /// Whichever end takes its turns when: as many octets are under way on a link as at first; and what an end takes so many
 /// turns after it put an octet, the other put in the turn in which it took that octet.
 pub fn a_loop_is_a_ring()
     ensures { LoopsAreRings }
+{}
+
+/// On lines that lose and change nothing each end of a link hears what the other's terminal sent, unit by unit, in order,
+/// and nothing else, whichever end takes its turns when, whatever is started, stopped and asked (Q.703 2 to 4).
+pub fn each_unit_is_heard()
+    ensures { EachUnitIsHeard }
 {}
