@@ -1,5 +1,6 @@
-pub mod OneEnd
+pub mod Flushing
 pub mod Hearing
+pub mod OneEnd
 pub mod Passing
 pub mod Ring
 pub mod Running

@@ -130,7 +130,7 @@ pub record IsLink (ds : List Doing) (at : AtLink) : Type 0 where
   pub last : IsHeadOf Narrow (last_head at.terminal)
   pub few : length at.terminal.bits ≤ 2675
 
-abbrev doing_of : ℕ → ℕ → List Entry → List Mark → Option SignalUnit → Doing
+abbrev pub doing_of : ℕ → ℕ → List Entry → List Mark → Option SignalUnit → Doing
 doing_of octet put entries marks unit = record { octet = Some octet; entries = entries; put = put ∷ []; marks = marks; unit = unit }
 
 -- what's appended is at most so long
@@ -152,6 +152,24 @@ left_few false put bits is short = absurd cc
 octet_bits : (octet : ℕ) → line_bits (octet ∷ []) ≡ bits_in (Some octet)
 octet_bits octet = append-nil _
 
+-- the turn, as term_model has it
+abbrev turn_by : (octet : ℕ) (who : Actor) (s s' : State) (at at' : AtLink) (put : ℕ) (entries : List Entry) (unit : Option SignalUnit)
+    (by : IsTurnBy octet who s at put entries unit s' at')
+    → IsTurn (line_bits at.heard) at.terminal (Some octet) entries (put ∷ []) by.marks at'.terminal
+turn_by octet who s s' at at' put entries unit by = record {
+  gives = by.gives;
+  chosen = outcome_with (turn_talk by.marks at.terminal) s;
+  went = subst (λ (es : List Entry). Went (turn_talk by.marks at.terminal) es (outcome_with (turn_talk by.marks at.terminal) s)) (sym by.entries_are)
+      (went_with (turn_talk by.marks at.terminal) who s);
+  narrow = by.narrow;
+  puts = by.puts;
+}
+
+pub did_by : (octet : ℕ) (who : Actor) (s s' : State) (at at' : AtLink) (put : ℕ) (entries : List Entry) (unit : Option SignalUnit)
+    (by : IsTurnBy octet who s at put entries unit s' at')
+    → Did (line_bits at.heard) at.terminal (doing_of octet put entries by.marks unit) at'.terminal
+did_by octet who s s' at at' put entries unit by = record { turn = turn_by octet who s s' at at' put entries unit by; unit_is = by.unit_is }
+
 pub record TurnKept (ds : List Doing) (doing : Doing) (at' : AtLink) (s' : State) : Type 0 where
   pub link : IsLink (ds ++ doing ∷ []) at'
   pub set : IsSet s'
@@ -171,17 +189,11 @@ turn_kept octet who s s' at at' put entries unit ds by link set = record { link 
     all = through Sends talk s
         (turn_sends at.terminal.last at.terminal.bits link.last by.marks (marks_octets (line_bits at.heard) (bits_in (Some octet)) by.marks by.gives) at.terminal (refl, refl)) set
 
-    turn : IsTurn (line_bits at.heard) at.terminal (Some octet) entries (put ∷ []) by.marks at'.terminal
-    turn = record {
-      gives = by.gives;
-      chosen = outcome_with talk s;
-      went = subst (λ (es : List Entry). Went talk es (outcome_with talk s)) (sym by.entries_are) (went_with talk who s);
-      narrow = by.narrow;
-      puts = by.puts;
-    }
-
     did : Did (line_bits at.heard) at.terminal doing at'.terminal
-    did = record { turn = turn; unit_is = by.unit_is }
+    did = did_by octet who s s' at at' put entries unit by
+
+    turn : IsTurn (line_bits at.heard) at.terminal (Some octet) entries (put ∷ []) by.marks at'.terminal
+    turn = turn_by octet who s s' at at' put entries unit by
 
     sends : SendsOne unit
     sends = subst (λ (u : Option SignalUnit). SendsOne u) (sym by.unit_is) all.0.0

@@ -32,10 +32,10 @@ use Rattle.pair_octets.proofs.Hearing.{hears_all}
 use Rattle.pair_octets.proofs.Seen.{length-new_links}
 
 -- a line keeps order
-abbrev IsFifo : ℕ → List Doing → List Doing → List ℕ → Type 0
+abbrev pub IsFifo : ℕ → List Doing → List Doing → List ℕ → Type 0
 IsFifo idle sends hears line = idle_line idle ++ octets_out sends ≡ octets_in hears ++ line
 
-abbrev EachLine : (ℕ → List ℕ → Type 0) → List (List ℕ) → Type 0
+abbrev pub EachLine : (ℕ → List ℕ → Type 0) → List (List ℕ) → Type 0
 EachLine P lines = (n : ℕ) (line : List ℕ) → slice_get lines n ≡ Some line → P n line
 
 pub record IsPassing (count : ℕ) (near far : ℕ → List Doing) (to_near to_far : ℕ → ℕ) (s : Sides) : Type 0 where
@@ -48,10 +48,10 @@ pub record IsPassing (count : ℕ) (near far : ℕ → List Doing) (to_near to_f
   pub near_lines : length s.to_near ≡ count
   pub far_lines : length s.to_far ≡ count
 
-abbrev flip : Sides → Sides
+abbrev pub flip : Sides → Sides
 flip s = record { near = s.far; far = s.near; to_near = s.to_far; to_far = s.to_near }
 
-flips : (count : ℕ) (near far : ℕ → List Doing) (i j : ℕ → ℕ) (s : Sides) → IsPassing count near far i j s → IsPassing count far near j i (flip s)
+pub flips : (count : ℕ) (near far : ℕ → List Doing) (i j : ℕ → ℕ) (s : Sides) → IsPassing count near far i j s → IsPassing count far near j i (flip s)
 flips count near far i j s p = record {
   near_end = p.far_end;
   far_end = p.near_end;
@@ -212,10 +212,10 @@ ask_passes count who event old new near far i j asked apart p =
     (ap (λ (ls : List AtLink). length ls) asked.links_are) asked.only.far_is asked.only.to_near_is asked.only.to_far_is p
 
 -- A STEP, told of end A.
-abbrev At : ℕ → (End → ℕ → List Doing) → (End → ℕ → ℕ) → Wires → Type 0
+abbrev pub At : ℕ → (End → ℕ → List Doing) → (End → ℕ → ℕ) → Wires → Type 0
 At count ds idle w = IsPassing count (ds A) (ds B) (idle A) (idle B) (seen_from A w)
 
-abbrev later : (End → ℕ → List Doing) → (step : WireStep) (old new : Wires) → Happens step old new → End → ℕ → List Doing
+abbrev pub later : (End → ℕ → List Doing) → (step : WireStep) (old new : Wires) → Happens step old new → End → ℕ → List Doing
 later ds step old new happens end n = ds end n ++ turns_in end n step old new happens
 
 step_passes : (count : ℕ) (ds : End → ℕ → List Doing) (idle : End → ℕ → ℕ) (step : WireStep) (old new : Wires) (happens : Happens step old new)
@@ -260,7 +260,7 @@ passes count (step ∷ steps) ds idle old new happen intact p =
     (passes count steps now idle happen.0 new happen.2 intact.1 (step_passes count ds idle step old happen.0 happen.1 intact.0 p))
 
 -- AT FIRST.
-abbrev length_at : End → Option LineLengths → ℕ
+abbrev pub length_at : End → Option LineLengths → ℕ
 length_at end None = 0
 length_at A (Some line) = line.to_a
 length_at B (Some line) = line.to_b

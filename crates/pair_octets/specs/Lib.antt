@@ -1,3 +1,4 @@
+pub mod Flushed
 pub mod Passing
 pub mod Ring
 pub mod Wires

@@ -1,4 +1,5 @@
 //! Laws of two ends joined by lines of octets, over definitions alone.
+ghost use Rattle.pair_octets.specs.Flushed.{EachReadyLinkIsFlushed};
 ghost use Rattle.pair_octets.specs.Passing.{EachUnitIsHeard};
 ghost use Rattle.pair_octets.specs.Ring.{LoopsAreRings};
 
@@ -12,4 +13,10 @@ pub fn a_loop_is_a_ring()
 /// and nothing else, whichever end takes its turns when, whatever is started, stopped and asked (Q.703 2 to 4).
 pub fn each_unit_is_heard()
     ensures { EachUnitIsHeard }
+{}
+
+/// A link that is ready has heard all units that were sent to it before its proving period, in order, if no more than 3,700
+/// octets are under way on it, both ways together: none of a former life comes later (Q.703 7.4).
+pub fn a_ready_link_is_flushed()
+    ensures { EachReadyLinkIsFlushed }
 {}
