@@ -1,3 +1,4 @@
+pub mod Calm
 pub mod Flushing
 pub mod Hearing
 pub mod OneEnd
@@ -6,3 +7,4 @@ pub mod Ring
 pub mod Running
 pub mod Seen
 pub mod Sending
+pub mod Talking

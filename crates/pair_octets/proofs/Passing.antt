@@ -268,7 +268,7 @@ length_at B (Some line) = line.to_b
 abbrev pub idle_of : List LineLengths → End → ℕ → ℕ
 idle_of lengths end n = length_at end (slice_get lengths n)
 
-each_more : (P : AtLink → Type 0) (links : List AtLink) (last : AtLink) → EachLink (λ n at. P at) links → P last → EachLink (λ n at. P at) (links ++ last ∷ [])
+pub each_more : (P : AtLink → Type 0) (links : List AtLink) (last : AtLink) → EachLink (λ n at. P at) links → P last → EachLink (λ n at. P at) (links ++ last ∷ [])
 each_more P [] last each p zero at there = subst P (same_Some last at there) p
 each_more P [] last each p (suc n) at there = absurd cc
 each_more P (x ∷ links) last each p zero at there = subst P (same_Some x at there) (each 0 x refl)

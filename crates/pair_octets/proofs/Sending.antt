@@ -40,31 +40,23 @@ use Rattle.term_model.specs.Talk.{Talk, done, ask, and_then, in_turn}
 use Rattle.term_model.specs.Terminal.{Terminal, no_commands, head_or_start, last_head}
 use Rattle.term_model.specs.Timing.{lessened, is_over, ends_t1, ends_t2, ends_t3, ends_t4, ends_t5, ends_t6, ends_t7, timed}
 use Rattle.term_model.specs.Turn.{turn_talk}
+use Rattle.pair_octets.proofs.Talking.{AllKeepBy, KeepsBy, if_by, in_turn_by, then_by}
 
--- A TALK WITH A SET THAT GIVES OCTETS: what is asked is octets, and whatever comes of it is so.
-abbrev pub Keeps : {A : Type 0} → (A → Type 0) → Talk A → Type 0
-Keeps so (done a) = so a
-Keeps so (ask event more) = AskedInOctets event × ((answer : Answer) → GivesOctets answer → Keeps so (more answer))
+-- A TALK WITH A SET THAT GIVES OCTETS: what is asked is octets.
+abbrev pub Keeps : {T : Type 0} → (T → Type 0) → Talk T → Type 0
+Keeps so talk = KeepsBy AskedInOctets GivesOctets so talk
 
-then_keeps : {A B : Type 0} (so : A → Type 0) (last : B → Type 0) (talk : Talk A) (next : A → Talk B)
-    → Keeps so talk → ((a : A) → so a → Keeps last (next a)) → Keeps last (and_then talk next)
-then_keeps so last (done a) next kept later = later a kept
-then_keeps so last (ask event more) next kept later =
-    (kept.0, λ answer gives. then_keeps so last (more answer) next (kept.1 answer gives) later)
+then_keeps : {T U : Type 0} (so : T → Type 0) (last : U → Type 0) (talk : Talk T) (next : T → Talk U)
+    → Keeps so talk → ((a : T) → so a → Keeps last (next a)) → Keeps last (and_then talk next)
+then_keeps so last talk next kept later = then_by AskedInOctets GivesOctets so last talk next kept later
 
-abbrev AllKeep : {A : Type 0} → (A → Type 0) → List (A → Talk A) → Type 0
-AllKeep so [] = Unit {0}
-AllKeep so (step ∷ steps) = ((a : _) → so a → Keeps so (step a)) × AllKeep so steps
+in_turn_keeps : {T : Type 0} (so : T → Type 0) (steps : List (T → Talk T)) (a : T) → AllKeepBy AskedInOctets GivesOctets so steps → so a
+    → Keeps so (in_turn steps a)
+in_turn_keeps so steps a all kept = in_turn_by AskedInOctets GivesOctets so steps a all kept
 
-in_turn_keeps : {A : Type 0} (so : A → Type 0) (steps : List (A → Talk A)) (a : A) → AllKeep so steps → so a → Keeps so (in_turn steps a)
-in_turn_keeps so [] a all kept = kept
-in_turn_keeps so (step ∷ steps) a all kept =
-    then_keeps so so (step a) (λ b. in_turn steps b) (all.0 a kept) (λ b later. in_turn_keeps so steps b all.1 later)
-
-if_keeps : {A : Type 0} (so : A → Type 0) (b : Bool) (x y : Talk A) → (b ≡ true → Keeps so x) → (b ≡ false → Keeps so y)
+if_keeps : {T : Type 0} (so : T → Type 0) (b : Bool) (x y : Talk T) → (b ≡ true → Keeps so x) → (b ≡ false → Keeps so y)
     → Keeps so (if b then x else y)
-if_keeps so true x y where_true where_false = where_true refl
-if_keeps so false x y where_true where_false = where_false refl
+if_keeps so b x y where_true where_false = if_by AskedInOctets GivesOctets so b x y where_true where_false
 
 -- the units that marks bring have bodies of octets
 abbrev pub HeardOctets : Option SignalUnit → Type 0

@@ -1,4 +1,5 @@
 //! Laws of two ends joined by lines of octets, over definitions alone.
+ghost use Rattle.pair_octets.specs.Calm.{EachStatusIsPlain};
 ghost use Rattle.pair_octets.specs.Flushed.{EachReadyLinkIsFlushed};
 ghost use Rattle.pair_octets.specs.Passing.{EachUnitIsHeard};
 ghost use Rattle.pair_octets.specs.Ring.{LoopsAreRings};
@@ -19,4 +20,10 @@ pub fn each_unit_is_heard()
 /// octets are under way on it, both ways together: none of a former life comes later (Q.703 7.4).
 pub fn a_ready_link_is_flushed()
     ensures { EachReadyLinkIsFlushed }
+{}
+
+/// Where no end is told that it's busy no terminal sends SIB or SIPO, whatever comes on its line: each status on a line is
+/// that of a link which isn't in service (Q.703 11.1).
+pub fn each_status_is_plain()
+    ensures { EachStatusIsPlain }
 {}

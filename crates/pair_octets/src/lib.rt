@@ -23,7 +23,9 @@ mod step;
 mod wires;
 
 pub use fault::{RunFault, StepFault};
-pub use laws::{a_loop_is_a_ring, a_ready_link_is_flushed, each_unit_is_heard};
+pub use laws::{
+    a_loop_is_a_ring, a_ready_link_is_flushed, each_status_is_plain, each_unit_is_heard,
+};
 pub use line::Line;
 pub use step::{EndConfig, LineLengths, WireStep};
 pub use wires::Wires;
