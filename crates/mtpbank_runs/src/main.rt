@@ -11,13 +11,16 @@
 //! that is played, alone or with the opening before it. `NAME.terminal_explained` beside `NAME.terminal`, and the tables
 //! `NAME.terminal_first`, `NAME.terminal_second` and `NAME.terminal_third`, are so for the lines that drive an end; before
 //! the third line stand the opening and a command. `NAME.run` is the words behind `mtpbank run`, one a line: threads run as
-//! they ask, and of what they print the time that they took is left out. A line is printed for each name.
+//! they ask, and of what they print the time that they took is left out. `NAME.words` is words behind `mtpbank`, one a line,
+//! that ask for help or the version, or that are wrong: beside it stands what is said of them, as what is printed where it
+//! goes to standard output, else as the line of a fault; the launcher has these texts where no program stands. A line is
+//! printed for each name.
 //! Whether a run is as it should be is all that this program tells; it proves nothing.
 #![tactic(auto)]
 
 use history_audit::audit;
 use l2_units::Profile;
-use mtpbank_words::{RunWords, Words, words_of};
+use mtpbank_words::{RunWords, Words, WordsFault, words_of};
 use script_capture::capture;
 use script_history::{End, history};
 use script_ladder::ladder;
@@ -97,6 +100,8 @@ fn is_as_stored<R: Threads + Wait + Clock + Eprint + Copy + Send + Sync + 'stati
         all_told(rt, name, Kind::DrivenExplained, TWO_LINES)
     } else if name.ends_with(".run") {
         gives_stored(rt, name, threads_of(threads, rt, name)?)
+    } else if name.ends_with(".words") {
+        gives_stored(rt, name, said_of(rt, name)?)
     } else {
         gives_stored(rt, name, ran_by_name(rt, name)?)
     }
@@ -306,6 +311,46 @@ fn run_on(
         Kind::Explained => told_of(alloc, play_explained(alloc, source, sink)),
         Kind::Played => told_of(alloc, play(alloc, source, sink)),
     }
+}
+
+/// What is said of the words in the file of this name, which ask for nothing to be done.
+fn said_of(rt: &HostRuntime, name: &str) -> io::Result<Ran> {
+    let alloc = rt.alloc();
+    let text = fs::read_to_string(rt, name)?;
+    let words: Vec<&str> = text.lines().collect(alloc)?;
+    match words_of(alloc, words.as_slice()) {
+        Err(WordsFault::Words(error)) => ran_as_said(alloc, &error),
+        Err(WordsFault::Said(said)) => wrong_by(alloc, String::from_utf8(said).ok()),
+        _ => wrong_by(alloc, None),
+    }
+}
+
+/// What the library says: help and the version are printed, wrong words are told.
+fn ran_as_said(alloc: Global, error: &clap::Error) -> io::Result<Ran> {
+    let text = error.to_string(alloc)?;
+    Ok(if error.use_stderr() {
+        Ran {
+            printed: Vec::new(alloc),
+            told: text,
+        }
+    } else {
+        Ran {
+            printed: text.into_bytes(),
+            told: String::new(alloc),
+        }
+    })
+}
+
+/// Wrong words of which this is told, in lines.
+fn wrong_by(alloc: Global, said: Option<String>) -> io::Result<Ran> {
+    let told = match said {
+        Some(text) => format!(in alloc; "{text}\n")?,
+        None => "not said\n".to_string(alloc)?,
+    };
+    Ok(Ran {
+        printed: Vec::new(alloc),
+        told,
+    })
 }
 
 /// What the threads give that the words in the file of this name ask for, behind `run`.

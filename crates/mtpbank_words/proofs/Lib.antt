@@ -1,3 +1,4 @@
+mod Joining
 mod Options
 mod Refusals
 mod Subcommands

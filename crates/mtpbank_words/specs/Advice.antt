@@ -25,19 +25,22 @@ input_of name =
     else (if bytes_eq name (codes "terminal") then Some Terminal
     else (if bytes_eq name (codes "history") then Some History else None)))))))
 
-abbrev pub usage_of : Input → List ℕ
-usage_of Units = codes "units"
-usage_of Play = codes "play"
-usage_of Decode = codes "decode"
-usage_of Capture = codes "capture"
-usage_of Ladder = codes "ladder"
-usage_of Audit = codes "audit"
-usage_of Terminal = codes "terminal"
-usage_of History = codes "history END"
-
 abbrev pub name_of : Input → List ℕ
+name_of Units = codes "units"
+name_of Play = codes "play"
+name_of Decode = codes "decode"
+name_of Capture = codes "capture"
+name_of Ladder = codes "ladder"
+name_of Audit = codes "audit"
+name_of Terminal = codes "terminal"
 name_of History = codes "history"
-name_of input = usage_of input
+
+abbrev pub usage_of : Input → List ℕ
+usage_of Play = codes "play [--explain]"
+usage_of Decode = codes "decode [--wide]"
+usage_of Terminal = codes "terminal [--explain]"
+usage_of History = codes "history END"
+usage_of input = name_of input
 
 -- a word that stands for a thing, as a file's name does, and is no option: it doesn't begin with - (45)
 abbrev pub is_operand : List ℕ → Bool
@@ -49,10 +52,32 @@ input_text input =
     codes "mtpbank " ++ (name_of input ++ (codes ": reads standard input: mtpbank "
     ++ (usage_of input ++ codes " < FILE")))
 
+abbrev pub title_text : Input → List ℕ
+title_text input = codes "mtpbank " ++ (name_of input ++ codes ": ")
+
+abbrev pub usage_text : Input → List ℕ
+usage_text input = usage_of input ++ codes " < FILE"
+
+abbrev pub unknown_text : Input → List ℕ → List ℕ
+unknown_text input word =
+    title_text input
+    ++ (map plain word ++ (codes " isn't an option\nusage: mtpbank " ++ usage_text input))
+
+-- a flag of some subcommand, or what ends options: of these the library says what is wrong
+abbrev pub is_known_flag : List ℕ → Bool
+is_known_flag word =
+    if bytes_eq word (codes "--explain") then true
+    else (if bytes_eq word (codes "--wide") then true else bytes_eq word (codes "--"))
+
+-- a word that a subcommand doesn't take
+abbrev pub unknown_advice : Input → List ℕ → Option (List ℕ)
+unknown_advice input word = if is_known_flag word then None else Some (unknown_text input word)
+
 -- the first of these words is one that the subcommand doesn't take
 abbrev pub input_advice : Input → List (List ℕ) → Option (List ℕ)
 input_advice input [] = None
-input_advice input (word ∷ words) = if is_operand word then Some (input_text input) else None
+input_advice input (word ∷ words) =
+    if is_operand word then Some (input_text input) else unknown_advice input word
 
 -- play, decode and terminal have a flag
 abbrev pub without_flag : List ℕ → List (List ℕ) → List (List ℕ)
@@ -68,7 +93,7 @@ end_text word =
     if is_operand word then (if is_end word then None
     else Some (codes "mtpbank history: " ++ (map plain word
     ++ codes " isn't an end, a or b\nusage: mtpbank history END < FILE")))
-    else None
+    else unknown_advice History word
 
 abbrev pub history_advice : List (List ℕ) → Option (List ℕ)
 history_advice [] = None
@@ -153,47 +178,33 @@ option_text word =
 abbrev pub is_equals : ℕ → Bool
 is_equals c = c == 61
 
-abbrev pub value_behind : Option RunOption → List ℕ → Option (List ℕ)
-value_behind None value = None
-value_behind (Some option) value =
+abbrev pub value_behind : Option RunOption → List ℕ → List ℕ → Option (List ℕ)
+value_behind None word value = Some (option_text word)
+value_behind (Some option) word value =
     if fits option value then None else Some (value_text option value)
 
-abbrev pub joined_text : Option ℕ → List ℕ → Option (List ℕ)
-joined_text None word = None
-joined_text (Some place) word =
-    value_behind (option_of (take place word)) (drop (place + 1) word)
+abbrev pub is_flag : List ℕ → Bool
+is_flag word =
+    if bytes_eq word (codes "--per-link") then true
+    else (if bytes_eq word (codes "--report") then true else bytes_eq word (codes "--capture"))
 
--- what is said of a word that is no option with its value behind it
+abbrev pub joined_text : Option ℕ → List ℕ → Option (List ℕ)
+joined_text None word = if is_flag word then None else Some (option_text word)
+joined_text (Some place) word =
+    value_behind (option_of (take place word)) word (drop (place + 1) word)
+
+-- what is said of a word that is no flag, nor an option with its value behind it
 abbrev pub word_text : List ℕ → Option (List ℕ)
-word_text word =
-    if is_operand word then Some (option_text word)
-    else joined_text (position is_equals word) word
+word_text word = joined_text (position is_equals word) word
 
 -- a word that may be an option with its value behind it
 abbrev pub said_of : Option RunOption → List ℕ → Option (List ℕ)
 said_of None word = word_text word
 said_of (Some option) word = None
 
--- A WORD OF RUN: a flag, or one of its options with the value behind it; the library tells any other that begins with -.
-abbrev pub is_flag : List ℕ → Bool
-is_flag word =
-    if bytes_eq word (codes "--per-link") then true
-    else (if bytes_eq word (codes "--report") then true else bytes_eq word (codes "--capture"))
-
-abbrev pub is_there : Option RunOption → Bool
+abbrev pub is_there : {A : Type 0} → Option A → Bool
 is_there None = false
-is_there (Some option) = true
-
-abbrev pub is_known_with : Option ℕ → List ℕ → Bool
-is_known_with None word = is_flag word
-is_known_with (Some place) word = is_there (option_of (take place word))
-
-abbrev pub is_known : List ℕ → Bool
-is_known word = is_known_with (position is_equals word) word
-
-abbrev pub goes_on : Option RunOption → List ℕ → Bool
-goes_on None word = is_known word
-goes_on (Some option) word = true
+is_there (Some it) = true
 
 -- what is said of the first word that is wrong; an option that wants a value stands before them, or none
 abbrev pub run_advice : Option RunOption → List (List ℕ) → Option (List ℕ)
@@ -201,8 +212,19 @@ run_advice before [] = None
 run_advice (Some option) (value ∷ words) =
     if fits option value then run_advice None words else Some (value_text option value)
 run_advice None (word ∷ words) =
-    option_or (said_of (option_of word) word)
-    (if goes_on (option_of word) word then run_advice (option_of word) words else None)
+    option_or (said_of (option_of word) word) (run_advice (option_of word) words)
+
+-- THE COMMANDS, with a word on each: where none is there, or one that is none.
+abbrev pub commands : List ℕ
+commands =
+    codes "\nusage: mtpbank COMMAND\n  units     reads the octets of a line as a signalling terminal does\n  play      plays a script of two ends\n  decode    reads single signal units\n  capture   plays a script and writes its units as a pcap file\n  ladder    plays a script and draws it as a chart\n  audit     checks the history of a link set\n  history   plays a script and prints the history of one end\n  terminal  drives one end of a link set\n  run       runs two banks in threads\nmanuals: mtpbank --help, mtpbank COMMAND --help"
+
+abbrev pub missing_text : List ℕ
+missing_text = codes "mtpbank: a command is missing" ++ commands
+
+abbrev pub command_text : List ℕ → List ℕ
+command_text word =
+    codes "mtpbank: " ++ (map plain word ++ (codes " isn't a command" ++ commands))
 
 -- THE ADVICE
 abbrev pub told_of_input : Option Input → List (List ℕ) → Option (List ℕ)
@@ -217,7 +239,9 @@ told_of_input (Some Audit) words = input_advice Audit words
 told_of_input (Some Terminal) words = input_advice Terminal (without_flag (codes "--explain") words)
 
 abbrev pub advice : List (List ℕ) → Option (List ℕ)
-advice [] = None
+advice [] = Some missing_text
 advice (name ∷ words) =
     if bytes_eq name (codes "run") then run_advice None words
-    else told_of_input (input_of name) words
+    else (if bytes_eq name (codes "help") then None
+    else (if is_there (input_of name) then told_of_input (input_of name) words
+    else Some (command_text name)))

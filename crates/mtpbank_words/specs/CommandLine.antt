@@ -12,7 +12,7 @@ use Rattle.mtpbank_words.specs.declared.words.WordsFault.TheVariants.{NoMemory, 
 use Rattle.mtpbank_words.specs.declared.run_words.Unasked.{Unasked}
 use Rattle.mtpbank_words.specs.declared.run_words.Unasked.TheVariants.{Value, Link as NoLink}
 use Rattle.mtpbank_words.specs.Advice.{advice}
-use Rattle.clap.specs.declared.error.kind.ErrorKind.TheVariants.{UnknownArgument, InvalidValue}
+use Rattle.clap.specs.declared.error.kind.ErrorKind.TheVariants.{InvalidSubcommand, InvalidValue, MissingSubcommand, UnknownArgument}
 use Rattle.mtpbank_words.specs.RunOptions.{IsRun, LacksLink, run_shape}
 
 -- no program's name comes first, there is a version, and a subcommand has to be there
@@ -169,9 +169,11 @@ IsKind kind (WrongWords error) = kind_of error ≡ kind
 IsKind kind Link = ⊥
 IsKind kind (Said said) = ⊥
 
--- an error about a word that isn't taken, or about a value
+-- an error about a word that isn't taken, about a value, or about a command, which is none or isn't there
 abbrev pub IsAboutWord : ErrorKind → Type 0
-IsAboutWord kind = (kind ≡ UnknownArgument) ⊎ (kind ≡ InvalidValue)
+IsAboutWord kind =
+    (kind ≡ UnknownArgument) ⊎ (kind ≡ InvalidValue) ⊎ (kind ≡ InvalidSubcommand)
+    ⊎ (kind ≡ MissingSubcommand)
 
 -- all that can be said is said: an error about a word is the library's alone only where there is no advice
 abbrev pub SaysAll : WordsFault → List (List ℕ) → Type 0

@@ -1,11 +1,25 @@
 //! What is said of words that the program doesn't take, where more can be said than the library does.
-ghost use Rattle.std.specs.Prelude.{◌≡◌, ◌++◌, ◌<◌, IfOk, None, OnOk, length, map, position};
+ghost use Rattle.std.specs.Prelude.{◌≡◌, ◌++◌, ◌<◌, IfOk, None, OnOk, Some, if◌then◌else◌, length, map, position};
 ghost use Rattle.std.specs.Option.{ForSome, option_map};
-ghost use Rattle.mtpbank_words.specs.Advice.{advice, end_text, fits, history_advice, input_advice, input_of, input_text, is_equals, is_flag, is_known, is_number_in, is_operand, name_of, option_name, option_of, option_text, plain, range_text, run_advice, run_usage, usage_of, value_text, without_flag, word_text};
+ghost use Rattle.mtpbank_words.specs.Advice.{advice, command_text, commands, end_text, fits, history_advice, input_advice, input_of, input_text, is_equals, is_flag, is_known_flag, is_number_in, is_operand, missing_text, name_of, option_name, option_of, option_text, plain, range_text, run_advice, run_usage, title_text, unknown_advice, unknown_text, usage_of, usage_text, value_text, without_flag, word_text};
 
 use std::alloc::{AllocError, Global};
 use std::convert::AsStr;
 use text_base::{is_word, read_number};
+
+/// The lines with the commands and a word on each, behind another.
+const COMMANDS: &[u8] = b"
+usage: mtpbank COMMAND
+  units     reads the octets of a line as a signalling terminal does
+  play      plays a script of two ends
+  decode    reads single signal units
+  capture   plays a script and writes its units as a pcap file
+  ladder    plays a script and draws it as a chart
+  audit     checks the history of a link set
+  history   plays a script and prints the history of one end
+  terminal  drives one end of a link set
+  run       runs two banks in threads
+manuals: mtpbank --help, mtpbank COMMAND --help";
 
 /// The line with the usage of `run`, behind another.
 const RUN_USAGE: &[u8] = b"\nusage: mtpbank run [--sets N] [--links L] [--users U] [--messages M] \
@@ -39,18 +53,20 @@ pub enum RunOption {
     Seed,
 }
 
-/// What is said of these words, which the program doesn't take, at most two lines without the last LF; `None`: what the
-/// library says is all.
+/// What is said of these words, which the program doesn't take, without the last LF; `None`: what the library says is all.
 pub(crate) fn advise<S: AsStr>(alloc: Global, words: &[S]) -> Result<Option<Vec<u8>>, AllocError>
     ensures { IfOk result (λ said. option_map (λ text. text.items) said
         ≡ advice (map S.text words.now)) }
 {
     let [name, others @ ..] = words else {
-        return Ok(None);
+        return Ok(Some(say_missing(alloc)?));
     };
     let name = name.as_str().as_bytes();
     if is_word(name, b"run") {
         return advise_run(alloc, others);
+    }
+    if is_word(name, b"help") {
+        return Ok(None);
     }
     match find_input(name) {
         Some(Input::History) => advise_history(alloc, others),
@@ -60,8 +76,35 @@ pub(crate) fn advise<S: AsStr>(alloc: Global, words: &[S]) -> Result<Option<Vec<
         }
         Some(Input::Decode) => { advise_input(alloc, Input::Decode, skip_flag(b"--wide", others)) }
         Some(input) => advise_input(alloc, input, others),
-        None => Ok(None),
+        None => Ok(Some(say_command(alloc, name)?)),
     }
+}
+
+/// That there is no command, and which there are.
+fn say_missing(alloc: Global) -> Result<Vec<u8>, AllocError>
+    ensures { IfOk result (λ text. text.items ≡ missing_text) }
+{
+    let mut text = Vec::from_slice(alloc, b"mtpbank: a command is missing")?;
+    push_commands(&mut text)?;
+    Ok(text)
+}
+
+/// That the word is no command, and which there are.
+fn say_command(alloc: Global, word: &[u8]) -> Result<Vec<u8>, AllocError>
+    ensures { IfOk result (λ text. text.items ≡ command_text word.now) }
+{
+    let mut text = Vec::from_slice(alloc, b"mtpbank: ")?;
+    push_shown(&mut text, word)?;
+    text.extend_from_slice(b" isn't a command")?;
+    push_commands(&mut text)?;
+    Ok(text)
+}
+
+/// Adds the lines with the commands.
+fn push_commands(text: &mut Vec<u8>) -> Result<(), AllocError>
+    ensures { OnOk result (text.new.items ≡ text.old.items ++ commands) }
+{
+    text.extend_from_slice(COMMANDS)
 }
 
 /// The subcommand of this name that reads standard input.
@@ -94,8 +137,14 @@ fn title(input: Input) -> &'static [u8]
     ensures { result.now ≡ name_of input }
 {
     match input {
+        Input::Units => b"units",
+        Input::Play => b"play",
+        Input::Decode => b"decode",
+        Input::Capture => b"capture",
+        Input::Ladder => b"ladder",
+        Input::Audit => b"audit",
+        Input::Terminal => b"terminal",
         Input::History => b"history",
-        _ => usage(input),
     }
 }
 
@@ -104,14 +153,11 @@ fn usage(input: Input) -> &'static [u8]
     ensures { result.now ≡ usage_of input }
 {
     match input {
-        Input::Units => b"units",
-        Input::Play => b"play",
-        Input::Decode => b"decode",
-        Input::Capture => b"capture",
-        Input::Ladder => b"ladder",
-        Input::Audit => b"audit",
-        Input::Terminal => b"terminal",
+        Input::Play => b"play [--explain]",
+        Input::Decode => b"decode [--wide]",
+        Input::Terminal => b"terminal [--explain]",
         Input::History => b"history END",
+        _ => title(input),
     }
 }
 
@@ -145,9 +191,56 @@ fn advise_input<S: AsStr>(
         ≡ input_advice input (map S.text words.now)) }
 {
     match words {
+        [] => Ok(None),
         [first, ..] if is_thing(first.as_str().as_bytes()) => Ok(Some(say_input(alloc, input)?)),
-        _ => Ok(None),
+        [first, ..] => advise_unknown(alloc, input, first.as_str().as_bytes()),
     }
+}
+
+/// What is said of a word that begins with `-` and that the subcommand doesn't take.
+fn advise_unknown(alloc: Global, input: Input, word: &[u8]) -> Result<Option<Vec<u8>>, AllocError>
+    ensures { IfOk result (λ said. option_map (λ text. text.items) said ≡ unknown_advice input word.now) }
+{
+    if is_known_flag(word) {
+        return Ok(None);
+    }
+    Ok(Some(say_unknown(alloc, input, word)?))
+}
+
+/// Whether this is a flag of some subcommand, or what ends options.
+fn is_known_flag(word: &[u8]) -> bool
+    ensures { result ≡ is_known_flag word.now }
+{
+    is_word(word, b"--explain") || is_word(word, b"--wide") || is_word(word, b"--")
+}
+
+/// That the word is no option of this subcommand.
+fn say_unknown(alloc: Global, input: Input, word: &[u8]) -> Result<Vec<u8>, AllocError>
+    ensures { IfOk result (λ text. text.items ≡ unknown_text input word.now) }
+{
+    let mut text = begin_with_title(alloc, input)?;
+    push_shown(&mut text, word)?;
+    text.extend_from_slice(b" isn't an option\nusage: mtpbank ")?;
+    push_usage(&mut text, input)?;
+    Ok(text)
+}
+
+/// A text that begins with the subcommand's name.
+fn begin_with_title(alloc: Global, input: Input) -> Result<Vec<u8>, AllocError>
+    ensures { IfOk result (λ text. text.items ≡ title_text input) }
+{
+    let mut text = Vec::from_slice(alloc, b"mtpbank ")?;
+    text.extend_from_slice(title(input))?;
+    text.extend_from_slice(b": ")?;
+    Ok(text)
+}
+
+/// Adds how the words of this subcommand are written, and its input.
+fn push_usage(text: &mut Vec<u8>, input: Input) -> Result<(), AllocError>
+    ensures { OnOk result (text.new.items ≡ text.old.items ++ usage_text input) }
+{
+    text.extend_from_slice(usage(input))?;
+    text.extend_from_slice(b" < FILE")
 }
 
 /// That this subcommand reads standard input.
@@ -178,7 +271,10 @@ fn advise_history<S: AsStr>(alloc: Global, words: &[S]) -> Result<Option<Vec<u8>
 fn advise_end(alloc: Global, word: &[u8]) -> Result<Option<Vec<u8>>, AllocError>
     ensures { IfOk result (λ said. option_map (λ text. text.items) said ≡ end_text word.now) }
 {
-    if !is_thing(word) || is_word(word, b"a") || is_word(word, b"b") {
+    if !is_thing(word) {
+        return advise_unknown(alloc, Input::History, word);
+    }
+    if is_word(word, b"a") || is_word(word, b"b") {
         return Ok(None);
     }
     let mut text = Vec::from_slice(alloc, b"mtpbank history: ")?;
@@ -205,9 +301,6 @@ fn advise_run<S: AsStr>(alloc: Global, words: &[S]) -> Result<Option<Vec<u8>>, A
                     if let Some(said) = advise_word(alloc, word)? {
                         return Ok(Some(said));
                     }
-                    if !is_known(word) {
-                        return Ok(None);
-                    }
                 }
             },
         }
@@ -220,28 +313,32 @@ fn advise_run<S: AsStr>(alloc: Global, words: &[S]) -> Result<Option<Vec<u8>>, A
 fn advise_word(alloc: Global, word: &[u8]) -> Result<Option<Vec<u8>>, AllocError>
     ensures { IfOk result (λ said. option_map (λ text. text.items) said ≡ word_text word.now) }
 {
-    if is_thing(word) {
-        return Ok(Some(say_word(alloc, word)?));
-    }
     let Some(place) = find_equals(word) else {
-        return Ok(None);
+        return if is_flag(word) {
+            Ok(None)
+        } else {
+            Ok(Some(say_word(alloc, word)?))
+        };
     };
     match find_option(&word[..place]) {
-        Some(option) if !takes(option, &word[place + 1..]) => {
-            Ok(Some(say_value(alloc, option, &word[place + 1..])?))
-        }
-        _ => Ok(None),
+        Some(option) => advise_value(alloc, option, &word[place + 1..]),
+        None => Ok(Some(say_word(alloc, word)?)),
     }
 }
 
-/// Whether the word is a flag of `run`, or one of its options with the value behind it.
-fn is_known(word: &[u8]) -> bool
-    ensures { result ≡ is_known word.now }
+/// What is said of this value of an option.
+fn advise_value(
+    alloc: Global,
+    option: RunOption,
+    value: &[u8],
+) -> Result<Option<Vec<u8>>, AllocError>
+    ensures { IfOk result (λ said. option_map (λ text. text.items) said
+        ≡ (if fits option value.now then None else Some (value_text option value.now))) }
 {
-    match find_equals(word) {
-        Some(place) => find_option(&word[..place]).is_some(),
-        None => is_flag(word),
+    if takes(option, value) {
+        return Ok(None);
     }
+    Ok(Some(say_value(alloc, option, value)?))
 }
 
 /// Whether the word is a flag of `run`.

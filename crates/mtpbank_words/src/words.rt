@@ -62,7 +62,7 @@ pub enum WordsFault {
     Words(clap::Error),
     /// 3: the link that is to fail in a run isn't one of its links.
     Link,
-    /// 4: wrong words of which this is said, at most two lines without the last LF.
+    /// 4: wrong words of which this is said, without the last LF.
     Said(Vec<u8>),
 }
 
@@ -83,9 +83,9 @@ impl From<AllocError> for WordsFault {
 /// refuses the words, or where they name no subcommand of the program, no end behind `history`, or behind `run` a number
 /// out of its range or no method; 3 [`WordsFault::Link`] only where all these are right, but the link that is to fail
 /// isn't below the links. 4 [`WordsFault::Said`] as 2, of words of which more can be said than the library does
-/// (`specs/Advice.antt`): a word behind a subcommand that reads standard input, an end that is none, and behind `run` a
-/// value out of its range or a word that is no option. An error about a word or a value comes as 2 only where there is
-/// nothing more to say.
+/// (`specs/Advice.antt`): no subcommand, or none of the program's; a word behind a subcommand that reads standard input, an
+/// end that is none, and behind `run` a value out of its range or a word that is no option. An error about a word, a value
+/// or a subcommand comes as 2 only where there is nothing more to say.
 pub fn words_of<S: AsStr>(alloc: Global, words: &[S]) -> Result<Words, WordsFault>
     ensures asked { IfOk result (λ found. IsAsked found (map S.text words.now)) }
     ensures refused { IfErr result (λ fault. Refuses fault (map S.text words.now)) }
@@ -113,11 +113,17 @@ fn with_advice<S: AsStr>(alloc: Global, words: &[S], error: clap::Error) -> Word
     }
 }
 
-/// Whether an error of this kind is about a word that isn't taken, or a value.
+/// Whether an error of this kind is about a word that isn't taken, a value, or a command.
 fn is_about_a_word(kind: ErrorKind) -> bool
     ensures { IsTrue result ↔ IsAboutWord kind }
 {
-    matches!(kind, ErrorKind::UnknownArgument | ErrorKind::InvalidValue)
+    matches!(
+        kind,
+        ErrorKind::UnknownArgument
+            | ErrorKind::InvalidValue
+            | ErrorKind::InvalidSubcommand
+            | ErrorKind::MissingSubcommand
+    )
 }
 
 /// What these arguments ask for: the first is the program's own name, as the system hands it, and the words are all

@@ -252,10 +252,10 @@ fn a_wrong_value_is_told_with_its_range(rt: HostRuntime) -> Result<(), Fail> {
 #[test]
 fn a_file_is_read_from_standard_input(rt: HostRuntime) -> Result<(), Fail> {
     let alloc = rt.alloc();
-    let play = "mtpbank play: reads standard input: mtpbank play < FILE";
+    let play = "mtpbank play: reads standard input: mtpbank play [--explain] < FILE";
     let units = "mtpbank units: reads standard input: mtpbank units < FILE";
-    let decode = "mtpbank decode: reads standard input: mtpbank decode < FILE";
-    let terminal = "mtpbank terminal: reads standard input: mtpbank terminal < FILE";
+    let decode = "mtpbank decode: reads standard input: mtpbank decode [--wide] < FILE";
+    let terminal = "mtpbank terminal: reads standard input: mtpbank terminal [--explain] < FILE";
     let history = "mtpbank history: reads standard input: mtpbank history END < FILE";
     let end = "mtpbank history: c isn't an end, a or b\nusage: mtpbank history END < FILE";
     holds(
@@ -267,6 +267,39 @@ fn a_file_is_read_from_standard_input(rt: HostRuntime) -> Result<(), Fail> {
             && ask_for(alloc, &["terminal", "--explain", "a.terminal"], terminal)
             && ask_for(alloc, &["history", "a", "a.play"], history)
             && ask_for(alloc, &["history", "c"], end),
+    )
+}
+
+/// No command, one that is none, and an option that is none, are told with what there is in their place.
+#[test]
+fn what_is_no_command_or_option(rt: HostRuntime) -> Result<(), Fail> {
+    let alloc = rt.alloc();
+    let wide = "mtpbank play: --trace isn't an option\nusage: mtpbank play [--explain] < FILE";
+    let end = "mtpbank history: -c isn't an option\nusage: mtpbank history END < FILE";
+    holds(
+        lists_commands(alloc, &[], "mtpbank: a command is missing\n")?
+            && lists_commands(alloc, &["replay"], "mtpbank: replay isn't a command\n")?
+            && lists_commands(alloc, &["--play"], "mtpbank: --play isn't a command\n")?
+            && ask_for(alloc, &["play", "--trace"], wide)
+            && ask_for(alloc, &["history", "-c"], end)
+            && says_of_run(
+                alloc,
+                "--sets=1",
+                "--loud",
+                "mtpbank run: --loud isn't an option",
+            )?,
+    )
+}
+
+/// This is said of these words, and a line for each command behind it.
+fn lists_commands(alloc: Global, words: &[&str], said: &str) -> Result<bool, AllocError> {
+    let told = told_of(alloc, words)?;
+    Ok(
+        told.starts_with(said)
+            && told.contains("\n  units ")
+            && told.contains("\n  terminal ")
+            && told.contains("\n  run ")
+            && told.lines().count() == 12,
     )
 }
 
