@@ -9,7 +9,7 @@
 //! ```
 //!
 //! Nothing paces threads, so that a terminal could spend all its turns before the one at the other end has begun. The
-//! gate of these banks does ([`PaceGate`]): the end of a link that is 64 turns ahead of the other yields to it, a while.
+//! gate of these banks does ([`PaceGate`]): the end of a link that is 64 turns ahead of the other waits for it.
 #![tactic(auto)]
 
 mod asked;

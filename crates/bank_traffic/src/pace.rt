@@ -14,8 +14,8 @@ const LEAD: u64 = 64;
 /// what passes on the others.
 const SET_LEAD: u64 = 1_024;
 
-/// How often a terminal yields to other threads before it goes on alone.
-const PATIENCE: u32 = 1_000_000;
+/// How often a terminal yields to other threads before it goes on without one that hasn't begun.
+const PATIENCE: u64 = 16_000_000;
 
 /// The turns of one link's terminals.
 #[derive(Drop)]
@@ -24,27 +24,59 @@ struct LinkTurns {
     near: AtomicU64,
     /// How many turns the terminal at end b has begun.
     far: AtomicU64,
-    /// Whether an end waited in vain, so that neither waits any more.
+    /// Whether an end waited in vain for the other to begin, so that nobody waits for it until it does.
     apart: AtomicBool,
     /// Whether a terminal takes no more turns.
     ended: AtomicBool,
 }
 
 impl LinkTurns {
-    /// How many turns both its terminals have begun, where both take turns yet and wait for others.
+    /// Whether nobody waits for its terminals.
+    fn is_left(&self) -> bool {
+        self.ended.load(Ordering::SeqCst) || self.apart.load(Ordering::SeqCst)
+    }
+
+    /// How many turns both its terminals have begun, where somebody waits for them.
     fn least(&self) -> u64 {
-        if self.ended.load(Ordering::SeqCst) || self.apart.load(Ordering::SeqCst) {
+        if self.is_left() {
             return u64::MAX;
         }
+        self.least_begun()
+    }
+
+    /// How many turns both its terminals have begun; 0 where one hasn't begun.
+    fn least_begun(&self) -> u64 {
         let near = self.near.load(Ordering::SeqCst);
         near.min(self.far.load(Ordering::SeqCst))
+    }
+
+    /// One turn more begins at this end: what it was.
+    fn begin(&self, is_near: bool) -> u64 {
+        let own = if is_near { &self.near } else { &self.far };
+        let begun = own.fetch_add(1, Ordering::SeqCst);
+        if begun == 0 {
+            // who comes late is waited for from here on
+            self.apart.store(false, Ordering::SeqCst);
+        }
+        begun
+    }
+
+    /// How many turns the other end has begun.
+    fn begun_by_other(&self, is_near: bool) -> u64 {
+        let other = if is_near { &self.far } else { &self.near };
+        other.load(Ordering::SeqCst)
+    }
+
+    /// Nobody waits for it, until it begins.
+    fn part(&self) {
+        self.apart.store(true, Ordering::SeqCst);
     }
 }
 
 /// The gate of one of two banks: a terminal that is 64 turns ahead of the one at the other end of its link yields to
-/// other threads until that is no longer so. It yields at most 1,000,000 times, for the other end may have ended by a
-/// fault, or may never have begun; then the link's ends wait for each other no more. Where links are managed, a terminal that is
-/// 1,024 turns ahead of the last one of its set yields too.
+/// other threads until that is no longer so, however long that takes, or until the other takes no more turns. Where links
+/// are managed, a terminal that is 1,024 turns ahead of the last one of its set yields too. Whoever hasn't begun may never
+/// do so, where its thread couldn't be started: after 16,000,000 yields nobody waits for it, until it begins.
 #[derive(Drop)]
 pub struct PaceGate {
     /// Those of link 0 of set 0, of link 1 of set 0, .., of link 0 of set 1, ..
@@ -148,18 +180,43 @@ impl PaceGate {
         least
     }
 
-    /// A turn of this link, which has begun so many, goes on once the set's last terminal isn't too far behind.
-    fn keep_to_set(&self, set: u16, turns: &LinkTurns, begun: u64) {
-        for _time in 0..PATIENCE {
+    /// A turn of a link of this set, which has begun so many, goes on once the set's last terminal isn't too far behind.
+    fn keep_to_set(&self, set: u16, begun: u64) {
+        for time in 0..u64::MAX {
             if begun < self.least_of(set).saturating_add(SET_LEAD) {
                 return;
             }
-            if turns.apart.load(Ordering::SeqCst) {
-                return;
+            if time >= PATIENCE {
+                self.part_from_unbegun(set);
             }
             thread::yield_now();
         }
-        turns.apart.store(true, Ordering::SeqCst);
+    }
+
+    /// Nobody waits for the links of this set of which an end hasn't begun.
+    fn part_from_unbegun(&self, set: u16) {
+        for link in 0..self.links {
+            if let Some(turns) = self.turns_of(set, link) {
+                if turns.least_begun() == 0 {
+                    turns.part();
+                }
+            }
+        }
+    }
+
+    /// A turn of this link begins, and goes on once the other end isn't too far behind.
+    fn keep_pace(&self, turns: &LinkTurns) {
+        let begun = turns.begin(self.is_near);
+        for time in 0..u64::MAX {
+            let other = turns.begun_by_other(self.is_near);
+            if begun < other.saturating_add(LEAD) || turns.is_left() {
+                return;
+            }
+            if other == 0 && time >= PATIENCE {
+                turns.part();
+            }
+            thread::yield_now();
+        }
     }
 
     fn turns_of(&self, set: u16, link: u8) -> Option<&LinkTurns> {
@@ -187,13 +244,9 @@ impl Gate for PaceGate {
         let Some(turns) = self.turns_of(set, link) else {
             return;
         };
-        if self.is_near {
-            keep_pace(&turns.near, &turns.far, &turns.apart);
-        } else {
-            keep_pace(&turns.far, &turns.near, &turns.apart);
-        }
-        if self.management.is_some() {
-            self.keep_to_set(set, turns, self.turn(set, link));
+        self.keep_pace(turns);
+        if self.management.is_some() && !turns.is_left() {
+            self.keep_to_set(set, self.turn(set, link));
         }
     }
 
@@ -206,19 +259,4 @@ impl Gate for PaceGate {
             }
         }
     }
-}
-
-/// One turn more begins, once the other end isn't too far behind.
-fn keep_pace(own: &AtomicU64, other: &AtomicU64, apart: &AtomicBool) {
-    let begun = own.fetch_add(1, Ordering::SeqCst);
-    for _time in 0..PATIENCE {
-        if begun < other.load(Ordering::SeqCst).saturating_add(LEAD) {
-            return;
-        }
-        if apart.load(Ordering::SeqCst) {
-            return;
-        }
-        thread::yield_now();
-    }
-    apart.store(true, Ordering::SeqCst);
 }
