@@ -95,7 +95,7 @@ abbrev pub EndsRefused : WordsFault → ℕ → Type 0
 EndsRefused NoMemory status = status ≡ 1
 EndsRefused (WrongWords error) status =
     EndsWrong (kind_of error) status × (IsShown (kind_of error) → IsDone status)
-EndsRefused Link status = status ≡ 2
+EndsRefused (Link fail links) status = status ≡ 2
 EndsRefused (Said said) status = status ≡ 2
 
 -- what is wrong with words is told in lines, unless that device fails

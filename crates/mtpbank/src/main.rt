@@ -22,7 +22,7 @@ mod running;
 mod telling;
 
 use ending::{Ended, Page, carry_out, carry_out_run};
-use mtpbank_words::{RunWords, Words, WordsFault, asked_by, not_unicode};
+use mtpbank_words::{RunWords, Words, WordsFault, asked_by, not_unicode, say_linkless};
 use std::alloc::Global;
 use std::env::Args;
 use std::fmt::Display;
@@ -66,7 +66,7 @@ fn answered<
         Ok(Words::Run(words)) => ran(rt, threads, &words, sink),
         Ok(words) => done(rt, words, source, sink),
         Err(WordsFault::Words(error)) => said(rt, &error),
-        Err(WordsFault::Link) => linkless(rt),
+        Err(WordsFault::Link { fail, links }) => linkless(rt, fail, links),
         Err(WordsFault::Said(text)) => advised(&mut Writer::new(rt.stderr()), &text),
         Err(WordsFault::NoMemory) => told(rt, "fault memory"),
     }
@@ -151,13 +151,14 @@ fn status_of(error: &clap::Error) -> ExitCode
     ExitCode::from(error.exit_code() as u8)
 }
 
-/// Tells on standard error, with status 2, that the link that is to fail isn't one of the links.
-fn linkless(rt: &HostRuntime) -> ExitCode
+/// Tells on standard error, with status 2, that the link that is to fail isn't one of so many.
+fn linkless(rt: &HostRuntime, fail: u8, links: u8) -> ExitCode
     ensures { exit_status result ≡ 2 }
 {
-    // where nobody hears it, the status still tells it
-    let _ = rt.eprintln("fault link");
-    ExitCode::from(WRONG)
+    match say_linkless(rt.alloc(), fail, links) {
+        Ok(text) => advised(&mut Writer::new(rt.stderr()), &text),
+        Err(_) => advised(&mut Writer::new(rt.stderr()), b"fault link"),
+    }
 }
 
 /// Does what the words ask for, with this input and output.

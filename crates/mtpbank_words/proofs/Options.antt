@@ -5,8 +5,8 @@ use Rattle.std.proofs.lemmas.List.{append_assoc}
 use Rattle.clap.specs.Words.{Shape, Row, Rule}
 use Rattle.mtpbank_words.specs.declared.run_words.RunWords.{RunWords}
 use Rattle.mtpbank_words.specs.declared.run_words.Unasked.{Unasked}
-use Rattle.mtpbank_words.specs.declared.run_words.Unasked.TheVariants.{Link}
-use Rattle.mtpbank_words.specs.RunOptions.{AreValues, IsRun, IsUnasked, LacksLink, goes_alone, with_rules}
+use Rattle.mtpbank_words.specs.declared.run_words.Unasked.TheVariants.{Link, Value}
+use Rattle.mtpbank_words.specs.RunOptions.{AreValues, IsRun, IsUnasked, IsWithout, goes_alone, with_rules}
 
 -- one option more, behind these of a command
 pub one_more : (old new base : Shape) (rules : List Rule) (rule its : Rule) → old ≡ with_rules base rules
@@ -15,23 +15,17 @@ one_more old new base rules rule its before added same =
     added ∙ (ap₂ (λ (s : Shape) (r : Rule). with_rules s (r ∷ [])) before same
     ∙ ap (λ (all : List Rule). record base { rules = all }) (append_assoc base.rules rules (its ∷ [])))
 
-lacks : (run : RunWords) (rows : List Row) (fail : Option ℕ) → run.fail ≡ fail → AreValues run rows
-    → IfSome fail (λ (link : ℕ). run.links ≤ link) → fail ≢ None → LacksLink rows
-lacks run rows None is values past some = absurd (some refl)
-lacks run rows (Some link) is values past some = (run, link, values, is, past)
+without : (run : RunWords) (rows : List Row) (why : Unasked) → AreValues run rows → IsWithout run why → IsUnasked why rows
+without run rows (Value said) values is = absurd is
+without run rows (Link fail links) values is = (run, values, is)
 
 -- the link that is to fail is one of the links, or it's told that it isn't
 pub looked_at : (run : RunWords) (rows : List Row) (result : Result RunWords Unasked) → AreValues run rows
     → MatchResult result (λ (same : RunWords). (same ≡ run) × IfSome run.fail (λ (link : ℕ). link < run.links))
-    (λ (why : Unasked). (why ≡ Link) × IfSome run.fail (λ (link : ℕ). run.links ≤ link) × (run.fail ≢ None))
+    (IsWithout run)
     → MatchResult result (λ (it : RunWords). IsRun it rows) (λ (why : Unasked). IsUnasked why rows)
 looked_at run rows (Ok same) values is = rw is.0 (record { values = values; link = is.1 })
-looked_at run rows (Err why) values is = rw is.0 (lacks run rows run.fail refl values is.1 is.2)
-
--- more is asked for than a capture, which none can be
-pub not_alone : (a b c x y z : Bool) → a ≡ x → b ≡ y → c ≡ z → goes_alone a b c ≡ true → goes_alone x y z ≡ false → ⊥
-not_alone a b c x y z p q r alone more =
-    cc (sym alone ∙ ap (λ (t : Bool). goes_alone t b c) p ∙ ap (λ (t : Bool). goes_alone x t c) q ∙ ap (λ (t : Bool). goes_alone x y t) r ∙ more)
+looked_at run rows (Err why) values is = without run rows why values is
 
 -- two truths of one fact
 pub same_truth : (a b : Bool) (P : Type 0) → IsTrue a ↔ P → IsTrue b ↔ P → a ≡ b

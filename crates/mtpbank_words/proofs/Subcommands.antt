@@ -60,13 +60,13 @@ module _ (name : Text) (rows : List Row) (is_run : name ≡ codes "run") where
   no_word HistoryOfB none is = let bad : 104 ≡ 114 = letter HistoryOfB name _ is_run is.0 in omega (arith, bad)
   no_word (Run run) none is = none run is.1
 
-  in_range : ((run : RunWords) → AreValues run rows → ⊥) → LacksLink rows → ⊥
-  in_range no_values (run, link, values, is, past) = no_values run values
+  in_range : (fail links : ℕ) → ((run : RunWords) → AreValues run rows → ⊥) → LacksLink fail links rows → ⊥
+  in_range fail links no_values (run, values, is) = no_values run values
 
   -- options that ask for no run
   pub no_run : (why : Unasked) → IsUnasked why rows → IsNotFound why (Some (name, rows))
   no_run (Value said) no_values = record {
     none = λ asked is. no_word asked (λ run it. no_values run it.values) is;
-    no_link = λ linkless. in_range no_values linkless.1;
+    no_link = λ fail links linkless. in_range fail links no_values linkless.1;
   }
-  no_run Link lacks = (is_run, lacks)
+  no_run (Link fail links) lacks = (is_run, lacks)

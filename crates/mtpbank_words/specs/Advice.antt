@@ -1,5 +1,5 @@
 -- WHAT IS SAID of words that the program doesn't take, where more can be said than the library does.
-use Rattle.std.specs.Prelude.{ℕ, Bool, true, false, ◌==◌, ◌&&◌, ◌+◌, not, nat_lt, nat_le, List, [], ◌∷◌, ◌++◌, map, take, drop, position, Option, None, Some, codes, if◌then◌else◌}
+use Rattle.std.specs.Prelude.{ℕ, Bool, true, false, ◌==◌, ◌&&◌, ◌+◌, decimal, not, nat_lt, nat_le, List, [], ◌∷◌, ◌++◌, map, take, drop, position, Option, None, Some, codes, if◌then◌else◌}
 use Rattle.std.specs.Option.{option_or}
 use Rattle.std.specs.Str.{bytes_eq}
 use Rattle.text_base.specs.Figures.{number_of}
@@ -162,7 +162,7 @@ fits Seed value = is_number_in 0 4294967295 value
 
 abbrev pub run_usage : List ℕ
 run_usage =
-    codes "\nusage: mtpbank run [--sets N] [--links L] [--users U] [--messages M] [--fail K] [--method WORD] [--turns T] [--checkpoint C] [--noise N] [--seed S] [--per-link] [--report] [--capture]"
+    codes "\nusage: mtpbank run [--report] [--fail K] [--noise N] [--seed S] [--sets N] [--links L] [--users U] [--messages M] [--method WORD] [--turns T] [--checkpoint C] [--capture]"
 
 abbrev pub value_text : RunOption → List ℕ → List ℕ
 value_text option value =
@@ -185,8 +185,7 @@ value_behind (Some option) word value =
 
 abbrev pub is_flag : List ℕ → Bool
 is_flag word =
-    if bytes_eq word (codes "--per-link") then true
-    else (if bytes_eq word (codes "--report") then true else bytes_eq word (codes "--capture"))
+    if bytes_eq word (codes "--report") then true else bytes_eq word (codes "--capture")
 
 abbrev pub joined_text : Option ℕ → List ℕ → Option (List ℕ)
 joined_text None word = if is_flag word then None else Some (option_text word)
@@ -213,6 +212,12 @@ run_advice (Some option) (value ∷ words) =
     if fits option value then run_advice None words else Some (value_text option value)
 run_advice None (word ∷ words) =
     option_or (said_of (option_of word) word) (run_advice (option_of word) words)
+
+-- a link that is to fail, where there are fewer: the line of the fault, which links there are, and the usage
+abbrev pub linkless_text : ℕ → ℕ → List ℕ
+linkless_text fail links =
+    (codes "fault link\nmtpbank run: --fail " ++ (decimal fail
+    ++ (codes " isn't a link: they count from 0, and --links is " ++ decimal links))) ++ run_usage
 
 -- THE COMMANDS, with a word on each: where none is there, or one that is none.
 abbrev pub commands : List ℕ

@@ -127,19 +127,19 @@ IsFound asked (Some found) =
     IsWord asked found.0 (first_of (codes "END") found.1) × HasOptions asked found.1
 
 -- a run, but for the link that is to fail, which isn't below the links
-abbrev pub IsLinkless : Option (Text × List Row) → Type 0
-IsLinkless None = ⊥
-IsLinkless (Some found) = (found.0 ≡ codes "run") × LacksLink found.1
+abbrev pub IsLinkless : ℕ → ℕ → Option (Text × List Row) → Type 0
+IsLinkless fail links None = ⊥
+IsLinkless fail links (Some found) = (found.0 ≡ codes "run") × LacksLink fail links found.1
 
 -- it asks for nothing, nor for a run but for its link
 pub record AsksForNothing (found : Option (Text × List Row)) : Type 0 where
   pub none : (asked : Words) → IsFound asked found → ⊥
-  pub no_link : IsLinkless found → ⊥
+  pub no_link : (fail links : ℕ) → IsLinkless fail links found → ⊥
 
 -- why what the library finds asks for nothing
 abbrev pub IsNotFound : Unasked → Option (Text × List Row) → Type 0
 IsNotFound (Value said) found = AsksForNothing found
-IsNotFound NoLink found = IsLinkless found
+IsNotFound (NoLink fail links) found = IsLinkless fail links found
 
 abbrev pub IsAsked : Words → List (List ℕ) → Type 0
 IsAsked asked words = IsFound asked (subcommand_of program words)
@@ -153,20 +153,20 @@ IsRefused words = takes program words ≡ true → AsksForNothing (subcommand_of
 abbrev pub Refuses : WordsFault → List (List ℕ) → Type 0
 Refuses NoMemory words = Unit {0}
 Refuses (WrongWords error) words = IsRefused words
-Refuses Link words = IsLinkless (subcommand_of program words)
+Refuses (Link fail links) words = IsLinkless fail links (subcommand_of program words)
 Refuses (Said said) words = IsRefused words × (advice words ≡ Some said.items)
 
 abbrev pub AreWrong : WordsFault → Type 0
 AreWrong NoMemory = ⊥
 AreWrong (WrongWords error) = Unit {0}
-AreWrong Link = ⊥
+AreWrong (Link fail links) = ⊥
 AreWrong (Said said) = ⊥
 
 -- the library tells the wrong words as this kind of error
 abbrev pub IsKind : ErrorKind → WordsFault → Type 0
 IsKind kind NoMemory = Unit {0}
 IsKind kind (WrongWords error) = kind_of error ≡ kind
-IsKind kind Link = ⊥
+IsKind kind (Link fail links) = ⊥
 IsKind kind (Said said) = ⊥
 
 -- an error about a word that isn't taken, about a value, or about a command, which is none or isn't there
@@ -179,5 +179,5 @@ IsAboutWord kind =
 abbrev pub SaysAll : WordsFault → List (List ℕ) → Type 0
 SaysAll NoMemory words = Unit {0}
 SaysAll (WrongWords error) words = IsAboutWord (kind_of error) → advice words ≡ None
-SaysAll Link words = Unit {0}
+SaysAll (Link fail links) words = Unit {0}
 SaysAll (Said said) words = advice words ≡ Some said.items

@@ -1,5 +1,5 @@
 -- THE OPTIONS of `run`: how the library reads them, and which values they have.
-use Rattle.std.specs.Prelude.{◌≡◌, ◌<◌, ◌≤◌, ◌↔◌, ℕ, Bool, true, false, List, [], ◌∷◌, ◌++◌, codes, Option, None, Some, IfSome, IsTrue, not, ◌&&◌, ◌||◌}
+use Rattle.std.specs.Prelude.{◌≡◌, ◌<◌, ◌≤◌, ◌↔◌, ℕ, Bool, true, false, List, [], ◌∷◌, ◌++◌, codes, Option, None, Some, IfSome, IsTrue, not, ◌&&◌}
 use Rattle.clap.specs.Words.{Shape, Row, Rule, Text, first_of, new_rule}
 use Rattle.clap.specs.Simple.{new_shape}
 use Rattle.clap.specs.declared.builder.action.ArgAction.TheVariants.{SetTrue}
@@ -24,20 +24,20 @@ size_rules =
 -- how it runs
 abbrev pub way_rules : List Rule
 way_rules =
-    option_rule (codes "fail") ∷ option_rule (codes "method") ∷ option_rule (codes "turns")
-    ∷ option_rule (codes "checkpoint") ∷ []
+    option_rule (codes "method") ∷ option_rule (codes "turns") ∷ option_rule (codes "checkpoint")
+    ∷ flag_rule (codes "capture") ∷ []
 
--- what its lines do, and what is printed
+-- a report, and what befalls its links
 abbrev pub line_rules : List Rule
 line_rules =
-    flag_rule (codes "per-link") ∷ flag_rule (codes "report") ∷ flag_rule (codes "capture")
+    flag_rule (codes "report") ∷ option_rule (codes "fail")
     ∷ option_rule (codes "noise") ∷ option_rule (codes "seed") ∷ []
 
 abbrev pub with_rules : Shape → List Rule → Shape
 with_rules shape rules = record shape { rules = shape.rules ++ rules }
 
 abbrev pub run_shape : Shape
-run_shape = with_rules (with_rules (with_rules (new_shape (codes "run")) size_rules) way_rules) line_rules
+run_shape = with_rules (with_rules (with_rules (new_shape (codes "run")) line_rules) size_rules) way_rules
 
 -- a decimal number in this range, without leading zeros
 abbrev pub IsWithin : ℕ → ℕ → ℕ → List ℕ → Type 0
@@ -68,8 +68,8 @@ usual_turns true = 1000000
 usual_turns false = 20000
 
 -- a capture is printed in place of all lines
-abbrev pub goes_alone : Bool → Bool → Bool → Bool
-goes_alone capture report per_link = not (capture && (report || per_link))
+abbrev pub goes_alone : Bool → Bool → Bool
+goes_alone capture report = not (capture && report)
 
 -- each number in its range, as the options tell it
 pub record AreValues (run : RunWords) (rows : List Row) : Type 0 where
@@ -81,10 +81,9 @@ pub record AreValues (run : RunWords) (rows : List Row) : Type 0 where
   pub method : IsMethod run.cyclic (first_of (codes "method") rows)
   pub turns : IsNumber 1 1000000 (usual_turns run.report) run.turns (first_of (codes "turns") rows)
   pub checkpoint : IsOptional 1 1024 run.checkpoint (first_of (codes "checkpoint") rows)
-  pub per_link : IsTrue run.per_link ↔ (first_of (codes "per-link") rows ≡ Some (codes "true"))
   pub report : IsTrue run.report ↔ (first_of (codes "report") rows ≡ Some (codes "true"))
   pub capture : IsTrue run.capture ↔ (first_of (codes "capture") rows ≡ Some (codes "true"))
-  pub alone : goes_alone run.capture run.report run.per_link ≡ true
+  pub alone : goes_alone run.capture run.report ≡ true
   pub noise : IsOptional 1 10000000 run.noise (first_of (codes "noise") rows)
   pub seed : IsNumber 0 4294967295 1 run.seed (first_of (codes "seed") rows)
 
@@ -93,12 +92,16 @@ pub record IsRun (run : RunWords) (rows : List Row) : Type 0 where
   pub values : AreValues run rows
   pub link : IfSome run.fail (λ (link : ℕ). link < run.links)
 
+-- the link that is to fail in this run isn't below its links
+abbrev pub IsWithout : RunWords → Unasked → Type 0
+IsWithout run (Value said) = ⊥
+IsWithout run (Link fail links) = (run.fail ≡ Some fail) × (run.links ≡ links) × (links ≤ fail)
+
 -- each number is in its range, but the link that is to fail isn't below the links
-abbrev pub LacksLink : List Row → Type 0
-LacksLink rows =
-    (run : RunWords) × (link : ℕ) × AreValues run rows × (run.fail ≡ Some link) × (run.links ≤ link)
+abbrev pub LacksLink : ℕ → ℕ → List Row → Type 0
+LacksLink fail links rows = (run : RunWords) × AreValues run rows × IsWithout run (Link fail links)
 
 -- why these options ask for no run
 abbrev pub IsUnasked : Unasked → List Row → Type 0
 IsUnasked (Value said) rows = (run : RunWords) → AreValues run rows → ⊥
-IsUnasked Link rows = LacksLink rows
+IsUnasked (Link fail links) rows = LacksLink fail links rows

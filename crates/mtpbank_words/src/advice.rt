@@ -1,7 +1,7 @@
 //! What is said of words that the program doesn't take, where more can be said than the library does.
 ghost use Rattle.std.specs.Prelude.{◌≡◌, ◌++◌, ◌<◌, IfOk, None, OnOk, Some, if◌then◌else◌, length, map, position};
 ghost use Rattle.std.specs.Option.{ForSome, option_map};
-ghost use Rattle.mtpbank_words.specs.Advice.{advice, command_text, commands, end_text, fits, history_advice, input_advice, input_of, input_text, is_equals, is_flag, is_known_flag, is_number_in, is_operand, missing_text, name_of, option_name, option_of, option_text, plain, range_text, run_advice, run_usage, title_text, unknown_advice, unknown_text, usage_of, usage_text, value_text, without_flag, word_text};
+ghost use Rattle.mtpbank_words.specs.Advice.{advice, command_text, commands, end_text, fits, history_advice, input_advice, input_of, input_text, is_equals, is_flag, is_known_flag, is_number_in, is_operand, linkless_text, missing_text, name_of, option_name, option_of, option_text, plain, range_text, run_advice, run_usage, title_text, unknown_advice, unknown_text, usage_of, usage_text, value_text, without_flag, word_text};
 
 use std::alloc::{AllocError, Global};
 use std::convert::AsStr;
@@ -22,8 +22,9 @@ usage: mtpbank COMMAND
 manuals: mtpbank --help, mtpbank COMMAND --help";
 
 /// The line with the usage of `run`, behind another.
-const RUN_USAGE: &[u8] = b"\nusage: mtpbank run [--sets N] [--links L] [--users U] [--messages M] \
-[--fail K] [--method WORD] [--turns T] [--checkpoint C] [--noise N] [--seed S] [--per-link] [--report] [--capture]";
+const RUN_USAGE: &[u8] =
+    b"\nusage: mtpbank run [--report] [--fail K] [--noise N] [--seed S] [--sets N] \
+[--links L] [--users U] [--messages M] [--method WORD] [--turns T] [--checkpoint C] [--capture]";
 
 /// A subcommand that reads standard input.
 #[derive(Clone, Copy, Debug, PartialEq, Eq)]
@@ -345,7 +346,7 @@ fn advise_value(
 fn is_flag(word: &[u8]) -> bool
     ensures { result ≡ is_flag word.now }
 {
-    is_word(word, b"--per-link") || is_word(word, b"--report") || is_word(word, b"--capture")
+    is_word(word, b"--report") || is_word(word, b"--capture")
 }
 
 /// The place of the first `=`.
@@ -459,6 +460,18 @@ fn say_value(alloc: Global, option: RunOption, value: &[u8]) -> Result<Vec<u8>, 
     push_shown(&mut text, value)?;
     text.extend_from_slice(b" isn't ")?;
     text.extend_from_slice(range(option))?;
+    push_run_usage(&mut text)?;
+    Ok(text)
+}
+
+/// What is said where link `fail` is to fail of so many links, without the last LF.
+pub fn say_linkless(alloc: Global, fail: u8, links: u8) -> Result<Vec<u8>, AllocError>
+    ensures { IfOk result (λ text. text.items ≡ linkless_text fail links) }
+{
+    let told = format!(in alloc;
+        "fault link\nmtpbank run: --fail {fail} isn't a link: they count from 0, and --links is {links}"
+    )?;
+    let mut text = told.into_bytes();
     push_run_usage(&mut text)?;
     Ok(text)
 }

@@ -233,9 +233,9 @@ number of the script's line, what happens at end a, what is under way, and what 
                       own asked=0|1 resend=0|1 fault=F, where one isn't 0
   held+3 parked-1     so many messages more or fewer stand so at that end: held for a link that isn't settled, parked
                       where no link is up, back while their stream is on its way home, discarded for good
-Other words are the answers of `mtpbank play`. Two dots (..) stand where more doesn't fit. A fault ends the script: one
-line on standard error, with status 1; what was drawn before it stays. The faults are those of `mtpbank play`, whose
---explain says more:
+Other words are the answers of `mtpbank play`, with the reason behind a number, as in refused 9 (nothing to do). Two dots
+(..) stand where more doesn't fit. A fault ends the script: one line on standard error, with status 1; what was drawn
+before it stays. The faults are those of `mtpbank play`, whose --explain says more:
   fault line N text, fault line N step, fault exhausted
   fault read, fault long, fault write, fault memory";
 
@@ -268,112 +268,48 @@ A fault ends the input: one line on standard error, with status 1; what was prin
   fault read, fault write, fault memory              standard input, standard output or memory failed";
 
 pub(crate) const RUN_PAGE: &str = "\
-Two banks run: one has the ends a of all sets, the other the ends b. Users of
-ends a offer, those of ends b take. Printed is what was accepted, where it is,
-and that each history is legal. --report tells whether all came in order:
-  mtpbank run --report --links 4 --fail 1 --noise 100000
-`mtpbank run --help` says what each line tells, and each fault.";
+Two banks run, one with the ends a of all sets, the other with the ends b. Users
+of the ends a offer messages, and those of the ends b take them. See a link fail
+under traffic and come back, on damaged lines:
+  mtpbank run --report --fail 1 --noise 100000
+`mtpbank run --help` says what each line means, and lists each fault.";
 
 pub(crate) const RUN_HELP: &str = "\
-Each set has two ends, a and b, in banks of their own, and a thread for each
-user and each terminal. Standard input isn't read. Each user of end a offers
-its messages one after the other, and looks where each stands as soon as it was
-accepted; the user of end b asks for a message 1,000 times. Each link is a pair
-of rings between its two terminals, which take T turns each: an octet is sent
-and, if there is one, an octet is heard. A terminal that is 64 turns ahead of
-the other waits for it a while. Links come up by emergency proving. With --fail
-the terminal of that link at end a, in each set, is told to stop after half of
-its turns. With --checkpoint each user of end a takes a checkpoint of its set
-after each C of its messages that were accepted, and the user of end b after
-each C of its questions, each terminal after each 64 times C of its steps:
-finished messages leave the set then, which is as good as found, and its history
-begins anew, to be audited from there. When all threads have ended each set is
-closed and audited, and these lines are printed, the sets from 0:
-  set=I end=a accepted=X placed=Y legal=yes
-                    so many messages were accepted from users at end a of set
-                    I, so many stand in some place, and the history is one
-                    that such a set makes
-  set=I end=b ..    so too at end b, where users offer nothing
-  total accepted=X placed=Y legal=yes
-                    of all ends together
-With --per-link, behind those, for each link K of each set and both its ends:
-  set=I link=K end=a up=yes|no sent=S good=G bad=B cause=C delivered=D
-                    whether it ever came up there, the units that its terminal
-                    sent, the good and bad ones that it heard, the cause of
-                    its last failure, or 0, and how many messages that this end
-                    sent on it the other end accepted
-The causes: 1 too many damaged units, 2 abnormal BSNs, 3 abnormal FIBs, 4 the
-other end wasn't ready in time (T1), 5 it was busy too long (T6), 6 an
-acknowledgement stayed out too long (T7), 7 it told a status that ends the
-service, 8 alignment wasn't possible, 9 told to stop (--fail). By the cyclic
-method 127 unacknowledged messages force a cycle, or 8,000 octets of them.
-With --report links are managed. A user begins when each link of its set came up
-at both ends, or 80,000 turns went by, and has 64 messages on their way at most,
-beside as many as its set gave up; its stream has the user's number, whose home
-is the link of that number modulo L. A link that is out of service is started
-again 6,400 turns later (T17, Q.704 16.8), once its set has settled it, and each
-time that it came up its streams are asked back to it. Where the answer to a
-changeover stays out for 24,576 turns, or that to a changeback for 4,096 units
-that were sent or heard, it's waited for no more. A link of which the far end
-has left a life that this end hasn't joined is stopped. With --fail the link is
-told to stop 4 turns for each message of a user after they began. T, 1,000,000
-where it isn't told, is the most turns: terminals take no more once all is
-offered, nothing waits or is unacknowledged, and the link of --fail came back.
-The user of end b keeps what it takes. Behind the lines above, for each set,
-each end and each link:
-  set=I end=a offered=.. delivered=.. acknowledged=.. taken=.. waiting=..
-      unacked=.. diverted=.. discarded=.. retransmitted=..
-                    the messages of users there: those that were accepted, that
-                    the other end accepted, that are acknowledged, that users
-                    took and kept, that wait, that were sent and aren't
-                    acknowledged, that were sent on a link which isn't their
-                    home, that were given up, that were sent again on a link
-  set=I link=K end=a sent=.. sent_messages=.. sent_octets=.. again=..
-      heard=.. heard_messages=.. heard_octets=.. errors=.. ups=.. cause=..
-                    the units that its terminal sent, the messages among them
-                    with their octets (SIO and SIF), those that were sent again;
-                    the good units that it heard, the messages that were
-                    accepted of them with their octets; bad units, and sixteen
-                    octets each without a good one; how often the link came up,
-                    and its last failure: suerm, bsn, fib, t1, t6, t7, status,
-                    alignment, stop as the causes above, or none
-  run messages=M octets=O seconds=S messages_a_second=.. octets_a_second=..
-                    what was delivered in all, in the time that the threads took
-  all delivered in order
-                    the users of ends b took what those of ends a offered, each
-                    stream in order, and nothing else on it; or
-  missing set=I stream=U message=N
-                    message N of user U wasn't the next of its stream that was
-                    taken; the status is 1 then
-With --capture a pcap file of link type 139 is printed in place of all lines, as
-`mtpbank capture` writes it: each unit that was sent, before noise struck it,
-those of end a as sent and those of end b as received. The high octet of a link's
-number is its set's. An octet time is 125 microseconds, as at 64 kbit/s, and a
-unit's time is that of the octet in which its closing flag ended on its own line;
-units of one time stand end a first, then by sets and links. All octets that were
-sent are kept in memory until then.
-With --noise one of N octets that are put into each line is struck: each of its
-bits is inverted, or it's lost. Which one comes first, and what befalls each,
-goes by --seed, and is different on each line.
-Who gets on and when is the threads' affair, so what is sent on a link differs
-from run to run. With few turns messages are left unsent. A run of more than
-two seconds tells how far it is on standard error, where that is a terminal. A
-fault is one line on standard error, with status 1, and nothing is printed:
-  fault user set=I end=a user=U fault=F
-                    user U ended early: F is 1, memory was refused to it, 2, the
-                    history is full, or 3, a message that was accepted wasn't
-                    found
-  fault terminal set=I end=a link=K fault=F
-                    the terminal of link K ended early: F is 1, memory was
-                    refused to it, or 3, the history is full
-  fault memory      memory was refused elsewhere
-  fault thread      a thread couldn't be started
-  fault close       a set couldn't be closed
-  fault write       standard output failed; what was printed stays
-  fault missing set=I stream=U message=N
-                    behind the report, that tells so
-Where the link of --fail isn't one of the links it's `fault link`, with status
-2, as other wrong words have it.";
+`mtpbank run --report` runs one set of two links until all its messages are delivered; --fail 1 stops link 1 under
+traffic, and --noise 100000 damages its lines: of one in 100,000 octets a bit is inverted, or the octet is lost. A set
+has two ends, a and b, and a thread for each user and each terminal. A link is a pair of rings of octets between two
+terminals. In a turn a terminal sends an octet and hears one; it waits where it is 64 turns ahead of the far end. Each
+user of end a offers its messages, and finds each accepted one. Standard input isn't read.
+With --report links are managed:
+  start               a user begins when all links of its set are up, or after 80,000 turns, and has at most 64
+                      messages on their way; its number is its stream's, whose home is the link of that number modulo L
+  restart             a link out of service starts again after 6,400 turns (T17, Q.704 16.8), if its set has settled it;
+                      each link that comes up asks for its streams
+  no answer           an answer is awaited for 24,576 turns after a changeover, and for 4,096 units after a changeback
+  --fail              the link stops at end a, 4 turns for each message of a user after the users began
+  end                 all is offered, nothing waits or is unacknowledged, and the stopped link is up again; or T turns
+Without --report all end after T turns: the user of end b asks for a message 1,000 times, and --fail stops its link for
+good after half of the turns. At a checkpoint finished messages leave the set: each user takes one after C accepted
+messages or questions, each terminal after 64 times C steps. Then each set is closed and audited, and printed:
+  set=I end=a accepted=X placed=Y legal=yes          end a accepted X messages of its users; Y of them have a place; its
+                      history is legal. So too end=b, and `total` for all ends
+  set=I end=a offered=.. (--report)                  the messages that end a accepted, that the far end accepted and
+                      acknowledged, that users took; that wait or aren't acknowledged; that were sent on another link
+                      than their home, given up, sent again
+  set=I link=K end=a sent=.. (--report)              units sent, messages and their octets among them, messages sent
+                      again; so too good units heard; bad units, and sixteen octets each without a good one; how often
+                      the link came up; why it failed last: suerm, bsn, fib, t1, t6, t7, status, alignment or stop
+  run messages=M octets=O seconds=S ..               delivered in all, in this time
+  all delivered in order                             the users of ends b took all messages, each stream in order; or
+  missing, given-up or unfinished set=I stream=U message=N
+                      this message of user U wasn't taken in its order: it is lost; or its set gave messages up, since
+                      a link failed (cause=) and no answer came; or the turns ended before it arrived. The status is 1
+--capture writes what was sent as `mtpbank capture` does, an octet in 125 microseconds; a link's number is 256 I + K.
+Threads decide what is sent on a link, so runs differ. A fault is one line on standard error, with status 1:
+  fault user .. fault=F, fault terminal .. fault=F   F: 1 no memory, 2 (user) or 3 (terminal) the history is full, 3
+                      (user) a message isn't found
+  fault memory, fault thread, fault close, fault write
+A link of --fail that isn't below --links is `fault link`, with status 2.";
 
 pub(crate) const HELP: &str = "\
 All but run read standard input to its end, as in `mtpbank play < examples/changeover.play`. `mtpbank play --help` is
@@ -387,7 +323,7 @@ more with --explain of play and terminal), and what was printed before it stays:
   fault exhausted                                    the history of an end is full
   fault thread, fault close                          a thread couldn't be started, a set couldn't be closed
   fault user .., fault terminal ..                   this user or terminal of a run ended early
-  fault missing ..                                   a report's run didn't deliver this message in order
+  fault missing .., given-up .., unfinished ..       a run with --report didn't deliver this message
 A pipe behind standard output that nobody reads any more ends with status 1 too, and no line.
 The status is 0, or 1 after a fault, or 2 where the words of the command line are wrong (`fault link` too).";
 

@@ -13,5 +13,6 @@ mod run_options;
 mod run_words;
 mod words;
 
+pub use advice::say_linkless;
 pub use run_words::RunWords;
 pub use words::{Words, WordsFault, asked_by, not_unicode, words_of};

@@ -4,7 +4,7 @@ ghost use Rattle.std.specs.Option.{option_map};
 ghost use Rattle.clap.specs.Words.{app_of, first_of, found_of, rows_of, rule_of};
 ghost use Rattle.clap.specs.Simple.{new_shape, shape_of};
 ghost use Rattle.clap.specs.declared.builder.command.Command.{out-Command};
-ghost use Rattle.mtpbank_words.specs.RunOptions.{AreValues, IsMethod, IsNumber, IsOptional, IsRun, IsUnasked, IsWithin, flag_rule, goes_alone, line_rules, option_rule, run_shape, size_rules, usual_turns, way_rules, with_rules};
+ghost use Rattle.mtpbank_words.specs.RunOptions.{AreValues, IsMethod, IsNumber, IsOptional, IsRun, IsUnasked, IsWithin, IsWithout, flag_rule, goes_alone, line_rules, option_rule, run_shape, size_rules, usual_turns, way_rules, with_rules};
 
 use super::help::{RUN_HELP, RUN_PAGE};
 use super::run_words::{RunWords, Unasked};
@@ -27,11 +27,13 @@ pub(crate) fn run_of(found: &ArgMatches<'_>) -> Result<RunWords, Unasked>
 fn with_link(run: RunWords) -> Result<RunWords, Unasked>
     ensures { MatchResult result
         (λ same. (same ≡ run) × IfSome run.fail (λ link. link < run.links))
-        (λ why. (why ≡ Unasked.Link)
-        × IfSome run.fail (λ link. run.links ≤ link) × (run.fail ≢ None)) }
+        (λ why. IsWithout run why) }
 {
     match run.fail {
-        Some(link) if link >= run.links => Err(Unasked::Link),
+        Some(fail) if fail >= run.links => Err(Unasked::Link {
+            fail,
+            links: run.links,
+        }),
         _ => Ok(run),
     }
 }
@@ -72,10 +74,9 @@ fn values_of(found: &ArgMatches<'_>) -> Result<RunWords, &'static str>
     let Some(seed) = number_in(found, "seed", 0, 4_294_967_295, 1) else {
         return Err("--seed is a number from 0 to 4294967295");
     };
-    let per_link = is_set(value_of(found, "per-link"));
     let capture = is_set(value_of(found, "capture"));
-    if !goes_alone(capture, report, per_link) {
-        return Err("--capture goes without --report and --per-link");
+    if !goes_alone(capture, report) {
+        return Err("--capture goes without --report");
     }
     Ok(RunWords {
         sets: sets as u16,
@@ -86,7 +87,6 @@ fn values_of(found: &ArgMatches<'_>) -> Result<RunWords, &'static str>
         cyclic,
         turns: turns as u32,
         checkpoint,
-        per_link,
         report,
         capture,
         noise,
@@ -95,10 +95,10 @@ fn values_of(found: &ArgMatches<'_>) -> Result<RunWords, &'static str>
 }
 
 /// Whether a capture is asked for alone, if one is.
-fn goes_alone(capture: bool, report: bool, per_link: bool) -> bool
-    ensures { result ≡ goes_alone capture report per_link }
+fn goes_alone(capture: bool, report: bool) -> bool
+    ensures { result ≡ goes_alone capture report }
 {
-    !(capture && (report || per_link))
+    !(capture && report)
 }
 
 /// How many turns there are where no number is told: with a report, as many as there can be.
@@ -215,27 +215,51 @@ pub(crate) fn run_command<'a>(alloc: Global) -> Result<Command<'a>, AllocError>
     ensures shape { IfOk result (λ command. shape_of command ≡ run_shape) }
     ensures local { IfOk result (λ command. (out-Command command).has_globals ≡ false) }
 {
-    let sized = with_sizes(alloc, bare_command(alloc))?;
-    let timed = with_ways(alloc, sized)?;
-    with_lines(alloc, timed)
+    let reported = with_lines(alloc, bare_command(alloc))?;
+    let sized = with_sizes(alloc, reported)?;
+    with_ways(alloc, sized)
 }
 
-/// The command with the options that tell how it runs.
+/// The command with the options for a report and for what befalls its links.
+fn with_lines<'a>(alloc: Global, command: Command<'a>) -> Result<Command<'a>, AllocError>
+    requires local { (out-Command command).has_globals ≡ false }
+    ensures shape { IfOk result (λ more. shape_of more
+        ≡ with_rules (shape_of command.entry) line_rules) }
+    ensures local { IfOk result (λ more. (out-Command more).has_globals ≡ false) }
+{
+    let report = flag(
+        alloc,
+        "report",
+        "Runs until all messages are delivered, and reports",
+    );
+    let reported = with_option(command, report)?;
+    let link = option(alloc, "fail", "K", "Link that is stopped, from 0 [none]");
+    let failing = with_option(reported, link)?;
+    let noise = option(
+        alloc,
+        "noise",
+        "N",
+        "Damages one of N octets, 1 to 10000000 [none]",
+    );
+    let noisy = with_option(failing, noise)?;
+    let seed = option(
+        alloc,
+        "seed",
+        "S",
+        "Selects the damaged octets, 0 to 2^32-1 [1]",
+    );
+    with_option(noisy, seed)
+}
+
+/// The command with the options that tell how it runs, and that it's captured.
 fn with_ways<'a>(alloc: Global, command: Command<'a>) -> Result<Command<'a>, AllocError>
     requires local { (out-Command command).has_globals ≡ false }
     ensures shape { IfOk result (λ more. shape_of more
         ≡ with_rules (shape_of command.entry) way_rules) }
     ensures local { IfOk result (λ more. (out-Command more).has_globals ≡ false) }
 {
-    let link = option(
-        alloc,
-        "fail",
-        "K",
-        "Link that is told to stop, from 0 [none]",
-    );
-    let failing = with_option(command, link)?;
     let method = option(alloc, "method", "WORD", "basic or cyclic [basic]");
-    let by_method = with_option(failing, method)?;
+    let by_method = with_option(command, method)?;
     let turns = option(
         alloc,
         "turns",
@@ -249,40 +273,13 @@ fn with_ways<'a>(alloc: Global, command: Command<'a>) -> Result<Command<'a>, All
         "C",
         "Messages between checkpoints, 1 to 1024 [none]",
     );
-    with_option(timed, checkpoint)
-}
-
-/// The command with the options that tell what its lines do, and what is printed.
-fn with_lines<'a>(alloc: Global, command: Command<'a>) -> Result<Command<'a>, AllocError>
-    requires local { (out-Command command).has_globals ≡ false }
-    ensures shape { IfOk result (λ more. shape_of more
-        ≡ with_rules (shape_of command.entry) line_rules) }
-    ensures local { IfOk result (λ more. (out-Command more).has_globals ≡ false) }
-{
-    let lines = flag(alloc, "per-link", "A line for each link and end, too");
-    let by_link = with_option(command, lines)?;
-    let report = flag(alloc, "report", "Links managed, and what came of all, too");
-    let reported = with_option(by_link, report)?;
+    let pausing = with_option(timed, checkpoint)?;
     let capture = flag(
         alloc,
         "capture",
-        "A pcap of what was sent, in place of all lines",
+        "Writes the units that are sent as pcap, and no line",
     );
-    let captured = with_option(reported, capture)?;
-    let noise = option(
-        alloc,
-        "noise",
-        "N",
-        "One of N octets is struck, 1 to 10000000 [none]",
-    );
-    let noisy = with_option(captured, noise)?;
-    let seed = option(
-        alloc,
-        "seed",
-        "S",
-        "Which octets noise strikes, 0 to 2^32-1 [1]",
-    );
-    with_option(noisy, seed)
+    with_option(pausing, capture)
 }
 
 /// The word `run` without options.

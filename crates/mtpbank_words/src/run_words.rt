@@ -20,12 +20,9 @@ pub struct RunWords {
     pub turns: u32,
     /// After how many of its accepted messages a user takes a checkpoint of its set, 1 to 1,024, if it takes any.
     pub checkpoint: Option<u16>,
-    /// A line is printed for each link too.
-    pub per_link: bool,
     /// Links are managed, and what came of the traffic is reported.
     pub report: bool,
-    /// What is sent on each link is captured, and printed in place of all lines; neither lines of each link nor a report are
-    /// asked for then.
+    /// What is sent on each link is captured, and printed in place of all lines; no report is asked for then.
     pub capture: bool,
     /// One of so many octets that are put into a line is damaged or lost, if any is: 1 to 10,000,000.
     pub noise: Option<u32>,
@@ -43,6 +40,6 @@ pub struct RunWords {
 pub(crate) enum Unasked {
     /// A value isn't in its range; this says what is.
     Value(&'static str),
-    /// The link that is to fail isn't one of the links.
-    Link,
+    /// The link that is to fail isn't one of the links, of which there are so many.
+    Link { fail: u8, links: u8 },
 }

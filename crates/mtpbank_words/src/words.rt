@@ -60,8 +60,9 @@ pub enum WordsFault {
     NoMemory,
     /// 2: wrong words, or a question for help or the version.
     Words(clap::Error),
-    /// 3: the link that is to fail in a run isn't one of its links.
-    Link,
+    /// 3: the link that is to fail in a run isn't one of its links, of which there are so many; [`say_linkless`] has the
+    /// text.
+    Link { fail: u8, links: u8 },
     /// 4: wrong words of which this is said, without the last LF.
     Said(Vec<u8>),
 }
@@ -149,7 +150,7 @@ fn found_by<'a, S: AsStr>(command: &mut Command<'a>, words: &'a [S]) -> Result<W
         Ok(matches) => match named(&matches) {
             Ok(asked) => Ok(asked),
             Err(Unasked::Value(said)) => Err(nothing_asked(command, said)),
-            Err(Unasked::Link) => Err(WordsFault::Link),
+            Err(Unasked::Link { fail, links }) => Err(WordsFault::Link { fail, links }),
         },
         Err(error) => Err(fault_of(error)),
     }

@@ -8,7 +8,10 @@ use Rattle.std.proofs.lemmas.List.Elements.{filter-append}
 use Rattle.std.proofs.lemmas.Option.{slice_get_past}
 use Rattle.set_model.specs.Rows.{stream_of}
 use Rattle.bank_traffic.specs.Opening.{body_of, numbers_below}
-use Rattle.text_report.specs.Verdict.{AllCame, AllOfSet, Follows, Lacks, messages_below, of_stream}
+use Rattle.bank_crew.specs.declared.end.SetEnd.{SetEnd}
+use Rattle.text_report.specs.declared.verdict.Absence.{Absence}
+use Rattle.text_report.specs.declared.verdict.Missing.{Missing}
+use Rattle.text_report.specs.Verdict.{AllCame, AllOfSet, Follows, IsVerdict, Lacks, LacksFirst, TellsSet, messages_below, of_stream, taken_first}
 
 so_many : (n : ℕ) → length (numbers_below n) ≡ n
 so_many zero = refl
@@ -89,3 +92,13 @@ streams_on messages stream bodies all one s less = elim (cases_lt s stream) [
   | inl before ↦ all s before
   | inr past ↦ let same : stream ≡ s = omega (arith, past, less) in subst (λ n. AllCame messages n bodies) same one
 ]
+
+-- the first message that is missing is so whatever is told of why
+pub why_is_no_matter : (users messages set : ℕ) (ends : List SetEnd) (missing : Missing) (why : Absence) → IsVerdict users messages set ends (Some missing)
+    → IsVerdict users messages set ends (Some (record missing { why = why }))
+why_is_no_matter users messages set [] missing why is = absurd (cc is)
+why_is_no_matter users messages set (end ∷ ends) missing why (inl is) = inl (is.0, why_is_no_matter users messages (suc set) ends missing why is.1)
+why_is_no_matter users messages set (end ∷ ends) missing why (inr is) =
+    let same : is.0 ≡ missing = cc is.1 in
+    let told = subst (λ (m : Missing). TellsSet users messages set (taken_first end.users.items) (Some m)) same is.2 in
+    inr (record missing { why = why }, refl, (told.0, record { stream_of_set = told.1.stream_of_set; before = told.1.before; lacks = told.1.lacks }))

@@ -1,3 +1,5 @@
+pub mod Absences
+pub mod Causes
 pub mod Figures
 pub mod ReportText
 pub mod Verdict

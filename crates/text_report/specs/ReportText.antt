@@ -8,6 +8,8 @@ use Rattle.text_report.specs.declared.figures.Figure.{Figure}
 use Rattle.text_report.specs.declared.figures.LinkFigures.{LinkFigures}
 use Rattle.text_report.specs.declared.figures.SetFigures.{SetFigures}
 use Rattle.text_report.specs.declared.verdict.Missing.{Missing}
+use Rattle.text_report.specs.Absences.{absence_text}
+use Rattle.text_report.specs.Causes.{cause_name}
 use Rattle.text_report.specs.Figures.{capped, link_figures, set_figures, summed}
 
 -- AN END OF A SET
@@ -30,14 +32,7 @@ abbrev pub ends_text : ℕ → SetEnd → SetEnd → List ℕ
 ends_text set near far =
     end_text set (codes "a") (set_figures near far) ++ end_text set (codes "b") (set_figures far near)
 
--- AN END OF A LINK: the causes of failures by their names (Q.703 12)
-abbrev pub cause_name : ℕ → List ℕ
-cause_name cause =
-    if cause == 1 then codes "suerm" else (if cause == 2 then codes "bsn" else (if cause == 3 then codes "fib" else
-    (if cause == 4 then codes "t1" else (if cause == 5 then codes "t6" else (if cause == 6 then codes "t7" else
-    (if cause == 7 then codes "status" else (if cause == 8 then codes "alignment" else
-    (if cause == 9 then codes "stop" else codes "none"))))))))
-
+-- AN END OF A LINK
 abbrev pub sent_text : LinkFigures → List ℕ
 sent_text f =
     codes " sent=" ++ (decimal f.sent ++ (codes " sent_messages=" ++ (decimal f.sent_messages
@@ -115,9 +110,7 @@ total_text messages octets time = sum_text messages octets ++ time_text messages
 -- THE VERDICT
 abbrev pub verdict_text : Option Missing → List ℕ
 verdict_text None = codes "all delivered in order\n"
-verdict_text (Some missing) =
-    codes "missing set=" ++ (decimal missing.set ++ (codes " stream=" ++ (decimal missing.stream
-    ++ (codes " message=" ++ (decimal missing.message ++ codes "\n")))))
+verdict_text (Some missing) = absence_text missing ++ codes "\n"
 
 -- THE REPORT
 abbrev pub report_text : Option ℕ → List SetEnd → List SetEnd → Option Missing → List ℕ

@@ -7,6 +7,7 @@ use Rattle.bank_crew.specs.declared.end.SetEnd.{SetEnd}
 use Rattle.bank_crew.specs.declared.fault.UserFault.{UserFault}
 use Rattle.bank_crew.specs.declared.report.UserReport.{UserReport}
 use Rattle.set_model.specs.Rows.{stream_of}
+use Rattle.text_report.specs.Absences.{absence_text}
 use Rattle.text_report.specs.declared.verdict.Missing.{Missing}
 
 -- the bodies of a stream, in order
@@ -69,6 +70,4 @@ IsVerdict users messages set (end ∷ ends) verdict =
 
 -- THE FAULT of a run in which a message is missing, as its line tells it
 abbrev pub missing_line : Missing → List ℕ
-missing_line missing =
-    codes "fault missing set=" ++ (decimal missing.set ++ (codes " stream=" ++ (decimal missing.stream
-    ++ (codes " message=" ++ decimal missing.message))))
+missing_line missing = codes "fault " ++ absence_text missing

@@ -9,11 +9,12 @@
 //! is missing is told of what the users took (`specs/Verdict.antt`). It runs nothing and reads no clock.
 #![tactic(auto)]
 
+mod absence;
 mod figures;
 mod report;
 mod texts;
 mod verdict;
 
 pub use figures::{LinkFigures, SetFigures};
-pub use report::{Report, report_of};
-pub use verdict::{Missing, find_missing};
+pub use report::{Report, delivered_to, report_of};
+pub use verdict::{Absence, Missing, find_missing};

@@ -2,8 +2,10 @@
 ghost use Rattle.std.specs.Prelude.{◌≡◌, IfOk};
 ghost use Rattle.text_report.specs.Figures.{capped};
 ghost use Rattle.text_report.specs.ReportText.{in_all, in_both, report_text};
+ghost use Rattle.text_report.specs.Absences.{IsExplained};
 ghost use Rattle.text_report.specs.Verdict.{IsVerdict};
 
+use super::absence::explained;
 use super::figures::{Figure, sum_of};
 use super::texts::{write_sets, write_total, write_verdict};
 use super::verdict::{Missing, find_missing};
@@ -30,8 +32,9 @@ pub fn report_of(
 ) -> Result<Report, AllocError>
     ensures text { IfOk result (λ report. report.text.items ≡ report_text time near.now far.now report.missing) }
     ensures verdict { IfOk result (λ report. IsVerdict traffic.now.users traffic.now.messages 0 far.now report.missing) }
+    ensures why { IfOk result (λ report. IsExplained traffic.now near.now report.missing) }
 {
-    let missing = find_missing(traffic, far);
+    let missing = find_explained(traffic, near, far);
     let messages = in_both(Figure::Heard, near, far);
     let octets = in_both(Figure::HeardOctets, near, far);
     let mut text = write_sets(alloc, near, far)?;
@@ -40,6 +43,24 @@ pub fn report_of(
     last.extend_from_slice(&verdict)?;
     text.extend_from_slice(&last)?;
     Ok(Report { text, missing })
+}
+
+/// The first message that is missing, and why.
+fn find_explained(traffic: &Traffic, near: &[SetEnd], far: &[SetEnd]) -> Option<Missing>
+    ensures verdict { IsVerdict traffic.now.users traffic.now.messages 0 far.now result }
+    ensures why { IsExplained traffic.now near.now result }
+{
+    match find_missing(traffic, far) {
+        Some(missing) => Some(explained(traffic, near, missing)),
+        None => None,
+    }
+}
+
+/// How many messages these ends accepted from their far ends.
+pub fn delivered_to(ends: &[SetEnd]) -> u64
+    ensures { result ≡ capped (in_all Figure.Heard ends.now) }
+{
+    in_all(Figure::Heard, ends)
 }
 
 /// The sum over all links of both banks.

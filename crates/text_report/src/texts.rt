@@ -1,9 +1,11 @@
 //! The lines of a report.
-ghost use Rattle.std.specs.Prelude.{◌≡◌, IfOk};
-ghost use Rattle.text_report.specs.ReportText.{came_text, cause_name, end_text, ends_text, heard_text, left_text, life_text, link_text, links_text, one_text, rate, rates_text, seconds_text, sent_text, set_text, sets_text, time_text, total_text, verdict_text};
+ghost use Rattle.std.specs.Prelude.{◌≡◌, ◌++◌, IfOk, codes};
+ghost use Rattle.text_report.specs.Absences.{absence_text};
+ghost use Rattle.text_report.specs.ReportText.{came_text, end_text, ends_text, heard_text, left_text, life_text, link_text, links_text, one_text, rate, rates_text, seconds_text, sent_text, set_text, sets_text, time_text, total_text, verdict_text};
 
+use super::absence::cause_name;
 use super::figures::{LinkFigures, SetFigures};
-use super::verdict::Missing;
+use super::verdict::{Absence, Missing};
 use bank_core::{SetEnd, ShiftReport};
 use link_term::TermFault;
 use std::alloc::{AllocError, Global};
@@ -187,24 +189,6 @@ fn write_life(alloc: Global, f: &LinkFigures) -> Result<Vec<u8>, AllocError>
     Ok(format!(in alloc; " ups={ups} cause={cause}\n")?.into_bytes())
 }
 
-/// The name of a cause of a link's failure (Q.703 12).
-fn cause_name(cause: u8) -> &'static str
-    ensures { result.now ≡ cause_name cause }
-{
-    match cause {
-        1 => "suerm",
-        2 => "bsn",
-        3 => "fib",
-        4 => "t1",
-        5 => "t6",
-        6 => "t7",
-        7 => "status",
-        8 => "alignment",
-        9 => "stop",
-        _ => "none",
-    }
-}
-
 /// The line about all sets together.
 pub(crate) fn write_total(
     alloc: Global,
@@ -273,15 +257,31 @@ fn rate(n: u64, milliseconds: u64) -> u64
 pub(crate) fn write_verdict(alloc: Global, missing: Option<Missing>) -> Result<Vec<u8>, AllocError>
     ensures { IfOk result (λ text. text.items ≡ verdict_text missing) }
 {
-    let Some(
-        Missing {
-            set,
-            stream,
-            message,
-        },
-    ) = missing
-    else {
-        return Ok(format!(in alloc; "all delivered in order\n")?.into_bytes());
-    };
-    Ok(format!(in alloc; "missing set={set} stream={stream} message={message}\n")?.into_bytes())
+    match missing {
+        Some(missing) => write_absence(alloc, missing),
+        None => Ok(format!(in alloc; "all delivered in order\n")?.into_bytes()),
+    }
+}
+
+/// The line about the first message that is missing, and why.
+fn write_absence(alloc: Global, missing: Missing) -> Result<Vec<u8>, AllocError>
+    ensures { IfOk result (λ text. text.items ≡ absence_text missing ++ codes "\n") }
+{
+    let set = missing.set;
+    let stream = missing.stream;
+    let message = missing.message;
+    match missing.why {
+        Absence::Lost => Ok(format!(in alloc;
+            "missing set={set} stream={stream} message={message}\n"
+        )?.into_bytes()),
+        Absence::GivenUp { cause } => {
+            let name = cause_name(cause);
+            Ok(format!(in alloc;
+                "given-up set={set} stream={stream} message={message} cause={name}\n"
+            )?.into_bytes())
+        }
+        Absence::Unfinished => Ok(format!(in alloc;
+            "unfinished set={set} stream={stream} message={message}\n"
+        )?.into_bytes()),
+    }
 }

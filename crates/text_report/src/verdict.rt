@@ -4,12 +4,24 @@ ghost use Rattle.set_model.specs.Rows.{stream_of};
 ghost use Rattle.bank_traffic.specs.Opening.{body_of};
 ghost use Rattle.text_report.specs.Verdict.{Follows, IsVerdict, TellsSet, TellsStream, taken_first};
 
+use super::absence::cause_name;
 use arrayvec::ArrayVec;
 use bank_core::{SetEnd, UserFault, UserReport};
 use bank_traffic::{Traffic, body_of};
 use set_model::stream_of_body;
 use std::fmt;
 use std::fmt::Display;
+
+/// Why a message is missing.
+#[derive(Clone, Copy, Debug, PartialEq, Eq)]
+pub enum Absence {
+    /// Nothing waits, and nothing was given up, so it was lost.
+    Lost,
+    /// Its set gave messages up: this is the cause of the failure (Q.703 12) of the first of its links that failed, or 0.
+    GivenUp { cause: u8 },
+    /// The turns ended before all was offered and acknowledged.
+    Unfinished,
+}
 
 /// The first message that wasn't taken as the next of its stream. Sets, streams and messages are counted from 0.
 #[derive(Clone, Copy, Debug, PartialEq, Eq)]
@@ -20,6 +32,8 @@ pub struct Missing {
     pub stream: u16,
     /// Which of its messages is missing; as many as were offered where another came behind them.
     pub message: u16,
+    /// Why.
+    pub why: Absence,
 }
 
 impl Display for Missing {
@@ -32,14 +46,32 @@ impl Display for Missing {
         let set = self.set;
         let stream = self.stream;
         let message = self.message;
-        write!(
-            f,
-            "fault missing set={set} stream={stream} message={message}"
-        )
+        match self.why {
+            Absence::Lost => {
+                write!(
+                    f,
+                    "fault missing set={set} stream={stream} message={message}"
+                )
+            }
+            Absence::GivenUp { cause } => {
+                let name = cause_name(cause);
+                write!(
+                    f,
+                    "fault given-up set={set} stream={stream} message={message} cause={name}"
+                )
+            }
+            Absence::Unfinished => {
+                write!(
+                    f,
+                    "fault unfinished set={set} stream={stream} message={message}"
+                )
+            }
+        }
     }
 }
 
-/// The first message that is missing, set by set, and stream by stream, of what the one user at each of these ends b took.
+/// The first message that is missing, set by set, and stream by stream, of what the one user at each of these ends b took; it
+/// isn't looked at why.
 pub fn find_missing(traffic: &Traffic, far: &[SetEnd]) -> Option<Missing>
     ensures { IsVerdict traffic.now.users traffic.now.messages 0 far.now result }
 {
@@ -78,6 +110,7 @@ fn missing_of_all(traffic: &Traffic, set: u64, taken: &[ArrayVec<u8, 273>]) -> O
                 set,
                 stream,
                 message,
+                why: Absence::Lost,
             });
         }
     }

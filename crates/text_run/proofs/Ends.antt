@@ -88,19 +88,18 @@ fault_asked words traffic are (Ok done) is = tt
 fault_asked words traffic are (Err fault) is = (traffic, are, is)
 
 -- the text of these ends is that of the traffic that came to them
-pub runs_of : (traffic : Traffic) (per_link report : Bool) (shown : Showing) (near near' far far' : List SetEnd) (result : Result (Option Missing) (Fault RunFault)) (old new : Option (List ℕ))
-    → shown.per_link ≡ per_link → shown.report ≡ report → shown.capture ≡ traffic.keeps → near' ≡ near → far' ≡ far → AreEndsOf traffic (near_end traffic) near → AreEndsOf traffic (far_end traffic) far
-    → WritesEnds traffic shown near' far' result old new → Runs traffic per_link report shown.time result old new
-runs_of traffic per_link report shown near near' far far' result old new lines told kept same_near same_far near_are far_are w =
-    wider (IsTextOfEnds traffic shown near' far') (IsRunText traffic per_link report shown.time) (λ missing text is. record {
+pub runs_of : (traffic : Traffic) (report : Bool) (shown : Showing) (near near' far far' : List SetEnd) (result : Result (Option Missing) (Fault RunFault)) (old new : Option (List ℕ))
+    → shown.report ≡ report → shown.capture ≡ traffic.keeps → near' ≡ near → far' ≡ far → AreEndsOf traffic (near_end traffic) near → AreEndsOf traffic (far_end traffic) far
+    → WritesEnds traffic shown near' far' result old new → Runs traffic report shown.time result old new
+runs_of traffic report shown near near' far far' result old new told kept same_near same_far near_are far_are w =
+    wider (IsTextOfEnds traffic shown near' far') (IsRunText traffic report shown.time) (λ missing text is. record {
       near = near;
       far = far;
       near_are = near_are;
       far_are = far_are;
-      of_ends = subst (λ (p : Bool). IsTextOfEnds traffic (record { per_link = p; report = report; capture = traffic.keeps; time = shown.time }) near far missing text) lines
-          (subst (λ (r : Bool). IsTextOfEnds traffic (record { per_link = shown.per_link; report = r; capture = traffic.keeps; time = shown.time }) near far missing text) told
-          (subst (λ (k : Bool). IsTextOfEnds traffic (record { per_link = shown.per_link; report = shown.report; capture = k; time = shown.time }) near far missing text) kept
-          (subst (λ (n : List SetEnd). IsTextOfEnds traffic shown n far missing text) same_near (subst (λ (f : List SetEnd). IsTextOfEnds traffic shown near' f missing text) same_far is))));
+      of_ends = subst (λ (r : Bool). IsTextOfEnds traffic (record { report = r; capture = traffic.keeps; time = shown.time }) near far missing text) told
+          (subst (λ (k : Bool). IsTextOfEnds traffic (record { report = shown.report; capture = k; time = shown.time }) near far missing text) kept
+          (subst (λ (n : List SetEnd). IsTextOfEnds traffic shown n far missing text) same_near (subst (λ (f : List SetEnd). IsTextOfEnds traffic shown near' f missing text) same_far is)));
     }) result old new w
 
 -- of a bank that ended early nothing is written

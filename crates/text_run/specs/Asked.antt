@@ -29,7 +29,7 @@ pub record IsTrafficOf (words : RunWords) (traffic : Traffic) : Type 0 where
 abbrev pub IsTextAsked : RunWords → Option Missing → List ℕ → Type 0
 IsTextAsked words missing text =
     (traffic : Traffic) × (time : Option ℕ) × IsTrafficOf words traffic
-    × IsRunText traffic words.per_link words.report time missing text
+    × IsRunText traffic words.report time missing text
 
 -- a length of time in milliseconds, as it's told: up to 2^64 - 1
 abbrev pub milliseconds : Duration → ℕ

@@ -11,6 +11,7 @@ use Rattle.bank_traffic.specs.Opening.{AreEndsOf, far_end, near_end}
 use Rattle.text_printing.specs.declared.fault.Fault.{Fault}
 use Rattle.text_printing.specs.declared.fault.Fault.TheVariants.{Input, Memory, Read, Long, Write}
 use Rattle.text_report.specs.declared.verdict.Missing.{Missing}
+use Rattle.text_report.specs.Absences.{IsExplained}
 use Rattle.text_report.specs.ReportText.{report_text}
 use Rattle.text_report.specs.Verdict.{IsVerdict}
 use Rattle.text_run.specs.declared.fault.RunFault.{RunFault}
@@ -29,21 +30,21 @@ pub record GotThrough (end : SetEnd) : Type 0 where
   pub users : All IsOk end.users.items
   pub terminals : All IsOk end.reports.items
 
--- what is shown of ends: lines of each link, a report, or the capture in place of them; and how many milliseconds the run took, if a clock told them
+-- what is shown of ends: their lines, with a report or not, or the capture in place of them; and how many milliseconds the
+-- run took, if a clock told them
 pub record Showing : Type 0 where
-  pub per_link : Bool
   pub report : Bool
   pub capture : Bool
   pub time : Option ℕ
 
 abbrev pub showing : Shown → Showing
 showing shown =
-    record { per_link = shown.per_link; report = shown.report; capture = shown.capture; time = shown.time }
+    record { report = shown.report; capture = shown.capture; time = shown.time }
 
 -- the text, with a report where one is asked for
 abbrev pub shown_text : Showing → List SetEnd → List SetEnd → Option Missing → List ℕ
 shown_text shown near far missing =
-    run_text shown.per_link near far ++ (if shown.report then report_text shown.time near far missing else [])
+    run_text near far ++ (if shown.report then report_text shown.time near far missing else [])
 
 -- that, or the capture of what was sent in place of it
 abbrev pub IsShownWhere : Bool → Showing → List SetEnd → List SetEnd → Option Missing → List ℕ → Type 0
@@ -53,10 +54,11 @@ IsShownWhere true shown near far missing text = IsCapture near far text
 abbrev pub IsShown : Showing → List SetEnd → List SetEnd → Option Missing → List ℕ → Type 0
 IsShown shown = IsShownWhere shown.capture shown
 
--- the first message that is missing is looked for where a report is asked for
-abbrev pub IsMissing : Bool → Traffic → List SetEnd → Option Missing → Type 0
-IsMissing false traffic far missing = missing ≡ None
-IsMissing true traffic far missing = IsVerdict traffic.users traffic.messages 0 far missing
+-- the first message that is missing is looked for where a report is asked for, and why it's missing
+abbrev pub IsMissing : Bool → Traffic → List SetEnd → List SetEnd → Option Missing → Type 0
+IsMissing false traffic near far missing = missing ≡ None
+IsMissing true traffic near far missing =
+    IsVerdict traffic.users traffic.messages 0 far missing × IsExplained traffic near missing
 
 -- what is printed of these ends: something only where each user got through, and no terminal failed
 pub record IsTextOfEnds (traffic : Traffic) (shown : Showing) (near far : List SetEnd) (missing : Option Missing)
@@ -64,18 +66,18 @@ pub record IsTextOfEnds (traffic : Traffic) (shown : Showing) (near far : List S
   pub no_failure : failure_of near far ≡ None
   pub near_got_through : All GotThrough near
   pub far_got_through : All GotThrough far
-  pub missing_is : IsMissing shown.report traffic far missing
+  pub missing_is : IsMissing shown.report traffic near far missing
   pub text_is : IsShown shown near far missing text
 
 -- what this traffic came to at its ends, in this time, and what is printed of it
-pub record IsRunText (traffic : Traffic) (per_link report : Bool) (time : Option ℕ) (missing : Option Missing)
+pub record IsRunText (traffic : Traffic) (report : Bool) (time : Option ℕ) (missing : Option Missing)
     (text : List ℕ) : Type 0 where
   pub near : List SetEnd
   pub far : List SetEnd
   pub near_are : AreEndsOf traffic (near_end traffic) near
   pub far_are : AreEndsOf traffic (far_end traffic) far
   pub of_ends : IsTextOfEnds traffic
-      (record { per_link = per_link; report = report; capture = traffic.keeps; time = time }) near far missing text
+      (record { report = report; capture = traffic.keeps; time = time }) near far missing text
 
 -- where the sink failed, the text was begun; for any other fault nothing was written
 abbrev pub CutsOff : {T : Type 0} → (T → List ℕ → Type 0) → List ℕ → Fault RunFault → Type 0
@@ -102,9 +104,9 @@ abbrev pub WritesEnds : Traffic → Showing → List SetEnd → List SetEnd → 
 WritesEnds traffic shown near far result old new = WritesText (IsTextOfEnds traffic shown near far) result old new
 
 -- THE RUN: what was written is the text of what the threads came to in this time
-abbrev pub Runs : Traffic → Bool → Bool → Option ℕ → Result (Option Missing) (Fault RunFault) → Option (List ℕ)
+abbrev pub Runs : Traffic → Bool → Option ℕ → Result (Option Missing) (Fault RunFault) → Option (List ℕ)
     → Option (List ℕ) → Type 0
-Runs traffic per_link report time result old new = WritesText (IsRunText traffic per_link report time) result old new
+Runs traffic report time result old new = WritesText (IsRunText traffic report time) result old new
 
 -- WHY IT ENDS SO. Of ends that are at hand: a failure is told, the first one; memory was wanted here, or the sink failed,
 -- only where there is none.

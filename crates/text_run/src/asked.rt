@@ -16,7 +16,8 @@ use text_printing::{Fault, Sink};
 use text_report::Missing;
 
 /// Runs what these words ask for, and writes what its sets came to; with `shows`, standard error tells meanwhile how far
-/// it is. Where the words ask for a report the answer is the first message that is missing, if one is.
+/// it is, and at the end how many messages were delivered, where no report does. Where the words ask for a report the answer
+/// is the first message that is missing, if one is.
 ///
 /// Faults, in which nothing was written but before [`Fault::Write`]: [`RunFault::Thread`], [`RunFault::Close`],
 /// [`RunFault::User`], [`RunFault::Terminal`], [`Fault::Memory`], [`Fault::Write`], as [`write_run`] has them.
@@ -41,14 +42,36 @@ pub fn run<R: Threads + Wait + Clock + Eprint + Copy + Send + Sync + 'static, W:
     } else {
         None
     };
-    let asked = (words.per_link, words.report);
     let since = Instant::now(rt).ok();
-    write_run(rt, alloc, &traffic, (near, far), asked, sink, || {
-        if let Some(progress) = progress {
-            progress.end(rt);
-        }
-        milliseconds_since(rt, since)
-    })
+    write_run(
+        rt,
+        alloc,
+        &traffic,
+        (near, far),
+        words.report,
+        sink,
+        |delivered| {
+            let time = milliseconds_since(rt, since);
+            if let Some(progress) = progress {
+                progress.end(rt);
+            }
+            if shows && !words.report {
+                tell_delivered(rt, words, delivered);
+            }
+            time
+        },
+    )
+}
+
+/// Tells on standard error how many of a run's messages were delivered when its turns were over.
+fn tell_delivered<R: Eprint>(rt: &R, words: &RunWords, delivered: Option<u64>) {
+    if let Some(delivered) = delivered {
+        let offered = u64::from(words.sets) * u64::from(words.users) * u64::from(words.messages);
+        let turns = words.turns;
+        let _ = eprintln!(rt;
+            "mtpbank run: {delivered} of {offered} messages delivered within {turns} turns; --report goes on until all are"
+        );
+    }
 }
 
 /// How many milliseconds went by since then, if a clock tells them.

@@ -2,7 +2,7 @@
 //!
 //! ```text
 //! Traffic -- run_through (bank_traffic), in threads --> a SetEnd for each set and end
-//!     -- audit (set_core), totals (bank_core) --> a line an end, a line in all, and a line an end of each link
+//!     -- audit (set_core), totals (bank_core) --> a line an end, a line in all
 //! ```
 //!
 //! [`run`] does all of it, as words ask for it. What the threads do is nobody's to say, so the text isn't a function of the traffic: it's one of
@@ -18,7 +18,6 @@ mod asked;
 mod capturing;
 mod failures;
 mod fault;
-mod link;
 mod progress;
 mod running;
 mod summing;
@@ -30,4 +29,4 @@ pub use fault::RunFault;
 pub use link_term::TermFault;
 pub use pair_steps::End;
 pub use running::{Shown, write_ends, write_run};
-pub use text_report::Missing;
+pub use text_report::{Absence, Missing};

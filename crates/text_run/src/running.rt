@@ -9,7 +9,7 @@ use super::capturing::capture_of;
 use super::failures::find_failure;
 use super::fault::RunFault;
 use super::summing::totals_of_ends;
-use super::texts::{write_all_sets, write_links};
+use super::texts::write_all_sets;
 use bank_core::{BankFault, SetEnd};
 use bank_traffic::{PaceGate, Traffic, run_through};
 use std::alloc::{AllocError, Global};
@@ -17,13 +17,11 @@ use std::sync::Wait;
 use std::thread::Threads;
 use std::time::Clock;
 use text_printing::{Fault, Sink};
-use text_report::{Missing, Report, report_of};
+use text_report::{Missing, Report, delivered_to, report_of};
 
 /// What is written of ends behind what their sets came to.
 #[derive(Clone, Copy, Debug, PartialEq, Eq)]
 pub struct Shown {
-    /// What each link came to.
-    pub per_link: bool,
     /// A report, with the verdict on what was taken.
     pub report: bool,
     /// The capture of what was sent on each link, in place of all that.
@@ -32,9 +30,10 @@ pub struct Shown {
     pub time: Option<u64>,
 }
 
-/// Runs this traffic through these gates, and writes what its sets came to at both ends; with `per_link` behind that what
-/// each link came to; with `report` behind that a report, in which case the answer is the first message that is missing, if one
-/// is. Where the traffic keeps what is sent, the capture of that is written in place of all these. When all threads have ended, before anything is written, `ended` is called, which tells how many milliseconds they took.
+/// Runs this traffic through these gates, and writes what its sets came to at both ends; with `report` behind that a
+/// report, in which case the answer is the first message that is missing, if one is. Where the traffic keeps what is sent,
+/// the capture of that is written in place of all these. When all threads have ended, before anything is written, `ended`
+/// is told how many messages the ends b accepted, where the sets came to ends, and tells how many milliseconds they took.
 ///
 /// Faults: [`RunFault::Thread`] and [`RunFault::Close`] as [`run_through`] has them; [`Fault::Memory`] where memory was
 /// wanted there or here; [`RunFault::User`] or [`RunFault::Terminal`] of the first user that ended early or terminal
@@ -42,29 +41,31 @@ pub struct Shown {
 pub fn write_run<
     R: Threads + Wait + Clock + Copy + Send + Sync + 'static,
     W: Sink,
-    F: FnOnce() -> Option<u64>,
+    F: FnOnce(Option<u64>) -> Option<u64>,
 >(
     rt: &R,
     alloc: Global,
     traffic: &Traffic,
     gates: (PaceGate, PaceGate),
-    asked: (bool, bool),
+    report: bool,
     sink: &mut W,
     ended: F,
 ) -> Result<Option<Missing>, Fault<RunFault>>
     requires callable { F.IsAlwaysCallable ended }
-    ensures text { (time : Option ℕ) × F.post ended time
-        × Runs traffic.now asked.0 asked.1 time result (W.written sink.old) (W.written sink.new) }
+    ensures text { (delivered : Option ℕ) × (time : Option ℕ) × F.post ended delivered time
+        × Runs traffic.now report time result (W.written sink.old) (W.written sink.new) }
     ensures fault { IfErr result (IsFaultOfRun traffic.now) }
     ensures failed { IfErr result (λ fault. fault ≡ Fault.Write → W.failures sink.new ≢ W.failures sink.old) }
     ensures sound { OnOk result (W.failures sink.new ≡ W.failures sink.old) }
 {
     let (near_gate, far_gate) = gates;
     let came_to = run_through(rt, alloc, traffic, near_gate, far_gate);
-    let time = ended();
-    let (per_link, report) = asked;
+    let delivered = match &came_to {
+        Ok(ends) => Some(delivered_to(&ends.far)),
+        Err(_) => None,
+    };
+    let time = ended(delivered);
     let shown = Shown {
-        per_link,
         report,
         capture: traffic.keeps,
         time,
@@ -151,7 +152,7 @@ fn report_on(
 ) -> Result<Report, AllocError>
     requires ends { All IsAnEnd near.now × All IsAnEnd far.now }
     requires few { (length near.now ≤ 16) × (length far.now ≤ 16) }
-    ensures missing { IfOk result (λ report. IsMissing shown.report traffic.now far.now report.missing) }
+    ensures missing { IfOk result (λ report. IsMissing shown.report traffic.now near.now far.now report.missing) }
     ensures text { IfOk result (λ report. IsShown (showing shown) near.now far.now report.missing report.text.items) }
 {
     let lines = lines_on(alloc, traffic, near, far, shown)?;
@@ -175,11 +176,11 @@ fn lines_on(
 ) -> Result<Report, AllocError>
     requires ends { All IsAnEnd near.now × All IsAnEnd far.now }
     requires few { (length near.now ≤ 16) × (length far.now ≤ 16) }
-    ensures missing { IfOk result (λ report. IsMissing shown.report traffic.now far.now report.missing) }
+    ensures missing { IfOk result (λ report. IsMissing shown.report traffic.now near.now far.now report.missing) }
     ensures text { IfOk result (λ report. report.text.items
         ≡ shown_text (showing shown) near.now far.now report.missing) }
 {
-    let mut text = text_of(alloc, near, far, shown.per_link)?;
+    let mut text = text_of(alloc, near, far)?;
     if !shown.report {
         return Ok(Report {
             text,
@@ -195,25 +196,14 @@ fn lines_on(
 }
 
 /// The text about these ends.
-fn text_of(
-    alloc: Global,
-    near: &[SetEnd],
-    far: &[SetEnd],
-    per_link: bool,
-) -> Result<Vec<u8>, AllocError>
+fn text_of(alloc: Global, near: &[SetEnd], far: &[SetEnd]) -> Result<Vec<u8>, AllocError>
     requires ends { All IsAnEnd near.now × All IsAnEnd far.now }
     requires few { (length near.now ≤ 16) × (length far.now ≤ 16) }
-    ensures { IfOk result (λ text. text.items ≡ run_text per_link near.now far.now) }
+    ensures { IfOk result (λ text. text.items ≡ run_text near.now far.now) }
 {
     let near_totals = totals_of_ends(alloc, near)?;
     let far_totals = totals_of_ends(alloc, far)?;
-    let mut text = write_all_sets(alloc, near_totals, &far_totals)?;
-    if !per_link {
-        return Ok(text);
-    }
-    let links = write_links(alloc, near, far)?;
-    text.extend_from_slice(&links)?;
-    Ok(text)
+    write_all_sets(alloc, near_totals, &far_totals)
 }
 
 /// Writes all these octets.

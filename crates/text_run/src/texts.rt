@@ -1,11 +1,9 @@
 //! The lines of a run.
 ghost use Rattle.std.specs.Prelude.{◌≡◌, ◌≤◌, IfOk, All, length};
 ghost use Rattle.bank_core.specs.Totals.{IsInRange};
-ghost use Rattle.text_run.specs.RunText.{all_text, both_text, counted_text, end_text, link_text, links_text, set_links_text, set_text, sets_text, total_text, yes_or_no};
+ghost use Rattle.text_run.specs.RunText.{all_text, end_text, set_text, sets_text, total_text, yes_or_no};
 
-use super::link::LinkEnd;
-use bank_core::{SetEnd, SetTotals, ShiftReport, totals};
-use link_term::TermFault;
+use bank_core::{SetTotals, totals};
 use std::alloc::{AllocError, Global};
 
 /// The lines about all sets, and that of all together.
@@ -89,104 +87,4 @@ fn word_for(fact: bool) -> &'static str
     ensures { result.now ≡ yes_or_no fact }
 {
     if fact { "yes" } else { "no" }
-}
-
-/// The lines about the links of each set.
-pub(crate) fn write_links(
-    alloc: Global,
-    near: &[SetEnd],
-    far: &[SetEnd],
-) -> Result<Vec<u8>, AllocError>
-    ensures { IfOk result (λ text. text.items ≡ links_text 0 near.now far.now) }
-{
-    let mut text = Vec::new(alloc);
-    let mut set: u64 = 0;
-    let mut left = far;
-    for a in near {
-        let [b, more @ ..] = left else {
-            return Ok(text);
-        };
-        let lines = write_set_links(alloc, set, &a.reports, &b.reports)?;
-        text.extend_from_slice(&lines)?;
-        set += 1;
-        left = more;
-    }
-    Ok(text)
-}
-
-/// The lines about both ends of each link of a set.
-fn write_set_links(
-    alloc: Global,
-    set: u64,
-    near: &[Result<ShiftReport, TermFault>],
-    far: &[Result<ShiftReport, TermFault>],
-) -> Result<Vec<u8>, AllocError>
-    ensures { IfOk result (λ text. text.items ≡ set_links_text set 0 near.now far.now) }
-{
-    let mut text = Vec::new(alloc);
-    let mut link: u64 = 0;
-    let mut left = far;
-    for a in near {
-        let [b, more @ ..] = left else {
-            return Ok(text);
-        };
-        let lines = write_both(alloc, set, link, a, b)?;
-        text.extend_from_slice(&lines)?;
-        link += 1;
-        left = more;
-    }
-    Ok(text)
-}
-
-/// The lines about both ends of a link; of one at which a terminal failed there is none.
-fn write_both(
-    alloc: Global,
-    set: u64,
-    link: u64,
-    a: &Result<ShiftReport, TermFault>,
-    b: &Result<ShiftReport, TermFault>,
-) -> Result<Vec<u8>, AllocError>
-    ensures { IfOk result (λ text. text.items ≡ both_text set link a.now b.now) }
-{
-    let Ok(a) = a else {
-        return Ok(Vec::new(alloc));
-    };
-    let Ok(b) = b else {
-        return Ok(Vec::new(alloc));
-    };
-    let mut lines = write_link(alloc, set, link, "a", &LinkEnd::of(a, b))?;
-    let other = write_link(alloc, set, link, "b", &LinkEnd::of(b, a))?;
-    lines.extend_from_slice(&other)?;
-    Ok(lines)
-}
-
-/// The line about an end of a link.
-fn write_link(
-    alloc: Global,
-    set: u64,
-    link: u64,
-    end: &str,
-    of_link: &LinkEnd,
-) -> Result<Vec<u8>, AllocError>
-    ensures { IfOk result (λ text. text.items ≡ link_text set link end.now of_link.now) }
-{
-    let up = word_for(of_link.up);
-    let mut text = format!(in alloc; "set={set} link={link} end={end} up={up}")?.into_bytes();
-    let counted = write_counted(alloc, of_link)?;
-    text.extend_from_slice(&counted)?;
-    Ok(text)
-}
-
-/// What a terminal counted, and what was delivered of what it sent.
-fn write_counted(alloc: Global, of_link: &LinkEnd) -> Result<Vec<u8>, AllocError>
-    ensures { IfOk result (λ text. text.items ≡ counted_text of_link.now) }
-{
-    let sent = of_link.sent;
-    let good = of_link.good;
-    let bad = of_link.bad;
-    let cause = of_link.cause;
-    let delivered = of_link.delivered;
-    Ok(format!(in alloc;
-        " sent={sent} good={good} bad={bad} cause={cause} delivered={delivered}\n"
-    )?.into_bytes())
 }

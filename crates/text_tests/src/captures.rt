@@ -36,9 +36,9 @@ fn captured<R: Threads + Wait + Clock + Copy + Send + Sync + 'static>(
         alloc,
         &traffic,
         gates,
-        (false, false),
+        false,
         &mut sink,
-        || None,
+        |_delivered| None,
     );
     if ran.is_ok() {
         Ok(sink.into_inner())

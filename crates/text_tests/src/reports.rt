@@ -8,7 +8,7 @@ use std::test::Fail;
 use std::thread::Threads;
 use std::time::Clock;
 use text_printing::Writer;
-use text_run::{Missing, write_run};
+use text_run::{Absence, Missing, write_run};
 
 /// One set of three links, three users of so many messages each, and link 1 that fails.
 fn traffic_of(messages: u16, turns: u32, noise: Option<u32>) -> Traffic {
@@ -36,7 +36,15 @@ fn reported<R: Threads + Wait + Clock + Copy + Send + Sync + 'static>(
 ) -> Result<(String, Option<Missing>), Fail> {
     let gates = gates_of(alloc, traffic)?;
     let mut sink = Writer::new(Vec::new(alloc));
-    let Ok(missing) = write_run(rt, alloc, traffic, gates, (false, true), &mut sink, || None) else {
+    let Ok(missing) = write_run(
+        rt,
+        alloc,
+        traffic,
+        gates,
+        true,
+        &mut sink,
+        |_delivered| None,
+    ) else {
         return Err(Fail::from("the run failed"));
     };
     match String::from_utf8(sink.into_inner()) {
@@ -98,6 +106,13 @@ fn all_is_delivered_in_order_through_noise(rt: HostRuntime) -> Result<(), Fail> 
     holds(missing.is_none() && shows_all(&text) && errors)
 }
 
+/// The report says last that this message was given up, and by which failure.
+fn is_given_up(text: &str, missing: &Missing) -> bool {
+    matches!(missing.why, Absence::GivenUp { .. })
+        && !has_line(text, "set=0 end=a ", " discarded=0 ")
+        && has_line(text, "given-up set=0 stream=", " cause=")
+}
+
 /// The only link fails under traffic: what waits on it is given up, and users go on once it's back, so nothing waits at the end, and
 /// what is missing was given up. In one of ten runs at least it's back at once: where threads come late it may fail again.
 #[test]
@@ -107,7 +122,10 @@ fn users_go_on_where_messages_were_given_up(rt: HostRuntime) -> Result<(), Fail>
     traffic.fail = Some(0);
     for _run in 0..10u8 {
         let (text, missing) = reported(&rt, rt.alloc(), &traffic)?;
-        let is_whole = missing.is_none() || !has_line(&text, "set=0 end=a ", " discarded=0 ");
+        let is_whole = match missing {
+            None => true,
+            Some(missing) => is_given_up(&text, &missing),
+        };
         let has_gone_on = has_line(&text, "set=0 end=a offered=1800 ", " waiting=0 unacked=0 ");
         holds(is_whole && has_gone_on)?;
         if has_line(&text, "set=0 link=0 end=a ", " ups=2 cause=stop") {
@@ -117,7 +135,7 @@ fn users_go_on_where_messages_were_given_up(rt: HostRuntime) -> Result<(), Fail>
     Err(Fail::from("the link came back in no run"))
 }
 
-/// In so few turns no link comes up: the first message is missing, which the report says last.
+/// In so few turns no link comes up: the first message isn't delivered yet, which the report says last.
 #[test]
 fn what_was_never_sent_is_missing(rt: HostRuntime) -> Result<(), Fail> {
     let (text, missing) = reported(&rt, rt.alloc(), &traffic_of(5, 500, None))?;
@@ -125,6 +143,7 @@ fn what_was_never_sent_is_missing(rt: HostRuntime) -> Result<(), Fail> {
         set: 0,
         stream: 0,
         message: 0,
+        why: Absence::Unfinished,
     };
     holds(
         missing == Some(first)
@@ -134,6 +153,6 @@ fn what_was_never_sent_is_missing(rt: HostRuntime) -> Result<(), Fail> {
                 "discarded=0 retransmitted=0",
             )
             && has_line(&text, "set=0 link=1 end=b ", " ups=0 cause=none")
-            && text.ends_with("run messages=0 octets=0\nmissing set=0 stream=0 message=0\n"),
+            && text.ends_with("run messages=0 octets=0\nunfinished set=0 stream=0 message=0\n"),
     )
 }

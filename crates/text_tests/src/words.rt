@@ -1,6 +1,6 @@
 //! Words with what they ask for, and help.
 use super::holds;
-use mtpbank_words::{RunWords, Words, WordsFault, not_unicode, words_of};
+use mtpbank_words::{RunWords, Words, WordsFault, not_unicode, say_linkless, words_of};
 use std::alloc::{AllocError, Global};
 use std::test::Fail;
 
@@ -22,7 +22,7 @@ fn told_of(alloc: Global, words: &[&str]) -> Result<String, AllocError> {
         Ok(Words::HistoryOfB) => "history b".to_string(alloc),
         Ok(Words::Run(run)) => run_told(alloc, &run),
         Err(WordsFault::Words(error)) => error.to_string(alloc),
-        Err(WordsFault::Link) => "fault link".to_string(alloc),
+        Err(WordsFault::Link { fail, links }) => text_of(alloc, say_linkless(alloc, fail, links)?),
         Err(WordsFault::Said(said)) => text_of(alloc, said),
         Err(WordsFault::NoMemory) => Ok(String::new(alloc)),
     }
@@ -55,7 +55,7 @@ fn run_told(alloc: Global, run: &RunWords) -> Result<String, AllocError> {
         Some(messages) => messages.to_string(alloc)?,
         None => "never".to_string(alloc)?,
     };
-    let lines = if run.per_link { " per-link" } else { "" };
+    let lines = if run.report { " report" } else { "" };
     format!(in alloc;
         "run {sets} {links} {users} {messages} {fail} {method} {turns} {checkpoint}{lines}"
     )
@@ -64,7 +64,7 @@ fn run_told(alloc: Global, run: &RunWords) -> Result<String, AllocError> {
 /// The words are refused.
 fn are_refused(alloc: Global, words: &[&str]) -> bool {
     match told_of(alloc, words) {
-        Ok(told) => told.starts_with("error: ") || told.starts_with("mtpbank "),
+        Ok(told) => told.starts_with("error: ") || told.starts_with("mtpbank"),
         Err(_) => false,
     }
 }
@@ -154,7 +154,7 @@ fn numbers_of_a_run(rt: HostRuntime) -> Result<(), Fail> {
         "--method=cyclic",
         "--turns=1000000",
         "--checkpoint=1024",
-        "--per-link",
+        "--report",
     ];
     let split = ["run", "--method", "basic", "--fail", "1"];
     holds(
@@ -163,7 +163,7 @@ fn numbers_of_a_run(rt: HostRuntime) -> Result<(), Fail> {
             && ask_for(
                 alloc,
                 &most,
-                "run 16 16 16 1024 15 cyclic 1000000 1024 per-link",
+                "run 16 16 16 1024 15 cyclic 1000000 1024 report",
             )
             && ask_for(alloc, &split, "run 1 2 4 1000 1 basic 20000 never"),
     )
@@ -189,7 +189,7 @@ fn a_run_of_wrong_numbers(rt: HostRuntime) -> Result<(), Fail> {
         "--sets=one",
         "--turns=18446744073709551617",
         "--method=other",
-        "--per-link=yes",
+        "--report=yes",
         "--checkpoint=0",
         "--checkpoint=1025",
         "--checkpoint=",
@@ -218,14 +218,22 @@ fn are_wrong_options(alloc: Global, options: &[&str]) -> bool {
 fn a_run_without_the_link_that_fails(rt: HostRuntime) -> Result<(), Fail> {
     let alloc = rt.alloc();
     holds(
-        ask_for(alloc, &["run", "--links", "2", "--fail", "2"], "fault link")
-            && ask_for(alloc, &["run", "--fail=15"], "fault link")
-            && are_refused(alloc, &["run", "--links=2", "--fail=2", "--turns=0"]),
+        says_of_run(
+            alloc,
+            "--links=4",
+            "--fail=4",
+            "fault link\nmtpbank run: --fail 4 isn't a link: they count from 0, and --links is 4",
+        )? && says_of_run(
+            alloc,
+            "--sets=2",
+            "--fail=15",
+            "fault link\nmtpbank run: --fail 15 isn't a link: they count from 0, and --links is 2",
+        )? && are_refused(alloc, &["run", "--links=2", "--fail=2", "--turns=0"]),
     )
 }
 
-const USAGE: &str = "\nusage: mtpbank run [--sets N] [--links L] [--users U] [--messages M] \
-[--fail K] [--method WORD] [--turns T] [--checkpoint C] [--noise N] [--seed S] [--per-link] [--report] [--capture]";
+const USAGE: &str = "\nusage: mtpbank run [--report] [--fail K] [--noise N] [--seed S] [--sets N] \
+[--links L] [--users U] [--messages M] [--method WORD] [--turns T] [--checkpoint C] [--capture]";
 
 /// This is said of the words behind `run`, and the usage in a second line.
 fn says_of_run(alloc: Global, first: &str, second: &str, said: &str) -> Result<bool, AllocError> {
@@ -242,9 +250,9 @@ fn a_wrong_value_is_told_with_its_range(rt: HostRuntime) -> Result<(), Fail> {
     let checkpoint = "mtpbank run: --checkpoint 0 isn't a number from 1 to 1024";
     holds(
         says_of_run(alloc, "--links", "99", links)?
-            && says_of_run(alloc, "--per-link", "--turns=0", turns)?
+            && says_of_run(alloc, "--report", "--turns=0", turns)?
             && says_of_run(alloc, "--checkpoint", "0", checkpoint)?
-            && says_of_run(alloc, "--per-link", "x", "mtpbank run: x isn't an option")?,
+            && says_of_run(alloc, "--report", "x", "mtpbank run: x isn't an option")?,
     )
 }
 

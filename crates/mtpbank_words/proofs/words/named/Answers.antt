@@ -28,5 +28,5 @@ returns-in-None c =
     let end = c.get_str.ensures ∙ first_value-rows f (codes "END") in
     rw is (record {
       none = λ asked found. c.in-None.ensures asked (rw end found.0);
-      no_link = λ linkless. c.in_default-name.not-run linkless.0;
+      no_link = λ fail links linkless. c.in_default-name.not-run linkless.0;
     })

@@ -24,10 +24,11 @@ write_ends-requires-clause-few g c =
 
 pub returns-clause-text : goal.returns-clause-text
 returns-clause-text g c = (
+  c.match-delivered.result,
   c.ended-time.result,
   c.ended-time.ensures,
-  runs_of c.args.traffic.now c.args.asked.0 c.args.asked.1 _ c.in-Ok.ends.near.items c.deref.result.now c.in-Ok.ends.far.items c.deref-2.result.now c.write_ends.result _ _
-      refl refl refl c.deref.ensures.value c.deref-2.ensures.value c.in-Ok.ensures.near c.in-Ok.ensures.far c.write_ends.ensures.text,
+  runs_of c.args.traffic.now c.args.report _ c.in-Ok.ends.near.items c.deref.result.now c.in-Ok.ends.far.items c.deref-2.result.now c.write_ends.result _ _
+      refl refl c.deref.ensures.value c.deref-2.ensures.value c.in-Ok.ensures.near c.in-Ok.ensures.far c.write_ends.ensures.text,
 )
 
 pub returns-clause-fault : goal.returns-clause-fault
@@ -42,4 +43,4 @@ returns-in-Err-clause-fault g c = lack_of_run c.args.traffic.now c.in-Err.fault 
 
 pub returns-in-Err-clause-text : goal.returns-in-Err-clause-text
 returns-in-Err-clause-text g c =
-    (c.ended-time.result, c.ended-time.ensures, nothing_written (IsRunText c.args.traffic.now c.args.asked.0 c.args.asked.1 c.ended-time.result) c.in-Err.fault c.fault_of.result _ c.fault_of.ensures)
+    (c.match-delivered.result, c.ended-time.result, c.ended-time.ensures, nothing_written (IsRunText c.args.traffic.now c.args.report c.ended-time.result) c.in-Err.fault c.fault_of.result _ c.fault_of.ensures)
