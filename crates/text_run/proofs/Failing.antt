@@ -1,5 +1,5 @@
 -- Where no failure is told each user got through, and no terminal failed.
-use Rattle.std.proofs.Common.{refl, ◌≡◌, sym, subst, ℕ, suc, List, [], ◌∷◌, Option, None, Some, Result, Ok, Err, All, IsOk, IfErr}
+use Rattle.std.proofs.Common.{refl, ◌≡◌, ◌≢◌, sym, subst, ℕ, suc, List, [], ◌∷◌, Option, None, Some, Result, Ok, Err, All, IsOk, IfErr}
 use Rattle.std.specs.Option.{option_or}
 use Rattle.std.proofs.lemmas.List.Elements.{All-nil, All-cons}
 use Rattle.bank_crew.specs.declared.report.ShiftReport.{ShiftReport}
@@ -14,6 +14,7 @@ use Rattle.text_run.specs.declared.failures.Stuck.{Stuck}
 use Rattle.text_run.specs.Failures.{stuck_from, failed_from, failure_in, failure_from, failure_of}
 use Rattle.text_printing.specs.declared.fault.Fault.{Fault}
 use Rattle.text_printing.specs.declared.fault.Fault.TheVariants.{Input, Memory, Read, Long, Write}
+use Rattle.text_printing.specs.Printing.{IsDevices}
 use Rattle.bank_core.specs.declared.fault.BankFault.{BankFault}
 use Rattle.bank_core.specs.declared.fault.BankFault.TheVariants.{NoMemory, Users, Sets, NoThread, Unclosed, Wide}
 use Rattle.bank_traffic.specs.declared.asked.Traffic.{Traffic}
@@ -90,3 +91,13 @@ lack_of_run traffic Sets fault is = absurd is
 lack_of_run traffic NoThread fault is = subst (IsFaultOfRun traffic) (sym is) tt
 lack_of_run traffic Unclosed fault is = subst (IsFaultOfRun traffic) (sym is) tt
 lack_of_run traffic Wide fault is = absurd is
+
+-- and its sink wasn't asked for anything
+pub lack_fails : (lacked : BankFault) (fault : Fault RunFault) (writes : ℕ) → TellsLack lacked fault
+    → IsDevices fault ⊥ ⊥ (writes ≢ writes) (writes ≡ writes)
+lack_fails NoMemory fault writes is = subst (λ fault. IsDevices fault ⊥ ⊥ (writes ≢ writes) (writes ≡ writes)) (sym is) refl
+lack_fails Users fault writes is = absurd is
+lack_fails Sets fault writes is = absurd is
+lack_fails NoThread fault writes is = subst (λ fault. IsDevices fault ⊥ ⊥ (writes ≢ writes) (writes ≡ writes)) (sym is) refl
+lack_fails Unclosed fault writes is = subst (λ fault. IsDevices fault ⊥ ⊥ (writes ≢ writes) (writes ≡ writes)) (sym is) refl
+lack_fails Wide fault writes is = absurd is

@@ -1,5 +1,5 @@
 -- A RUN, from its traffic to what is written.
-use Rattle.std.specs.Prelude.{◌≡◌, ℕ, Bool, true, false, List, [], ◌++◌, Option, None, Some, Result, MatchResult, All, IsOk, if◌then◌else◌}
+use Rattle.std.specs.Prelude.{◌≡◌, ◌≢◌, ℕ, Bool, true, false, List, [], ◌++◌, Option, None, Some, Result, MatchResult, All, IsOk, if◌then◌else◌}
 use Rattle.std.specs.Io.KnownBytes.{Appends}
 use Rattle.set_events.specs.declared.config.SetConfig.{SetConfig}
 use Rattle.bank_crew.specs.declared.end.SetEnd.{SetEnd}
@@ -10,6 +10,7 @@ use Rattle.bank_traffic.specs.declared.asked.Traffic.{Traffic}
 use Rattle.bank_traffic.specs.Opening.{AreEndsOf, far_end, near_end}
 use Rattle.text_printing.specs.declared.fault.Fault.{Fault}
 use Rattle.text_printing.specs.declared.fault.Fault.TheVariants.{Input, Memory, Read, Long, Write}
+use Rattle.text_printing.specs.Printing.{IsDevices}
 use Rattle.text_report.specs.declared.verdict.Missing.{Missing}
 use Rattle.text_report.specs.Absences.{IsExplained}
 use Rattle.text_report.specs.ReportText.{report_text}
@@ -116,6 +117,13 @@ IsFaultOfEnds near far Memory = failure_of near far ≡ None
 IsFaultOfEnds near far Read = ⊥
 IsFaultOfEnds near far Long = ⊥
 IsFaultOfEnds near far Write = failure_of near far ≡ None
+
+-- that the sink failed is told exactly where it did in that call: how often its writes have failed before the call and behind
+-- it
+abbrev pub FailsByWrites : {T : Type 0} → Result T (Fault RunFault) → ℕ → ℕ → Type 0
+FailsByWrites result writes writes' =
+    MatchResult result (λ answer. writes' ≡ writes)
+    (λ fault. IsDevices fault ⊥ ⊥ (writes' ≢ writes) (writes' ≡ writes))
 
 -- this is the failure of what the traffic came to at its ends
 pub record FailsAt (traffic : Traffic) (fault : RunFault) : Type 0 where

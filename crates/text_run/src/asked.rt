@@ -1,6 +1,7 @@
 //! A run as its words ask for it.
-ghost use Rattle.std.specs.Prelude.{◌≡◌, ◌≢◌, IfErr, OnOk};
+ghost use Rattle.std.specs.Prelude.{◌≡◌, IfErr};
 ghost use Rattle.text_run.specs.Asked.{IsFaultOfAsked, IsTrafficOf, RunsAsked, milliseconds};
+ghost use Rattle.text_run.specs.Running.{FailsByWrites};
 
 use super::fault::RunFault;
 use super::progress::Progress;
@@ -30,8 +31,7 @@ pub fn run<R: Threads + Wait + Clock + Eprint + Copy + Send + Sync + 'static, W:
 ) -> Result<Option<Missing>, Fault<RunFault>>
     ensures text { RunsAsked words.now result (W.written sink.old) (W.written sink.new) }
     ensures fault { IfErr result (IsFaultOfAsked words.now) }
-    ensures failed { IfErr result (λ fault. fault ≡ Fault.Write → W.failures sink.new ≢ W.failures sink.old) }
-    ensures sound { OnOk result (W.failures sink.new ≡ W.failures sink.old) }
+    ensures failed { FailsByWrites result (W.failures sink.old) (W.failures sink.new) }
 {
     let traffic = traffic_of(words);
     let Ok((near, far)) = gates_of(alloc, &traffic) else {

@@ -1,9 +1,9 @@
 //! A run, from its traffic to what is written.
-ghost use Rattle.std.specs.Prelude.{◌≡◌, ◌≢◌, ◌≤◌, ℕ, All, IfErr, IfOk, OnOk, Option, None, length};
+ghost use Rattle.std.specs.Prelude.{◌≡◌, ◌≤◌, ℕ, All, IfErr, IfOk, Option, None, length};
 ghost use Rattle.bank_core.specs.Faults.{EndsEarly};
 ghost use Rattle.text_run.specs.Failures.{failure_of};
 ghost use Rattle.text_run.specs.RunText.{run_text};
-ghost use Rattle.text_run.specs.Running.{IsAnEnd, IsFaultOfEnds, IsFaultOfRun, Runs, TellsLack, WritesAll, WritesEnds, IsMissing, IsShown, showing, shown_text};
+ghost use Rattle.text_run.specs.Running.{FailsByWrites, IsAnEnd, IsFaultOfEnds, IsFaultOfRun, Runs, TellsLack, WritesAll, WritesEnds, IsMissing, IsShown, showing, shown_text};
 
 use super::capturing::capture_of;
 use super::failures::find_failure;
@@ -55,8 +55,7 @@ pub fn write_run<
     ensures text { (delivered : Option ℕ) × (time : Option ℕ) × F.post ended delivered time
         × Runs traffic.now report time result (W.written sink.old) (W.written sink.new) }
     ensures fault { IfErr result (IsFaultOfRun traffic.now) }
-    ensures failed { IfErr result (λ fault. fault ≡ Fault.Write → W.failures sink.new ≢ W.failures sink.old) }
-    ensures sound { OnOk result (W.failures sink.new ≡ W.failures sink.old) }
+    ensures failed { FailsByWrites result (W.failures sink.old) (W.failures sink.new) }
 {
     let (near_gate, far_gate) = gates;
     let came_to = run_through(rt, alloc, traffic, near_gate, far_gate);
@@ -107,8 +106,7 @@ pub fn write_ends<W: Sink>(
     requires few { (length near.now ≤ 16) × (length far.now ≤ 16) }
     ensures text { WritesEnds traffic.now (showing shown) near.now far.now result (W.written sink.old) (W.written sink.new) }
     ensures fault { IfErr result (IsFaultOfEnds near.now far.now) }
-    ensures failed { IfErr result (λ fault. fault ≡ Fault.Write → W.failures sink.new ≢ W.failures sink.old) }
-    ensures sound { OnOk result (W.failures sink.new ≡ W.failures sink.old) }
+    ensures failed { FailsByWrites result (W.failures sink.old) (W.failures sink.new) }
 {
     match find_failure(near, far) {
         Some(fault) => Err(Fault::Input(fault)),
@@ -130,8 +128,7 @@ fn write_text<W: Sink>(
     requires none { failure_of near.now far.now ≡ None }
     ensures text { WritesEnds traffic.now (showing shown) near.now far.now result (W.written sink.old) (W.written sink.new) }
     ensures fault { IfErr result (IsFaultOfEnds near.now far.now) }
-    ensures failed { IfErr result (λ fault. fault ≡ Fault.Write → W.failures sink.new ≢ W.failures sink.old) }
-    ensures sound { OnOk result (W.failures sink.new ≡ W.failures sink.old) }
+    ensures failed { FailsByWrites result (W.failures sink.old) (W.failures sink.new) }
 {
     match report_on(alloc, traffic, near, far, shown) {
         Ok(report) => match write_all(sink, &report.text) {
@@ -210,8 +207,7 @@ fn text_of(alloc: Global, near: &[SetEnd], far: &[SetEnd]) -> Result<Vec<u8>, Al
 fn write_all<W: Sink>(sink: &mut W, octets: &[u8]) -> Result<(), Fault<RunFault>>
     ensures writes { WritesAll octets.now result (W.written sink.old) (W.written sink.new) }
     ensures fault { IfErr result (λ fault. fault ≡ Fault.Write) }
-    ensures failed { IfErr result (λ fault. W.failures sink.new ≢ W.failures sink.old) }
-    ensures sound { OnOk result (W.failures sink.new ≡ W.failures sink.old) }
+    ensures failed { FailsByWrites result (W.failures sink.old) (W.failures sink.new) }
 {
     let mut written: usize = 0;
     while written < octets.len() {

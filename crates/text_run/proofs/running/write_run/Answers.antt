@@ -2,7 +2,7 @@ use Rattle.std.proofs.Common.{refl, arith, ◌∙◌, ap, sym, subst, All, lengt
 use Rattle.bank_traffic.specs.Opening.{AreEndsOf, far_end, near_end}
 use Rattle.text_run.specs.Running.{IsAnEnd, IsRunText}
 use Rattle.text_run.proofs.Ends.{ends_of, nothing_written, runs_of}
-use Rattle.text_run.proofs.Failing.{fault_of_run, lack_of_run}
+use Rattle.text_run.proofs.Failing.{fault_of_run, lack_fails, lack_of_run}
 use Rattle.text_run.proofs.running.write_run.Goals as goal
 
 -- src/running.rt
@@ -44,3 +44,6 @@ returns-in-Err-clause-fault g c = lack_of_run c.args.traffic.now c.in-Err.fault 
 pub returns-in-Err-clause-text : goal.returns-in-Err-clause-text
 returns-in-Err-clause-text g c =
     (c.match-delivered.result, c.ended-time.result, c.ended-time.ensures, nothing_written (IsRunText c.args.traffic.now c.args.report c.ended-time.result) c.in-Err.fault c.fault_of.result _ c.fault_of.ensures)
+
+pub returns-in-Err-clause-failed : goal.returns-in-Err-clause-failed
+returns-in-Err-clause-failed g c = lack_fails c.in-Err.fault c.fault_of.result _ c.fault_of.ensures
