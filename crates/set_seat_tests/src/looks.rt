@@ -32,6 +32,12 @@ const fn stands(settled: bool, counts: Counts) -> LinkNow {
     }
 }
 
+/// The link fails.
+fn leaves<O: Opening, R: Wait>(rt: &R, set: &LinkSet<O>, seat: &mut TermSeat<O>) -> bool {
+    let link = seat.link();
+    set.term_step(rt, seat, &Event::Down { link }).is_ok()
+}
+
 /// A link that never was up is settled, and a message is parked; up it isn't, and the message is acknowledged there; left it
 /// isn't either. The set has no link 1.
 fn looks<O: Opening, R: Wait>(
@@ -40,7 +46,6 @@ fn looks<O: Opening, R: Wait>(
     user: &mut UserSeat<O>,
     terminal: &mut TermSeat<O>,
 ) -> bool {
-    let link = terminal.link();
     let parked = Counts { parked: 1, ..NONE };
     let acked = Counts { acked: 1, ..NONE };
     set.look(rt, user, 0) == stands(true, NONE)
@@ -48,7 +53,7 @@ fn looks<O: Opening, R: Wait>(
         && set.look(rt, user, 0) == stands(true, parked)
         && sends_it(rt, set, terminal)
         && set.look(rt, terminal, 0) == stands(false, acked)
-        && set.term_step(rt, terminal, &Event::Down { link }).is_ok()
+        && leaves(rt, set, terminal)
         && set.look(rt, terminal, 0) == stands(false, acked)
         && set.look(rt, user, 1) == stands(false, acked)
 }

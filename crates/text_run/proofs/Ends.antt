@@ -1,5 +1,5 @@
 -- The ends of a traffic, one by one, and what is written of them.
-use Rattle.std.proofs.Common.{refl, arith, ◌≡◌, ap, sym, subst, ℕ, zero, suc, Bool, false, List, [], ◌∷◌, ◌++◌, length, map, Option, Result, Ok, Err, All, IsOk, IfErr}
+use Rattle.std.proofs.Common.{refl, arith, ◌≡◌, ap, sym, subst, ℕ, zero, suc, Bool, false, List, [], ◌∷◌, ◌++◌, length, map, Option, Result, Ok, Err, All, IsOk, IfErr, IfOk}
 use Rattle.std.specs.Result.{is_err}
 use Rattle.std.proofs.lemmas.List.{length-append, length-map}
 use Rattle.std.proofs.lemmas.List.Elements.{All-nil, All-cons}
@@ -110,3 +110,8 @@ nothing_written P Sets fault old is = absurd is
 nothing_written P NoThread fault old is = subst (λ (f : Fault RunFault). WritesText P (Err f) old old) (sym is) (record { printed = []; added = Appends-nil old; ends = refl })
 nothing_written P Unclosed fault old is = subst (λ (f : Fault RunFault). WritesText P (Err f) old old) (sym is) (record { printed = []; added = Appends-nil old; ends = refl })
 nothing_written P Wide fault old is = absurd is
+
+-- what is known of a result where it's well
+pub when_ok : {A B : Type 0} (P : A → Type 0) (result : Result A B) (it : A) → IfOk result P → result ≡ Ok it → P it
+when_ok P (Ok other) it holds is = subst P (cc is) holds
+when_ok P (Err fault) it holds is = absurd (cc is)

@@ -1,12 +1,9 @@
 -- A RUN AS ITS WORDS ASK FOR IT.
-use Rattle.std.specs.Prelude.{◌≡◌, ◌/◌, ℕ, List, Option, Result}
-use Rattle.std.specs.Duration.{as_nanos}
-use Rattle.std.specs.declared.time.Duration.{Duration}
+use Rattle.std.specs.Prelude.{◌≡◌, ℕ, List, Option, Result}
 use Rattle.mtpbank_words.specs.declared.run_words.RunWords.{RunWords}
 use Rattle.bank_traffic.specs.declared.asked.Traffic.{Traffic}
 use Rattle.text_printing.specs.declared.fault.Fault.{Fault}
 use Rattle.text_report.specs.declared.verdict.Missing.{Missing}
-use Rattle.text_report.specs.Figures.{capped}
 use Rattle.text_run.specs.declared.fault.RunFault.{RunFault}
 use Rattle.text_run.specs.Running.{IsFaultOfRun, IsRunText, WritesText}
 
@@ -30,10 +27,6 @@ abbrev pub IsTextAsked : RunWords → Option Missing → List ℕ → Type 0
 IsTextAsked words missing text =
     (traffic : Traffic) × (time : Option ℕ) × IsTrafficOf words traffic
     × IsRunText traffic words.report time missing text
-
--- a length of time in milliseconds, as it's told: up to 2^64 - 1
-abbrev pub milliseconds : Duration → ℕ
-milliseconds elapsed = capped (as_nanos elapsed / 1000000)
 
 -- THE RUN: what was written is the text of what the threads came to
 abbrev pub RunsAsked : RunWords → Result (Option Missing) (Fault RunFault) → Option (List ℕ) → Option (List ℕ) → Type 0

@@ -1,6 +1,8 @@
 -- A RUN, from its traffic to what is written.
-use Rattle.std.specs.Prelude.{◌≡◌, ◌≢◌, ℕ, Bool, true, false, List, [], ◌++◌, Option, None, Some, Result, MatchResult, All, IsOk, if◌then◌else◌}
+use Rattle.std.specs.Prelude.{◌≡◌, ◌/◌, ◌≢◌, ℕ, Bool, true, false, List, [], ◌++◌, Option, None, Some, Result, MatchResult, All, IsOk, if◌then◌else◌}
+use Rattle.std.specs.Duration.{as_nanos}
 use Rattle.std.specs.Io.KnownBytes.{Appends}
+use Rattle.std.specs.declared.time.Duration.{Duration}
 use Rattle.set_events.specs.declared.config.SetConfig.{SetConfig}
 use Rattle.bank_crew.specs.declared.end.SetEnd.{SetEnd}
 use Rattle.bank_crew.specs.Ends.{IsEndOf}
@@ -13,6 +15,7 @@ use Rattle.text_printing.specs.declared.fault.Fault.TheVariants.{Input, Memory, 
 use Rattle.text_printing.specs.Printing.{IsDevices}
 use Rattle.text_report.specs.declared.verdict.Missing.{Missing}
 use Rattle.text_report.specs.Absences.{IsExplained}
+use Rattle.text_report.specs.Figures.{capped}
 use Rattle.text_report.specs.ReportText.{report_text}
 use Rattle.text_report.specs.Verdict.{IsVerdict}
 use Rattle.text_run.specs.declared.fault.RunFault.{RunFault}
@@ -103,6 +106,10 @@ WritesAll octets result old new = WritesText (λ (done : Unit {0}) (printed : Li
 abbrev pub WritesEnds : Traffic → Showing → List SetEnd → List SetEnd → Result (Option Missing) (Fault RunFault)
     → Option (List ℕ) → Option (List ℕ) → Type 0
 WritesEnds traffic shown near far result old new = WritesText (IsTextOfEnds traffic shown near far) result old new
+
+-- a length of time in milliseconds, as it's told: up to 2^64 - 1
+abbrev pub milliseconds : Duration → ℕ
+milliseconds elapsed = capped (as_nanos elapsed / 1000000)
 
 -- THE RUN: what was written is the text of what the threads came to in this time
 abbrev pub Runs : Traffic → Bool → Option ℕ → Result (Option Missing) (Fault RunFault) → Option (List ℕ)

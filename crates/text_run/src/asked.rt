@@ -1,6 +1,6 @@
 //! A run as its words ask for it.
 ghost use Rattle.std.specs.Prelude.{◌≡◌, IfErr};
-ghost use Rattle.text_run.specs.Asked.{IsFaultOfAsked, IsTrafficOf, RunsAsked, milliseconds};
+ghost use Rattle.text_run.specs.Asked.{IsFaultOfAsked, IsTrafficOf, RunsAsked};
 ghost use Rattle.text_run.specs.Running.{FailsByWrites};
 
 use super::fault::RunFault;
@@ -51,14 +51,14 @@ pub fn run<R: Threads + Wait + Clock + Eprint + Copy + Send + Sync + 'static, W:
         words.report,
         sink,
         |delivered| {
-            let time = milliseconds_since(rt, since);
+            let elapsed = elapsed_since(rt, since);
             if let Some(progress) = progress {
                 progress.end(rt);
             }
             if shows && !words.report {
                 tell_delivered(rt, words, delivered);
             }
-            time
+            elapsed
         },
     )
 }
@@ -74,17 +74,9 @@ fn tell_delivered<R: Eprint>(rt: &R, words: &RunWords, delivered: Option<u64>) {
     }
 }
 
-/// How many milliseconds went by since then, if a clock tells them.
-fn milliseconds_since<R: Clock>(rt: &R, since: Option<Instant>) -> Option<u64> {
-    let elapsed = since?.elapsed(rt).ok()?;
-    Some(milliseconds_of(elapsed))
-}
-
-/// How many milliseconds this is, up to 2^64 - 1.
-fn milliseconds_of(elapsed: Duration) -> u64
-    ensures { result ≡ milliseconds elapsed }
-{
-    elapsed.as_millis().min(u128::from(u64::MAX)) as u64
+/// How much time went by since then, if a clock tells it.
+fn elapsed_since<R: Clock>(rt: &R, since: Option<Instant>) -> Option<Duration> {
+    since?.elapsed(rt).ok()
 }
 
 /// Begins to tell how far a run of these words is.

@@ -1,9 +1,11 @@
 //! A run, from its traffic to what is written.
 ghost use Rattle.std.specs.Prelude.{◌≡◌, ◌≤◌, ℕ, All, IfErr, IfOk, Option, None, length};
 ghost use Rattle.bank_core.specs.Faults.{EndsEarly};
+ghost use Rattle.std.specs.Option.{option_map};
+ghost use Rattle.std.specs.declared.time.Duration.{Duration};
 ghost use Rattle.text_run.specs.Failures.{failure_of};
 ghost use Rattle.text_run.specs.RunText.{run_text};
-ghost use Rattle.text_run.specs.Running.{FailsByWrites, IsAnEnd, IsFaultOfEnds, IsFaultOfRun, Runs, TellsLack, WritesAll, WritesEnds, IsMissing, IsShown, showing, shown_text};
+ghost use Rattle.text_run.specs.Running.{FailsByWrites, IsAnEnd, IsFaultOfEnds, IsFaultOfRun, Runs, TellsLack, WritesAll, WritesEnds, IsMissing, IsShown, milliseconds, showing, shown_text};
 
 use super::capturing::capture_of;
 use super::failures::find_failure;
@@ -11,11 +13,11 @@ use super::fault::RunFault;
 use super::summing::totals_of_ends;
 use super::texts::write_all_sets;
 use bank_core::{BankFault, SetEnd};
-use bank_traffic::{PaceGate, Traffic, run_through};
+use bank_traffic::{PaceGate, Traffic, TrafficEnds, run_through};
 use std::alloc::{AllocError, Global};
 use std::sync::Wait;
 use std::thread::Threads;
-use std::time::Clock;
+use std::time::{Clock, Duration};
 use text_printing::{Fault, Sink};
 use text_report::{Missing, Report, delivered_to, report_of};
 
@@ -33,7 +35,7 @@ pub struct Shown {
 /// Runs this traffic through these gates, and writes what its sets came to at both ends; with `report` behind that a
 /// report, in which case the answer is the first message that is missing, if one is. Where the traffic keeps what is sent,
 /// the capture of that is written in place of all these. When all threads have ended, before anything is written, `ended`
-/// is told how many messages the ends b accepted, where the sets came to ends, and tells how many milliseconds they took.
+/// is told how many messages the ends b accepted, where the sets came to ends, and tells how long they took.
 ///
 /// Faults: [`RunFault::Thread`] and [`RunFault::Close`] as [`run_through`] has them; [`Fault::Memory`] where memory was
 /// wanted there or here; [`RunFault::User`] or [`RunFault::Terminal`] of the first user that ended early or terminal
@@ -41,7 +43,7 @@ pub struct Shown {
 pub fn write_run<
     R: Threads + Wait + Clock + Copy + Send + Sync + 'static,
     W: Sink,
-    F: FnOnce(Option<u64>) -> Option<u64>,
+    F: FnOnce(Option<u64>) -> Option<Duration>,
 >(
     rt: &R,
     alloc: Global,
@@ -52,18 +54,15 @@ pub fn write_run<
     ended: F,
 ) -> Result<Option<Missing>, Fault<RunFault>>
     requires callable { F.IsAlwaysCallable ended }
-    ensures text { (delivered : Option ℕ) × (time : Option ℕ) × F.post ended delivered time
-        × Runs traffic.now report time result (W.written sink.old) (W.written sink.new) }
+    ensures text { (delivered : Option ℕ) × (elapsed : Option Duration) × F.post ended delivered elapsed
+        × Runs traffic.now report (option_map milliseconds elapsed) result (W.written sink.old) (W.written sink.new) }
     ensures fault { IfErr result (IsFaultOfRun traffic.now) }
     ensures failed { FailsByWrites result (W.failures sink.old) (W.failures sink.new) }
 {
     let (near_gate, far_gate) = gates;
     let came_to = run_through(rt, alloc, traffic, near_gate, far_gate);
-    let delivered = match &came_to {
-        Ok(ends) => Some(delivered_to(&ends.far)),
-        Err(_) => None,
-    };
-    let time = ended(delivered);
+    let delivered = delivered_by(&came_to);
+    let time = time_of(ended(delivered));
     let shown = Shown {
         report,
         capture: traffic.keeps,
@@ -74,6 +73,31 @@ pub fn write_run<
         Err(fault) => return Err(fault_of(fault)),
     };
     write_ends(alloc, traffic, &ends.near, &ends.far, shown, sink)
+}
+
+/// How many milliseconds this is, if a clock told it.
+fn time_of(elapsed: Option<Duration>) -> Option<u64>
+    ensures { result ≡ option_map milliseconds elapsed }
+{
+    match elapsed {
+        Some(elapsed) => Some(milliseconds_of(elapsed)),
+        None => None,
+    }
+}
+
+/// How many milliseconds this is, up to 2^64 - 1.
+fn milliseconds_of(elapsed: Duration) -> u64
+    ensures { result ≡ milliseconds elapsed }
+{
+    elapsed.as_millis().min(u128::from(u64::MAX)) as u64
+}
+
+/// How many messages the ends b accepted, where the sets came to ends.
+fn delivered_by(came_to: &Result<TrafficEnds, BankFault>) -> Option<u64> {
+    match came_to {
+        Ok(ends) => Some(delivered_to(&ends.far)),
+        Err(_) => None,
+    }
 }
 
 /// Why there is nothing to write.
