@@ -1,4 +1,5 @@
 pub mod Calm
+pub mod CalmSteps
 pub mod Flushing
 pub mod Hearing
 pub mod OneEnd
