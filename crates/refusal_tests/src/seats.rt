@@ -274,9 +274,9 @@ fn forgets<O: Opening, G: Allocator + Copy, S: Seat<O>>(held: &Held<O, G>, seat:
     let (share, receipts) = (seat.share(), seat.receipts().len());
     for _ in 0..TRIES {
         match forget(held, seat) {
-            Ok(()) => {
+            Ok(calls) => {
                 let gone = seat.receipts().len() == 0 && seat.forgotten().calls == receipts as u64;
-                return gone && seat.share() == share;
+                return gone && calls == receipts as u64 && seat.share() == share;
             }
             Err(_) => {
                 if seat.share() != share || seat.receipts().len() != receipts {
