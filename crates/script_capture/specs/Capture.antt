@@ -1,7 +1,7 @@
 -- THE CAPTURE of a script: a pcap file of link type 139 (MTP2 with a pseudo-header), which holds each unit that its
 -- ends send, with its direction and its link.
 use Rattle.std.specs.Prelude.{ℕ, Bool, List, [], ◌∷◌, ◌++◌, ◌+◌, ◌*◌, ◌/◌, ◌%◌, length, Option, Some, None, if◌then◌else◌}
-use Rattle.l2_units.specs.Grammar.{head_of, body_of}
+use Rattle.l2_units.specs.Grammar.{head_of as header_of, body_of}
 use Rattle.l2_units.specs.declared.unit.Header.{Header}
 use Rattle.l2_units.specs.declared.unit.Unit.{Unit as SignalUnit}
 use Rattle.l2_units.specs.declared.profile.Profile.{Profile}
@@ -17,33 +17,22 @@ use Rattle.pair_model.specs.World.{World}
 use Rattle.pair_rises.specs.declared.moves.Move.{Move}
 use Rattle.pair_rises.specs.declared.moves.Move.TheVariants.{Step as MoveStep, Rise, Fill}
 use Rattle.script_answers.specs.Texts.{unit_octets}
+use Rattle.text_pcap.specs.PcapFile.{file_head, record_at, two}
 use Rattle.text_printing.specs.Printing.{Printed}
 use Rattle.script_walk.specs.declared.fault.ScriptFault.{ScriptFault}
 use Rattle.script_walk.specs.Scripts.{Told, profile_of, IsScriptText}
 
--- the low 16 and the low 32 bits of a number, the low octet first
-abbrev pub two : ℕ → List ℕ
-two n = (n % 256) ∷ (n / 256 % 256) ∷ []
-
-abbrev pub four : ℕ → List ℕ
-four n = (n % 256) ∷ (n / 256 % 256) ∷ (n / 65536 % 256) ∷ (n / 16777216 % 256) ∷ []
-
--- the file begins with the magic number of time stamps in microseconds, version 2.4, no offset and no accuracy of the
--- time stamps, the most octets that a record holds, and the link type
+-- the file's head, by the most octets that a record holds
 abbrev pub longest_record : Profile → ℕ
 longest_record Narrow = 280
 longest_record Wide = 282
 
-abbrev pub file_head : Profile → List ℕ
-file_head profile =
-    four 2712847316 ++ (two 2 ++ (two 4 ++ (four 0 ++ (four 0 ++ (four (longest_record profile) ++ four 139)))))
+abbrev pub head_of : Profile → List ℕ
+head_of profile = file_head (longest_record profile)
 
--- a record: its time, a millisecond for each line, in seconds and microseconds; how many octets it holds, and how many
--- there were; and the octets
+-- a record: its time is a millisecond for each line
 abbrev pub record_of : ℕ → List ℕ → List ℕ
-record_of n octets =
-    four (n / 1000) ++ (four (n % 1000 * 1000)
-    ++ (four (length octets) ++ (four (length octets) ++ octets)))
+record_of n octets = record_at (n / 1000) (n % 1000 * 1000) octets
 
 -- end a's side is the one that captures: it sends its own units and receives those of end b
 abbrev pub direction : End → ℕ
@@ -72,7 +61,7 @@ annex_a_octets head body =
 -- a unit as analysers read it: a wide one, whose own four octets of header none of them knows, is translated
 abbrev pub captured : Profile → SignalUnit → List ℕ
 captured Narrow unit = unit_octets Narrow unit
-captured Wide unit = annex_a_octets (head_of unit) (body_of unit)
+captured Wide unit = annex_a_octets (header_of unit) (body_of unit)
 
 -- a sent unit has a record, without its check octets
 abbrev pub answer_record : Profile → ℕ → List ℕ → Answer → List ℕ
@@ -103,12 +92,12 @@ move_record profile n (MoveStep (Inject end link unit)) shown = []
 
 -- a script that makes no world leaves the head alone, that of the narrow profile
 abbrev pub at_the_end : Option World → List ℕ
-at_the_end None = file_head Narrow
+at_the_end None = head_of Narrow
 at_the_end (Some w) = []
 
 abbrev pub capture_told : Told
 capture_told = record {
-  opening = λ w. file_head (profile_of w);
+  opening = λ w. head_of (profile_of w);
   step = λ n before move shown w. move_record (profile_of w) n move shown;
   at_the_end = at_the_end;
 }

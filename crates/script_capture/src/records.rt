@@ -1,32 +1,31 @@
-//! The parts of a pcap file.
+//! The head and the records of a script's capture.
 ghost use Rattle.std.specs.Prelude.{◌≡◌, ◌++◌, IfOk};
 ghost use Rattle.l2_units.specs.Lent.{unit_in};
 ghost use Rattle.l2_units.specs.declared.profile.Profile.TheVariants.{Narrow, Wide};
-ghost use Rattle.script_capture.specs.Capture.{annex_a, annex_a_octets, captured, direction, file_head, four, pseudo_header, record_of, two, with_bit};
+ghost use Rattle.script_capture.specs.Capture.{annex_a, annex_a_octets, captured, direction, head_of, longest_record, pseudo_header, record_of, with_bit};
+ghost use Rattle.text_pcap.specs.PcapFile.{two};
 
 use l2_units::{Header, Profile, UnitRef};
 use pair_steps::End;
 use script_answers::{UnitOctets, unit_octets};
 use std::alloc::{AllocError, Global};
+use text_pcap::{head_of_file, write_record};
 
-/// What the file begins with, in its low octet first: the magic number of microseconds, version 2.4, no offset and no
-/// accuracy of time stamps, the most octets of a record, the link type.
-const FILE_HEAD: [u8; 24] = [
-    0xD4, 0xC3, 0xB2, 0xA1, 2, 0, 4, 0, 0, 0, 0, 0, 0, 0, 0, 0, 0x18, 0x01, 0, 0, 139, 0, 0, 0,
-];
-
-/// What the file begins with: a wide unit takes two octets more than a narrow one.
-pub(crate) fn head_of_file(profile: Profile) -> [u8; 24]
-    ensures { result ≡ file_head profile }
+/// The most octets of a record: a wide unit takes two octets more than a narrow one.
+fn longest_record(profile: Profile) -> u16
+    ensures { result ≡ longest_record profile }
 {
-    let mut head = FILE_HEAD;
     match profile {
-        Profile::Narrow => head,
-        Profile::Wide => {
-            head[16] += 2;
-            head
-        }
+        Profile::Narrow => 280,
+        Profile::Wide => 282,
     }
+}
+
+/// What the file begins with.
+pub(crate) fn head_of_capture(profile: Profile) -> [u8; 24]
+    ensures { result ≡ head_of profile }
+{
+    head_of_file(longest_record(profile))
 }
 
 /// The low 16 bits of a number, the low octet first.
@@ -34,18 +33,6 @@ fn split_in_two(number: u64) -> [u8; 2]
     ensures { result ≡ two number }
 {
     [(number % 256) as u8, (number / 256 % 256) as u8]
-}
-
-/// The low 32 bits of a number, the low octet first.
-fn split_in_four(number: u64) -> [u8; 4]
-    ensures { result ≡ four number }
-{
-    [
-        (number % 256) as u8,
-        (number / 256 % 256) as u8,
-        (number / 65_536 % 256) as u8,
-        (number / 16_777_216 % 256) as u8,
-    ]
 }
 
 /// 1 for a unit that end a sends, and 0 for one that it receives.
@@ -121,8 +108,8 @@ fn add_bit(number: u16, indicator: bool) -> u64
     u64::from(number) + if indicator { 0x8000 } else { 0 }
 }
 
-/// The record of a unit that the line of this number sent from the end on the link.
-pub(crate) fn write_record(
+/// The record of a unit that the line of this number sent from the end on the link: each line lasts a millisecond.
+pub(crate) fn record_of(
     alloc: Global,
     profile: Profile,
     number: u64,
@@ -135,18 +122,5 @@ pub(crate) fn write_record(
 {
     let mut octets = Vec::from_slice(alloc, &[direction_of(end), form_of(profile), 0, link])?;
     octets.extend_from_slice(&write_captured(alloc, profile, unit)?)?;
-    write_stamped(alloc, number, &octets)
-}
-
-/// The record of these octets, of the line of this number.
-fn write_stamped(alloc: Global, number: u64, octets: &[u8]) -> Result<Vec<u8>, AllocError>
-    ensures { IfOk result (λ made. made.items ≡ record_of number octets.now) }
-{
-    let length = split_in_four(octets.len() as u64);
-    let mut record = Vec::from_slice(alloc, &split_in_four(number / 1_000))?;
-    record.extend_from_slice(&split_in_four(number % 1_000 * 1_000))?;
-    record.extend_from_slice(&length)?;
-    record.extend_from_slice(&length)?;
-    record.extend_from_slice(octets)?;
-    Ok(record)
+    write_record(alloc, number / 1_000, number % 1_000 * 1_000, &octets)
 }

@@ -3,7 +3,7 @@ ghost use Rattle.std.specs.Prelude.{◌≡◌, ◌≤◌, ◌^◌, ◌++◌, len
 ghost use Rattle.text_printing.specs.Printing.{Prints, FailsByDevices};
 ghost use Rattle.script_capture.specs.Capture.{IsCapture, pseudo_header, shown_record};
 
-use super::records::{head_of_file, write_record};
+use super::records::{head_of_capture, record_of};
 use l2_units::Profile;
 use pair_steps::{End, Showing, ShownRef, Step};
 use pair_world::{Move, World};
@@ -27,7 +27,7 @@ impl Account for Units {
     fn note(_alloc: Global, _world: &World, _next: &Move) {}
 
     fn tell_opening(_alloc: Global, world: &World, out: &mut Vec<u8>) -> Result<(), AllocError> {
-        out.extend_from_slice(&head_of_file(world_profile(world)))
+        out.extend_from_slice(&head_of_capture(world_profile(world)))
     }
 
     fn tell_step(
@@ -54,7 +54,7 @@ impl Account for Units {
     ) -> Result<(), AllocError> {
         match world {
             Some(_) => Ok(()),
-            None => out.extend_from_slice(&head_of_file(Profile::Narrow)),
+            None => out.extend_from_slice(&head_of_capture(Profile::Narrow)),
         }
     }
 }
@@ -76,7 +76,7 @@ fn tell_sent(
 {
     match shown.get() {
         ShownRef::Answered(AnswerRef::Sent { unit }) => {
-            out.extend_from_slice(&write_record(alloc, profile, number, end, link, &unit)?)
+            out.extend_from_slice(&record_of(alloc, profile, number, end, link, &unit)?)
         }
         _ => Ok(()),
     }
