@@ -1,10 +1,6 @@
 -- AN END THAT IS NEVER TOLD THAT IT'S BUSY sends no status but those of a link that isn't in service (`turn_calm`): flow control stays
 -- as it is, and alignment names no other. Each step of a turn keeps it, as in Sending.antt, whatever comes on the line. Used by CalmSteps.antt.
 use Rattle.std.proofs.Common.{refl, sym, subst, arith, ◌≡◌, ◌∙◌, ◌==◌, ◌||◌, ◌&&◌, ◌+◌, ℕ, zero, suc, nat_lt, length, Bool, true, false, not, List, [], ◌∷◌, ◌++◌, All, Option, Some, None, slice_get, slice_set, if◌then◌else◌}
-use Rattle.std.proofs.lemmas.Bool.{cond_both}
-use Rattle.std.proofs.lemmas.List.Elements.{All-append, All-cons, All-nil}
-use Rattle.std.proofs.lemmas.Grind.{flat_map-append}
-use Rattle.std.specs.Option.{option_to_list}
 use Rattle.l2_units.specs.declared.cause.Cause.{Cause}
 use Rattle.l2_units.specs.declared.cause.ControlFault.{ControlFault}
 use Rattle.l2_units.specs.declared.status.Status.{Status}
@@ -38,27 +34,9 @@ use Rattle.term_model.specs.Talk.{Talk, done, ask, and_then}
 use Rattle.term_model.specs.Terminal.{Terminal, last_head, no_commands}
 use Rattle.term_model.specs.Timing.{lessened, is_over, ends_t1, ends_t2, ends_t3, ends_t4, ends_t5, ends_t6, ends_t7, timed}
 use Rattle.term_model.specs.Turn.{turn_talk}
-use Rattle.set_events.specs.declared.event.Actor.TheVariants.{Terminal as TerminalOf}
-use Rattle.set_model.specs.Changeover.{cleared}
-use Rattle.set_model.specs.Rows.{Row}
-use Rattle.set_model.specs.State.{LinkState, State, has_phase_up}
-use Rattle.set_model.specs.Step.{NotUp, Outcome as SetOutcome, next, refused, step, unit_of, with_known}
-use Rattle.set_model.proofs.Lists.{each_set}
-use Rattle.term_bench.specs.Ends.{AtLink, BenchState, new_link, new_links, told_at}
-use Rattle.term_bench.specs.Talks.{outcome_with}
-use Rattle.term_bench.specs.Turns.{IsTurnBy}
-use Rattle.term_model.specs.Runs.{Doing, units_of}
-use Rattle.term_model.specs.declared.command.Command.{Command}
-use Rattle.term_model.specs.declared.timers.Timers.{Timers}
-use Rattle.pair_steps.specs.declared.step.End.{End}
-use Rattle.pair_steps.specs.declared.step.End.TheVariants.{A, B}
-use Rattle.pair_octets.specs.Wires.{Wires, Sides, CommandsIf, Happen, Happens, TakesTurn, is_refused, new_wires}
-use Rattle.pair_octets.specs.Passing.{all_turns, doing_in, is_same, turns_if, turns_in}
-use Rattle.pair_octets.specs.declared.step.WireStep.{WireStep}
-use Rattle.pair_octets.specs.declared.step.WireStep.TheVariants.{Turn, Command as CommandStep, Ask, Damage}
-use Rattle.pair_octets.proofs.OneEnd.{EachLink, ended_each}
-use Rattle.pair_octets.proofs.Passing.{each_more}
-use Rattle.pair_octets.specs.Calm.{AreCalm, EachStatusIsPlain, IsCalm, IsCalmCommand, is_plain, IsPlainUnit}
+use Rattle.set_model.specs.Step.{next, step}
+use Rattle.pair_steps.specs.declared.step.End.TheVariants.{A}
+use Rattle.pair_octets.specs.Calm.{is_plain, IsPlainUnit}
 use Rattle.pair_octets.proofs.Talking.{KeepsBy, if_by, in_turn_by, then_by}
 
 abbrev pub Any : Event → Type 0

@@ -5,38 +5,11 @@ use Rattle.std.proofs.lemmas.Bool.{cond_both}
 use Rattle.std.proofs.lemmas.List.Elements.{All-append, All-cons, All-nil}
 use Rattle.std.proofs.lemmas.Grind.{flat_map-append}
 use Rattle.std.specs.Option.{option_to_list}
-use Rattle.l2_units.specs.declared.cause.Cause.{Cause}
-use Rattle.l2_units.specs.declared.cause.ControlFault.{ControlFault}
-use Rattle.l2_units.specs.declared.status.Status.{Status}
 use Rattle.l2_units.specs.declared.unit.Unit.{Unit as SignalUnit}
-use Rattle.l2_units.specs.Grammar.{head_of}
-use Rattle.l2_units.specs.Numbers.{cause_of}
-use Rattle.l2_bits.specs.declared.marks.Mark.{Mark}
-use Rattle.l2_monitors.specs.Aerm.{after_mark as after_aerm_mark}
-use Rattle.l2_monitors.specs.Suerm.{Kept, after_mark}
-use Rattle.l2_align.specs.Alignment.{Alignment}
-use Rattle.l2_align.specs.declared.align.State.{State as AlignState}
-use Rattle.l2_align.specs.declared.signals.AlignIn.{AlignIn}
-use Rattle.l2_align.specs.declared.signals.Outcome.{Outcome}
-use Rattle.l2_align.specs.Table.{Row as AlignRow, row as align_row, table, silent, proving, aborted, counted_abort, idle, stop_t4, when_idle, when_not_aligned, when_aligned, when_proving, heard_not_aligned, heard_aligned, heard_proving}
-use Rattle.l2_state.specs.declared.link_state.State.{State as LinkPhase}
-use Rattle.l2_state.specs.declared.signals.StateIn.{StateIn}
-use Rattle.l2_state.specs.declared.signals.Switch.{Switch}
-use Rattle.l2_state.specs.declared.signals.Indication.{Indication}
-use Rattle.l2_state.specs.Table.{is_paused, row as state_row}
-use Rattle.l2_flow.specs.declared.input.FlowIn.{FlowIn}
-use Rattle.l2_flow.specs.Table.{row as flow_table, row_of as flow_row}
 use Rattle.set_events.specs.declared.answer.Answer.{Answer}
-use Rattle.set_events.specs.declared.answer.Refusal.{Refusal}
-use Rattle.set_events.specs.declared.answer.Report.{Report}
 use Rattle.set_events.specs.declared.event.Event.{Event}
-use Rattle.term_model.specs.Choosing.{Filled, sends, sends_status, sends_fisu, sends_start_fisu, counts_sent, given, held_back, is_narrow, sent_by, serves, up_first, chosen, filled}
-use Rattle.term_model.specs.Hearing.{unit_in, is_error, aerm_judges, suerm_judges, service_judges, judges, judged, flow_hears, machines_hear, acked, acks, faults, reported, set_hears, waits, all_hear, heard, marked, all_marked}
-use Rattle.term_model.specs.Machines.{aligns, status_after, switched, after_state, controls, fallen, risen, asks_up, asks_down, tells, state_in, ends, align_in, fails, flow_in, fallen_if, stops_quietly}
-use Rattle.term_model.specs.Obeying.{obeys_if, blinded, commanded}
-use Rattle.term_model.specs.Talk.{Talk, done, ask, and_then}
-use Rattle.term_model.specs.Terminal.{Terminal, last_head, no_commands}
-use Rattle.term_model.specs.Timing.{lessened, is_over, ends_t1, ends_t2, ends_t3, ends_t4, ends_t5, ends_t6, ends_t7, timed}
+use Rattle.term_model.specs.Talk.{Talk, done, ask}
+use Rattle.term_model.specs.Terminal.{Terminal}
 use Rattle.term_model.specs.Turn.{turn_talk}
 use Rattle.set_events.specs.declared.event.Actor.TheVariants.{Terminal as TerminalOf}
 use Rattle.set_model.specs.Changeover.{cleared}
@@ -58,7 +31,7 @@ use Rattle.pair_octets.specs.declared.step.WireStep.{WireStep}
 use Rattle.pair_octets.specs.declared.step.WireStep.TheVariants.{Turn, Command as CommandStep, Ask, Damage}
 use Rattle.pair_octets.proofs.OneEnd.{EachLink, ended_each}
 use Rattle.pair_octets.proofs.Passing.{each_more}
-use Rattle.pair_octets.specs.Calm.{AreCalm, EachStatusIsPlain, IsCalm, IsCalmCommand, is_plain, IsPlainUnit}
+use Rattle.pair_octets.specs.Calm.{AreCalm, EachStatusIsPlain, IsCalm, IsCalmCommand, IsPlainUnit}
 use Rattle.pair_octets.proofs.Calm.{Any, Calm, IsPlainAnswer, PlainOrNone, Sends, turn_calm}
 use Rattle.pair_octets.proofs.Talking.{KeepsBy}
 
