@@ -14,7 +14,7 @@ use Rattle.bank_crew.specs.Managing.{rests_by}
 
 -- SO MANY ASKS T4 lasts, and so many slices T2
 abbrev pub patience : ℕ
-patience = 4096
+patience = 65536
 
 abbrev pub longest_rest : ℕ
 longest_rest = 96

@@ -8,9 +8,10 @@ use super::plan::Managed;
 use super::report::{counts_up, tells_up};
 use set_events::{AnswerRef, EventRef};
 
-/// After so many asks of a link's terminal the answer to a changeback order is waited for no more. At 64 kbit/s 4,096 FISUs
-/// take 3 s, so it's 1.5 s where FISUs come in, too.
-const PATIENCE: u32 = 4_096;
+/// After so many asks of a link's terminal the answer to a changeback order is waited for no more: at 64 kbit/s after 24 s
+/// where FISUs go out and come in. That's longer than T4 and T5 of Q.704 16.8 (own), since the order waits behind a
+/// thousand messages on another link, which damaged units hold up: who gives up too early lets messages overtake.
+const PATIENCE: u32 = 65_536;
 
 /// After so many slices of 256 turns at rest the answer to a changeover order is waited for no more: 3 s at 64 kbit/s.
 const LONGEST_REST: u32 = 96;

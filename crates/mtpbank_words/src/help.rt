@@ -285,7 +285,7 @@ With --report links are managed:
                       messages on their way; its number is its stream's, whose home is the link of that number modulo L
   restart             a link out of service starts again after 6,400 turns (T17, Q.704 16.8), if its set has settled it;
                       each link that comes up asks for its streams
-  no answer           an answer is awaited for 24,576 turns after a changeover, and for 4,096 units after a changeback
+  no answer           an answer is awaited for 24,576 turns after a changeover, for 65,536 units after a changeback
   --fail              the link stops at end a, 4 turns for each message of a user after the users began
   end                 all is offered, nothing waits or is unacknowledged, and the stopped link is up again; or T turns
 Without --report all end after T turns: the user of end b asks for a message 1,000 times, and --fail stops its link for
