@@ -63,7 +63,8 @@ pub fn carry_out<S: Source, W: Sink + Page>(
 ) -> Ended<Fault<TextFault>>
     requires reads { ReadsInput words }
     ensures { IfSome (S.left source.old) (λ input. EndsText words input
-        (W.written sink.old) (W.written sink.new) (W.unread sink.new) result) }
+        (W.written sink.old) (W.written sink.new) (S.failures source.old) (S.failures source.new)
+        (W.failures sink.old) (W.failures sink.new) (W.unread sink.new) result) }
 {
     let ran = run(alloc, words, source, sink);
     end_of(ran, sink.is_unread())
@@ -75,7 +76,8 @@ pub fn carry_out_run<
     R: Threads + Wait + Clock + Eprint + Copy + Send + Sync + 'static,
     W: Sink + Page,
 >(threads: &R, alloc: Global, words: &RunWords, shows: bool, sink: &mut W) -> Ended<RunTold>
-    ensures { EndsRunning words.now (W.written sink.old) (W.written sink.new) (W.unread sink.new) result }
+    ensures { EndsRunning words.now (W.written sink.old) (W.written sink.new)
+        (W.failures sink.old) (W.failures sink.new) (W.unread sink.new) result }
 {
     let ran = text_run::run(threads, alloc, words, shows, sink);
     run_end_of(ran, sink.is_unread())

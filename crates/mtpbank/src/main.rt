@@ -60,7 +60,9 @@ fn answered<
     source: &mut S,
     sink: &mut W,
 ) -> ExitCode
-    ensures { EndsAsAsked asked (S.left source.old) (W.written sink.old) (W.written sink.new) (W.unread sink.new) (exit_status result) }
+    ensures { EndsAsAsked asked (S.left source.old) (W.written sink.old) (W.written sink.new)
+        (S.failures source.old) (S.failures source.new) (W.failures sink.old) (W.failures sink.new)
+        (W.unread sink.new) (exit_status result) }
 {
     match asked {
         Ok(Words::Run(words)) => ran(rt, threads, &words, sink),
@@ -171,7 +173,8 @@ fn done<S: Source, W: Sink + Page>(
     requires reads { ReadsInput words }
     ensures done { IsDone (exit_status result) }
     ensures text { IfSome (S.left source.old) (λ input. EndsReading words input
-        (W.written sink.old) (W.written sink.new) (W.unread sink.new) (exit_status result)) }
+        (W.written sink.old) (W.written sink.new) (S.failures source.old) (S.failures source.new)
+        (W.failures sink.old) (W.failures sink.new) (W.unread sink.new) (exit_status result)) }
 {
     let end = carry_out(rt.alloc(), words, source, sink);
     ended(rt, end)
@@ -184,7 +187,8 @@ fn ran<R: Threads + Wait + Clock + Eprint + Copy + Send + Sync + 'static, W: Sin
     words: &RunWords,
     sink: &mut W,
 ) -> ExitCode
-    ensures { EndsRun words.now (W.written sink.old) (W.written sink.new) (W.unread sink.new) (exit_status result) }
+    ensures { EndsRun words.now (W.written sink.old) (W.written sink.new)
+        (W.failures sink.old) (W.failures sink.new) (W.unread sink.new) (exit_status result) }
 {
     let shows = rt.stderr().is_terminal();
     let end = carry_out_run(threads, rt.alloc(), words, shows, sink);
