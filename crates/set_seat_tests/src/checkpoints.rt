@@ -52,7 +52,11 @@ fn acknowledging() -> Unit {
 }
 
 /// The link comes up, sends what waits, and hears that it arrived: three steps of its terminal.
-pub(crate) fn sends_it<O: Opening, R: Wait>(rt: &R, set: &LinkSet<O>, seat: &mut TermSeat<O>) -> bool {
+pub(crate) fn sends_it<O: Opening, R: Wait>(
+    rt: &R,
+    set: &LinkSet<O>,
+    seat: &mut TermSeat<O>,
+) -> bool {
     let link = seat.link();
     let up = set.term_step(rt, seat, &Event::Up { link });
     let sent = set.term_step(rt, seat, &Event::Next { link });
