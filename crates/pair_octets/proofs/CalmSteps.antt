@@ -1,6 +1,6 @@
--- ENDS THAT ARE NEVER BUSY, step by step (`each_status_is_plain`): a set gives no status, a turn leaves its link calm (Calm.antt), and so do
--- commands but Busy, and all else. By induction on the steps.
-use Rattle.std.proofs.Common.{refl, sym, subst, arith, ◌≡◌, ◌∙◌, ◌==◌, ◌||◌, ◌&&◌, ◌+◌, ℕ, zero, suc, nat_lt, length, Bool, true, false, not, List, [], ◌∷◌, ◌++◌, All, Option, Some, None, slice_get, slice_set, if◌then◌else◌}
+-- ENDS THAT ARE NEVER BUSY, step by step (`each_status_is_plain`): a set gives no status, a turn leaves its link calm
+-- (term_asks's Calm.antt), and so do commands but Busy, and all else. By induction on the steps.
+use Rattle.std.proofs.Common.{refl, sym, subst, arith, ◌≡◌, ◌==◌, ◌&&◌, ℕ, zero, suc, Bool, true, false, not, List, [], ◌∷◌, ◌++◌, All, Option, Some, None, slice_get, slice_set, if◌then◌else◌}
 use Rattle.std.proofs.lemmas.Bool.{cond_both}
 use Rattle.std.proofs.lemmas.List.Elements.{All-append, All-cons, All-nil}
 use Rattle.std.proofs.lemmas.Grind.{flat_map-append}
@@ -31,16 +31,18 @@ use Rattle.pair_octets.specs.declared.step.WireStep.{WireStep}
 use Rattle.pair_octets.specs.declared.step.WireStep.TheVariants.{Turn, Command as CommandStep, Ask, Damage}
 use Rattle.pair_octets.proofs.OneEnd.{EachLink, ended_each}
 use Rattle.pair_octets.proofs.Passing.{each_more}
-use Rattle.pair_octets.specs.Calm.{AreCalm, EachStatusIsPlain, IsCalm, IsCalmCommand, IsPlainUnit}
-use Rattle.pair_octets.proofs.Calm.{Any, Calm, IsPlainAnswer, PlainOrNone, Sends, turn_calm}
-use Rattle.pair_octets.proofs.Talking.{KeepsBy}
+use Rattle.pair_octets.specs.Calm.{AreCalm, EachStatusIsPlain, IsCalm, IsCalmCommand}
+use Rattle.term_asks.specs.Asking.{IsPlainAnswer}
+use Rattle.term_asks.specs.Plain.{IsPlainUnit}
+use Rattle.term_asks.proofs.Calm.{Any, Calm, PlainOrNone, Sends, turn_calm}
+use Rattle.term_asks.proofs.Talking.{KeepsBy}
 
 -- AT A SET, which gives no status.
 abbrev is_status : Answer → Bool
 is_status (Answer.Sent (SignalUnit.Lssu head status)) = true
 is_status _ = false
 
-plain_from : (answer : Answer) → is_status answer ≡ false → IsPlainAnswer answer
+pub plain_from : (answer : Answer) → is_status answer ≡ false → IsPlainAnswer answer
 plain_from (Answer.Accepted number) not = tt
 plain_from (Answer.Taken body) not = tt
 plain_from (Answer.Found fate) not = tt
@@ -62,7 +64,7 @@ found_no_status n s (Some link) =
     cond_both (has_phase_up link.phase) (next n (cleared n s) link) (refused s NotUp) (λ (o : SetOutcome). is_status o.answer ≡ false)
     (λ up. given_no_status _ _) (λ down. refl)
 
-no_status : (s : State) (event : Event) → is_status (step s event).answer ≡ false
+pub no_status : (s : State) (event : Event) → is_status (step s event).answer ≡ false
 unfolding step
 no_status s (Event.Next n) = found_no_status n s (slice_get s.links n)
 no_status s event = grind arith

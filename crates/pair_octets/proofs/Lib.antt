@@ -1,4 +1,3 @@
-pub mod Calm
 pub mod CalmSteps
 pub mod Flushing
 pub mod Hearing
@@ -8,4 +7,3 @@ pub mod Ring
 pub mod Running
 pub mod Seen
 pub mod Sending
-pub mod Talking

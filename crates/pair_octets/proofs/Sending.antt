@@ -40,7 +40,7 @@ use Rattle.term_model.specs.Talk.{Talk, done, ask, and_then, in_turn}
 use Rattle.term_model.specs.Terminal.{Terminal, no_commands, head_or_start, last_head}
 use Rattle.term_model.specs.Timing.{lessened, is_over, ends_t1, ends_t2, ends_t3, ends_t4, ends_t5, ends_t6, ends_t7, timed}
 use Rattle.term_model.specs.Turn.{turn_talk}
-use Rattle.pair_octets.proofs.Talking.{AllKeepBy, KeepsBy, if_by, in_turn_by, then_by}
+use Rattle.term_asks.proofs.Talking.{AllKeepBy, KeepsBy, if_by, in_turn_by, then_by}
 
 -- A TALK WITH A SET THAT GIVES OCTETS: what is asked is octets.
 abbrev pub Keeps : {T : Type 0} → (T → Type 0) → Talk T → Type 0

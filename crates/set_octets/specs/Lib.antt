@@ -1,1 +1,3 @@
+pub mod Lives
 pub mod Octets
+pub mod Starting

@@ -1,6 +1,7 @@
--- AN END THAT IS NEVER TOLD THAT IT'S BUSY sends no status but those of a link that isn't in service (`turn_calm`): flow control stays
--- as it is, and alignment names no other. Each step of a turn keeps it, as in Sending.antt, whatever comes on the line. Used by CalmSteps.antt.
-use Rattle.std.proofs.Common.{refl, sym, subst, arith, ◌≡◌, ◌∙◌, ◌==◌, ◌||◌, ◌&&◌, ◌+◌, ℕ, zero, suc, nat_lt, length, Bool, true, false, not, List, [], ◌∷◌, ◌++◌, All, Option, Some, None, slice_get, slice_set, if◌then◌else◌}
+-- AN END THAT IS NEVER TOLD THAT IT'S BUSY sends no status but those of a link that isn't in service (`turn_calm`):
+-- flow control stays as it is, and alignment names no other. Each step of a turn keeps it, as in Sending.antt, whatever
+-- comes on the line. Used by Asking.antt, and by pair_octets's CalmSteps.antt.
+use Rattle.std.proofs.Common.{refl, sym, subst, ◌≡◌, ◌∙◌, ◌==◌, ◌||◌, ◌+◌, ℕ, nat_lt, length, Bool, true, false, not, List, [], ◌∷◌, Option, Some, None, if◌then◌else◌}
 use Rattle.l2_units.specs.declared.cause.Cause.{Cause}
 use Rattle.l2_units.specs.declared.cause.ControlFault.{ControlFault}
 use Rattle.l2_units.specs.declared.status.Status.{Status}
@@ -34,18 +35,12 @@ use Rattle.term_model.specs.Talk.{Talk, done, ask, and_then}
 use Rattle.term_model.specs.Terminal.{Terminal, last_head, no_commands}
 use Rattle.term_model.specs.Timing.{lessened, is_over, ends_t1, ends_t2, ends_t3, ends_t4, ends_t5, ends_t6, ends_t7, timed}
 use Rattle.term_model.specs.Turn.{turn_talk}
-use Rattle.set_model.specs.Step.{next, step}
-use Rattle.pair_steps.specs.declared.step.End.TheVariants.{A}
-use Rattle.pair_octets.specs.Calm.{is_plain, IsPlainUnit}
-use Rattle.pair_octets.proofs.Talking.{KeepsBy, if_by, in_turn_by, then_by}
+use Rattle.term_asks.specs.Asking.{IsPlainAnswer}
+use Rattle.term_asks.specs.Plain.{is_plain, IsPlainUnit}
+use Rattle.term_asks.proofs.Talking.{KeepsBy, if_by, in_turn_by, then_by}
 
 abbrev pub Any : Event → Type 0
 Any event = Unit {0}
-
--- what the set gives is no status
-abbrev pub IsPlainAnswer : Answer → Type 0
-IsPlainAnswer (Answer.Sent unit) = IsPlainUnit unit
-IsPlainAnswer _ = Unit {0}
 
 -- THE TABLES.
 abbrev send_plain : Option Status → Bool
@@ -229,7 +224,7 @@ fallen_calm t cause k =
     let row = row_calm u FlowIn.Reset k.busy refl in
     record { busy = row.0; due = refl; status = k.status; none = k.none }
 
-risen_calm : (t : Terminal) (answer : Answer) → Calm t → Calm (risen answer t)
+pub risen_calm : (t : Terminal) (answer : Answer) → Calm t → Calm (risen answer t)
 risen_calm t (Answer.Accepted number) k = k
 risen_calm t (Answer.Taken body) k = k
 risen_calm t (Answer.Found fate) k = k
@@ -280,7 +275,7 @@ obeys_calm is obeys each t k = if_by Any IsPlainAnswer Calm is (obeys t) (done t
 never_calm : (is : Bool) (obeys : Terminal → Talk Terminal) → is ≡ false → (t : Terminal) → Calm t → Keep (obeys_if is obeys t)
 never_calm is obeys not t k = rw not k
 
-commanded_calm : (t : Terminal) → Calm t → Keep (commanded t)
+pub commanded_calm : (t : Terminal) → Calm t → Keep (commanded t)
 commanded_calm t k =
     let c = t.commands in
     in_turn_by Any IsPlainAnswer Calm
@@ -404,7 +399,7 @@ heard_calm (Some unit) t k =
     then_by Any IsPlainAnswer Calm Calm (all_hear unit t) (λ after. waits (is_paused t.state) (is_paused after.state) after) (all_hear_calm unit t k)
     (λ u x. outage_calm (is_paused t.state) (is_paused u.state) u x)
 
-marks_calm : (marks : List Mark) (t : Terminal) → Calm t → Keep (all_marked marks t)
+pub marks_calm : (marks : List Mark) (t : Terminal) → Calm t → Keep (all_marked marks t)
 marks_calm [] t k = k
 marks_calm (mark ∷ marks) t k =
     then_by Any IsPlainAnswer Calm Calm (marked mark t) (λ u. all_marked marks u)
@@ -417,7 +412,7 @@ over_calm : (t u : Terminal) (over : Bool) (input : Terminal → Talk Terminal) 
     → Keep (if over then input u else done t)
 over_calm t u over input each k x = if_by Any IsPlainAnswer Calm over (input u) (done t) (λ is. each u x) (λ not. k)
 
-timed_calm : (t : Terminal) → Calm t → Keep (timed t)
+pub timed_calm : (t : Terminal) → Calm t → Keep (timed t)
 timed_calm t k = in_turn_by Any IsPlainAnswer Calm (ends_t1 ∷ ends_t2 ∷ ends_t3 ∷ ends_t4 ∷ ends_t5 ∷ ends_t6 ∷ ends_t7 ∷ []) (lessened t) (
   (λ u x. over_calm u (record u { clocks = record u.clocks { t1 = None } }) (is_over u.clocks.t1) (state_in StateIn.T1) (λ v. state_calm v StateIn.T1) x
       (record { busy = x.busy; due = x.due; status = x.status; none = x.none })),
@@ -473,7 +468,7 @@ fisu_calm t k = sent_calm (SignalUnit.Fisu (last_head t)) t tt k
 start_calm : (t : Terminal) → Calm t → Chooses (sends_start_fisu t)
 start_calm t k = sent_calm _ t tt k
 
-counts_calm : (unit : SignalUnit) (t : Terminal) → Calm t → Keep (counts_sent unit t)
+pub counts_calm : (unit : SignalUnit) (t : Terminal) → Calm t → Keep (counts_sent unit t)
 counts_calm (SignalUnit.Fisu head) t k = k
 counts_calm (SignalUnit.Lssu head status) t k = k
 counts_calm (SignalUnit.Msu head body) t k = flow_in_calm _ FlowIn.Sent refl (record { busy = k.busy; due = k.due; status = k.status; none = k.none })

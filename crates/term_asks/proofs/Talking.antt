@@ -1,5 +1,5 @@
--- A TALK WITH A DOOR OF WHICH SOMETHING IS KNOWN: what is asked is such, and where each answer is so, what comes of the talk is so; from
--- each part to the whole. As term_model's Keeping.antt has it of any answers.
+-- A TALK WITH A DOOR OF WHICH SOMETHING IS KNOWN: what is asked is such, and where each answer is so, what comes of the
+-- talk is so; from each part to the whole. As term_model's Keeping.antt has it of any answers.
 use Rattle.std.proofs.Common.{refl, ◌≡◌, Bool, true, false, List, [], ◌∷◌, if◌then◌else◌}
 use Rattle.set_events.specs.declared.answer.Answer.{Answer}
 use Rattle.set_events.specs.declared.event.Event.{Event}

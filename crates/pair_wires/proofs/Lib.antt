@@ -1,0 +1,6 @@
+pub mod Apart
+pub mod Moves
+pub mod Read
+pub mod Standing
+pub mod Starting
+pub mod Turning

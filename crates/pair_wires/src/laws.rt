@@ -1,0 +1,50 @@
+//! Laws of two ends whose links come up one after the other, over definitions alone.
+ghost use Rattle.pair_wires.specs.Apart.{EachEndStandsApart};
+ghost use Rattle.pair_wires.specs.Moves.{EachEntryMoves, InVainIsNoMove};
+ghost use Rattle.pair_wires.specs.Read.{OffersAreKept, StreamsAreReadOff};
+ghost use Rattle.pair_wires.specs.Standing.{TurnsKeepStanding};
+ghost use Rattle.pair_wires.specs.Starting.{EachLinkStandsSo};
+ghost use Rattle.pair_wires.specs.Turning.{EachTurnAsksSo};
+
+/// Where an end has settled a link, and isn't awaited in a life of it, it isn't up at the other end; and where it's
+/// awaited the other hasn't settled it. So what an end hears on a link that it starts is of the life that it may join,
+/// or of one that begins later.
+pub fn each_end_stands_apart()
+    ensures { EachEndStandsApart }
+{}
+
+/// What a set is asked, by whomever, is a move of the world of which it's an end: a link that comes up, a unit that the
+/// set gives, one that it hears, or an event alone. What is asked in vain is none, as a unit on a link that isn't up,
+/// or a FISU of the start. The world's history of that end lacks such entries.
+pub fn each_entry_is_a_move()
+    ensures moves { EachEntryMoves }
+    ensures in_vain { InVainIsNoMove }
+{}
+
+/// A turn of a terminal leaves its link up at the set where it's served alone, and settled there from when it begins to
+/// align till it comes up: so Up is answered Done. That's so if no start waits of a link that the set has left and not
+/// settled, which a bench refuses.
+pub fn each_turn_keeps_a_links_standing()
+    ensures { TurnsKeepStanding }
+{}
+
+/// In every sound run of two benches on intact lines each link is so at each end: up at the set where its terminal
+/// serves it alone, and settled there while it's on its way into service, and where a start waits of one that is out of
+/// service.
+pub fn each_link_stands_by_its_set()
+    ensures { EachLinkStandsSo }
+{}
+
+/// What users offered and took at two benches is what they did in the world of which each bench's set is an end with a
+/// longer history. So where users of the world take of each stream the first of what was offered, in order, those of
+/// the benches do.
+pub fn streams_are_read_off()
+    ensures kept { OffersAreKept }
+    ensures read { StreamsAreReadOff }
+{}
+
+/// In every sound run of two benches on intact lines each turn asks its set as a turn does by where its link stands
+/// (`term_asks`), and what it asks leads the set from what it held to what it holds then.
+pub fn each_turn_of_a_run_asks_so()
+    ensures { EachTurnAsksSo }
+{}

@@ -1,0 +1,5 @@
+pub mod Asking
+pub mod Calm
+pub mod Falling
+pub mod Hearing
+pub mod Talking
