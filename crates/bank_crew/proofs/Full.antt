@@ -19,7 +19,7 @@ use Rattle.bank_crew.specs.Counts.{reported}
 use Rattle.bank_crew.specs.Faults.{fault_of}
 use Rattle.bank_crew.specs.Jobs.{end_of_call}
 use Rattle.bank_crew.specs.Managing.{Look}
-use Rattle.bank_crew.specs.Shifts.{AfterHalf, Halves, SlicesFrom, all_taken, broken_off, one_more, told_end, Turns, TurnsBy, TurnsOf, TurnsWhere, is_to_fail, with_first}
+use Rattle.bank_crew.specs.Shifts.{SlicesFrom, all_taken, broken_off, one_more, told_end, TurnsOf}
 
 -- A USER'S CALL that is told as a full history was answered so
 user_fault : (fault : SetFault) (F : Type 0) → (fault ≡ SetFault.Exhausted → F) → fault_of fault ≡ UserFault.Exhausted → F
@@ -60,33 +60,14 @@ module _ (F : Type 0) where
       by_set broken.told fault broken.fault_is is (last_told before.faults broken.told (subst (All Told) broken.faults_are all))
   turn_full fault before after (by_profile profile same turn) is all = absurd (cc (sym profile ∙ is))
 
-  slices_full : (may : Instruction → Type 0) (most : ℕ) (counted : TermReport) (ended : Result TermReport TermFault) (looks : List Look) (before after : Standing) → SlicesFrom may most counted ended looks before after
+  slices_full : (plan : Plan) (link left : ℕ) (counted : TermReport) (ended : Result TermReport TermFault) (looks : List Look) (before after : Standing) → SlicesFrom plan link left counted ended looks before after
       → ended ≡ Err TermFault.Exhausted → All Told after.faults → F
-  slices_full may most counted ended looks before after (all_taken c at) is all = absurd (cc is)
-  slices_full may most counted ended looks before after (told_end m sight c at told some) is all = absurd (cc is)
-  slices_full may most counted ended looks before after (broken_off m turns sight instruction c fault b a told few short slice) is all =
+  slices_full plan link left counted ended looks before after (all_taken c at) is all = absurd (cc is)
+  slices_full plan link left counted ended looks before after (told_end m sight c at told some) is all = absurd (cc is)
+  slices_full plan link left counted ended looks before after (broken_off m turns sight instruction c fault b a told few short slice) is all =
       turn_full fault slice.between a slice.fails (cc is) all
-  slices_full may most counted ended looks before after (one_more m turns sight instruction c report e ls b between a told some few short slice rest) is all =
-      slices_full may _ _ e ls between a rest is all
-
-  halves_full : (turns : ℕ) (ended : Result TermReport TermFault) (looks : List Look) (before after : Standing) → Halves turns ended looks before after → ended ≡ Err TermFault.Exhausted → All Told after.faults → F
-  halves_full turns ended looks before after halves is all = later halves.first halves.half halves.rest
-    where
-      second_full : (first : TermReport) (second : Result TermReport TermFault) → ended ≡ with_first first second → second ≡ Err TermFault.Exhausted
-      second_full first (Ok report) same = absurd (cc (sym same ∙ is))
-      second_full first (Err fault) same = sym same ∙ is
-
-      later : (first : Result TermReport TermFault) → Turns (turns / 2) first halves.seen before halves.between → AfterHalf turns first ended halves.more halves.between after → F
-      later (Ok report) half rest = slices_full _ _ _ rest.0 halves.more _ after rest.1 (second_full report rest.0 rest.2) all
-      later (Err fault) half rest = slices_full _ _ _ (Err fault) halves.seen before halves.between half (sym rest.0 ∙ is) (subst (λ (at : Standing). All Told at.faults) rest.2 all)
-
-  by_full : (fails : Bool) (turns : ℕ) (ended : Result TermReport TermFault) (looks : List Look) (before after : Standing) → TurnsBy fails turns ended looks before after → ended ≡ Err TermFault.Exhausted → All Told after.faults → F
-  by_full true turns ended looks before after halves is all = halves_full turns ended looks before after halves is all
-  by_full false turns ended looks before after slices is all = slices_full _ turns _ ended looks before after slices is all
-
-  where_full : (managed : Option Managed) (fails : Bool) (turns : ℕ) (ended : Result TermReport TermFault) (looks : List Look) (before after : Standing) → TurnsWhere managed fails turns ended looks before after → ended ≡ Err TermFault.Exhausted → All Told after.faults → F
-  where_full None fails turns ended looks before after turned is all = by_full fails turns ended looks before after turned is all
-  where_full (Some managed) fails turns ended looks before after slices is all = slices_full _ turns _ ended looks before after slices is all
+  slices_full plan link left counted ended looks before after (one_more m turns sight instruction c report e ls b between a told some few short slice rest) is all =
+      slices_full plan link _ _ e ls between a rest is all
 
   reported_full : (answered : Answered) (carried : Carried) (tape : Option (List ℕ)) (counts : Result TermReport TermFault) (told : Result ShiftReport TermFault) → told ≡ reported answered carried tape counts → told ≡ Err TermFault.Exhausted → counts ≡ Err TermFault.Exhausted
   reported_full answered carried tape (Ok report) told same is = absurd (cc (sym same ∙ is))
@@ -95,4 +76,4 @@ module _ (F : Type 0) where
   pub shift_full : (plan : Plan) (link : ℕ) (answered : Answered) (carried : Carried) (tape : Option (List ℕ)) (counts : Result TermReport TermFault) (told : Result ShiftReport TermFault) (looks : List Look) (before after : Standing)
       → TurnsOf plan link counts looks before after → All Told after.faults → told ≡ reported answered carried tape counts → told ≡ Err TermFault.Exhausted → F
   shift_full plan link answered carried tape counts told looks before after turned all same is =
-      where_full plan.managed (is_to_fail plan.fail link) plan.turns counts looks before after turned (reported_full answered carried tape counts told same is) all
+      slices_full plan link plan.turns _ counts looks before after turned (reported_full answered carried tape counts told same is) all

@@ -25,38 +25,12 @@ use Rattle.line_ring.specs.declared.line.Line as line_end
 use Rattle.link_term.specs.Looking.{Seen, seen as seen_line}
 use Rattle.link_term.specs.Standing.{Standing, standing}
 use Rattle.bank_crew.specs.declared.manager.Sight.{Sight}
-use Rattle.bank_crew.specs.Shifts.{AfterHalf, DoesShift, RunsOver, Halves, Turns, TurnsBy, Slices, SlicesFrom, all_taken, broken_off, told_end, one_more, TurnsOf, TurnsWhere, both, fresh, is_to_fail, look_at, look_of, longest_slice, Slice}
+use Rattle.bank_crew.specs.Shifts.{DoesShift, MayBe, RunsOver, SlicesFrom, all_taken, broken_off, told_end, one_more, TurnsOf, both, fresh, look_at, look_of, longest_slice, Slice, stop_of, up_to}
 
 -- it went, or it failed
 pub either_way : (A : Type 0) (P : TermReport → Type 0) (Q : TermFault → Type 0) (result : Result TermReport TermFault) → IfOk result (λ report. A × P report) → IfErr result Q → MatchResult result P Q
 either_way A P Q (Ok report) went failed = went.1
 either_way A P Q (Err fault) went failed = failed
-
-pub turned_from : (turns : ℕ) (told : Result TermReport TermFault) (looks : List Look) (before before' after : Standing) → Turns turns told looks before' after → before' ≡ before → Turns turns told looks before after
-turned_from turns told looks before before' after is same = subst (λ (it : Standing). Turns turns told looks it after) same is
-
-pub by_halves : (turns : ℕ) (first : Result TermReport TermFault) (report : TermReport) (ended : Result TermReport TermFault) (seen more : List Look) (before between after : Standing) → first ≡ Ok report → Turns (turns / 2) first seen before between
-    → AfterHalf turns (Ok report) ended more between after → Halves turns ended (seen ++ more) before after
-by_halves turns first report ended seen more before between after is went rest = record {
-  first = first;
-  seen = seen;
-  between = between;
-  half = went;
-  more = more;
-  rest = subst (λ (f : Result TermReport TermFault). AfterHalf turns f ended more between after) (sym is) rest;
-  looks_are = refl;
-}
-
-pub by_first_half : (turns : ℕ) (first : Result TermReport TermFault) (fault : TermFault) (seen : List Look) (before between : Standing) → first ≡ Err fault → Turns (turns / 2) first seen before between → Halves turns (Err fault) seen before between
-by_first_half turns first fault seen before between is went = record {
-  first = first;
-  seen = seen;
-  between = between;
-  half = went;
-  more = [];
-  rest = subst (λ (f : Result TermReport TermFault). AfterHalf turns f (Err fault) [] between between) (sym is) (refl, refl, refl);
-  looks_are = sym (append-nil seen);
-}
 
 -- A SHIFT, from a new terminal on
 pub shift_of : (plan : Plan) (link number : ℕ) (counts : Result TermReport TermFault) (ended : Result ShiftReport TermFault) (answered : Answered) (carried : Carried) (tape : Option (List ℕ)) (marks : List ℕ) (looks : List Look) (awaited : Awaited) (before after : Standing) (made : List Entry)
@@ -106,40 +80,27 @@ looks_on start now looked ran looks look look' so_far more same is =
     same ∙ more ∙ ap₂ (λ (ls : List Look) (l : Look). ls ++ l ∷ []) so_far is ∙ append_assoc start looks (look' ∷ [])
 
 -- A SLICE more.
-module _ (may : Instruction → Type 0) (most turns : ℕ) (sight : Sight) (instruction : Instruction) (counted : TermReport) (before looked : Standing) (same : looked ≡ before) (told : may instruction) (few : turns ≤ most) (short : turns ≤ longest_slice) where
+module _ (plan : Plan) (link left turns : ℕ) (sight : Sight) (instruction : Instruction) (counted : TermReport) (before looked : Standing) (same : looked ≡ before) (told : MayBe plan link left instruction) (few : turns ≤ up_to (stop_of plan link) left) (short : turns ≤ longest_slice) where
   seen : (ended : Result TermReport TermFault) (after : Standing) → Slice sight instruction turns ended looked after → Slice sight instruction turns ended before after
   seen ended after slice = subst (λ (it : Standing). Slice sight instruction turns ended it after) same slice
 
   pub slice_more : (report total : TermReport) (ended : Result TermReport TermFault) (looks : List Look) (between after : Standing) → 0 < turns → Slice sight instruction turns (Ok report) looked between
-      → total ≡ both counted report → SlicesFrom may (most - turns) total ended looks between after → SlicesFrom may most counted ended (look_at before sight ∷ looks) before after
+      → total ≡ both counted report → SlicesFrom plan link (left - turns) total ended looks between after → SlicesFrom plan link left counted ended (look_at before sight ∷ looks) before after
   slice_more report total ended looks between after some slice is rest =
-      one_more most turns sight instruction counted report ended looks before between after told some few short (seen (Ok report) between slice)
-      (subst (λ (t : TermReport). SlicesFrom may (most - turns) t ended looks between after) is rest)
+      one_more left turns sight instruction counted report ended looks before between after told some few short (seen (Ok report) between slice)
+      (subst (λ (t : TermReport). SlicesFrom plan link (left - turns) t ended looks between after) is rest)
 
-  pub slice_breaks : (fault : TermFault) (after : Standing) → Slice sight instruction turns (Err fault) looked after → SlicesFrom may most counted (Err fault) (look_at before sight ∷ []) before after
-  slice_breaks fault after slice = broken_off most turns sight instruction counted fault before after told few short (seen (Err fault) after slice)
+  pub slice_breaks : (fault : TermFault) (after : Standing) → Slice sight instruction turns (Err fault) looked after → SlicesFrom plan link left counted (Err fault) (look_at before sight ∷ []) before after
+  slice_breaks fault after slice = broken_off left turns sight instruction counted fault before after told few short (seen (Err fault) after slice)
 
 -- or none is left, or they end
-pub all_slices : (may : Instruction → Type 0) (most : ℕ) (counted : TermReport) (at : Standing) → most ≡ 0 → SlicesFrom may most counted (Ok counted) [] at at
-all_slices may most counted at none = subst (λ (n : ℕ). SlicesFrom may n counted (Ok counted) [] at at) (sym none) (all_taken counted at)
+pub all_slices : (plan : Plan) (link left : ℕ) (counted : TermReport) (at : Standing) → left ≡ 0 → SlicesFrom plan link left counted (Ok counted) [] at at
+all_slices plan link left counted at none = subst (λ (n : ℕ). SlicesFrom plan link n counted (Ok counted) [] at at) (sym none) (all_taken counted at)
 
-pub slices_end : (may : Instruction → Type 0) (most : ℕ) (sight : Sight) (counted : TermReport) (before looked : Standing) → looked ≡ before → may Instruction.End → 0 < most → SlicesFrom may most counted (Ok counted) (look_at before sight ∷ []) before looked
-slices_end may most sight counted before looked same told some =
-    subst (λ (it : Standing). SlicesFrom may most counted (Ok counted) (look_at before sight ∷ []) before it) (sym same) (told_end most sight counted before told some)
-
--- THE TURNS where links are managed, and where they aren't
-pub managed_so : (managed : Option Managed) (it : Managed) (fails : Bool) (turns : ℕ) (ended : Result TermReport TermFault) (looks : List Look) (before after : Standing) → managed ≡ Some it → Slices turns ended looks before after → TurnsWhere managed fails turns ended looks before after
-managed_so None it fails turns ended looks before after is slices = absurd (cc is)
-managed_so (Some managed) it fails turns ended looks before after is slices = slices
-
-pub unmanaged_so : (managed : Option Managed) (fails is : Bool) (turns : ℕ) (ended : Result TermReport TermFault) (looks : List Look) (before after : Standing) → managed ≡ None → fails ≡ is → TurnsBy is turns ended looks before after → TurnsWhere managed fails turns ended looks before after
-unmanaged_so None fails is turns ended looks before after none same turned = subst (λ (b : Bool). TurnsBy b turns ended looks before after) (sym same) turned
-unmanaged_so (Some managed) fails is turns ended looks before after none same turned = absurd (cc none)
-
--- this link is the one that is to fail
-pub fails_as : (fail : Option ℕ) (link : ℕ) → is_to_fail fail link ≡ option_eq nat_eq fail (Some link)
-fails_as None link = refl
-fails_as (Some number) link = refl
+pub slices_end : (plan : Plan) (link left : ℕ) (sight : Sight) (counted : TermReport) (before looked : Standing) → looked ≡ before → MayBe plan link left Instruction.End → 0 < left
+    → SlicesFrom plan link left counted (Ok counted) (look_at before sight ∷ []) before looked
+slices_end plan link left sight counted before looked same told some =
+    subst (λ (it : Standing). SlicesFrom plan link left counted (Ok counted) (look_at before sight ∷ []) before it) (sym same) (told_end left sight counted before told some)
 
 -- THE LINE that was handed in, with a tape on which nothing stood, and how it's left
 pub runs_over : {L : Type 0} (l : line_end.Ghosts L) (line first left : L) (put : List ℕ) (before after : Seen) → first ≡ line → l.is_same first left → l.put_so_far left ≡ l.put_so_far line ++ put

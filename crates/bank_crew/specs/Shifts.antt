@@ -1,5 +1,5 @@
 -- WHAT A TERMINAL DOES, turn by turn, as the entries that it leaves in the set's history.
-use Rattle.std.specs.Prelude.{◌≡◌, ◌==◌, ◌&&◌, ◌<◌, ◌≤◌, ◌+◌, ◌-◌, ◌/◌, ◌^◌, ℕ, suc, min, Bool, not, true, false, if◌then◌else◌, List, [], ◌∷◌, ◌++◌, length, Option, None, Some, Result, Ok, Err, MatchResult}
+use Rattle.std.specs.Prelude.{◌≡◌, ◌==◌, ◌&&◌, ◌<◌, ◌≤◌, ◌+◌, ◌-◌, ◌/◌, ◌^◌, ℕ, suc, min, nat_lt, Bool, not, true, false, if◌then◌else◌, List, [], ◌∷◌, ◌++◌, length, Option, None, Some, Result, Ok, Err, MatchResult}
 use Rattle.set_events.specs.declared.books.Books.{Books}
 use Rattle.set_events.specs.declared.event.Actor.{Actor}
 use Rattle.set_events.specs.declared.history.Entry.{Entry}
@@ -45,10 +45,6 @@ both first second = record {
   cause = second.cause;
 }
 
-abbrev pub with_first : TermReport → Result TermReport TermFault → Result TermReport TermFault
-with_first first (Ok second) = Ok (both first second)
-with_first first (Err fault) = Err fault
-
 -- WHAT IS ORDERED of a terminal between two slices of its turns. A changeover order about the link that came late goes before
 -- what is instructed, unless the terminal is out of service (own): the far end has left a life to which this end may still be
 -- coming up. And a link is started only where its set has settled it.
@@ -82,73 +78,64 @@ look_of made out sight = record { made = made; out = out; settled = sight.settle
 abbrev pub look_at : Standing → Sight → Look
 look_at before sight = look_of (length before.made) (is_out before.inside) sight
 
--- slices one after another, each of 1 to 256 turns, behind a look and what may be instructed; what they counted is added to
--- what was counted before, up to the first that a fault broke off. They end behind End, or when so many turns were taken
-abbrev pub longest_slice : ℕ
-longest_slice = 256
-
-pub data SlicesFrom (may : Instruction → Type 0) : ℕ → TermReport → Result TermReport TermFault → List Look → Standing → Standing → Type 0 where
-  all_taken : (counted : TermReport) (at : Standing) → SlicesFrom may 0 counted (Ok counted) [] at at
-  told_end : (most : ℕ) (sight : Sight) (counted : TermReport) (at : Standing) → may Instruction.End → 0 < most
-      → SlicesFrom may most counted (Ok counted) (look_at at sight ∷ []) at at
-  broken_off : (most turns : ℕ) (sight : Sight) (instruction : Instruction) (counted : TermReport) (fault : TermFault)
-      (before after : Standing) → may instruction → turns ≤ most → turns ≤ longest_slice
-      → Slice sight instruction turns (Err fault) before after
-      → SlicesFrom may most counted (Err fault) (look_at before sight ∷ []) before after
-  one_more : (most turns : ℕ) (sight : Sight) (instruction : Instruction) (counted report : TermReport)
-      (ended : Result TermReport TermFault) (looks : List Look) (before between after : Standing) → may instruction → 0 < turns
-      → turns ≤ most → turns ≤ longest_slice → Slice sight instruction turns (Ok report) before between
-      → SlicesFrom may (most - turns) (both counted report) ended looks between after
-      → SlicesFrom may most counted ended (look_at before sight ∷ looks) before after
-
-abbrev pub no_turns : TermReport
-no_turns = record { turns = 0; sent = 0; good = 0; bad = 0; sixteen = 0; cause = 0 }
-
--- SLICES of turns, behind what may be instructed
-abbrev pub SlicesBy : (Instruction → Type 0) → ℕ → Result TermReport TermFault → List Look → Standing → Standing → Type 0
-SlicesBy may turns = SlicesFrom may turns no_turns
-
--- ALL TURNS, where nothing is instructed
-abbrev pub Turns : ℕ → Result TermReport TermFault → List Look → Standing → Standing → Type 0
-Turns = SlicesBy (λ instruction. instruction ≡ Instruction.Run)
-
--- the rest of the turns, after Stop
-abbrev pub AfterHalf : ℕ → Result TermReport TermFault → Result TermReport TermFault → List Look → Standing → Standing → Type 0
-AfterHalf turns (Ok first) ended looks before after =
-    (second : Result TermReport TermFault) × Turns (turns - turns / 2) second looks (standing_told (told Stop) before) after
-    × (ended ≡ with_first first second)
-AfterHalf turns (Err fault) ended looks before after = (ended ≡ Err fault) × (looks ≡ []) × (after ≡ before)
-
--- half of the turns, Stop, and the rest of them
-pub record Halves (turns : ℕ) (ended : Result TermReport TermFault) (looks : List Look) (before after : Standing) : Type 0 where
-  pub first : Result TermReport TermFault
-  pub seen : List Look
-  pub between : Standing
-  pub half : Turns (turns / 2) first seen before between
-  pub more : List Look
-  pub rest : AfterHalf turns first ended more between after
-  pub looks_are : looks ≡ seen ++ more
-
--- THE TURNS OF A PLAN whose links aren't managed: all, but where this link is the one that is to fail
+-- WHERE LINKS AREN'T MANAGED the terminal of the link that is to fail is told Stop when so many turns are left: the half of
+-- them, and of an odd number one more
 abbrev pub is_to_fail : Option ℕ → ℕ → Bool
 is_to_fail None link = false
 is_to_fail (Some number) link = number == link
 
-abbrev pub TurnsBy : Bool → ℕ → Result TermReport TermFault → List Look → Standing → Standing → Type 0
-TurnsBy true = Halves
-TurnsBy false = Turns
+abbrev pub stop_where : Option Managed → Bool → ℕ → Option ℕ
+stop_where None true turns = Some (turns - turns / 2)
+stop_where None false turns = None
+stop_where (Some managed) fails turns = None
 
--- where they are, behind whatever was instructed: nothing is promised of who manages links
-abbrev pub Slices : ℕ → Result TermReport TermFault → List Look → Standing → Standing → Type 0
-Slices = SlicesBy (λ instruction. Unit {0})
+abbrev pub stop_of : Plan → ℕ → Option ℕ
+stop_of plan link = stop_where plan.managed (is_to_fail plan.fail link) plan.turns
+
+-- what is instructed then, when so many are left
+abbrev pub due : Option ℕ → ℕ → Instruction
+due None left = Instruction.Run
+due (Some stop) left = if left == stop then Instruction.Stop else Instruction.Run
+
+-- WHAT MAY BE INSTRUCTED when so many turns are left: where links are managed, whatever their manager says, of whom nothing is
+-- promised
+abbrev pub MayBeIn : Option Managed → Option ℕ → ℕ → Instruction → Type 0
+MayBeIn None stop left instruction = instruction ≡ due stop left
+MayBeIn (Some managed) stop left instruction = Unit {0}
+
+abbrev pub MayBe : Plan → ℕ → ℕ → Instruction → Type 0
+MayBe plan link = MayBeIn plan.managed (stop_of plan link)
+
+-- so many turns up to that Stop, or to the last of those that are left
+abbrev pub up_to : Option ℕ → ℕ → ℕ
+up_to None left = left
+up_to (Some stop) left = if nat_lt stop left then left - stop else left
+
+-- slices one after another, each of 1 to 256 turns, behind a look and what may be instructed, and none across Stop; what they
+-- counted is added to what was counted before, up to the first that a fault broke off. They end behind End, or when none is left
+abbrev pub longest_slice : ℕ
+longest_slice = 256
+
+pub data SlicesFrom (plan : Plan) (link : ℕ) : ℕ → TermReport → Result TermReport TermFault → List Look → Standing → Standing → Type 0 where
+  all_taken : (counted : TermReport) (at : Standing) → SlicesFrom plan link 0 counted (Ok counted) [] at at
+  told_end : (left : ℕ) (sight : Sight) (counted : TermReport) (at : Standing) → MayBe plan link left Instruction.End → 0 < left
+      → SlicesFrom plan link left counted (Ok counted) (look_at at sight ∷ []) at at
+  broken_off : (left turns : ℕ) (sight : Sight) (instruction : Instruction) (counted : TermReport) (fault : TermFault)
+      (before after : Standing) → MayBe plan link left instruction → turns ≤ up_to (stop_of plan link) left → turns ≤ longest_slice
+      → Slice sight instruction turns (Err fault) before after
+      → SlicesFrom plan link left counted (Err fault) (look_at before sight ∷ []) before after
+  one_more : (left turns : ℕ) (sight : Sight) (instruction : Instruction) (counted report : TermReport)
+      (ended : Result TermReport TermFault) (looks : List Look) (before between after : Standing) → MayBe plan link left instruction
+      → 0 < turns → turns ≤ up_to (stop_of plan link) left → turns ≤ longest_slice → Slice sight instruction turns (Ok report) before between
+      → SlicesFrom plan link (left - turns) (both counted report) ended looks between after
+      → SlicesFrom plan link left counted ended (look_at before sight ∷ looks) before after
+
+abbrev pub no_turns : TermReport
+no_turns = record { turns = 0; sent = 0; good = 0; bad = 0; sixteen = 0; cause = 0 }
 
 -- THE TURNS OF A SHIFT
-abbrev pub TurnsWhere : Option Managed → Bool → ℕ → Result TermReport TermFault → List Look → Standing → Standing → Type 0
-TurnsWhere None fails turns = TurnsBy fails turns
-TurnsWhere (Some managed) fails turns = Slices turns
-
 abbrev pub TurnsOf : Plan → ℕ → Result TermReport TermFault → List Look → Standing → Standing → Type 0
-TurnsOf plan link = TurnsWhere plan.managed (is_to_fail plan.fail link) plan.turns
+TurnsOf plan link = SlicesFrom plan link plan.turns no_turns
 
 -- a terminal that did nothing yet, and is told to come up in an emergency
 abbrev pub fresh : ℕ → Timers → Seen → Standing

@@ -76,15 +76,15 @@ pub(crate) trait SetManager {
     ghost use Rattle.std.specs.Prelude.{ℕ};
     ghost use Rattle.bank_crew.specs.declared.manager.Instruction.{Instruction};
 
-    /// The terminal of this link may be instructed so.
-    ghost may: { Self → ℕ → Instruction → Type 0 };
+    /// The terminal of this link may be instructed so, when so many turns are left.
+    ghost may: { Self → ℕ → ℕ → Instruction → Type 0 };
 
     /// This user may be held up no more.
     ghost lets: { Self → ℕ → Type 0 };
 
-    /// What the terminal of this link is told now.
-    fn instruct(&self, link: u8, sight: &Sight) -> Instruction
-        ensures { may self.now link result };
+    /// What the terminal of this link is told now, when so many turns are left.
+    fn instruct(&self, link: u8, left: u64, sight: &Sight) -> Instruction
+        ensures { may self.now link left result };
 
     /// Whether this user is to wait yet.
     fn holds_up(&self, user: u16) -> bool
@@ -92,12 +92,20 @@ pub(crate) trait SetManager {
 }
 
 impl<G: LinkManager> SetManager for Assignment<G> {
-    ghost may = { λ assignment link instruction. Unit {0} };
+    ghost use Rattle.bank_crew.specs.Shifts.{MayBe};
+
+    ghost may = { λ assignment link left instruction. MayBe assignment.plan link left instruction };
 
     ghost lets = { λ assignment user. G.lets assignment.gate assignment.set user };
 
-    fn instruct(&self, link: u8, sight: &Sight) -> Instruction {
-        self.gate.instruct(self.set, link, sight)
+    fn instruct(&self, link: u8, left: u64, sight: &Sight) -> Instruction {
+        if self.plan.managed.is_some() {
+            self.gate.instruct(self.set, link, sight)
+        } else if self.plan.stop_of(link) == Some(left) {
+            Instruction::Stop
+        } else {
+            Instruction::Run
+        }
     }
 
     fn holds_up(&self, user: u16) -> bool {

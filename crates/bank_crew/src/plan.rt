@@ -59,6 +59,19 @@ pub struct Plan {
 const STEPS: u64 = 64;
 
 impl Plan {
+    ghost use Rattle.std.specs.Prelude.{◌≡◌};
+    ghost use Rattle.bank_crew.specs.Shifts.{stop_of};
+
+    /// How many turns are left when the terminal of this link is told Stop, if it's the one that is to fail.
+    pub(crate) fn stop_of(&self, link: u8) -> Option<u64>
+        ensures { result ≡ stop_of self.now link }
+    {
+        match self.managed {
+            None if self.fail == Some(link) => Some(self.turns - self.turns / 2),
+            _ => None,
+        }
+    }
+
     /// After how many of its steps a terminal takes a checkpoint of its set.
     pub(crate) fn steps_between(&self) -> Option<u64> {
         self.checkpoint

@@ -1,12 +1,11 @@
 //! A terminal's turns, by slices: before each it looks at its set.
-ghost use Rattle.std.specs.Prelude.{◌≡◌, ◌≤◌, ◌^◌, false, List, ◌++◌, OnOk};
+ghost use Rattle.std.specs.Prelude.{◌≡◌, ◌<◌, ◌≤◌, ◌^◌, false, List, ◌++◌};
 ghost use Rattle.link_term.specs.Standing.{lent, stands};
 ghost use Rattle.bank_crew.specs.Managing.{Look};
-ghost use Rattle.bank_crew.specs.Shifts.{SlicesBy, ordered};
+ghost use Rattle.bank_crew.specs.Shifts.{TurnsOf, both, longest_slice, ordered, up_to};
 
 use super::assignment::Assignment;
 use super::manager::{Instruction, LinkManager, SetManager, Sight};
-use super::terminal::one_report;
 use line_ring::Line;
 use link_term::{Command, Door, TermFault, TermReport, Works};
 
@@ -46,37 +45,34 @@ pub(crate) trait SliceDoor: Door {
     ghost goes_on_on: { (first second third : Self) → goes_on first second → goes_on second third → goes_on first third };
 }
 
-/// Turns by slices, each behind what is seen and instructed, until that ends them, or so many were taken.
-pub(crate) fn sliced<D: SliceDoor, L: Line, G: LinkManager, M: SetManager>(
+/// The turns of a plan by slices, each behind what is seen and instructed, until that ends them, or all were taken.
+pub(crate) fn sliced<D: SliceDoor, L: Line, G: LinkManager>(
     assignment: &Assignment<G>,
-    manager: &M,
     works: &mut Works,
     door: &mut D,
     line: &mut L,
-    turns: u64,
 ) -> Result<TermReport, TermFault>
     requires at { D.number door.old ≡ works.old.inside.link }
     requires failed { works.old.failed ≡ false }
     ensures turns { (looks : List Look) × (D.looks door.new ≡ D.looks door.old ++ looks)
-        × SlicesBy (M.may manager.now (D.number door.old)) turns result looks
+        × TurnsOf assignment.now.plan (D.number door.old) result looks
         (stands D.Door L.Line (lent works.old door.old line.old)) (stands D.Door L.Line (lent works.new door.new line.new)) }
-    ensures at { D.number door.new ≡ works.new.inside.link }
     ensures number { D.number door.new ≡ D.number door.old }
     ensures door { D.goes_on door.old door.new }
     ensures line { L.is_same line.old line.new }
-    ensures goes_on { OnOk result (works.new.failed ≡ false) }
 {
     let link = door.link();
+    let stop = assignment.plan.stop_of(link);
     let mut counted = NO_TURNS;
-    let mut left = turns;
+    let mut left = assignment.plan.turns;
     while left > 0 {
         let sight = door.look(works.is_out_of_service());
-        let instruction = manager.instruct(link, &sight);
+        let instruction = assignment.instruct(link, left, &sight);
         if let Instruction::End = instruction {
             return Ok(counted);
         }
         order(works, &sight, instruction);
-        let turns = left.min(SLICE);
+        let turns = slice_of(left, stop);
         match works.run(door, line, &assignment.gate, assignment.set, turns) {
             Ok(more) => counted = one_report(counted, more),
             Err(fault) => return Err(fault),
@@ -84,6 +80,33 @@ pub(crate) fn sliced<D: SliceDoor, L: Line, G: LinkManager, M: SetManager>(
         left -= turns;
     }
     Ok(counted)
+}
+
+/// How many turns the next slice has, where so many are left; none goes on where the terminal is to be told Stop.
+fn slice_of(left: u64, stop: Option<u64>) -> u64
+    ensures some { 0 < left → 0 < result }
+    ensures few { result ≤ left }
+    ensures reach { result ≤ up_to stop left }
+    ensures short { result ≤ longest_slice }
+{
+    match stop {
+        Some(stop) if stop < left => SLICE.min(left - stop),
+        _ => SLICE.min(left),
+    }
+}
+
+/// What two runs of one terminal counted together. No sum comes near the end of its range.
+fn one_report(first: TermReport, second: TermReport) -> TermReport
+    ensures { result ≡ both first second }
+{
+    TermReport {
+        turns: first.turns.saturating_add(second.turns),
+        sent: first.sent.saturating_add(second.sent),
+        good: first.good.saturating_add(second.good),
+        bad: first.bad.saturating_add(second.bad),
+        sixteen: first.sixteen.saturating_add(second.sixteen),
+        cause: second.cause,
+    }
 }
 
 /// No turn was taken yet.

@@ -17,8 +17,8 @@ use Rattle.link_term.specs.Standing.{Standing}
 use Rattle.bank_crew.proofs.terminal.TermShift.work.Goals as goal
 
 -- src/terminal.rt
-pub planned_turns-report-requires : goal.planned_turns-report-requires
-planned_turns-report-requires g c = record {
+pub sliced-report-requires : goal.sliced-report-requires
+sliced-report-requires g c = record {
   at = ap (λ seat. link_in seat.who) c.new-door.ensures.seat ∙ ap link_in c.link-link.ensures.who
       ∙ sym (ap (λ works. works.inside.link) c.command-2.ensures ∙ ap (λ works. works.inside.link) c.command.ensures ∙ ap (λ inside. inside.link) c.new-works.ensures.inside);
   failed = ap (λ works. works.failed) c.command-2.ensures ∙ ap (λ works. works.failed) c.command.ensures ∙ c.new-works.ensures.failed;
@@ -27,10 +27,10 @@ planned_turns-report-requires g c = record {
 pub returns-clause-shift : goal.returns-clause-shift
 returns-clause-shift g c =
     let door = c.new-door.result in
-    let out = c.planned_turns-report.new.door in
+    let out = c.sliced-report.new.door in
     let all = out.all in
     let plan = c.args.self.assignment.now.plan in
-    let did = c.planned_turns-report.ensures in
+    let did = c.sliced-report.ensures in
     let told_first = c.command.ensures in
     let second = c.command-2.ensures in
     let managed : out.managed ≡ plan.managed = did.door.0 ∙ c.new-door.ensures.managed in
@@ -42,9 +42,9 @@ returns-clause-shift g c =
     subst (λ (n : ℕ). AsksFrom plan.managed n out.marks all out.awaited) did.number
     (subst (λ (m : Option Managed). AsksFrom m (link_in out.seat.who) out.marks all out.awaited) managed due) in
     let first = c.new-line.result in
-    let left = c.planned_turns-report.new.line in
+    let left = c.sliced-report.new.line in
     let does =
-    shift_of _ (link_in c.args.self.seat.who) (link_in door.seat.who) c.planned_turns-report.result _ _ _ c.into_tape-tape.result out.marks did.turns.0 out.awaited _ _ _ did.turns.2
+    shift_of _ (link_in c.args.self.seat.who) (link_in door.seat.who) c.sliced-report.result _ _ _ c.into_tape-tape.result out.marks did.turns.0 out.awaited _ _ _ did.turns.2
     (did.turns.1 ∙ ap (λ (ms : List ℕ). looks_in ms ++ did.turns.0) c.new-door.ensures.marks)
     (ap (λ it. it.taken) second ∙ ap (λ it. it.taken) told_first ∙ c.new-works.ensures.taken)
     (ap (λ it. it.inside) second ∙ ap (λ it. told Start it.inside) told_first ∙ ap (λ it. told Start (told Emergency it)) c.new-works.ensures.inside
@@ -74,7 +74,7 @@ returns-clause-shift g c =
 -- the set told the door so
 pub returns-clause-full : goal.returns-clause-full
 returns-clause-full g c told =
-    let did = c.planned_turns-report.ensures in
+    let did = c.sliced-report.ensures in
     ap (λ seat. seat.full) c.into_seat-seat.ensures.seat
-    ∙ shift_full (c.planned_turns-report.new.door.seat.full ≡ true) c.args.self.assignment.now.plan (link_in c.new-door.result.seat.who) _ _ _ c.planned_turns-report.result c.reported-told.result did.turns.0 _ _ did.turns.2
+    ∙ shift_full (c.sliced-report.new.door.seat.full ≡ true) c.args.self.assignment.now.plan (link_in c.new-door.result.seat.who) _ _ _ c.sliced-report.result c.reported-told.result did.turns.0 _ _ did.turns.2
     c.carried.ensures.full c.reported-told.ensures told
