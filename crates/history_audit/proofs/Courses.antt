@@ -2,8 +2,8 @@
 use Rattle.std.proofs.Common.{refl, arith, sym, subst, ◌≡◌, ◌∙◌, ap, ◌<◌, ◌≤◌, ◌+◌, [], ◌∷◌, ◌++◌, length, ℕ, zero, suc, Bool, true, false, nat_le, List, Option, None, Some, Result, Ok, Err, IfOk, get_or, append_assoc, codes}
 use Rattle.std.proofs.lemmas.Bool.Decides.{nat_tests}
 use Rattle.std.proofs.lemmas.List.{length-append}
-use Rattle.text_printing.specs.Printing.{Printed}
-use Rattle.text_printing.specs.declared.fault.Stop.{Stop}
+use Rattle.text_base.specs.Printing.{Printed}
+use Rattle.text_base.specs.declared.fault.Stop.{Stop}
 use Rattle.history_audit.specs.Auditing.{IsAuditOf, IsAudited, books_text, fails, full, legal, legal_text, told_of, wrong, wrong_text}
 use Rattle.history_audit.specs.Reading.{IsCourse, IsNoted, IsRead, IsSaidOf, IsTold, IsWrongAt, StandsAt, is_legal, opened_by, passed_over}
 use Rattle.history_audit.specs.declared.course.Course.{Course}
@@ -12,22 +12,23 @@ use Rattle.history_audit.specs.declared.course.Stand.TheVariants.{Legal, Wrong, 
 use Rattle.history_audit.specs.declared.fault.AuditFault.{AuditFault}
 use Rattle.history_audit.specs.declared.verdict.Verdict.{Verdict}
 use Rattle.history_audit.specs.declared.fault.AuditFault.TheVariants.{Text, Illegal, Exhausted}
-use Rattle.history_audit.specs.FirstWrong.{IsFirstWrong, answer_at}
-use Rattle.history_audit.specs.Hearing.{HasHeard, Hearing, IsEntry, IsFound, IsWrongNext, unasked}
-use Rattle.history_audit.specs.declared.auditor.Finding.{Finding}
-use Rattle.history_audit.specs.declared.auditor.Finding.TheVariants.{WrongAnswer, NoSuchActor}
-use Rattle.history_items.specs.declared.item.Item.{Item}
-use Rattle.history_items.specs.declared.item.Item.TheVariants.{Entered, Checkpoint}
-use Rattle.history_items.specs.Items.{books_over, entries_among}
-use Rattle.history_items.proofs.Running.{entries_both}
-use Rattle.history_text.specs.Telling.{Told, nothing_told, told_in_all, told_next, with_item, with_line}
-use Rattle.history_text.specs.FirstLine.{settings_in}
-use Rattle.history_text.specs.Pieces.{item_of}
+use Rattle.set_core.specs.FirstWrong.{IsFirstWrong, answer_at}
+use Rattle.set_core.specs.Hearing.{HasHeard, Hearing, IsEntry, IsFound, IsWrongNext, unasked}
+use Rattle.set_core.specs.declared.auditor.Finding.{Finding}
+use Rattle.set_core.specs.declared.auditor.Finding.TheVariants.{WrongAnswer, NoSuchActor}
+use Rattle.set_core.specs.declared.item.Item.{Item}
+use Rattle.set_core.specs.declared.item.Item.TheVariants.{Entered, Checkpoint}
+use Rattle.set_core.specs.Items.{books_over, entries_among}
+use Rattle.set_core.proofs.Running.{entries_both}
+use Rattle.text_entries.specs.Telling.{Told, nothing_told, told_in_all, told_next, with_item, with_line}
+use Rattle.text_entries.specs.FirstLine.{settings_in}
+use Rattle.text_entries.specs.Pieces.{item_of}
 use Rattle.l2_units.specs.declared.profile.Profile.{Profile}
 use Rattle.set_events.specs.declared.answer.Answer.{Answer}
 use Rattle.set_events.specs.declared.books.Books.{Books}
 use Rattle.set_events.specs.declared.history.Entry.{Entry}
-use Rattle.set_model.specs.History.{longest_history}
+use Rattle.set_core.proofs.Heard.{entries_heard}
+use Rattle.set_model.specs.History.{Base, longest_history}
 use Rattle.set_model.specs.State.{State, Settings, opened_with}
 use Rattle.text_lines.specs.declared.flaw.LineFlaw.TheVariants.{Words}
 use Rattle.text_lines.specs.Lines.{is_remark}
@@ -67,12 +68,12 @@ module _ (told : Told) (n : ℕ) (item : Item) where
   numbered_next e = omega (arith, e, length-append told.lines (n ∷ []), length-append told.items (item ∷ []))
 
   -- legal so far
-  was_legal : (opening : State) (h : Hearing) (stand : Stand) → is_legal stand ≡ true → StandsAt opening told h stand → HasHeard opening told.items h
+  was_legal : (opening : State) (h : Hearing) (stand : Stand) → is_legal stand ≡ true → StandsAt opening told h stand → HasHeard (unasked opening) told.items h
   was_legal opening h Legal e s = s
   was_legal opening h Full e s = let no : false ≡ true = e in cc no
   was_legal opening h (Wrong line answer entries) e s = let no : false ≡ true = e in cc no
 
-  still_legal : (opening : State) (h : Hearing) (stand : Stand) → is_legal stand ≡ true → HasHeard opening (told.items ++ item ∷ []) h → StandsAt opening (with_item n told item) h stand
+  still_legal : (opening : State) (h : Hearing) (stand : Stand) → is_legal stand ≡ true → HasHeard (unasked opening) (told.items ++ item ∷ []) h → StandsAt opening (with_item n told item) h stand
   still_legal opening h Legal e s = s
   still_legal opening h Full e s = let no : false ≡ true = e in cc no
   still_legal opening h (Wrong line answer entries) e s = let no : false ≡ true = e in cc no
@@ -82,21 +83,21 @@ module _ (told : Told) (n : ℕ) (item : Item) where
     turned auditor stand s = record { settings = c.settings; told_is = c.told_is; profile_is = c.profile_is; numbered = numbered_next c.numbered; stands = s }
 
     module _ (e : is_legal course.stand ≡ true) where
-      heard : HasHeard (opened_with c.settings) told.items course.auditor
+      heard : HasHeard (unasked (opened_with c.settings)) told.items course.auditor
       heard = was_legal (opened_with c.settings) course.auditor course.stand e c.stands
 
-      pub is_right : (auditor : Hearing) → ((opening : State) (items : List Item) → HasHeard opening items course.auditor → HasHeard opening (items ++ item ∷ []) auditor)
+      pub is_right : (auditor : Hearing) → ((base : Base) (items : List Item) → HasHeard base items course.auditor → HasHeard base (items ++ item ∷ []) auditor)
           → IsCourse (with_item n told item) (record { profile = course.profile; auditor = auditor; stand = course.stand })
-      is_right auditor f = turned auditor course.stand (still_legal (opened_with c.settings) auditor course.stand e (f (opened_with c.settings) told.items heard))
+      is_right auditor f = turned auditor course.stand (still_legal (opened_with c.settings) auditor course.stand e (f (unasked (opened_with c.settings)) told.items heard))
 
-      pub is_wrong : (auditor : Hearing) (answer : Option Answer) (entries : ℕ) → ((opening : State) (items : List Item) → HasHeard opening items course.auditor → IsWrongNext opening items item answer)
-          → ((opening : State) (items : List Item) → HasHeard opening items course.auditor → entries ≡ length (entries_among items)) → (IsEntry item → course.auditor.entries < longest_history)
+      pub is_wrong : (auditor : Hearing) (answer : Option Answer) (entries : ℕ) → ((opening : State) (items : List Item) → HasHeard (unasked opening) items course.auditor → IsWrongNext opening items item answer)
+          → ((opening : State) (items : List Item) → HasHeard (unasked opening) items course.auditor → entries ≡ length (entries_among items)) → (IsEntry item → course.auditor.tally.entries < longest_history)
           → IsCourse (with_item n told item) (record { profile = course.profile; auditor = auditor; stand = Wrong n answer (entries + 1) })
       is_wrong auditor answer entries f g room =
           let opening = opened_with c.settings in
           let wrong_here = f opening told.items heard in
           let many = g opening told.items heard in
-          let all = heard.entries in
+          let all = entries_heard opening told.items course.auditor heard in
           let fits = room wrong_here.is_entry in
           let same = c.numbered in
           turned auditor (Wrong n answer (entries + 1)) (record {
@@ -111,8 +112,8 @@ module _ (told : Told) (n : ℕ) (item : Item) where
             few = omega (arith, many, all, fits);
           })
 
-      pub is_full : (auditor : Hearing) → IsEntry item × (longest_history ≤ course.auditor.entries) → IsCourse (with_item n told item) (record { profile = course.profile; auditor = auditor; stand = Full })
-      is_full auditor many = let all = heard.entries in let more = many.1 in turned auditor Full (omega (arith, all, more, one_entry told.items item many.0))
+      pub is_full : (auditor : Hearing) → IsEntry item × (longest_history ≤ course.auditor.tally.entries) → IsCourse (with_item n told item) (record { profile = course.profile; auditor = auditor; stand = Full })
+      is_full auditor many = let all = entries_heard (opened_with c.settings) told.items course.auditor heard in let more = many.1 in turned auditor Full (omega (arith, all, more, one_entry told.items item many.0))
 
   -- behind a wrong entry
   wrong_before : (opening : State) (line : ℕ) (answer : Option Answer) (entries entries' : ℕ) → IsWrongAt opening told line answer entries → entries' ≡ length (entries_among (told.items ++ item ∷ [])) → entries' ≤ longest_history → IsWrongAt opening (with_item n told item) line answer entries'
@@ -161,10 +162,10 @@ has_room result found fault entry n e h is = go (nat_le longest_history n) refl
     go false f = grind (arith, nat_tests, f)
 
 -- what was found
-pub wrong_found : (opening : State) (items : List Item) (item : Item) (finding : Finding) (new : Hearing) (answer : Answer) → finding ≡ WrongAnswer → IsFound opening items item finding new → answer ≡ new.answer → IsWrongNext opening items item (Some answer)
+pub wrong_found : (opening : State) (items : List Item) (item : Item) (finding : Finding) (new : Hearing) (answer : Answer) → finding ≡ WrongAnswer → IsFound (unasked opening) items item finding new → answer ≡ new.answer → IsWrongNext opening items item (Some answer)
 wrong_found opening items item finding new answer e f a = rw a (rw e at f)
 
-pub nobody_found : (opening : State) (items : List Item) (item : Item) (finding : Finding) (new : Hearing) → finding ≡ NoSuchActor → IsFound opening items item finding new → IsWrongNext opening items item None
+pub nobody_found : (opening : State) (items : List Item) (item : Item) (finding : Finding) (new : Hearing) → finding ≡ NoSuchActor → IsFound (unasked opening) items item finding new → IsWrongNext opening items item None
 nobody_found opening items item finding new e f = rw e at f
 
 -- A LINE
@@ -181,7 +182,7 @@ pub next_told : (n : ℕ) (told : Told) (line : List ℕ) (course : Course) → 
 next_told n told line course e c = rw (e, c.told_is, c.profile_is) refl
 
 -- the configuration was told
-pub begins : (n : ℕ) (line : List ℕ) (s : Settings) (profile : Profile) (auditor : Hearing) → Some s ≡ settings_in line → profile ≡ s.profile → HasHeard (opened_with s) [] auditor
+pub begins : (n : ℕ) (line : List ℕ) (s : Settings) (profile : Profile) (auditor : Hearing) → Some s ≡ settings_in line → profile ≡ s.profile → HasHeard (unasked (opened_with s)) [] auditor
     → IsTold (Ok (record { profile = profile; auditor = auditor; stand = Legal })) n line (opened_by line)
 begins n line s profile auditor e p h =
     (record { settings = Some s; items = []; lines = [] }, rw (sym e) refl, record { settings = s; told_is = refl; profile_is = p; numbered = refl; stands = h })
@@ -216,14 +217,14 @@ module _ (told : Told) (course : Course) (c : IsCourse told course) (printed : L
   all_told : (told_text : List ℕ) (ends : Option AuditFault) → printed ≡ told_text → fault ≡ ends → ◌≡◌ {A = Printed AuditFault} (record { printed = printed; fault = fault }) (record { printed = told_text; fault = ends })
   all_told told_text ends p f = rw (p, f) refl
 
-  pub said_legal : course.stand ≡ Legal → (calls : ℕ) (books : Books) → ((opening : State) (items : List Item) → HasHeard opening items course.auditor → calls ≡ length (entries_among items)) → calls ≤ longest_history
-      → ((opening : State) (items : List Item) → HasHeard opening items course.auditor → books ≡ books_over (unasked opening) items) → printed ≡ codes "legal=yes" ++ books_text calls books → fault ≡ None
+  pub said_legal : course.stand ≡ Legal → (calls : ℕ) (books : Books) → ((opening : State) (items : List Item) → HasHeard (unasked opening) items course.auditor → calls ≡ length (entries_among items)) → calls ≤ longest_history
+      → ((base : Base) (items : List Item) → HasHeard base items course.auditor → books ≡ books_over base items) → printed ≡ codes "legal=yes" ++ books_text calls books → fault ≡ None
       → IsSaidOf told (record { printed = printed; fault = fault })
   said_legal e calls books f few g p n =
       let opening = opened_with c.settings in
-      let heard : HasHeard opening told.items course.auditor = subst (λ (stand : Stand). StandsAt opening told course.auditor stand) e c.stands in
+      let heard : HasHeard (unasked opening) told.items course.auditor = subst (λ (stand : Stand). StandsAt opening told course.auditor stand) e c.stands in
       let many = f opening told.items heard in
-      let sums = g opening told.items heard in
+      let sums = g (unasked opening) told.items heard in
       said_of (legal (omega (arith, many, few)) heard.legal (all_told (legal_text opening told.items) None (p ∙ ap (λ (k : ℕ). codes "legal=yes" ++ books_text k books) many ∙ ap (λ (b : Books). codes "legal=yes" ++ books_text (length (entries_among told.items)) b) sums) n))
 
   pub said_wrong : (line : ℕ) (answer : Option Answer) (entries : ℕ) → course.stand ≡ Wrong line answer entries → printed ≡ wrong_text course.profile line answer → fault ≡ Some (Illegal line)
@@ -252,8 +253,8 @@ pub said_nothing : (told : Told) (n : ℕ) (printed : List ℕ) (fault : Option 
 said_nothing told n printed fault none e = rw none e
 
 -- of a verdict
-pub accepted : {E : Type 0} (told : Told) (course : Course) → IsCourse told course → course.stand ≡ Legal → (calls : ℕ) (books : Books) → ((opening : State) (items : List Item) → HasHeard opening items course.auditor → calls ≡ length (entries_among items)) → calls ≤ longest_history
-    → ((opening : State) (items : List Item) → HasHeard opening items course.auditor → books ≡ books_over (unasked opening) items)
+pub accepted : {E : Type 0} (told : Told) (course : Course) → IsCourse told course → course.stand ≡ Legal → (calls : ℕ) (books : Books) → ((opening : State) (items : List Item) → HasHeard (unasked opening) items course.auditor → calls ≡ length (entries_among items)) → calls ≤ longest_history
+    → ((base : Base) (items : List Item) → HasHeard base items course.auditor → books ≡ books_over base items)
     → (result : Result Verdict E) → IfOk result (λ v. v.text.items ≡ codes "legal=yes" ++ books_text calls books) → IfOk result (λ v. v.fault ≡ None) → IfOk result (λ v. IsSaidOf told (told_of v))
 accepted told course c e calls books f few g (Ok v) text none = said_legal told course c v.text.items v.fault e calls books f few g text none
 accepted told course c e calls books f few g (Err want) text none = tt

@@ -1,4 +1,3 @@
-mod Heard
 mod Courses
 mod Lines
 mod Verdicts

@@ -2,16 +2,16 @@
 use Rattle.std.proofs.Common.{refl, arith, sym, subst, ◌≡◌, ◌∙◌, ap, ◌<◌, ◌≤◌, ◌+◌, ◌^◌, ◌==◌, [], ◌∷◌, ◌++◌, length, ℕ, suc, false, true, List, Option, None, Some, Result, Ok, Err, append_assoc, append-nil}
 use Rattle.std.proofs.lemmas.Bool.Decides.{nat_tests}
 use Rattle.std.proofs.lemmas.List.{length-append}
-use Rattle.text_printing.specs.Printing.{Ends, IsBegun, Printed, ReadsOrStops, StopsIn}
-use Rattle.text_printing.specs.declared.fault.Stop.{Stop}
-use Rattle.text_printing.specs.declared.fault.Stop.TheVariants.{Input, Memory}
+use Rattle.text_base.specs.Printing.{Ends, IsBegun, Printed, ReadsOrStops, StopsIn}
+use Rattle.text_base.specs.declared.fault.Stop.{Stop}
+use Rattle.text_base.specs.declared.fault.Stop.TheVariants.{Input, Memory}
 use Rattle.history_audit.specs.Auditing.{IsAuditOf, IsAuditText}
 use Rattle.history_audit.specs.Reading.{Advances, AdvancesOrHalts, Concludes, Finishes, Halts, HasRead, IsFaultOf, IsRead, IsUnread, Reading, Says, StandsFor, first_reading}
 use Rattle.history_audit.specs.declared.course.Course.{Course}
 use Rattle.history_audit.specs.declared.fault.AuditFault.{AuditFault}
 use Rattle.history_audit.specs.declared.fault.AuditFault.TheVariants.{Text}
 use Rattle.history_audit.proofs.Verdicts.{one_text_each}
-use Rattle.history_text.specs.Telling.{Telling, Told, flaw_in, goes_on, history_in, is_very_long, longest_line, nothing_told, told_from, told_in_all, unreadable, with_any_line, with_line}
+use Rattle.text_entries.specs.Telling.{Telling, Told, flaw_in, goes_on, history_in, is_very_long, longest_line, nothing_told, told_from, told_in_all, unreadable, with_any_line, with_line}
 use Rattle.text_lines.proofs.LineLemmas.{Begins, begins_at, open_more}
 use Rattle.text_lines.specs.declared.flaw.LineFlaw.TheVariants.{VeryLong}
 use Rattle.text_lines.specs.Flaws.{flaw_of}

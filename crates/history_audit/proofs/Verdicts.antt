@@ -1,12 +1,12 @@
 -- What is said of a history, and that nothing else can be said of it.
 use Rattle.std.proofs.Common.{refl, arith, sym, subst, ◌≡◌, ◌∙◌, ap, ◌<◌, ◌≤◌, ◌+◌, [], ◌∷◌, ℕ, zero, suc, Bool, true, false, nat_lt, List, take, get_or}
 use Rattle.std.proofs.lemmas.Bool.Decides.{nat_tests}
-use Rattle.text_printing.specs.Printing.{Printed}
-use Rattle.history_items.specs.declared.item.Item.{Item}
-use Rattle.history_items.specs.Items.{AreLegal, left_by}
+use Rattle.text_base.specs.Printing.{Printed}
+use Rattle.set_core.specs.declared.item.Item.{Item}
+use Rattle.set_core.specs.Items.{AreLegal, left_by}
 use Rattle.set_model.specs.State.{State, opened_with}
-use Rattle.history_audit.specs.FirstWrong.{IsFirstWrong, answer_at}
-use Rattle.history_text.specs.Telling.{Telling, tells, unreadable, history_in}
+use Rattle.set_core.specs.FirstWrong.{IsFirstWrong, answer_at}
+use Rattle.text_entries.specs.Telling.{Telling, tells, unreadable, history_in}
 use Rattle.history_audit.specs.declared.fault.AuditFault.{AuditFault}
 use Rattle.history_audit.specs.Auditing.{IsAudited, legal, wrong, full, IsAuditOf, IsAuditText, refuses}
 

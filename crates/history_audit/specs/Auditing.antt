@@ -1,17 +1,17 @@
 -- THE TEXT OF `audit`: whether the history that is read is legal, and what it adds up to.
 use Rattle.std.specs.Prelude.{◌≡◌, ◌<◌, ◌≤◌, ℕ, List, [], ◌++◌, length, Option, None, Some, get_or, codes, decimal}
-use Rattle.text_printing.specs.Printing.{Printed}
+use Rattle.text_base.specs.Printing.{Printed}
 use Rattle.l2_units.specs.declared.profile.Profile.{Profile}
 use Rattle.set_events.specs.declared.books.Books.{Books}
 use Rattle.set_model.specs.State.{State, opened_with}
 use Rattle.set_model.specs.History.{longest_history}
-use Rattle.history_items.specs.declared.item.Item.{Item}
-use Rattle.history_items.specs.Items.{AreLegal, books_over, entries_among}
+use Rattle.set_core.specs.declared.item.Item.{Item}
+use Rattle.set_core.specs.Items.{AreLegal, books_over, entries_among}
 use Rattle.set_events.specs.declared.answer.Answer.{Answer}
-use Rattle.script_answers.specs.Texts.{answer_text}
-use Rattle.history_audit.specs.FirstWrong.{IsFirstWrong, answer_at}
-use Rattle.history_audit.specs.Hearing.{unasked}
-use Rattle.history_text.specs.Telling.{Telling, tells, unreadable, history_in}
+use Rattle.text_entries.specs.Texts.{answer_text}
+use Rattle.set_core.specs.FirstWrong.{IsFirstWrong, answer_at}
+use Rattle.set_core.specs.Hearing.{unasked}
+use Rattle.text_entries.specs.Telling.{Telling, tells, unreadable, history_in}
 use Rattle.history_audit.specs.declared.fault.AuditFault.{AuditFault}
 use Rattle.history_audit.specs.declared.fault.AuditFault.TheVariants.{Text, Illegal, Exhausted}
 use Rattle.history_audit.specs.declared.verdict.Verdict.{Verdict}

@@ -1,4 +1,2 @@
-pub mod FirstWrong
-pub mod Hearing
 pub mod Auditing
 pub mod Reading

@@ -6,14 +6,14 @@ use Rattle.history_audit.specs.declared.course.Stand.{Stand}
 use Rattle.history_audit.specs.declared.course.Stand.TheVariants.{Legal, Wrong, Full}
 use Rattle.history_audit.specs.declared.fault.AuditFault.{AuditFault}
 use Rattle.history_audit.specs.declared.fault.AuditFault.TheVariants.{Text}
-use Rattle.history_audit.specs.Hearing.{HasHeard, Hearing, IsWrongNext}
-use Rattle.history_items.specs.declared.item.Item.{Item}
-use Rattle.history_items.specs.declared.item.Item.TheVariants.{Entered, Checkpoint}
-use Rattle.history_items.specs.Items.{entries_among}
-use Rattle.history_text.specs.Telling.{Told, Telling, history_in, longest_line, nothing_told, opened, told_from, told_in_all}
-use Rattle.text_printing.specs.Printing.{Printed, StopsIn}
-use Rattle.text_printing.specs.declared.fault.Stop.{Stop}
-use Rattle.text_printing.specs.declared.fault.Stop.TheVariants.{Input, Memory}
+use Rattle.set_core.specs.Hearing.{HasHeard, Hearing, IsWrongNext, unasked}
+use Rattle.set_core.specs.declared.item.Item.{Item}
+use Rattle.set_core.specs.declared.item.Item.TheVariants.{Entered, Checkpoint}
+use Rattle.set_core.specs.Items.{entries_among}
+use Rattle.text_entries.specs.Telling.{Told, Telling, history_in, longest_line, nothing_told, opened, told_from, told_in_all}
+use Rattle.text_base.specs.Printing.{Printed, StopsIn}
+use Rattle.text_base.specs.declared.fault.Stop.{Stop}
+use Rattle.text_base.specs.declared.fault.Stop.TheVariants.{Input, Memory}
 use Rattle.set_events.specs.declared.answer.Answer.{Answer}
 use Rattle.set_model.specs.History.{longest_history}
 use Rattle.set_model.specs.State.{State, Settings, opened_with}
@@ -36,7 +36,7 @@ pub record IsWrongAt (opening : State) (told : Told) (line : ℕ) (answer : Opti
   pub few : entries ≤ longest_history
 
 abbrev pub StandsAt : State → Told → Hearing → Stand → Type 0
-StandsAt opening told heard Legal = HasHeard opening told.items heard
+StandsAt opening told heard Legal = HasHeard (unasked opening) told.items heard
 StandsAt opening told heard (Wrong line answer entries) = IsWrongAt opening told line answer entries
 StandsAt opening told heard Full = longest_history < length (entries_among told.items)
 

@@ -1,23 +1,18 @@
 //! What the lines of a history have come to.
 ghost use Rattle.std.specs.Prelude.{◌≡◌, ◌≤◌, Err, None, Some, false, length, true};
-ghost use Rattle.history_text.specs.Telling.{Told, longest_line, told_next, with_item, with_line};
+ghost use Rattle.text_entries.specs.Telling.{Told, longest_line, told_next, with_item, with_line};
 ghost use Rattle.text_lines.specs.Flaws.{flaw_of};
-ghost use Rattle.text_printing.specs.declared.fault.Stop.TheVariants.{Input};
+ghost use Rattle.text_base.specs.declared.fault.Stop.TheVariants.{Input};
 ghost use Rattle.history_audit.specs.Reading.{IsNoted, IsRead, IsTold, StandsFor, is_legal, opened_by, passed_over};
 
-use super::auditor::{Auditor, Finding};
 use super::fault::AuditFault;
-use history_items::Item;
-use history_text::{LinePlace, read_config};
 use l2_units::Profile;
-use set_core::SetFault;
+use set_core::{Auditor, Finding, Item, LONGEST_HISTORY, SetFault};
 use set_events::Answer;
 use std::alloc::Global;
+use text_base::Stop;
+use text_entries::{LinePlace, read_config};
 use text_lines::{find_flaw, is_passed_over};
-use text_printing::Stop;
-
-/// The most entries of a history, 2^48.
-const LONGEST_HISTORY: u64 = 0x1_0000_0000_0000;
 
 /// What the items so far have come to.
 #[derive(Drop)]

@@ -1,15 +1,9 @@
 //! The audit of a history: whether it's legal, item by item, and the text of `audit`.
 //!
 //! ```text
-//! octets -> a line of at most 16,384 octets -> its item (history_text) -> held against the set
+//! octets -> a line of at most 16,384 octets -> its item (text_entries) -> held against the set
 //!     -> at the end legal=yes and the books, or legal=no and what a set answers at the first wrong entry
-//!
-//! opening --item--> state --item--> state -- ..      an entry: the set is asked, and its answer compared
-//!                                                    a checkpoint: what is finished leaves the set
 //! ```
-//!
-//! An [`Auditor`] keeps what a set keeps ([`set_core::Core`]) and its books, and no entry: what isn't finished, and of
-//! what was finished since the last checkpoint the fates and bodies. `specs/Hearing.antt` says what it has heard.
 //!
 //! [`audit`] reads a source's history and writes one line about it. `specs/Auditing.antt` is the text: `legal=yes`
 //! exactly where the items are a legal history, with the books; else the line of the first entry that isn't what a set
@@ -22,14 +16,12 @@
 //! for.
 #![tactic(auto)]
 
-mod auditor;
 mod course;
 mod fault;
 mod reader;
 mod text;
 mod verdict;
 
-pub use auditor::{Auditor, Finding};
 pub use fault::AuditFault;
 pub use text::{audit, one_audit_text};
 pub use text_lines::LineFlaw;

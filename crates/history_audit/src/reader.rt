@@ -1,17 +1,17 @@
 //! A history under way: the line that is being read, and what those before it came to.
 ghost use Rattle.std.specs.Prelude.{◌≡◌, Err};
-ghost use Rattle.text_printing.specs.declared.fault.Stop.TheVariants.{Input};
+ghost use Rattle.text_base.specs.declared.fault.Stop.TheVariants.{Input};
 ghost use Rattle.text_lines.specs.Reading.{IsOpen};
 ghost use Rattle.history_audit.specs.Reading.{Concludes};
 
 use super::course::{Course, tell_line};
 use super::fault::AuditFault;
 use super::verdict::judge;
-use history_text::LinePlace;
 use std::alloc::Global;
 use std::marker::Model;
+use text_base::{Printer, Stop};
+use text_entries::LinePlace;
 use text_lines::{LineFlaw, end_of_line};
-use text_printing::{Printer, Stop};
 
 /// The most octets of a line, without its LF.
 const LONGEST_LINE: usize = 16_384;

@@ -1,12 +1,12 @@
 //! `mtpbank audit`: a history, and whether it's legal.
 ghost use Rattle.std.specs.Prelude.{◌≤◌, ◌^◌, length, IfSome, OnOk};
-ghost use Rattle.text_printing.specs.Printing.{Prints, FailsByDevices};
+ghost use Rattle.text_base.specs.Printing.{Prints, FailsByDevices};
 ghost use Rattle.history_audit.specs.Auditing.{IsAuditText, OneAuditText};
 
 use super::fault::AuditFault;
 use super::reader::HistoryReader;
 use std::alloc::Global;
-use text_printing::{Fault, LONGEST_READ, Sink, Source, print_all};
+use text_base::{Fault, LONGEST_READ, Sink, Source, print_all};
 
 /// Reads the history that the source gives, and writes whether it's legal.
 ///

@@ -1,15 +1,15 @@
 //! What is said of a history that has ended.
 ghost use Rattle.std.specs.Prelude.{◌≡◌, ◌++◌, [], IfOk, None, Some, codes, decimal};
-ghost use Rattle.history_text.specs.Telling.{Told, told_in_all};
+ghost use Rattle.text_entries.specs.Telling.{Told, told_in_all};
 ghost use Rattle.history_audit.specs.Auditing.{IsAuditOf, books_text, there_text, told_of, wrong_text};
 ghost use Rattle.history_audit.specs.Reading.{IsCourse, IsSaidOf, StandsFor};
 
 use super::course::{Course, Stand};
 use super::fault::AuditFault;
-use history_text::write_answer;
 use l2_units::Profile;
 use set_events::{Answer, Books};
 use std::alloc::{AllocError, Global};
+use text_entries::write_answer;
 use text_lines::LineFlaw;
 
 /// What is said of a history: a text, and how it's at fault, if it is.

@@ -1,11 +1,10 @@
 //! A history that an auditor hears item by item. What a set answers is worked out by hand from Q.703 5.
-use history_audit::{Auditor, Finding};
-use history_items::Item;
-use history_text::{LinePlace, read_item};
 use l2_units::Profile;
+use set_core::{Auditor, Finding, Item};
 use set_events::{Answer, Fate, Method, Refusal, SetConfig};
 use std::alloc::Global;
 use std::test::Fail;
+use text_entries::{LinePlace, read_item};
 
 /// Message 0 is sent and acknowledged.
 const ACKNOWLEDGED: [&[u8]; 4] = [

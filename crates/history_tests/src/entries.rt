@@ -1,9 +1,9 @@
 //! Entries with their texts, written by hand after the words of `play`.
-use history_text::{read_entry, write_entry};
 use l2_units::{Profile, read, read_wide};
 use set_events::{Actor, Answer, Body, Entry, Event, Report, Took};
 use std::alloc::Global;
 use std::test::Fail;
+use text_entries::{read_entry, write_entry};
 
 /// The entry of a set of this profile has this text, and the text is read as that entry.
 fn has_text(alloc: Global, profile: Profile, entry: &Entry, text: &[u8]) -> Result<(), Fail> {

@@ -5,7 +5,7 @@ use history_audit::{AuditFault, LineFlaw, audit};
 use std::alloc::{AllocError, Global};
 use std::test::Fail;
 use test_devices::{Page, Text};
-use text_printing::Fault;
+use text_base::Fault;
 
 /// Two pieces and what came since: `audit` has to say this, and end so, whatever the pieces that are read.
 const HISTORY: &[u8] = b"# Two pieces.

@@ -9,12 +9,12 @@ use Rattle.mtpbank_words.specs.declared.words.Words.TheVariants.{Run}
 use Rattle.mtpbank_words.specs.declared.run_words.RunWords.{RunWords}
 use Rattle.mtpbank_words.specs.declared.words.WordsFault.{WordsFault}
 use Rattle.mtpbank_words.specs.declared.words.WordsFault.TheVariants.{NoMemory, Words as WrongWords, Link, Said}
-use Rattle.text_printing.specs.declared.fault.Fault.{Fault}
-use Rattle.text_printing.specs.Printing.{FailsByDevices, Prints}
-use Rattle.text_report.specs.declared.verdict.Missing.{Missing}
-use Rattle.text_run.specs.declared.fault.RunFault.{RunFault}
-use Rattle.text_run.specs.Asked.{IsFaultOfAsked, RunsAsked}
-use Rattle.text_run.specs.Running.{FailsByWrites}
+use Rattle.text_base.specs.declared.fault.Fault.{Fault}
+use Rattle.text_base.specs.Printing.{FailsByDevices, Prints}
+use Rattle.run_text.specs.declared.verdict.Missing.{Missing}
+use Rattle.run_text.specs.declared.fault.RunFault.{RunFault}
+use Rattle.run_text.specs.Asked.{IsFaultOfAsked, RunsAsked}
+use Rattle.run_text.specs.Running.{FailsByWrites}
 use Rattle.mtpbank.specs.declared.running.TextFault.{TextFault}
 use Rattle.mtpbank.specs.declared.ending.Ended.{Ended}
 use Rattle.mtpbank.specs.declared.ending.Ended.TheVariants.{Well, Told, Untold}

@@ -3,19 +3,19 @@ use Rattle.std.specs.Prelude.{◌≡◌, ◌^◌, ℕ, List, Result, Ok, Err}
 use Rattle.std.specs.Option.{option_map}
 use Rattle.mtpbank_words.specs.declared.words.Words.{Words}
 use Rattle.mtpbank_words.specs.declared.words.Words.TheVariants.{Units, Play, PlayExplained, Decode, DecodeWide, Capture, Ladder, Audit, Terminal, TerminalExplained, HistoryOfA, HistoryOfB, Run}
-use Rattle.text_printing.specs.declared.fault.Fault.{Fault}
-use Rattle.text_printing.specs.declared.fault.Fault.TheVariants.{Input, Memory, Read, Long, Write}
-use Rattle.text_printing.specs.Printing.{Printed}
+use Rattle.text_base.specs.declared.fault.Fault.{Fault}
+use Rattle.text_base.specs.declared.fault.Fault.TheVariants.{Input, Memory, Read, Long, Write}
+use Rattle.text_base.specs.Printing.{Printed}
 use Rattle.l2_units.specs.declared.profile.Profile.TheVariants.{Narrow, Wide}
-use Rattle.script_play.specs.PlayText.{IsPlayText, IsExplainedPlayText}
+use Rattle.script_accounts.specs.PlayText.{IsPlayText, IsExplainedPlayText}
 use Rattle.text_units.specs.UnitsText.{IsUnitsText}
-use Rattle.text_decode.specs.Decoding.{IsDecodeText}
-use Rattle.script_capture.specs.Capture.{IsCapture}
+use Rattle.text_units.specs.Decoding.{IsDecodeText}
+use Rattle.script_accounts.specs.Capture.{IsCapture}
 use Rattle.script_ladder.specs.Ladder.{IsLadder}
-use Rattle.script_history.specs.Histories.{IsHistoryText}
+use Rattle.script_accounts.specs.Histories.{IsHistoryText}
 use Rattle.pair_steps.specs.declared.step.End.TheVariants.{A, B}
 use Rattle.history_audit.specs.Auditing.{IsAuditText}
-use Rattle.terminal_explain.specs.Explaining.{IsExplainedTerminalText}
+use Rattle.terminal_text.specs.Explaining.{IsExplainedTerminalText}
 use Rattle.terminal_text.specs.Text.{IsTerminalText}
 use Rattle.mtpbank.specs.declared.running.TextFault.{TextFault}
 use Rattle.mtpbank.specs.declared.running.TextFault.TheVariants.{Units as UnitsFault, Play as PlayFault, Explained as ExplainedPlayFault, Decode as DecodeFault, Audit as AuditedFault, Terminal as TerminalLineFault, ExplainedTerminal as ExplainedTerminalLineFault}
@@ -42,7 +42,7 @@ IsTextOf HistoryOfA input text = IsText (IsHistoryText A input) PlayFault text
 IsTextOf HistoryOfB input text = IsText (IsHistoryText B input) PlayFault text
 IsTextOf (Run run) input text = ⊥
 
--- all subcommands read an input but `run`, whose text stands in `text_run`
+-- all subcommands read an input but `run`, whose text stands in `run_text`
 abbrev pub ReadsInput : Words → Type 0
 ReadsInput (Run run) = ⊥
 ReadsInput words = Unit {0}
@@ -57,12 +57,16 @@ longest_of Terminal = 2 ^ 60
 longest_of TerminalExplained = 2 ^ 60
 longest_of words = 2 ^ 24
 
--- the same answer with a fault of that type
-abbrev pub with_fault : {F : Type 0} → (F → TextFault) → Result (Unit {0}) (Fault F)
-    → Result (Unit {0}) (Fault TextFault)
-with_fault of (Ok done) = Ok done
-with_fault of (Err (Input fault)) = Err (Input (of fault))
-with_fault of (Err Memory) = Err Memory
-with_fault of (Err Read) = Err Read
-with_fault of (Err Long) = Err Long
-with_fault of (Err Write) = Err Write
+-- an answer that gives these of the input's faults, and else the same
+abbrev pub GivesInput : {F G : Type 0} → (F → G → Type 0) → F → Result (Unit {0}) (Fault G) → Type 0
+GivesInput Gives fault (Err (Input given)) = Gives fault given
+GivesInput Gives fault _ = ⊥
+
+abbrev pub GivesFault : {F G : Type 0} → (F → G → Type 0) → Result (Unit {0}) (Fault F)
+    → Result (Unit {0}) (Fault G) → Type 0
+GivesFault Gives (Ok done) given = given ≡ Ok done
+GivesFault Gives (Err (Input fault)) given = GivesInput Gives fault given
+GivesFault Gives (Err Memory) given = given ≡ Err Memory
+GivesFault Gives (Err Read) given = given ≡ Err Read
+GivesFault Gives (Err Long) given = given ≡ Err Long
+GivesFault Gives (Err Write) given = given ≡ Err Write

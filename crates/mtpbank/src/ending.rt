@@ -5,13 +5,13 @@ ghost use Rattle.mtpbank.specs.Running.{ReadsInput};
 
 use super::running::{TextFault, run};
 use mtpbank_words::{RunWords, Words};
+use run_text::{Missing, RunFault};
 use std::alloc::Global;
 use std::io::{Eprint, Write};
 use std::sync::Wait;
 use std::thread::Threads;
 use std::time::Clock;
-use text_printing::{Fault, Sink, Source, Writer};
-use text_run::{Missing, RunFault};
+use text_base::{Fault, Sink, Source, Writer};
 use thiserror::Error;
 
 /// How it ended.
@@ -79,7 +79,7 @@ pub fn carry_out_run<
     ensures { EndsRunning words.now (W.written sink.old) (W.written sink.new)
         (W.failures sink.old) (W.failures sink.new) (W.unread sink.new) result }
 {
-    let ran = text_run::run(threads, alloc, words, shows, sink);
+    let ran = run_text::run(threads, alloc, words, shows, sink);
     run_end_of(ran, sink.is_unread())
 }
 

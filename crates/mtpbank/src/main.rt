@@ -33,7 +33,7 @@ use std::sync::Wait;
 use std::thread::Threads;
 use std::time::Clock;
 use telling::say_line;
-use text_printing::{Reader, Sink, Source, Writer};
+use text_base::{Reader, Sink, Source, Writer};
 
 /// The status of a fault of input, memory, reading or writing.
 const FAULT: u8 = 1;

@@ -1,21 +1,17 @@
 //! What the subcommands do, over any source and sink.
 ghost use Rattle.std.specs.Prelude.{◌≡◌, ◌≤◌, ◌^◌, length, IfSome, OnOk};
-ghost use Rattle.text_printing.specs.Printing.{Prints, FailsByDevices};
-ghost use Rattle.mtpbank.specs.Running.{IsTextOf, ReadsInput, longest_of, with_fault};
+ghost use Rattle.text_base.specs.Printing.{Prints, FailsByDevices};
+ghost use Rattle.mtpbank.specs.Running.{GivesFault, IsTextOf, ReadsInput, longest_of};
 
 use history_audit::{AuditFault, audit};
 use l2_units::Profile;
 use mtpbank_words::Words;
-use script_capture::capture;
-use script_history::{End, history};
+use script_accounts::{End, Explained, ScriptFault, capture, history, play, play_explained};
 use script_ladder::ladder;
-use script_play::{ExplainedFault, ScriptFault, play, play_explained};
 use std::alloc::Global;
-use terminal_explain::{ExplainedTerminalFault, terminal_explained};
-use terminal_text::{TerminalFault, terminal};
-use text_decode::{UnreadableUnit, decode};
-use text_printing::{Fault, Sink, Source};
-use text_units::{UnreadableOctet, units};
+use terminal_text::{TerminalFault, terminal, terminal_explained};
+use text_base::{Fault, Sink, Source};
+use text_units::{UnreadableOctet, UnreadableUnit, decode, units};
 use thiserror::Error;
 
 /// How the input of a subcommand can be at fault.
@@ -29,7 +25,7 @@ pub enum TextFault {
     Play(ScriptFault),
     /// In a way of a script, with an explanation.
     #[error("{0}")]
-    Explained(ExplainedFault),
+    Explained(Explained<ScriptFault>),
     /// In a way of `decode`.
     #[error("{0}")]
     Decode(UnreadableUnit),
@@ -41,7 +37,7 @@ pub enum TextFault {
     Terminal(TerminalFault),
     /// In a way of `terminal`, with an explanation.
     #[error("{0}")]
-    ExplainedTerminal(ExplainedTerminalFault),
+    ExplainedTerminal(Explained<TerminalFault>),
 }
 
 /// Reads what the source gives, and writes what the subcommand makes of it, up to the first fault.
@@ -60,111 +56,42 @@ pub fn run<S: Source, W: Sink>(
         (W.failures sink.old) (W.failures sink.new)) }
 {
     match words {
-        Words::Units => of_any(units(alloc, source, sink)),
-        Words::Play => of_any(play(alloc, source, sink)),
-        Words::PlayExplained => of_any(play_explained(alloc, source, sink)),
-        Words::Decode => of_any(decode(alloc, Profile::Narrow, source, sink)),
-        Words::DecodeWide => of_any(decode(alloc, Profile::Wide, source, sink)),
-        Words::Capture => of_any(capture(alloc, source, sink)),
-        Words::Ladder => of_any(ladder(alloc, source, sink)),
-        Words::Audit => of_any(audit(alloc, source, sink)),
-        Words::Terminal => of_any(terminal(alloc, source, sink)),
-        Words::TerminalExplained => of_any(terminal_explained(alloc, source, sink)),
-        Words::HistoryOfA => of_any(history(alloc, End::A, source, sink)),
-        Words::HistoryOfB => of_any(history(alloc, End::B, source, sink)),
+        Words::Units => of_any(units(alloc, source, sink), TextFault::Units),
+        Words::Play => of_any(play(alloc, source, sink), TextFault::Play),
+        Words::PlayExplained => of_any(play_explained(alloc, source, sink), TextFault::Explained),
+        Words::Decode => of_any(
+            decode(alloc, Profile::Narrow, source, sink),
+            TextFault::Decode,
+        ),
+        Words::DecodeWide => of_any(
+            decode(alloc, Profile::Wide, source, sink),
+            TextFault::Decode,
+        ),
+        Words::Capture => of_any(capture(alloc, source, sink), TextFault::Play),
+        Words::Ladder => of_any(ladder(alloc, source, sink), TextFault::Play),
+        Words::Audit => of_any(audit(alloc, source, sink), TextFault::Audit),
+        Words::Terminal => of_any(terminal(alloc, source, sink), TextFault::Terminal),
+        Words::TerminalExplained => of_any(
+            terminal_explained(alloc, source, sink),
+            TextFault::ExplainedTerminal,
+        ),
+        Words::HistoryOfA => of_any(history(alloc, End::A, source, sink), TextFault::Play),
+        Words::HistoryOfB => of_any(history(alloc, End::B, source, sink), TextFault::Play),
         Words::Run(_) => unreachable!(),
     }
 }
 
-/// How the input of one text can be at fault.
-trait FaultOfText {
-    ghost use Rattle.mtpbank.specs.declared.running.TextFault.{TextFault};
-
-    /// The same fault among those of all texts.
-    ghost among_all: { Self → TextFault };
-
-    /// The same fault among those of all texts.
-    fn into_any(self) -> TextFault
-        ensures { result ≡ among_all self };
-}
-
-impl FaultOfText for UnreadableOctet {
-    ghost use Rattle.mtpbank.specs.declared.running.TextFault.TheVariants.{Units};
-
-    ghost among_all = { Units };
-
-    fn into_any(self) -> TextFault {
-        TextFault::Units(self)
-    }
-}
-
-impl FaultOfText for ScriptFault {
-    ghost use Rattle.mtpbank.specs.declared.running.TextFault.TheVariants.{Play};
-
-    ghost among_all = { Play };
-
-    fn into_any(self) -> TextFault {
-        TextFault::Play(self)
-    }
-}
-
-impl FaultOfText for ExplainedFault {
-    ghost use Rattle.mtpbank.specs.declared.running.TextFault.TheVariants.{Explained};
-
-    ghost among_all = { Explained };
-
-    fn into_any(self) -> TextFault {
-        TextFault::Explained(self)
-    }
-}
-
-impl FaultOfText for UnreadableUnit {
-    ghost use Rattle.mtpbank.specs.declared.running.TextFault.TheVariants.{Decode};
-
-    ghost among_all = { Decode };
-
-    fn into_any(self) -> TextFault {
-        TextFault::Decode(self)
-    }
-}
-
-impl FaultOfText for AuditFault {
-    ghost use Rattle.mtpbank.specs.declared.running.TextFault.TheVariants.{Audit};
-
-    ghost among_all = { Audit };
-
-    fn into_any(self) -> TextFault {
-        TextFault::Audit(self)
-    }
-}
-
-impl FaultOfText for TerminalFault {
-    ghost use Rattle.mtpbank.specs.declared.running.TextFault.TheVariants.{Terminal};
-
-    ghost among_all = { Terminal };
-
-    fn into_any(self) -> TextFault {
-        TextFault::Terminal(self)
-    }
-}
-
-impl FaultOfText for ExplainedTerminalFault {
-    ghost use Rattle.mtpbank.specs.declared.running.TextFault.TheVariants.{ExplainedTerminal};
-
-    ghost among_all = { ExplainedTerminal };
-
-    fn into_any(self) -> TextFault {
-        TextFault::ExplainedTerminal(self)
-    }
-}
-
-/// What a subcommand answered, with a fault of any text.
-fn of_any<T: FaultOfText>(ran: Result<(), Fault<T>>) -> Result<(), Fault<TextFault>>
-    ensures { result ≡ with_fault T.among_all ran }
+/// What a subcommand answered, with a fault of its input as one of these.
+fn of_any<T, F: FnOnce(T) -> TextFault>(
+    ran: Result<(), Fault<T>>,
+    of: F,
+) -> Result<(), Fault<TextFault>>
+    requires callable { F.IsAlwaysCallable of }
+    ensures { GivesFault (F.post of) ran result }
 {
     match ran {
         Ok(()) => Ok(()),
-        Err(Fault::Input(fault)) => Err(Fault::Input(fault.into_any())),
+        Err(Fault::Input(fault)) => Err(Fault::Input(of(fault))),
         Err(Fault::Memory) => Err(Fault::Memory),
         Err(Fault::Read) => Err(Fault::Read),
         Err(Fault::Long) => Err(Fault::Long),

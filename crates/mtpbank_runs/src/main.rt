@@ -21,10 +21,8 @@
 use history_audit::audit;
 use l2_units::Profile;
 use mtpbank_words::{RunWords, Words, WordsFault, words_of};
-use script_capture::capture;
-use script_history::{End, history};
+use script_accounts::{End, capture, history, play, play_explained};
 use script_ladder::ladder;
-use script_play::{play, play_explained};
 use std::alloc::Global;
 use std::fmt::Display;
 use std::io::Eprint;
@@ -33,11 +31,9 @@ use std::sync::Wait;
 use std::thread::Threads;
 use std::time::Clock;
 use std::{fs, io};
-use terminal_explain::terminal_explained;
-use terminal_text::terminal;
-use text_decode::decode;
-use text_printing::{Fault, Reader, Writer};
-use text_units::units;
+use terminal_text::{terminal, terminal_explained};
+use text_base::{Fault, Reader, Writer};
+use text_units::{decode, units};
 
 /// The first line of the scripts of a table.
 const OPENING: &str = "set links=1 method=basic a=2 b=1 sio=80\n";
@@ -395,7 +391,7 @@ fn ran_as<R: Threads + Wait + Clock + Eprint + Copy + Send + Sync + 'static>(
     words: &RunWords,
 ) -> io::Result<Ran> {
     let mut sink = Writer::new(Vec::new(alloc));
-    let told = match text_run::run(rt, alloc, words, false, &mut sink) {
+    let told = match run_text::run(rt, alloc, words, false, &mut sink) {
         Ok(Some(missing)) => Ok(format!(in alloc; "{missing}\n")?),
         Ok(None) => Ok(String::new(alloc)),
         Err(fault) => Ok(format!(in alloc; "{fault}\n")?),

@@ -27,8 +27,8 @@ thing, mostly on link L:
   noanswer                nobody answered that order
   restore, backtimeout    streams are asked back to it, nobody answered that
 `mtpbank play --help` says how each line is written, what it prints, and each
-fault. Begin with `mtpbank play < examples/first_message.play`. With --explain a
-line at fault is explained: what is wanted, and a caret under the wrong word.";
+fault. Begin with `mtpbank play < examples/first_message.play`. With --explain
+numbers have words, `refused 5 (not up)`, and a line at fault is explained.";
 
 pub(crate) const DECODE_PAGE: &str = "\
 Standard input is the octets of a unit a line, in hexadecimal, with or without
@@ -133,8 +133,9 @@ A fault ends it: one line on standard error, with status 1; what was printed bef
   fault memory        memory is wanted; or a link took 2^48 turns, or the set was asked 2^48 times
   fault read, fault write
   fault long          standard input has more than 2^60 octets
-With --explain more lines come behind that of a line's fault on standard error: what is wanted, the line, and a caret
-under the word at fault, or right behind the line where a word is missing, as `mtpbank play --explain` has them:
+With --explain the numbers of `refused` and `found discarded` have words behind them, as in `refused 5 (not up)`, and
+more lines come behind that of a line's fault on standard error: what is wanted, the line, and a caret under the word at
+fault, or right behind the line where a word is missing:
   fault line 3 text
   line 3: octets wants a link, and octets of two hexadecimal digits
     octets 0
@@ -424,8 +425,9 @@ A fault ends the script: one line on standard error, with status 1; what was pri
   fault read          standard input failed
   fault long          standard input has more than 2^24 octets
   fault write, fault memory, fault exhausted (a history has 2^48 entries)
-With --explain more lines come behind that of a line's fault on standard error: what is wanted there, the script's line,
-and a caret under the word at fault, or right behind the line where a word is missing:
+With --explain the numbers of `refused` and `found discarded` have words behind them, as in `refused 5 (not up)`, and
+more lines come behind that of a line's fault on standard error: what is wanted there, the script's line, and a caret
+under the word at fault, or right behind the line where a word is missing:
   fault line 3 text
   line 3: offer wants an end, a or b, and octets of two hexadecimal digits
     offer

@@ -166,10 +166,7 @@ fn named(matches: &ArgMatches<'_>) -> Result<Words, Unasked>
         return Err(Unasked::Value(NO_END));
     };
     match name {
-        "run" => match run_of(found) {
-            Ok(run) => Ok(Words::Run(run)),
-            Err(why) => Err(why),
-        },
+        "run" => Ok(Words::Run(run_of(found)?)),
         _ => match word_of(name, found.get_str("END")) {
             Some(asked) => Ok(asked),
             None => Err(Unasked::Value(NO_END)),

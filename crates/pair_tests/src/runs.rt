@@ -4,10 +4,10 @@
 //! in a straight line. Others borrow one, hand it on, or have plain values.
 use l2_units::Profile;
 use pair_world::{End, Move, PlayFault, Shown, Step, World};
-use script_grammar::read_move;
 use set_events::{Event, Fate, Method, SetConfig};
 use std::alloc::Global;
 use std::test::Fail;
+use text_forms::read_move;
 
 /// An end with so many links, its own point code and the far end's.
 pub(crate) fn end_of(links: u8, own: u16, far: u16) -> Option<SetConfig> {
@@ -16,10 +16,7 @@ pub(crate) fn end_of(links: u8, own: u16, far: u16) -> Option<SetConfig> {
 
 /// What this line asks for, if anything.
 pub(crate) fn read(alloc: Global, line: &str) -> Option<Move> {
-    match read_move(alloc, Profile::Narrow, line.as_bytes()) {
-        Ok(next) => next,
-        Err(_) => None,
-    }
+    read_move(alloc, Profile::Narrow, line.as_bytes()).ok()
 }
 
 /// Adds the steps that these lines ask for; whether each asks for one.

@@ -9,7 +9,7 @@ use Rattle.l2_units.specs.declared.profile.Profile.{Profile}
 use Rattle.l2_units.specs.declared.profile.Profile.TheVariants.{Narrow, Wide}
 use Rattle.l2_units.specs.Profile.{fsn_count}
 use Rattle.l3_orders.specs.Grammar.{order_of}
-use Rattle.text_decode.specs.Decoding.{order_words}
+use Rattle.text_units.specs.Decoding.{order_words}
 use Rattle.set_events.specs.declared.event.Event.{Event}
 use Rattle.set_events.specs.declared.event.Event.TheVariants.{Offer, Take, Find, Next, Heard as HeardEvent, Up as UpEvent, Down, DownBlind, NoAnswer, Restore, BackTimeout}
 use Rattle.set_events.specs.declared.answer.Answer.TheVariants.{Accepted, Taken, Found, Sent, Heard, Done, Refused}
@@ -30,10 +30,10 @@ use Rattle.pair_steps.specs.declared.step.Shown.TheVariants.{Up, Lost, Answered}
 use Rattle.pair_rises.specs.declared.moves.Move.{Move}
 use Rattle.pair_rises.specs.declared.moves.Move.TheVariants.{Step as MoveStep, Rise, Fill}
 use Rattle.pair_model.specs.World.{World, line_to, at_end, counts_at, other}
-use Rattle.script_answers.specs.Reasons.{discard_name, refusal_name}
-use Rattle.script_answers.specs.Texts.{shown_text, took_text, fault_code}
+use Rattle.text_entries.specs.Reasons.{named}
+use Rattle.text_entries.specs.Texts.{shown_text, took_text, fault_code}
 use Rattle.text_base.specs.Figures.{bit, hex_text}
-use Rattle.text_printing.specs.Printing.{Printed}
+use Rattle.text_base.specs.Printing.{Printed}
 use Rattle.script_walk.specs.declared.fault.ScriptFault.{ScriptFault}
 use Rattle.script_walk.specs.Scripts.{Told, profile_of, IsScriptText}
 use Rattle.script_ladder.specs.Names.{isup_name}
@@ -250,31 +250,10 @@ spaced (c ∷ cs) = (c ∷ cs) ++ codes " "
 abbrev pub taken_words : List ℕ → List ℕ
 taken_words body = shortened 30 (codes "taken " ++ (spaced (isup_name body) ++ hex_text body))
 
--- a number has its word behind it
-abbrev pub named : List ℕ → List ℕ → List ℕ
-named printed name = printed ++ (codes " (" ++ (name ++ codes ")"))
-
-abbrev pub found_words : List ℕ → Fate → List ℕ
-found_words printed (Waiting link) = printed
-found_words printed (Unacked link) = printed
-found_words printed (Acked link) = printed
-found_words printed (Held link) = printed
-found_words printed Parked = printed
-found_words printed (Back code) = printed
-found_words printed (Discarded cause) = named printed (discard_name cause)
-
+-- else the answer as `play --explain` prints it
 abbrev pub plain : Profile → Shown → List ℕ
-plain p Up = without_end (shown_text p Up)
-plain p Lost = without_end (shown_text p Lost)
 plain p (Answered (Taken body)) = taken_words body.items
-plain p (Answered (Sent unit)) = without_end (shown_text p (Answered (Sent unit)))
-plain p (Answered (Accepted number)) = without_end (shown_text p (Answered (Accepted number)))
-plain p (Answered (Found fate)) =
-    found_words (without_end (shown_text p (Answered (Found fate)))) fate
-plain p (Answered (Heard report)) = without_end (shown_text p (Answered (Heard report)))
-plain p (Answered Done) = without_end (shown_text p (Answered Done))
-plain p (Answered (Refused why)) =
-    named (without_end (shown_text p (Answered (Refused why)))) (refusal_name why)
+plain p shown = without_end (named (shown_text p shown))
 
 abbrev pub sent_in : Shown → Option SignalUnit
 sent_in Up = None

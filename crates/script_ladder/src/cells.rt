@@ -2,9 +2,10 @@
 ghost use Rattle.std.specs.Prelude.{◌≡◌, ◌++◌, IfOk, codes};
 ghost use Rattle.text_base.specs.Figures.{hex_text};
 ghost use Rattle.script_ladder.specs.Ladder.{accepted_in, answer_words, done_words, event_words, is_done, link_words, offered_words};
-ghost use Rattle.script_ladder.specs.Ladder.{found_words, named, plain, report_in, spaced, taken_words, without_end};
+ghost use Rattle.script_ladder.specs.Ladder.{plain, report_in, spaced, taken_words, without_end};
 ghost use Rattle.script_ladder.specs.Names.{isup_name};
-ghost use Rattle.script_answers.specs.Texts.{shown_text};
+ghost use Rattle.text_entries.specs.Reasons.{named};
+ghost use Rattle.text_entries.specs.Texts.{shown_text};
 
 use super::fitting::{cut_end, shorten};
 use super::isup::isup_name;
@@ -12,14 +13,13 @@ use super::rows::CELL;
 use super::units::{message_name, write_number};
 use l2_units::Profile;
 use pair_steps::{Showing, ShownRef};
-use script_answers::{discard_name, refusal_name, write_shown};
-use set_events::{AnswerRef, Event, Fate, Report};
+use set_events::{AnswerRef, Event, Report};
 use std::alloc::{AllocError, Global};
 use text_base::push_hex;
-use text_decode::write_both;
+use text_entries::{write_named, write_shown};
+use text_units::write_both;
 
-/// The answer as `play` prints it, without its line end; what users take has its name first, and a number that tells why
-/// something was refused or given up has its word behind it.
+/// The answer as `play --explain` prints it, without its line end; what users take has its name first.
 pub(crate) fn write_plain(
     alloc: Global,
     profile: Profile,
@@ -29,46 +29,15 @@ pub(crate) fn write_plain(
 {
     match shown.get() {
         ShownRef::Answered(AnswerRef::Taken { body }) => write_taken(alloc, body),
-        ShownRef::Answered(AnswerRef::Found { fate }) => write_found(alloc, profile, shown, fate),
-        ShownRef::Answered(AnswerRef::Refused { why }) => {
-            write_named(write_printed(alloc, profile, shown)?, refusal_name(why))
-        }
         _ => write_printed(alloc, profile, shown),
     }
 }
 
-/// Where a message stands.
-fn write_found(
-    alloc: Global,
-    profile: Profile,
-    shown: &Showing,
-    fate: Fate,
-) -> Result<Vec<u8>, AllocError>
-    ensures { IfOk result (λ words. words.items ≡ found_words (without_end (shown_text profile shown.now)) fate) }
-{
-    let printed = write_printed(alloc, profile, shown)?;
-    match fate {
-        Fate::Discarded { cause } => write_named(printed, discard_name(cause)),
-        _ => Ok(printed),
-    }
-}
-
-/// An answer with the word for its number behind it.
-fn write_named(printed: Vec<u8>, name: &str) -> Result<Vec<u8>, AllocError>
-    ensures { IfOk result (λ words. words.items ≡ named printed.items name.now) }
-{
-    let mut words = printed;
-    words.extend_from_slice(b" (")?;
-    words.extend_from_slice(name.as_bytes())?;
-    words.extend_from_slice(b")")?;
-    Ok(words)
-}
-
-/// The answer as `play` prints it, without its line end.
+/// The answer as `play --explain` prints it, without its line end.
 fn write_printed(alloc: Global, profile: Profile, shown: &Showing) -> Result<Vec<u8>, AllocError>
-    ensures { IfOk result (λ words. words.items ≡ without_end (shown_text profile shown.now)) }
+    ensures { IfOk result (λ words. words.items ≡ without_end (named (shown_text profile shown.now))) }
 {
-    let mut words = write_shown(alloc, profile, shown)?;
+    let mut words = write_named(alloc, &write_shown(alloc, profile, shown)?)?;
     cut_end(&mut words);
     Ok(words)
 }

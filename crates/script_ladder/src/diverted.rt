@@ -10,7 +10,7 @@ use pair_world::{End, World};
 use set_core::SetCore;
 use set_events::Fate;
 use std::alloc::{AllocError, Global};
-use text_decode::write_both;
+use text_units::write_both;
 
 /// The columns of the numbers, before the words that tell where the messages wait.
 const NUMBERS: usize = 19;

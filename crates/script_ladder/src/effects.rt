@@ -1,6 +1,6 @@
 //! What a line made happen besides: what a heard unit did, and which messages stand aside.
 ghost use Rattle.std.specs.Prelude.{◌≡◌, IfOk};
-ghost use Rattle.script_answers.specs.Texts.{took_text};
+ghost use Rattle.text_entries.specs.Texts.{took_text};
 ghost use Rattle.script_ladder.specs.Ladder.{change, changed_over, changes, further, heard_rows, is_plain, report_words, settled_words, trouble_words};
 
 use super::cells::write_link;
@@ -9,12 +9,12 @@ use super::units::find_carried;
 use l2_units::Unit;
 use l3_orders::Order;
 use pair_world::{End, World};
-use script_answers::code_of;
 use script_walk::world_profile;
 use set_events::{Counts, Report, Took};
 use std::alloc::{AllocError, Global};
 use text_base::bit_of;
-use text_decode::write_both;
+use text_entries::code_of;
+use text_units::write_both;
 
 /// The rows of what a heard unit did.
 pub(crate) fn write_heard(

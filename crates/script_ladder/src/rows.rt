@@ -6,7 +6,7 @@ ghost use Rattle.script_ladder.specs.Ladder.{arriving, forged, going, losing};
 use super::fitting::fit;
 use pair_steps::End;
 use std::alloc::{AllocError, Global};
-use text_decode::write_both;
+use text_units::write_both;
 
 /// The columns of an end's words.
 pub(crate) const CELL: usize = 30;

@@ -1,6 +1,6 @@
 //! `mtpbank ladder`: a script as a chart.
 ghost use Rattle.std.specs.Prelude.{◌≡◌, ◌≤◌, ◌^◌, [], codes, length, slice_get, IfOk, IfSome, None, OnOk};
-ghost use Rattle.text_printing.specs.Printing.{Prints, FailsByDevices};
+ghost use Rattle.text_base.specs.Printing.{Prints, FailsByDevices};
 ghost use Rattle.pair_model.specs.World.{World as ModelWorld, other};
 ghost use Rattle.script_ladder.specs.Ladder.{IsLadder, affected, arrived_row, change_rows, effect_rows, end_of, far_words, first_row};
 ghost use Rattle.script_ladder.specs.Ladder.{forged_row, given_up, heading, link_at_stake, link_words, named_link, past_of, report_in, row_text};
@@ -20,8 +20,8 @@ use script_walk::{Account, ScriptFault, tell_script, world_profile};
 use set_core::SetCore;
 use set_events::{AnswerRef, Counts, Event, Report};
 use std::alloc::{AllocError, Global};
-use text_decode::write_both;
-use text_printing::{Fault, Sink, Source};
+use text_base::{Fault, Sink, Source};
+use text_units::write_both;
 
 /// The chart of a script.
 struct Chart;

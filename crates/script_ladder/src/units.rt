@@ -1,6 +1,6 @@
 //! A unit in the words of the trade.
 ghost use Rattle.std.specs.Prelude.{◌≡◌, ◌++◌, IfOk, drop, slice_get};
-ghost use Rattle.text_decode.specs.Decoding.{order_words};
+ghost use Rattle.text_units.specs.Decoding.{order_words};
 ghost use Rattle.l2_units.specs.Lent.{unit_in};
 ghost use Rattle.l3_orders.specs.Grammar.{order_of};
 ghost use Rattle.script_ladder.specs.Ladder.{fsn_of, in_columns, message_name, message_words, number_on, number_words};
@@ -14,7 +14,7 @@ use l2_units::{Header, Profile, Unit, UnitRef};
 use l3_orders::Order;
 use set_core::SetCore;
 use std::alloc::{AllocError, Global};
-use text_decode::{find_order, write_both, write_order_words};
+use text_units::{find_order, write_both, write_order_words};
 
 /// The letters of an order's name.
 const NAME: usize = 3;

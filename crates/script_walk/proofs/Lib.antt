@@ -1,2 +1,3 @@
+mod Reasons
 mod Runs
 pub mod Rises

@@ -23,11 +23,12 @@ use Rattle.pair_rises.specs.declared.moves.Move.{Move}
 use Rattle.pair_rises.specs.declared.moves.Move.TheVariants.{Step as MoveStep, Rise, Fill}
 use Rattle.pair_rises.specs.Rises.{idle_at, is_first, moved, risen_so}
 use Rattle.pair_world.specs.Moved.{moved_from}
-use Rattle.script_grammar.specs.declared.script.Opening.{Opening}
-use Rattle.script_grammar.specs.declared.script.Values.{Values}
-use Rattle.script_grammar.specs.Opened.{IsEnd, IsMadeOf}
-use Rattle.script_grammar.specs.Script.{first_line, move_of}
-use Rattle.text_printing.specs.Printing.{Printed}
+use Rattle.text_forms.specs.declared.opened.Opening.{Opening}
+use Rattle.text_forms.specs.declared.opened.Values.{Values}
+use Rattle.text_forms.specs.Opened.{IsEnd, IsMadeOf}
+use Rattle.text_forms.specs.Moves.{move_of}
+use Rattle.text_forms.specs.Opening.{first_line}
+use Rattle.text_base.specs.Printing.{Printed}
 use Rattle.text_lines.specs.Lines.{prints, stops, goes_on, is_remark, lines_of, text_of_lines}
 use Rattle.script_walk.specs.declared.fault.ScriptFault.{ScriptFault}
 use Rattle.script_walk.specs.Scripts.{Told, asked, opened, opened_set, opened_world, outcome_of, profile_of, script_rules, told_of}

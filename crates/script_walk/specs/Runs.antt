@@ -10,10 +10,11 @@ use Rattle.pair_model.specs.World.{World}
 use Rattle.pair_rises.specs.declared.moves.Move.{Move}
 use Rattle.pair_rises.specs.declared.moves.Move.TheVariants.{Step as MoveStep, Rise}
 use Rattle.pair_world.specs.Moved.{moved_from, played_by}
-use Rattle.script_grammar.specs.declared.script.Opening.{Opening}
-use Rattle.script_grammar.specs.declared.script.Values.{Values}
-use Rattle.script_grammar.specs.Opened.{IsMadeOf}
-use Rattle.script_grammar.specs.Script.{first_line, move_of}
+use Rattle.text_forms.specs.declared.opened.Opening.{Opening}
+use Rattle.text_forms.specs.declared.opened.Values.{Values}
+use Rattle.text_forms.specs.Opened.{IsMadeOf}
+use Rattle.text_forms.specs.Moves.{move_of}
+use Rattle.text_forms.specs.Opening.{first_line}
 use Rattle.text_lines.specs.Lines.{is_remark, lines_of, lines_text}
 use Rattle.script_walk.specs.Scripts.{Told, script_rules}
 

@@ -14,9 +14,10 @@ use Rattle.pair_model.specs.World.{World, Outcome, shows, impossible, exhausted,
 use Rattle.pair_rises.specs.declared.moves.Move.{Move}
 use Rattle.pair_rises.specs.declared.moves.Move.TheVariants.{Step as MoveStep, Rise, Fill}
 use Rattle.pair_rises.specs.Rises.{idle_at, moved}
-use Rattle.script_grammar.specs.declared.script.Values.{Values}
-use Rattle.script_grammar.specs.Script.{move_of, first_line}
-use Rattle.text_printing.specs.Printing.{Printed}
+use Rattle.text_forms.specs.declared.opened.Values.{Values}
+use Rattle.text_forms.specs.Moves.{move_of}
+use Rattle.text_forms.specs.Opening.{first_line}
+use Rattle.text_base.specs.Printing.{Printed}
 use Rattle.text_lines.specs.declared.flaw.LineFlaw.TheVariants.{Long}
 use Rattle.text_lines.specs.Flaws.{flaw_of}
 use Rattle.text_lines.specs.Lines.{LineOutcome, Rules, prints, stops, IsLinesText}

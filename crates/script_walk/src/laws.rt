@@ -1,4 +1,5 @@
 //! Laws over definitions alone.
+ghost use Rattle.script_walk.specs.Reasons.{EveryReasonIsSo};
 ghost use Rattle.script_walk.specs.Runs.{EveryScriptIsARun, RisesLeadAlike, StepsLeadAlike};
 
 /// A script that ends without a fault is a run: its first line makes the two ends, and the moves that its other lines ask
@@ -18,4 +19,11 @@ pub fn steps_lead_alike()
 /// both ends together: so of a script that has both kinds `pair_world::World::play_moves` tells what holds.
 pub fn rises_lead_alike()
     ensures { RisesLeadAlike }
+{}
+
+/// Of every world, and every line whose move can't be made there: the reason that `text_forms::blame_impossible` tells
+/// of it is so. The world has no such link; the link isn't settled at both ends, or at the one where it's to come up; no
+/// unit is under way on it; or none has that place.
+pub fn every_reason_is_so()
+    ensures { EveryReasonIsSo }
 {}

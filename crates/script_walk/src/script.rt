@@ -1,11 +1,11 @@
 //! A script under way, and what a line of it does.
 ghost use Rattle.std.specs.Prelude.{◌≡◌, ◌≢◌, Err, None, Some, IsSome, MatchResult};
-ghost use Rattle.script_grammar.specs.Script.{first_line};
+ghost use Rattle.text_forms.specs.Opening.{first_line};
 ghost use Rattle.pair_model.specs.World.{World as ModelWorld, Outcome};
 ghost use Rattle.pair_rises.specs.declared.moves.Move.{Move as ModelMove};
 ghost use Rattle.pair_rises.specs.Rises.{moved};
 ghost use Rattle.pair_world.specs.Carried.{CanBeDone, Fails};
-ghost use Rattle.text_printing.specs.declared.fault.Stop.TheVariants.{Input, Memory};
+ghost use Rattle.text_base.specs.declared.fault.Stop.TheVariants.{Input, Memory};
 ghost use Rattle.text_lines.specs.Flaws.{flaw_of};
 ghost use Rattle.text_lines.specs.Lines.{prints};
 ghost use Rattle.text_lines.specs.Reading.{IsDone, Tells};
@@ -17,11 +17,11 @@ use super::fault::ScriptFault;
 use l2_units::Profile;
 use pair_steps::{Showing, Step};
 use pair_world::{End, Move, PlayFault, World};
-use script_grammar::{read_move_into, read_opening};
 use std::alloc::Global;
 use std::marker::{Model, PhantomData};
-use text_lines::{LineFlaw, LineText, find_flaw};
-use text_printing::Stop;
+use text_base::Stop;
+use text_forms::{Unread, read_move_into, read_opening};
+use text_lines::{LineFlaw, TalkText, find_flaw};
 
 /// A script under way.
 #[derive(Drop)]
@@ -89,12 +89,44 @@ pub fn world_profile(world: &World) -> Profile
     world.core(End::A).config().profile()
 }
 
-impl<A: Account> LineText for Script<A> {
+impl<A: Account> Script<A> {
+    ghost use Rattle.text_lines.specs.Reading.{IsDone};
+    ghost use Rattle.script_walk.specs.Scripts.{read_script};
+
+    /// Carries out the line of this number, which is no remark, and appends what is told of it.
+    fn carry_out(
+        &mut self,
+        alloc: Global,
+        number: u64,
+        text: &[u8],
+        out: &mut Vec<u8>,
+    ) -> Result<(), Stop<ScriptFault>>
+        ensures { IsDone result (read_script A.told number self.old text.now)
+            out.old.items out.new.items self.new }
+    {
+        if self.world.is_none() {
+            open::<A>(alloc, &mut self.world, number, text, out)
+        } else {
+            let Script {
+                world,
+                next,
+                shown,
+                ..
+            } = self;
+            do_line::<A>(alloc, world, next, shown, number, text, out)
+        }
+    }
+}
+
+impl<A: Account> TalkText for Script<A> {
     type Fault = ScriptFault;
 
+    ghost use Rattle.text_lines.specs.Talks.{by_function, have_one};
     ghost use Rattle.script_walk.specs.Scripts.{script_rules};
 
-    ghost rules = { script_rules A.told };
+    ghost rules = { by_function (script_rules A.told) };
+
+    ghost one_outcome = { have_one (script_rules A.told) };
 
     fn unreadable(number: u64) -> ScriptFault {
         ScriptFault::Text {
@@ -110,17 +142,7 @@ impl<A: Account> LineText for Script<A> {
         text: &[u8],
         out: &mut Vec<u8>,
     ) -> Result<(), Stop<ScriptFault>> {
-        if self.world.is_none() {
-            open::<A>(alloc, &mut self.world, number, text, out)
-        } else {
-            let Script {
-                world,
-                next,
-                shown,
-                ..
-            } = self;
-            do_line::<A>(alloc, world, next, shown, number, text, out)
-        }
+        self.carry_out(alloc, number, text, out)
     }
 
     fn end(&self, alloc: Global, out: &mut Vec<u8>) -> Result<(), Stop<ScriptFault>> {
@@ -156,7 +178,7 @@ fn make_world(alloc: Global, number: u64, text: &[u8]) -> Result<World, Stop<Scr
         (λ stop. (t : Told) → Tells stop (opened t number text.now (first_line text.now))) }
     ensures unread { first_line text.now ≡ None → result ≡ Err (Input (Text number (flaw_of text.now))) }
 {
-    let Some(opening) = read_opening(text) else {
+    let Ok(opening) = read_opening(text) else {
         return Err(unread(number, text));
     };
     match World::new(alloc, &opening.a, &opening.b) {
@@ -194,9 +216,9 @@ fn do_line<A: Account>(
         unreachable!();
     };
     match read_move_into(alloc, world_profile(world), text, next) {
-        Ok(true) => do_move::<A>(alloc, world, number, next, shown, out),
-        Ok(false) => Err(unread(number, text)),
-        Err(_) => Err(Stop::Memory),
+        Ok(()) => do_move::<A>(alloc, world, number, next, shown, out),
+        Err(Unread::At(_)) => Err(unread(number, text)),
+        Err(Unread::Memory) => Err(Stop::Memory),
     }
 }
 

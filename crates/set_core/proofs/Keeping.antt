@@ -233,7 +233,7 @@ few_more events more s h a = λ number link there.
     record { sent = let low = f.sent in omega (arith, h, low); accepted = let low = f.accepted in omega (arith, h, low) }
 
 -- those that left a link's rows were acknowledged or given up
-few_left : (events : ℕ) (s : State) → AreFew events s → AreFew events (checkpointed s)
+pub few_left : (events : ℕ) (s : State) → AreFew events s → AreFew events (checkpointed s)
 few_left events s a = λ number link there.
     let f = a number link there in
     let sent = f.sent in

@@ -1,2 +1,5 @@
 pub mod Calls
+pub mod Heard
+pub mod HeardEntries
 pub mod Keeping
+pub mod Running

@@ -1,2 +1,5 @@
+pub mod FirstWrong
 pub mod Gaining
+pub mod Hearing
+pub mod Items
 pub mod Keeping

@@ -1,20 +1,20 @@
 //! Whether a list of entries is the history of a set.
-ghost use Rattle.std.specs.Prelude.{◌≡◌, ◌<◌, ◌≤◌, ◌↔◌, [], length, IfOk, IfErr, IsTrue};
+ghost use Rattle.std.specs.Prelude.{◌≡◌, ◌<◌, ◌≤◌, ◌↔◌, [], length, Err, IfOk, IfErr, IsTrue};
+ghost use Rattle.set_core.specs.Hearing.{HasHeard};
+ghost use Rattle.set_model.specs.History.{IsLegal, entries_of, longest_history};
 ghost use Rattle.set_model.specs.State.{new_state};
-ghost use Rattle.set_model.specs.Sound.{AreFew};
-ghost use Rattle.set_model.specs.History.{IsActor, IsLegal, entries_of, longest_history};
-ghost use Rattle.set_changeover.specs.Agreement.{Agrees};
 
+use super::auditor::{Auditor, Finding};
 use super::base::Base;
 use super::tally::LONGEST_HISTORY;
-use set_events::{Actor, AnswerRef, Entry, EventRef, Reply, SetConfig};
+use set_events::{AnswerRef, Entry, EventRef, SetConfig};
 use set_history::Reader;
-use set_step::{Core, SetFault};
+use set_step::SetFault;
 use std::alloc::{Allocator, Global};
 
 /// Whether these entries, in order, are a legal history of a set that is opened with this
 /// configuration: each is of an actor in range, and has the answer that such a set gives then. They
-/// are replayed once, from the first to the one that no set makes.
+/// are heard once, from the first to the one that no set makes.
 ///
 /// Faults: 2 [`SetFault::Exhausted`] exactly where there are more than 2^48, tested first;
 /// 1 [`SetFault::NoMemory`] only where memory was refused.
@@ -48,32 +48,29 @@ pub fn audit_from<A: Allocator + Copy>(base: &Base<A>, entries: &[Entry]) -> Res
     if entries.len() as u64 > base.room() {
         return Err(SetFault::Exhausted);
     }
-    let mut core = base.core()?;
-    replay(&mut core, base, entries)
+    let mut auditor = Auditor::since(base)?;
+    hear_all(&mut auditor, base, entries)
 }
 
-/// Whether these entries are a legal history from this base, which `core` agrees with at first. It goes by
-/// reference, as each way out of a function lets go of what it owns.
-fn replay<A: Allocator + Copy>(
-    core: &mut Core<A>,
+/// Whether an auditor that has heard nothing since this base finds all these entries right. It goes by reference, as each
+/// way out of a function lets go of what it owns.
+fn hear_all<A: Allocator + Copy>(
+    auditor: &mut Auditor<A>,
     base: &Base<A>,
     entries: &[Entry],
 ) -> Result<bool, SetFault>
-    requires begun { Agrees core.old base.now.state }
-    requires before { AreFew (entries_of base.now []) base.now.state }
+    requires begun { HasHeard base.now [] auditor.old }
     requires few { entries_of base.now entries.now ≤ longest_history }
     ensures legal { IfOk result
         (λ is_legal. IsTrue is_legal ↔ IsLegal base.now.state entries.now) }
     ensures fault { IfErr result (λ fault. fault ≡ SetFault.NoMemory) }
 {
-    let mut reply = Reply::new();
     for entry in entries {
-        if !is_actor(entry.who) {
-            return Ok(false);
-        }
-        core.apply(&EventRef::of(&entry.event), &mut reply)?;
-        if !reply.get().same(&AnswerRef::of(&entry.answer)) {
-            return Ok(false);
+        let asked = EventRef::of(&entry.event);
+        match auditor.hear_entry(entry.who, &asked, &AnswerRef::of(&entry.answer))? {
+            Finding::Right => {}
+            Finding::WrongAnswer => return Ok(false),
+            Finding::NoSuchActor => return Ok(false),
         }
     }
     Ok(true)
@@ -117,43 +114,29 @@ pub fn audit_history_from<A: Allocator + Copy>(
     if entries.len() as u64 > base.room() {
         return Err(SetFault::Exhausted);
     }
-    let mut core = base.core()?;
-    replay_history(&mut core, base, entries)
+    let mut auditor = Auditor::since(base)?;
+    hear_left(&mut auditor, base, entries)
 }
 
-/// [`replay`] of the entries that are left to read.
-fn replay_history<A: Allocator + Copy>(
-    core: &mut Core<A>,
+/// [`hear_all`] of the entries that are left to read.
+fn hear_left<A: Allocator + Copy>(
+    auditor: &mut Auditor<A>,
     base: &Base<A>,
     entries: Reader<'_>,
 ) -> Result<bool, SetFault>
-    requires begun { Agrees core.old base.now.state }
-    requires before { AreFew (entries_of base.now []) base.now.state }
+    requires begun { HasHeard base.now [] auditor.old }
     requires few { entries_of base.now entries ≤ longest_history }
     ensures legal { IfOk result
         (λ is_legal. IsTrue is_legal ↔ IsLegal base.now.state entries.entry) }
     ensures fault { IfErr result (λ fault. fault ≡ SetFault.NoMemory) }
 {
     let mut left = entries;
-    let mut reply = Reply::new();
     while let Some(told) = left.next() {
-        if !is_actor(told.who()) {
-            return Ok(false);
-        }
-        core.apply(&told.asked(), &mut reply)?;
-        if !reply.get().same(&told.answered()) {
-            return Ok(false);
+        match auditor.hear_entry(told.who(), &told.asked(), &told.answered())? {
+            Finding::Right => {}
+            Finding::WrongAnswer => return Ok(false),
+            Finding::NoSuchActor => return Ok(false),
         }
     }
     Ok(true)
-}
-
-/// Whether such an actor can ask: a user below 64, a terminal below 16.
-fn is_actor(who: Actor) -> bool
-    ensures { IsTrue result ↔ IsActor who }
-{
-    match who {
-        Actor::User(number) => number < 64,
-        Actor::Terminal(link) => link < 16,
-    }
 }

@@ -47,7 +47,7 @@ impl<A: Allocator + Copy> Base<A> {
     ghost use Rattle.set_model.specs.State.{given};
     ghost use Rattle.set_core.specs.Gaining.{AreBounded};
     ghost use Rattle.set_core.specs.Keeping.{IsKept, base_of};
-    ghost use Rattle.set_changeover.specs.Agreement.{Agrees};
+    ghost use Rattle.set_changeover.specs.Agreement.{Agrees, Kept};
 
     /// A set as this configuration has it, before anything was asked of it: no messages, no link up, and books of
     /// nothing.
@@ -77,6 +77,13 @@ impl<A: Allocator + Copy> Base<A> {
         ensures { IfOk result (λ core. Agrees core self.now.state) }
     {
         self.core.copied()
+    }
+
+    /// What was added up by then.
+    pub(crate) fn tally(&self) -> Tally
+        ensures { (kept : Kept) × IsKept self.now kept result [] }
+    {
+        self.tally
     }
 
     /// Where the message of this number stands; none is here that has it, since it left or was never given out: `None`.

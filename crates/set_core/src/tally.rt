@@ -9,7 +9,7 @@ ghost use Rattle.set_model.specs.Step.{messages_in, octets_of, octets_offered};
 use set_events::{Actor, AnswerRef, EventRef};
 
 /// The most entries of a set since its opening, 2^48.
-pub(crate) const LONGEST_HISTORY: u64 = 0x1_0000_0000_0000;
+pub const LONGEST_HISTORY: u64 = 0x1_0000_0000_0000;
 
 /// The books of a history, but for what is acknowledged, which is read off the set.
 #[derive(Clone, Copy, Debug)]

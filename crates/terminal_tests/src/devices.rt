@@ -4,7 +4,7 @@ ghost use Rattle.std.specs.Prelude.{◌<◌};
 use std::alloc::Global;
 use terminal_text::{TerminalFault, terminal};
 use test_devices::{Page, Text};
-use text_printing::Fault;
+use text_base::Fault;
 
 /// How a run ended, and what it wrote.
 #[derive(Drop)]

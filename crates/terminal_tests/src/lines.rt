@@ -6,7 +6,7 @@ use super::devices::run_of;
 use super::holds;
 use std::alloc::{AllocError, Global};
 use std::test::Fail;
-use text_printing::Fault;
+use text_base::Fault;
 
 /// Many calls, more than any text here takes.
 const MANY: u32 = 1_000_000;

@@ -1,22 +1,22 @@
 -- The line that opens an end.
 use Rattle.std.proofs.Common.{refl, sym, ap, subst, arith, ◌≡◌, ◌∙◌, ◌<◌, ◌≤◌, nat_lt, ℕ, Bool, true, false, List, [], append-nil, Option, Some, Result, Ok, Err, MatchResult}
 use Rattle.std.proofs.lemmas.Bool.Decides.{nat_tests}
-use Rattle.text_printing.specs.declared.fault.Stop.{Stop}
-use Rattle.text_printing.specs.declared.fault.Stop.TheVariants.{Memory}
+use Rattle.text_base.specs.declared.fault.Stop.{Stop}
+use Rattle.text_base.specs.declared.fault.Stop.TheVariants.{Memory}
 use Rattle.set_events.specs.declared.event.Event.{Event}
 use Rattle.set_model.specs.History.{IsActor}
 use Rattle.term_bench.specs.Ends.{BenchState, new_bench}
 use Rattle.l2_units.specs.declared.profile.Profile.{Profile}
 use Rattle.l2_units.specs.declared.profile.Profile.TheVariants.{Narrow}
-use Rattle.script_grammar.specs.Opened.{IsEnd, IsOpening}
-use Rattle.script_grammar.specs.Script.{first_line}
-use Rattle.script_grammar.specs.declared.script.Opening.{Opening}
-use Rattle.script_grammar.specs.declared.script.Values.{Values}
+use Rattle.text_forms.specs.Opened.{IsEnd, IsOpening}
+use Rattle.text_forms.specs.Opening.{first_line}
+use Rattle.text_forms.specs.declared.opened.Opening.{Opening}
+use Rattle.text_forms.specs.declared.opened.Values.{Values}
 use Rattle.set_events.specs.declared.config.SetConfig.{SetConfig}
 use Rattle.set_events.specs.declared.config.Method.{Method}
 use Rattle.set_model.specs.State.{Settings, settings_of as settings_in}
 use Rattle.term_model.specs.declared.timers.Timers.{Timers}
-use Rattle.terminal_script.specs.Timers.{Lengths, lengths_of, timers_of}
+use Rattle.text_forms.specs.Timers.{Lengths, lengths_of, timers_of}
 use Rattle.terminal_text.specs.Answers.{asker, is_below, link_of_event}
 use Rattle.terminal_text.specs.Text.{MayFollow, MayOpen, MayOpenAs, MayRead, Opens, TerminalOutcome, opened_bench, settings_of, told_lengths, usual}
 use Rattle.terminal_text.specs.declared.fault.TerminalFault.{TerminalFault}

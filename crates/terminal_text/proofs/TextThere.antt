@@ -1,17 +1,21 @@
 -- EACH INPUT OF `terminal` HAS A TEXT (`text_there`): an induction over its lines, each of which has an outcome (`line_there`) from
 -- every bench that lines before it may leave (`IsReady`, TurnsThere of term_bench). With `one_outcome` (specs/One) it's the only one.
-use Rattle.std.proofs.Common.{refl, sym, subst, arith, ◌≡◌, ◌∙◌, ◌<◌, ◌≤◌, ◌%◌, ◌&&◌, nat_lt, is_none, ℕ, zero, suc, Bool, true, false, List, [], ◌∷◌, ◌++◌, length, map, Option, None, Some, slice_set, if◌then◌else◌, codes}
+use Rattle.std.proofs.Common.{refl, sym, subst, arith, ◌≡◌, ◌∙◌, ◌<◌, ◌≤◌, ◌%◌, ◌&&◌, nat_lt, is_none, ℕ, zero, suc, Bool, true, false, List, [], ◌∷◌, ◌++◌, length, map, Option, None, Some, slice_set, if◌then◌else◌, codes, Ok, Err}
+use Rattle.std.specs.Result.{result_ok}
 use Rattle.std.proofs.lemmas.Bool.Decides.{nat_tests}
 use Rattle.std.proofs.lemmas.List.{length_push}
-use Rattle.std.specs.Option.{ForSome, option_and_then}
+use Rattle.std.specs.Option.{ForSome}
 use Rattle.std.specs.Str.{bytes_eq}
 use Rattle.l2_bits.specs.Flags.{flag}
 use Rattle.l2_bits.specs.LineBits.{bits_of}
 use Rattle.l2_bits.proofs.BitLemmas.{length-bits_of}
 use Rattle.l2_units.specs.declared.profile.Profile.{Profile}
 use Rattle.l2_units.specs.declared.profile.Profile.TheVariants.{Narrow, Wide}
-use Rattle.script_grammar.specs.Script.{first_line, first_word, fitting, is_end_of, other_words, opening_words, values_of}
-use Rattle.script_grammar.specs.declared.script.Values.{Values}
+use Rattle.text_forms.specs.Opening.{first_line, fitting, is_end_of, opening_read}
+use Rattle.text_forms.specs.Words.{Read}
+use Rattle.text_forms.proofs.Fitting.{values_fit}
+use Rattle.text_forms.proofs.Lengths.{Run, timers_run}
+use Rattle.text_forms.specs.declared.opened.Values.{Values}
 use Rattle.set_events.specs.Config.{fault_of}
 use Rattle.set_events.specs.declared.config.Method.{Method}
 use Rattle.set_events.specs.declared.event.Event.{Event}
@@ -29,9 +33,9 @@ use Rattle.term_bench.proofs.NarrowThere.{step_gives}
 use Rattle.term_bench.proofs.TurnsThere.{few_set, length_set, pieces_there}
 use Rattle.term_model.specs.declared.command.Command.{Command}
 use Rattle.term_model.specs.declared.timers.Timers.{Timers}
-use Rattle.terminal_script.specs.Lines.{asked_of}
-use Rattle.terminal_script.specs.Timers.{Lengths, length_in, lengths_behind, lengths_of, that_run, timers_of}
-use Rattle.terminal_script.specs.declared.asked.Asked.{Asked}
+use Rattle.text_forms.specs.Asking.{asked_of}
+use Rattle.text_forms.specs.Timers.{Lengths, lengths_of, timers_of, timers_read}
+use Rattle.text_forms.specs.declared.asked.Asked.{Asked}
 use Rattle.terminal_text.specs.Answers.{CommandsBy, Does, Exchanges, HearsLine, asker, bits_in, done_text, is_below, is_refused, link_in, one_by_one, unit_bits}
 use Rattle.terminal_text.specs.Showing.{over}
 use Rattle.terminal_text.specs.Text.{HasText, MayDo, MayDoAt, MayFollow, MayOpen, MayOpenAs, MayRead, Opens, TerminalOutcome, opened_bench, settings_of, terminal_rules, told_lengths, usual}
@@ -42,7 +46,7 @@ use Rattle.text_lines.specs.Flaws.{flaw_of}
 use Rattle.text_lines.specs.Lines.{is_remark, lines_of, prints, stops}
 use Rattle.text_lines.specs.Talks.{IsTextOfLines, MayBe}
 use Rattle.text_lines.specs.declared.flaw.LineFlaw.TheVariants.{Long}
-use Rattle.text_printing.specs.Printing.{Printed, behind}
+use Rattle.text_base.specs.Printing.{Printed, behind}
 
 -- A BENCH THAT IS OPENED is ready.
 few_push : (links : List AtLink) (last : AtLink) → FewWait links → length last.waiting < 8 → FewWait (links ++ last ∷ [])
@@ -72,9 +76,6 @@ opened_ready settings lengths is narrow = record {
 }
 
 -- TIMERS of lengths that are told.
-abbrev Run : Lengths → Type 0
-Run l = (0 < l.t1) × (0 < l.t2) × (0 < l.t3) × (0 < l.t5) × (0 < l.t6) × (0 < l.t7)
-
 timers_there : (l : Lengths) → Run l → (timers : Timers) × (timers_of timers ≡ l)
 timers_there l run = (
   record {
@@ -97,33 +98,16 @@ timers_there l run = (
 usual_run : Run usual
 usual_run = (omega arith, omega arith, omega arith, omega arith, omega arith, omega arith)
 
-then_for : {X Y : Type 0} (P : Y → Type 0) (next : X → Option Y) (found : Option X) → ((x : X) → ForSome (next x) P)
-    → ForSome (option_and_then next found) P
-then_for P next None all = λ y there. absurd (cc there)
-then_for P next (Some x) all = all x
-
 if_for : {X : Type 0} (P : X → Type 0) (b : Bool) (x : X) → (b ≡ true → P x) → ForSome (if b then Some x else None) P
 if_for P true x holds = λ y there. let same : x ≡ y = cc in subst P same (holds refl)
 if_for P false x holds = λ y there. absurd (cc there)
 
-that_run_for : (l : Lengths) → ForSome (that_run l) Run
-that_run_for l = λ m there. grind (arith, nat_tests, there)
-
-behind_for : (words : List ℕ) → ForSome (lengths_behind words) Run
-behind_for words =
-    then_for Run _ (other_words words) (λ w2. then_for Run _ (other_words w2) (λ w3. then_for Run _ (other_words w3) (λ w5.
-    then_for Run _ (other_words w5) (λ w6. then_for Run _ (other_words w6) (λ w7.
-    then_for Run _ (length_in (codes "t1=") (first_word words)) (λ t1. then_for Run _ (length_in (codes "t2=") (first_word w2)) (λ t2.
-    then_for Run _ (length_in (codes "t3=") (first_word w3)) (λ t3. then_for Run _ (length_in (codes "t5=") (first_word w5)) (λ t5.
-    then_for Run _ (length_in (codes "t6=") (first_word w6)) (λ t6. then_for Run _ (length_in (codes "t7=") w7) (λ t7.
-    that_run_for (record { t1 = t1; t2 = t2; t3 = t3; t5 = t5; t6 = t6; t7 = t7 }))))))))))))
+read_ok : {A : Type 0} (read : Read A) (a : A) → result_ok read ≡ Some a → read ≡ Ok a
+read_ok (Ok x) a e = cc
+read_ok (Err blame) a e = absurd cc
 
 lengths_for : (line : List ℕ) → ForSome (lengths_of line) Run
-lengths_for line = go (bytes_eq (first_word line) (codes "timers"))
-  where
-    go : (b : Bool) → ForSome (if b then option_and_then lengths_behind (other_words line) else None) Run
-    go true = then_for Run lengths_behind (other_words line) behind_for
-    go false = λ l there. absurd (cc there)
+lengths_for line = λ l there. timers_run line l (read_ok (timers_read line) l there)
 
 told_for : (is_new : Bool) (line : List ℕ) → ForSome (told_lengths is_new line) Run
 told_for true line = lengths_for line
@@ -146,9 +130,7 @@ fit_for v =
     record { some_link = fits.0; at_most_16 = fits.1; managed = fits.2 })
 
 first_for : (line : List ℕ) → ForSome (first_line line) (λ v. IsSettings (settings_of v))
-first_for line =
-    let P : Values → Type 0 = λ v. IsSettings (settings_of v) in
-    then_for P _ (opening_words line) (λ w. then_for P _ (values_of w) fit_for)
+first_for line = λ v there. fit_for v v (values_fit line v (read_ok (opening_read line) v there))
 
 -- AN OUTCOME THERE IS, and the end goes on from a bench that is ready
 abbrev IsGoing : Option EndState → Type 0

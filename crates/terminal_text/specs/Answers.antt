@@ -1,15 +1,15 @@
 -- WHAT A LINE OF `terminal` PRINTS, and what it leaves of a bench.
 use Rattle.std.specs.Prelude.{◌≡◌, ◌<◌, ℕ, Bool, true, false, ◌==◌, ◌&&◌, nat_lt, List, [], ◌∷◌, ◌++◌, length, map, Option, Some, None, slice_get, codes, decimal, if◌then◌else◌}
-use Rattle.script_answers.specs.Texts.{answer_text}
+use Rattle.text_entries.specs.Texts.{answer_text}
 use Rattle.term_bench.specs.Ends.{AtLink, BenchState, Commands, IsAt, is_start, new_links, phase_of, word_of}
 use Rattle.term_bench.specs.Waiting.{HearsPieces, TurnAndUnit}
 use Rattle.term_bench.specs.declared.counts.TurnCounts.{TurnCounts}
 use Rattle.term_bench.specs.declared.word.LinkWord.{LinkWord}
 use Rattle.term_bench.specs.declared.word.Phase.{Phase}
 use Rattle.text_base.specs.Figures.{hex_text}
-use Rattle.history_items.specs.Items.{piece}
-use Rattle.history_text.specs.Entries.{entries_text}
-use Rattle.history_text.specs.Pieces.{items_text}
+use Rattle.set_core.specs.Items.{piece}
+use Rattle.text_entries.specs.Entries.{entries_text}
+use Rattle.text_entries.specs.Pieces.{items_text}
 use Rattle.l2_bits.specs.Flags.{flag}
 use Rattle.l2_bits.specs.LineBits.{bits_of, line_bits}
 use Rattle.l2_bits.specs.SealedText.{sealed_text}
@@ -23,7 +23,7 @@ use Rattle.set_events.specs.declared.event.Actor.TheVariants.{User, Terminal as 
 use Rattle.set_events.specs.declared.event.Event.{Event}
 use Rattle.set_model.specs.History.{IsStep, based}
 use Rattle.term_model.specs.declared.command.Command.{Command}
-use Rattle.terminal_script.specs.declared.asked.Asked.{Asked}
+use Rattle.text_forms.specs.declared.asked.Asked.{Asked}
 use Rattle.terminal_text.specs.Showing.{over, shown, without_unit, word_name}
 
 abbrev pub done_text : List ℕ

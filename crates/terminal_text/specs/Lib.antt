@@ -6,3 +6,6 @@ pub mod Rows
 pub mod Hearing
 pub mod Looking
 pub mod Faults
+pub mod Named
+pub mod Explaining
+pub mod Reasons

@@ -2,7 +2,7 @@
 use Rattle.std.specs.Prelude.{◌≡◌, ◌<◌, ℕ, Bool, true, false, List, [], ◌∷◌, ◌++◌, length, map, Option, Some, None, codes, decimal, slice_set}
 use Rattle.std.proofs.Common.{ap, refl, sym, subst, ◌∙◌}
 use Rattle.std.proofs.Props.{props}
-use Rattle.script_answers.specs.Texts.{answer_text}
+use Rattle.text_entries.specs.Texts.{answer_text}
 use Rattle.term_bench.proofs.OneLemmas.{one_hearing, one_there, same_bench, same_set}
 use Rattle.term_bench.specs.Ends.{AtLink, BenchState, phase_of, told_at}
 use Rattle.term_bench.specs.Waiting.{HearsPieces, TurnAndUnit}
@@ -11,17 +11,17 @@ use Rattle.l2_bits.specs.Flags.{flag}
 use Rattle.l2_bits.specs.LineBits.{bits_of}
 use Rattle.l2_units.specs.declared.profile.Profile.{Profile}
 use Rattle.l2_units.specs.declared.profile.Profile.TheVariants.{Narrow, Wide}
-use Rattle.script_grammar.specs.Script.{first_line}
-use Rattle.script_grammar.specs.declared.script.Values.{Values}
+use Rattle.text_forms.specs.Opening.{first_line}
+use Rattle.text_forms.specs.declared.opened.Values.{Values}
 use Rattle.set_events.specs.declared.answer.Answer.{Answer}
 use Rattle.set_events.specs.declared.event.Event.{Event}
 use Rattle.set_events.specs.declared.history.Entry.{Entry}
 use Rattle.set_model.specs.State.{Settings}
 use Rattle.term_model.specs.declared.command.Command.{Command}
 use Rattle.term_model.specs.declared.timers.Timers.{Timers}
-use Rattle.terminal_script.specs.Lines.{asked_of}
-use Rattle.terminal_script.specs.Timers.{Lengths, timers_of}
-use Rattle.terminal_script.specs.declared.asked.Asked.{Asked}
+use Rattle.text_forms.specs.Asking.{asked_of}
+use Rattle.text_forms.specs.Timers.{Lengths, timers_of}
+use Rattle.text_forms.specs.declared.asked.Asked.{Asked}
 use Rattle.terminal_text.specs.Answers.{Asks, CommandsBy, Does, Exchanges, HearsLine, Looks, asker, bits_in, is_below, is_refused, link_in, look_text, one_by_one, unit_bits}
 use Rattle.terminal_text.specs.Showing.{over, shown, without_unit}
 use Rattle.terminal_text.specs.Text.{IsDone, MayDo, MayDoAt, MayFollow, MayOpen, MayOpenAs, MayRead, Opens, TerminalOutcome, opened_bench, settings_of, told_lengths, terminal_rules, usual}

@@ -43,9 +43,20 @@ link_words link turn =
 abbrev pub link_line : ℕ → Turn → List ℕ
 link_line link turn = link_words link turn ++ (cause_words turn.after turn.cause ++ codes "\n")
 
+-- the words, counted: two are the same where their numbers are
+abbrev pub word_number : LinkWord → ℕ
+word_number LinkWord.Out = 0
+word_number LinkWord.Unaligned = 1
+word_number LinkWord.Aligned = 2
+word_number LinkWord.Proving = 3
+word_number LinkWord.Ready = 4
+word_number LinkWord.Waiting = 5
+word_number LinkWord.Up = 6
+word_number LinkWord.Paused = 7
+
 -- the link stands as before
 abbrev pub stays : Turn → Bool
-stays turn = bytes_eq (word_name turn.before) (word_name turn.after)
+stays turn = word_number turn.before == word_number turn.after
 
 -- messages come first, then how the link stands
 abbrev pub turn_lines : ℕ → Turn → List ℕ

@@ -2,20 +2,20 @@
 -- stands comes behind the last.
 use Rattle.std.specs.Prelude.{◌≡◌, ℕ, Bool, true, false, List, [], length, Option, Some, None}
 use Rattle.std.specs.Option.{option_map}
-use Rattle.script_answers.specs.Texts.{end_text}
+use Rattle.text_entries.specs.Texts.{end_text}
 use Rattle.term_bench.specs.Ends.{BenchState, new_links}
 use Rattle.l2_units.specs.declared.profile.Profile.{Profile}
 use Rattle.l2_units.specs.declared.profile.Profile.TheVariants.{Narrow, Wide}
-use Rattle.script_grammar.specs.Script.{first_line}
-use Rattle.script_grammar.specs.declared.script.Values.{Values}
-use Rattle.text_printing.specs.Printing.{Printed}
+use Rattle.text_forms.specs.Opening.{first_line}
+use Rattle.text_forms.specs.declared.opened.Values.{Values}
+use Rattle.text_base.specs.Printing.{Printed}
 use Rattle.set_model.specs.Checkpoint.{counts_in}
 use Rattle.set_model.specs.History.{LinkSet, no_books}
 use Rattle.set_model.specs.State.{Settings, opened_with}
 use Rattle.term_model.specs.declared.timers.Timers.{Timers}
-use Rattle.terminal_script.specs.Lines.{asked_of}
-use Rattle.terminal_script.specs.Timers.{Lengths, lengths_of, timers_of}
-use Rattle.terminal_script.specs.declared.asked.Asked.{Asked}
+use Rattle.text_forms.specs.Asking.{asked_of}
+use Rattle.text_forms.specs.Timers.{Lengths, lengths_of, timers_of}
+use Rattle.text_forms.specs.declared.asked.Asked.{Asked}
 use Rattle.terminal_text.specs.Answers.{Does, is_below, link_in}
 use Rattle.terminal_text.specs.declared.open_end.End.{End as EndState}
 use Rattle.terminal_text.specs.declared.fault.TerminalFault.{TerminalFault}

@@ -1,20 +1,20 @@
 //! What a line asks for, done.
 ghost use Rattle.std.specs.Prelude.{◌≡◌, ◌<◌, ◌≤◌, IfOk, length, true};
 ghost use Rattle.set_model.specs.History.{IsActor};
-ghost use Rattle.terminal_script.specs.declared.asked.Asked.TheVariants.{Checkpoint, History};
+ghost use Rattle.text_forms.specs.declared.asked.Asked.TheVariants.{Checkpoint, History};
 ghost use Rattle.terminal_text.specs.Looking.{IsLookAt};
 ghost use Rattle.terminal_text.specs.Answers.{Asks, CommandsBy, Does, Looks, asker, is_below, is_refused, link_in, link_of_event};
 
 use super::fault::Want;
 use super::hearing::{hear_digits, hear_flags, hear_octets, hear_unit};
 use super::words::{Look, write_look};
-use history_text::{write_answer, write_entries, write_piece};
 use l2_units::Profile;
 use link_term::Command;
 use set_events::{Actor, Event};
 use std::alloc::Global;
 use term_bench::Bench;
-use terminal_script::Asked;
+use text_entries::{write_answer, write_entries, write_piece};
+use text_forms::Asked;
 
 /// The link that is asked for, if one is.
 pub(crate) fn link_of(asked: &Asked) -> Option<u8>

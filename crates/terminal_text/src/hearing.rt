@@ -15,8 +15,8 @@ use l2_units::LONGEST_UNIT;
 use link_term::{LastUnit, NoTap};
 use std::alloc::{AllocError, Global};
 use term_bench::Bench;
-use terminal_script::Repeated;
 use text_base::{push_hex, push_number};
+use text_forms::Repeated;
 
 /// Bits that come on a line: the tap that tells the units of the turns, what is shown of them, and how many they are.
 #[derive(Drop)]

@@ -1,5 +1,6 @@
 //! Laws that speak of definitions alone.
 ghost use Rattle.terminal_text.specs.Answers.{AsManyGoOut};
+ghost use Rattle.terminal_text.specs.Reasons.{EveryFaultIsTold, EveryReasonIsSo};
 ghost use Rattle.terminal_text.specs.Text.{HasText, terminal_rules};
 ghost use Rattle.text_lines.specs.Talks.{HaveOneOutcome, HasOneText};
 
@@ -13,4 +14,15 @@ pub fn one_terminal_text()
 /// A law: as many octets go out as came.
 pub fn as_many_octets_go_out()
     ensures { AsManyGoOut }
+{}
+
+/// Of every end and every line that is refused there, something is told.
+pub fn every_fault_is_told()
+    ensures { EveryFaultIsTold }
+{}
+
+/// What is told of a set or a link is so: a first line told as wide is one that could open a set of the wide profile, and
+/// a line that is told to ask for no link of the set asks for one that the set hasn't.
+pub fn every_reason_is_so()
+    ensures { EveryReasonIsSo }
 {}

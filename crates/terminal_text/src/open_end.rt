@@ -1,9 +1,9 @@
 //! A terminal's end under way, and what a line of the input does.
 ghost use Rattle.std.specs.Prelude.{◌≡◌, MatchResult, Some, [], length, false};
-ghost use Rattle.script_grammar.specs.Script.{first_line};
-ghost use Rattle.text_printing.specs.declared.fault.Stop.TheVariants.{Input, Memory};
-ghost use Rattle.terminal_script.specs.Timers.{timers_of};
-ghost use Rattle.terminal_script.specs.Lines.{asked_of};
+ghost use Rattle.text_forms.specs.Opening.{first_line};
+ghost use Rattle.text_base.specs.declared.fault.Stop.TheVariants.{Input, Memory};
+ghost use Rattle.text_forms.specs.Timers.{timers_of};
+ghost use Rattle.text_forms.specs.Asking.{asked_of};
 ghost use Rattle.terminal_text.specs.Answers.{is_below, link_in};
 ghost use Rattle.terminal_text.specs.Text.{MayDo, MayDoAt, MayFollow, MayOpen, MayRead, TerminalOutcome, opened_bench};
 ghost use Rattle.terminal_text.specs.declared.fault.TerminalFault.TheVariants.{Text};
@@ -15,15 +15,14 @@ use super::asking::{ask_bench, link_of};
 use super::fault::{TerminalFault, Want};
 use l2_units::Profile;
 use pair_steps::End as Side;
-use script_answers::write_end;
-use script_grammar::read_opening;
 use std::alloc::Global;
 use std::marker::Model;
 use term_bench::Bench;
 use term_model::Timers;
-use terminal_script::{Asked, USUAL_TIMERS, read_asked, read_timers};
+use text_base::Stop;
+use text_entries::write_end;
+use text_forms::{Asked, USUAL_TIMERS, Unread, read_asked, read_opening, read_timers};
 use text_lines::{LineFlaw, TalkText, find_flaw};
-use text_printing::Stop;
 
 /// An end whose set is open.
 #[derive(Drop)]
@@ -116,7 +115,7 @@ fn open(alloc: Global, number: u64, text: &[u8]) -> Result<End, Stop<TerminalFau
         (λ end. MayOpen number text.now (first_line text.now) (prints [] (Some end)))
         (λ stop. MayTell stop (MayOpen number text.now (first_line text.now))) }
 {
-    let Some(opening) = read_opening(text) else {
+    let Ok(opening) = read_opening(text) else {
         return Err(unread(number, text));
     };
     match opening.a.profile() {
@@ -154,7 +153,7 @@ fn follow(
         (Some end.new) }
 {
     if end.is_new {
-        if let Some(lengths) = read_timers(text) {
+        if let Ok(lengths) = read_timers(text) {
             return set_timers(alloc, end, lengths);
         }
     }
@@ -189,10 +188,10 @@ fn answer(
     ensures { IsCarriedOut result (MayDo number text.now (asked_of text.now) bench.old) out.old.items
         out.new.items (Some (record { bench = bench.new; is_new = false })) }
 {
-    let asked = read_asked(alloc, text)?;
-    match &asked {
-        Some(asked) => answer_to(alloc, bench, number, asked, out),
-        None => Err(unread(number, text)),
+    match read_asked(alloc, text) {
+        Ok(asked) => answer_to(alloc, bench, number, &asked, out),
+        Err(Unread::At(_)) => Err(unread(number, text)),
+        Err(Unread::Memory) => Err(Stop::Memory),
     }
 }
 

@@ -1,13 +1,17 @@
 //! `mtpbank terminal`: the text of an input.
 ghost use Rattle.std.specs.Prelude.{◌≤◌, ◌^◌, length, IfSome, OnOk};
-ghost use Rattle.text_printing.specs.Printing.{Prints, FailsByDevices};
+ghost use Rattle.text_base.specs.Printing.{Prints, FailsByDevices};
+ghost use Rattle.text_lines.specs.Explaining.{fault_alone};
+ghost use Rattle.terminal_text.specs.Explaining.{IsExplainedTerminalText};
+ghost use Rattle.terminal_text.specs.Named.{IsNamedTerminalText};
 ghost use Rattle.terminal_text.specs.Text.{IsTerminalText};
 
 use super::fault::TerminalFault;
+use super::named::NamedTerminal;
 use super::open_end::Terminal;
 use std::alloc::Global;
-use text_lines::print_talk;
-use text_printing::{Fault, Sink, Source};
+use text_base::{Fault, Sink, Source};
+use text_lines::{Explained, print_explained, print_talk};
 
 /// The most octets of an input, 2^60.
 const LONGEST: usize = 1 << 60;
@@ -32,4 +36,25 @@ pub fn terminal<S: Source, W: Sink>(
         (W.failures sink.old) (W.failures sink.new)) }
 {
     print_talk(alloc, Terminal::new(), LONGEST, source, sink)
+}
+
+/// Drives an end so in words: a number that tells why something was refused or given up has its words behind it, as in
+/// `refused 5 (not up)`, and a fault of a line brings its explanation.
+pub fn terminal_explained<S: Source, W: Sink>(
+    alloc: Global,
+    source: &mut S,
+    sink: &mut W,
+) -> Result<(), Fault<Explained<TerminalFault>>>
+    ensures text { IfSome (S.left source.old)
+        (λ input. Prints result (IsExplainedTerminalText input)
+        (W.written sink.old) (W.written sink.new)) }
+    ensures same { IfSome (S.left source.old)
+        (λ input. Prints (fault_alone result) (IsNamedTerminalText input)
+        (W.written sink.old) (W.written sink.new)) }
+    ensures bounded { IfSome (S.left source.old) (λ input. OnOk result (length input ≤ 2 ^ 60)) }
+    ensures devices { IfSome (S.left source.old)
+        (FailsByDevices (2 ^ 60) result (S.failures source.old) (S.failures source.new)
+        (W.failures sink.old) (W.failures sink.new)) }
+{
+    print_explained(alloc, NamedTerminal::new(), LONGEST, source, sink)
 }

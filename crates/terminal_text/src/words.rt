@@ -8,7 +8,7 @@ ghost use Rattle.terminal_text.specs.Showing.{cause_words, is_silent, link_line,
 use l2_units::Cause;
 use std::alloc::{AllocError, Global};
 use term_bench::{LinkWord, Phase, Turn, TurnCounts};
-use text_base::{is_word, push_number};
+use text_base::push_number;
 
 /// The word for how a link stands.
 pub(crate) fn name_of(word: LinkWord) -> &'static str
@@ -27,13 +27,11 @@ pub(crate) fn name_of(word: LinkWord) -> &'static str
 }
 
 /// Whether the link stands as before this turn.
+#[tactic(auto, using(crate::proofs::Standing::same_words))]
 fn stays(turn: &Turn) -> bool
     ensures { result ≡ stays turn.now }
 {
-    is_word(
-        name_of(turn.before).as_bytes(),
-        name_of(turn.after).as_bytes(),
-    )
+    turn.before == turn.after
 }
 
 /// Whether a turn shows nothing, but for a unit that it appended.

@@ -1,7 +1,7 @@
 //! What is written, in memory.
 ghost use Rattle.std.specs.Prelude.{◌<◌, Some};
 
-use text_printing::{DeviceFault, Sink};
+use text_base::{DeviceFault, Sink};
 
 /// What is written, in memory.
 #[derive(Drop)]

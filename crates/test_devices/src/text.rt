@@ -1,7 +1,7 @@
 //! A text that is read in pieces.
 ghost use Rattle.std.specs.Prelude.{◌<◌, Some};
 
-use text_printing::{DeviceFault, Source};
+use text_base::{DeviceFault, Source};
 
 /// A text that is read in pieces.
 #[derive(Drop)]

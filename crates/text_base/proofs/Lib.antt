@@ -1,1 +1,2 @@
 pub mod FigureLemmas
+pub mod PrintLemmas

@@ -7,7 +7,7 @@ use std::io;
 use std::io::Write;
 use std::test::Fail;
 use test_devices::Text;
-use text_printing::Writer;
+use text_base::Writer;
 
 /// Takes an octet a call, and after so many calls none.
 #[derive(Drop)]

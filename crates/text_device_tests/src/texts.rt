@@ -1,17 +1,13 @@
 //! The texts, each with a short input, and how one ends on devices that fail.
 use history_audit::audit;
 use l2_units::Profile;
-use script_capture::capture;
-use script_history::{End as Side, history};
+use script_accounts::{End as Side, capture, history, play, play_explained};
 use script_ladder::ladder;
-use script_play::{play, play_explained};
 use std::alloc::Global;
-use terminal_explain::terminal_explained;
-use terminal_text::terminal;
+use terminal_text::{terminal, terminal_explained};
 use test_devices::{Page, Text};
-use text_decode::decode;
-use text_printing::{Fault, Sink, Source};
-use text_units::units;
+use text_base::{Fault, Sink, Source};
+use text_units::{decode, units};
 
 /// Many calls, more than any text here takes.
 pub(crate) const MANY: u32 = 1_000_000;

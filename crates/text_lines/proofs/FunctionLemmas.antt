@@ -1,10 +1,10 @@
 -- A text whose lines a function tells, as one whose lines a relation tells.
 use Rattle.std.proofs.Common.{refl, sym, subst, ℕ, Bool, true, false, suc, nat_lt, List, [], ◌∷◌, length, Option, Some, None, IfSome, Result, Ok, Err, if◌then◌else◌}
-use Rattle.text_printing.specs.declared.fault.Fault.{Fault}
-use Rattle.text_printing.specs.declared.fault.Fault.TheVariants.{Input, Memory, Read, Long, Write}
-use Rattle.text_printing.specs.declared.fault.Stop.{Stop}
-use Rattle.text_printing.specs.declared.fault.Stop.TheVariants.{Input as InputStops, Memory as MemoryStops}
-use Rattle.text_printing.specs.Printing.{Printed, Prints, IsBegun}
+use Rattle.text_base.specs.declared.fault.Fault.{Fault}
+use Rattle.text_base.specs.declared.fault.Fault.TheVariants.{Input, Memory, Read, Long, Write}
+use Rattle.text_base.specs.declared.fault.Stop.{Stop}
+use Rattle.text_base.specs.declared.fault.Stop.TheVariants.{Input as InputStops, Memory as MemoryStops}
+use Rattle.text_base.specs.Printing.{Printed, Prints, IsBegun}
 use Rattle.text_lines.specs.Lines.{IsLinesText, LineOutcome, Rules, goes_on, is_remark, lines_of, lines_text, prints, read_line, stops, text_of_lines}
 use Rattle.text_lines.specs.Reading.{IsDone}
 use Rattle.text_lines.specs.Talking.{IsCarriedOut}

@@ -1,2 +1,3 @@
 pub mod LineLemmas
 pub mod FunctionLemmas
+pub mod ExplainLemmas

@@ -5,10 +5,10 @@ use Rattle.std.proofs.lemmas.List.Quantifiers.{position-Some}
 use Rattle.std.proofs.lemmas.List.Sums.{fails_before_first}
 use Rattle.std.specs.List.{position_or_len}
 use Rattle.std.proofs.lemmas.Bool.Decides.{nat_tests}
-use Rattle.text_printing.proofs.PrintLemmas.{begun_of_end}
-use Rattle.text_printing.specs.declared.fault.Stop.{Stop}
-use Rattle.text_printing.specs.declared.fault.Stop.TheVariants.{Input, Memory}
-use Rattle.text_printing.specs.Printing.{Printed, behind, IsBegun, StopsIn, ReadsOrStops, Ends}
+use Rattle.text_base.proofs.PrintLemmas.{begun_of_end}
+use Rattle.text_base.specs.declared.fault.Stop.{Stop}
+use Rattle.text_base.specs.declared.fault.Stop.TheVariants.{Input, Memory}
+use Rattle.text_base.specs.Printing.{Printed, behind, IsBegun, StopsIn, ReadsOrStops, Ends}
 use Rattle.text_lines.specs.Lines.{is_lf, is_remark, LineOutcome, prints, stops, lines_of, onto_first}
 use Rattle.text_lines.specs.Reading.{Reading, IsOpen, Adds}
 use Rattle.text_lines.specs.Talking.{AdvancesBy, AdvancesOrHaltsBy, FaultsBy, FinishesBy, HaltsBy, HasPrintedBy, IsTextFrom, Leads, MayDo, MayTell}

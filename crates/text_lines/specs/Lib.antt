@@ -1,3 +1,4 @@
+pub mod Explaining
 pub mod Flaws
 pub mod Lines
 pub mod Reading

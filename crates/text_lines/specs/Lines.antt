@@ -1,6 +1,6 @@
 -- A TEXT THAT IS READ LINE BY LINE: what its lines print, one after another.
 use Rattle.std.specs.Prelude.{◌≡◌, ℕ, Bool, true, ◌==◌, nat_lt, suc, List, [], ◌∷◌, length, Some, None, if◌then◌else◌}
-use Rattle.text_printing.specs.Printing.{Printed, behind}
+use Rattle.text_base.specs.Printing.{Printed, behind}
 
 -- The lines of a text: each ends in LF (10), which the last may lack.
 

@@ -1,7 +1,7 @@
 -- What a reader of lines under way holds, and what a whole line prints.
 use Rattle.std.specs.Prelude.{◌≡◌, ℕ, ◌≤◌, ◌≢◌, List, [], ◌∷◌, ◌++◌, length, Result, MatchResult}
-use Rattle.text_printing.specs.declared.fault.Stop.{Stop}
-use Rattle.text_printing.specs.declared.fault.Stop.TheVariants.{Input, Memory}
+use Rattle.text_base.specs.declared.fault.Stop.{Stop}
+use Rattle.text_base.specs.declared.fault.Stop.TheVariants.{Input, Memory}
 use Rattle.text_lines.specs.Lines.{LineOutcome, stops, prints}
 
 -- the number of the line that is being read, its octets so far, and what the lines before it left

@@ -1,8 +1,8 @@
 -- What a reader of lines under way stands for, and what a whole line prints.
 use Rattle.std.specs.Prelude.{◌≡◌, ℕ, ◌≤◌, List, [], ◌++◌, ◌+◌, ◌<◌, ◌^◌, length, Some, None, Result, MatchResult}
-use Rattle.text_printing.specs.declared.fault.Stop.{Stop}
-use Rattle.text_printing.specs.declared.fault.Stop.TheVariants.{Input, Memory}
-use Rattle.text_printing.specs.Printing.{Printed, behind}
+use Rattle.text_base.specs.declared.fault.Stop.{Stop}
+use Rattle.text_base.specs.declared.fault.Stop.TheVariants.{Input, Memory}
+use Rattle.text_base.specs.Printing.{Printed, behind}
 use Rattle.text_lines.specs.Lines.{LineOutcome, stops, prints, lines_of}
 use Rattle.text_lines.specs.Reading.{Reading}
 use Rattle.text_lines.specs.Talks.{IsBehind, IsTalkText, IsTextOfLines, TalkRules}

@@ -2,7 +2,7 @@
 -- that it has, and the law that it has one.
 use Rattle.std.specs.Prelude.{◌≡◌, ℕ, Bool, true, false, nat_lt, suc, List, [], ◌∷◌, length, Some, None}
 use Rattle.std.proofs.Common.{sym, ◌∙◌}
-use Rattle.text_printing.specs.Printing.{Printed, behind}
+use Rattle.text_base.specs.Printing.{Printed, behind}
 use Rattle.text_lines.specs.Lines.{LineOutcome, Rules, prints, stops, is_remark, lines_of}
 
 -- what is there before the first line, the outcomes that the line of a number may have that is no remark, what is printed

@@ -4,7 +4,7 @@ use super::line_text::LineText;
 use super::talk_text::TalkText;
 use std::alloc::Global;
 use std::marker::Model;
-use text_printing::Stop;
+use text_base::Stop;
 
 /// The lines of a text that has a function.
 #[derive(Drop)]

@@ -8,13 +8,18 @@
 //! rules of a text, and the code that carries out one line of it. [`print_talk`] does so for every [`TalkText`], whose rules
 //! are a relation by which a line has one outcome (`specs/Talks.antt`). It has the line ends, the remarks, the longest
 //! line and the numbers of the lines, once. `specs/Lines.antt` says what is printed: a function from the octets of
-//! the input and the rules. [`find_flaw`] tells of a line that can't be read which octet besides its words is at fault
-//! (`specs/Flaws.antt`). [`end_of_line`] and [`is_passed_over`] are for who reads such lines in another way.
+//! the input and the rules. [`print_explained`] does so for every text that [`Explains`] its faults: the same octets and the
+//! same fault, which brings the lines that explain it along ([`Explained`], `specs/Explaining.antt`).
+//!
+//! [`find_flaw`] tells of a line that can't be read which octet besides its words is at fault (`specs/Flaws.antt`).
+//! [`end_of_line`] and [`is_passed_over`] are for who reads such lines in another way.
 //!
 //! This crate knows no text.
 #![tactic(auto)]
 
 mod by_function;
+mod explained;
+mod explaining;
 mod flaw;
 mod line_reader;
 mod line_text;
@@ -22,6 +27,8 @@ mod lines;
 mod talk_text;
 mod text;
 
+pub use explained::Explained;
+pub use explaining::{Explains, print_explained};
 pub use flaw::{LineFlaw, find_flaw};
 pub use line_text::LineText;
 pub use lines::{end_of_line, is_passed_over};

@@ -8,7 +8,7 @@ use super::lines::{end_of_line, is_passed_over};
 use super::talk_text::TalkText;
 use std::alloc::Global;
 use std::marker::Model;
-use text_printing::{Printer, Stop};
+use text_base::{Printer, Stop};
 
 /// The most octets of a line, without its LF.
 const LONGEST_LINE: usize = 4096;

@@ -4,7 +4,7 @@ ghost use Rattle.text_lines.specs.Lines.{Rules};
 ghost use Rattle.text_lines.specs.Reading.{IsDone, Adds};
 
 use std::alloc::Global;
-use text_printing::Stop;
+use text_base::Stop;
 
 /// The lines of a text; its value is what the lines before one leave for it.
 pub trait LineText {

@@ -5,7 +5,7 @@ ghost use Rattle.text_lines.specs.Talking.{IsCarriedOut};
 ghost use Rattle.text_lines.specs.Talks.{HaveOneOutcome, TalkRules};
 
 use std::alloc::Global;
-use text_printing::Stop;
+use text_base::Stop;
 
 /// The lines of a text whose outcomes a relation tells; its value is what the lines before one leave for it.
 pub trait TalkText {

@@ -1,6 +1,6 @@
 //! The whole text of a source.
 ghost use Rattle.std.specs.Prelude.{◌≡◌, ◌≤◌, ◌^◌, length, IfSome, OnOk};
-ghost use Rattle.text_printing.specs.Printing.{Prints, FailsByDevices};
+ghost use Rattle.text_base.specs.Printing.{Prints, FailsByDevices};
 ghost use Rattle.text_lines.specs.Lines.{IsLinesText};
 ghost use Rattle.text_lines.specs.Talks.{IsTalkText};
 
@@ -9,7 +9,7 @@ use super::line_reader::LineReader;
 use super::line_text::LineText;
 use super::talk_text::TalkText;
 use std::alloc::Global;
-use text_printing::{Fault, Sink, Source, print_all};
+use text_base::{Fault, Sink, Source, print_all};
 
 /// Reads the lines that the source gives, at most `longest` octets, and writes what they print.
 ///

@@ -1,1 +1,3 @@
+pub mod Packets
 pub mod PcapFile
+pub mod Sent

@@ -1,7 +1,7 @@
 //! What is printed, kept without asking for memory.
 ghost use Rattle.std.specs.Prelude.{◌≤◌, None};
 
-use text_printing::{DeviceFault, Sink};
+use text_base::{DeviceFault, Sink};
 
 /// How many octets are kept.
 const ROOM: usize = 4_096;

@@ -85,17 +85,13 @@ fn seen_of<O: Opening>(user: &UserSeat<O>, terminal: &TermSeat<O>) -> Seen {
 
 /// How many calls a seat forgot is no matter here.
 fn is_told(calls: Result<u64, SetFault>) -> Result<(), SetFault> {
-    match calls {
-        Ok(_) => Ok(()),
-        Err(fault) => Err(fault),
-    }
+    calls?;
+    Ok(())
 }
 
 fn is_done(answer: Result<Answer, SetFault>) -> Result<(), SetFault> {
-    match answer {
-        Ok(_) => Ok(()),
-        Err(fault) => Err(fault),
-    }
+    answer?;
+    Ok(())
 }
 
 fn calls<O: Opening, R: Wait>(
@@ -113,10 +109,8 @@ fn calls<O: Opening, R: Wait>(
         Call::Up => is_done(set.term_step(rt, terminal, &Event::Up { link })),
         Call::NextHeld => {
             let mut reply = Reply::new();
-            match set.term_step_held(rt, terminal, &EventRef::Next { link }, &mut reply, || ()) {
-                Ok(_late) => Ok(()),
-                Err(fault) => Err(fault),
-            }
+            set.term_step_held(rt, terminal, &EventRef::Next { link }, &mut reply, || ())?;
+            Ok(())
         }
         Call::Checkpoint => set.checkpoint(rt, user),
         Call::ForgetUser => is_told(set.forget(rt, user)),

@@ -3,18 +3,14 @@ use super::kept::Kept;
 use super::{Came, holds, is_right};
 use history_audit::audit;
 use l2_units::Profile;
-use script_capture::capture;
-use script_history::{End, history};
+use script_accounts::{End, capture, history, play, play_explained};
 use script_ladder::ladder;
-use script_play::{play, play_explained};
 use std::alloc::Global;
 use std::test::Fail;
-use terminal_explain::terminal_explained;
-use terminal_text::terminal;
+use terminal_text::{terminal, terminal_explained};
 use test_devices::Text;
-use text_decode::decode;
-use text_printing::Fault;
-use text_units::units;
+use text_base::Fault;
+use text_units::{decode, units};
 
 const SCRIPT: &[u8] = b"set links=1 method=basic a=2 b=1 sio=80
 together 0

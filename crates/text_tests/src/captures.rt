@@ -2,13 +2,13 @@
 
 use super::holds;
 use bank_traffic::{Traffic, gates_of};
+use run_text::write_run;
 use std::alloc::Global;
 use std::sync::Wait;
 use std::test::Fail;
 use std::thread::Threads;
 use std::time::Clock;
-use text_printing::Writer;
-use text_run::write_run;
+use text_base::Writer;
 
 /// The capture of a run of two sets of two links, over lines with noise.
 fn captured<R: Threads + Wait + Clock + Copy + Send + Sync + 'static>(

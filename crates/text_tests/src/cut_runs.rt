@@ -2,6 +2,7 @@
 
 use super::holds;
 use mtpbank_words::{RunWords, Words, words_of};
+use run_text::{Missing, RunFault, run};
 use std::alloc::Global;
 use std::io::Eprint;
 use std::sync::Wait;
@@ -9,8 +10,7 @@ use std::test::Fail;
 use std::thread::Threads;
 use std::time::Clock;
 use test_devices::Page;
-use text_printing::Fault;
-use text_run::{Missing, RunFault, run};
+use text_base::Fault;
 
 /// The smallest run there is.
 fn words(alloc: Global) -> Option<RunWords> {

@@ -1,10 +1,10 @@
 //! The texts of faults, and writes of any length.
 use super::holds;
-use script_play::{LineFlaw, ScriptFault};
+use script_accounts::{LineFlaw, ScriptFault};
 use std::alloc::{AllocError, Global};
 use std::fmt::Display;
 use std::test::Fail;
-use text_printing::{Fault, Sink, Writer};
+use text_base::{Fault, Sink, Writer};
 use text_units::UnreadableOctet;
 
 /// The fault shows this line.

@@ -2,13 +2,13 @@
 
 use super::holds;
 use bank_traffic::{Traffic, gates_of};
+use run_text::{Absence, Missing, write_run};
 use std::alloc::Global;
 use std::sync::Wait;
 use std::test::Fail;
 use std::thread::Threads;
 use std::time::Clock;
-use text_printing::Writer;
-use text_run::{Absence, Missing, write_run};
+use text_base::Writer;
 
 /// One set of three links, three users of so many messages each, and link 1 that fails.
 fn traffic_of(messages: u16, turns: u32, noise: Option<u32>) -> Traffic {

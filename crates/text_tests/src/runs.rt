@@ -2,14 +2,14 @@
 
 use super::holds;
 use bank_traffic::{Traffic, gates_of};
+use run_text::{End, RunFault, TermFault, UserFault, run, write_run};
 use std::alloc::Global;
 use std::sync::Wait;
 use std::sync::atomic::{AtomicU64, Ordering};
 use std::test::Fail;
 use std::thread::Threads;
 use std::time::Clock;
-use text_printing::{Fault, Writer};
-use text_run::{End, RunFault, TermFault, UserFault, run, write_run};
+use text_base::{Fault, Writer};
 
 /// What is printed of one set of two links, whose two users offer 50 messages each, and whose link 0 fails half way.
 fn printed<R: Threads + Wait + Clock + Copy + Send + Sync + 'static>(

@@ -4,11 +4,11 @@
 ghost use Rattle.std.specs.Prelude.{◌<◌, ◌^◌};
 
 use super::holds;
-use script_play::{LineFlaw, ScriptFault, play};
+use script_accounts::{LineFlaw, ScriptFault, play};
 use std::alloc::{AllocError, Global};
 use std::test::Fail;
 use test_devices::{Page, Text};
-use text_printing::{DeviceFault, Fault, Source};
+use text_base::{DeviceFault, Fault, Source};
 use text_units::{UnreadableOctet, units};
 
 const OPENING: &[u8] = b"set links=1 method=basic a=2 b=1 sio=80\n";

@@ -5,7 +5,7 @@ use super::holds;
 use super::texts::seen_of;
 use std::alloc::Global;
 use std::test::Fail;
-use text_printing::Fault;
+use text_base::Fault;
 use text_units::UnreadableOctet;
 
 /// The input prints these lines, by pieces of so many octets, and ends with a fault at this place, or well.

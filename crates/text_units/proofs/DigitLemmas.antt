@@ -3,8 +3,8 @@ use Rattle.std.proofs.Common.{refl, arith, ◌≡◌, ◌∙◌, ap, sym, ◌<�
 use Rattle.std.proofs.lemmas.Grind.{flat_map-append, common_steps}
 use Rattle.std.proofs.lemmas.Bool.Decides.{nat_tests}
 use Rattle.std.specs.Option.{option_to_list, option_map, option_and_then, is_some}
-use Rattle.text_printing.specs.declared.fault.Stop.{Stop}
-use Rattle.text_printing.specs.declared.fault.Stop.TheVariants.{Input, Memory}
+use Rattle.text_base.specs.declared.fault.Stop.{Stop}
+use Rattle.text_base.specs.declared.fault.Stop.TheVariants.{Input, Memory}
 use Rattle.text_units.specs.declared.digit.Digit.{Digit}
 use Rattle.text_units.specs.declared.digits.Digits.{Digits}
 use Rattle.text_units.specs.declared.fault.UnreadableOctet.{UnreadableOctet}

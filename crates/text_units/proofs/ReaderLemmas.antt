@@ -5,10 +5,10 @@ use Rattle.std.specs.Option.{option_map, is_some}
 use Rattle.l2_bits.specs.declared.marks.Mark.{Mark}
 use Rattle.l2_bits.specs.LineBits.{line_bits}
 use Rattle.l2_bits.proofs.OctetLemmas.{length-line_bits, line_bits-append}
-use Rattle.text_printing.specs.declared.fault.Stop.{Stop}
-use Rattle.text_printing.specs.declared.fault.Stop.TheVariants.{Input, Memory}
-use Rattle.text_printing.specs.Printing.{Printed, IsBegun, StopsIn, ReadsOrStops, Ends as EndsAsText}
-use Rattle.text_printing.proofs.PrintLemmas.{begun_of_end}
+use Rattle.text_base.specs.declared.fault.Stop.{Stop}
+use Rattle.text_base.specs.declared.fault.Stop.TheVariants.{Input, Memory}
+use Rattle.text_base.specs.Printing.{Printed, IsBegun, StopsIn, ReadsOrStops, Ends as EndsAsText}
+use Rattle.text_base.proofs.PrintLemmas.{begun_of_end}
 use Rattle.text_units.specs.declared.digit.Digit.{Digit}
 use Rattle.text_units.specs.declared.digits.Digits.{Digits}
 use Rattle.text_units.specs.declared.marked_line.MarkedLine.{MarkedLine}

@@ -7,7 +7,7 @@ use Rattle.l2_bits.specs.Marks.{AreMarks}
 use Rattle.l2_bits.specs.Deframing.{StandsFor, FeedsUpTo}
 use Rattle.l2_bits.proofs.MarkLemmas.{mark_alone, marks_alone, marks-append}
 use Rattle.text_units.specs.declared.marked_line.MarkedLine.{MarkedLine}
-use Rattle.text_printing.specs.Printing.{Printed}
+use Rattle.text_base.specs.Printing.{Printed}
 use Rattle.text_units.specs.declared.fault.UnreadableOctet.{UnreadableOctet}
 use Rattle.text_units.specs.UnitsText.{IsUnitsText, mark_text, marks_text, counts_of, with_end, fault_place}
 use Rattle.text_units.specs.UnitsReading.{IsLine, Begins, FeedsFirst, Breaks}

@@ -5,13 +5,13 @@ use Rattle.l2_bits.specs.declared.marks.Mark.{Mark}
 use Rattle.l2_bits.specs.LineBits.{line_bits}
 use Rattle.l2_bits.specs.Marks.{AreMarks}
 use Rattle.l2_bits.specs.Deframing.{StandsFor}
-use Rattle.text_printing.specs.declared.fault.Stop.{Stop}
-use Rattle.text_printing.specs.declared.fault.Stop.TheVariants.{Input, Memory}
+use Rattle.text_base.specs.declared.fault.Stop.{Stop}
+use Rattle.text_base.specs.declared.fault.Stop.TheVariants.{Input, Memory}
 use Rattle.text_units.specs.declared.digits.Digits.{Digits}
 use Rattle.text_units.specs.declared.marked_line.MarkedLine.{MarkedLine}
 use Rattle.text_units.specs.declared.units_reading.UnitsReader.{UnitsReader}
 use Rattle.text_units.specs.declared.fault.UnreadableOctet.{UnreadableOctet}
-use Rattle.text_printing.specs.Printing.{IsWhole, StopsIn}
+use Rattle.text_base.specs.Printing.{IsWhole, StopsIn}
 use Rattle.text_base.specs.Figures.{octet_of, octets_of}
 use Rattle.text_units.specs.UnitsText.{IsUnitsText, readable, values_of, paired, left_over, octets_in, fault_place, marks_text, counts_of}
 

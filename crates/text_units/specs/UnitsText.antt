@@ -15,7 +15,7 @@ use Rattle.l2_units.specs.declared.profile.Profile.TheVariants.{Narrow}
 use Rattle.text_units.specs.declared.fault.UnreadableOctet.{UnreadableOctet}
 use Rattle.text_units.specs.declared.unit_lines.MarkCounts.{MarkCounts}
 use Rattle.text_base.specs.Figures.{hex_value, hex_text, bit}
-use Rattle.text_printing.specs.Printing.{Printed}
+use Rattle.text_base.specs.Printing.{Printed}
 
 -- The octets of the line.
 

@@ -7,7 +7,7 @@ ghost use Rattle.text_units.specs.UnitsReading.{BeginsWithOctet, HasDigits, Deco
 use super::digit::{Digit, digit_of, octet_of};
 use super::fault::UnreadableOctet;
 use std::alloc::AllocError;
-use text_printing::Stop;
+use text_base::Stop;
 
 /// What of an input's characters waits, and how many there were.
 #[derive(Drop)]

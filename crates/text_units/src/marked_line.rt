@@ -43,13 +43,8 @@ impl MarkedLine {
             (λ error. Breaks self.old (line_bits octets.now) out.old.items out.new.items) }
     {
         let mut left = Octets::new(octets);
-        loop {
-            match self.feed_first(&mut left, out) {
-                Ok(true) => {}
-                Ok(false) => return Ok(()),
-                Err(error) => return Err(error),
-            }
-        }
+        while self.feed_first(&mut left, out)? {}
+        Ok(())
     }
 
     /// Feeds the first of these bits up to one that gives a mark, and adds its line; says whether one did.
@@ -67,10 +62,8 @@ impl MarkedLine {
             return Ok(false);
         };
         self.counts = counted(self.counts, kind);
-        match add_line(kind, &self.deframer, &mut self.text, out) {
-            Ok(()) => Ok(true),
-            Err(error) => Err(error),
-        }
+        add_line(kind, &self.deframer, &mut self.text, out)?;
+        Ok(true)
     }
 }
 
@@ -86,10 +79,8 @@ fn add_line(
         ++ (if is_ok result then mark_text (marked kind (unit_of deframer.now)) else []) }
 {
     text.clear();
-    match push_mark(kind, deframer.unit(), text) {
-        Ok(()) => out.extend_from_slice(text),
-        Err(error) => Err(error),
-    }
+    push_mark(kind, deframer.unit(), text)?;
+    out.extend_from_slice(text)
 }
 
 /// One mark more. An input of the program has too few for a count to end at its type's last number.

@@ -1,12 +1,12 @@
 //! `mtpbank units`: the octets of a line as hexadecimal digits, and what a signalling terminal sees.
 ghost use Rattle.std.specs.Prelude.{◌≤◌, ◌^◌, length, IfSome, OnOk};
-ghost use Rattle.text_printing.specs.Printing.{Prints, FailsByDevices};
+ghost use Rattle.text_base.specs.Printing.{Prints, FailsByDevices};
 ghost use Rattle.text_units.specs.UnitsText.{IsUnitsText};
 
 use super::fault::UnreadableOctet;
 use super::units_reading::UnitsReader;
 use std::alloc::Global;
-use text_printing::{Fault, LONGEST_READ, Sink, Source, print_all};
+use text_base::{Fault, LONGEST_READ, Sink, Source, print_all};
 
 /// Reads the hexadecimal digits that the source gives, and writes a line for each mark of their bits.
 ///

@@ -14,7 +14,7 @@ use super::fault::UnreadableOctet;
 use super::marked_line::MarkedLine;
 use super::unit_lines::counts_line;
 use std::alloc::Global;
-use text_printing::{Printer, Stop};
+use text_base::{Printer, Stop};
 
 /// An input of `units` under way: what the line has given, and what of the input waits.
 #[derive(Drop)]

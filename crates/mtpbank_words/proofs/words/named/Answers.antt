@@ -4,14 +4,15 @@ use Rattle.clap.specs.declared.parser.matches.ArgMatches.TheViews.{out-ArgMatche
 use Rattle.clap.proofs.WalkLemmas.{first_value-rows}
 use Rattle.mtpbank_words.specs.CommandLine.{IsWord}
 use Rattle.mtpbank_words.proofs.Subcommands.{found_is, no_run, options}
+use Rattle.text_base.proofs.PrintLemmas.{passed_on}
 use Rattle.mtpbank_words.proofs.words.named.Goals as goal
 
 -- src/words.rt
-pub returns-in-Err : goal.returns-in-Err
-returns-in-Err c =
+pub returns-in_err-run_of-in-run : goal.returns-in_err-run_of-in-run
+returns-in_err-run_of-in-run c =
     let f = found_of c.in-Some.found.now in
     let is = found_is (out-ArgMatches c.args.matches.now).subcommand c.in-Some.name.now (rows_of f) c.in-Some.ensures.name c.in-Some.ensures.rows in
-    rw is (no_run c.in-Some.name.now (rows_of f) c.in-run.is c.in-Err.why c.in-Err.ensures)
+    rw (passed_on c.from_residual.result c.in_err-run_of-in-run.field-0.0 c.from_residual.ensures.1) (rw is (no_run c.in-Some.name.now (rows_of f) c.in-run.is c.in_err-run_of-in-run.field-0.0 c.in_err-run_of-in-run.ensures))
 
 pub returns-in-Some-word_of : goal.returns-in-Some-word_of
 returns-in-Some-word_of c =

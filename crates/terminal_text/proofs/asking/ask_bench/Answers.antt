@@ -1,5 +1,5 @@
 use Rattle.std.proofs.Common.{subst, ◌≡◌, true, length}
-use Rattle.terminal_script.specs.declared.asked.Asked.{Asked}
+use Rattle.text_forms.specs.declared.asked.Asked.{Asked}
 use Rattle.terminal_text.proofs.OpenLemmas.{is_actor}
 use Rattle.terminal_text.specs.Answers.{is_below, link_in}
 use Rattle.terminal_text.proofs.asking.ask_bench.Goals as goal

@@ -1,5 +1,5 @@
 use Rattle.std.proofs.Common.{refl, sym}
-use Rattle.text_printing.proofs.PrintLemmas.{passed_on}
+use Rattle.text_base.proofs.PrintLemmas.{passed_on}
 use Rattle.text_lines.proofs.LineLemmas.{nothing_read, something_read, ends_none, ends_line, halts_last}
 use Rattle.text_lines.proofs.line_reader.finished.Goals as goal
 

@@ -1,6 +1,6 @@
 use Rattle.std.proofs.Common.{arith, sym, append-nil, []}
 use Rattle.std.proofs.lemmas.Grind.{common_steps}
-use Rattle.text_printing.proofs.PrintLemmas.{passed_on}
+use Rattle.text_base.proofs.PrintLemmas.{passed_on}
 use Rattle.history_audit.proofs.Lines.{ends_a_line, halts_line}
 use Rattle.history_audit.proofs.reader.HistoryReader.end_line.Goals as goal
 

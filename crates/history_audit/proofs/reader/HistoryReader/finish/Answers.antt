@@ -1,5 +1,5 @@
 use Rattle.std.proofs.Common.{rules, ◌≡◌, ◌<◌, length}
-use Rattle.text_printing.proofs.PrintLemmas.{passed_on}
+use Rattle.text_base.proofs.PrintLemmas.{passed_on}
 use Rattle.history_audit.proofs.Lines.{no_octet, finishes_at_once, finishes_line, finishes_with}
 use Rattle.history_audit.proofs.reader.HistoryReader.finish.Goals as goal
 

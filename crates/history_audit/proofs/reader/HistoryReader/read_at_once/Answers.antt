@@ -1,7 +1,7 @@
 use Rattle.std.proofs.Common.{refl, arith, ◌≡◌, ◌++◌, ◌∷◌, []}
 use Rattle.std.proofs.lemmas.Grind.{common_steps}
-use Rattle.text_printing.proofs.PrintLemmas.{passed_on}
-use Rattle.text_printing.specs.declared.fault.Stop.TheVariants.{Input}
+use Rattle.text_base.proofs.PrintLemmas.{passed_on}
+use Rattle.text_base.specs.declared.fault.Stop.TheVariants.{Input}
 use Rattle.text_lines.specs.declared.flaw.LineFlaw.TheVariants.{VeryLong}
 use Rattle.history_audit.specs.declared.fault.AuditFault.TheVariants.{Text}
 use Rattle.history_audit.proofs.Lines.{ends_a_line, halts_before, halts_line, halts_long}

@@ -1,5 +1,5 @@
 use Rattle.std.proofs.Common.{◌∷◌, []}
-use Rattle.text_printing.proofs.PrintLemmas.{passed_on}
+use Rattle.text_base.proofs.PrintLemmas.{passed_on}
 use Rattle.history_audit.proofs.Lines.{goes_further, halts_before}
 use Rattle.history_audit.proofs.reader.HistoryReader.read_line.Goals as goal
 

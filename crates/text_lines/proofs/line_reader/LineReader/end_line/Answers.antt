@@ -1,6 +1,6 @@
 use Rattle.std.proofs.Common.{refl, arith, sym, append-nil, []}
 use Rattle.std.proofs.lemmas.Grind.{common_steps}
-use Rattle.text_printing.proofs.PrintLemmas.{passed_on}
+use Rattle.text_base.proofs.PrintLemmas.{passed_on}
 use Rattle.text_lines.proofs.LineLemmas.{ends_a_line, halts_line}
 use Rattle.text_lines.proofs.line_reader.LineReader.end_line.Goals as goal
 

@@ -1,5 +1,5 @@
 use Rattle.std.proofs.Common.{sym, ◌∙◌}
-use Rattle.text_printing.proofs.PrintLemmas.{passed_on}
+use Rattle.text_base.proofs.PrintLemmas.{passed_on}
 use Rattle.text_lines.proofs.LineLemmas.{open_before, cut_at, all_open, reads_on, reads_last, stops_in}
 use Rattle.text_lines.proofs.line_reader.LineReader.read_all.Goals as goal
 

@@ -1,6 +1,6 @@
 use Rattle.std.proofs.Common.{refl, arith, ◌≡◌, ◌∷◌, ◌++◌, []}
 use Rattle.std.proofs.lemmas.Grind.{common_steps}
-use Rattle.text_printing.proofs.PrintLemmas.{passed_on}
+use Rattle.text_base.proofs.PrintLemmas.{passed_on}
 use Rattle.text_lines.proofs.LineLemmas.{ends_a_line, halts_line, halts_long, halts_before}
 use Rattle.text_lines.proofs.line_reader.LineReader.read_at_once.Goals as goal
 

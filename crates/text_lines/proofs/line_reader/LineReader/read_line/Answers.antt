@@ -1,4 +1,4 @@
-use Rattle.text_printing.proofs.PrintLemmas.{passed_on}
+use Rattle.text_base.proofs.PrintLemmas.{passed_on}
 use Rattle.text_lines.proofs.LineLemmas.{halts_before, goes_further}
 use Rattle.text_lines.proofs.line_reader.LineReader.read_line.Goals as goal
 

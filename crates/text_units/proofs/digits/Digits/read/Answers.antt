@@ -1,5 +1,5 @@
-use Rattle.text_printing.specs.declared.fault.Stop.TheVariants.{Memory}
-use Rattle.text_printing.proofs.PrintLemmas.{passed_on}
+use Rattle.text_base.specs.declared.fault.Stop.TheVariants.{Memory}
+use Rattle.text_base.proofs.PrintLemmas.{passed_on}
 use Rattle.text_units.proofs.DigitLemmas.{halts_for_memory, decodes_on, halts_on_later}
 use Rattle.text_units.proofs.digits.Digits.read.Goals as goal
 

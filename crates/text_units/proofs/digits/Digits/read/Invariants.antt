@@ -1,5 +1,5 @@
 use Rattle.std.proofs.Common.{List, ℕ, length}
-use Rattle.text_printing.specs.declared.fault.Stop.{Stop}
+use Rattle.text_base.specs.declared.fault.Stop.{Stop}
 use Rattle.text_units.specs.declared.digits.Digits.{Digits}
 use Rattle.text_units.specs.declared.fault.UnreadableOctet.{UnreadableOctet}
 use Rattle.text_units.specs.UnitsReading.{Decodes, Halts}

@@ -1,8 +1,8 @@
 use Rattle.std.proofs.Common.{refl, arith, sym, ◌∙◌, ap, ◌≡◌, ◌<◌, ◌+◌, ◌^◌, ℕ, min}
 use Rattle.std.specs.Option.{option_map}
-use Rattle.text_printing.specs.declared.fault.Stop.TheVariants.{Memory}
+use Rattle.text_base.specs.declared.fault.Stop.TheVariants.{Memory}
 use Rattle.text_units.specs.declared.digit.Digit.{Digit}
-use Rattle.text_printing.proofs.PrintLemmas.{passed_on}
+use Rattle.text_base.proofs.PrintLemmas.{passed_on}
 use Rattle.text_units.proofs.DigitLemmas.{decodes_blank, decodes_first, decodes_second, halts_for_memory, halts_bad}
 use Rattle.text_units.proofs.digits.Digits.take.Goals as goal
 

@@ -5,8 +5,8 @@ use Rattle.text_units.specs.UnitsReading.{FeedsFirst}
 use Rattle.text_units.proofs.marked_line.MarkedLine.feed.Given as goal
 
 -- what the bits that are left do completes what the octets do
-abbrev pub invariant-loop-error : goal.invariant-loop-error
-invariant-loop-error l = FeedsFirst l.initial.self (line_bits l.octets) l.initial.out.items (left_in l.left) l.out.items l.self
+abbrev pub invariant-loop : goal.invariant-loop
+invariant-loop l = FeedsFirst l.initial.self (line_bits l.octets) l.initial.out.items (left_in l.left) l.out.items l.self
 
-abbrev pub decreases-loop-error : goal.decreases-loop-error
-decreases-loop-error l = length (left_in l.left)
+abbrev pub decreases-loop : goal.decreases-loop
+decreases-loop l = length (left_in l.left)

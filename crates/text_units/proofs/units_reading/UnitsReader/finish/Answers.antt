@@ -1,6 +1,6 @@
 use Rattle.std.proofs.Common.{refl, sym, ◌∙◌}
-use Rattle.text_printing.specs.declared.fault.Stop.TheVariants.{Memory}
-use Rattle.text_printing.proofs.PrintLemmas.{passed_on}
+use Rattle.text_base.specs.declared.fault.Stop.TheVariants.{Memory}
+use Rattle.text_base.proofs.PrintLemmas.{passed_on}
 use Rattle.text_units.proofs.ReaderLemmas.{ends_left, ends_memory}
 use Rattle.text_units.proofs.units_reading.UnitsReader.finish.Goals as goal
 

@@ -1,5 +1,5 @@
-use Rattle.text_printing.specs.declared.fault.Stop.TheVariants.{Memory}
-use Rattle.text_printing.proofs.PrintLemmas.{passed_on}
+use Rattle.text_base.specs.declared.fault.Stop.TheVariants.{Memory}
+use Rattle.text_base.proofs.PrintLemmas.{passed_on}
 use Rattle.text_units.proofs.ReaderLemmas.{read_fed, stops_broken}
 use Rattle.text_units.proofs.units_reading.UnitsReader.read_all.Goals as goal
 

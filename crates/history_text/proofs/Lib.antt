@@ -1,5 +1,0 @@
-pub mod WordLemmas
-pub mod FigureLemmas
-pub mod ReadingLemmas
-mod ItemLemmas
-mod FirstLineLemmas

@@ -1,5 +1,0 @@
-use Rattle.history_text.proofs.ItemLemmas.{item_again}
-use Rattle.history_text.proofs.items.items_read_back.Goals as goal
-
-pub returns : goal.returns
-returns c = λ p. item_again p (c.one_text.ensures p)

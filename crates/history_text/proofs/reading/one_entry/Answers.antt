@@ -1,5 +1,0 @@
-use Rattle.history_text.proofs.ReadingLemmas.{one_entry_each}
-use Rattle.history_text.proofs.reading.one_entry.Goals as goal
-
-pub returns : goal.returns
-returns c = λ p. one_entry_each p (c.one_text.ensures p)

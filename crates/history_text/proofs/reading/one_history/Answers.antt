@@ -1,5 +1,0 @@
-use Rattle.history_text.proofs.ReadingLemmas.{one_history_each}
-use Rattle.history_text.proofs.reading.one_history.Goals as goal
-
-pub returns : goal.returns
-returns c = λ p. one_history_each p (c.one_text.ensures p)

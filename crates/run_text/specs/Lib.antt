@@ -1,0 +1,11 @@
+pub mod Absences
+pub mod Asked
+pub mod Capturing
+pub mod Causes
+pub mod Failures
+pub mod Figures
+pub mod Pairs
+pub mod ReportText
+pub mod RunText
+pub mod Running
+pub mod Verdict

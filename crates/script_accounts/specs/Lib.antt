@@ -1,0 +1,3 @@
+pub mod Capture
+pub mod Histories
+pub mod PlayText

@@ -1,5 +1,0 @@
-mod Blamed
-mod NamedWords
-pub mod Openings
-mod Spaces
-pub mod TerminalBlamed

@@ -1,5 +1,0 @@
-use Rattle.std.proofs.lemmas.List.{take_min}
-use Rattle.script_mistakes.proofs.showing.cut.Goals as goal
-
-pub returns : goal.returns
-returns c = rw c.min.ensures (take_min 96 c.args.text.now)

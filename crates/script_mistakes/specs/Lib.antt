@@ -1,9 +1,0 @@
-pub mod Blaming
-pub mod Impossible
-pub mod Laws
-pub mod Mistakes
-pub mod Named
-pub mod Showing
-pub mod TerminalBlaming
-pub mod TerminalTexts
-pub mod Texts

@@ -1,3 +1,0 @@
-pub mod EndLemmas
-mod Reasons
-mod Same

@@ -1,5 +1,0 @@
-use Rattle.script_play.proofs.Reasons.{every_reason_is_so}
-use Rattle.script_play.proofs.laws.every_reason_is_so.Goals as goal
-
-pub returns : goal.returns
-returns c w profile text step read undone = every_reason_is_so w profile text step read undone

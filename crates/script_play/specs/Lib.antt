@@ -1,3 +1,0 @@
-pub mod PlayText
-pub mod Explaining
-pub mod Reasons

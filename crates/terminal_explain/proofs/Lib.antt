@@ -1,2 +1,0 @@
-mod Reasons
-mod Same

@@ -1,5 +1,0 @@
-use Rattle.terminal_explain.proofs.Reasons.{every_fault_is_told}
-use Rattle.terminal_explain.proofs.laws.every_fault_is_told.Goals as goal
-
-pub returns : goal.returns
-returns c = every_fault_is_told

@@ -1,3 +1,0 @@
-pub mod Explaining
-pub mod One
-pub mod Reasons

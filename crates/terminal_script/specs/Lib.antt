@@ -1,4 +1,0 @@
-pub mod Timers
-pub mod Units
-pub mod Heads
-pub mod Lines

@@ -1,0 +1,7 @@
+mod FirstLineLemmas
+mod ItemLemmas
+pub mod FigureLemmas
+pub mod Pieces
+pub mod ReadingLemmas
+pub mod Sealed
+pub mod WordLemmas

@@ -1,0 +1,13 @@
+pub mod Asking
+pub mod Impossible
+pub mod Moves
+pub mod Named
+pub mod Opened
+pub mod Opening
+pub mod Places
+pub mod Showing
+pub mod Texts
+pub mod TerminalTexts
+pub mod Timers
+pub mod Units
+pub mod Words

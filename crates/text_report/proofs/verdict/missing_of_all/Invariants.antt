@@ -1,6 +1,0 @@
-use Rattle.std.proofs.Common.{map}
-use Rattle.text_report.specs.Verdict.{AllOfSet}
-use Rattle.text_report.proofs.verdict.missing_of_all.Given as goal
-
-abbrev pub invariant-loop-stream : goal.invariant-loop-stream
-invariant-loop-stream l = AllOfSet l.stream l.traffic.messages (map (λ body. body.items) l.taken)

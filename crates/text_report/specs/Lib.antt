@@ -1,5 +1,0 @@
-pub mod Absences
-pub mod Causes
-pub mod Figures
-pub mod ReportText
-pub mod Verdict

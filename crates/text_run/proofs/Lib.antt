@@ -1,5 +1,0 @@
-pub mod Each
-pub mod Ends
-pub mod Failing
-pub mod Left
-pub mod Placing

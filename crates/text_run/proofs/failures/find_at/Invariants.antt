@@ -1,6 +1,0 @@
-use Rattle.std.proofs.Common.{◌≡◌, drop}
-use Rattle.text_run.specs.Failures.{failure_from}
-use Rattle.text_run.proofs.failures.find_at.Given as goal
-
-abbrev pub invariant-loop-set : goal.invariant-loop-set
-invariant-loop-set l = (failure_from l.end 0 l.sets ≡ failure_from l.end l.number (drop l.set-index l.sets)) × (l.number ≡ l.set-index)

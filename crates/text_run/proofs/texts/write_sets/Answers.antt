@@ -1,7 +1,0 @@
-use Rattle.std.proofs.Common.{drop}
-use Rattle.text_run.proofs.Left.{no_sets, whole}
-use Rattle.text_run.proofs.texts.write_sets.Goals as goal
-
--- src/texts.rt
-pub returns-in_default : goal.returns-in_default
-returns-in_default c = whole _ _ _ c.loop-a.invariant.0 (no_sets c.loop-a.set (drop c.loop-a.a-index c.args.near.now) c.loop-a.left.now c.in_default.len_below)
