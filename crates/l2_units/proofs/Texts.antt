@@ -12,7 +12,7 @@ use Rattle.l2_units.specs.declared.unit.Unit.{Unit as SignalUnit}
 use Rattle.l2_units.specs.declared.unit.Unit.TheVariants.{Fisu, Lssu, Msu}
 use Rattle.l2_units.specs.declared.reading.UnitFault.{UnitFault}
 use Rattle.l2_units.specs.Profile.{Profile, Narrow, Wide, longest_body}
-use Rattle.l2_units.specs.Grammar.{StandsFor, IsHeadOf, IsBodyOf, header_text, sequence_octet, wide_number, four_octets, octets_with, length_indicator, status_of, unit_of, unit_if, unit_with, header_in, wide_header, head_of}
+use Rattle.l2_units.specs.Grammar.{StandsFor, IsHeadOf, IsBodyOf, header_text, sequence_octet, wide_number, four_octets, octets_with, length_indicator, status_of, unit_of, unit_if, unit_with, header_in, wide_form, wide_header, head_of}
 
 -- a header of these fields
 header : (bsn : ℕ) → bsn < 2 ^ 12 → Bool → (fsn : ℕ) → fsn < 2 ^ 12 → Bool → Header
@@ -64,11 +64,11 @@ header_again h is =
     same_header (header_in (sequence_octet h.bsn h.bib) (sequence_octet h.fsn h.fib)) h
     (number_in h.bsn h.bib is.0) (indicator_in h.bsn h.bib is.0) (number_in h.fsn h.fib is.1) (indicator_in h.fsn h.fib is.1)
 
--- WIDE: the header of 32 bits
+-- WIDE: the header and the form of 32 bits
 
-module _ (bsn fsn li : ℕ) (low : bsn < 4096) (low' : fsn < 4096) (few : li < 64) where
+module _ (bsn fsn form : ℕ) (low : bsn < 4096) (low' : fsn < 4096) (few : form < 64) where
   abbrev pub number : Bool → Bool → ℕ
-  number bib fib = bsn + (if bib then 0x1000 else 0) + 0x2000 * fsn + (if fib then 0x2000000 else 0) + 0x4000000 * li
+  number bib fib = bsn + (if bib then 0x1000 else 0) + 0x2000 * fsn + (if fib then 0x2000000 else 0) + 0x4000000 * form
 
   bsn_is : (bib fib : Bool) → number bib fib % 4096 ≡ bsn
   bsn_is true true = omega arith
@@ -82,11 +82,11 @@ module _ (bsn fsn li : ℕ) (low : bsn < 4096) (low' : fsn < 4096) (few : li < 6
   fsn_is false true = omega arith
   fsn_is false false = omega arith
 
-  li_is : (bib fib : Bool) → number bib fib / 0x4000000 ≡ li
-  li_is true true = omega arith
-  li_is true false = omega arith
-  li_is false true = omega arith
-  li_is false false = omega arith
+  form_is : (bib fib : Bool) → number bib fib / 0x4000000 ≡ form
+  form_is true true = omega arith
+  form_is true false = omega arith
+  form_is false true = omega arith
+  form_is false false = omega arith
 
   small : (bib fib : Bool) → number bib fib < 0x100000000
   small true true = omega arith
@@ -106,11 +106,20 @@ module _ (bsn fsn li : ℕ) (low : bsn < 4096) (low' : fsn < 4096) (few : li < 6
   fib_is false true = let e : number false true / 0x2000000 % 2 ≡ 1 = omega arith in rw e refl
   fib_is false false = let e : number false false / 0x2000000 % 2 ≡ 0 = omega arith in rw e refl
 
-wide_again : (h : Header) (li : ℕ) → li < 64 → wide_header (wide_number h li) ≡ h
-wide_again h li few =
-    same_header (wide_header (wide_number h li)) h
-    (bsn_is h.bsn h.fsn li h.bsn_in_range h.fsn_in_range few h.bib h.fib) (bib_is h.bsn h.fsn li h.bsn_in_range h.fsn_in_range few h.bib h.fib)
-    (fsn_is h.bsn h.fsn li h.bsn_in_range h.fsn_in_range few h.bib h.fib) (fib_is h.bsn h.fsn li h.bsn_in_range h.fsn_in_range few h.bib h.fib)
+module _ (h : Header) (form : ℕ) (few : form < 64) where
+  pub wide_again : wide_header (wide_number h form) ≡ h
+  wide_again =
+      same_header (wide_header (wide_number h form)) h
+      (bsn_is h.bsn h.fsn form h.bsn_in_range h.fsn_in_range few h.bib h.fib)
+      (bib_is h.bsn h.fsn form h.bsn_in_range h.fsn_in_range few h.bib h.fib)
+      (fsn_is h.bsn h.fsn form h.bsn_in_range h.fsn_in_range few h.bib h.fib)
+      (fib_is h.bsn h.fsn form h.bsn_in_range h.fsn_in_range few h.bib h.fib)
+
+  pub form_again : wide_form (wide_number h form) ≡ form
+  form_again = form_is h.bsn h.fsn form h.bsn_in_range h.fsn_in_range few h.bib h.fib
+
+  pub wide_small : wide_number h form < 2 ^ 32
+  wide_small = small h.bsn h.fsn form h.bsn_in_range h.fsn_in_range few h.bib h.fib
 
 -- 32 bits in four octets, and back
 in_four : (a b c d : ℕ) → a < 256 → b < 256 → c < 256 → d < 256 → four_octets (a + 0x100 * b + 0x10000 * c + 0x1000000 * d) ≡ a ∷ b ∷ c ∷ d ∷ []
@@ -219,10 +228,10 @@ wide_is unit body is short =
     let h = head_of unit in
     let n = wide_number h (length_indicator body) in
     let few = li_small body in
-    let again = of_four n (small h.bsn h.fsn (length_indicator body) h.bsn_in_range h.fsn_in_range few h.bib h.fib) in
-    ap (λ (m : ℕ). unit_if Wide (m / 0x4000000) (wide_header m) body) again
-    ∙ ap (λ (k : Header). unit_if Wide (n / 0x4000000) k body) (wide_again h (length_indicator body) few)
-    ∙ found_behind Wide (n / 0x4000000) h body short (li_is h.bsn h.fsn (length_indicator body) h.bsn_in_range h.fsn_in_range few h.bib h.fib)
+    let again = of_four n (wide_small h (length_indicator body) few) in
+    ap (λ (m : ℕ). unit_if Wide (wide_form m) (wide_header m) body) again
+    ∙ ap (λ (k : Header). unit_if Wide (wide_form n) k body) (wide_again h (length_indicator body) few)
+    ∙ found_behind Wide (wide_form n) h body short (form_again h (length_indicator body) few)
     ∙ ap Some (body_read unit body is)
 
 pub stands_is : (profile : Profile) (octets : List ℕ) (unit : SignalUnit) → StandsFor profile octets unit → unit_of profile octets ≡ Some unit
@@ -258,7 +267,7 @@ wide_stands : (a b c d : ℕ) (body : List ℕ) (unit : SignalUnit) → a < 256 
 wide_stands a b c d body unit p q r s e =
     let n = a + 0x100 * b + 0x10000 * c + 0x1000000 * d in
     let h = wide_header n in
-    let k = behind Wide (n / 0x4000000) h body unit e in
+    let k = behind Wide (wide_form n) h body unit e in
     let head : head_of unit ≡ h = ap head_of (sym k.is) ∙ has_head h body in
     let number : wide_number h (length_indicator body) ≡ n = ap (wide_number h) (sym k.says) ∙ whole_by n (n / 0x1000 % 2 == 1) (n / 0x2000000 % 2 == 1) refl refl in record {
       spare = 0;

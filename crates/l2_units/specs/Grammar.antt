@@ -16,11 +16,12 @@ sequence_octet number indicator = number + (if indicator then 128 else 0)
 abbrev pub header_text : Header → List ℕ
 header_text head = sequence_octet head.bsn head.bib ∷ sequence_octet head.fsn head.fib ∷ []
 
--- WIDE (own): BSN in 12 bits, BIB, FSN in 12 bits, FIB, and the length indicator in 6, least significant first
+-- WIDE (own): BSN in 12 bits, BIB, FSN in 12 bits, FIB, and a form in 6, least significant first; on the line the form is
+-- the length indicator
 abbrev pub wide_number : Header → ℕ → ℕ
-wide_number head indicator =
+wide_number head form =
     head.bsn + (if head.bib then 0x1000 else 0) + 0x2000 * head.fsn + (if head.fib then 0x2000000 else 0)
-    + 0x4000000 * indicator
+    + 0x4000000 * form
 
 -- a number of 32 bits in four octets, least significant first
 abbrev pub four_octets : ℕ → List ℕ
@@ -117,6 +118,10 @@ wide_header n = record {
   fsn_in_range = low_12 (n / 0x2000);
 }
 
+-- the form above it
+abbrev pub wide_form : ℕ → ℕ
+wide_form n = n / 0x4000000
+
 -- the status of three bits
 abbrev pub status_of : ℕ → Status
 status_of n =
@@ -149,7 +154,7 @@ narrow_unit [] = None
 
 abbrev pub wide_unit : List ℕ → Option SignalUnit
 wide_unit (a ∷ b ∷ c ∷ d ∷ body) =
-    let n = a + 0x100 * b + 0x10000 * c + 0x1000000 * d in unit_if Wide (n / 0x4000000) (wide_header n) body
+    let n = a + 0x100 * b + 0x10000 * c + 0x1000000 * d in unit_if Wide (wide_form n) (wide_header n) body
 wide_unit (a ∷ b ∷ c ∷ []) = None
 wide_unit (a ∷ b ∷ []) = None
 wide_unit (a ∷ []) = None

@@ -7,7 +7,8 @@ ghost use Rattle.l2_units.specs.Lent.{body_in, unit_in};
 use super::lent::UnitRef;
 use super::profile::Profile;
 use super::unit::Header;
-use super::writing::{sequence_octet, word_of};
+use super::wide::wide_word;
+use super::writing::sequence_octet;
 use arrayvec::ArrayVec;
 
 /// The octets of a unit in this profile but for a message's body, at most 5: its header, the length indicator, and the status
@@ -44,7 +45,7 @@ fn with_size(profile: Profile, head: &Header, size: usize) -> ArrayVec<u8, 5>
             octets.push(indicator as u8);
         }
         Profile::Wide => {
-            let [first, second, third, fourth] = word_of(*head, indicator as u32).to_le_bytes();
+            let [first, second, third, fourth] = wide_word(*head, indicator as u32).to_le_bytes();
             octets.push(first);
             octets.push(second);
             octets.push(third);

@@ -21,7 +21,8 @@
 //! | | | | alignment not possible | 8 |
 //! | | | | stopped | 9 |
 //!
-//! A [`UnitRef`] is a unit whose body stays where it stands.
+//! A [`UnitRef`] is a unit whose body stays where it stands. The header of the wide profile, in 32 bits, has its codec by
+//! itself: [`wide_word`], [`wide_header_of`] and [`wide_form_of`].
 //!
 //! This crate never looks at flags, inserted zeros or check bits, never acts on what a unit says,
 //! and takes no memory.
@@ -46,6 +47,7 @@ mod reading;
 mod status;
 mod timer;
 mod unit;
+mod wide;
 mod writing;
 
 pub use cause::{Cause, ControlFault};
@@ -57,4 +59,5 @@ pub use reading::{UnitFault, body_of, parts_of, read, read_ref, read_wide};
 pub use status::Status;
 pub use timer::TimerOrder;
 pub use unit::{Header, LONGEST_BODY, LONGEST_UNIT, SHORTEST_BODY, Unit};
+pub use wide::{wide_form_of, wide_header_of, wide_word};
 pub use writing::{write, write_ref, write_wide};

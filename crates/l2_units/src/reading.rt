@@ -4,13 +4,14 @@ ghost use Rattle.std.specs.Option.{option_map};
 ghost use Rattle.std.specs.Result.{result_ok};
 ghost use Rattle.l2_units.specs.Profile.{Narrow, Wide};
 ghost use Rattle.l2_units.specs.declared.unit.Unit.{Unit as SignalUnit};
-ghost use Rattle.l2_units.specs.Grammar.{StandsFor, IsHeadOf, IsBodyOf, head_of, header_in, wide_header, unit_of, unit_with};
+ghost use Rattle.l2_units.specs.Grammar.{StandsFor, IsHeadOf, IsBodyOf, head_of, header_in, unit_of, unit_with};
 ghost use Rattle.l2_units.specs.Fault.{number_of};
 ghost use Rattle.l2_units.specs.Lent.{body_in, unit_in};
 
 use super::lent::UnitRef;
 use super::status::Status;
 use super::unit::{Header, LONGEST_BODY, Unit};
+use super::wide::{wide_form_of, wide_header_of};
 use arrayvec::ArrayVec;
 use thiserror::Error;
 
@@ -83,7 +84,7 @@ pub fn read_wide(octets: &[u8]) -> Result<Unit, UnitFault>
         return Err(UnitFault::Long);
     }
     let whole = word_of(*a, *b, *c, *d);
-    if (whole / 0x400_0000) as usize != rest.len().min(63) {
+    if usize::from(wide_form_of(whole)) != rest.len().min(63) {
         return Err(UnitFault::Length);
     }
     Ok(with_field(wide_header_of(whole), rest))
@@ -157,18 +158,6 @@ fn header_of(backward: u8, forward: u8) -> Header
         bib: backward >= 128,
         fsn: u16::from(forward % 128),
         fib: forward >= 128,
-    }
-}
-
-/// The header of the 32 bits: the number in the low twelve bits, the indicator above it, and both again.
-fn wide_header_of(whole: u32) -> Header
-    ensures { result ≡ wide_header whole }
-{
-    Header {
-        bsn: (whole % 4096) as u16,
-        bib: whole / 0x1000 % 2 == 1,
-        fsn: (whole / 0x2000 % 4096) as u16,
-        fib: whole / 0x200_0000 % 2 == 1,
     }
 }
 

@@ -2,10 +2,11 @@
 ghost use Rattle.std.specs.Prelude.{◌≡◌, ◌+◌, ◌*◌, ◌≤◌, ◌<◌, ◌^◌, ◌++◌, if◌then◌else◌, length};
 ghost use Rattle.l2_units.specs.Profile.{Narrow, Wide};
 ghost use Rattle.l2_units.specs.Lent.{body_in, unit_in};
-ghost use Rattle.l2_units.specs.Grammar.{IsHeadOf, head_of, body_of, text, octets_with, wide_number, four_octets, sequence_octet as octet_of};
+ghost use Rattle.l2_units.specs.Grammar.{IsHeadOf, head_of, body_of, text, octets_with, sequence_octet as octet_of};
 
 use super::lent::UnitRef;
 use super::unit::{Header, LONGEST_UNIT, Unit};
+use super::wide::wide_word;
 use arrayvec::ArrayVec;
 
 /// The octets of a unit, without check octets: its one text with spare bits 0. An LSSU is sent
@@ -71,7 +72,7 @@ fn with_wide_body(head: &Header, body: &[u8]) -> ArrayVec<u8, LONGEST_UNIT>
     ensures { result.items ≡ octets_with Wide 0 head.now body.now }
 {
     let mut octets = ArrayVec::new();
-    match octets.try_extend_from_slice(&word_of(*head, body.len().min(63) as u32).to_le_bytes()) {
+    match octets.try_extend_from_slice(&wide_word(*head, body.len().min(63) as u32).to_le_bytes()) {
         Ok(()) => {}
         Err(_) => unreachable!(),
     }
@@ -79,16 +80,6 @@ fn with_wide_body(head: &Header, body: &[u8]) -> ArrayVec<u8, LONGEST_UNIT>
         Ok(()) => octets,
         Err(_) => unreachable!(),
     }
-}
-
-/// A header and a length indicator in 32 bits.
-pub(crate) fn word_of(head: Header, indicator: u32) -> u32
-    requires { indicator < 64 }
-    ensures { result ≡ wide_number head indicator }
-{
-    let bib = if head.bib { 0x1000 } else { 0 };
-    let fib = if head.fib { 0x200_0000 } else { 0 };
-    u32::from(head.bsn) + bib + 0x2000 * u32::from(head.fsn) + fib + 0x400_0000 * indicator
 }
 
 /// A sequence number with its indicator bit above it.

@@ -1,12 +1,9 @@
--- The numbers of fates, reports and refusals tell them, and a unit's 32 bits its header and form: by cases, and by
--- arithmetic on where each part stands in the number.
+-- The numbers of fates, reports and refusals tell them: by cases, and by arithmetic on where each part stands in the
+-- number.
 use Rattle.std.proofs.Common.{arith, refl, ap, ◌≡◌, ◌∙◌, ◌<◌, ◌^◌, ◌+◌, ◌*◌, ◌/◌, ◌%◌, ◌==◌, ℕ, Bool, true, false, Option, Some, None}
 use Rattle.std.specs.Prelude.{if◌then◌else◌}
-use Rattle.l2_units.proofs.Texts.{same_header}
-use Rattle.l2_units.specs.Grammar.{wide_header, wide_number, head_of}
 use Rattle.l2_units.specs.declared.cause.ControlFault.{ControlFault}
 use Rattle.l2_units.specs.declared.status.Status.{Status}
-use Rattle.l2_units.specs.declared.unit.Header.{Header}
 use Rattle.l2_units.specs.declared.unit.Unit.{Unit as SignalUnit}
 use Rattle.l2_units.specs.declared.unit.Unit.TheVariants.{Fisu, Lssu, Msu}
 use Rattle.l2_units.specs.Numbers.{status_number}
@@ -144,47 +141,7 @@ refusal_back Refusal.Nothing = refl
 refusal_back Refusal.NoSuchLink = refl
 refusal_back Refusal.Finished = refl
 
--- a unit's header and form in 32 bits
-module _ (bsn fsn form : ℕ) (low : bsn < 4096) (low' : fsn < 4096) (few : form < 64) where
-  abbrev pub number : Bool → Bool → ℕ
-  number bib fib = bsn + (if bib then 0x1000 else 0) + 0x2000 * fsn + (if fib then 0x2000000 else 0) + 0x4000000 * form
-
-  bsn_is : (bib fib : Bool) → number bib fib % 4096 ≡ bsn
-  bsn_is true true = omega arith
-  bsn_is true false = omega arith
-  bsn_is false true = omega arith
-  bsn_is false false = omega arith
-
-  fsn_is : (bib fib : Bool) → number bib fib / 0x2000 % 4096 ≡ fsn
-  fsn_is true true = omega arith
-  fsn_is true false = omega arith
-  fsn_is false true = omega arith
-  fsn_is false false = omega arith
-
-  form_is : (bib fib : Bool) → number bib fib / 0x4000000 ≡ form
-  form_is true true = omega arith
-  form_is true false = omega arith
-  form_is false true = omega arith
-  form_is false false = omega arith
-
-  small : (bib fib : Bool) → number bib fib < 2 ^ 32
-  small true true = omega arith
-  small true false = omega arith
-  small false true = omega arith
-  small false false = omega arith
-
-  bib_is : (bib fib : Bool) → (number bib fib / 0x1000 % 2 == 1) ≡ bib
-  bib_is true true = let e : number true true / 0x1000 % 2 ≡ 1 = omega arith in rw e refl
-  bib_is true false = let e : number true false / 0x1000 % 2 ≡ 1 = omega arith in rw e refl
-  bib_is false true = let e : number false true / 0x1000 % 2 ≡ 0 = omega arith in rw e refl
-  bib_is false false = let e : number false false / 0x1000 % 2 ≡ 0 = omega arith in rw e refl
-
-  fib_is : (bib fib : Bool) → (number bib fib / 0x2000000 % 2 == 1) ≡ fib
-  fib_is true true = let e : number true true / 0x2000000 % 2 ≡ 1 = omega arith in rw e refl
-  fib_is true false = let e : number true false / 0x2000000 % 2 ≡ 0 = omega arith in rw e refl
-  fib_is false true = let e : number false true / 0x2000000 % 2 ≡ 1 = omega arith in rw e refl
-  fib_is false false = let e : number false false / 0x2000000 % 2 ≡ 0 = omega arith in rw e refl
-
+-- a unit's form
 status_small : (status : Status) → status_number status < 8
 status_small Status.OutOfAlignment = omega arith
 status_small Status.Normal = omega arith
@@ -195,24 +152,7 @@ status_small Status.Busy = omega arith
 status_small Status.Unassigned6 = omega arith
 status_small Status.Unassigned7 = omega arith
 
-form_small : (unit : SignalUnit) → unit_form unit < 64
+pub form_small : (unit : SignalUnit) → unit_form unit < 64
 form_small (Fisu head) = omega arith
 form_small (Msu head body) = omega arith
 form_small (Lssu head status) = omega (arith, status_small status)
-
-module _ (unit : SignalUnit) where
-  abbrev head : Header
-  head = head_of unit
-
-  pub word_small : wide_number head (unit_form unit) < 2 ^ 32
-  word_small = small head.bsn head.fsn (unit_form unit) head.bsn_in_range head.fsn_in_range (form_small unit) head.bib head.fib
-
-  pub word_form : wide_number head (unit_form unit) / 0x4000000 ≡ unit_form unit
-  word_form = form_is head.bsn head.fsn (unit_form unit) head.bsn_in_range head.fsn_in_range (form_small unit) head.bib head.fib
-
-  pub word_head : wide_header (wide_number head (unit_form unit)) ≡ head
-  word_head = same_header (wide_header (wide_number head (unit_form unit))) head
-      (bsn_is head.bsn head.fsn (unit_form unit) head.bsn_in_range head.fsn_in_range (form_small unit) head.bib head.fib)
-      (bib_is head.bsn head.fsn (unit_form unit) head.bsn_in_range head.fsn_in_range (form_small unit) head.bib head.fib)
-      (fsn_is head.bsn head.fsn (unit_form unit) head.bsn_in_range head.fsn_in_range (form_small unit) head.bib head.fib)
-      (fib_is head.bsn head.fsn (unit_form unit) head.bsn_in_range head.fsn_in_range (form_small unit) head.bib head.fib)

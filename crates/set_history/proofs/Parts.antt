@@ -5,7 +5,8 @@ use Rattle.std.specs.Int.{w32, from_le_bytes}
 use Rattle.std.proofs.lemmas.List.{drop_at, append_assoc}
 use Rattle.std.proofs.lemmas.Nat.{from_le_bytes-to_le_bytes_4}
 use Rattle.std.proofs.lemmas.Bool.Decides.{nat_tests}
-use Rattle.l2_units.specs.Grammar.{wide_header, wide_number, head_of}
+use Rattle.l2_units.proofs.Texts.{wide_again, form_again, wide_small}
+use Rattle.l2_units.specs.Grammar.{wide_form, wide_header, wide_number, head_of}
 use Rattle.l2_units.specs.declared.status.Status.{Status}
 use Rattle.l2_units.specs.declared.unit.Header.{Header}
 use Rattle.l2_units.specs.declared.unit.Unit.{Unit as SignalUnit}
@@ -22,7 +23,7 @@ use Rattle.set_events.specs.declared.history.Entry.{Entry}
 use Rattle.set_history.specs.Forms.{event_form, answer_form, actor_form, form_octet, unit_form, fate_number, fate_told, report_number, report_told}
 use Rattle.set_history.specs.Told.{word, unit_as, behind_unit_as, unit, behind_unit, who_at, behind_who_at, event_told, behind_event, answer_told, behind_answer, entry_as, behind_entry_as, entry_told, behind_entry}
 use Rattle.set_history.specs.Written.{head_text, content_text, unit_text, who_text, event_text, answer_text, entry_text, HasKeptBody, IsActorKept, IsEventKept, IsAnswerKept, IsKept}
-use Rattle.set_history.proofs.Codes.{fate_back, fate_small, report_back, report_small, refusal_back, word_small, word_form, word_head}
+use Rattle.set_history.proofs.Codes.{fate_back, fate_small, report_back, report_small, refusal_back, form_small}
 use Rattle.set_history.proofs.Numbers.{chunk_back, number_back, body_back, behind_body_back}
 
 -- a unit, by its form and header
@@ -57,7 +58,10 @@ module _ (u : SignalUnit) (rest : List ℕ) (kept : HasKeptBody u) where
   word_back : word (head_text u ++ (content_text u ++ rest)) ≡ wide_number (head_of u) (unit_form u)
   word_back =
       ap (from_le_bytes w32) (chunk_back (head_text u) (content_text u ++ rest) 4 refl)
-      ∙ from_le_bytes-to_le_bytes_4 (wide_number (head_of u) (unit_form u)) (word_small u)
+      ∙ from_le_bytes-to_le_bytes_4 (wide_number (head_of u) (unit_form u)) (wide_small (head_of u) (unit_form u) (form_small u))
+
+  form_back : wide_form (wide_number (head_of u) (unit_form u)) ≡ unit_form u
+  form_back = form_again (head_of u) (unit_form u) (form_small u)
 
   content_back : drop 4 (head_text u ++ (content_text u ++ rest)) ≡ content_text u ++ rest
   content_back = drop_at (head_text u) (content_text u ++ rest) 4 refl
@@ -65,17 +69,17 @@ module _ (u : SignalUnit) (rest : List ℕ) (kept : HasKeptBody u) where
   pub unit_back : unit (unit_text u ++ rest) ≡ u
   unit_back =
       ap unit together
-      ∙ ap (λ (n : ℕ). unit_as (n / 0x4000000) (wide_header n) (drop 4 (head_text u ++ (content_text u ++ rest)))) word_back
-      ∙ ap (λ (n : ℕ). unit_as n (wide_header (wide_number (head_of u) (unit_form u))) (drop 4 (head_text u ++ (content_text u ++ rest)))) (word_form u)
-      ∙ ap (λ (h : Header). unit_as (unit_form u) h (drop 4 (head_text u ++ (content_text u ++ rest)))) (word_head u)
+      ∙ ap (λ (n : ℕ). unit_as (wide_form n) (wide_header n) (drop 4 (head_text u ++ (content_text u ++ rest)))) word_back
+      ∙ ap (λ (n : ℕ). unit_as n (wide_header (wide_number (head_of u) (unit_form u))) (drop 4 (head_text u ++ (content_text u ++ rest)))) form_back
+      ∙ ap (λ (h : Header). unit_as (unit_form u) h (drop 4 (head_text u ++ (content_text u ++ rest)))) (wide_again (head_of u) (unit_form u) (form_small u))
       ∙ ap (λ (xs : List ℕ). unit_as (unit_form u) (head_of u) xs) content_back
       ∙ as_back u rest kept
 
   pub behind_unit_back : behind_unit (unit_text u ++ rest) ≡ rest
   behind_unit_back =
       ap behind_unit together
-      ∙ ap (λ (n : ℕ). behind_unit_as (n / 0x4000000) (drop 4 (head_text u ++ (content_text u ++ rest)))) word_back
-      ∙ ap (λ (n : ℕ). behind_unit_as n (drop 4 (head_text u ++ (content_text u ++ rest)))) (word_form u)
+      ∙ ap (λ (n : ℕ). behind_unit_as (wide_form n) (drop 4 (head_text u ++ (content_text u ++ rest)))) word_back
+      ∙ ap (λ (n : ℕ). behind_unit_as n (drop 4 (head_text u ++ (content_text u ++ rest)))) form_back
       ∙ ap (λ (xs : List ℕ). behind_unit_as (unit_form u) xs) content_back
       ∙ behind_as_back u rest kept
 

@@ -1,7 +1,7 @@
 -- WHAT OCTETS TELL: an entry, whichever they are. Each reading has a second one beside it, of the octets behind.
 use Rattle.std.specs.Prelude.{Bool, true, false, ◌≡◌, ◌≤◌, ◌+◌, ◌/◌, ◌%◌, ◌^◌, ◌==◌, ℕ, zero, suc, List, [], ◌∷◌, length, take, drop, replicate, min, nat_le, nat_lt, if◌then◌else◌}
 use Rattle.std.specs.Int.{w16, w32, w64, from_le_bytes}
-use Rattle.l2_units.specs.Grammar.{wide_header, status_of}
+use Rattle.l2_units.specs.Grammar.{wide_form, wide_header, status_of}
 use Rattle.l2_units.specs.declared.unit.Header.{Header}
 use Rattle.l2_units.specs.declared.unit.Unit.{Unit as SignalUnit}
 use Rattle.l2_units.specs.declared.unit.Unit.TheVariants.{Fisu, Lssu, Msu}
@@ -63,10 +63,10 @@ abbrev pub word : List ℕ → ℕ
 word octets = from_le_bytes w32 (chunk 4 octets)
 
 abbrev pub unit : List ℕ → SignalUnit
-unit octets = unit_as (word octets / 0x4000000) (wide_header (word octets)) (drop 4 octets)
+unit octets = unit_as (wide_form (word octets)) (wide_header (word octets)) (drop 4 octets)
 
 abbrev pub behind_unit : List ℕ → List ℕ
-behind_unit octets = behind_unit_as (word octets / 0x4000000) (drop 4 octets)
+behind_unit octets = behind_unit_as (wide_form (word octets)) (drop 4 octets)
 
 -- who asked: a terminal, or a user
 abbrev pub who_at : Bool → List ℕ → Actor

@@ -1,10 +1,7 @@
 //! Octets to an entry. Octets that no entry was written to are read, too, as some entry.
-ghost use Rattle.std.specs.Prelude.{◌≡◌};
-ghost use Rattle.l2_units.specs.Grammar.{wide_header};
-
 use super::entry_ref::EntryRef;
 use super::forms::{fate_of, refusal_of, report_of};
-use l2_units::{Header, LONGEST_BODY, Status, UnitRef};
+use l2_units::{LONGEST_BODY, Status, UnitRef, wide_form_of, wide_header_of};
 use set_events::{Actor, AnswerRef, EventRef};
 use std::marker::Model;
 
@@ -118,8 +115,8 @@ impl<'a> Octets<'a> {
         ensures few { length (unit_body result) ≤ 273 }
     {
         let word = u32::from_le_bytes(self.chunk());
-        let head = head_of(word);
-        match word / 0x400_0000 {
+        let head = wide_header_of(word);
+        match wide_form_of(word) {
             0 => UnitRef::Fisu { head },
             1 => UnitRef::Msu {
                 head,
@@ -127,7 +124,7 @@ impl<'a> Octets<'a> {
             },
             form => UnitRef::Lssu {
                 head,
-                status: Status::of(form as u8),
+                status: Status::of(form),
             },
         }
     }
@@ -212,17 +209,5 @@ impl<'a> Octets<'a> {
             }
             None => 0,
         }
-    }
-}
-
-/// The header in the low 26 bits.
-fn head_of(word: u32) -> Header
-    ensures { result ≡ wide_header word }
-{
-    Header {
-        bsn: (word % 4096) as u16,
-        bib: word / 0x1000 % 2 == 1,
-        fsn: (word / 0x2000 % 4096) as u16,
-        fib: word / 0x200_0000 % 2 == 1,
     }
 }

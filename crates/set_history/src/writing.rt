@@ -1,14 +1,13 @@
 //! An entry to octets.
 ghost use Rattle.std.specs.Prelude.{◌≡◌, ◌≤◌, ◌<◌, ◌^◌, ◌+◌, ◌++◌, length, vec_len, vec_capacity};
 ghost use Rattle.std.specs.Int.{w32, to_le_bytes};
-ghost use Rattle.l2_units.specs.Grammar.{wide_number};
 ghost use Rattle.l2_units.specs.Lent.{body_in as unit_body, unit_in};
 ghost use Rattle.set_events.specs.Lent.{HasFitUnit, answer_in, body_in, event_in, octets_in};
 ghost use Rattle.set_history.specs.Written.{number_text, large_text, body_text, who_text, unit_text, event_text};
 ghost use Rattle.set_history.specs.Written.{answer_text, entry_text, IsKept, IsActorKept, IsEventKept, IsAnswerKept};
 
 use super::forms::{answer_form, event_form, fate_number, report_number};
-use l2_units::{Header, UnitRef};
+use l2_units::{UnitRef, wide_word};
 use set_events::{Actor, AnswerRef, EventRef};
 use std::alloc::Allocator;
 
@@ -113,12 +112,12 @@ fn put_unit<A: Allocator>(octets: &mut Vec<u8, A>, unit: &UnitRef<'_>)
     ensures capacity { vec_capacity octets.old ≤ vec_capacity octets.new }
 {
     match unit {
-        UnitRef::Fisu { head } => put_word(octets, word_of(*head, 0)),
+        UnitRef::Fisu { head } => put_word(octets, wide_word(*head, 0)),
         UnitRef::Lssu { head, status } => {
-            put_word(octets, word_of(*head, 8 + u32::from(status.number())));
+            put_word(octets, wide_word(*head, 8 + u32::from(status.number())));
         }
         UnitRef::Msu { head, body } => {
-            put_word(octets, word_of(*head, 1));
+            put_word(octets, wide_word(*head, 1));
             put_body(octets, body);
         }
     }
@@ -137,16 +136,6 @@ fn put_word<A: Allocator>(octets: &mut Vec<u8, A>, word: u32)
     octets.push_reserved(b);
     octets.push_reserved(c);
     octets.push_reserved(d);
-}
-
-/// A header in 26 bits, and a unit's form above it.
-fn word_of(head: Header, form: u32) -> u32
-    requires { form < 64 }
-    ensures { result ≡ wide_number head form }
-{
-    let bib = if head.bib { 0x1000 } else { 0 };
-    let fib = if head.fib { 0x200_0000 } else { 0 };
-    u32::from(head.bsn) + bib + 0x2000 * u32::from(head.fsn) + fib + 0x400_0000 * form
 }
 
 /// How many octets a body has, and the body.
