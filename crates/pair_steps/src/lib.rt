@@ -11,7 +11,7 @@
 //! A unit joins a line at its end and leaves it from any place, and a line can be emptied; [`Line`] is one of them to
 //! read. No call touches the line of another link. Whether a unit that leaves was heard or lost is the caller's to know.
 //!
-//! This crate knows no set: it serves those who make steps (`script_grammar`) or print what they show (`script_answers`)
+//! This crate knows no set: it serves those who make steps (`text_forms`) or print what they show (`text_entries`)
 //! without the world itself; `pair_world` says what a step does.
 #![tactic(auto)]
 

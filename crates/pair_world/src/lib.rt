@@ -17,7 +17,7 @@
 //! place, and [`World::play_moves`] a list of them, and promises what holds all along a run, whichever end comes up
 //! first.
 //!
-//! This crate knows no script and no text (`script_grammar`, `script_play`), and decides nothing of its own: each
+//! This crate knows no script and no text (`script_walk`, `text_forms`), and decides nothing of its own: each
 //! end is a set (`set_core`). The step of the world, case by case, is `specs/World.antt` of `pair_model`, and the move
 //! `specs/Rises.antt` of `pair_rises`. The files: `world` the steps, `rising` the moves.
 #![tactic(auto)]

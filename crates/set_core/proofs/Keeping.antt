@@ -1,11 +1,10 @@
 -- WHAT A SET KEEPS, entry by entry (`IsKept`): its history is legal, what it keeps agrees with the state after it, its
 -- tally is that of the books, and the bounds hold. `kept_more` is of one entry more, with what the books gain
 -- (`gained`), `kept_new` of a new set, `kept_on` and `kept_by` of what goes on from a checkpoint; what an entry adds to
--- a history is an induction on its entries (`legal_more`, `after_more`). `Replayed` is the invariant of a replay: what
--- is left decides whether all is legal (`replay_more`, `reading_on`). It stands on Calls.antt, set_model's Staying.antt
--- and set_changeover's Shown.antt; src/set.rt, src/base.rt and src/auditing.rt use it.
-use Rattle.std.proofs.Common.{refl, arith, ◌≡◌, ◌∙◌, ap, sym, subst, take, drop, get_or, ◌<◌, ◌≤◌, ◌^◌, [], ◌∷◌, length, ℕ, ◌+◌, sum, List, ◌++◌, ◌↔◌, ◌*◌}
-use Rattle.std.proofs.lemmas.List.{length-append, length-replicate, drop_more, take_more}
+-- a history is an induction on its entries (`legal_more`, `after_more`). It stands on Calls.antt, set_model's
+-- Staying.antt and set_changeover's Shown.antt; Heard.antt, src/set.rt, src/base.rt and src/auditing.rt use it.
+use Rattle.std.proofs.Common.{refl, arith, ◌≡◌, ◌∙◌, ap, sym, subst, ◌<◌, ◌≤◌, ◌^◌, [], ◌∷◌, length, ℕ, ◌+◌, sum, List, ◌++◌, ◌*◌}
+use Rattle.std.proofs.lemmas.List.{length-append, length-replicate}
 use Rattle.std.proofs.lemmas.List.Elements.{filter-append}
 use Rattle.set_events.specs.declared.answer.Answer.{Answer}
 use Rattle.set_events.specs.declared.answer.Answer.TheVariants.{Accepted}
@@ -358,62 +357,3 @@ module _ (base : Base) (kept : Kept) (tally : Tally) (history : List Entry) (k :
 
       pub kept_by : IsKept (base_of order new tally) new tally []
       kept_by = subst (λ (b : Base). IsKept b new tally []) (sym shown_based) kept_based
-
--- A REPLAY. So many entries were replayed, and the rest is left: what is kept agrees with the state after them, and the
--- rest decides from there.
-pub record Replayed (opening : State) (entries : List Entry) (kept : Kept) (count : ℕ) (before rest : List Entry) : Type 0 where
-  pub agrees : Agrees kept (after opening before)
-  pub few : AreFew count (after opening before)
-  pub left : IsLegal (after opening before) rest ↔ IsLegal opening entries
-
-pub replay_none : (opening : State) (entries : List Entry) (kept : Kept) (count : ℕ) → Agrees kept opening → AreFew count opening → Replayed opening entries kept count [] entries
-replay_none opening entries kept count agrees few = record { agrees = agrees; few = few; left = (λ l. l, λ l. l) }
-
-module _ (opening : State) (entries : List Entry) (kept : Kept) (count : ℕ) (before rest : List Entry) (entry : Entry) (replayed : Replayed opening entries kept count before (entry ∷ rest)) where
-  -- an entry that is as the step has it
-  pub replay_more : (new : Kept) (answer : Answer) → AnswersFor (step (after opening before) entry.event) answer new → IsActor entry.who → answer ≡ entry.answer → Replayed opening entries new (count + 1) (before ++ entry ∷ []) rest
-  replay_more new answer answers actor same =
-      let state : after opening (before ++ entry ∷ []) ≡ (step (after opening before) entry.event).state = after_more opening before entry in
-      record {
-        agrees = rw state answers.agrees;
-        few = rw state (step_at_most (after opening before) entry.event (λ n. record { sent = count; accepted = count }) replayed.few);
-        left = (λ l. replayed.left.0 (actor, sym same ∙ answers.answer_is, rw (← state) l), λ l. rw state (replayed.left.1 l).2);
-      }
-
-  pub replay_actor : IsLegal opening entries → IsActor entry.who
-  replay_actor legal = (replayed.left.1 legal).0
-
-  pub replay_answer : (new : Kept) (answer : Answer) → AnswersFor (step (after opening before) entry.event) answer new → IsLegal opening entries → answer ≡ entry.answer
-  replay_answer new answer answers legal = answers.answer_is ∙ sym (replayed.left.1 legal).1
-
--- the next entry is the first that is left
-pub replay_next : (opening : State) (entries : List Entry) (kept : Kept) (count i : ℕ) (entry : Entry) → Replayed opening entries kept count (take i entries) (drop i entries) → i < length entries → entry ≡ get_or entries i entry → Replayed opening entries kept count (take i entries) (entry ∷ drop (i + 1) entries)
-replay_next opening entries kept count i entry replayed low is =
-    let split : drop i entries ≡ entry ∷ drop (i + 1) entries = drop_more entries i entry low ∙ ap (λ (e : Entry). e ∷ drop (i + 1) entries) (sym is) in
-    subst (λ rest. Replayed opening entries kept count (take i entries) rest) split replayed
-
-pub replay_taken : (opening : State) (entries : List Entry) (kept : Kept) (count i : ℕ) (entry : Entry) → i < length entries → entry ≡ get_or entries i entry → Replayed opening entries kept count (take i entries ++ entry ∷ []) (drop (i + 1) entries) → Replayed opening entries kept count (take (i + 1) entries) (drop (i + 1) entries)
-replay_taken opening entries kept count i entry low is replayed =
-    let grown : take i entries ++ entry ∷ [] ≡ take (i + 1) entries = ap (λ (e : Entry). take i entries ++ e ∷ []) is ∙ sym (take_more entries i entry low) in
-    subst (λ before. Replayed opening entries kept count before (drop (i + 1) entries)) grown replayed
-
-pub replay_count : (opening : State) (entries : List Entry) (kept : Kept) (count count' : ℕ) (before rest : List Entry) → count ≡ count' → Replayed opening entries kept count before rest → Replayed opening entries kept count' before rest
-replay_count opening entries kept count count' before rest e r = subst (λ (n : ℕ). Replayed opening entries kept n before rest) e r
-
--- the same of entries that are read one after another, where so many were made before: some were replayed, and these
--- are left
-abbrev pub Replaying : State → List Entry → Kept → ℕ → List Entry → Type 0
-Replaying opening entries kept first left = (before : List Entry) × Replayed opening entries kept (first + length before) before left × (length before + length left ≡ length entries)
-
-module _ (opening : State) (entries : List Entry) (kept : Kept) (first : ℕ) (left rest : List Entry) (entry : Entry) (replaying : Replaying opening entries kept first left) (split : left ≡ entry ∷ rest) where
-  pub reading_now : Replayed opening entries kept (first + length replaying.0) replaying.0 (entry ∷ rest)
-  reading_now = subst (λ left. Replayed opening entries kept (first + length replaying.0) replaying.0 left) split replaying.1
-
-  pub reading_on : (new : Kept) (answer : Answer) → AnswersFor (step (after opening replaying.0) entry.event) answer new → IsActor entry.who → answer ≡ entry.answer → Replaying opening entries new first rest
-  reading_on new answer answers actor same =
-      let before = replaying.0 in
-      let long : length (before ++ entry ∷ []) ≡ length before + 1 = length-append before (entry ∷ []) in (
-        before ++ entry ∷ [],
-        replay_count opening entries new (first + length before + 1) (first + length (before ++ entry ∷ [])) (before ++ entry ∷ []) rest (omega (arith, long)) (replay_more opening entries kept (first + length before) before rest entry reading_now new answer answers actor same),
-        omega (arith, long, replaying.2, ap length split),
-      )
