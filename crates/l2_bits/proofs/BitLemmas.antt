@@ -41,13 +41,13 @@ bits_of-add (suc j) k n =
     let halves : n / 2 / 2 ^ j ≡ n / 2 ^ suc j = shr-shr n 1 j ∙ ap (λ (i : ℕ). n / 2 ^ i) place in
     rw (sum, bits_of-add j k (n / 2), halves) refl
 
--- the bits of an octet from a place on: the one that the code reads there, and the others
-pub bits_of_place : (octet place : ℕ) → place < 8
-    → bits_of (8 - place) (octet / 2 ^ place)
-    ≡ (bit_and (octet / 2 ^ place) 1 == 1) ∷ bits_of (8 - (place + 1)) (octet / 2 ^ (place + 1))
+-- the bits of a number from a place on: the one that the code reads there, and the others
+pub bits_of_place : (count octet place : ℕ) → place < count
+    → bits_of (count - place) (octet / 2 ^ place)
+    ≡ (bit_and (octet / 2 ^ place) 1 == 1) ∷ bits_of (count - (place + 1)) (octet / 2 ^ (place + 1))
 unfolding bits_of
-bits_of_place octet place within =
-    let left : 8 - place ≡ suc (8 - (place + 1)) = omega arith in
+bits_of_place count octet place within =
+    let left : count - place ≡ suc (count - (place + 1)) = omega arith in
     let lowest : bit_and (octet / 2 ^ place) 1 ≡ octet / 2 ^ place % 2 = and_mask (octet / 2 ^ place) 1 in
     rw (left, lowest, ← shr-shr octet place 1) refl
 

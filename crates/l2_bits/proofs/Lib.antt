@@ -17,3 +17,6 @@ pub mod TwoMarkLemmas
 pub mod DeframingLemmas
 pub mod WindowLemmas
 pub mod FeedingLemmas
+pub mod TextTableLemmas
+pub mod PuttingLemmas
+pub mod LeavingLemmas

@@ -30,7 +30,7 @@ joined_bits more count part bits fits =
     (sym (bits_of_mod more (bits * 2 ^ more + part)) ∙ ap (bits_of more) low)
     ∙ ap (λ (n : ℕ). bits_of more part ++ bits_of count n) high
 
-joined_fits : (more count part bits : ℕ) → part < 2 ^ more → bits < 2 ^ count → bits * 2 ^ more + part < 2 ^ (more + count)
+pub joined_fits : (more count part bits : ℕ) → part < 2 ^ more → bits < 2 ^ count → bits * 2 ^ more + part < 2 ^ (more + count)
 joined_fits more count part bits fits bits_fit = rw pow-add (mul-add-lt bits (2 ^ more) part (2 ^ count) bits_fit fits)
 
 -- the octets, with those of a number put at a place

@@ -19,7 +19,7 @@ are_steps : ℕ → ℕ → List ℕ → Bool
 are_steps k place [] = true
 are_steps k place (entry ∷ entries) = if entry == steps k place then are_steps k (suc place) entries else false
 
-both : (a b : Bool) → (if a then b else false) ≡ true → (a ≡ true) × (b ≡ true)
+pub both : (a b : Bool) → (if a then b else false) ≡ true → (a ≡ true) × (b ≡ true)
 both true b h = (refl, h)
 both false b h = absurd (false≢true h)
 

@@ -4,6 +4,7 @@ pub mod Register
 pub mod SealedText
 pub mod Flags
 pub mod Stuffing
+pub mod Packing
 pub mod Contents
 pub mod OctetCounting
 pub mod Marks

@@ -3,11 +3,14 @@
 //!
 //! The crate is pure: no time, no IO, no lock, and it takes no memory.
 //!
-//! To the line: `seal` gives the octets of a signal unit with their two check octets behind them
-//! (`check_of` gives those alone, and `check_octets_of` those of octets in two places), `stuff_into` appends their text to the bits of the line, and
-//! `flag_into` a flag. From the line: a `Deframer` takes its bits one by one (`feed`) or its octets (`feed_octet`), and
-//! gives a mark where a signal unit ends, a good one or a damaged one, or where octet counting tells an error. `step`,
-//! `pass`, `feed_rest` and `feed_octets` do so without a copy of a unit's octets, which `unit` lends.
+//! To the line: `seal` gives the octets of a signal unit with their two check octets behind them (`check_of` gives those
+//! alone, and `check_octets_of` those of octets in two places). A `BitsLeft` holds the bits that are left to send, in
+//! octets: it appends the text of a unit and a flag, and gives the next octet. `stuff_into` appends such a text to a list
+//! of bits, and `flag_into` a flag.
+//!
+//! From the line: a `Deframer` takes its bits one by one (`feed`) or its octets (`feed_octet`), and gives a mark where a
+//! signal unit ends, a good one or a damaged one, or where octet counting tells an error. `step`, `pass`, `feed_rest` and
+//! `feed_octets` do so without a copy of a unit's octets, which `unit` lends.
 //!
 //! ```text
 //! octets   BSN BIB | FSN FIB | LI | body, 0 to 273 octets | check bits
@@ -20,16 +23,20 @@
 //! mode. `one_sealed_text`, `one_text`, `one_mark` and `octet_counting` are laws about them.
 #![tactic(auto)]
 
+mod bits_left;
 mod check;
 mod content;
 mod deframing;
 mod flags;
 mod marks;
+mod packing;
+mod part;
 mod rest;
 mod sealed_text;
 mod shift;
 mod stuffing;
 
+pub use bits_left::BitsLeft;
 pub use check::check_of;
 pub use deframing::Deframer;
 pub use flags::flag_into;

@@ -21,8 +21,8 @@
 //! | | | | alignment not possible | 8 |
 //! | | | | stopped | 9 |
 //!
-//! A [`UnitRef`] is a unit whose body stays where it stands. The header of the wide profile, in 32 bits, has its codec by
-//! itself: [`wide_word`], [`wide_header_of`] and [`wide_form_of`].
+//! A [`UnitRef`] is a unit whose body stays where it stands. The wide profile's header (own) has its codec by itself:
+//! [`wide_word`], [`wide_header_of`] and [`wide_form_of`].
 //!
 //! This crate never looks at flags, inserted zeros or check bits, never acts on what a unit says,
 //! and takes no memory.

@@ -14,8 +14,8 @@ ghost use Rattle.l2_units.specs.Grammar.{wide_form, wide_header, wide_number};
 
 use super::unit::Header;
 
-/// A header in the low 26 bits, and a form in the six above: BSN from bit 0 on, BIB bit 12, FSN from bit 13 on, FIB bit
-/// 25, the form from bit 26 on. Each fills its bits, so [`wide_header_of`] and [`wide_form_of`] find both again.
+/// A header in the low 26 bits, and a form in the six above: BSN in bits 0 to 11, BIB bit 12, FSN in bits 13 to 24, FIB
+/// bit 25, the form in bits 26 to 31. [`wide_header_of`] and [`wide_form_of`] find both again.
 ///
 /// Condition: a form below 64.
 #[inline(always)]
@@ -28,7 +28,7 @@ pub fn wide_word(head: Header, form: u32) -> u32
     u32::from(head.bsn) + bib + 0x2000 * u32::from(head.fsn) + fib + 0x400_0000 * form
 }
 
-/// The header in the low 26 bits: BSN in bits 0 to 11, BIB bit 12, FSN in bits 13 to 24, FIB bit 25. Every word has one.
+/// The header in the low 26 bits: BSN in bits 0 to 11, BIB bit 12, FSN in bits 13 to 24, FIB bit 25. Each word has one.
 #[inline(always)]
 pub fn wide_header_of(whole: u32) -> Header
     ensures { result ≡ wide_header whole }

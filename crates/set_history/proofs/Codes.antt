@@ -1,7 +1,6 @@
 -- The numbers of fates, reports and refusals tell them: by cases, and by arithmetic on where each part stands in the
 -- number.
 use Rattle.std.proofs.Common.{arith, refl, ap, ◌≡◌, ◌∙◌, ◌<◌, ◌^◌, ◌+◌, ◌*◌, ◌/◌, ◌%◌, ◌==◌, ℕ, Bool, true, false, Option, Some, None}
-use Rattle.std.specs.Prelude.{if◌then◌else◌}
 use Rattle.l2_units.specs.declared.cause.ControlFault.{ControlFault}
 use Rattle.l2_units.specs.declared.status.Status.{Status}
 use Rattle.l2_units.specs.declared.unit.Unit.{Unit as SignalUnit}

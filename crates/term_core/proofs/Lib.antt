@@ -1,4 +1,1 @@
-pub mod Leaving
-pub mod Putting
-pub mod Texts
 pub mod Running

@@ -1,3 +1,2 @@
 pub mod Judging
-pub mod Packing
 pub mod TimerEnds

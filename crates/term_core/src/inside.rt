@@ -4,8 +4,8 @@ ghost use Rattle.std.specs.Prelude.{◌≡◌, ◌<◌, ◌^◌, ◌||◌, false
 ghost use Rattle.l2_state.specs.Table.{is_paused};
 ghost use Rattle.term_model.specs.Terminal.{opened, told, no_commands};
 
-use crate::bits_left::BitsLeft;
 use l2_align::{Align, State as AlignState};
+use l2_bits::BitsLeft;
 use l2_flow::Flow;
 use l2_monitors::{Aerm, Suerm};
 use l2_state::{LinkState, State};

@@ -30,14 +30,11 @@
 //! laws about definitions.
 #![tactic(auto)]
 
-mod bits_left;
 mod clocks;
 mod inside;
 mod machines;
 mod monitors;
-mod part;
 mod sending;
-mod stuffing;
 
 pub use clocks::{Timer, no_end_no_talk};
 pub use inside::Inside;

@@ -1,9 +1,6 @@
-use Rattle.std.proofs.Common.{◌≡◌, arith}
-use Rattle.l2_bits.specs.Flags.{flag}
+use Rattle.std.proofs.Common.{◌∙◌, ◌++◌, Bool, List, ap}
+use Rattle.l2_bits.proofs.LeavingLemmas.{flag_bits}
 use Rattle.l2_bits.proofs.flags.flag_into.Goals as goal
 
 pub returns-clause-text : goal.returns-clause-text
-unfolding flag
-returns-clause-text c =
-    let all : c.loop-bit.bit-index ≡ 8 = omega arith in
-    rw all at c.loop-bit.invariant
+returns-clause-text c = c.unpack.ensures.bits ∙ ap (λ (bits : List Bool). c.args.line.now.items ++ bits) flag_bits

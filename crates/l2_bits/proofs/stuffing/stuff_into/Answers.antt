@@ -1,15 +1,20 @@
-use Rattle.std.proofs.Common.{◌≡◌, [], drop, sym, arith}
-use Rattle.std.proofs.lemmas.List.{append-nil, drop_all}
-use Rattle.l2_bits.specs.LineBits.{line_bits}
-use Rattle.l2_bits.specs.Stuffing.{text_after}
-use Rattle.l2_bits.proofs.StuffingLemmas.{has_text, text_after-nil}
+use Rattle.std.proofs.Common.{◌≡◌, ℕ, [], Bool, List, ◌++◌, ap, ◌∙◌, append_assoc}
+use Rattle.l2_bits.specs.LineBits.{bits_of, line_bits}
+use Rattle.l2_bits.specs.Packing.{packed}
+use Rattle.l2_bits.proofs.BitLemmas.{bits_of-zero}
 use Rattle.l2_bits.proofs.stuffing.stuff_into.Goals as goal
 
 pub returns-clause-text : goal.returns-clause-text
 returns-clause-text c =
-    let none : drop c.loop-octet.octet-index c.args.octets.now ≡ [] = drop_all c.loop-octet.octet-index c.args.octets.now (omega arith) in
+    let text = c.put_text-part.ensures.text in
+    let none : packed c.new-text.result c.none.result ≡ [] = rw (c.new-text.ensures, c.none.ensures) (bits_of-zero c.none.result.bits) in
     record {
-      text = text_after 0 (line_bits c.args.octets.now);
-      stuffed = has_text (line_bits c.args.octets.now);
-      appended = sym (rw (none, text_after-nil, append-nil) at c.loop-octet.invariant.text);
+      text = text.text;
+      stuffed = text.stuffed;
+      appended =
+          c.unpack.ensures.bits
+          ∙ ap (λ (line : List Bool). line ++ bits_of c.put_text-part.result.count c.put_text-part.result.bits) c.unpack_octets.ensures.bits
+          ∙ append_assoc c.args.line.now.items (line_bits c.as_slice.result.now) (bits_of c.put_text-part.result.count c.put_text-part.result.bits)
+          ∙ ap (λ (items : List ℕ). c.args.line.now.items ++ (line_bits items ++ bits_of c.put_text-part.result.count c.put_text-part.result.bits)) c.as_slice.ensures.value
+          ∙ ap (λ (bits : List Bool). c.args.line.now.items ++ bits) (text.appended ∙ ap (λ (bits : List Bool). bits ++ text.text) none);
     }
