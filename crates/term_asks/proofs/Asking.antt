@@ -5,6 +5,7 @@ use Rattle.l2_units.specs.declared.status.Status.{Status}
 use Rattle.l2_units.specs.declared.unit.Unit.{Unit as SignalUnit}
 use Rattle.l2_units.specs.Grammar.{head_of}
 use Rattle.l2_bits.specs.declared.marks.Mark.{Mark}
+use Rattle.l2_align.specs.declared.align.State.{State as AlignState}
 use Rattle.l2_align.specs.declared.signals.AlignIn.{AlignIn}
 use Rattle.l2_align.specs.declared.signals.Outcome.{Outcome}
 use Rattle.l2_align.specs.Table.{row as align_row}
@@ -25,12 +26,14 @@ use Rattle.term_model.specs.Talk.{Talk, done, ask, and_then, in_turn, Went}
 use Rattle.term_model.specs.Terminal.{Terminal, no_commands, last_head, start_head}
 use Rattle.term_model.specs.Timing.{lessened, is_over, ends_t1, ends_t2, ends_t3, ends_t4, ends_t5, ends_t6, ends_t7, timed}
 use Rattle.term_model.specs.Turn.{turn_talk}
+use Rattle.term_model.proofs.Keeping.{went_kept}
 use Rattle.term_model.proofs.Talks.{splits}
-use Rattle.term_asks.specs.Asking.{Standing, out, aligning, ready, waiting, served, standing_in, standing_of, Falls, stays, drops, tells, Times, goes_on, completes, risen_by, heard_by, IsIdleUnit, IsIdleOne, AsksUp, asks_nothing, asks_again, GivesUnit, Serves, idles, gives, Chooses, has_bits, chooses_one, IsOrdinary, IsCommandedSo, ArePlain, IsPlainAnswer, AnswersPlainly, IsOrdinaryTurn, TurnsAskSo}
+use Rattle.term_asks.specs.Asking.{Standing, out, aligning, ready, waiting, served, standing_in, standing_of, Falls, stays, drops, tells, Times, goes_on, completes, risen_by, heard_by, IsIdleUnit, IsIdleOne, is_aligned, AsksUp, asks_nothing, asks_again, GivesUnit, Serves, idles, gives, Chooses, has_bits, chooses_one, IsOrdinary, IsCommandedSo, ArePlain, IsPlainAnswer, AnswersPlainly, IsOrdinaryTurn, TurnsAskSo}
 use Rattle.term_asks.specs.Plain.{IsPlainUnit}
-use Rattle.term_asks.proofs.Calm.{Calm, commanded_calm, marks_calm, timed_calm, counts_calm, risen_calm, turn_calm, Sends}
+use Rattle.term_asks.proofs.Calm.{Any, Calm, commanded_calm, marks_calm, timed_calm, counts_calm, risen_calm, turn_calm, Sends}
 use Rattle.term_asks.proofs.Falling.{done_is, ask_is, if_went, true_false, kept_by, plain_parts, out_served, nothing_then, falls_then, At, not_up, at_same, FallsTo, falls_done, FallsBy, after_sets, state_falls, at_aligns, align_falls, flow_falls, quiet_out}
 use Rattle.term_asks.proofs.Hearing.{in_turn_falls, up_contrary, commanded_goes, ups, marks_goes}
+use Rattle.term_asks.proofs.Resting.{RestsAfter, RestsIn, turn_rests}
 
 -- STEP 4.
 over_falls : (over : Bool) (f : Terminal → Talk Terminal) → FallsBy f → (link : ℕ) (s : Standing) (t u t' : Terminal) (entries : List Entry) → At link s t → At link s u
@@ -196,11 +199,11 @@ sends_one link s unit t entries f at went =
       at = subst (λ (x : Filled). At link s x.after) (sym d.1) (at_sends link s unit t at);
     }
 
-idle_one : (unit : SignalUnit) (found : Option SignalUnit) → found ≡ Some unit → IsIdleUnit unit → IsIdleOne found
-idle_one unit found e is = subst IsIdleOne (sym e) is
+idle_one : (s : Standing) (unit : SignalUnit) (found : Option SignalUnit) → found ≡ Some unit → IsIdleUnit s unit → IsIdleOne s found
+idle_one s unit found e is = subst (IsIdleOne s) (sym e) is
 
 idle_goes : (link : ℕ) (s : Standing) (unit : SignalUnit) (t : Terminal) (entries : List Entry) (f : Filled) → At link s t → (s ≡ served → ⊥) → (s ≡ waiting → ⊥)
-    → IsIdleUnit unit → Went (sends unit t) entries f → ChosenTo link s entries f
+    → IsIdleUnit s unit → Went (sends unit t) entries f → ChosenTo link s entries f
 idle_goes link s unit t entries f at not_served not_waiting is went =
     let d = sends_one link s unit t entries f at went in
     record {
@@ -212,7 +215,7 @@ idle_goes link s unit t entries f at not_served not_waiting is went =
         second = entries;
         entries_are = refl;
         asks = asks_nothing not_waiting refl refl;
-        serves = idles not_served refl d.none (idle_one unit f.unit d.unit_is is);
+        serves = idles not_served refl d.none (idle_one s unit f.unit d.unit_is is);
       });
     }
 
@@ -238,7 +241,7 @@ module _ (link : ℕ) (t : Terminal) (entries : List Entry) (f : Filled) (at : A
   stopped : Went (sends_status Status.OutOfService (stops_quietly t)) entries f → GivesTo link (Answer.Refused Refusal.NotUp) entries f
   stopped went =
       let d = sends_one link out (SignalUnit.Lssu (last_head (stops_quietly t)) Status.OutOfService) (stops_quietly t) entries f (quiet_out link served t at refl) went in
-      record { to = out; at = d.at; falls = stays refl d.none; gives = idle_one _ f.unit d.unit_is refl }
+      record { to = out; at = d.at; falls = stays refl d.none; gives = idle_one out _ f.unit d.unit_is refl }
 
   sent_goes : (unit : SignalUnit) → IsPlainUnit unit → f.narrow ≡ true → Went (given unit t) entries f → GivesTo link (Answer.Sent unit) entries f
   sent_goes unit is narrow went =
@@ -291,10 +294,10 @@ record ServesTo (link : ℕ) (s : Standing) (entries : List Entry) (f : Filled) 
   pub at : At link to f.after
   pub serves : Serves link s to entries f.unit
 
-serves_goes : (link : ℕ) (s : Standing) (paused : Bool) (t : Terminal) (entries : List Entry) (f : Filled) → paused ≡ false → At link s t → Calm t
-    → AnswersPlainly entries → f.narrow ≡ true → Went (serves paused t) entries f → ServesTo link s entries f
-serves_goes link s true t entries f paused at calm plain narrow went = true_false paused
-serves_goes link s false t entries f paused at calm plain narrow went =
+serves_goes : (link : ℕ) (s : Standing) (paused : Bool) (t : Terminal) (entries : List Entry) (f : Filled) → paused ≡ false → At link s t
+    → (t.up ≡ false → s ≡ waiting) → Calm t → AnswersPlainly entries → f.narrow ≡ true → Went (serves paused t) entries f → ServesTo link s entries f
+serves_goes link s true t entries f paused at waits calm plain narrow went = true_false paused
+serves_goes link s false t entries f paused at waits calm plain narrow went =
     go (if_went t.up (if t.b_due then sends_status Status.Busy (record t { b_due = false }) else ask (Event.Next t.link) (λ answer. sent_by answer t))
     (sends_start_fisu t) entries f went)
   where
@@ -324,22 +327,35 @@ serves_goes link s false t entries f paused at calm plain narrow went =
         due up.0 (if_went t.b_due (sends_status Status.Busy (record t { b_due = false })) (ask (Event.Next t.link) (λ answer. sent_by answer t)) entries f up.1)
     go (inr flat) =
         let d = sends_one link s (SignalUnit.Fisu start_head) t entries f at flat.1 in
-        record { to = s; at = d.at; serves = idles (not_up link s t at flat.0) refl d.none (idle_one (SignalUnit.Fisu start_head) f.unit d.unit_is refl) }
+        let fisu : IsIdleUnit s (SignalUnit.Fisu start_head) = subst (λ (x : Standing). IsIdleUnit x (SignalUnit.Fisu start_head)) (sym (waits flat.0)) refl in
+        record { to = s; at = d.at; serves = idles (not_up link s t at flat.0) refl d.none (idle_one s (SignalUnit.Fisu start_head) f.unit d.unit_is fisu) }
+
+risen_state : (t : Terminal) (answer : Answer) → (risen answer t).state ≡ t.state
+risen_state t Answer.Done = refl
+risen_state t (Answer.Accepted number) = refl
+risen_state t (Answer.Taken body) = refl
+risen_state t (Answer.Found fate) = refl
+risen_state t (Answer.Sent unit) = refl
+risen_state t (Answer.Heard report) = refl
+risen_state t (Answer.Refused why) = refl
 
 chosen_goes : (link : ℕ) (s : Standing) (t : Terminal) (entries : List Entry) (f : Filled) → At link s t → Calm t → AnswersPlainly entries → f.narrow ≡ true
     → (phase : LinkPhase) → t.state ≡ phase → Went (chosen phase t) entries f → ChosenTo link s entries f
 chosen_goes link s t entries f at calm plain narrow LinkPhase.OutOfService e went =
     let is : s ≡ out = sym at.stands ∙ ap (λ (p : LinkPhase). standing_in p t.up) e in
     idle_goes link s (SignalUnit.Lssu (last_head t) Status.OutOfService) t entries f at (λ no. out_served s is no)
-    (λ (no : s ≡ waiting). let not : out ≡ waiting = sym is ∙ no in absurd cc) refl went
+    (λ (no : s ≡ waiting). let not : out ≡ waiting = sym is ∙ no in absurd cc)
+    (subst (λ (x : Standing). IsIdleUnit x (SignalUnit.Lssu (last_head t) Status.OutOfService)) (sym is) refl) went
 chosen_goes link s t entries f at calm plain narrow LinkPhase.Aligning e went =
     let is : s ≡ aligning = sym at.stands ∙ ap (λ (p : LinkPhase). standing_in p t.up) e in
     idle_goes link s (SignalUnit.Lssu (last_head t) t.status) t entries f at (λ (no : s ≡ served). let not : aligning ≡ served = sym is ∙ no in absurd cc)
-    (λ (no : s ≡ waiting). let not : aligning ≡ waiting = sym is ∙ no in absurd cc) calm.status went
+    (λ (no : s ≡ waiting). let not : aligning ≡ waiting = sym is ∙ no in absurd cc)
+    (subst (λ (x : Standing). IsIdleUnit x (SignalUnit.Lssu (last_head t) t.status)) (sym is) calm.status) went
 chosen_goes link s t entries f at calm plain narrow LinkPhase.Ready e went =
     let is : s ≡ ready = sym at.stands ∙ ap (λ (p : LinkPhase). standing_in p t.up) e in
     idle_goes link s (SignalUnit.Fisu start_head) t entries f at (λ (no : s ≡ served). let not : ready ≡ served = sym is ∙ no in absurd cc)
-    (λ (no : s ≡ waiting). let not : ready ≡ waiting = sym is ∙ no in absurd cc) refl went
+    (λ (no : s ≡ waiting). let not : ready ≡ waiting = sym is ∙ no in absurd cc)
+    (subst (λ (x : Standing). IsIdleUnit x (SignalUnit.Fisu start_head)) (sym is) refl) went
 chosen_goes link s t entries f at calm plain narrow (LinkPhase.InService paused) e went =
     let p = splits (up_first t) (λ u. serves paused u) entries f went in
     let parts = plain_parts p.first p.second (subst AnswersPlainly p.entries_are plain) in
@@ -349,9 +365,11 @@ chosen_goes link s t entries f at calm plain narrow (LinkPhase.InService paused)
     no_outage = ap is_paused (sym e) ∙ at.paused
 
     whole : (mid : Terminal) (first second : List Entry) (risen : Standing) → entries ≡ first ++ second → AsksUp link s risen first → AnswersPlainly second
-        → At link risen mid → Calm mid → Went (serves paused mid) second f → ChosenTo link s entries f
-    whole mid first second risen same asks plain there mid_calm w =
-        let g = serves_goes link risen paused mid second f no_outage there mid_calm plain narrow w in
+        → At link risen mid → mid.state ≡ LinkPhase.InService paused → Calm mid → Went (serves paused mid) second f → ChosenTo link s entries f
+    whole mid first second risen same asks plain there phase mid_calm w =
+        let waits = λ (flat : mid.up ≡ false).
+        sym there.stands ∙ ap (λ (p : LinkPhase). standing_in p mid.up) phase ∙ ap (λ (b : Bool). standing_in (LinkPhase.InService paused) b) flat in
+        let g = serves_goes link risen paused mid second f no_outage there waits mid_calm plain narrow w in
         record {
           to = g.to;
           at = g.at;
@@ -364,13 +382,18 @@ chosen_goes link s t entries f at calm plain narrow (LinkPhase.InService paused)
         let d = done_is t mid first up.1 in
         let is : s ≡ served = sym at.stands ∙ at.serves up.0 in
         whole mid first second s same (asks_nothing (λ (no : s ≡ waiting). let not : served ≡ waiting = sym is ∙ no in absurd cc) refl d.0) plain
-        (subst (λ (v : Terminal). At link s v) (sym d.1) at) (subst Calm (sym d.1) calm) w
+        (subst (λ (v : Terminal). At link s v) (sym d.1) at) (ap (λ (v : Terminal). v.state) d.1 ∙ e) (subst Calm (sym d.1) calm) w
     go mid first second same plain (inr flat) w =
         let is : s ≡ waiting = sym at.stands ∙ ap (λ (p : LinkPhase). standing_in p t.up) e ∙ ap (λ (b : Bool). standing_in (LinkPhase.InService paused) b) flat.0 in
         let a = ups link t mid first at.link_is (e ∙ ap LinkPhase.InService no_outage) flat.0 at.blind at.quiet flat.1 in
-        whole mid first second (risen_by a.entry.answer) same (asks_again a.entry is a.entries_are a.event_is refl) plain a.at
+        whole mid first second (risen_by a.entry.answer) same (asks_again a.entry is a.entries_are a.event_is refl) plain a.at (still_up mid first flat.1)
         (calm_up mid first flat.1) w
       where
+        still_up : (mid : Terminal) (first : List Entry) → Went (asks_up t) first mid → mid.state ≡ LinkPhase.InService paused
+        still_up mid first w =
+            let a = ask_is (Event.Up t.link) (λ answer. done (risen answer t)) first mid w in
+            ap (λ (v : Terminal). v.state) (done_is (risen a.entry.answer t) mid a.later a.went).1 ∙ risen_state t a.entry.answer ∙ e
+
         calm_up : (mid : Terminal) (first : List Entry) → Went (asks_up t) first mid → Calm mid
         calm_up mid first w =
             let a = ask_is (Event.Up t.link) (λ answer. done (risen answer t)) first mid w in
@@ -391,6 +414,23 @@ filled_goes link s t entries f at calm plain narrow went =
           at = subst (λ (x : Filled). At link s x.after) (sym d.1) at;
           chooses = has_bits refl d.0 (ap (λ (x : Filled). x.unit) d.1);
         }
+
+-- no alignment is under way but in Aligning
+rests_in : (phase : LinkPhase) (s : AlignState) → (phase ≡ LinkPhase.OutOfService → s ≡ AlignState.Idle) → (is_aligned phase ≡ true → s ≡ AlignState.Idle)
+    → RestsIn phase s
+rests_in LinkPhase.OutOfService s idle aligned = idle refl
+rests_in LinkPhase.Aligning s idle aligned = tt
+rests_in LinkPhase.Ready s idle aligned = aligned refl
+rests_in (LinkPhase.InService paused) s idle aligned = aligned refl
+
+rests_out : (phase : LinkPhase) (s : AlignState) → phase ≡ LinkPhase.OutOfService → RestsIn phase s → s ≡ AlignState.Idle
+rests_out phase s is rests = subst (λ (p : LinkPhase). RestsIn p s) is rests
+
+rests_aligned : (phase : LinkPhase) (s : AlignState) → is_aligned phase ≡ true → RestsIn phase s → s ≡ AlignState.Idle
+rests_aligned LinkPhase.OutOfService s is rests = rests
+rests_aligned LinkPhase.Aligning s is rests = true_false (sym is)
+rests_aligned LinkPhase.Ready s is rests = rests
+rests_aligned (LinkPhase.InService paused) s is rests = rests
 
 -- THE TURN.
 module _ (marks : List Mark) (t : Terminal) (entries : List Entry) (f : Filled) (o : IsOrdinary t) (c : IsCommandedSo t) (plain : ArePlain marks)
@@ -417,6 +457,7 @@ module _ (marks : List Mark) (t : Terminal) (entries : List Entry) (f : Filled) 
       let four = timed_goes t.link three.to q.mid r.mid r.first three.at r.went_first in
       let five = filled_goes t.link four.to r.mid r.second f four.at calm_r plain_r.1 narrow r.went_second in
       let after = kept_by Sends (turn_talk marks t) entries f (turn_calm marks t calm) answers went in
+      let rest = went_kept Any RestsAfter (turn_talk marks t) entries f (turn_rests marks t (rests_in t.state t.align.state o.idle o.aligned)) went in
       record {
         asks = record {
           obeyed = one.to;
@@ -428,12 +469,15 @@ module _ (marks : List Mark) (t : Terminal) (entries : List Entry) (f : Filled) 
           fifth = r.second;
           entries_are = p.entries_are ∙ ap (λ (es : List Entry). p.first ++ es) (q.entries_are ∙ ap (λ (es : List Entry). q.first ++ es) r.entries_are);
           obeys = one.obeys;
+          stops = one.stops;
           hears = three.hears;
           times = four.times;
           chooses = subst (λ (s : Standing). Chooses t.link four.to s r.second f.unit) (sym five.at.stands) five.chooses;
         };
         after = record {
           served = five.at.serves;
+          idle = λ is. rests_out f.after.state f.after.align.state is rest;
+          aligned = λ is. rests_aligned f.after.state f.after.align.state is rest;
           paused = five.at.paused;
           busy = after.after.busy;
           due = after.after.due;

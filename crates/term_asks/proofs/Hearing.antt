@@ -29,10 +29,10 @@ use Rattle.term_model.specs.Machines.{aligns, after_state, risen, asks_up, tells
 use Rattle.term_model.specs.Obeying.{obeys_if, blinded, commanded}
 use Rattle.term_model.specs.Talk.{Talk, done, ask, and_then, in_turn, Went}
 use Rattle.term_model.specs.Terminal.{Terminal, no_commands}
-use Rattle.term_model.proofs.Talks.{splits}
+use Rattle.term_model.proofs.Talks.{ends_the_same, splits}
 use Rattle.term_asks.specs.Asking.{Standing, out, aligning, ready, waiting, served, standing_in, Falls, stays, drops, tells, Obeys, only_falls, begins, risen_by, is_status, Rises, not_yet, comes_up, heard_by, Hears, passes, is_heard, HearsUnit, HearsOne, HearsAll, IsPlainOne, ArePlain}
 use Rattle.term_asks.specs.Plain.{is_plain, IsPlainUnit}
-use Rattle.term_asks.proofs.Falling.{emergency_none, done_is, ask_is, if_went, true_false, out_served, nothing_then, falls_then, At, not_up, at_same, FallsTo, falls_done, FallsBy, falls_next, is_low_status, after_sets, told_falls, state_falls, at_aligns, align_falls, flow_falls, quiet_out}
+use Rattle.term_asks.proofs.Falling.{emergency_none, done_is, ask_is, if_went, true_false, out_served, nothing_then, falls_then, At, not_up, at_same, FallsTo, falls_done, FallsBy, falls_next, is_low_status, after_sets, FallsOut, told_falls, state_falls, at_aligns, align_falls, flow_falls, quiet_out}
 
 -- STEP 1.
 abbrev pub AllFall : List (Terminal → Talk Terminal) → Type 0
@@ -126,10 +126,72 @@ start_goes c link s t t' entries at went = go (if_went c (state_in StateIn.Start
         let d = done_is t t' entries not.1 in
         record { to = s; at = subst (λ (v : Terminal). At link s v) (sym d.1) at; none = d.0; how = inl refl }
 
-pub record ObeysTo (link : ℕ) (started : Bool) (s : Standing) (entries : List Entry) (t : Terminal) : Type 0 where
+-- a Stop takes it out of service
+pub stop_out : (link : ℕ) (s : Standing) (t t' : Terminal) (entries : List Entry) → At link s t → Went (state_in StateIn.Stop t) entries t'
+    → FallsOut link s entries t'
+stop_out link s t t' entries at went = go t.state refl
+  where
+    u : Terminal
+    u = after_state StateIn.Stop t
+
+    down : (phase : LinkPhase) → t.state ≡ phase → (state_row phase StateIn.Stop).next ≡ LinkPhase.OutOfService
+        → (state_row phase StateIn.Stop).out.indication ≡ Some (Indication.Down Cause.Stop) → FallsOut link s entries t'
+    down phase e next told =
+        let set = after_sets t StateIn.Stop in
+        told_falls link s t u t' Cause.Stop entries at (record {
+          link = set.link;
+          state = set.state ∙ ap (λ (p : LinkPhase). (state_row p StateIn.Stop).next) e ∙ next;
+          up = set.up;
+          blind = set.blind;
+          commands = set.commands;
+        })
+        (subst (λ (o : Option Indication). Went (told_by o u) entries t') (ap (λ (p : LinkPhase). (state_row p StateIn.Stop).out.indication) e ∙ told) went)
+
+    go : (phase : LinkPhase) → t.state ≡ phase → FallsOut link s entries t'
+    go LinkPhase.OutOfService e =
+        let set = after_sets t StateIn.Stop in
+        let d = done_is u t' entries (subst (λ (o : Option Indication). Went (told_by o u) entries t')
+        (ap (λ (p : LinkPhase). (state_row p StateIn.Stop).out.indication) e) went) in
+        let still : At link s u = at_same link s t u at set.link (set.state ∙ ap (λ (p : LinkPhase). (state_row p StateIn.Stop).next) e ∙ sym e) set.up set.blind
+        set.commands in (
+          record { to = s; at = subst (λ (v : Terminal). At link s v) (sym d.1) still; falls = stays refl d.0 },
+          sym at.stands ∙ ap (λ (p : LinkPhase). standing_in p t.up) e,
+        )
+    go LinkPhase.Aligning e = down LinkPhase.Aligning e refl refl
+    go LinkPhase.Ready e = down LinkPhase.Ready e refl refl
+    go (LinkPhase.InService paused) e = down (LinkPhase.InService paused) e refl refl
+
+-- what falls so at the last, if it's told to stop
+pub record StopsTo (link : ℕ) (stopped : Bool) (s : Standing) (entries : List Entry) (t : Terminal) : Type 0 where
+  pub falls : FallsTo link s entries t
+  pub stops : stopped ≡ true → falls.to ≡ out
+
+pub stop_goes : (c : Bool) (link : ℕ) (s : Standing) (t t' : Terminal) (entries : List Entry) → At link s t
+    → Went (obeys_if c (state_in StateIn.Stop) t) entries t' → StopsTo link c s entries t'
+stop_goes c link s t t' entries at went = go (if_went c (state_in StateIn.Stop t) (done t) entries t' went)
+  where
+    go : ((c ≡ true) × Went (state_in StateIn.Stop t) entries t') ⊎ ((c ≡ false) × Went (done t) entries t') → StopsTo link c s entries t'
+    go (inl is) = let f = stop_out link s t t' entries at is.1 in record { falls = f.0; stops = λ told. f.1 }
+    go (inr not) = record { falls = falls_done link s t t' entries at not.1; stops = λ told. true_false (sym told ∙ not.0) }
+
+pub then_stop : (fs : List (Terminal → Talk Terminal)) → AllFall fs → (c : Bool) (link : ℕ) (s : Standing) (t t' : Terminal) (entries : List Entry) → At link s t
+    → Went (in_turn (fs ++ (obeys_if c (state_in StateIn.Stop) ∷ [])) t) entries t' → StopsTo link c s entries t'
+then_stop [] all c link s t t' entries at went =
+    stop_goes c link s t t' entries at ((ends_the_same (obeys_if c (state_in StateIn.Stop) t) entries t').0 went)
+then_stop (f ∷ fs) all c link s t t' entries at went =
+    let p = splits (f t) (λ b. in_turn (fs ++ (obeys_if c (state_in StateIn.Stop) ∷ [])) b) entries t' went in
+    let g = all.0 link s t p.mid p.first at p.went_first in
+    let h = then_stop fs all.1 c link g.to p.mid t' p.second g.at p.went_second in
+    subst (λ (es : List Entry). StopsTo link c s es t') (sym p.entries_are) (record {
+      falls = record { to = h.falls.to; at = h.falls.at; falls = falls_then link s g.to h.falls.to p.first p.second g.falls h.falls.falls };
+      stops = h.stops;
+    })
+
+pub record ObeysTo (link : ℕ) (started stopped : Bool) (s : Standing) (entries : List Entry) (t : Terminal) : Type 0 where
   pub to : Standing
   pub at : At link to t
   pub obeys : Obeys link started s to entries
+  pub stops : stopped ≡ true → to ≡ out
 
 pub obeys_then : (link : ℕ) (started : Bool) (s mid last : Standing) (entries : List Entry) → (mid ≡ s) ⊎ ((started ≡ true) × (s ≡ out) × (mid ≡ aligning))
     → Falls link mid last entries → Obeys link started s last entries
@@ -140,28 +202,27 @@ obeys_then link started s mid last entries (inr began) (tells entry is_served is
     let no : aligning ≡ served = sym began.2 ∙ is_served in absurd cc
 
 pub commanded_goes : (link : ℕ) (s : Standing) (t t' : Terminal) (entries : List Entry) → At link s (record t { commands = no_commands })
-    → t.commands.blind ≡ false → Went (commanded t) entries t' → ObeysTo link t.commands.start s entries t'
+    → t.commands.blind ≡ false → Went (commanded t) entries t' → ObeysTo link t.commands.start t.commands.stop s entries t'
 commanded_goes link s t t' entries at never went =
     let c = t.commands in
     let u : Terminal = record t { commands = no_commands } in
-    let last = obeys_if c.busy (flow_in FlowIn.Busy) ∷ obeys_if c.ease (flow_in FlowIn.Ease) ∷ obeys_if c.blind blinded ∷ obeys_if c.stop (state_in StateIn.Stop) ∷ [] in
-    let all : AllFall last = (
+    let middle = obeys_if c.busy (flow_in FlowIn.Busy) ∷ obeys_if c.ease (flow_in FlowIn.Ease) ∷ obeys_if c.blind blinded ∷ [] in
+    let last = middle ++ (obeys_if c.stop (state_in StateIn.Stop) ∷ []) in
+    let all : AllFall middle = (
       obeys_falls c.busy (flow_in FlowIn.Busy) (flow_falls FlowIn.Busy),
-      (
-        obeys_falls c.ease (flow_in FlowIn.Ease) (flow_falls FlowIn.Ease),
-        (never_falls c.blind blinded never, (obeys_falls c.stop (state_in StateIn.Stop) (state_falls StateIn.Stop refl), tt)),
-      ),
+      (obeys_falls c.ease (flow_in FlowIn.Ease) (flow_falls FlowIn.Ease), (never_falls c.blind blinded never, tt)),
     ) in
     let p = splits (obeys_if c.emergency (align_in AlignIn.Emergency) u) (λ b. in_turn (obeys_if c.start (state_in StateIn.Start) ∷ last) b) entries t' went in
     let e = emergency_stays c.emergency link s u p.mid p.first at p.went_first in
     let q = splits (obeys_if c.start (state_in StateIn.Start) p.mid) (λ b. in_turn last b) p.second t' p.went_second in
     let b = start_goes c.start link s p.mid q.mid q.first e.1 q.went_first in
-    let f = in_turn_falls last all link b.to q.mid t' q.second b.at q.went_second in
+    let f = then_stop middle all c.stop link b.to q.mid t' q.second b.at q.went_second in
     let same : entries ≡ q.second = p.entries_are ∙ nothing_then p.first p.second e.0 ∙ q.entries_are ∙ nothing_then q.first q.second b.none in
     record {
-      to = f.to;
-      at = f.at;
-      obeys = subst (λ (es : List Entry). Obeys link c.start s f.to es) (sym same) (obeys_then link c.start s b.to f.to q.second b.how f.falls);
+      to = f.falls.to;
+      at = f.falls.at;
+      obeys = subst (λ (es : List Entry). Obeys link c.start s f.falls.to es) (sym same) (obeys_then link c.start s b.to f.falls.to q.second b.how f.falls.falls);
+      stops = f.stops;
     }
 
 -- STEP 3.

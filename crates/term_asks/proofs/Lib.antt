@@ -2,4 +2,5 @@ pub mod Asking
 pub mod Calm
 pub mod Falling
 pub mod Hearing
+pub mod Resting
 pub mod Talking

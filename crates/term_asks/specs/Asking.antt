@@ -1,6 +1,7 @@
 -- WHAT A TURN ASKS OF THE SET, by where the link stands and by the units that are heard: of an end that isn't busy, and
 -- whose far end sends SIO, SIN, SIE and SIOS alone (Q.703 8, 12).
 use Rattle.std.specs.Prelude.{◌≡◌, ℕ, Bool, true, false, List, [], ◌∷◌, ◌++◌, Option, Some, None}
+use Rattle.l2_align.specs.declared.align.State.{State as AlignState}
 use Rattle.l2_bits.specs.declared.marks.Mark.{Mark}
 use Rattle.l2_state.specs.declared.link_state.State.{State as LinkPhase}
 use Rattle.l2_state.specs.Table.{is_paused}
@@ -105,15 +106,24 @@ HearsAll link (mark ∷ marks) s s' entries =
     (mid : Standing) × (first : List Entry) × (second : List Entry) × (entries ≡ first ++ second)
     × HearsOne link (unit_in mark) s mid first × HearsAll link marks mid s' second
 
--- WHAT IS SENT NEXT: what isn't the set's is a status, or the FISU of an end that sent and accepted nothing
-abbrev pub IsIdleUnit : SignalUnit → Type 0
-IsIdleUnit (SignalUnit.Fisu head) = head ≡ start_head
-IsIdleUnit (SignalUnit.Lssu head status) = is_plain status ≡ true
-IsIdleUnit (SignalUnit.Msu head body) = ⊥
+-- WHAT IS SENT NEXT: what isn't the set's is the FISU of an end that sent and accepted nothing, where the link is ready
+-- or waits, and else a status
+abbrev pub IsStartFisu : SignalUnit → Type 0
+IsStartFisu (SignalUnit.Fisu head) = head ≡ start_head
+IsStartFisu _ = ⊥
 
-abbrev pub IsIdleOne : Option SignalUnit → Type 0
-IsIdleOne None = ⊥
-IsIdleOne (Some unit) = IsIdleUnit unit
+abbrev pub IsPlainStatus : SignalUnit → Type 0
+IsPlainStatus (SignalUnit.Lssu head status) = is_plain status ≡ true
+IsPlainStatus _ = ⊥
+
+abbrev pub IsIdleUnit : Standing → SignalUnit → Type 0
+IsIdleUnit ready unit = IsStartFisu unit
+IsIdleUnit waiting unit = IsStartFisu unit
+IsIdleUnit _ unit = IsPlainStatus unit
+
+abbrev pub IsIdleOne : Standing → Option SignalUnit → Type 0
+IsIdleOne s None = ⊥
+IsIdleOne s (Some unit) = IsIdleUnit s unit
 
 -- a link that isn't up though in service asks for Up first
 pub data AsksUp (link : ℕ) (s s' : Standing) (entries : List Entry) : Type 0 where
@@ -124,11 +134,11 @@ pub data AsksUp (link : ℕ) (s s' : Standing) (entries : List Entry) : Type 0 w
 -- by what the set answers to Next: its unit goes out; or the link stops, and a status does; or some FISU goes out
 abbrev pub GivesUnit : Answer → Option SignalUnit → Type 0
 GivesUnit (Answer.Sent given) unit = unit ≡ Some given
-GivesUnit (Answer.Refused Refusal.NotUp) unit = IsIdleOne unit
+GivesUnit (Answer.Refused Refusal.NotUp) unit = IsIdleOne out unit
 GivesUnit _ unit = Unit {0}
 
 pub data Serves (link : ℕ) (s s' : Standing) (entries : List Entry) (unit : Option SignalUnit) : Type 0 where
-  idles : (s ≡ served → ⊥) → s' ≡ s → entries ≡ [] → IsIdleOne unit → Serves link s s' entries unit
+  idles : (s ≡ served → ⊥) → s' ≡ s → entries ≡ [] → IsIdleOne s unit → Serves link s s' entries unit
   gives : (entry : Entry) (later : List Entry) → s ≡ served → entries ≡ entry ∷ later → entry.event ≡ Event.Next link
       → GivesUnit entry.answer unit → Falls link (heard_by entry.answer) s' later → Serves link s s' entries unit
 
@@ -144,8 +154,8 @@ pub data Chooses (link : ℕ) (s s' : Standing) (entries : List Entry) (unit : O
   has_bits : s' ≡ s → entries ≡ [] → unit ≡ None → Chooses link s s' entries unit
   chooses_one : ServesOne link s s' entries unit → Chooses link s s' entries unit
 
--- THE TURN
-pub record AsksSo (link : ℕ) (started : Bool) (marks : List Mark) (s s' : Standing) (entries : List Entry) (unit : Option SignalUnit)
+-- THE TURN: by whether it was told to start, and to stop
+pub record AsksSo (link : ℕ) (started stopped : Bool) (marks : List Mark) (s s' : Standing) (entries : List Entry) (unit : Option SignalUnit)
     : Type 0 where
   pub obeyed : Standing
   pub heard : Standing
@@ -156,13 +166,24 @@ pub record AsksSo (link : ℕ) (started : Bool) (marks : List Mark) (s s' : Stan
   pub fifth : List Entry
   pub entries_are : entries ≡ first ++ (third ++ (fourth ++ fifth))
   pub obeys : Obeys link started s obeyed first
+  pub stops : stopped ≡ true → obeyed ≡ out
   pub hears : HearsAll link marks obeyed heard third
   pub times : Times link heard timed fourth
   pub chooses : Chooses link timed s' fifth unit
 
--- OF SUCH A TERMINAL: it's up at the set in service alone, and isn't busy, nor told so, nor told to fall blindly
+-- its alignment was complete
+abbrev pub is_aligned : LinkPhase → Bool
+is_aligned LinkPhase.OutOfService = false
+is_aligned LinkPhase.Aligning = false
+is_aligned LinkPhase.Ready = true
+is_aligned (LinkPhase.InService paused) = true
+
+-- OF SUCH A TERMINAL: it's up at the set in service alone, aligns nowhere while it's out of service, nor once it's
+-- aligned, and isn't busy, nor told so, nor told to fall blindly
 pub record IsOrdinary (t : Terminal) : Type 0 where
   pub served : t.up ≡ true → standing_of t ≡ served
+  pub idle : t.state ≡ LinkPhase.OutOfService → t.align.state ≡ AlignState.Idle
+  pub aligned : is_aligned t.state ≡ true → t.align.state ≡ AlignState.Idle
   pub paused : is_paused t.state ≡ false
   pub busy : t.flow.busy ≡ false
   pub due : t.b_due ≡ false
@@ -192,7 +213,7 @@ AnswersPlainly (entry ∷ entries) = IsPlainAnswer entry.answer × AnswersPlainl
 
 -- LAW: such a turn leaves such a terminal, of the same link, and no command waits then
 pub record IsOrdinaryTurn (marks : List Mark) (t : Terminal) (entries : List Entry) (chosen : Filled) : Type 0 where
-  pub asks : AsksSo t.link t.commands.start marks (standing_of t) (standing_of chosen.after) entries chosen.unit
+  pub asks : AsksSo t.link t.commands.start t.commands.stop marks (standing_of t) (standing_of chosen.after) entries chosen.unit
   pub after : IsOrdinary chosen.after
   pub link_is : chosen.after.link ≡ t.link
   pub quiet : chosen.after.commands ≡ no_commands
