@@ -197,7 +197,7 @@ module _ (link : ℕ) where
       (keeps_then was c.risen now c.first c.second (asks_keep was c.risen c.first c.asks) (serves_keep c.risen now c.second unit c.serves))
 
 pub turns_keep : TurnsKeepStanding
-turns_keep link started marks was now entries unit s a legal at starts =
+turns_keep link started stopped marks was now entries unit s a legal at starts =
     let later = a.third ++ (a.fourth ++ a.fifth) in
     let parts = legal_parts s a.first later (subst (IsLegal s) a.entries_are legal) in
     let first = obeys_keep link started was a.obeyed a.first a.obeys s parts.0 at starts in

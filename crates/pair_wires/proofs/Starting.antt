@@ -120,9 +120,9 @@ module _ (m link : ℕ) (apart : (link == m) ≡ false) where
   chooses_no s s' entries unit (chooses_one c) =
       subst NoUps (sym c.entries_are) (both_no c.first c.second (asks_no s c.risen c.first c.asks) (serves_no c.risen s' c.second unit c.serves))
 
-  turn_no : (started : Bool) (marks : List Mark) (s s' : Standing) (entries : List Entry) (unit : Option SignalUnit)
-      → AsksSo link started marks s s' entries unit → NoUps entries
-  turn_no started marks s s' entries unit a =
+  turn_no : (started stopped : Bool) (marks : List Mark) (s s' : Standing) (entries : List Entry) (unit : Option SignalUnit)
+      → AsksSo link started stopped marks s s' entries unit → NoUps entries
+  turn_no started stopped marks s s' entries unit a =
       subst NoUps (sym a.entries_are)
       (both_no a.first (a.third ++ (a.fourth ++ a.fifth)) (obeys_no started s a.obeyed a.first a.obeys)
       (both_no a.third (a.fourth ++ a.fifth) (all_no marks a.obeyed a.heard a.third a.hears)
@@ -150,6 +150,8 @@ stop_so m at s so = record {
   number = so.number;
   ordinary = record {
     served = so.ordinary.served;
+    idle = so.ordinary.idle;
+    aligned = so.ordinary.aligned;
     paused = so.ordinary.paused;
     busy = so.ordinary.busy;
     due = so.ordinary.due;
@@ -208,19 +210,21 @@ turn_so link old new takes few plain each = λ n at there.
     leads : after s entries ≡ s'
     leads = legal.leads ∙ sym by.state_is
 
-    asks : AsksSo link t.commands.start takes.turns.takes.by_octet.marks (standing_of t) (standing_of (outcome_with talk s).after) entries (outcome_with talk s).unit
-    asks = subst (λ (l : ℕ). AsksSo l t.commands.start takes.turns.takes.by_octet.marks (standing_of t) (standing_of (outcome_with talk s).after) entries (outcome_with talk s).unit)
+    asks : AsksSo link t.commands.start t.commands.stop takes.turns.takes.by_octet.marks (standing_of t) (standing_of (outcome_with talk s).after) entries (outcome_with talk s).unit
+    asks = subst (λ (l : ℕ). AsksSo l t.commands.start t.commands.stop takes.turns.takes.by_octet.marks (standing_of t) (standing_of (outcome_with talk s).after) entries (outcome_with talk s).unit)
         so.number turned.asks
 
     others : (m : ℕ) → (link == m) ≡ false → GoesOn m s s'
     others m apart = subst (GoesOn m s) leads (goes_after m link apart s entries
-        (turn_no m link apart t.commands.start takes.turns.takes.by_octet.marks (standing_of t) (standing_of (outcome_with talk s).after) entries (outcome_with talk s).unit asks))
+        (turn_no m link apart t.commands.start t.commands.stop takes.turns.takes.by_octet.marks (standing_of t) (standing_of (outcome_with talk s).after) entries (outcome_with talk s).unit asks))
 
     here : IsLinkSo link takes.turns.now.terminal s'
     here = subst (λ (u : Terminal). IsLinkSo link u s') (sym by.puts.after_is) (record {
       number = turned.link_is ∙ so.number;
       ordinary = record {
         served = turned.after.served;
+        idle = turned.after.idle;
+        aligned = turned.after.aligned;
         paused = turned.after.paused;
         busy = turned.after.busy;
         due = turned.after.due;
@@ -229,7 +233,7 @@ turn_so link old new takes few plain each = λ n at there.
       };
       commanded = record { busy = ap (λ c. c.busy) turned.quiet; blind = ap (λ c. c.blind) turned.quiet };
       stands = subst (StandsAt link (standing_of (outcome_with talk s).after)) leads
-          (turns_keep link t.commands.start takes.turns.takes.by_octet.marks (standing_of t) (standing_of (outcome_with talk s).after) entries (outcome_with talk s).unit s
+          (turns_keep link t.commands.start t.commands.stop takes.turns.takes.by_octet.marks (standing_of t) (standing_of (outcome_with talk s).after) entries (outcome_with talk s).unit s
           asks legal.legal so.stands so.starts);
       starts = λ started is. let no : true ≡ false = sym started ∙ ap (λ c. c.start) turned.quiet in absurd cc;
     })
@@ -242,6 +246,8 @@ told_so Command.Start m at s sound may so = record {
   number = so.number;
   ordinary = record {
     served = so.ordinary.served;
+    idle = so.ordinary.idle;
+    aligned = so.ordinary.aligned;
     paused = so.ordinary.paused;
     busy = so.ordinary.busy;
     due = so.ordinary.due;
@@ -256,6 +262,8 @@ told_so Command.Emergency m at s sound may so = record {
   number = so.number;
   ordinary = record {
     served = so.ordinary.served;
+    idle = so.ordinary.idle;
+    aligned = so.ordinary.aligned;
     paused = so.ordinary.paused;
     busy = so.ordinary.busy;
     due = so.ordinary.due;
@@ -427,7 +435,7 @@ each_new lengths (suc n) m at there =
 opened_so : (lengths : Timers) (k : ℕ) (s : State) → is_up k s ≡ false → IsLinkSo k (new_link lengths k).terminal s
 opened_so lengths k s down = record {
   number = refl;
-  ordinary = record { served = λ up. absurd cc; paused = refl; busy = refl; due = refl; status = refl; blind = refl };
+  ordinary = record { served = λ up. absurd cc; idle = λ is. refl; aligned = λ is. refl; paused = refl; busy = refl; due = refl; status = refl; blind = refl };
   commanded = record { busy = refl; blind = refl };
   stands = record { up = λ up. let no : true ≡ false = sym up ∙ down in absurd cc; settled = λ starting. absurd starting };
   starts = λ started. absurd cc;

@@ -33,11 +33,11 @@ turn_asks : (link : ℕ) (old new : Sides) (takes : TakesTurn link old new) → 
     → EachSo old.near → TurnAsksSo link old new takes
 turn_asks link old new takes few plain each = record {
   plain = plain;
-  asks = subst (λ (es : List Entry). AsksSo link t.commands.start marks (standing_of t) (standing_of takes.turns.now.terminal) es takes.unit) (sym by.entries_are)
-      (subst (λ (u : Option SignalUnit). AsksSo link t.commands.start marks (standing_of t) (standing_of takes.turns.now.terminal) entries u) (sym by.unit_is)
-      (subst (λ (x : Standing). AsksSo link t.commands.start marks (standing_of t) x entries (outcome_with talk s).unit)
+  asks = subst (λ (es : List Entry). AsksSo link t.commands.start t.commands.stop marks (standing_of t) (standing_of takes.turns.now.terminal) es takes.unit) (sym by.entries_are)
+      (subst (λ (u : Option SignalUnit). AsksSo link t.commands.start t.commands.stop marks (standing_of t) (standing_of takes.turns.now.terminal) entries u) (sym by.unit_is)
+      (subst (λ (x : Standing). AsksSo link t.commands.start t.commands.stop marks (standing_of t) x entries (outcome_with talk s).unit)
       (ap standing_of (sym by.puts.after_is))
-      (subst (λ (l : ℕ). AsksSo l t.commands.start marks (standing_of t) (standing_of (outcome_with talk s).after) entries (outcome_with talk s).unit)
+      (subst (λ (l : ℕ). AsksSo l t.commands.start t.commands.stop marks (standing_of t) (standing_of (outcome_with talk s).after) entries (outcome_with talk s).unit)
       so.number turned.asks)));
   legal = subst (IsLegal s) (sym by.entries_are) legal.legal;
   leads = ap (after s) by.entries_are ∙ legal.leads ∙ sym by.state_is;

@@ -23,6 +23,6 @@ pub record StandsAt (link : ℕ) (standing : Standing) (s : State) : Type 0 wher
 -- LAW: a turn leaves it so, if it isn't told to start where the set has left the link and not settled it
 abbrev pub TurnsKeepStanding : Type 0
 TurnsKeepStanding =
-    (link : ℕ) (started : Bool) (marks : List Mark) (was now : Standing) (entries : List Entry) (unit : Option SignalUnit) (s : State)
-    → AsksSo link started marks was now entries unit → IsLegal s entries → StandsAt link was s
+    (link : ℕ) (started stopped : Bool) (marks : List Mark) (was now : Standing) (entries : List Entry) (unit : Option SignalUnit) (s : State)
+    → AsksSo link started stopped marks was now entries unit → IsLegal s entries → StandsAt link was s
     → (started ≡ true → was ≡ out → is_settled link s ≡ true) → StandsAt link now (after s entries)

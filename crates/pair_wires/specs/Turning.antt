@@ -13,8 +13,8 @@ use Rattle.pair_octets.specs.declared.step.WireStep.TheVariants.{Turn, Command a
 -- it holds
 pub record TurnAsksSo (link : ℕ) (old new : Sides) (takes : TakesTurn link old new) : Type 0 where
   pub plain : ArePlain takes.turns.takes.by_octet.marks
-  pub asks : AsksSo link takes.turns.was.terminal.commands.start takes.turns.takes.by_octet.marks (standing_of takes.turns.was.terminal)
-      (standing_of takes.turns.now.terminal) takes.turns.takes.entries takes.unit
+  pub asks : AsksSo link takes.turns.was.terminal.commands.start takes.turns.was.terminal.commands.stop takes.turns.takes.by_octet.marks
+      (standing_of takes.turns.was.terminal) (standing_of takes.turns.now.terminal) takes.turns.takes.entries takes.unit
   pub legal : IsLegal old.near.set.state takes.turns.takes.entries
   pub leads : after old.near.set.state takes.turns.takes.entries ≡ new.near.set.state
 
