@@ -423,11 +423,11 @@ down_first config m = go (slice_get (new_state config).links m) refl
         grind (arith, e, slice_get_cases (new_state config).links m, get_or-replicate, length-replicate) in
         ap (λ (l : LinkState). has_phase_up l.phase) link_is
 
-record IsNewLink (lengths : Timers) (at : AtLink) : Type 0 where
+pub record IsNewLink (lengths : Timers) (at : AtLink) : Type 0 where
   pub number : ℕ
   pub is : at ≡ new_link lengths number
 
-each_new : (lengths : Timers) (n : ℕ) → EachLink (λ m at. IsNewLink lengths at) (new_links lengths n)
+pub each_new : (lengths : Timers) (n : ℕ) → EachLink (λ m at. IsNewLink lengths at) (new_links lengths n)
 each_new lengths zero m at there = absurd cc
 each_new lengths (suc n) m at there =
     each_more (λ at. IsNewLink lengths at) (new_links lengths n) (new_link lengths n) (each_new lengths n) (record { number = n; is = refl }) m at there

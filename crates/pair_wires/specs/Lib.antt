@@ -4,3 +4,4 @@ pub mod Read
 pub mod Standing
 pub mod Starting
 pub mod Turning
+pub mod Ways

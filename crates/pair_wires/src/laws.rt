@@ -5,6 +5,7 @@ ghost use Rattle.pair_wires.specs.Read.{OffersAreKept, StreamsAreReadOff};
 ghost use Rattle.pair_wires.specs.Standing.{TurnsKeepStanding};
 ghost use Rattle.pair_wires.specs.Starting.{EachLinkStandsSo};
 ghost use Rattle.pair_wires.specs.Turning.{EachTurnAsksSo};
+ghost use Rattle.pair_wires.specs.Ways.{EachWayIsUnderWay};
 
 /// Where an end has settled a link, and isn't awaited in a life of it, it isn't up at the other end; and where it's
 /// awaited the other hasn't settled it. So what an end hears on a link that it starts is of the life that it may join,
@@ -47,4 +48,11 @@ pub fn streams_are_read_off()
 /// (`term_asks`), and what it asks leads the set from what it held to what it holds then.
 pub fn each_turn_of_a_run_asks_so()
     ensures { EachTurnAsksSo }
+{}
+
+/// In every sound run of two benches on intact lines each end hears the units that are under way to it on a link, the
+/// foremost first, and each unit that is sent joins them. A link that isn't marked, as one is that is out of service or
+/// was told to stop, has nothing of what was under way then left to hear once it has aligned (Q.703 7.4).
+pub fn each_way_is_under_way()
+    ensures { EachWayIsUnderWay }
 {}

@@ -9,5 +9,6 @@ mod laws;
 
 pub use laws::{
     each_end_stands_apart, each_entry_is_a_move, each_link_stands_by_its_set,
-    each_turn_keeps_a_links_standing, each_turn_of_a_run_asks_so, streams_are_read_off,
+    each_turn_keeps_a_links_standing, each_turn_of_a_run_asks_so, each_way_is_under_way,
+    streams_are_read_off,
 };
