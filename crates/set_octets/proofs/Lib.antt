@@ -1,3 +1,4 @@
 pub mod Held
+pub mod Lateness
 pub mod Lives
 pub mod Starting

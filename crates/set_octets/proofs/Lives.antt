@@ -1,18 +1,18 @@
 -- A LINK'S LIVES: a walk of small changes (`only_up`), each of which keeps a settled link settled and brings none up;
 -- the others by unfolding.
-use Rattle.std.proofs.Common.{refl, sym, subst, arith, ap, ◌≡◌, ◌∙◌, ℕ, ◌==◌, Bool, true, false, if◌then◌else◌, List, Option, Some, None, slice_get, slice_set}
+use Rattle.std.proofs.Common.{refl, sym, subst, arith, ap, ◌≡◌, ◌∙◌, ℕ, ◌==◌, Bool, true, false, if◌then◌else◌, ◌<◌, List, length, Option, Some, None, slice_get, slice_set}
 use Rattle.std.proofs.lemmas.Bool.{eqb-false}
 use Rattle.std.proofs.lemmas.Bool.Decides.{nat_tests}
 use Rattle.set_events.specs.declared.event.Event.{Event}
 use Rattle.set_model.specs.declared.phase.Phase.{Phase}
 use Rattle.set_model.specs.declared.phase.Phase.TheVariants.{Up, Down, Settled}
 use Rattle.set_model.specs.State.{LinkState, State, has_phase_settled, has_phase_up, is_settled, is_up, late_at, link_is_settled, link_is_up}
-use Rattle.set_model.specs.Step.{NotUp, Outcome, falls, heard, in_service, next, on_link, refused, risen_link, rises, step, with_known}
+use Rattle.set_model.specs.Step.{NotUp, Nothing, Outcome, Refused, SignalUnit, controls, falls, heard, in_service, is_heard, next, on_link, refused, risen_link, rises, step, with_known}
 use Rattle.set_model.specs.Changeover.{cleared, left_link}
-use Rattle.set_model.proofs.Lists.{get_set_other, get_set_same, within}
+use Rattle.set_model.proofs.Lists.{get_set_other, get_set_same, present, within}
 use Rattle.set_model.proofs.Places.{false_true}
 use Rattle.set_model.proofs.Walk.{KeptBy, WalkedBy, step_walks}
-use Rattle.set_octets.specs.Lives.{DownEnds, GoesOn, IsNoUp, OnlyUpBegins, OthersAreRefused, UpBegins}
+use Rattle.set_octets.specs.Lives.{DownEnds, GoesOn, IsNoUp, IsRefused, OnlyUpBegins, OthersAreRefused, UpBegins, UpIsServed}
 
 module _ (n : ℕ) where
   goes_then : (a b c : State) → GoesOn n a b → GoesOn n b c → GoesOn n a c
@@ -118,27 +118,50 @@ up_begins n s settled =
       up = ap (λ (o : Outcome). is_up n o.state) whole ∙ ap link_is_up (get_set_same s.links n risen few);
     }
 
-in_refused : (n : ℕ) (s : State) (f : LinkState → Outcome) → is_settled n s ≡ true → in_service n s f ≡ refused s NotUp
-in_refused n s f settled =
-    let at = settled_there n s settled in
-    ap (λ (found : Option LinkState). with_known found s (λ link. if has_phase_up link.phase then f link else refused s NotUp)) at.there
-    ∙ ap (λ (phase : Phase). if has_phase_up phase then f at.link else refused s NotUp) at.phase_is
+-- what needs a link in service is refused where it's there and isn't up, and is done where it's up
+in_refused : (m n : ℕ) (s : State) (f : LinkState → Outcome) → m ≡ n → n < length s.links → is_up n s ≡ false → in_service m s f ≡ refused s NotUp
+in_refused m n s f same few down =
+    let at = present s.links m (subst (λ (k : ℕ). k < length s.links) (sym same) few) in
+    let is : has_phase_up at.0.phase ≡ false = sym (ap link_is_up at.1) ∙ subst (λ (k : ℕ). is_up k s ≡ false) (sym same) down in
+    ap (λ (found : Option LinkState). with_known found s (λ link. if has_phase_up link.phase then f link else refused s NotUp)) at.1
+    ∙ ap (λ (b : Bool). if b then f at.0 else refused s NotUp) is
+
+in_served : (n : ℕ) (s : State) (f : LinkState → Outcome) → is_up n s ≡ true → (link : LinkState) × (in_service n s f ≡ f link)
+in_served n s f up = go (slice_get s.links n) up
+  where
+    go : (found : Option LinkState) → link_is_up found ≡ true
+        → (link : LinkState) × (with_known found s (λ l. if has_phase_up l.phase then f l else refused s NotUp) ≡ f link)
+    go None up = absurd cc
+    go (Some link) up = (link, ap (λ (b : Bool). if b then f link else refused s NotUp) up)
+
+refused_by : (s : State) (event : Event) → step s event ≡ refused s NotUp → IsRefused s event
+refused_by s event is = record { answer = ap (λ (o : Outcome). o.answer) is; state = ap (λ (o : Outcome). o.state) is }
 
 pub others_refused : OthersAreRefused
 unfolding step
-others_refused n s (Event.Next m) served settled =
-    let is = subst (λ (k : ℕ). is_settled k s ≡ true) (sym served) settled in
-    let o = in_refused m s (next m (cleared m s)) is in record { answer = ap (λ (x : Outcome). x.answer) o; state = ap (λ (x : Outcome). x.state) o }
-others_refused n s (Event.Heard m unit) served settled =
-    let is = subst (λ (k : ℕ). is_settled k s ≡ true) (sym served) settled in
-    let o = in_refused m s (heard unit m s) is in record { answer = ap (λ (x : Outcome). x.answer) o; state = ap (λ (x : Outcome). x.state) o }
-others_refused n s (Event.Down m) served settled =
-    let is = subst (λ (k : ℕ). is_settled k s ≡ true) (sym served) settled in
-    let o = in_refused m s (falls false m s) is in record { answer = ap (λ (x : Outcome). x.answer) o; state = ap (λ (x : Outcome). x.state) o }
-others_refused n s (Event.DownBlind m) served settled =
-    let is = subst (λ (k : ℕ). is_settled k s ≡ true) (sym served) settled in
-    let o = in_refused m s (falls true m s) is in record { answer = ap (λ (x : Outcome). x.answer) o; state = ap (λ (x : Outcome). x.state) o }
-others_refused n s event served settled = absurd served
+others_refused n s (Event.Next m) served few down = refused_by s (Event.Next m) (in_refused m n s (next m (cleared m s)) served few down)
+others_refused n s (Event.Heard m unit) served few down = refused_by s (Event.Heard m unit) (in_refused m n s (heard unit m s) served few down)
+others_refused n s (Event.Down m) served few down = refused_by s (Event.Down m) (in_refused m n s (falls false m s) served few down)
+others_refused n s (Event.DownBlind m) served few down = refused_by s (Event.DownBlind m) (in_refused m n s (falls true m s) served few down)
+others_refused n s event served few down = absurd served
+
+-- of a link that is up a unit tells something or nothing
+heard_some : (unit : SignalUnit) (n : ℕ) (s : State) (link : LinkState) → (heard unit n s link).answer ≡ Refused NotUp → ⊥
+heard_some unit n s link = either (is_heard s.settings.profile unit)
+  where
+    either : (b : Bool) → (if b then controls unit n s link else refused s Nothing).answer ≡ Refused NotUp → ⊥
+    either true e = absurd cc
+    either false e = absurd cc
+
+pub up_served : UpIsServed
+unfolding step
+up_served n s up =
+    let given = in_served n s (next n (cleared n s)) up in
+    record {
+      unit = _;
+      sent = ap (λ (o : Outcome). o.answer) given.1;
+      heard = λ unit no. let told = in_served n s (heard unit n s) up in heard_some unit n s told.0 (sym (ap (λ (o : Outcome). o.answer) told.1) ∙ no);
+    }
 
 pub down_ends : DownEnds
 unfolding step
