@@ -1,6 +1,6 @@
--- LATE ORDERS ARE COUNTED ONCE: of all that a step does to a link, an order for one that is settled alone changes the count,
--- and a step hears one order at most. Case by case on the event, and on a heard unit's order; where one link changes
--- it's an induction on the links (`where_set`), and so are `declared_links` and `released_links` on those that are left.
+-- LATE ORDERS ARE COUNTED ONCE: of all that a step does, only an order about a link that is settled changes its count,
+-- and a step hears one order at most. Case by case on the event, and on a heard unit's order. `where_set`, where one
+-- link changes, is an induction on the links, and so are `declared_links` and `released_links` on what is left.
 use Rattle.std.proofs.Common.{refl, subst, arith, ◌≡◌, ◌∙◌, ◌⊎◌, inl, inr, ℕ, zero, suc, Bool, true, false, List, [], ◌∷◌, Option, Some, None, slice_get, slice_set, if◌then◌else◌}
 use Rattle.l3_orders.specs.declared.order.Order.{Order}
 use Rattle.l3_orders.specs.Grammar.{order_of}
@@ -19,8 +19,9 @@ use Rattle.set_model.proofs.Lists.{get_set_same, within}
 use Rattle.set_octets.specs.Lives.{IsLateOnce, LateOrdersAreCounted}
 
 -- what holds of the count of the link that is set, and of each that stays, holds of every link's
-where_set : (P : ℕ → ℕ → Type 0) (links : List LinkState) (k : ℕ) (old new : LinkState) → slice_get links k ≡ Some old → P old.late new.late
-    → ((count : ℕ) → P count count) → (n : ℕ) → P (late_in (slice_get links n)) (late_in (slice_get (slice_set links k new) n))
+where_set : (P : ℕ → ℕ → Type 0) (links : List LinkState) (k : ℕ) (old new : LinkState) → slice_get links k ≡ Some old
+    → P old.late new.late → ((count : ℕ) → P count count) → (n : ℕ)
+    → P (late_in (slice_get links n)) (late_in (slice_get (slice_set links k new) n))
 where_set P [] k old new there one all n = absurd cc
 where_set P (link ∷ links) zero old new there one all zero =
     let is : old ≡ link = cc in subst (λ (l : LinkState). P l.late new.late) is one
@@ -54,7 +55,8 @@ module _ (n : ℕ) where
   Stands s t = late_at n t ≡ late_at n s
 
   -- SETTLED
-  settled_late : (reached : Reached) (k : ℕ) (link : LinkState) (s : State) → slice_get s.links k ≡ Some link → Stands s (settled reached k link s)
+  settled_late : (reached : Reached) (k : ℕ) (link : LinkState) (s : State) → slice_get s.links k ≡ Some link
+      → Stands s (settled reached k link s)
   settled_late Unknown k link s there = set_late s.links k link _ there refl n
   settled_late Unanswered k link s there = set_late s.links k link _ there refl n
   settled_late (Upto fsn) k link s there = judge (is_reasonable fsn k link s.rows)
@@ -65,24 +67,29 @@ module _ (n : ℕ) where
       some : LinkState
       some = acknowledged count link
 
-      judge : (b : Bool) → Stands s (moved_over true k (if b then some else link) (if b then acknowledged_by count k link s else discarded Unreasonable k s))
+      mid : Bool → State
+      mid b = if b then acknowledged_by count k link s else discarded Unreasonable k s
+
+      judge : (b : Bool) → Stands s (moved_over true k (if b then some else link) (mid b))
       judge true =
           set_late (slice_set s.links k some) k some _ (get_set_same s.links k some (within s.links k link there)) refl n
           ∙ set_late s.links k link some there refl n
       judge false = set_late s.links k link _ there refl n
 
   -- ORDERS
-  over_counts : (reached : Reached) (k : ℕ) (link : LinkState) (phase : Phase) (s : State) → slice_get s.links k ≡ Some link
-      → Counts s (changed_over reached k link phase s).state
+  over_counts : (reached : Reached) (k : ℕ) (link : LinkState) (phase : Phase) (s : State)
+      → slice_get s.links k ≡ Some link → Counts s (changed_over reached k link phase s).state
   over_counts reached k link Up s there =
       let left = left_link false link in
-      inl (settled_late reached k left _ (get_set_same s.links k left (within s.links k link there)) ∙ set_late s.links k link left there refl n)
+      let at = get_set_same s.links k left (within s.links k link there) in
+      inl (settled_late reached k left _ at ∙ set_late s.links k link left there refl n)
   over_counts reached k link Down s there = inl (settled_late reached k link s there)
   over_counts reached k link Settled s there =
-      where_set (λ a b. (b ≡ a) ⊎ (b ≡ one_later a)) s.links k link (answered_link link) there (inr refl) (λ count. inl refl) n
+      where_set (λ a b. (b ≡ a) ⊎ (b ≡ one_later a)) s.links k link (answered_link link) there (inr refl)
+      (λ count. inl refl) n
 
-  answer_stands : (reached : Reached) (k : ℕ) (link : LinkState) (phase : Phase) (s : State) → slice_get s.links k ≡ Some link
-      → Stands s (answered reached k link phase s).state
+  answer_stands : (reached : Reached) (k : ℕ) (link : LinkState) (phase : Phase) (s : State)
+      → slice_get s.links k ≡ Some link → Stands s (answered reached k link phase s).state
   answer_stands reached k link Down s there = settled_late reached k link s there
   answer_stands reached k link phase s there = grind arith
 
@@ -99,32 +106,42 @@ module _ (n : ℕ) where
 
   -- EVENTS
   -- a unit that is heard leaves the count, till its body is taken
-  controls_count : (unit : SignalUnit) (k : ℕ) (s : State) (link : LinkState) → slice_get s.links k ≡ Some link → Counts s (controls unit k s link).state
+  controls_count : (unit : SignalUnit) (k : ℕ) (s : State) (link : LinkState) → slice_get s.links k ≡ Some link
+      → Counts s (controls unit k s link).state
   controls_count unit k s link there =
       let heard = controlled unit k s link in
       let same : Stands s heard = set_late s.links k link _ there refl n in
-      subst (λ (count : ℕ). (late_at n (controls unit k s link).state ≡ count) ⊎ (late_at n (controls unit k s link).state ≡ one_later count)) same
+      let after = late_at n (controls unit k s link).state in
+      subst (λ (count : ℕ). (after ≡ count) ⊎ (after ≡ one_later count)) same
       (takes_count (brought (part_in unit k link s).accept unit) heard)
 
-  heard_counts : (unit : SignalUnit) (k : ℕ) (s : State) (link : LinkState) → slice_get s.links k ≡ Some link → Counts s (heard unit k s link).state
+  heard_counts : (unit : SignalUnit) (k : ℕ) (s : State) (link : LinkState) → slice_get s.links k ≡ Some link
+      → Counts s (heard unit k s link).state
   heard_counts unit k s link there = fits (is_heard s.settings.profile unit)
     where
       fits : (b : Bool) → Counts s (if b then controls unit k s link else refused s Nothing).state
       fits true = controls_count unit k s link there
       fits false = inl refl
 
-  in_counts : (k : ℕ) (s : State) (f : LinkState → Outcome) → ((link : LinkState) → slice_get s.links k ≡ Some link → Counts s (f link).state)
-      → Counts s (in_service k s f).state
+  in_counts : (k : ℕ) (s : State) (f : LinkState → Outcome)
+      → ((link : LinkState) → slice_get s.links k ≡ Some link → Counts s (f link).state) → Counts s (in_service k s f).state
   in_counts k s f each = grind arith
+
+  -- where the link that changes keeps its count
+  same_counts : (k : ℕ) (s : State) (link link' : LinkState) → slice_get s.links k ≡ Some link → link'.late ≡ link.late
+      → Counts s (record s { links = slice_set s.links k link' })
+  same_counts k s link link' there same = inl (set_late s.links k link link' there same n)
 
   late_counts : (s : State) (event : Event) → Counts s (step s event).state
   unfolding step
   late_counts s (Heard k unit) = in_counts k s (heard unit k s) (heard_counts unit k s)
-  late_counts s (NoAnswer k) = let settle = λ (link : LinkState) (there : slice_get s.links k ≡ Some link). settled_late Unanswered k link s there in grind (arith, settle)
+  late_counts s (NoAnswer k) =
+      let settle = λ (link : LinkState) (there : slice_get s.links k ≡ Some link). settled_late Unanswered k link s there in
+      grind (arith, settle)
   late_counts s (UpEvent k) = grind (arith, set_late)
-  late_counts s (Next k) = in_counts k s (next k (cleared k s)) (λ link there. inl (set_late s.links k link _ there refl n))
-  late_counts s (DownEvent k) = in_counts k s (falls false k s) (λ link there. inl (set_late s.links k link _ there refl n))
-  late_counts s (DownBlind k) = in_counts k s (falls true k s) (λ link there. inl (set_late s.links k link _ there refl n))
+  late_counts s (Next k) = in_counts k s (next k (cleared k s)) (λ link there. same_counts k s link _ there refl)
+  late_counts s (DownEvent k) = in_counts k s (falls false k s) (λ link there. same_counts k s link _ there refl)
+  late_counts s (DownBlind k) = in_counts k s (falls true k s) (λ link there. same_counts k s link _ there refl)
   late_counts s event = grind (arith, declared_links, released_links)
 
 pub late_orders : LateOrdersAreCounted

@@ -119,12 +119,14 @@ up_begins n s settled =
     }
 
 -- what needs a link in service is refused where it's there and isn't up, and is done where it's up
-in_refused : (m n : ℕ) (s : State) (f : LinkState → Outcome) → m ≡ n → n < length s.links → is_up n s ≡ false → in_service m s f ≡ refused s NotUp
+in_refused : (m n : ℕ) (s : State) (f : LinkState → Outcome) → m ≡ n → n < length s.links → is_up n s ≡ false
+    → in_service m s f ≡ refused s NotUp
 in_refused m n s f same few down =
     let at = present s.links m (subst (λ (k : ℕ). k < length s.links) (sym same) few) in
-    let is : has_phase_up at.0.phase ≡ false = sym (ap link_is_up at.1) ∙ subst (λ (k : ℕ). is_up k s ≡ false) (sym same) down in
-    ap (λ (found : Option LinkState). with_known found s (λ link. if has_phase_up link.phase then f link else refused s NotUp)) at.1
-    ∙ ap (λ (b : Bool). if b then f at.0 else refused s NotUp) is
+    let down' = subst (λ (k : ℕ). is_up k s ≡ false) (sym same) down in
+    let is : has_phase_up at.0.phase ≡ false = sym (ap link_is_up at.1) ∙ down' in
+    let done = λ (link : LinkState). if has_phase_up link.phase then f link else refused s NotUp in
+    ap (λ (found : Option LinkState). with_known found s done) at.1 ∙ ap (λ (b : Bool). if b then f at.0 else refused s NotUp) is
 
 in_served : (n : ℕ) (s : State) (f : LinkState → Outcome) → is_up n s ≡ true → (link : LinkState) × (in_service n s f ≡ f link)
 in_served n s f up = go (slice_get s.links n) up
@@ -139,10 +141,14 @@ refused_by s event is = record { answer = ap (λ (o : Outcome). o.answer) is; st
 
 pub others_refused : OthersAreRefused
 unfolding step
-others_refused n s (Event.Next m) served few down = refused_by s (Event.Next m) (in_refused m n s (next m (cleared m s)) served few down)
-others_refused n s (Event.Heard m unit) served few down = refused_by s (Event.Heard m unit) (in_refused m n s (heard unit m s) served few down)
-others_refused n s (Event.Down m) served few down = refused_by s (Event.Down m) (in_refused m n s (falls false m s) served few down)
-others_refused n s (Event.DownBlind m) served few down = refused_by s (Event.DownBlind m) (in_refused m n s (falls true m s) served few down)
+others_refused n s (Event.Next m) served few down =
+    refused_by s (Event.Next m) (in_refused m n s (next m (cleared m s)) served few down)
+others_refused n s (Event.Heard m unit) served few down =
+    refused_by s (Event.Heard m unit) (in_refused m n s (heard unit m s) served few down)
+others_refused n s (Event.Down m) served few down =
+    refused_by s (Event.Down m) (in_refused m n s (falls false m s) served few down)
+others_refused n s (Event.DownBlind m) served few down =
+    refused_by s (Event.DownBlind m) (in_refused m n s (falls true m s) served few down)
 others_refused n s event served few down = absurd served
 
 -- of a link that is up a unit tells something or nothing
@@ -160,7 +166,9 @@ up_served n s up =
     record {
       unit = _;
       sent = ap (λ (o : Outcome). o.answer) given.1;
-      heard = λ unit no. let told = in_served n s (heard unit n s) up in heard_some unit n s told.0 (sym (ap (λ (o : Outcome). o.answer) told.1) ∙ no);
+      heard = λ unit no.
+          let told = in_served n s (heard unit n s) up in
+          heard_some unit n s told.0 (sym (ap (λ (o : Outcome). o.answer) told.1) ∙ no);
     }
 
 pub down_ends : DownEnds

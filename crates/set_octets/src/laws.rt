@@ -28,8 +28,8 @@ pub fn only_up_begins_a_life()
     ensures ends { DownEnds }
 {}
 
-/// Of the changeover orders about a link that came when it was settled a step counts one more, modulo 2^32, or none; and
-/// nothing that it does takes from what was counted (own; Q.704 5.4.2).
+/// Of the changeover orders about a link that came when it was settled a step counts one more, modulo 2^32, or none;
+/// and nothing that it does takes from what was counted (own; Q.704 5.4.2).
 pub fn an_order_is_counted_once()
     ensures { LateOrdersAreCounted }
 {}
