@@ -413,7 +413,7 @@ steps_so count few (step ∷ steps) old new happen sound plain so =
     (step_so count few step old happen.0 happen.1 sound.0 (λ end link in_range. (parts end link in_range).0) so)
 
 -- AT FIRST
-down_first : (config : SetConfig) (m : ℕ) → is_up m (new_state config) ≡ false
+pub down_first : (config : SetConfig) (m : ℕ) → is_up m (new_state config) ≡ false
 down_first config m = go (slice_get (new_state config).links m) refl
   where
     go : (found : Option LinkState) → slice_get (new_state config).links m ≡ found → link_is_up found ≡ false

@@ -49,7 +49,7 @@ front_is (c ∷ carried) (unit ∷ heard) under_way same =
     record { front = ap (λ u. u ∷ map (λ (c : Carried). c.unit) (take (length heard) carried)) here ∙ ap (λ us. unit ∷ us) is.front; back = is.back }
 
 -- MARKS THAT ALL BRING UNITS
-heard_is : (marks : List Mark) (units : List SignalUnit) → map unit_in marks ≡ map (λ (unit : SignalUnit). Some unit) units → heard_in marks ≡ units
+pub heard_is : (marks : List Mark) (units : List SignalUnit) → map unit_in marks ≡ map (λ (unit : SignalUnit). Some unit) units → heard_in marks ≡ units
 heard_is [] [] same = refl
 heard_is [] (unit ∷ units) same = absurd cc
 heard_is (mark ∷ marks) [] same = absurd cc

@@ -1,4 +1,6 @@
 pub mod Apart
+pub mod Carrying
+pub mod Following
 pub mod Moves
 pub mod Read
 pub mod Standing

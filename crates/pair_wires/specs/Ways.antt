@@ -6,6 +6,7 @@ use Rattle.std.specs.Option.{option_to_list}
 use Rattle.l2_bits.specs.declared.marks.Mark.{Mark}
 use Rattle.l2_units.specs.declared.unit.Unit.{Unit as SignalUnit}
 use Rattle.set_events.specs.declared.answer.Answer.{Answer}
+use Rattle.set_events.specs.declared.event.Event.{Event}
 use Rattle.set_events.specs.declared.history.Entry.{Entry}
 use Rattle.term_asks.specs.Asking.{Standing, out, aligning, ready, waiting, served, standing_of}
 use Rattle.term_bench.specs.Ends.{AtLink}
@@ -57,13 +58,14 @@ is_marked (Some at) = is_out (standing_of at.terminal) || at.terminal.commands.s
 abbrev pub heard_in : List Mark → List SignalUnit
 heard_in marks = flat_map (λ mark. option_to_list (unit_in mark)) marks
 
-abbrev pub is_sent : Answer → Bool
-is_sent (Answer.Sent unit) = true
-is_sent _ = false
+-- what a set gives is its answer to Next
+abbrev pub gives_by : Event → Answer → Bool
+gives_by (Event.Next link) (Answer.Sent unit) = true
+gives_by _ _ = false
 
 abbrev pub gives_unit : List Entry → Bool
 gives_unit [] = false
-gives_unit (entry ∷ entries) = is_sent entry.answer || gives_unit entries
+gives_unit (entry ∷ entries) = gives_by entry.event entry.answer || gives_unit entries
 
 abbrev pub sent_by : Doing → List Carried
 sent_by doing = map (λ unit. record { unit = unit; given = gives_unit doing.entries }) (option_to_list doing.unit)

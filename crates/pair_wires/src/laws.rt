@@ -1,5 +1,6 @@
 //! Laws of two ends whose links come up one after the other, over definitions alone.
 ghost use Rattle.pair_wires.specs.Apart.{EachEndStandsApart};
+ghost use Rattle.pair_wires.specs.Carrying.{EverySoundRunCarriesStreams};
 ghost use Rattle.pair_wires.specs.Moves.{EachEntryMoves, InVainIsNoMove};
 ghost use Rattle.pair_wires.specs.Read.{OffersAreKept, StreamsAreReadOff};
 ghost use Rattle.pair_wires.specs.Standing.{TurnsKeepStanding};
@@ -55,4 +56,12 @@ pub fn each_turn_of_a_run_asks_so()
 /// was told to stop, has nothing of what was under way then left to hear once it has aligned (Q.703 7.4).
 pub fn each_way_is_under_way()
     ensures { EachWayIsUnderWay }
+{}
+
+/// In every sound run of two benches on intact lines, whichever end takes its turns when, and whichever links are started,
+/// stopped and fail: what users took of a stream at one end is the first of what was offered and accepted at the other,
+/// in order, each message once, unchanged. Premises: at most 3,700 octets are under way in a link's loop, and no history
+/// is longer than 2^48 entries.
+pub fn every_sound_run_carries_streams()
+    ensures { EverySoundRunCarriesStreams }
 {}

@@ -9,7 +9,7 @@ use std::test::Fail;
 use term_bench::LinkWord;
 
 /// Link 1 takes much longer one way.
-pub const LENGTHS: [LineLengths; 2] = [
+pub(crate) const LENGTHS: [LineLengths; 2] = [
     LineLengths { to_a: 40, to_b: 90 },
     LineLengths {
         to_a: 30,
@@ -19,7 +19,7 @@ pub const LENGTHS: [LineLengths; 2] = [
 
 /// What is done at both ends, one after another.
 #[derive(Clone, Copy)]
-pub enum Deed {
+pub(crate) enum Deed {
     /// Both ends of the link start it, with emergency proving.
     Start(u8),
     /// End A stops it.
@@ -39,7 +39,7 @@ pub enum Deed {
 }
 
 /// The test fails where this doesn't hold.
-pub fn holds(well: bool) -> Result<(), Fail> {
+pub(crate) fn holds(well: bool) -> Result<(), Fail> {
     if well {
         Ok(())
     } else {
@@ -53,21 +53,21 @@ fn timers() -> Option<Timers> {
 }
 
 /// What an end with two links is opened with.
-pub fn config(own: u16, far: u16, method: Method) -> Option<EndConfig> {
+pub(crate) fn config(own: u16, far: u16, method: Method) -> Option<EndConfig> {
     let set = SetConfig::new(0, 2, own, far, 0x80, method).ok()?;
     let timers = timers()?;
     Some(EndConfig { set, timers })
 }
 
 /// Two new ends of two links, whose lines have these lengths.
-pub fn joined(alloc: Global, method: Method, lengths: [LineLengths; 2]) -> Option<Wires> {
+pub(crate) fn joined(alloc: Global, method: Method, lengths: [LineLengths; 2]) -> Option<Wires> {
     let a = config(2, 1, method)?;
     let b = config(1, 2, method)?;
     Wires::new(alloc, &a, &b, lengths.as_slice()).ok()
 }
 
 /// Whether this could be done.
-pub fn done(alloc: Global, wires: &mut Wires, deed: Deed) -> bool {
+pub(crate) fn done(alloc: Global, wires: &mut Wires, deed: Deed) -> bool {
     match deed {
         Deed::Start(link) => start(wires, link),
         Deed::Stop(link) => tell(wires, End::A, link, Command::Stop),
@@ -81,7 +81,7 @@ pub fn done(alloc: Global, wires: &mut Wires, deed: Deed) -> bool {
 }
 
 /// Whether all could be done.
-pub fn all_done(alloc: Global, wires: &mut Wires, deeds: &[Deed]) -> bool {
+pub(crate) fn all_done(alloc: Global, wires: &mut Wires, deeds: &[Deed]) -> bool {
     for deed in deeds {
         if !done(alloc, wires, *deed) {
             return false;
@@ -132,7 +132,7 @@ fn turns(wires: &mut Wires, times: u32) -> bool {
 }
 
 /// Message `number` of stream `number` modulo 16, from end A to end B or back.
-fn message_of(end: End, number: u16) -> [u8; 7] {
+pub(crate) fn message_of(end: End, number: u16) -> [u8; 7] {
     let low = (number % 256) as u8;
     let high = (number / 256) as u8;
     let stream = low % 16 * 16;
@@ -194,7 +194,7 @@ fn number_in(octets: &[u8]) -> Option<u16> {
 }
 
 /// The users of this end take just the messages up to this number, each once, those of each stream in order.
-pub fn takes_all(wires: &mut Wires, end: End, count: u16) -> bool {
+pub(crate) fn takes_all(wires: &mut Wires, end: End, count: u16) -> bool {
     let mut next: [u16; 16] = [0, 1, 2, 3, 4, 5, 6, 7, 8, 9, 10, 11, 12, 13, 14, 15];
     for _ in 0..count {
         let Some(number) = take(wires, end) else {
@@ -210,7 +210,7 @@ pub fn takes_all(wires: &mut Wires, end: End, count: u16) -> bool {
 }
 
 /// All could be done at two new ends, and then the users of both take just so many messages.
-pub fn all_come(alloc: Global, method: Method, deeds: &[Deed], count: u16) -> bool {
+pub(crate) fn all_come(alloc: Global, method: Method, deeds: &[Deed], count: u16) -> bool {
     match joined(alloc, method, LENGTHS) {
         Some(mut wires) => come(alloc, &mut wires, deeds, count),
         None => false,
