@@ -1,15 +1,10 @@
 -- EVERY SOUND RUN CARRIES STREAMS (`carries`): the world follows the wires step by step (`step_follows`), so in it users take of each stream
 -- the first of what was offered (pair_rises), and so do those at the wires (Read.antt).
-use Rattle.std.proofs.Common.{refl, arith, ap, sym, subst, ◌≡◌, ◌∙◌, ◌<◌, ◌≤◌, ◌-◌, ℕ, zero, suc, ◌+◌, ◌^◌, ◌==◌, ◌&&◌, ◌||◌, Bool, true, false, List, [], ◌∷◌, ◌++◌, length, map, drop, slice_get, slice_set, Option, Some, None, append-nil, replicate, get_or, if◌then◌else◌}
-use Rattle.std.proofs.lemmas.Bool.{eqb-true}
+use Rattle.std.proofs.Common.{refl, arith, ap, sym, subst, ◌≡◌, ◌∙◌, ◌<◌, ◌≤◌, ◌-◌, ℕ, ◌+◌, ◌==◌, Bool, true, false, List, [], ◌∷◌, length, slice_get, Option, Some, None, append-nil}
 use Rattle.std.proofs.lemmas.Bool.Decides.{nat_tests}
-use Rattle.std.proofs.lemmas.List.{get_or-replicate, length-append, length-map, length-replicate}
+use Rattle.std.proofs.lemmas.List.{get_or-replicate, length-append, length-replicate}
 use Rattle.std.proofs.lemmas.Option.{slice_get_cases}
-use Rattle.std.specs.Option.{option_to_list}
 use Rattle.l2_bits.specs.declared.marks.Mark.{Mark}
-use Rattle.l2_bits.specs.LineBits.{line_bits}
-use Rattle.l2_bits.proofs.BitLemmas.{length-bits_of}
-use Rattle.l2_bits.proofs.TwoMarkLemmas.{two_marks}
 use Rattle.l2_units.specs.declared.profile.Profile.TheVariants.{Narrow}
 use Rattle.l2_units.specs.declared.unit.Unit.{Unit as SignalUnit}
 use Rattle.set_events.specs.declared.answer.Answer.{Answer}
@@ -19,60 +14,42 @@ use Rattle.set_events.specs.declared.event.Actor.{Actor}
 use Rattle.set_events.specs.declared.event.Event.{Event}
 use Rattle.set_events.specs.declared.history.Entry.{Entry}
 use Rattle.set_model.specs.History.{Base, LinkSet, IsStep, entries_in, entries_of, longest_history}
-use Rattle.set_model.specs.State.{LinkState, State, has_phase_up, is_up, link_is_up, new_state}
-use Rattle.set_model.specs.Step.{NotUp, comes_back, refused, step, with_known}
-use Rattle.set_model.proofs.Lists.{get_set_other, get_set_same, within}
+use Rattle.set_model.specs.State.{State, is_up, new_state}
+use Rattle.set_model.specs.Step.{step}
 use Rattle.set_model.proofs.Places.{apart_back}
-use Rattle.set_model.proofs.Walk.{link_count_stays, step_is}
-use Rattle.set_octets.specs.Lives.{GoesOn, IsNoUp}
-use Rattle.set_octets.specs.Starting.{HearsNoneYet, IsNotHeardOn}
-use Rattle.set_octets.proofs.Lives.{only_up}
-use Rattle.set_octets.proofs.Starting.{none_heard}
-use Rattle.term_asks.specs.Asking.{Standing, out, waiting, served, standing_of}
-use Rattle.term_bench.specs.Ends.{AtLink, BenchState, new_bench, new_link, new_links, told_at}
-use Rattle.term_model.specs.Hearing.{unit_in}
+use Rattle.term_asks.specs.Asking.{Standing, out, waiting}
+use Rattle.term_bench.specs.Ends.{AtLink, BenchState, new_bench, new_links}
 use Rattle.term_model.specs.Runs.{Doing, marks_of}
-use Rattle.term_model.specs.declared.command.Command.{Command}
 use Rattle.term_model.specs.declared.timers.Timers.{Timers}
 use Rattle.pair_steps.specs.Lines.{no_units, units_of, units_on}
 use Rattle.pair_steps.specs.declared.step.End.{End}
 use Rattle.pair_steps.specs.declared.step.End.TheVariants.{A, B}
-use Rattle.pair_steps.specs.declared.step.Step.TheVariants.{Act}
-use Rattle.pair_model.specs.Run.{past_asked, past_at}
-use Rattle.pair_steps.specs.declared.step.Shown.TheVariants.{Answered}
-use Rattle.pair_model.specs.World.{actor_of, at_end, has_actor, has_own_step, is_full, line_to, other}
+use Rattle.pair_model.specs.World.{is_full, line_to}
 use Rattle.pair_model.specs.Promises.{IsOneMethod}
-use Rattle.pair_model.proofs.Pairs.{no_other, settings_stay}
-use Rattle.pair_rises.specs.declared.moves.Move.TheVariants.{Step as MoveStep}
-use Rattle.pair_rises.specs.Rises.{Rising, IsPlainMove, all_inside, inside, awaited, open_at, opening}
-use Rattle.pair_octets.specs.Passing.{doing_in, is_same, all_turns, turns_if, turns_in}
+use Rattle.pair_rises.specs.Rises.{Rising, inside, open_at, opening}
+use Rattle.pair_octets.specs.Passing.{doing_in, all_turns, turns_if, turns_in}
 use Rattle.pair_octets.specs.Passing.{other as passing_other}
 use Rattle.pair_octets.specs.Streams.{IsOneMethod as OctetMethod}
-use Rattle.pair_octets.specs.Streams.{Arrives, AreSound, IsSoundCommand, IsSoundEvent, IsSoundRun, IsSoundStep}
-use Rattle.pair_octets.specs.Wires.{Wires, Sides, CommandsIf, Happen, Happens, IsAsked, IsRun, TakesTurn, is_refused, new_wires, seen_from}
+use Rattle.pair_octets.specs.Streams.{Arrives, AreSound, IsSoundRun, IsSoundStep}
+use Rattle.pair_octets.specs.Wires.{Wires, Sides, Happen, Happens, IsRun, TakesTurn, is_refused, new_wires, seen_from}
 use Rattle.pair_octets.specs.declared.step.EndConfig.{EndConfig}
 use Rattle.pair_octets.specs.declared.step.LineLengths.{LineLengths}
 use Rattle.pair_octets.specs.declared.step.WireStep.{WireStep}
 use Rattle.pair_octets.specs.declared.step.WireStep.TheVariants.{Turn, Command as CommandStep, Ask, Damage}
 use Rattle.pair_wires.specs.Carrying.{CarriesStreams, EverySoundRunCarriesStreams, HaveRoom, IsSoundly}
-use Rattle.pair_wires.specs.Following.{Follows, heard_from, heard_off, sent_if}
-use Rattle.pair_wires.specs.Moves.{IsThinned}
-use Rattle.pair_wires.specs.Read.{AreThinned, IsOffered}
+use Rattle.pair_wires.specs.Following.{Follows}
+use Rattle.pair_wires.specs.Read.{AreThinned}
 use Rattle.pair_wires.specs.Turning.{AtEachTurn, IfTurn, TurnAsksSo}
-use Rattle.pair_wires.specs.Ways.{AreFlushed, AreUnderWay, Carried, HearsFront, IfTurnHears, Way, Ways, gives_unit, has_aligned, heard_in, is_marked, is_out, joined_by, left_by, no_ways, sent_by, sent_in, settled_if, ways_after}
-use Rattle.pair_wires.proofs.Ending.{EndFollows, TurnFollows, entries_base, entries_history, marks_on, settled_old, stands_in, turn_follows}
+use Rattle.pair_wires.specs.Ways.{AreFlushed, AreUnderWay, Carried, HearsFront, IfTurnHears, Way, Ways, heard_in, is_marked, joined_by, left_by, no_ways, sent_by, sent_in, settled_if, ways_after}
+use Rattle.pair_wires.proofs.Ending.{EndFollows, TurnFollows, stands_in}
 use Rattle.pair_wires.proofs.Flushed.{each_way}
-use Rattle.pair_wires.proofs.Following.{goes_far, goes_near}
-use Rattle.pair_streams.specs.Handed.{handed_by}
-use Rattle.pair_wires.proofs.Going.{Going, Keeps, acts_keeps, known_link, vain_keeps, with_entry}
-use Rattle.pair_wires.proofs.Hearing.{heard_all}
+use Rattle.pair_wires.proofs.Going.{with_entry}
 use Rattle.pair_wires.proofs.Reached.{first_reached, users_take}
 use Rattle.pair_wires.proofs.Read.{read_off}
-use Rattle.pair_wires.proofs.Starting.{AllPlain, AreSo, EachSo, all_plain, down_first, each_new, few_links, first_so, itself, plain_parts, step_so}
-use Rattle.pair_wires.proofs.Turned.{HasRoom, entries_room, entries_state, none_yet, retold, with_entries}
+use Rattle.pair_wires.proofs.Starting.{AllPlain, AreSo, all_plain, down_first, each_new, few_links, first_so, itself, plain_parts, step_so}
+use Rattle.pair_wires.proofs.Turned.{entries_room, retold}
 use Rattle.pair_wires.proofs.Turning.{each_turn}
-use Rattle.pair_wires.proofs.Ways.{heard_is}
-use Rattle.pair_wires.proofs.Stepping.{ask_so_far, asks_on, AsksOn, command_stands, flip_going, flop_going, Followed, renamed, rests, same_set, same_stands, SameStands, still_way, turn_so_far}
+use Rattle.pair_wires.proofs.Stepping.{ask_so_far, asks_on, command_stands, flip_going, flop_going, Followed, renamed, rests, same_set, same_stands, SameStands, still_way, turn_so_far}
 
 turn_grows : (l : ℕ) (old new : Sides) (takes : TakesTurn l old new) → entries_in old.near.set ≤ entries_in new.near.set
 turn_grows l old new takes =

@@ -1,6 +1,6 @@
 -- HOW A TURN ENDS, move by move: a proving period may end (`times_on`), and a unit may be chosen (`chooses_on`), which is then under way to the
 -- far end.
-use Rattle.std.proofs.Common.{refl, arith, ap, sym, subst, ◌≡◌, ◌∙◌, ◌<◌, ◌≤◌, ◌⊎◌, inl, inr, ℕ, zero, suc, ◌+◌, ◌==◌, ◌||◌, not, Bool, true, false, List, [], ◌∷◌, ◌++◌, length, Option, Some, None}
+use Rattle.std.proofs.Common.{refl, arith, ap, sym, subst, ◌≡◌, ◌∙◌, ◌<◌, ◌≤◌, ◌⊎◌, ℕ, suc, ◌+◌, ◌==◌, ◌||◌, not, Bool, true, false, List, [], ◌∷◌, ◌++◌, length, Option, Some, None}
 use Rattle.l2_units.specs.declared.unit.Unit.{Unit as SignalUnit}
 use Rattle.set_events.specs.declared.answer.Answer.{Answer}
 use Rattle.set_events.specs.declared.answer.Refusal.{Refusal}
@@ -16,15 +16,15 @@ use Rattle.set_octets.specs.Lives.{GoesOn, IsNoUp, IsRefused, IsServed}
 use Rattle.set_octets.specs.Starting.{IsNotHeardOn}
 use Rattle.set_octets.proofs.Lives.{only_up}
 use Rattle.set_octets.proofs.Starting.{none_heard}
-use Rattle.term_asks.specs.Asking.{Standing, out, aligning, ready, waiting, served, Falls, stays, drops, tells, Times, goes_on, completes, heard_by, is_status, IsStartFisu, IsPlainStatus, IsIdleUnit, IsIdleOne, AsksUp, asks_nothing, asks_again, GivesUnit, Serves, idles, gives, ServesOne, Chooses, has_bits, chooses_one}
+use Rattle.term_asks.specs.Asking.{Standing, out, aligning, ready, waiting, served, Falls, stays, drops, tells, Times, goes_on, completes, heard_by, is_status, IsStartFisu, IsPlainStatus, IsIdleOne, AsksUp, asks_nothing, asks_again, GivesUnit, Serves, idles, gives, Chooses, has_bits, chooses_one}
 use Rattle.pair_steps.specs.declared.step.End.{End}
 use Rattle.pair_steps.specs.declared.step.Shown.TheVariants.{Answered}
 use Rattle.pair_model.specs.Run.{past_asked}
 use Rattle.pair_model.specs.World.{line_to, other}
 use Rattle.pair_model.proofs.Pairs.{settings_stay}
 use Rattle.pair_streams.specs.Handed.{handed_by}
-use Rattle.pair_rises.specs.Rises.{Cover, open_at}
-use Rattle.pair_wires.specs.Following.{Follows, IsMade, LinkApart, is_signal, sent_if, sent_on}
+use Rattle.pair_rises.specs.Rises.{open_at}
+use Rattle.pair_wires.specs.Following.{Follows, LinkApart, sent_if, sent_on}
 use Rattle.pair_wires.specs.Standing.{IsStarting, StandsAt}
 use Rattle.pair_wires.specs.Ways.{Carried, Way, gives_by, gives_unit}
 use Rattle.pair_wires.proofs.Following.{completes_it, ends, given_joins, goes_far, goes_near, idle_joins, status_joins}

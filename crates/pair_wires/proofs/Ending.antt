@@ -1,8 +1,7 @@
 -- A TURN IS OVER (`turn_follows`): what it led to of each link, at both ends. A link about which an order was heard late is told to stop, so
 -- what is under way to it is old then (Q.704 5, own).
-use Rattle.std.proofs.Common.{refl, arith, ap, sym, subst, ◌≡◌, ◌≢◌, ◌∙◌, ◌<◌, ◌≤◌, ◌⊎◌, inl, inr, ℕ, zero, suc, ◌+◌, ◌*◌, ◌%◌, ◌^◌, ◌==◌, ◌&&◌, ◌||◌, not, Bool, true, false, List, [], ◌∷◌, ◌++◌, length, map, nat_lt, slice_get, slice_set, Option, Some, None, append_assoc, if◌then◌else◌}
+use Rattle.std.proofs.Common.{refl, arith, ap, sym, subst, ◌≡◌, ◌∙◌, ◌<◌, ◌≤◌, ◌⊎◌, inl, inr, ℕ, zero, suc, ◌+◌, ◌*◌, ◌%◌, ◌^◌, ◌==◌, ◌&&◌, ◌||◌, not, Bool, true, false, List, [], ◌∷◌, ◌++◌, length, map, nat_lt, slice_get, slice_set, Option, Some, None, append_assoc, if◌then◌else◌}
 use Rattle.std.proofs.lemmas.Bool.{eqb-true}
-use Rattle.std.proofs.lemmas.Bool.Decides.{nat_tests}
 use Rattle.l2_bits.specs.declared.marks.Mark.{Mark}
 use Rattle.l2_state.specs.declared.link_state.State.{State as LinkPhase}
 use Rattle.l2_units.specs.declared.profile.Profile.TheVariants.{Narrow}
@@ -23,7 +22,7 @@ use Rattle.set_octets.proofs.Lateness.{late_orders}
 use Rattle.set_octets.proofs.Lives.{others_refused, up_served}
 use Rattle.l2_align.specs.declared.align.State.{State as AlignState}
 use Rattle.link_term.specs.States.{aligning_as, state_of}
-use Rattle.term_asks.specs.Asking.{Standing, out, aligning, ready, waiting, served, standing_in, standing_of, AsksSo}
+use Rattle.term_asks.specs.Asking.{Standing, out, waiting, standing_in, standing_of, AsksSo}
 use Rattle.term_bench.specs.Ends.{AtLink, BenchState, told_at}
 use Rattle.term_bench.specs.Late.{ended_at, ended_from, was_late}
 use Rattle.term_bench.specs.Late as late
@@ -34,7 +33,7 @@ use Rattle.pair_steps.specs.declared.step.End.{End}
 use Rattle.pair_model.specs.World.{line_to, other}
 use Rattle.pair_model.proofs.Pairs.{no_other}
 use Rattle.pair_rises.specs.Rises.{Cover, Rising, open_at}
-use Rattle.pair_wires.specs.Following.{Follows, sent_if, settled_way}
+use Rattle.pair_wires.specs.Following.{Follows, sent_if}
 use Rattle.pair_wires.specs.Standing.{IsStarting, StandsAt}
 use Rattle.pair_wires.specs.Starting.{IsLinkSo}
 use Rattle.pair_wires.specs.Ways.{Carried, Way, carried_in, gives_unit, has_aligned, is_marked, is_out, settled_if}

@@ -1,12 +1,12 @@
 -- A LINK'S LINE GOES ON FOLLOWING what is under way on it: where its end's set goes on (`goes_near`, `goes_far`), where it
 -- falls (`ends`), begins to align (`begins_to_align`) or comes up (`first_near` .. `second_far`), where a unit is heard
 -- (`other_passes`, `given_passes`, `given_heard`) and where one is sent (`status_joins`, `idle_joins`, `given_joins`).
-use Rattle.std.proofs.Common.{refl, ap, sym, subst, ◌≡◌, ◌∙◌, ◌⊎◌, inl, inr, ℕ, Bool, true, false, not, ◌&&◌, ◌||◌, List, [], ◌∷◌, ◌++◌, append-nil, append_assoc, if◌then◌else◌}
+use Rattle.std.proofs.Common.{refl, ap, sym, subst, ◌≡◌, ◌∙◌, inl, inr, ℕ, Bool, true, false, not, ◌&&◌, ◌||◌, List, [], ◌∷◌, ◌++◌, append-nil, append_assoc, if◌then◌else◌}
 use Rattle.l2_units.specs.declared.unit.Unit.{Unit as SignalUnit}
 use Rattle.set_model.specs.State.{State, is_settled, is_up}
 use Rattle.set_octets.specs.Lives.{GoesOn}
 use Rattle.set_octets.specs.Starting.{HearsNoneYet}
-use Rattle.term_asks.specs.Asking.{Standing, out, aligning, ready, waiting, served, is_status}
+use Rattle.term_asks.specs.Asking.{Standing, served}
 use Rattle.pair_rises.specs.Rises.{Cover, inside, awaited, missed}
 use Rattle.pair_wires.specs.Following.{given_of, givens, is_signal, is_idle, has_signal, has_idle, AreMade, IsMade, IdlesFirst, IsOn, on_its_way, up_there, Follows, LinkApart, heard_from, heard_off, IsFront, in_old, in_fresh, settled_way, sent_on}
 use Rattle.pair_wires.specs.Standing.{IsStarting}

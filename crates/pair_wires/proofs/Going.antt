@@ -1,37 +1,32 @@
 -- A TURN'S ENTRIES AS MOVES (`falls_down`, `rises_first`, `rises_second`, `hears_one`, `loses_one`, `sends_next`, `asks_vainly`): the
 -- world goes on as the set of an end does, and of each line and cover what each move leaves there.
-use Rattle.std.proofs.Common.{refl, arith, ap, sym, subst, ◌≡◌, ◌∙◌, ◌<◌, ◌⊎◌, inl, inr, ℕ, zero, suc, ◌==◌, Bool, true, false, List, [], ◌∷◌, ◌++◌, length, take, drop, append-nil, nat_lt, Option, Some, None, if◌then◌else◌}
+use Rattle.std.proofs.Common.{refl, arith, ap, sym, subst, ◌≡◌, ◌∙◌, ◌<◌, ◌⊎◌, inl, inr, ℕ, ◌==◌, Bool, true, false, List, [], ◌∷◌, ◌++◌, length, nat_lt, Option, Some, None, if◌then◌else◌}
 use Rattle.std.proofs.lemmas.Bool.Decides.{nat_tests}
 use Rattle.l2_units.specs.declared.unit.Unit.{Unit as SignalUnit}
-use Rattle.l2_units.specs.declared.profile.Profile.{Profile}
 use Rattle.set_events.specs.declared.answer.Answer.{Answer}
 use Rattle.set_events.specs.declared.config.SetConfig.{SetConfig}
-use Rattle.set_events.specs.declared.event.Actor.{Actor}
 use Rattle.set_events.specs.declared.event.Event.{Event}
 use Rattle.set_events.specs.declared.history.Entry.{Entry}
 use Rattle.set_model.specs.Changeover.{one_later}
 use Rattle.set_model.specs.History.{LinkSet, IsStep}
-use Rattle.set_model.specs.State.{State, is_settled, is_up, late_at, link_count}
+use Rattle.set_model.specs.State.{State, is_settled, is_up, late_at}
 use Rattle.set_model.specs.Step.{step}
-use Rattle.set_model.proofs.Places.{apart_back, itself}
+use Rattle.set_model.proofs.Places.{apart_back}
 use Rattle.pair_steps.specs.Lines.{units_on}
 use Rattle.pair_steps.specs.declared.step.End.{End}
 use Rattle.pair_steps.specs.declared.step.End.TheVariants.{A, B}
 use Rattle.pair_steps.specs.declared.step.Shown.{Shown}
 use Rattle.pair_steps.specs.declared.step.Shown.TheVariants.{Answered, Up, Lost}
-use Rattle.pair_steps.specs.declared.step.Step.{Step}
 use Rattle.pair_steps.specs.declared.step.Step.TheVariants.{Act, Emit, Arrive, Lose}
-use Rattle.pair_model.specs.Run.{Message, Past, Stage, bodies, past_arrived, past_asked, past_at, past_heard, past_sent, passed, with_past}
+use Rattle.pair_model.specs.Run.{Message, Past, Stage, bodies, past_arrived, past_asked, past_at, past_sent, passed, with_past}
 use Rattle.pair_model.specs.World.{World, shows, after, at_end, actor_of, carried_out, has_actor, has_link, has_own_step, impossible, is_full, joined, line_to, lines_to, loses_from, other, with_end, with_line}
 use Rattle.pair_streams.specs.Handed.{handed_by}
 use Rattle.pair_rises.specs.declared.moves.Move.{Move}
 use Rattle.pair_rises.specs.declared.moves.Move.TheVariants.{Step as MoveStep, Rise}
-use Rattle.pair_rises.specs.Counted.{IsCounted}
-use Rattle.pair_rises.specs.Rises.{Cover, inside, awaited, missed, Rising, covers_heard, emptied, is_first, is_order, missed_at, missed_by, moved, moved_on, open_at, order_about, risen_at, risen_so, takes_order, told_at, IsPlainMove, MayMove, MayRise}
+use Rattle.pair_rises.specs.Rises.{Cover, inside, awaited, missed, Rising, covers_heard, is_first, missed_at, missed_by, moved, moved_on, open_at, order_about, risen_at, risen_so, takes_order, told_at, IsPlainMove, MayMove, MayRise}
 use Rattle.pair_rises.proofs.Covers.{told_here, told_other}
 use Rattle.pair_rises.proofs.Runs.{Holds}
 use Rattle.pair_rises.proofs.Veils.{seen_length}
-use Rattle.pair_octets.specs.Streams.{offered_by}
 use Rattle.pair_wires.specs.Moves.{IsThinned, Moves, IsAskedThere}
 use Rattle.pair_wires.specs.Read.{IsOffered}
 use Rattle.pair_wires.proofs.Lines.{emptied_here, emptied_off, joined_here, joined_near, joined_off, line_far, line_here, line_off, set_lines}

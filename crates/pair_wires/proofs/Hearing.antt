@@ -1,6 +1,6 @@
 -- WHAT A TURN HEARS, move by move (`hears_all_on`): a unit may bring the link up (`rises_on`), and it's heard at the set where the link
 -- is up there (`served_on`), or passes (`passes_on`).
-use Rattle.std.proofs.Common.{refl, arith, ap, sym, subst, ◌≡◌, ◌∙◌, ◌<◌, ◌≤◌, ◌⊎◌, inl, inr, ℕ, zero, suc, ◌+◌, ◌*◌, ◌==◌, ◌&&◌, ◌||◌, not, Bool, true, false, List, [], ◌∷◌, ◌++◌, length, map, Option, Some, None}
+use Rattle.std.proofs.Common.{refl, arith, ap, sym, subst, ◌≡◌, ◌∙◌, ◌<◌, ◌⊎◌, inl, inr, ℕ, suc, ◌+◌, ◌*◌, ◌==◌, ◌&&◌, ◌||◌, not, Bool, true, false, List, [], ◌∷◌, ◌++◌, length, map, Option, Some}
 use Rattle.l2_bits.specs.declared.marks.Mark.{Mark}
 use Rattle.l2_units.specs.declared.profile.Profile.{Profile}
 use Rattle.l2_units.specs.declared.unit.Header.{Header}
@@ -13,29 +13,28 @@ use Rattle.set_events.specs.declared.history.Entry.{Entry}
 use Rattle.set_model.specs.Changeover.{one_later}
 use Rattle.set_model.specs.History.{LinkSet, IsLegal}
 use Rattle.set_model.specs.State.{State, is_settled, is_up, late_at}
-use Rattle.set_model.specs.Sound.{IsSound}
 use Rattle.set_model.specs.Step.{step}
 use Rattle.set_model.proofs.Walk.{link_count_stays}
 use Rattle.set_octets.specs.Lives.{GoesOn, IsNoUp, IsRefused, IsServed}
 use Rattle.set_octets.specs.Starting.{ChangesNothing, HearsNoneYet, IsFirstHead, IsNotHeardOn, nothing_new}
 use Rattle.set_octets.proofs.Lives.{only_up, up_begins}
 use Rattle.set_octets.proofs.Starting.{first_fisus, none_heard}
-use Rattle.term_asks.specs.Asking.{Standing, out, aligning, ready, waiting, served, Falls, stays, drops, tells, risen_by, is_status, IsStartFisu, Rises, not_yet, comes_up, heard_by, Hears, passes, is_heard, HearsUnit, HearsOne, HearsAll, Then}
+use Rattle.term_asks.specs.Asking.{Standing, out, ready, waiting, served, Falls, stays, drops, tells, risen_by, is_status, IsStartFisu, Rises, not_yet, comes_up, heard_by, Hears, passes, is_heard, HearsUnit, HearsOne, HearsAll}
 use Rattle.term_model.specs.Hearing.{unit_in}
 use Rattle.term_model.specs.Terminal.{start_head}
 use Rattle.pair_steps.specs.declared.step.End.{End}
 use Rattle.pair_steps.specs.declared.step.Shown.TheVariants.{Answered}
 use Rattle.pair_model.specs.Run.{past_asked}
-use Rattle.pair_model.specs.World.{at_end, line_to, other}
+use Rattle.pair_model.specs.World.{line_to, other}
 use Rattle.pair_model.proofs.Pairs.{settings_stay}
 use Rattle.pair_streams.specs.Handed.{handed_by}
-use Rattle.pair_rises.specs.Rises.{Cover, inside, awaited, open_at}
-use Rattle.pair_wires.specs.Following.{AreMade, Follows, IsFront, IsMade, LinkApart, heard_from, heard_off, in_fresh, in_old, is_idle, is_signal, has_idle, has_signal}
+use Rattle.pair_rises.specs.Rises.{inside, awaited, open_at}
+use Rattle.pair_wires.specs.Following.{AreMade, Follows, IsFront, IsMade, LinkApart, heard_from, heard_off, in_fresh, in_old, has_idle, has_signal}
 use Rattle.pair_wires.specs.Standing.{IsStarting, StandsAt}
 use Rattle.pair_wires.specs.Ways.{Carried, Way}
-use Rattle.pair_wires.proofs.Following.{Passes, ends, first_far, first_near, given_heard, given_passes, goes_far, goes_near, leads, other_passes, second_far, second_near, was_gone}
+use Rattle.pair_wires.proofs.Following.{Passes, ends, first_far, first_near, given_heard, given_passes, goes_far, leads, other_passes, second_far, second_near, was_gone}
 use Rattle.pair_wires.proofs.Going.{asks_vainly, hears_one, loses_one, rises_first, rises_second, with_entry}
-use Rattle.pair_wires.proofs.Turned.{Gone, HasRoom, IsElsewhere, Mid, Sight, apart_at, elsewhere_by, entries_more, entries_state, falls_on, flipped, GoesElsewhere, has_room_for, sound_at, legal_parts, mid_goes, none_yet, room_first, room_then, settled_down, starts_where, stays_elsewhere, with_entries}
+use Rattle.pair_wires.proofs.Turned.{Gone, HasRoom, IsElsewhere, Mid, Sight, apart_at, elsewhere_by, entries_more, entries_state, falls_on, flipped, GoesElsewhere, has_room_for, sound_at, legal_parts, mid_goes, none_yet, room_first, room_then, settled_down, stays_elsewhere, with_entries}
 
 -- THE FRONT of what is under way
 pub record HasFront (c : Carried) (later : List Carried) (way : Way) : Type 0 where

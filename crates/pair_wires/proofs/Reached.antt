@@ -1,7 +1,6 @@
 -- A STAGE THAT MOVES LED TO, and one move more (`reached_on`). What holds along all such runs holds there (`users_take`,
 -- `stands_there`, `holds_there`).
-use Rattle.std.proofs.Common.{refl, ap, sym, subst, ◌≡◌, ◌∙◌, ℕ, Bool, true, false, List, [], ◌∷◌, ◌++◌}
-use Rattle.set_events.specs.declared.config.Method.{Method}
+use Rattle.std.proofs.Common.{refl, ap, sym, subst, ◌≡◌, ◌∙◌, false, List, [], ◌∷◌, ◌++◌}
 use Rattle.set_events.specs.declared.config.SetConfig.{SetConfig}
 use Rattle.pair_steps.specs.declared.step.Shown.{Shown}
 use Rattle.pair_model.specs.Promises.{IsOneMethod}

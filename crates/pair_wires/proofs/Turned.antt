@@ -1,13 +1,10 @@
 -- A TURN, move by move: how far it has gone (`Mid`), and how each part of it goes on (`falls_on`, `obeys_on`, `hears_on`, `times_on`,
 -- `chooses_on`).
-use Rattle.std.proofs.Common.{refl, arith, ap, sym, subst, ◌≡◌, ◌∙◌, ◌<◌, ◌≤◌, ◌⊎◌, inl, inr, ℕ, zero, suc, ◌+◌, ◌^◌, ◌==◌, ◌||◌, Bool, true, false, List, [], ◌∷◌, ◌++◌, length, map, nat_lt, slice_get, Option, Some, None, append-nil, append_assoc}
+use Rattle.std.proofs.Common.{refl, arith, ap, sym, subst, ◌≡◌, ◌∙◌, ◌<◌, ◌≤◌, ◌⊎◌, inl, inr, ℕ, zero, suc, ◌+◌, ◌==◌, ◌||◌, Bool, true, false, List, [], ◌∷◌, ◌++◌, length, nat_lt, slice_get, Option, Some, None}
 use Rattle.std.proofs.lemmas.Bool.Decides.{nat_tests}
 use Rattle.std.proofs.lemmas.List.{length-append}
-use Rattle.l2_bits.specs.declared.marks.Mark.{Mark}
 use Rattle.l2_units.specs.declared.profile.Profile.TheVariants.{Narrow}
 use Rattle.l2_units.specs.declared.unit.Unit.{Unit as SignalUnit}
-use Rattle.set_events.specs.declared.answer.Answer.{Answer}
-use Rattle.set_events.specs.declared.answer.Refusal.{Refusal}
 use Rattle.set_events.specs.declared.config.SetConfig.{SetConfig}
 use Rattle.set_events.specs.declared.event.Event.{Event}
 use Rattle.set_events.specs.declared.history.Entry.{Entry}
@@ -20,23 +17,22 @@ use Rattle.set_model.specs.Step.{step}
 use Rattle.set_model.proofs.Walk.{link_count_stays}
 use Rattle.set_octets.specs.Lives.{GoesOn, IsNoUp}
 use Rattle.set_octets.specs.Starting.{HearsNoneYet, IsNotHeardOn}
-use Rattle.set_octets.proofs.Lives.{down_ends, only_up, up_begins}
-use Rattle.set_octets.proofs.Starting.{first_fisus, none_heard}
-use Rattle.term_asks.specs.Asking.{Standing, out, aligning, ready, waiting, served, Falls, stays, drops, tells, Obeys, only_falls, begins, Times, goes_on, completes, risen_by, is_status, Rises, not_yet, comes_up, heard_by, Hears, passes, is_heard, HearsUnit, HearsOne, HearsAll}
-use Rattle.term_model.specs.Hearing.{unit_in}
+use Rattle.set_octets.proofs.Lives.{down_ends, only_up}
+use Rattle.set_octets.proofs.Starting.{none_heard}
+use Rattle.term_asks.specs.Asking.{Standing, out, ready, waiting, served, Falls, stays, drops, tells}
 use Rattle.pair_steps.specs.declared.step.End.{End}
 use Rattle.pair_steps.specs.declared.step.End.TheVariants.{A, B}
 use Rattle.pair_steps.specs.declared.step.Step.TheVariants.{Act}
-use Rattle.pair_model.specs.World.{World, actor_of, at_end, has_actor, has_own_step, is_full, line_to, other}
+use Rattle.pair_model.specs.World.{actor_of, at_end, has_actor, has_own_step, is_full, line_to, other}
 use Rattle.pair_model.proofs.Pairs.{settings_stay}
 use Rattle.pair_rises.specs.declared.moves.Move.TheVariants.{Step as MoveStep}
-use Rattle.pair_rises.specs.Rises.{Cover, inside, awaited, missed, IsPlainMove, Rising, open_at}
+use Rattle.pair_rises.specs.Rises.{Cover, awaited, missed, IsPlainMove, open_at}
 use Rattle.pair_wires.specs.Apart.{StandsApart}
-use Rattle.pair_wires.specs.Following.{Follows, IsOn, LinkApart, heard_off, IsFront, in_old, in_fresh, has_signal}
+use Rattle.pair_wires.specs.Following.{Follows, LinkApart}
 use Rattle.pair_wires.specs.Standing.{IsStarting, StandsAt}
-use Rattle.pair_wires.specs.Ways.{Carried, Way}
-use Rattle.pair_wires.proofs.Following.{begins_to_align, completes_it, ends, far_less, first_far, first_near, given_heard, given_passes, goes_far, goes_near, leads, other_passes, second_far, second_near, was_gone}
-use Rattle.pair_wires.proofs.Going.{Going, IsCovered, Leaves, acts_on, as_was, asks_vainly, hears_one, is_missed, known_link, loses_one, rises_first, rises_second, with_entry}
+use Rattle.pair_wires.specs.Ways.{Way}
+use Rattle.pair_wires.proofs.Following.{ends, far_less, goes_far, goes_near}
+use Rattle.pair_wires.proofs.Going.{Going, IsCovered, Leaves, acts_on, as_was, is_missed, known_link, with_entry}
 use Rattle.pair_rises.proofs.Runs.{Holds}
 use Rattle.pair_wires.proofs.Reached.{holds_there, stands_there}
 

@@ -1,6 +1,5 @@
 -- A WHOLE TURN, move by move (`turn_on`): commands, what is heard, timers, and what is chosen.
-use Rattle.std.proofs.Common.{refl, arith, ap, sym, subst, ◌≡◌, ◌∙◌, ◌<◌, ◌≤◌, ◌⊎◌, inl, inr, ℕ, zero, suc, ◌+◌, ◌*◌, ◌%◌, ◌^◌, ◌==◌, ◌||◌, not, Bool, true, false, List, [], ◌∷◌, ◌++◌, length, map, nat_lt, Option, Some, None, append_assoc}
-use Rattle.std.proofs.lemmas.List.{length-append}
+use Rattle.std.proofs.Common.{refl, arith, ap, sym, subst, ◌≡◌, ◌∙◌, ◌<◌, ◌⊎◌, ℕ, suc, ◌+◌, ◌*◌, ◌||◌, Bool, true, false, List, [], ◌∷◌, ◌++◌, length, map, Option, Some, None}
 use Rattle.l2_bits.specs.declared.marks.Mark.{Mark}
 use Rattle.l2_units.specs.declared.unit.Unit.{Unit as SignalUnit}
 use Rattle.set_events.specs.declared.answer.Answer.{Answer}
@@ -9,22 +8,20 @@ use Rattle.set_events.specs.declared.config.SetConfig.{SetConfig}
 use Rattle.set_events.specs.declared.event.Event.{Event}
 use Rattle.set_events.specs.declared.history.Entry.{Entry}
 use Rattle.set_model.specs.Changeover.{one_later}
-use Rattle.set_model.specs.History.{LinkSet, IsLegal, after}
+use Rattle.set_model.specs.History.{LinkSet, IsLegal}
 use Rattle.set_model.specs.State.{State, is_settled, is_up, late_at}
 use Rattle.set_model.specs.Step.{step}
 use Rattle.set_octets.specs.Lives.{IsRefused, IsServed}
-use Rattle.term_asks.specs.Asking.{Standing, out, aligning, ready, waiting, served, Falls, stays, drops, tells, Obeys, only_falls, begins, Times, goes_on, completes, Rises, not_yet, comes_up, Hears, passes, is_heard, HearsOne, HearsAll, Chooses, AsksSo}
+use Rattle.term_asks.specs.Asking.{Standing, out, aligning, ready, waiting, served, stays, drops, tells, Obeys, only_falls, begins, Times, goes_on, completes, Rises, not_yet, comes_up, Hears, passes, is_heard, HearsOne, HearsAll, AsksSo}
 use Rattle.term_model.specs.Hearing.{unit_in}
 use Rattle.pair_steps.specs.declared.step.End.{End}
-use Rattle.pair_model.specs.World.{line_to, other}
-use Rattle.pair_rises.specs.Rises.{open_at}
-use Rattle.pair_wires.specs.Following.{Follows, sent_if}
+use Rattle.pair_wires.specs.Following.{sent_if}
 use Rattle.pair_wires.specs.Standing.{IsStarting, StandsAt}
 use Rattle.pair_wires.specs.Ways.{Carried, Way, gives_by, gives_unit, is_out}
 use Rattle.pair_wires.proofs.Choosing.{Sends, chooses_on, falls_gives, times_on, weaker}
-use Rattle.pair_wires.proofs.Following.{begins_to_align, ends}
+use Rattle.pair_wires.proofs.Following.{begins_to_align}
 use Rattle.pair_wires.proofs.Hearing.{IsFlushed, falls_flushed, heard_all, hears_all_on}
-use Rattle.pair_wires.proofs.Turned.{Gone, HasRoom, Mid, Sight, entries_more, entries_state, falls_on, legal_parts, mid_ends, or_none, room_first, room_then, tells_on, with_entries}
+use Rattle.pair_wires.proofs.Turned.{Gone, HasRoom, Mid, Sight, entries_more, entries_state, falls_on, legal_parts, mid_ends, room_first, room_then, tells_on, with_entries}
 
 -- WHAT GIVES NO UNIT: all but the choice
 none_gives : (xs ys : List Entry) → gives_unit xs ≡ false → gives_unit (xs ++ ys) ≡ gives_unit ys
