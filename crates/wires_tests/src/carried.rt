@@ -40,8 +40,18 @@ fn add_starts(steps: &mut Vec<WireStep>) -> bool {
 /// So many times both ends take a turn of link 0.
 fn add_turns(steps: &mut Vec<WireStep>, times: u32) -> bool {
     for _ in 0..times {
-        let a = steps.push(WireStep::Turn { end: End::A, link: 0 }).is_ok();
-        let b = steps.push(WireStep::Turn { end: End::B, link: 0 }).is_ok();
+        let a = steps
+            .push(WireStep::Turn {
+                end: End::A,
+                link: 0,
+            })
+            .is_ok();
+        let b = steps
+            .push(WireStep::Turn {
+                end: End::B,
+                link: 0,
+            })
+            .is_ok();
         if !a || !b {
             return false;
         }
