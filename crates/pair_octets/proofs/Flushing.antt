@@ -75,14 +75,14 @@ parted past (bit ∷ bits) more marks are =
     }
 
 -- UNITS ON A LINE have one text
-on_alone : (units : List SignalUnit) (a b : List Bool) → AreOnLine units a → AreOnLine units b → a ≡ b
+pub on_alone : (units : List SignalUnit) (a b : List Bool) → AreOnLine units a → AreOnLine units b → a ≡ b
 on_alone [] a b x y = x ∙ sym y
 on_alone (unit ∷ units) a b x y =
     x.4 ∙ ap (λ (w : List Bool). (w ++ flag) ++ x.1) (one_text _ x.0 y.0 x.2 y.2)
     ∙ ap (λ (l : List Bool). (y.0 ++ flag) ++ l) (on_alone units x.1 y.1 x.3 y.3) ∙ sym y.4
 
 -- of some units, the first ones
-on_front : (first later : List SignalUnit) (line : List Bool) → AreOnLine (first ++ later) line
+pub on_front : (first later : List SignalUnit) (line : List Bool) → AreOnLine (first ++ later) line
     → (front back : List Bool) × AreOnLine first front × (line ≡ front ++ back)
 on_front [] later line on = ([], line, refl, refl)
 on_front (unit ∷ first) later line on =
@@ -148,7 +148,7 @@ first_heard idle first later put put_then taken line left left_then marks on on_
     }
 
 -- EACH TURN takes an octet and puts one.
-abbrev TakesEach : List Doing → Type 0
+abbrev pub TakesEach : List Doing → Type 0
 TakesEach ds = (length (octets_in ds) ≡ length ds) × (length (octets_out ds) ≡ length ds)
 
 each_of_both : (xs ys : List Doing) → TakesEach xs → TakesEach ys → TakesEach (xs ++ ys)
@@ -175,7 +175,7 @@ each_if : (is : Bool) (link : ℕ) (old new : Sides) (takes : TakesTurn link old
 each_if true link old new takes = (refl, refl)
 each_if false link old new takes = (refl, refl)
 
-each_step : (end : End) (link : ℕ) (step : WireStep) (old new : Wires) (happens : Happens step old new) → TakesEach (turns_in end link step old new happens)
+pub each_step : (end : End) (link : ℕ) (step : WireStep) (old new : Wires) (happens : Happens step old new) → TakesEach (turns_in end link step old new happens)
 each_step end link (Turn e l) old new takes = each_if (is_same end e && (link == l)) l _ _ takes
 each_step end link (CommandStep e l command) old new happens = (refl, refl)
 each_step end link (Ask e who event) old new happens = (refl, refl)
@@ -188,7 +188,7 @@ each_turn end link (step ∷ steps) old new happen =
     (each_step end link step old happen.0 happen.1) (each_turn end link steps happen.0 new happen.2)
 
 -- A LINK WAITS as long as a proving period is ahead.
-abbrev WaitsAt : ℕ → ℕ → List AtLink → Type 0
+abbrev pub WaitsAt : ℕ → ℕ → List AtLink → Type 0
 WaitsAt n link links = (now : AtLink) × (slice_get links link ≡ Some now) × Waits n now.terminal
 
 told_one : (n k : ℕ) (s t : State) (at : AtLink) → Waits n at.terminal → Waits n (ended_at k s t at).terminal
@@ -259,7 +259,7 @@ command_waits false n link l command old new was told there w =
         let apart : l ≢ link = λ e. grind (arith, nat_tests, is, e) in
         (was, get_set_other old.links l link (told_at command told.was) apart ∙ there, w)
 
-step_waits : (end : End) (link : ℕ) (step : WireStep) (old new : Wires) (happens : Happens step old new) (n : ℕ) (was : AtLink)
+pub step_waits : (end : End) (link : ℕ) (step : WireStep) (old new : Wires) (happens : Happens step old new) (n : ℕ) (was : AtLink)
     → slice_get (seen_from end old).near.links link ≡ Some was → 1 ≤ n → length (turns_in end link step old new happens) + n ≤ 4096
     → Waits (length (turns_in end link step old new happens) + n) was.terminal → WaitsAt n link (seen_from end new).near.links
 step_waits A link (Turn A l) old new takes n was there some few w = near_turn_waits link l _ _ takes n was there some few w
@@ -320,7 +320,7 @@ many_turns end link steps old new happen was now there w then_there ready =
     ]
 
 -- THE LAW.
-short_at : (lengths : List LineLengths) → AreShort lengths → (n : ℕ) → idle_of lengths A n + idle_of lengths B n ≤ 3700
+pub short_at : (lengths : List LineLengths) → AreShort lengths → (n : ℕ) → idle_of lengths A n + idle_of lengths B n ≤ 3700
 short_at [] short n = omega arith
 short_at (line ∷ lengths) short zero = short.0
 short_at (line ∷ lengths) short (suc n) = short_at lengths short.1 n

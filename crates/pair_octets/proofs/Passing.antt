@@ -28,7 +28,7 @@ use Rattle.pair_octets.specs.declared.step.LineLengths.{LineLengths}
 use Rattle.pair_octets.specs.declared.step.WireStep.{WireStep}
 use Rattle.pair_octets.specs.declared.step.WireStep.TheVariants.{Turn, Command as CommandStep, Ask, Damage}
 use Rattle.pair_octets.proofs.OneEnd.{EachLink, IsEnd, IsLink, IsSet, TurnKept, asked_is, ended_each, new_kept, told_kept, turn_kept}
-use Rattle.pair_octets.proofs.Hearing.{hears_all}
+use Rattle.pair_octets.proofs.Hearing.{IsLongEnough, hears_all}
 use Rattle.pair_octets.proofs.Seen.{length-new_links}
 
 -- a line keeps order
@@ -63,7 +63,7 @@ flips count near far i j s p = record {
   far_lines = p.near_lines;
 }
 
-end_same : (near also : ℕ → List Doing) (bench : BenchState) → ((n : ℕ) → near n ≡ also n) → IsEnd near bench → IsEnd also bench
+pub end_same : (near also : ℕ → List Doing) (bench : BenchState) → ((n : ℕ) → near n ≡ also n) → IsEnd near bench → IsEnd also bench
 end_same near also bench same is = record {
   set = is.set;
   links = λ n at there. subst (λ (ds : List Doing). IsLink ds at) (same n) (is.links n at there);
@@ -94,10 +94,31 @@ none_is link m doing ds other =
     let same : (m == link) ≡ false = grind (arith, nat_tests, other) in
     sym (append-nil ds) ∙ ap (λ b. ds ++ turns_if b doing) (sym same)
 
+-- the end whose turn it is
+module _ (link : ℕ) (old new : Sides) (near : ℕ → List Doing) (takes : TakesTurn link old new) (p : IsEnd near old.near) where
+  abbrev done_then : ℕ → List Doing
+  done_then n = near n ++ turns_if (n == link) (doing_in link old new takes)
+
+  end_kept : TurnKept (near link) (doing_in link old new takes) takes.turns.now new.near.set.state
+  end_kept = turn_kept takes.octet _ old.near.set.state new.near.set.state takes.turns.was takes.turns.now takes.turn.put takes.turns.takes.entries takes.unit
+      (near link) takes.turns.takes.by_octet (p.links link takes.turns.was takes.turns.is_at) p.set
+
+  links_kept : EachLink (λ n at. IsLink (done_then n) at) new.near.links
+  links_kept n at there =
+      ended_each (λ m y. IsLink (done_then m) y) (λ m y is. told_kept _ y Command.Stop is) 0 old.near.set.state new.near.set.state
+      (slice_set old.near.links link takes.turns.now)
+      (each_set (λ m y. IsLink (done_then m) y) old.near.links link takes.turns.now
+      (subst (λ (ds : List Doing). IsLink ds takes.turns.now) (one_is link (doing_in link old new takes) (near link)) end_kept.link)
+      (λ m y apart is. subst (λ (ds : List Doing). IsLink ds y) (none_is link m (doing_in link old new takes) (near m) apart) (p.links m y is)))
+      n at (subst (λ (ls : List AtLink). slice_get ls n ≡ Some at) takes.turns.links_are there)
+
+  pub turn_end : IsEnd (λ n. near n ++ turns_if (n == link) (doing_in link old new takes)) new.near
+  turn_end = record { set = end_kept.set; links = links_kept }
+
 turn_passes : (count link : ℕ) (old new : Sides) (near far : ℕ → List Doing) (i j : ℕ → ℕ) (takes : TakesTurn link old new)
     → IsPassing count near far i j old → IsPassing count (λ n. near n ++ turns_if (n == link) (doing_in link old new takes)) far i j new
 turn_passes count link old new near far i j takes p = record {
-  near_end = record { set = kept.set; links = links };
+  near_end = turn_end link old new near takes p.near_end;
   far_end = subst (λ (b : BenchState). IsEnd far b) (sym takes.far_is) p.far_end;
   near_line = λ n line there.
       each_set (λ m x. IsFifo (i m) (far m) (near m ++ turns_if (m == link) doing) x) old.to_near link takes.rest coming
@@ -117,19 +138,6 @@ turn_passes count link old new near far i j takes p = record {
   where
     doing : Doing
     doing = doing_in link old new takes
-
-    kept : TurnKept (near link) doing takes.turns.now new.near.set.state
-    kept = turn_kept takes.octet _ old.near.set.state new.near.set.state takes.turns.was takes.turns.now takes.turn.put takes.turns.takes.entries takes.unit
-        (near link) takes.turns.takes.by_octet (p.near_end.links link takes.turns.was takes.turns.is_at) p.near_end.set
-
-    links : EachLink (λ n at. IsLink (near n ++ turns_if (n == link) doing) at) new.near.links
-    links n at there =
-        ended_each (λ m y. IsLink (near m ++ turns_if (m == link) doing) y) (λ m y is. told_kept _ y Command.Stop is) 0 old.near.set.state new.near.set.state
-        (slice_set old.near.links link takes.turns.now)
-        (each_set (λ m y. IsLink (near m ++ turns_if (m == link) doing) y) old.near.links link takes.turns.now
-        (subst (λ (ds : List Doing). IsLink ds takes.turns.now) (one_is link doing (near link)) kept.link)
-        (λ m y apart is. subst (λ (ds : List Doing). IsLink ds y) (none_is link m doing (near m) apart) (p.near_end.links m y is)))
-        n at (subst (λ (ls : List AtLink). slice_get ls n ≡ Some at) takes.turns.links_are there)
 
     coming : IsFifo (i link) (far link) (near link ++ turns_if (link == link) doing) takes.rest
     coming =
@@ -161,11 +169,11 @@ near_passes count old new near far i j is links far_is to_near_is to_far_is p = 
   far_lines = ap (λ (ls : List (List ℕ)). length ls) to_far_is ∙ p.far_lines;
 }
 
-record Told (near : ℕ → List Doing) (old new : BenchState) : Type 0 where
+pub record Told (near : ℕ → List Doing) (old new : BenchState) : Type 0 where
   pub is : IsEnd near new
   pub links : length new.links ≡ length old.links
 
-told_so : (refused : Bool) (link : ℕ) (command : Command) (near : ℕ → List Doing) (old new : BenchState) → CommandsIf refused link command old new
+pub told_so : (refused : Bool) (link : ℕ) (command : Command) (near : ℕ → List Doing) (old new : BenchState) → CommandsIf refused link command old new
     → IsEnd near old → Told near old new
 told_so true link command near old new same is = record {
   is = subst (λ (b : BenchState). IsEnd near b) (sym same) is;
@@ -201,14 +209,18 @@ asked_in (Event.NoAnswer link) apart = tt
 asked_in (Event.Restore link) apart = tt
 asked_in (Event.BackTimeout link) apart = tt
 
+pub asked_end : (who : Actor) (event : Event) (old new : Sides) (near : ℕ → List Doing) → IsAsked who event old new → IsAskedApart event
+    → IsEnd near old.near → IsEnd near new.near
+asked_end who event old new near asked apart is = record {
+  set = subst (λ (s : State). IsSet s) (sym asked.is_step.state_is) (asked_is old.near.set.state event is.set (asked_in event apart));
+  links = λ n at there. is.links n at (subst (λ (ls : List AtLink). slice_get ls n ≡ Some at) asked.links_are there);
+}
+
 ask_passes : (count : ℕ) (who : Actor) (event : Event) (old new : Sides) (near far : ℕ → List Doing) (i j : ℕ → ℕ) → IsAsked who event old new
     → IsAskedApart event → IsPassing count near far i j old → IsPassing count near far i j new
 ask_passes count who event old new near far i j asked apart p =
     near_passes count old new near far i j
-    (record {
-      set = subst (λ (s : State). IsSet s) (sym asked.is_step.state_is) (asked_is old.near.set.state event p.near_end.set (asked_in event apart));
-      links = λ n at there. p.near_end.links n at (subst (λ (ls : List AtLink). slice_get ls n ≡ Some at) asked.links_are there);
-    })
+    (asked_end who event old new near asked apart p.near_end)
     (ap (λ (ls : List AtLink). length ls) asked.links_are) asked.only.far_is asked.only.to_near_is asked.only.to_far_is p
 
 -- A STEP, told of end A.
@@ -218,7 +230,7 @@ At count ds idle w = IsPassing count (ds A) (ds B) (idle A) (idle B) (seen_from 
 abbrev pub later : (End → ℕ → List Doing) → (step : WireStep) (old new : Wires) → Happens step old new → End → ℕ → List Doing
 later ds step old new happens end n = ds end n ++ turns_in end n step old new happens
 
-step_passes : (count : ℕ) (ds : End → ℕ → List Doing) (idle : End → ℕ → ℕ) (step : WireStep) (old new : Wires) (happens : Happens step old new)
+pub step_passes : (count : ℕ) (ds : End → ℕ → List Doing) (idle : End → ℕ → ℕ) (step : WireStep) (old new : Wires) (happens : Happens step old new)
     → IsIntact step → At count ds idle old → At count (later ds step old new happens) idle new
 step_passes count ds idle (Turn A link) old new takes intact p =
     same_passing count _ (ds B) _ (λ n. ds B n ++ []) (idle A) (idle B) (seen_from A new) (λ n. refl) (λ n. sym (append-nil (ds B n)))
@@ -287,7 +299,7 @@ new_set_is config is =
       octets = record { narrow = is.narrow; sio = is.sio; rows = tt };
     }
 
-new_end_is : (config : EndConfig) → IsNarrowEnd config → IsEnd (λ n. []) (new_bench config.set config.timers)
+pub new_end_is : (config : EndConfig) → IsNarrowEnd config → IsEnd (λ n. []) (new_bench config.set config.timers)
 new_end_is config is = record { set = new_set_is config is; links = λ n at there. new_links_kept config.timers config.set.links n at there }
 
 line_is : (end : End) (f : LineLengths → ℕ) (lengths : List LineLengths) → ((n : ℕ) (l : LineLengths) → slice_get lengths n ≡ Some l → idle_of lengths end n ≡ f l)
@@ -314,9 +326,13 @@ pub run_passes : (a b : EndConfig) (lengths : List LineLengths) (steps : List Wi
 run_passes a b lengths steps w run on =
     passes (length lengths) steps (λ end n. []) (idle_of lengths) _ w run.happen on.intact (begins a b lengths run.fitting on.narrow_a on.narrow_b)
 
--- THE LAW.
-near_hears : (count : ℕ) (near far : ℕ → List Doing) (i j : ℕ → ℕ) (s : Sides) → IsPassing count near far i j s → (link : ℕ) → link < count
-    → ArePassed (far link) (near link)
+-- THE LAW. Of what the far end sent the near one heard the first units, and it took so many octets as hold them.
+pub record NearHears (idle : ℕ) (sends hears : List Doing) : Type 0 where
+  pub passed : ArePassed sends hears
+  pub long : IsLongEnough idle passed.heard (length (octets_in hears))
+
+pub near_hears : (count : ℕ) (near far : ℕ → List Doing) (i j : ℕ → ℕ) (s : Sides) → IsPassing count near far i j s → (link : ℕ) → link < count
+    → NearHears (i link) (far link) (near link)
 near_hears count near far i j s p link within =
     let at = there_is s.near.links link (subst (λ n. link < n) (sym p.near_links) within) in
     let there = there_is s.far.links link (subst (λ n. link < n) (sym p.far_links) within) in
@@ -325,11 +341,14 @@ near_hears count near far i j s p link within =
     let far_off = p.far_end.links link there.0 there.1 in
     let heard = hears_all (i link) (units_of (far link)) (octets_out (far link)) (octets_in (near link)) line.0 there.0.terminal.bits (marks_of (near link))
     far_off.carries far_off.sends (p.near_line link line.0 line.1) here.marks in
-    record { heard = heard.heard; under_way = heard.later; sent_are = heard.units_are; heard_are = heard.read }
+    record {
+      passed = record { heard = heard.heard; under_way = heard.later; sent_are = heard.units_are; heard_are = heard.read };
+      long = heard.long;
+    }
 
 pub every_unit_is_heard : EachUnitIsHeard
 every_unit_is_heard a b lengths steps w run on A link within =
-    near_hears (length lengths) _ _ (idle_of lengths A) (idle_of lengths B) (seen_from A w) (run_passes a b lengths steps w run on) link within
+    (near_hears (length lengths) _ _ (idle_of lengths A) (idle_of lengths B) (seen_from A w) (run_passes a b lengths steps w run on) link within).passed
 every_unit_is_heard a b lengths steps w run on B link within =
-    near_hears (length lengths) _ _ (idle_of lengths B) (idle_of lengths A) (seen_from B w)
-    (flips (length lengths) _ _ (idle_of lengths A) (idle_of lengths B) (seen_from A w) (run_passes a b lengths steps w run on)) link within
+    (near_hears (length lengths) _ _ (idle_of lengths B) (idle_of lengths A) (seen_from B w)
+    (flips (length lengths) _ _ (idle_of lengths A) (idle_of lengths B) (seen_from A w) (run_passes a b lengths steps w run on)) link within).passed

@@ -1,5 +1,5 @@
--- FROM WIRES TO USERS: what is to be promised of users' streams, and in which runs. It's a statement alone: no contract names it.
-use Rattle.std.specs.Prelude.{◌≡◌, ◌<◌, ◌==◌, ℕ, List, [], ◌∷◌, ◌++◌, filter, length, take}
+-- FROM WIRES TO USERS: what is promised of users' streams, and of which management (`pair_wires`).
+use Rattle.std.specs.Prelude.{◌≡◌, ◌==◌, ℕ, List, [], ◌∷◌, ◌++◌, filter, length, take}
 use Rattle.set_events.specs.declared.answer.Answer.{Answer}
 use Rattle.set_events.specs.declared.config.Method.{Method}
 use Rattle.set_events.specs.declared.config.Method.TheVariants.{Basic, Cyclic}
@@ -36,7 +36,7 @@ abbrev pub IsSoundStep : WireStep → Type 0
 IsSoundStep (Turn end link) = Unit {0}
 IsSoundStep (CommandStep end link command) = IsSoundCommand command
 IsSoundStep (Ask end who event) = IsSoundEvent event
-IsSoundStep (Damage end link place octet) = ⊥
+IsSoundStep (Damage end link place octet) = Unit {0}
 
 abbrev pub AreSound : List WireStep → Type 0
 AreSound [] = Unit {0}
@@ -49,13 +49,17 @@ IsOneMethod Basic (Cyclic n1 n2) = ⊥
 IsOneMethod (Cyclic n1 n2) Basic = ⊥
 IsOneMethod (Cyclic n1 n2) (Cyclic m1 m2) = Unit {0}
 
--- A SOUND RUN on intact lines, each link's no longer than a proving period lasts
-pub record IsSoundRun (a b : EndConfig) (lengths : List LineLengths) (steps : List WireStep) (w : Wires) : Type 0 where
-  pub run : IsRun a b lengths steps w
+-- A RUN'S PREMISES: intact lines, each link's loop no longer than a proving period lasts, one method, and sound management
+pub record IsSoundly (a b : EndConfig) (lengths : List LineLengths) (steps : List WireStep) : Type 0 where
   pub lines : IsOnIntactLines a b steps
   pub short : AreShort lengths
   pub one_method : IsOneMethod a.set.method b.set.method
   pub sound : AreSound steps
+
+-- A SOUND RUN on intact lines
+pub record IsSoundRun (a b : EndConfig) (lengths : List LineLengths) (steps : List WireStep) (w : Wires) : Type 0 where
+  pub run : IsRun a b lengths steps w
+  pub so : IsSoundly a b lengths steps
 
 -- USERS: the bodies that they offered and that were accepted, and those that they took
 abbrev pub offered_by : Event → Answer → List (List ℕ)
@@ -83,9 +87,3 @@ abbrev pub Arrives : ℕ → BenchState → BenchState → Type 0
 Arrives stream near far =
     let got = of_stream stream (taken_in far.set.history) in
     got ≡ take (length got) (of_stream stream (offered_in near.set.history))
-
--- THE STATEMENT, in both directions
-abbrev pub WiresCarryStreams : Type 0
-WiresCarryStreams =
-    (a b : EndConfig) (lengths : List LineLengths) (steps : List WireStep) (w : Wires) → IsSoundRun a b lengths steps w → (stream : ℕ)
-    → stream < 16 → Arrives stream w.a w.b × Arrives stream w.b w.a

@@ -1,6 +1,6 @@
 -- A TURN IS OVER (`turn_follows`): what it led to of each link, at both ends. A link about which an order was heard late is told to stop, so
 -- what is under way to it is old then (Q.704 5, own).
-use Rattle.std.proofs.Common.{refl, arith, ap, sym, subst, ◌≡◌, ◌∙◌, ◌<◌, ◌≤◌, ◌⊎◌, inl, inr, ℕ, zero, suc, ◌+◌, ◌*◌, ◌%◌, ◌^◌, ◌==◌, ◌&&◌, ◌||◌, not, Bool, true, false, List, [], ◌∷◌, ◌++◌, length, map, nat_lt, slice_get, slice_set, Option, Some, None, append_assoc, if◌then◌else◌}
+use Rattle.std.proofs.Common.{refl, arith, ap, sym, subst, ◌≡◌, ◌∙◌, ◌<◌, ◌≤◌, ◌⊎◌, inl, inr, ℕ, zero, suc, ◌+◌, ◌*◌, ◌%◌, ◌^◌, ◌==◌, ◌&&◌, ◌||◌, not, Bool, true, false, List, [], ◌∷◌, ◌++◌, length, nat_lt, slice_get, slice_set, Option, Some, None, append_assoc, if◌then◌else◌}
 use Rattle.std.proofs.lemmas.Bool.{eqb-true}
 use Rattle.l2_bits.specs.declared.marks.Mark.{Mark}
 use Rattle.l2_state.specs.declared.link_state.State.{State as LinkPhase}
@@ -26,7 +26,6 @@ use Rattle.term_asks.specs.Asking.{Standing, out, waiting, standing_in, standing
 use Rattle.term_bench.specs.Ends.{AtLink, BenchState, told_at}
 use Rattle.term_bench.specs.Late.{ended_at, ended_from, was_late}
 use Rattle.term_bench.specs.Late as late
-use Rattle.term_model.specs.Hearing.{unit_in}
 use Rattle.term_model.specs.Terminal.{Terminal}
 use Rattle.term_model.specs.declared.command.Command.{Command}
 use Rattle.pair_steps.specs.declared.step.End.{End}
@@ -36,7 +35,7 @@ use Rattle.pair_rises.specs.Rises.{Cover, Rising, open_at}
 use Rattle.pair_wires.specs.Following.{Follows, sent_if}
 use Rattle.pair_wires.specs.Standing.{IsStarting, StandsAt}
 use Rattle.pair_wires.specs.Starting.{IsLinkSo}
-use Rattle.pair_wires.specs.Ways.{Carried, Way, carried_in, gives_unit, has_aligned, is_marked, is_out, settled_if}
+use Rattle.pair_wires.specs.Ways.{Carried, HearsSome, Way, carried_in, gives_unit, has_aligned, is_marked, is_out, settled_if}
 use Rattle.pair_wires.proofs.Choosing.{Sends}
 use Rattle.pair_wires.proofs.Following.{ends, settles}
 use Rattle.pair_wires.proofs.Going.{Going, with_entry}
@@ -205,7 +204,7 @@ module _ (a b : SetConfig) (end : End) (l : ℕ) (count : ℕ) (near near' far :
     (asks : AsksSo l was.terminal.commands.start was.terminal.commands.stop marks (standing_of was.terminal) (standing_of now.terminal) entries unit)
     (legal : IsLegal near.set.state entries) (set_is : with_entries near.set entries ≡ near'.set) (room : HasRoom near.set entries)
     (few_marks : length marks ≤ 2) (cs rest : List Carried) (front : carried_in (near_ways l) ≡ cs ++ rest)
-    (heard : map unit_in marks ≡ map (λ c. Some c.unit) cs)
+    (heard : HearsSome marks cs)
     (aligned : is_marked (Some was) ≡ false → has_aligned (standing_of was.terminal) ≡ true → (near_ways l).old ≡ [])
     (near_l : near_ways' l ≡ settled_if (is_marked (slice_get near'.links l)) (heard_all cs (near_ways l)))
     (near_m : (m : ℕ) → (l == m) ≡ false → near_ways' m ≡ settled_if (is_marked (slice_get near'.links m)) (near_ways m))

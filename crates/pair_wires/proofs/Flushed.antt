@@ -104,14 +104,14 @@ out_state LinkPhase.Ready up is = let no : ready ≡ out = is in absurd cc
 out_state (LinkPhase.InService paused) true is = let no : served ≡ out = is in absurd cc
 out_state (LinkPhase.InService paused) false is = let no : waiting ≡ out = is in absurd cc
 
-not_before : (phase : LinkPhase) (up : Bool) → has_aligned (standing_in phase up) ≡ true → is_before phase ≡ false
+pub not_before : (phase : LinkPhase) (up : Bool) → has_aligned (standing_in phase up) ≡ true → is_before phase ≡ false
 not_before LinkPhase.OutOfService up is = true_false (sym is)
 not_before LinkPhase.Aligning up is = true_false (sym is)
 not_before LinkPhase.Ready up is = refl
 not_before (LinkPhase.InService paused) up is = refl
 
 -- out of service it has a proving period ahead
-waits_out : (t : Terminal) → IsOrdinary t → standing_of t ≡ out → Waits 4096 t
+pub waits_out : (t : Terminal) → IsOrdinary t → standing_of t ≡ out → Waits 4096 t
 waits_out t o is = takes_its_time.out_waits t state (o.idle state) (down t.up refl)
   where
     state : t.state ≡ LinkPhase.OutOfService
@@ -122,7 +122,7 @@ waits_out t o is = takes_its_time.out_waits t state (o.idle state) (down t.up re
     down false e = e
 
 -- MARKS.
-abbrev IsMarked : AtLink → Type 0
+abbrev pub IsMarked : AtLink → Type 0
 IsMarked at = is_marked (Some at) ≡ true
 
 or_true : (b : Bool) → (b || true) ≡ true
@@ -207,7 +207,7 @@ module _ (link : ℕ) (at at' : AtLink) (marked : IsMarked at) (unmarked : is_ma
   command_turn l command old new told there then_there =
       never new.links then_there (command_marks (is_refused l command old) link l command old new told (each_marked link old.links at there marked))
 
-  unmarks : (end : End) (step : WireStep) (old new : Wires) (happens : Happens step old new) → IsSoundStep step → IfTurn step old new happens
+  pub unmarks : (end : End) (step : WireStep) (old new : Wires) (happens : Happens step old new) → IsSoundStep step → IfTurn step old new happens
       → slice_get (seen_from end old).near.links link ≡ Some at → slice_get (seen_from end new).near.links link ≡ Some at' → IsOutBefore
   unmarks A (Turn A l) old new takes sound asks there then_there = own_turn l _ _ takes asks there then_there
   unmarks B (Turn B l) old new takes sound asks there then_there = own_turn l _ _ takes asks there then_there
@@ -221,18 +221,21 @@ module _ (link : ℕ) (at at' : AtLink) (marked : IsMarked at) (unmarked : is_ma
   unmarks B (Ask B who event) old new asked sound asks there then_there = same_links old.b.links new.b.links asked.links_are there then_there
   unmarks A (Ask B who event) old new asked sound asks there then_there = same_bench old.a new.a asked.only.far_is there then_there
   unmarks B (Ask A who event) old new asked sound asks there then_there = same_bench old.b new.b asked.only.far_is there then_there
-  unmarks end (Damage e l place octet) old new damaged sound asks there then_there = absurd sound
+  unmarks A (Damage A l place octet) old new damaged sound asks there then_there = same_bench old.a new.a damaged.near_is there then_there
+  unmarks B (Damage B l place octet) old new damaged sound asks there then_there = same_bench old.b new.b damaged.near_is there then_there
+  unmarks A (Damage B l place octet) old new damaged sound asks there then_there = same_bench old.a new.a damaged.far_is there then_there
+  unmarks B (Damage A l place octet) old new damaged sound asks there then_there = same_bench old.b new.b damaged.far_is there then_there
 
 -- AN END OF ALL
-count_at : (count : ℕ) (end : End) (w : Wires) → AreSo count w → length (seen_from end w).near.links ≡ count
+pub count_at : (count : ℕ) (end : End) (w : Wires) → AreSo count w → length (seen_from end w).near.links ≡ count
 count_at count A w so = so.links_a
 count_at count B w so = so.links_b
 
-each_at : (count : ℕ) (end : End) (w : Wires) → AreSo count w → EachSo (seen_from end w).near
+pub each_at : (count : ℕ) (end : End) (w : Wires) → AreSo count w → EachSo (seen_from end w).near
 each_at count A w so = so.a
 each_at count B w so = so.b
 
-in_range : (count : ℕ) (end : End) (w : Wires) (link : ℕ) (at : AtLink) → AreSo count w → slice_get (seen_from end w).near.links link ≡ Some at → link < count
+pub in_range : (count : ℕ) (end : End) (w : Wires) (link : ℕ) (at : AtLink) → AreSo count w → slice_get (seen_from end w).near.links link ≡ Some at → link < count
 in_range count end w link at so there =
     subst (λ n. link < n) (count_at count end w so) (within (seen_from end w).near.links link at there)
 
@@ -241,7 +244,7 @@ front_turn : (doing : Doing) (is : Bool) (way : Way) → is ≡ true → HearsFr
 front_turn doing true way e h = subst (λ (ms : List Mark). HearsFront ms way) (append-nil doing.marks) h
 front_turn doing false way e h = true_false (sym e)
 
-one_hears : (count : ℕ) (step : WireStep) (old new : Wires) (happens : Happens step old new) (ways : Ways) → AreSo count old
+pub one_hears : (count : ℕ) (step : WireStep) (old new : Wires) (happens : Happens step old new) (ways : Ways) → AreSo count old
     → ((end : End) (link : ℕ) → link < count → HearsFront (marks_of (turns_in end link step old new happens)) (ways end link))
     → IfTurnHears step old new happens ways
 one_hears count (Turn A link) old new takes ways so hears =
@@ -258,11 +261,11 @@ none_left : {X : Type 0} (xs : List X) → length xs ≡ 0 → xs ≡ []
 none_left [] none = refl
 none_left (x ∷ xs) none = absurd (omega (arith, none))
 
-settled_fresh : (marked : Bool) (way : Way) → marked ≡ true → (settled_if marked way).fresh ≡ []
+pub settled_fresh : (marked : Bool) (way : Way) → marked ≡ true → (settled_if marked way).fresh ≡ []
 settled_fresh true way e = refl
 settled_fresh false way e = true_false (sym e)
 
-unsettled_old : (marked : Bool) (way : Way) → marked ≡ false → (settled_if marked way).old ≡ way.old
+pub unsettled_old : (marked : Bool) (way : Way) → marked ≡ false → (settled_if marked way).old ≡ way.old
 unsettled_old true way e = true_false e
 unsettled_old false way e = refl
 
@@ -514,7 +517,7 @@ new_marked : (lengths : Timers) (n link : ℕ) (at : AtLink) → slice_get (new_
 new_marked lengths n link at there =
     let one = each_new lengths n link at there in subst (λ (x : AtLink). IsMarked x) (sym one.is) refl
 
-first_marked : (a b : EndConfig) (lengths : List LineLengths) (end : End) (link : ℕ) (at : AtLink)
+pub first_marked : (a b : EndConfig) (lengths : List LineLengths) (end : End) (link : ℕ) (at : AtLink)
     → slice_get (seen_from end (new_wires a b lengths)).near.links link ≡ Some at → IsMarked at
 first_marked a b lengths A link at there = new_marked a.timers a.set.links link at there
 first_marked a b lengths B link at there = new_marked b.timers b.set.links link at there
@@ -524,8 +527,8 @@ pub each_way : EachWayIsUnderWay
 each_way a b lengths steps w run =
     let start = new_wires a b lengths in
     let none : IsRun a b lengths [] start = record { fitting = run.run.fitting; happen = refl } in
-    let walked = walk a b lengths run.lines.narrow_a run.lines.narrow_b run.short (few_links a b lengths steps w run) steps [] start w none (λ end link. []) no_ways
-    run.run.happen run.sound run.lines.intact (all_plain a b lengths steps w run) (each_turn a b lengths steps w run) (first_so a b lengths steps w run) (record {
+    let walked = walk a b lengths run.so.lines.narrow_a run.so.lines.narrow_b run.so.short (few_links a b lengths steps w run) steps [] start w none (λ end link. []) no_ways
+    run.run.happen run.so.sound run.so.lines.intact (all_plain a b lengths steps w run) (each_turn a b lengths steps w run) (first_so a b lengths steps w run) (record {
       intact = tt;
       turns_are = λ end link. refl;
       way = λ end link below. record { heard = []; sent_are = refl; heard_are = refl };

@@ -1,6 +1,6 @@
 -- WHAT A TURN HEARS, move by move (`hears_all_on`): a unit may bring the link up (`rises_on`), and it's heard at the set where the link
 -- is up there (`served_on`), or passes (`passes_on`).
-use Rattle.std.proofs.Common.{refl, arith, ap, sym, subst, ◌≡◌, ◌∙◌, ◌<◌, ◌⊎◌, inl, inr, ℕ, suc, ◌+◌, ◌*◌, ◌==◌, ◌&&◌, ◌||◌, not, Bool, true, false, List, [], ◌∷◌, ◌++◌, length, map, Option, Some}
+use Rattle.std.proofs.Common.{refl, arith, ap, sym, subst, ◌≡◌, ◌∙◌, ◌<◌, ◌≤◌, ◌⊎◌, inl, inr, ℕ, suc, ◌+◌, ◌*◌, ◌==◌, ◌&&◌, ◌||◌, not, Bool, true, false, List, [], ◌∷◌, ◌++◌, length, Option}
 use Rattle.l2_bits.specs.declared.marks.Mark.{Mark}
 use Rattle.l2_units.specs.declared.profile.Profile.{Profile}
 use Rattle.l2_units.specs.declared.unit.Header.{Header}
@@ -20,7 +20,6 @@ use Rattle.set_octets.specs.Starting.{ChangesNothing, HearsNoneYet, IsFirstHead,
 use Rattle.set_octets.proofs.Lives.{only_up, up_begins}
 use Rattle.set_octets.proofs.Starting.{first_fisus, none_heard}
 use Rattle.term_asks.specs.Asking.{Standing, out, ready, waiting, served, Falls, stays, drops, tells, risen_by, is_status, IsStartFisu, Rises, not_yet, comes_up, heard_by, Hears, passes, is_heard, HearsUnit, HearsOne, HearsAll}
-use Rattle.term_model.specs.Hearing.{unit_in}
 use Rattle.term_model.specs.Terminal.{start_head}
 use Rattle.pair_steps.specs.declared.step.End.{End}
 use Rattle.pair_steps.specs.declared.step.Shown.TheVariants.{Answered}
@@ -31,10 +30,10 @@ use Rattle.pair_streams.specs.Handed.{handed_by}
 use Rattle.pair_rises.specs.Rises.{inside, awaited, open_at}
 use Rattle.pair_wires.specs.Following.{AreMade, Follows, IsFront, IsMade, LinkApart, heard_from, heard_off, in_fresh, in_old, has_idle, has_signal}
 use Rattle.pair_wires.specs.Standing.{IsStarting, StandsAt}
-use Rattle.pair_wires.specs.Ways.{Carried, Way}
+use Rattle.pair_wires.specs.Ways.{Carried, HearsSome, Way, no_more, is_bad, is_lost, is_good}
 use Rattle.pair_wires.proofs.Following.{Passes, ends, first_far, first_near, given_heard, given_passes, goes_far, leads, other_passes, second_far, second_near, was_gone}
 use Rattle.pair_wires.proofs.Going.{asks_vainly, hears_one, loses_one, rises_first, rises_second, with_entry}
-use Rattle.pair_wires.proofs.Turned.{Gone, HasRoom, IsElsewhere, Mid, Sight, apart_at, elsewhere_by, entries_more, entries_state, falls_on, flipped, GoesElsewhere, has_room_for, sound_at, legal_parts, mid_goes, none_yet, room_first, room_then, settled_down, stays_elsewhere, with_entries}
+use Rattle.pair_wires.proofs.Turned.{Gone, HasRoom, IsElsewhere, Mid, Sight, apart_at, elsewhere_by, entries_more, entries_state, falls_on, flipped, GoesElsewhere, has_room_for, sound_at, legal_parts, mid_goes, mid_rests, none_yet, room_first, room_then, settled_down, stays_elsewhere, with_entries}
 
 -- THE FRONT of what is under way
 pub record HasFront (c : Carried) (later : List Carried) (way : Way) : Type 0 where
@@ -212,20 +211,18 @@ module _ (a b : SetConfig) (end : End) (l : ℕ) (v : Sight)
         record { ready_is = λ e. none; served_is = λ e. none },
       )
 
-  -- IT PASSES, and the set isn't asked
-  pub passes_mid : (done : ℕ) (full : LinkSet) (st : Standing) (marked : Bool) (near_way : Way) (c : Carried) → IsFront c near_way
-      → Mid a b end l v done full st marked near_way far_way → Mid a b end l v (suc done) full st marked (heard_off near_way) far_way
-  passes_mid done full st marked near_way c front mid = go c.given refl
+  -- IT'S LOST, whatever the link does
+  lost_mid : (done : ℕ) (full : LinkSet) (st : Standing) (marked : Bool) (near_way : Way) (c : Carried) → IsFront c near_way
+      → Mid a b end l v done full st marked near_way far_way → Mid a b end l v done full st marked (heard_off near_way) far_way
+  lost_mid done full st marked near_way c front mid = go c.given refl
     where
       same : Follows (open_at mid.w.g end l) (open_at mid.w.g (other end) l) l full.state v.far.state (line_to mid.w.g.stage.world end l) st marked (heard_off near_way)
-          → Mid a b end l v (suc done) full st marked (heard_off near_way) far_way
+          → Mid a b end l v done full st marked (heard_off near_way) far_way
       same f = record {
         w = mid.w;
         near = f;
         far = mid.far;
-        others = λ m apart.
-            let o = mid.others m apart in
-            record { late = o.late; late_is = o.late_is; most = let few = o.most in omega (arith, few); near = o.near; far = o.far; starts = o.starts };
+        others = mid.others;
         stands = mid.stands;
         never_waits = mid.never_waits;
         profile = mid.profile;
@@ -233,16 +230,50 @@ module _ (a b : SetConfig) (end : End) (l : ℕ) (v : Sight)
       }
 
       by : Passes l (open_at mid.w.g end l) (open_at mid.w.g (other end) l) full.state v.far.state (line_to mid.w.g.stage.world end l) st marked near_way c
-          → Mid a b end l v (suc done) full st marked (heard_off near_way) far_way
+          → Mid a b end l v done full st marked (heard_off near_way) far_way
       by (was_gone f) = same f
       by (leads rest line_is f) =
-          mid_goes a b end l v done full full mid.w _ _ rest _ (loses_one a b end v.far l full mid.w c.unit rest mid.few line_is)
-          st st marked marked near_way (heard_off near_way) far_way far_way mid refl (λ m apart. stays_elsewhere a b end l v once full.state m) refl refl
-          f mid.far mid.stands mid.never_waits
+          mid_rests a b end l v done full st marked near_way (heard_off near_way) far_way rest mid
+          (loses_one a b end v.far l full mid.w c.unit rest mid.few line_is) f
 
-      go : (g : Bool) → c.given ≡ g → Mid a b end l v (suc done) full st marked (heard_off near_way) far_way
+      go : (g : Bool) → c.given ≡ g → Mid a b end l v done full st marked (heard_off near_way) far_way
       go false e = same (other_passes l _ _ full.state v.far.state _ st marked near_way c front e mid.near)
       go true e = by (given_passes l _ _ full.state v.far.state _ st marked near_way c front e mid.near)
+
+  lost_on : (most : ℕ) (full : LinkSet) (st : Standing) (near_way : Way) (c : Carried) (later : List Carried) → near_way.old ++ near_way.fresh ≡ c ∷ later
+      → IsFlushed st near_way → GoneSo most full st near_way → GoneSo most full st (heard_off near_way) × IsFlushed st (heard_off near_way)
+  lost_on most full st near_way c later front flushed gone =
+      let f = front_of c later near_way front in (
+        record {
+          done = gone.done;
+          most_is = gone.most_is;
+          marked = gone.marked;
+          only = gone.only;
+          mid = lost_mid gone.done full st gone.marked near_way c f.front gone.mid;
+        },
+        record { ready_is = λ e. f.old_then (flushed.ready_is e); served_is = λ e. f.old_then (flushed.served_is e) },
+      )
+
+  -- IT PASSES, and the set isn't asked: as if it were lost
+  later_mid : (done : ℕ) (full : LinkSet) (st : Standing) (marked : Bool) (near_way : Way) → Mid a b end l v done full st marked near_way far_way
+      → Mid a b end l v (suc done) full st marked near_way far_way
+  later_mid done full st marked near_way m = record {
+    w = m.w;
+    near = m.near;
+    far = m.far;
+    others = λ k apart.
+        let o = m.others k apart in
+        record { late = o.late; late_is = o.late_is; most = let few = o.most in omega (arith, few); near = o.near; far = o.far; starts = o.starts };
+    stands = m.stands;
+    never_waits = m.never_waits;
+    profile = m.profile;
+    few = m.few;
+  }
+
+  pub passes_mid : (done : ℕ) (full : LinkSet) (st : Standing) (marked : Bool) (near_way : Way) (c : Carried) → IsFront c near_way
+      → Mid a b end l v done full st marked near_way far_way → Mid a b end l v (suc done) full st marked (heard_off near_way) far_way
+  passes_mid done full st marked near_way c front mid =
+      later_mid done full st marked (heard_off near_way) (lost_mid done full st marked near_way c front mid)
 
   -- IT'S HEARD, at a link that is served
   module _ (done : ℕ) (full : LinkSet) (marked : Bool) (near_way : Way) (c : Carried) (front : IsFront c near_way) (none_old : near_way.old ≡ [])
@@ -285,22 +316,9 @@ module _ (a b : SetConfig) (end : End) (l : ℕ) (v : Sight)
     so_served is m unmarked = record {
       marked_is = marked;
       only = λ wrong. let no : true ≡ false = sym wrong ∙ unmarked in absurd cc;
-      mid_then = subst (λ (x : Standing). Mid a b end l v (suc (suc done)) heard_set x marked (heard_off near_way) far_way) (sym is) (one_later_mid m);
+      mid_then = subst (λ (x : Standing). Mid a b end l v (suc (suc done)) heard_set x marked (heard_off near_way) far_way) (sym is)
+          (later_mid (suc done) heard_set served marked (heard_off near_way) m);
     }
-      where
-        one_later_mid : Mid a b end l v (suc done) heard_set served marked (heard_off near_way) far_way → Mid a b end l v (suc (suc done)) heard_set served marked (heard_off near_way) far_way
-        one_later_mid m = record {
-          w = m.w;
-          near = m.near;
-          far = m.far;
-          others = λ k apart.
-              let o = m.others k apart in
-              record { late = o.late; late_is = o.late_is; most = let few = o.most in omega (arith, few); near = o.near; far = o.far; starts = o.starts };
-          stands = m.stands;
-          never_waits = m.never_waits;
-          profile = m.profile;
-          few = m.few;
-        }
 
     served_by : (answer : Answer) → (answer ≡ Answer.Refused Refusal.NotUp → ⊥) → heard_by answer ≡ served
     served_by (Answer.Refused Refusal.NotUp) never = absurd (never refl)
@@ -467,36 +485,70 @@ module _ (a b : SetConfig) (end : End) (l : ℕ) (v : Sight)
         three.1,
       )
 
-  -- ALL UNITS OF A TURN
-  no_marks : (most : ℕ) → most ≡ 5 * 0 + most
-  no_marks most = omega arith
+  -- ALL UNITS OF A TURN, those that are lost among them
+  more_moves : (most more : ℕ) (full : LinkSet) (st : Standing) (near_way : Way) → most ≤ more → GoneSo most full st near_way → GoneSo more full st near_way
+  more_moves most more full st near_way le g =
+      record { done = g.done; most_is = let few = g.most_is in omega (arith, few, le); marked = g.marked; only = g.only; mid = g.mid }
 
   pub hears_all_on : (most : ℕ) (full : LinkSet) (marks : List Mark) (st st' : Standing) (entries : List Entry) (near_way : Way) (cs later : List Carried)
-      → near_way.old ++ near_way.fresh ≡ cs ++ later → map unit_in marks ≡ map (λ c. Some c.unit) cs → HearsAll l marks st st' entries
+      → near_way.old ++ near_way.fresh ≡ cs ++ later → HearsSome marks cs → HearsAll l marks st st' entries
       → IsLegal full.state entries → HasRoom full entries → IsFlushed st near_way → GoneSo most full st near_way
       → GoneSo (5 * length marks + most) (with_entries full entries) st' (heard_all cs near_way) × IsFlushed st' (heard_all cs near_way)
-  hears_all_on most full [] st st' entries near_way [] later front same h legal room flushed gone = (
-    subst (λ (n : ℕ). GoneSo n (with_entries full entries) st' near_way) (no_marks most)
-        (subst (λ (es : List Entry). GoneSo most (with_entries full es) st' near_way) (sym h.1) (subst (λ (x : Standing). GoneSo most full x near_way) (sym h.0) gone)),
-    subst (λ (x : Standing). IsFlushed x near_way) (sym h.0) flushed,
-  )
-  hears_all_on most full [] st st' entries near_way (c ∷ cs) later front same h legal room flushed gone = absurd cc
-  hears_all_on most full (mark ∷ marks) st st' entries near_way [] later front same h legal room flushed gone = absurd cc
-  hears_all_on most full (mark ∷ marks) st st' entries near_way (c ∷ cs) later front same h legal room flushed gone =
-      let is : unit_in mark ≡ Some c.unit = cc in
-      let rest : map unit_in marks ≡ map (λ c. Some c.unit) cs = cc in
-      let legal' = subst (IsLegal full.state) h.3 legal in
-      let room' = subst (HasRoom full) h.3 room in
-      let parts = legal_parts full.state h.1 h.2 legal' in
-      let hears : HearsUnit l c.unit st h.0 h.1 = subst (λ (u : Option SignalUnit). HearsOne l u st h.0 h.1) is h.4 in
-      let one = unit_on most full c.unit st h.0 h.1 near_way c (cs ++ later) front refl hears parts.0 (room_first full h.1 h.2 room') flushed gone in
-      let full1 = with_entries full h.1 in
-      let legal1 : IsLegal full1.state h.2 = subst (λ (s : State). IsLegal s h.2) (sym (entries_state full h.1)) parts.1 in
-      let f = front_of c (cs ++ later) near_way front in
-      let two = hears_all_on (suc (suc (suc (suc (suc most))))) full1 marks h.0 st' h.2 (heard_off near_way) cs later f.so_far rest h.5 legal1 (room_then full h.1 h.2 room') one.1 one.0 in
-      let whole : with_entries full entries ≡ with_entries full1 h.2 = ap (with_entries full) h.3 ∙ entries_more full h.1 h.2 in
-      let sum : 5 * length marks + suc (suc (suc (suc (suc most)))) ≡ 5 * suc (length marks) + most = omega arith in (
-        subst (λ (x : LinkSet). GoneSo (5 * suc (length marks) + most) x st' (heard_all cs (heard_off near_way))) (sym whole)
-            (subst (λ (k : ℕ). GoneSo k (with_entries full1 h.2) st' (heard_all cs (heard_off near_way))) sum two.0),
+  hears_all_on most full marks st st' entries near_way cs later front (no_more no_marks no_units) h legal room flushed gone =
+      let h' : HearsAll l [] st st' entries = subst (λ (ms : List Mark). HearsAll l ms st st' entries) no_marks h in
+      let way_is : heard_all cs near_way ≡ near_way = ap (λ (xs : List Carried). heard_all xs near_way) no_units in (
+        subst (λ (x : Way). GoneSo (5 * length marks + most) (with_entries full entries) st' x) (sym way_is)
+            (subst (λ (es : List Entry). GoneSo (5 * length marks + most) (with_entries full es) st' near_way) (sym h'.1)
+            (more_moves most (5 * length marks + most) full st' near_way (omega arith)
+            (subst (λ (x : Standing). GoneSo most full x near_way) (sym h'.0) gone))),
+        subst (λ (x : Way). IsFlushed st' x) (sym way_is) (subst (λ (x : Standing). IsFlushed x near_way) (sym h'.0) flushed),
+      )
+  hears_all_on most full marks st st' entries near_way cs later front (is_lost c {later = others} came_is rest) h legal room flushed gone =
+      let front' : near_way.old ++ near_way.fresh ≡ c ∷ (others ++ later) = front ∙ ap (λ (xs : List Carried). xs ++ later) came_is in
+      let one = lost_on most full st near_way c (others ++ later) front' flushed gone in
+      let f = front_of c (others ++ later) near_way front' in
+      let two = hears_all_on most full marks st st' entries (heard_off near_way) others later f.so_far rest h legal room one.1 one.0 in
+      let way_is : heard_all cs near_way ≡ heard_all others (heard_off near_way) = ap (λ (xs : List Carried). heard_all xs near_way) came_is in (
+        subst (λ (x : Way). GoneSo (5 * length marks + most) (with_entries full entries) st' x) (sym way_is) two.0,
+        subst (λ (x : Way). IsFlushed st' x) (sym way_is) two.1,
+      )
+  hears_all_on most full marks st st' entries near_way cs later front (is_bad mark {more = more} marks_are none rest) h legal room flushed gone =
+      let h' : HearsAll l (mark ∷ more) st st' entries = subst (λ (ms : List Mark). HearsAll l ms st st' entries) marks_are h in
+      let legal' = subst (IsLegal full.state) h'.3 legal in
+      let room' = subst (HasRoom full) h'.3 room in
+      let parts = legal_parts full.state h'.1 h'.2 legal' in
+      let falls : Falls l st h'.0 h'.1 = subst (λ (u : Option SignalUnit). HearsOne l u st h'.0 h'.1) none h'.4 in
+      let one = falls_on a b end l v once most full st h'.0 h'.1 near_way far_way falls parts.0 (room_first full h'.1 h'.2 room') gone in
+      let one_flushed = falls_flushed l st h'.0 h'.1 near_way falls flushed in
+      let full1 = with_entries full h'.1 in
+      let legal1 : IsLegal full1.state h'.2 = subst (λ (s : State). IsLegal s h'.2) (sym (entries_state full h'.1)) parts.1 in
+      let two = hears_all_on (suc most) full1 more h'.0 st' h'.2 near_way cs later front rest h'.5 legal1 (room_then full h'.1 h'.2 room') one_flushed one in
+      let whole : with_entries full entries ≡ with_entries full1 h'.2 = ap (with_entries full) h'.3 ∙ entries_more full h'.1 h'.2 in
+      let fewer : 5 * length more + suc most ≤ 5 * length marks + most = omega (arith, ap length marks_are) in (
+        subst (λ (x : LinkSet). GoneSo (5 * length marks + most) x st' (heard_all cs near_way)) (sym whole)
+            (more_moves (5 * length more + suc most) (5 * length marks + most) (with_entries full1 h'.2) st' (heard_all cs near_way) fewer two.0),
         two.1,
+      )
+  hears_all_on most full marks st st' entries near_way cs later front (is_good mark c {more = more} {later = others} marks_are came_is unit rest) h legal room flushed gone =
+      let h' : HearsAll l (mark ∷ more) st st' entries = subst (λ (ms : List Mark). HearsAll l ms st st' entries) marks_are h in
+      let front' : near_way.old ++ near_way.fresh ≡ c ∷ (others ++ later) = front ∙ ap (λ (xs : List Carried). xs ++ later) came_is in
+      let legal' = subst (IsLegal full.state) h'.3 legal in
+      let room' = subst (HasRoom full) h'.3 room in
+      let parts = legal_parts full.state h'.1 h'.2 legal' in
+      let hears : HearsUnit l c.unit st h'.0 h'.1 = subst (λ (u : Option SignalUnit). HearsOne l u st h'.0 h'.1) unit h'.4 in
+      let one = unit_on most full c.unit st h'.0 h'.1 near_way c (others ++ later) front' refl hears parts.0 (room_first full h'.1 h'.2 room') flushed gone in
+      let full1 = with_entries full h'.1 in
+      let legal1 : IsLegal full1.state h'.2 = subst (λ (s : State). IsLegal s h'.2) (sym (entries_state full h'.1)) parts.1 in
+      let f = front_of c (others ++ later) near_way front' in
+      let two = hears_all_on (suc (suc (suc (suc (suc most))))) full1 more h'.0 st' h'.2 (heard_off near_way) others later f.so_far rest h'.5 legal1
+      (room_then full h'.1 h'.2 room') one.1 one.0 in
+      let whole : with_entries full entries ≡ with_entries full1 h'.2 = ap (with_entries full) h'.3 ∙ entries_more full h'.1 h'.2 in
+      let way_is : heard_all cs near_way ≡ heard_all others (heard_off near_way) = ap (λ (xs : List Carried). heard_all xs near_way) came_is in
+      let fewer : 5 * length more + suc (suc (suc (suc (suc most)))) ≤ 5 * length marks + most =
+      omega (arith, ap length marks_are) in (
+        subst (λ (x : LinkSet). GoneSo (5 * length marks + most) x st' (heard_all cs near_way)) (sym whole)
+            (subst (λ (x : Way). GoneSo (5 * length marks + most) (with_entries full1 h'.2) st' x) (sym way_is)
+            (more_moves (5 * length more + suc (suc (suc (suc (suc most))))) (5 * length marks + most) (with_entries full1 h'.2) st'
+            (heard_all others (heard_off near_way)) fewer two.0)),
+        subst (λ (x : Way). IsFlushed st' x) (sym way_is) two.1,
       )

@@ -6,8 +6,11 @@ pub mod Flushed
 pub mod Following
 pub mod Going
 pub mod Hearing
+pub mod Intact
 pub mod Lines
 pub mod Moves
+pub mod Noise
+pub mod Places
 pub mod Reached
 pub mod Read
 pub mod Standing

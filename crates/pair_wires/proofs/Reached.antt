@@ -11,7 +11,8 @@ use Rattle.pair_rises.specs.declared.moves.Move.{Move}
 use Rattle.pair_rises.specs.Counted.{IsCounted}
 use Rattle.pair_rises.specs.Rises.{Rising, opening, moved, moved_on, AreMoves, HoldsAllAlong, HoldsAtEachMove, HoldsBefore, IsPlainMove, IsRun, MayMove}
 use Rattle.pair_rises.proofs.Counted.{every_missed_life}
-use Rattle.pair_rises.proofs.Handing.{hands_out}
+use Rattle.pair_rises.specs.Handed.{HandsOutWhereIdle}
+use Rattle.pair_rises.proofs.Handing.{hands_out, idle_hands_out}
 use Rattle.pair_rises.proofs.Runs.{Holds, along, first_holds}
 use Rattle.pair_wires.specs.Apart.{StandsApart}
 use Rattle.pair_wires.proofs.Apart.{each_apart}
@@ -98,6 +99,9 @@ module _ (a b : SetConfig) where
 
     pub users_take : UsersTakeFirst g.stage
     users_take = at_last (λ h. UsersTakeFirst h.stage) moves (opening a b) g r.leads (hands_out a b moves r.run)
+
+    pub hands_out_idle : HandsOutWhereIdle g
+    hands_out_idle = at_last HandsOutWhereIdle moves (opening a b) g r.leads (idle_hands_out a b moves r.run)
 
     pub holds_there : Holds false a.method b.method r.run.one_method g
     holds_there =

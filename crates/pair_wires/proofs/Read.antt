@@ -8,11 +8,14 @@ use Rattle.set_events.specs.declared.event.Actor.{Actor}
 use Rattle.set_events.specs.declared.event.Event.{Event}
 use Rattle.set_events.specs.declared.history.Entry.{Entry}
 use Rattle.set_model.specs.Rows.{stream_of}
+use Rattle.set_model.specs.State.{State}
 use Rattle.term_bench.specs.Ends.{BenchState}
 use Rattle.pair_steps.specs.declared.step.Shown.TheVariants.{Answered}
 use Rattle.pair_model.specs.Run.{Message, Past, accepted_in, added_at, bodies, past_asked}
+use Rattle.pair_streams.specs.Arrived.{HandsOutAll}
 use Rattle.pair_streams.specs.Handed.{handed_by, handed_in, taken_of}
 use Rattle.pair_octets.specs.Streams.{Arrives, of_stream, offered_by, offered_in, taken_by, taken_in}
+use Rattle.pair_wires.specs.Carrying.{ArrivesWhole}
 use Rattle.pair_wires.specs.Moves.{IsThinned}
 use Rattle.pair_wires.specs.Read.{IsOffered, OffersAreKept, StreamsAreReadOff}
 
@@ -125,6 +128,13 @@ arrives_so stream thin near far past t offered first =
     ap (of_stream stream) (taken_same far.set.history ∙ sym t.handed) in
     same ∙ first ∙ ap (λ (n : ℕ). take n (bodies (past.offered stream))) (ap length (sym same))
     ∙ ap (λ (bs : List (List ℕ)). take (length (of_stream stream (taken_in far.set.history))) bs) (offered stream)
+
+-- all of it
+pub arrives_whole : (stream : ℕ) (thin : _) (near far : BenchState) (past : Past) → IsThinned thin far.set → IsOffered past near.set.history
+    → HandsOutAll stream past thin → ArrivesWhole stream near far
+arrives_whole stream thin near far past t offered all =
+    ap (λ (bs : List (List ℕ)). of_stream stream bs ++ of_stream stream far.set.state.inbox) (taken_same far.set.history ∙ sym t.handed)
+    ∙ ap (λ (s : State). taken_of stream thin ++ of_stream stream s.inbox) (sym t.state) ∙ all ∙ offered stream
 
 pub read_off : StreamsAreReadOff
 read_off g a b t first stream low = (

@@ -42,7 +42,7 @@ use Rattle.pair_steps.specs.declared.step.End.TheVariants.{A, B}
 use Rattle.pair_octets.specs.Calm.{AreCalm, IsCalmCommand}
 use Rattle.pair_octets.specs.Passing.{all_turns, doing_in, is_same, other, turns_if, turns_in}
 use Rattle.pair_octets.specs.Streams.{AreSound, IsSoundCommand, IsSoundEvent, IsSoundRun, IsSoundStep}
-use Rattle.pair_octets.specs.Wires.{Wires, Sides, CommandsIf, Happen, Happens, TakesTurn, is_left, is_refused, new_wires}
+use Rattle.pair_octets.specs.Wires.{Wires, Sides, AreFitting, CommandsIf, Happen, Happens, TakesTurn, is_left, is_refused, new_wires}
 use Rattle.pair_octets.specs.declared.step.EndConfig.{EndConfig}
 use Rattle.pair_octets.specs.declared.step.LineLengths.{LineLengths}
 use Rattle.pair_octets.specs.declared.step.WireStep.{WireStep}
@@ -401,7 +401,18 @@ step_so count few (Ask B who event) old new asked sound plain so = record {
   links_a = same_links old.a new.a asked.only.far_is ∙ so.links_a;
   links_b = ap (λ (ls : List AtLink). length ls) asked.links_are ∙ so.links_b;
 }
-step_so count few (Damage end link place octet) old new damaged sound plain so = absurd sound
+step_so count few (Damage A link place octet) old new damaged sound plain so = record {
+  a = same_so old.a new.a damaged.near_is so.a;
+  b = same_so old.b new.b damaged.far_is so.b;
+  links_a = same_links old.a new.a damaged.near_is ∙ so.links_a;
+  links_b = same_links old.b new.b damaged.far_is ∙ so.links_b;
+}
+step_so count few (Damage B link place octet) old new damaged sound plain so = record {
+  a = same_so old.a new.a damaged.far_is so.a;
+  b = same_so old.b new.b damaged.near_is so.b;
+  links_a = same_links old.a new.a damaged.far_is ∙ so.links_a;
+  links_b = same_links old.b new.b damaged.near_is ∙ so.links_b;
+}
 
 steps_so : (count : ℕ) → count ≤ 16 → (steps : List WireStep) (old new : Wires) (happen : Happen steps old new) → AreSound steps → AllPlain count steps old new happen
     → AreSo count old → AreSo count new
@@ -466,12 +477,23 @@ calm_command Command.Busy sound = absurd sound
 calm_command Command.Ease sound = tt
 calm_command Command.Blind sound = tt
 
-calm_steps : (steps : List WireStep) → AreSound steps → AreCalm steps
+pub calm_steps : (steps : List WireStep) → AreSound steps → AreCalm steps
 calm_steps [] sound = tt
 calm_steps (Turn end link ∷ steps) sound = (tt, calm_steps steps sound.1)
 calm_steps (CommandStep end link command ∷ steps) sound = (calm_command command sound.0, calm_steps steps sound.1)
 calm_steps (Ask end who event ∷ steps) sound = (tt, calm_steps steps sound.1)
 calm_steps (Damage end link place octet ∷ steps) sound = (tt, calm_steps steps sound.1)
+
+pub so_first : (a b : EndConfig) (lengths : List LineLengths) → AreFitting a b lengths → AreSo (length lengths) (new_wires a b lengths)
+so_first a b lengths fitting = record {
+  a = end_so a;
+  b = end_so b;
+  links_a = length-new_links a.timers a.set.links ∙ sym fitting.lines;
+  links_b = length-new_links b.timers b.set.links ∙ sym fitting.links ∙ sym fitting.lines;
+}
+
+pub links_few : (a b : EndConfig) (lengths : List LineLengths) → AreFitting a b lengths → length lengths ≤ 16
+links_few a b lengths fitting = omega (arith, fitting.lines, a.set.links_in_range)
 
 -- THE LAW.
 first_plain : (first later : List SignalUnit) → All IsPlainUnit (first ++ later) → All IsPlainUnit first
@@ -482,26 +504,19 @@ first_plain (unit ∷ first) later all =
 module _ (a b : EndConfig) (lengths : List LineLengths) (steps : List WireStep) (w : Wires) (run : IsSoundRun a b lengths steps w) where
   pub all_plain : AllPlain (length lengths) steps (new_wires a b lengths) w run.run.happen
   all_plain end link in_range =
-      let passed = every_unit_is_heard a b lengths steps w run.run run.lines end link in_range in
-      let sent = each_status_is_plain a b lengths steps w run.run (calm_steps steps run.sound) (other end) link in
+      let passed = every_unit_is_heard a b lengths steps w run.run run.so.lines end link in_range in
+      let sent = each_status_is_plain a b lengths steps w run.run (calm_steps steps run.so.sound) (other end) link in
       plain_heard (marks_of (all_turns end link steps (new_wires a b lengths) w run.run.happen)) passed.heard passed.heard_are
       (first_plain passed.heard passed.under_way (subst (λ (us : List SignalUnit). All IsPlainUnit us) passed.sent_are sent))
 
   pub first_so : AreSo (length lengths) (new_wires a b lengths)
-  first_so =
-      let fitting = run.run.fitting in
-      record {
-        a = end_so a;
-        b = end_so b;
-        links_a = length-new_links a.timers a.set.links ∙ sym fitting.lines;
-        links_b = length-new_links b.timers b.set.links ∙ sym fitting.links ∙ sym fitting.lines;
-      }
+  first_so = so_first a b lengths run.run.fitting
 
   pub few_links : length lengths ≤ 16
-  few_links = omega (arith, run.run.fitting.lines, a.set.links_in_range)
+  few_links = links_few a b lengths run.run.fitting
 
   all_so : AreSo (length lengths) w
-  all_so = steps_so (length lengths) few_links steps (new_wires a b lengths) w run.run.happen run.sound all_plain first_so
+  all_so = steps_so (length lengths) few_links steps (new_wires a b lengths) w run.run.happen run.so.sound all_plain first_so
 
 pub each_stands : EachLinkStandsSo
 each_stands a b lengths steps w run A link at there = (all_so a b lengths steps w run).a link at there

@@ -1,8 +1,8 @@
 -- WHAT A STEP LEADS TO, at both ends: a turn (`turn_so_far`), a command, by which no unit moves (`rests`), and what the set of
 -- an end is asked (`ask_so_far`).
-use Rattle.std.proofs.Common.{refl, arith, ap, sym, subst, ◌≡◌, ◌∙◌, ◌≤◌, ◌-◌, ℕ, zero, suc, ◌+◌, ◌==◌, ◌||◌, Bool, true, false, List, [], ◌∷◌, length, map, drop, slice_get, slice_set, Option, Some, None, append-nil, if◌then◌else◌}
+use Rattle.std.proofs.Common.{refl, arith, ap, sym, subst, ◌≡◌, ◌∙◌, ◌≤◌, ◌-◌, ℕ, zero, suc, ◌+◌, ◌==◌, ◌||◌, Bool, true, false, List, [], ◌∷◌, ◌++◌, length, map, take, drop, slice_get, slice_set, Option, Some, None, append-nil, if◌then◌else◌}
 use Rattle.std.proofs.lemmas.Bool.{eqb-true}
-use Rattle.std.proofs.lemmas.List.{length-map}
+use Rattle.std.proofs.lemmas.List.{take-append-drop}
 use Rattle.std.specs.Option.{option_to_list}
 use Rattle.l2_bits.specs.declared.marks.Mark.{Mark}
 use Rattle.l2_bits.specs.LineBits.{line_bits}
@@ -40,7 +40,7 @@ use Rattle.pair_wires.specs.Following.{Follows, heard_from, heard_off, sent_if}
 use Rattle.pair_wires.specs.Moves.{IsThinned}
 use Rattle.pair_wires.specs.Read.{IsOffered}
 use Rattle.pair_wires.specs.Turning.{TurnAsksSo}
-use Rattle.pair_wires.specs.Ways.{Carried, HearsFront, Way, Ways, gives_unit, has_aligned, heard_in, is_marked, is_out, joined_by, left_by, sent_by, settled_if}
+use Rattle.pair_wires.specs.Ways.{Carried, HearsSome, Way, Ways, carried_in, gives_unit, has_aligned, is_marked, is_out, joined_by, left_by, sent_by, settled_if}
 use Rattle.pair_wires.proofs.Ending.{EndFollows, TurnFollows, entries_base, entries_history, marks_on, settled_old, stands_in, turn_follows}
 use Rattle.pair_wires.proofs.Following.{goes_far, goes_near}
 use Rattle.pair_streams.specs.Handed.{handed_by}
@@ -48,7 +48,6 @@ use Rattle.pair_wires.proofs.Going.{Going, acts_keeps, known_link, vain_keeps, w
 use Rattle.pair_wires.proofs.Hearing.{heard_all}
 use Rattle.pair_wires.proofs.Starting.{EachSo}
 use Rattle.pair_wires.proofs.Turned.{HasRoom, entries_room, entries_state, retold, with_entries}
-use Rattle.pair_wires.proofs.Ways.{heard_is}
 
 -- WAYS, in the walk's words
 left_none : (way : Way) → left_by 0 way ≡ way
@@ -78,9 +77,20 @@ left_one n way = go way.old way.fresh
         let less : suc n - suc (length old) ≡ n - length old = omega arith in
         ap (λ (k : ℕ). record { old = drop n old; fresh = drop k fresh }) less
 
-left_all : (cs : List Carried) (way : Way) → left_by (length cs) way ≡ heard_all cs way
-left_all [] way = left_none way
-left_all (c ∷ cs) way = left_one (length cs) way ∙ left_all cs (heard_off way)
+-- so many, or all where there are fewer
+left_taken : (n : ℕ) (way : Way) → left_by n way ≡ heard_all (take n (carried_in way)) way
+left_taken n way = by n way.old way.fresh
+  where
+    none : (k : ℕ) → heard_all (take k []) (record { old = []; fresh = [] }) ≡ record { old = []; fresh = [] }
+    none zero = refl
+    none (suc k) = refl
+
+    by : (k : ℕ) (old fresh : List Carried)
+        → left_by k (record { old = old; fresh = fresh }) ≡ heard_all (take k (old ++ fresh)) (record { old = old; fresh = fresh })
+    by zero old fresh = left_none (record { old = old; fresh = fresh })
+    by (suc k) [] [] = left_nil (suc k) ∙ sym (none (suc k))
+    by (suc k) [] (c ∷ fresh) = left_one k (record { old = []; fresh = c ∷ fresh }) ∙ by k [] fresh
+    by (suc k) (c ∷ old) fresh = left_one k (record { old = c ∷ old; fresh = fresh }) ∙ by k old fresh
 
 joined_none : (way : Way) → joined_by [] way ≡ way
 joined_none way = ap (λ (cs : List Carried). record way { fresh = cs }) (append-nil way.fresh)
@@ -146,9 +156,9 @@ module _ (a b : SetConfig) (end : End) (l : ℕ) (count : ℕ) (old new : Sides)
     (w : Going a b end old.far.set old.near.set) (near_ways far_ways near_ways' far_ways' : ℕ → Way)
     (fn : EndFollows w.g end (other end) count old.near old.far near_ways) (ff : EndFollows w.g (other end) end count old.far old.near far_ways)
     (near_so : EachSo old.near) (far_so : EachSo old.far) (links_count : length old.near.links ≡ count) (room : entries_in new.near.set ≤ longest_history)
-    (hears : HearsFront takes.turns.takes.by_octet.marks (near_ways l))
+    (count_off : ℕ) (hears : HearsSome takes.turns.takes.by_octet.marks (take count_off (carried_in (near_ways l))))
     (aligned : is_marked (Some takes.turns.was) ≡ false → has_aligned (standing_of takes.turns.was.terminal) ≡ true → (near_ways l).old ≡ [])
-    (near_l : near_ways' l ≡ settled_if (is_marked (slice_get new.near.links l)) (joined_by [] (left_by (length (heard_in takes.turns.takes.by_octet.marks)) (near_ways l))))
+    (near_l : near_ways' l ≡ settled_if (is_marked (slice_get new.near.links l)) (joined_by [] (left_by count_off (near_ways l))))
     (near_m : (m : ℕ) → (l == m) ≡ false → near_ways' m ≡ settled_if (is_marked (slice_get new.near.links m)) (joined_by [] (left_by 0 (near_ways m))))
     (far_l : far_ways' l ≡ settled_if (is_marked (slice_get old.far.links l)) (joined_by (sent_by (doing_in l old new takes)) (left_by 0 (far_ways l))))
     (far_m : (m : ℕ) → (l == m) ≡ false → far_ways' m ≡ settled_if (is_marked (slice_get old.far.links m)) (joined_by [] (left_by 0 (far_ways m)))) where
@@ -169,23 +179,18 @@ module _ (a b : SetConfig) (end : End) (l : ℕ) (count : ℕ) (old new : Sides)
       let sum : entries_in new.near.set ≡ entries_in old.near.set + length entries = ap entries_in (sym set_is) ∙ entries_room old.near.set entries in
       omega (arith, room, sum)
 
-  heard_count : length (heard_in marks) ≡ length hears.heard
-  heard_count =
-      ap (λ (us : List SignalUnit). length us) (heard_is marks (map (λ (c : Carried). c.unit) hears.heard) (hears.heard_are ∙ sym (some_of hears.heard)))
-      ∙ length-map hears.heard (λ (c : Carried). c.unit)
-    where
-      some_of : (cs : List Carried) → map (λ (unit : SignalUnit). Some unit) (map (λ (c : Carried). c.unit) cs) ≡ map (λ (c : Carried). Some c.unit) cs
-      some_of [] = refl
-      some_of (c ∷ cs) = ap (λ (us : List (Option SignalUnit)). Some c.unit ∷ us) (some_of cs)
+  abbrev came : List Carried
+  came = take count_off (carried_in (near_ways l))
 
-  left_is : joined_by [] (left_by (length (heard_in marks)) (near_ways l)) ≡ heard_all hears.heard (near_ways l)
-  left_is = joined_none (left_by (length (heard_in marks)) (near_ways l)) ∙ ap (λ (k : ℕ). left_by k (near_ways l)) heard_count ∙ left_all hears.heard (near_ways l)
+  left_is : joined_by [] (left_by count_off (near_ways l)) ≡ heard_all came (near_ways l)
+  left_is = joined_none (left_by count_off (near_ways l)) ∙ left_taken count_off (near_ways l)
 
   pub turn_so_far : TurnFollows a b end count new.near old.far near_ways' far_ways'
   turn_so_far =
       turn_follows a b end l count old.near new.near old.far w near_ways far_ways near_ways' far_ways' fn ff takes.turns.was takes.turns.now takes.turns.is_at links_count
       takes.turns.links_are near_so far_so marks entries takes.unit asks.asks asks.legal set_is has_room
-      (two_marks (line_bits takes.turns.was.heard) _ marks takes.turns.takes.by_octet.gives (omega (arith, length-bits_of 8 takes.octet))) hears.heard hears.rest hears.way_is hears.heard_are aligned
+      (two_marks (line_bits takes.turns.was.heard) _ marks takes.turns.takes.by_octet.gives (omega (arith, length-bits_of 8 takes.octet))) came (drop count_off (carried_in (near_ways l)))
+      (sym (take-append-drop count_off (carried_in (near_ways l)))) hears aligned
       (near_l ∙ ap (settled_if (is_marked (slice_get new.near.links l))) left_is)
       (λ m apart. near_m m apart ∙ ap (settled_if (is_marked (slice_get new.near.links m))) (still_way (near_ways m)))
       (far_l ∙ ap (settled_if (is_marked (slice_get old.far.links l)))

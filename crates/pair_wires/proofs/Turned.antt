@@ -216,6 +216,44 @@ module _ (a b : SetConfig) (end : End) (l : ℕ) (v : Sight) where
       few = let few = mid.few in omega (arith, few, links);
     }
 
+  -- A MOVE BY WHICH THE SET STAYS as it is: so no order is counted
+  never_later : (n : ℕ) → n ≡ one_later n → ⊥
+  never_later n same = absurd (omega (arith, same))
+
+  covers_rest : (full : LinkSet) (was now : Cover) (m : ℕ) → IsCovered a b end v.far was now (late_at m full.state) (late_at m full.state) → now ≡ was
+  covers_rest full was now m (as_was same) = same
+  covers_rest full was now m (is_missed waits is so_far) = absurd (never_later (late_at m full.state) so_far)
+
+  pub mid_rests : (done : ℕ) (full : LinkSet) (st : Standing) (marked : Bool) (near_way near_way' far_way : Way) (near_line : List SignalUnit)
+      (mid : Mid done full st marked near_way far_way)
+      (moved_so : Leaves a b end v.far l full full mid.w (open_at mid.w.g end l) (open_at mid.w.g (other end) l) near_line (line_to mid.w.g.stage.world (other end) l))
+      → Follows (open_at mid.w.g end l) (open_at mid.w.g (other end) l) l full.state v.far.state near_line st marked near_way'
+      → Mid done full st marked near_way' far_way
+  mid_rests done full st marked near_way near_way' far_way near_line mid moved_so near = record {
+    w = next;
+    near = retold _ _ _ _ l full.state v.far.state _ _ _ _ _ moved_so.mine_is moved_so.theirs_is moved_so.near_is near;
+    far = retold _ _ _ _ l v.far.state full.state _ _ _ _ _ moved_so.theirs_is moved_so.mine_is moved_so.far_is mid.far;
+    others = λ m apart.
+        let o = mid.others m apart in
+        let same = covers_rest full (open_at mid.w.g end m) (open_at next.g end m) m (moved_so.own m apart) in
+        let far_same = moved_so.other_covers m apart in
+        record {
+          late = o.late;
+          late_is = o.late_is;
+          most = o.most;
+          near = retold _ _ _ _ m full.state v.far.state _ _ _ _ _ same far_same (moved_so.lines end m apart) o.near;
+          far = retold _ _ _ _ m v.far.state full.state _ _ _ _ _ far_same same (moved_so.lines (other end) m apart) o.far;
+          starts = o.starts;
+        };
+    stands = mid.stands;
+    never_waits = mid.never_waits;
+    profile = mid.profile;
+    few = mid.few;
+  }
+    where
+      next : Going a b end v.far full
+      next = moved_so.next
+
 -- A SET, entry by entry
 abbrev pub with_entries : LinkSet → List Entry → LinkSet
 with_entries full [] = full

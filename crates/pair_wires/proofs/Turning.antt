@@ -84,7 +84,7 @@ one_asks count few (CommandStep end link command) old new happens plain so = tt
 one_asks count few (Ask end who event) old new happens plain so = tt
 one_asks count few (Damage end link place octet) old new happens plain so = tt
 
-all_ask : (count : ℕ) → count ≤ 16 → (steps : List WireStep) (old new : Wires) (happen : Happen steps old new) → AreSound steps → AllPlain count steps old new happen
+pub all_ask : (count : ℕ) → count ≤ 16 → (steps : List WireStep) (old new : Wires) (happen : Happen steps old new) → AreSound steps → AllPlain count steps old new happen
     → AreSo count old → AtEachTurn steps old new happen
 all_ask count few [] old new same sound plain so = tt
 all_ask count few (step ∷ steps) old new happen sound plain so =
@@ -98,5 +98,5 @@ all_ask count few (step ∷ steps) old new happen sound plain so =
 
 pub each_turn : EachTurnAsksSo
 each_turn a b lengths steps w run =
-    all_ask (length lengths) (few_links a b lengths steps w run) steps (new_wires a b lengths) w run.run.happen run.sound (all_plain a b lengths steps w run)
+    all_ask (length lengths) (few_links a b lengths steps w run) steps (new_wires a b lengths) w run.run.happen run.so.sound (all_plain a b lengths steps w run)
     (first_so a b lengths steps w run)

@@ -1,5 +1,5 @@
 -- A WHOLE TURN, move by move (`turn_on`): commands, what is heard, timers, and what is chosen.
-use Rattle.std.proofs.Common.{refl, arith, ap, sym, subst, ◌≡◌, ◌∙◌, ◌<◌, ◌⊎◌, ℕ, suc, ◌+◌, ◌*◌, ◌||◌, Bool, true, false, List, [], ◌∷◌, ◌++◌, length, map, Option, Some, None}
+use Rattle.std.proofs.Common.{refl, arith, ap, sym, subst, ◌≡◌, ◌∙◌, ◌<◌, ◌⊎◌, ℕ, suc, ◌+◌, ◌*◌, ◌||◌, Bool, true, false, List, [], ◌∷◌, ◌++◌, length, Option, Some, None}
 use Rattle.l2_bits.specs.declared.marks.Mark.{Mark}
 use Rattle.l2_units.specs.declared.unit.Unit.{Unit as SignalUnit}
 use Rattle.set_events.specs.declared.answer.Answer.{Answer}
@@ -17,7 +17,7 @@ use Rattle.term_model.specs.Hearing.{unit_in}
 use Rattle.pair_steps.specs.declared.step.End.{End}
 use Rattle.pair_wires.specs.Following.{sent_if}
 use Rattle.pair_wires.specs.Standing.{IsStarting, StandsAt}
-use Rattle.pair_wires.specs.Ways.{Carried, Way, gives_by, gives_unit, is_out}
+use Rattle.pair_wires.specs.Ways.{Carried, HearsSome, Way, gives_by, gives_unit, is_out}
 use Rattle.pair_wires.proofs.Choosing.{Sends, chooses_on, falls_gives, times_on, weaker}
 use Rattle.pair_wires.proofs.Following.{begins_to_align}
 use Rattle.pair_wires.proofs.Hearing.{IsFlushed, falls_flushed, heard_all, hears_all_on}
@@ -159,7 +159,7 @@ module _ (a b : SetConfig) (end : End) (l : ℕ) (v : Sight)
 
     -- THE TURN
     pub turn_on : (st' : Standing) (marks : List Mark) (entries : List Entry) (unit : Option SignalUnit) (cs later : List Carried)
-        → near_way.old ++ near_way.fresh ≡ cs ++ later → map unit_in marks ≡ map (λ c. Some c.unit) cs
+        → near_way.old ++ near_way.fresh ≡ cs ++ later → HearsSome marks cs
         → AsksSo l started stopped marks st st' entries unit → IsLegal full.state entries → HasRoom full entries
         → Sends a b end l v once down_refuses up_gives far_starts (5 * length marks + 4) (with_entries full entries) st' entries unit (heard_all cs near_way) (v.far_ways l)
     turn_on st' marks entries unit cs later front same asks legal room =

@@ -83,7 +83,7 @@ unit_sent : (unit : Option SignalUnit) (given : Bool)
 unit_sent None given = refl
 unit_sent (Some unit) given = refl
 
-units_sent : (doings : List Doing) → map (λ (c : Carried). c.unit) (sent_in doings) ≡ units_of doings
+pub units_sent : (doings : List Doing) → map (λ (c : Carried). c.unit) (sent_in doings) ≡ units_of doings
 units_sent [] = refl
 units_sent (doing ∷ doings) =
     map-append (λ (c : Carried). c.unit) (sent_by doing) (sent_in doings)
@@ -91,12 +91,18 @@ units_sent (doing ∷ doings) =
     ∙ ap (λ (us : List SignalUnit). option_to_list doing.unit ++ us) (units_sent doings)
 
 -- WAYS.
-carried_left : (n : ℕ) (way : Way) → carried_in (left_by n way) ≡ drop n (carried_in way)
+pub carried_left : (n : ℕ) (way : Way) → carried_in (left_by n way) ≡ drop n (carried_in way)
 carried_left n way = sym (drop_both n way.old way.fresh)
 
-carried_settled : (marked : Bool) (way : Way) → carried_in (settled_if marked way) ≡ carried_in way
+pub carried_settled : (marked : Bool) (way : Way) → carried_in (settled_if marked way) ≡ carried_in way
 carried_settled true way = append-nil (carried_in way)
 carried_settled false way = refl
+
+pub carried_on : (n : ℕ) (sent : List Carried) (marked : Bool) (way : Way)
+    → carried_in (settled_if marked (joined_by sent (left_by n way))) ≡ drop n (carried_in way) ++ sent
+carried_on n sent marked way =
+    let left : Way = left_by n way in
+    carried_settled marked (joined_by sent left) ∙ sym (append_assoc left.old left.fresh sent) ∙ ap (λ (cs : List Carried). cs ++ sent) (carried_left n way)
 
 -- A STEP: turns of one end at most
 pub apart : (end : End) (link : ℕ) (step : WireStep) (old new : Wires) (happens : Happens step old new)
@@ -174,11 +180,8 @@ module _ (sends hears sent heard : List Doing) (marked : Bool) (way : Way) (u : 
   abbrev moved : Way
   moved = joined_by (sent_in sent) (left_by count way)
 
-  moved_is : carried_in moved ≡ drop (length more) (carried_in way) ++ sent_in sent
-  moved_is =
-      let left : Way = left_by count way in
-      sym (append_assoc left.old left.fresh (sent_in sent)) ∙ ap (λ (cs : List Carried). cs ++ sent_in sent) (carried_left count way)
-      ∙ ap (λ k. drop k (carried_in way) ++ sent_in sent) (ap length more_is)
+  moved_is : carried_in (settled_if marked moved) ≡ drop (length more) (carried_in way) ++ sent_in sent
+  moved_is = carried_on count (sent_in sent) marked way ∙ ap (λ k. drop k (carried_in way) ++ sent_in sent) (ap length more_is)
 
   under_way_is : p.under_way ≡ map (λ (c : Carried). c.unit) (carried_in (settled_if marked moved))
   under_way_is =
@@ -186,7 +189,9 @@ module _ (sends hears sent heard : List Doing) (marked : Bool) (way : Way) (u : 
       ∙ ap (λ (us : List SignalUnit). map (λ (c : Carried). c.unit) (drop (length more) (carried_in way)) ++ us) (sym (units_sent sent))
       ∙ sym (map-append (λ (c : Carried). c.unit) (drop (length more) (carried_in way)) (sent_in sent))
       ∙ ap (λ (cs : List Carried). map (λ (c : Carried). c.unit) cs) (sym moved_is)
-      ∙ ap (λ (cs : List Carried). map (λ (c : Carried). c.unit) cs) (sym (carried_settled marked moved))
+
+  pub units_under_way : units_of (sends ++ sent) ≡ p.heard ++ map (λ (c : Carried). c.unit) (carried_in (settled_if marked moved))
+  units_under_way = p.sent_are ∙ ap (λ (us : List SignalUnit). p.heard ++ us) under_way_is
 
   pub passes_on : PassesOn sends hears sent heard marked way
   passes_on = record {
@@ -200,10 +205,13 @@ module _ (sends hears sent heard : List Doing) (marked : Bool) (way : Way) (u : 
     as_many = ap length more_is ∙ sym (length-map more (λ (unit : SignalUnit). Some unit)) ∙ ap length (sym now_heard.units_are) ∙ length-map marks unit_in;
     way = record {
       heard = p.heard;
-      sent_are = p.sent_are ∙ ap (λ (us : List SignalUnit). p.heard ++ us) under_way_is;
+      sent_are = units_under_way;
       heard_are = p.heard_are;
     };
   }
+
+  pub heard_more : p.heard ≡ u.heard ++ heard_in marks
+  heard_more = now_heard.all_are ∙ ap (λ (us : List SignalUnit). u.heard ++ us) (sym more_is)
 
 -- A RUN, and then a step.
 pub both_intact : (first second : List WireStep) → AreIntact first → AreIntact second → AreIntact (first ++ second)

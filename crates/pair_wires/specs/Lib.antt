@@ -2,6 +2,7 @@ pub mod Apart
 pub mod Carrying
 pub mod Following
 pub mod Moves
+pub mod Noise
 pub mod Read
 pub mod Standing
 pub mod Starting

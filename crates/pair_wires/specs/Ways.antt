@@ -84,13 +84,23 @@ joined_by sent way = record way { fresh = way.fresh ++ sent }
 abbrev pub settled_if : Bool → Way → Way
 settled_if marked way = if marked then record { old = carried_in way; fresh = [] } else way
 
--- A STEP: of a turn at that end what is heard leaves, of a turn at the other what is sent joins; others move no unit.
+-- A STEP: of a turn at that end so many leave, of a turn at the other what is sent joins; others move no unit.
 -- Then the way of a link that is marked is settled.
+abbrev pub way_by : ℕ → (end : End) (link : ℕ) (step : WireStep) (old new : Wires) → Happens step old new → Way → Way
+way_by count end link step old new happens way =
+    settled_if (is_marked (slice_get (seen_from end new).near.links link))
+    (joined_by (sent_in (turns_in (other end) link step old new happens)) (left_by count way))
+
+abbrev pub Counts : Type 0
+Counts = End → ℕ → ℕ
+
+abbrev pub ways_by : Counts → (step : WireStep) (old new : Wires) → Happens step old new → Ways → Ways
+ways_by counts step old new happens ways end link = way_by (counts end link) end link step old new happens (ways end link)
+
+-- on an intact line those that are heard
 abbrev pub way_after : (end : End) (link : ℕ) (step : WireStep) (old new : Wires) → Happens step old new → Way → Way
 way_after end link step old new happens way =
-    settled_if (is_marked (slice_get (seen_from end new).near.links link))
-    (joined_by (sent_in (turns_in (other end) link step old new happens))
-    (left_by (length (heard_in (marks_of (turns_in end link step old new happens)))) way))
+    way_by (length (heard_in (marks_of (turns_in end link step old new happens)))) end link step old new happens way
 
 abbrev pub ways_after : (step : WireStep) (old new : Wires) → Happens step old new → Ways → Ways
 ways_after step old new happens ways end link = way_after end link step old new happens (ways end link)
@@ -111,6 +121,15 @@ pub record HearsFront (marks : List Mark) (way : Way) : Type 0 where
   pub rest : List Carried
   pub way_is : carried_in way ≡ heard ++ rest
   pub heard_are : map unit_in marks ≡ map (λ c. Some c.unit) heard
+
+-- some of these units are heard, in order, and nothing else: others are lost, and a mark may bring none
+pub data HearsSome : List Mark → List Carried → Type 0 where
+  no_more : {marks : List Mark} {came : List Carried} → marks ≡ [] → came ≡ [] → HearsSome marks came
+  is_bad : (mark : Mark) {marks more : List Mark} {came : List Carried} → marks ≡ mark ∷ more → unit_in mark ≡ None → HearsSome more came
+      → HearsSome marks came
+  is_lost : (c : Carried) {marks : List Mark} {came later : List Carried} → came ≡ c ∷ later → HearsSome marks later → HearsSome marks came
+  is_good : (mark : Mark) (c : Carried) {marks more : List Mark} {came later : List Carried} → marks ≡ mark ∷ more → came ≡ c ∷ later
+      → unit_in mark ≡ Some c.unit → HearsSome more later → HearsSome marks came
 
 abbrev pub IfTurnHears : (step : WireStep) (old new : Wires) → Happens step old new → Ways → Type 0
 IfTurnHears (Turn end link) old new takes ways = HearsFront takes.turns.takes.by_octet.marks (ways end link)

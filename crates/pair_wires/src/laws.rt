@@ -1,7 +1,8 @@
 //! Laws of two ends whose links come up one after the other, over definitions alone.
 ghost use Rattle.pair_wires.specs.Apart.{EachEndStandsApart};
-ghost use Rattle.pair_wires.specs.Carrying.{EverySoundRunCarriesStreams};
+ghost use Rattle.pair_wires.specs.Carrying.{EveryRunThroughNoiseCarriesStreams, EverySoundRunCarriesStreams};
 ghost use Rattle.pair_wires.specs.Moves.{EachEntryMoves, InVainIsNoMove};
+ghost use Rattle.pair_wires.specs.Noise.{IntactLinesShowAsLoss};
 ghost use Rattle.pair_wires.specs.Read.{OffersAreKept, StreamsAreReadOff};
 ghost use Rattle.pair_wires.specs.Standing.{TurnsKeepStanding};
 ghost use Rattle.pair_wires.specs.Starting.{EachLinkStandsSo};
@@ -60,8 +61,22 @@ pub fn each_way_is_under_way()
 
 /// In every sound run of two benches on intact lines, whichever end takes its turns when, and whichever links are started,
 /// stopped and fail: what users took of a stream at one end is the first of what was offered and accepted at the other,
-/// in order, each message once, unchanged. Premises: at most 3,700 octets are under way in a link's loop, and no history
-/// is longer than 2^48 entries.
+/// in order, each message once, unchanged; where none is pending at either end that's all but what waits for users in the
+/// inbox. Premises: at most 3,700 octets are under way in a link's loop, and no history is longer than 2^48 entries.
 pub fn every_sound_run_carries_streams()
     ensures { EverySoundRunCarriesStreams }
+{}
+
+/// The same where octets under way are damaged at any time and place, as often as may be, if damage shows as loss: what an
+/// end hears in a turn are some of the units that come with its octet, in order, and nothing else. So no unit of which
+/// octets were damaged is heard, nor one that damage made: their check bits tell (Q.703 4.2). Where links fail by it, and
+/// are started again, streams are carried on.
+pub fn every_run_through_noise_carries_streams()
+    ensures { EveryRunThroughNoiseCarriesStreams }
+{}
+
+/// On intact lines the units that come in a turn are those that are heard in it: so a sound run on intact lines is one
+/// through noise too.
+pub fn intact_lines_show_as_loss()
+    ensures { IntactLinesShowAsLoss }
 {}
