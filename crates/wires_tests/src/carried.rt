@@ -77,6 +77,23 @@ fn add_offers(alloc: Global, steps: &mut Vec<WireStep>, count: u16) -> bool {
     true
 }
 
+/// So often octets under way to end B on link 0 come as others, some units apart; a flag and seven ones are among them.
+fn add_noise(steps: &mut Vec<WireStep>, times: u8) -> bool {
+    for number in 0..times {
+        let octet = if number % 3 == 0 { 0x7e } else { 0xff - number };
+        let damage = WireStep::Damage {
+            end: End::B,
+            link: 0,
+            place: u64::from(number),
+            octet,
+        };
+        if steps.push(damage).is_err() || !add_turns(steps, 400) {
+            return false;
+        }
+    }
+    true
+}
+
 /// Two new ends after these steps.
 fn after(alloc: Global, steps: &[WireStep]) -> Option<Wires> {
     let a = config(2, 1, Method::Basic)?;
@@ -99,4 +116,15 @@ fn a_run_carries_what_was_offered(rt: HostRuntime) -> Result<(), Fail> {
     let started = add_starts(&mut steps) && add_turns(&mut steps, 8_000);
     let offered = add_offers(alloc, &mut steps, 20) && add_turns(&mut steps, 1_000);
     holds(started && offered && takes_so(after(alloc, &steps), 20))
+}
+
+/// Where octets are damaged each message comes once still, and in order: units that don't check are sent again (Q.703 5.3).
+#[test]
+fn a_run_through_noise_carries_what_was_offered(rt: HostRuntime) -> Result<(), Fail> {
+    let alloc = rt.alloc();
+    let mut steps = Vec::new(alloc);
+    let started = add_starts(&mut steps) && add_turns(&mut steps, 8_000);
+    let first = add_offers(alloc, &mut steps, 20) && add_noise(&mut steps, 12);
+    let quiet = add_turns(&mut steps, 2_000);
+    holds(started && first && quiet && takes_so(after(alloc, &steps), 20))
 }
