@@ -16,8 +16,9 @@ use line_ring::{RingLine, ring_pair};
 use set_events::{Method, SetConfig};
 use std::alloc::{AllocError, Global};
 
-/// How many octets fit into a ring.
-const PLACES: usize = 4_096;
+/// How many octets fit into a ring. Both rings of a link hold fewer than an emergency proving period lasts, 4,096 octet
+/// times (Q.703 7.4), so what a link hears in service was sent in its present life.
+const PLACES: usize = 1_800;
 
 /// How messages are kept safe.
 pub(crate) fn method_of(cyclic: bool) -> Method
