@@ -1,0 +1,5 @@
+pub mod Steps
+pub mod Resting
+pub mod Attended
+pub mod Settled
+pub mod Waiting
