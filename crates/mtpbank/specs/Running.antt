@@ -1,18 +1,23 @@
 -- WHAT EACH SUBCOMMAND MAKES OF AN INPUT.
-use Rattle.std.specs.Prelude.{◌≡◌, ◌^◌, ℕ, List, Result, Ok, Err}
+use Rattle.std.specs.Prelude.{◌≡◌, ◌^◌, ℕ, Bool, true, false, List, Result, Ok, Err}
 use Rattle.std.specs.Option.{option_map}
 use Rattle.mtpbank_words.specs.declared.words.Words.{Words}
-use Rattle.mtpbank_words.specs.declared.words.Words.TheVariants.{Units, Play, PlayExplained, Decode, DecodeWide, Capture, Ladder, Audit, Terminal, TerminalExplained, HistoryOfA, HistoryOfB, Run}
+use Rattle.mtpbank_words.specs.declared.words.Words.TheVariants.{Units, Script, Decode, Audit, Terminal, Run}
+use Rattle.mtpbank_words.specs.declared.words.Told.{Told}
+use Rattle.mtpbank_words.specs.declared.words.Told.TheVariants.{Play, Capture, Ladder, HistoryOfA, HistoryOfB}
 use Rattle.text_base.specs.declared.fault.Fault.{Fault}
 use Rattle.text_base.specs.declared.fault.Fault.TheVariants.{Input, Memory, Read, Long, Write}
 use Rattle.text_base.specs.Printing.{Printed}
+use Rattle.l2_units.specs.declared.profile.Profile.{Profile}
 use Rattle.l2_units.specs.declared.profile.Profile.TheVariants.{Narrow, Wide}
 use Rattle.script_accounts.specs.PlayText.{IsPlayText, IsExplainedPlayText}
 use Rattle.text_units.specs.UnitsText.{IsUnitsText}
 use Rattle.text_units.specs.Decoding.{IsDecodeText}
-use Rattle.script_accounts.specs.Capture.{IsCapture}
-use Rattle.script_ladder.specs.Ladder.{IsLadder}
-use Rattle.script_accounts.specs.Histories.{IsHistoryText}
+use Rattle.script_walk.specs.declared.fault.ScriptFault.{ScriptFault}
+use Rattle.script_accounts.specs.Capture.{IsCapture, IsExplainedCapture}
+use Rattle.script_ladder.specs.Ladder.{IsExplainedLadder, IsLadder}
+use Rattle.script_accounts.specs.Histories.{IsExplainedHistoryText, IsHistoryText}
+use Rattle.text_lines.specs.Explaining.{Explained}
 use Rattle.pair_steps.specs.declared.step.End.TheVariants.{A, B}
 use Rattle.history_audit.specs.Auditing.{IsAuditText}
 use Rattle.terminal_text.specs.Explaining.{IsExplainedTerminalText}
@@ -27,19 +32,33 @@ pub record IsText {F : Type 0} (IsIt : Printed F → Type 0) (of : F → TextFau
   pub is_it : IsIt own
   pub same : text ≡ record { printed = own.printed; fault = option_map of own.fault }
 
+-- what is told of a script, and that with an explanation of its fault
+abbrev pub IsToldOf : Told → List ℕ → Printed ScriptFault → Type 0
+IsToldOf Play = IsPlayText
+IsToldOf Capture = IsCapture
+IsToldOf Ladder = IsLadder
+IsToldOf HistoryOfA = IsHistoryText A
+IsToldOf HistoryOfB = IsHistoryText B
+
+abbrev pub IsExplainedOf : Told → List ℕ → Printed (Explained ScriptFault) → Type 0
+IsExplainedOf Play = IsExplainedPlayText
+IsExplainedOf Capture = IsExplainedCapture
+IsExplainedOf Ladder = IsExplainedLadder
+IsExplainedOf HistoryOfA = IsExplainedHistoryText A
+IsExplainedOf HistoryOfB = IsExplainedHistoryText B
+
+abbrev pub profile_of : Bool → Profile
+profile_of true = Wide
+profile_of false = Narrow
+
 abbrev pub IsTextOf : Words → List ℕ → Printed TextFault → Type 0
 IsTextOf Units input text = IsText (IsUnitsText input) UnitsFault text
-IsTextOf Play input text = IsText (IsPlayText input) PlayFault text
-IsTextOf PlayExplained input text = IsText (IsExplainedPlayText input) ExplainedPlayFault text
-IsTextOf Decode input text = IsText (IsDecodeText Narrow input) DecodeFault text
-IsTextOf DecodeWide input text = IsText (IsDecodeText Wide input) DecodeFault text
-IsTextOf Capture input text = IsText (IsCapture input) PlayFault text
-IsTextOf Ladder input text = IsText (IsLadder input) PlayFault text
+IsTextOf (Script told false) input text = IsText (IsToldOf told input) PlayFault text
+IsTextOf (Script told true) input text = IsText (IsExplainedOf told input) ExplainedPlayFault text
+IsTextOf (Decode wide) input text = IsText (IsDecodeText (profile_of wide) input) DecodeFault text
 IsTextOf Audit input text = IsText (IsAuditText input) AuditedFault text
-IsTextOf Terminal input text = IsText (IsTerminalText input) TerminalLineFault text
-IsTextOf TerminalExplained input text = IsText (IsExplainedTerminalText input) ExplainedTerminalLineFault text
-IsTextOf HistoryOfA input text = IsText (IsHistoryText A input) PlayFault text
-IsTextOf HistoryOfB input text = IsText (IsHistoryText B input) PlayFault text
+IsTextOf (Terminal false) input text = IsText (IsTerminalText input) TerminalLineFault text
+IsTextOf (Terminal true) input text = IsText (IsExplainedTerminalText input) ExplainedTerminalLineFault text
 IsTextOf (Run run) input text = ⊥
 
 -- all subcommands read an input but `run`, whose text stands in `run_text`
@@ -49,13 +68,8 @@ ReadsInput words = Unit {0}
 
 -- the most octets that are read: units and decode keep nothing of them, and audit and terminal what their sets keep
 abbrev pub longest_of : Words → ℕ
-longest_of Units = 2 ^ 60
-longest_of Decode = 2 ^ 60
-longest_of DecodeWide = 2 ^ 60
-longest_of Audit = 2 ^ 60
-longest_of Terminal = 2 ^ 60
-longest_of TerminalExplained = 2 ^ 60
-longest_of words = 2 ^ 24
+longest_of (Script told explains) = 2 ^ 24
+longest_of words = 2 ^ 60
 
 -- an answer that gives these of the input's faults, and else the same
 abbrev pub GivesInput : {F G : Type 0} → (F → G → Type 0) → F → Result (Unit {0}) (Fault G) → Type 0

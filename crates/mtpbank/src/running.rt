@@ -1,13 +1,17 @@
 //! What the subcommands do, over any source and sink.
 ghost use Rattle.std.specs.Prelude.{◌≡◌, ◌≤◌, ◌^◌, length, IfSome, OnOk};
 ghost use Rattle.text_base.specs.Printing.{Prints, FailsByDevices};
-ghost use Rattle.mtpbank.specs.Running.{GivesFault, IsTextOf, ReadsInput, longest_of};
+ghost use Rattle.mtpbank_words.specs.declared.words.Words.TheVariants.{Script, Terminal};
+ghost use Rattle.mtpbank.specs.Running.{GivesFault, IsExplainedOf, IsTextOf, IsToldOf, ReadsInput, longest_of, profile_of};
 
 use history_audit::{AuditFault, audit};
 use l2_units::Profile;
-use mtpbank_words::Words;
-use script_accounts::{End, Explained, ScriptFault, capture, history, play, play_explained};
-use script_ladder::ladder;
+use mtpbank_words::{Told, Words};
+use script_accounts::{
+    End, Explained, ScriptFault, capture, capture_explained, history, history_explained, play,
+    play_explained,
+};
+use script_ladder::{ladder, ladder_explained};
 use std::alloc::Global;
 use terminal_text::{TerminalFault, terminal, terminal_explained};
 use text_base::{Fault, Sink, Source};
@@ -57,28 +61,117 @@ pub fn run<S: Source, W: Sink>(
 {
     match words {
         Words::Units => of_any(units(alloc, source, sink), TextFault::Units),
-        Words::Play => of_any(play(alloc, source, sink), TextFault::Play),
-        Words::PlayExplained => of_any(play_explained(alloc, source, sink), TextFault::Explained),
-        Words::Decode => of_any(
-            decode(alloc, Profile::Narrow, source, sink),
+        Words::Script { told, explains } => run_script(alloc, told, explains, source, sink),
+        Words::Decode { wide } => of_any(
+            decode(alloc, profile_of(wide), source, sink),
             TextFault::Decode,
         ),
-        Words::DecodeWide => of_any(
-            decode(alloc, Profile::Wide, source, sink),
-            TextFault::Decode,
-        ),
-        Words::Capture => of_any(capture(alloc, source, sink), TextFault::Play),
-        Words::Ladder => of_any(ladder(alloc, source, sink), TextFault::Play),
         Words::Audit => of_any(audit(alloc, source, sink), TextFault::Audit),
-        Words::Terminal => of_any(terminal(alloc, source, sink), TextFault::Terminal),
-        Words::TerminalExplained => of_any(
-            terminal_explained(alloc, source, sink),
-            TextFault::ExplainedTerminal,
-        ),
-        Words::HistoryOfA => of_any(history(alloc, End::A, source, sink), TextFault::Play),
-        Words::HistoryOfB => of_any(history(alloc, End::B, source, sink), TextFault::Play),
+        Words::Terminal { explains } => run_terminal(alloc, explains, source, sink),
         Words::Run(_) => unreachable!(),
     }
+}
+
+/// Carries out the script that the source gives, and writes what is told of it, with an explanation of its fault or
+/// without.
+fn run_script<S: Source, W: Sink>(
+    alloc: Global,
+    told: Told,
+    explains: bool,
+    source: &mut S,
+    sink: &mut W,
+) -> Result<(), Fault<TextFault>>
+    ensures text { IfSome (S.left source.old) (λ input. Prints result (IsTextOf (Script told explains) input)
+        (W.written sink.old) (W.written sink.new)) }
+    ensures bounded { IfSome (S.left source.old) (λ input. OnOk result (length input ≤ 2 ^ 24)) }
+    ensures devices { IfSome (S.left source.old)
+        (FailsByDevices (2 ^ 24) result (S.failures source.old) (S.failures source.new)
+        (W.failures sink.old) (W.failures sink.new)) }
+{
+    if explains {
+        return of_any(
+            tell_explained(alloc, told, source, sink),
+            TextFault::Explained,
+        );
+    }
+    of_any(tell(alloc, told, source, sink), TextFault::Play)
+}
+
+/// Drives the end by the lines that the source gives, and writes what they print, with an explanation of a fault or
+/// without.
+fn run_terminal<S: Source, W: Sink>(
+    alloc: Global,
+    explains: bool,
+    source: &mut S,
+    sink: &mut W,
+) -> Result<(), Fault<TextFault>>
+    ensures text { IfSome (S.left source.old) (λ input. Prints result (IsTextOf (Terminal explains) input)
+        (W.written sink.old) (W.written sink.new)) }
+    ensures bounded { IfSome (S.left source.old) (λ input. OnOk result (length input ≤ 2 ^ 60)) }
+    ensures devices { IfSome (S.left source.old)
+        (FailsByDevices (2 ^ 60) result (S.failures source.old) (S.failures source.new)
+        (W.failures sink.old) (W.failures sink.new)) }
+{
+    if explains {
+        return of_any(
+            terminal_explained(alloc, source, sink),
+            TextFault::ExplainedTerminal,
+        );
+    }
+    of_any(terminal(alloc, source, sink), TextFault::Terminal)
+}
+
+/// Carries out the script that the source gives, and writes what is told of it.
+fn tell<S: Source, W: Sink>(
+    alloc: Global,
+    told: Told,
+    source: &mut S,
+    sink: &mut W,
+) -> Result<(), Fault<ScriptFault>>
+    ensures text { IfSome (S.left source.old)
+        (λ input. Prints result (IsToldOf told input) (W.written sink.old) (W.written sink.new)) }
+    ensures bounded { IfSome (S.left source.old) (λ input. OnOk result (length input ≤ 2 ^ 24)) }
+    ensures devices { IfSome (S.left source.old)
+        (FailsByDevices (2 ^ 24) result (S.failures source.old) (S.failures source.new)
+        (W.failures sink.old) (W.failures sink.new)) }
+{
+    match told {
+        Told::Play => play(alloc, source, sink),
+        Told::Capture => capture(alloc, source, sink),
+        Told::Ladder => ladder(alloc, source, sink),
+        Told::HistoryOfA => history(alloc, End::A, source, sink),
+        Told::HistoryOfB => history(alloc, End::B, source, sink),
+    }
+}
+
+/// Writes that with an explanation of the line that ends the script with a fault.
+fn tell_explained<S: Source, W: Sink>(
+    alloc: Global,
+    told: Told,
+    source: &mut S,
+    sink: &mut W,
+) -> Result<(), Fault<Explained<ScriptFault>>>
+    ensures text { IfSome (S.left source.old)
+        (λ input. Prints result (IsExplainedOf told input) (W.written sink.old) (W.written sink.new)) }
+    ensures bounded { IfSome (S.left source.old) (λ input. OnOk result (length input ≤ 2 ^ 24)) }
+    ensures devices { IfSome (S.left source.old)
+        (FailsByDevices (2 ^ 24) result (S.failures source.old) (S.failures source.new)
+        (W.failures sink.old) (W.failures sink.new)) }
+{
+    match told {
+        Told::Play => play_explained(alloc, source, sink),
+        Told::Capture => capture_explained(alloc, source, sink),
+        Told::Ladder => ladder_explained(alloc, source, sink),
+        Told::HistoryOfA => history_explained(alloc, End::A, source, sink),
+        Told::HistoryOfB => history_explained(alloc, End::B, source, sink),
+    }
+}
+
+/// The profile of the units to decode.
+fn profile_of(wide: bool) -> Profile
+    ensures { result ≡ profile_of wide }
+{
+    if wide { Profile::Wide } else { Profile::Narrow }
 }
 
 /// What a subcommand answered, with a fault of its input as one of these.

@@ -7,7 +7,8 @@
 //! `NAME.play` stands `NAME.stdout`, what the run prints, and where it ends with a fault `NAME.fault`, the line that tells
 //! it. `NAME.pcap` is what the capture of `NAME.play` writes, `NAME.history_a` and `NAME.history_b` what the histories of
 //! its ends print, and `NAME.ladder` is its chart. `NAME.explained` is what is told of `NAME.play` where its fault is
-//! explained; a table `NAME.told_first` or `NAME.told_second` has four such lines each, of which the third shows the line
+//! explained; so are `NAME.ladder_explained`, `NAME.pcap_explained`, `NAME.history_a_explained` and
+//! `NAME.history_b_explained`, which print what they do without an explanation; a table `NAME.told_first` or `NAME.told_second` has four such lines each, of which the third shows the line
 //! that is played, alone or with the opening before it. `NAME.terminal_explained` beside `NAME.terminal`, and the tables
 //! `NAME.terminal_first`, `NAME.terminal_second` and `NAME.terminal_third`, are so for the lines that drive an end; before
 //! the third line stand the opening and a command. `NAME.run` is the words behind `mtpbank run`, one a line: threads run as
@@ -21,8 +22,10 @@
 use history_audit::audit;
 use l2_units::Profile;
 use mtpbank_words::{RunWords, Words, WordsFault, words_of};
-use script_accounts::{End, capture, history, play, play_explained};
-use script_ladder::ladder;
+use script_accounts::{
+    End, capture, capture_explained, history, history_explained, play, play_explained,
+};
+use script_ladder::{ladder, ladder_explained};
 use std::alloc::Global;
 use std::fmt::Display;
 use std::io::Eprint;
@@ -163,11 +166,15 @@ enum Kind {
     WideDecoded,
     HistoryOfA,
     HistoryOfB,
+    HistoryOfAExplained,
+    HistoryOfBExplained,
     Audited,
     Driven,
     DrivenExplained,
     Ladder,
+    LadderExplained,
     Captured,
+    CapturedExplained,
     Explained,
     Played,
 }
@@ -181,9 +188,13 @@ fn kind_of(name: &str) -> Kind {
         "history_b" => Kind::HistoryOfB,
         "history" => Kind::Audited,
         "terminal" => Kind::Driven,
+        "history_a_explained" => Kind::HistoryOfAExplained,
+        "history_b_explained" => Kind::HistoryOfBExplained,
         "terminal_explained" => Kind::DrivenExplained,
         "ladder" => Kind::Ladder,
+        "ladder_explained" => Kind::LadderExplained,
         "pcap" => Kind::Captured,
+        "pcap_explained" => Kind::CapturedExplained,
         "explained" => Kind::Explained,
         _ => Kind::Played,
     }
@@ -215,7 +226,28 @@ impl Kind {
 
     /// Whether the file of the name is what is told of a fault.
     fn explains(self) -> bool {
-        matches!(self, Kind::Explained | Kind::DrivenExplained)
+        matches!(
+            self,
+            Kind::Explained
+                | Kind::DrivenExplained
+                | Kind::HistoryOfAExplained
+                | Kind::HistoryOfBExplained
+                | Kind::LadderExplained
+                | Kind::CapturedExplained
+        )
+    }
+
+    /// The ending of what the run prints, beside its name: an explained run prints what it does without an explanation;
+    /// `None`: that has the name itself.
+    fn printed(self) -> Option<&'static str> {
+        match self {
+            Kind::HistoryOfA | Kind::HistoryOfB | Kind::Ladder | Kind::Captured => None,
+            Kind::HistoryOfAExplained => Some("history_a"),
+            Kind::HistoryOfBExplained => Some("history_b"),
+            Kind::LadderExplained => Some("ladder"),
+            Kind::CapturedExplained => Some("pcap"),
+            _ => Some("stdout"),
+        }
     }
 }
 
@@ -244,11 +276,9 @@ fn ran_with(printed: Vec<u8>, told: io::Result<String>) -> io::Result<Ran> {
 
 /// What is to be printed.
 fn printed_beside(rt: &HostRuntime, name: &str) -> io::Result<Vec<u8>> {
-    let kind = kind_of(name);
-    if kind.told_of().is_some() && !kind.explains() {
-        fs::read(rt, name)
-    } else {
-        read_beside(rt, name, "stdout")
+    match kind_of(name).printed() {
+        Some(ending) => read_beside(rt, name, ending),
+        None => fs::read(rt, name),
     }
 }
 
@@ -299,11 +329,19 @@ fn run_on(
         Kind::WideDecoded => told_of(alloc, decode(alloc, Profile::Wide, source, sink)),
         Kind::HistoryOfA => told_of(alloc, history(alloc, End::A, source, sink)),
         Kind::HistoryOfB => told_of(alloc, history(alloc, End::B, source, sink)),
+        Kind::HistoryOfAExplained => {
+            told_of(alloc, history_explained(alloc, End::A, source, sink))
+        }
+        Kind::HistoryOfBExplained => {
+            told_of(alloc, history_explained(alloc, End::B, source, sink))
+        }
         Kind::Audited => told_of(alloc, audit(alloc, source, sink)),
         Kind::Driven => told_of(alloc, terminal(alloc, source, sink)),
         Kind::DrivenExplained => told_of(alloc, terminal_explained(alloc, source, sink)),
         Kind::Ladder => told_of(alloc, ladder(alloc, source, sink)),
+        Kind::LadderExplained => told_of(alloc, ladder_explained(alloc, source, sink)),
         Kind::Captured => told_of(alloc, capture(alloc, source, sink)),
+        Kind::CapturedExplained => told_of(alloc, capture_explained(alloc, source, sink)),
         Kind::Explained => told_of(alloc, play_explained(alloc, source, sink)),
         Kind::Played => told_of(alloc, play(alloc, source, sink)),
     }

@@ -1,12 +1,12 @@
 -- The options of a command, one after the other, and a run whose link is looked at.
-use Rattle.std.proofs.Common.{refl, sym, ◌≡◌, ◌≢◌, ◌∙◌, ap, ap₂, ◌<◌, ◌≤◌, ◌↔◌, IsTrue, Bool, true, false, ℕ, List, [], ◌∷◌, ◌++◌, Option, None, Some, Result, Ok, Err, IfSome}
+use Rattle.std.proofs.Common.{refl, ◌≡◌, ◌∙◌, ap, ap₂, ◌<◌, ◌↔◌, IsTrue, Bool, true, false, ℕ, List, [], ◌∷◌, ◌++◌, Result, Ok, Err, IfSome}
 use Rattle.std.specs.Prelude.{MatchResult}
 use Rattle.std.proofs.lemmas.List.{append_assoc}
 use Rattle.clap.specs.Words.{Shape, Row, Rule}
 use Rattle.mtpbank_words.specs.declared.run_words.RunWords.{RunWords}
 use Rattle.mtpbank_words.specs.declared.run_words.Unasked.{Unasked}
 use Rattle.mtpbank_words.specs.declared.run_words.Unasked.TheVariants.{Link, Value}
-use Rattle.mtpbank_words.specs.RunOptions.{AreValues, IsRun, IsUnasked, IsWithout, goes_alone, with_rules}
+use Rattle.mtpbank_words.specs.RunOptions.{AreValues, IsRun, IsUnasked, IsWithout, with_rules}
 
 -- one option more, behind these of a command
 pub one_more : (old new base : Shape) (rules : List Rule) (rule its : Rule) → old ≡ with_rules base rules

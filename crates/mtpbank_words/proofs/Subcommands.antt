@@ -1,17 +1,18 @@
 -- The subcommand that was found, with its rows, and what it can't ask for.
-use Rattle.std.proofs.Common.{◌≡◌, ◌≢◌, ap, ap₂, sym, ◌∙◌, arith, codes, slice_index, ℕ, List, Option, None, Some, Box}
+use Rattle.std.proofs.Common.{◌≡◌, ◌≢◌, ap, ap₂, sym, ◌∙◌, arith, codes, slice_index, ℕ, Bool, List, Option, None, Some, Box}
 use Rattle.std.specs.Option.{option_map}
 use Rattle.std.specs.Box.{box_value}
 use Rattle.clap.specs.Words.{Row, Text, first_of, subcommand_rows}
 use Rattle.clap.specs.declared.parser.matches.ArgMatches.TheViews.{out-SubCommand}
 use Rattle.clap.specs.declared.parser.matches.SubCommand.{SubCommand}
 use Rattle.mtpbank_words.specs.declared.words.Words.{Words}
-use Rattle.mtpbank_words.specs.declared.words.Words.TheVariants.{Units, Play, PlayExplained, Decode, DecodeWide, Capture, Ladder, Audit, Terminal, TerminalExplained, HistoryOfA, HistoryOfB, Run}
+use Rattle.mtpbank_words.specs.declared.words.Words.TheVariants.{Units, Script, Decode, Audit, Terminal, Run}
+use Rattle.mtpbank_words.specs.declared.words.Told.TheVariants.{Play, Capture, Ladder, HistoryOfA, HistoryOfB}
 use Rattle.mtpbank_words.specs.declared.run_words.RunWords.{RunWords}
 use Rattle.mtpbank_words.specs.declared.run_words.Unasked.{Unasked}
 use Rattle.mtpbank_words.specs.declared.run_words.Unasked.TheVariants.{Value, Link}
 use Rattle.mtpbank_words.specs.RunOptions.{AreValues, IsRun, IsUnasked, LacksLink}
-use Rattle.mtpbank_words.specs.CommandLine.{HasOptions, IsNotFound, IsWord, name_of}
+use Rattle.mtpbank_words.specs.CommandLine.{HasOptions, IsNotFound, IsWord, is_set, name_of}
 
 pub found_is : {Z : Type 0} (found : Option (Box SubCommand Z)) (name : Text) (rows : List Row)
     → Some name ≡ option_map (λ b. (out-SubCommand (box_value b)).name.now) found
@@ -23,41 +24,32 @@ found_is (Some s) name rows a b =
     ap₂ (λ (n : Text) (r : List Row). Some (n, r)) first second
 
 -- only `run` has options
-pub options : (asked : Words) (name : Text) (end : Option Text) (rows : List Row) → name ≢ codes "run" → IsWord asked name end
-    → HasOptions asked rows
-options Units name end rows other is = tt
-options Play name end rows other is = tt
-options PlayExplained name end rows other is = tt
-options Decode name end rows other is = tt
-options DecodeWide name end rows other is = tt
-options Capture name end rows other is = tt
-options Ladder name end rows other is = tt
-options Audit name end rows other is = tt
-options Terminal name end rows other is = tt
-options TerminalExplained name end rows other is = tt
-options HistoryOfA name end rows other is = tt
-options HistoryOfB name end rows other is = tt
-options (Run run) name end rows other is = absurd (other is.name_is)
+pub options : (asked : Words) (name : Text) (end : Option Text) (wide explains : Bool) (rows : List Row) → name ≢ codes "run"
+    → IsWord asked name end wide explains → HasOptions asked rows
+options Units name end wide explains rows other is = tt
+options (Script told by) name end wide explains rows other is = tt
+options (Decode by) name end wide explains rows other is = tt
+options Audit name end wide explains rows other is = tt
+options (Terminal by) name end wide explains rows other is = tt
+options (Run run) name end wide explains rows other is = absurd (other is.name_is)
 
 -- the first letter tells `run` from the others
-letter : (asked : Words) (name : Text) (end : Option Text) → name ≡ codes "run" → IsWord asked name end → slice_index (name_of asked) 0 ≡ 114
-letter asked name end is_run is = ap (λ (text : List ℕ). slice_index text 0) (sym is.name_is ∙ is_run)
+letter : (asked : Words) (name : Text) → name ≡ codes "run" → name ≡ name_of asked → slice_index (name_of asked) 0 ≡ 114
+letter asked name is_run is = ap (λ (text : List ℕ). slice_index text 0) (sym is ∙ is_run)
 
 module _ (name : Text) (rows : List Row) (is_run : name ≡ codes "run") where
   no_word : (asked : Words) → ((run : RunWords) → IsRun run rows → ⊥)
-      → IsWord asked name (first_of (codes "END") rows) × HasOptions asked rows → ⊥
-  no_word Units none is = let bad : 117 ≡ 114 = letter Units name _ is_run is.0 in omega (arith, bad)
-  no_word Play none is = let bad : 112 ≡ 114 = letter Play name _ is_run is.0 in omega (arith, bad)
-  no_word PlayExplained none is = let bad : 112 ≡ 114 = letter PlayExplained name _ is_run is.0 in omega (arith, bad)
-  no_word Decode none is = let bad : 100 ≡ 114 = letter Decode name _ is_run is.0 in omega (arith, bad)
-  no_word DecodeWide none is = let bad : 100 ≡ 114 = letter DecodeWide name _ is_run is.0 in omega (arith, bad)
-  no_word Capture none is = let bad : 99 ≡ 114 = letter Capture name _ is_run is.0 in omega (arith, bad)
-  no_word Ladder none is = let bad : 108 ≡ 114 = letter Ladder name _ is_run is.0 in omega (arith, bad)
-  no_word Audit none is = let bad : 97 ≡ 114 = letter Audit name _ is_run is.0 in omega (arith, bad)
-  no_word Terminal none is = let bad : 116 ≡ 114 = letter Terminal name _ is_run is.0 in omega (arith, bad)
-  no_word TerminalExplained none is = let bad : 116 ≡ 114 = letter TerminalExplained name _ is_run is.0 in omega (arith, bad)
-  no_word HistoryOfA none is = let bad : 104 ≡ 114 = letter HistoryOfA name _ is_run is.0 in omega (arith, bad)
-  no_word HistoryOfB none is = let bad : 104 ≡ 114 = letter HistoryOfB name _ is_run is.0 in omega (arith, bad)
+      → IsWord asked name (first_of (codes "END") rows) (is_set (codes "wide") rows) (is_set (codes "explain") rows)
+      × HasOptions asked rows → ⊥
+  no_word Units none is = let bad : 117 ≡ 114 = letter Units name is_run is.0.name_is in omega (arith, bad)
+  no_word (Script Play by) none is = let bad : 112 ≡ 114 = letter (Script Play by) name is_run is.0.name_is in omega (arith, bad)
+  no_word (Script Capture by) none is = let bad : 99 ≡ 114 = letter (Script Capture by) name is_run is.0.name_is in omega (arith, bad)
+  no_word (Script Ladder by) none is = let bad : 108 ≡ 114 = letter (Script Ladder by) name is_run is.0.name_is in omega (arith, bad)
+  no_word (Script HistoryOfA by) none is = let bad : 104 ≡ 114 = letter (Script HistoryOfA by) name is_run is.0.name_is in omega (arith, bad)
+  no_word (Script HistoryOfB by) none is = let bad : 104 ≡ 114 = letter (Script HistoryOfB by) name is_run is.0.name_is in omega (arith, bad)
+  no_word (Decode by) none is = let bad : 100 ≡ 114 = letter (Decode by) name is_run is.0.name_is in omega (arith, bad)
+  no_word Audit none is = let bad : 97 ≡ 114 = letter Audit name is_run is.0.name_is in omega (arith, bad)
+  no_word (Terminal by) none is = let bad : 116 ≡ 114 = letter (Terminal by) name is_run is.0.name_is in omega (arith, bad)
   no_word (Run run) none is = none run is.1
 
   in_range : (fail links : ℕ) → ((run : RunWords) → AreValues run rows → ⊥) → LacksLink fail links rows → ⊥

@@ -38,8 +38,10 @@ name_of History = codes "history"
 abbrev pub usage_of : Input → List ℕ
 usage_of Play = codes "play [--explain]"
 usage_of Decode = codes "decode [--wide]"
+usage_of Capture = codes "capture [--explain]"
+usage_of Ladder = codes "ladder [--explain]"
 usage_of Terminal = codes "terminal [--explain]"
-usage_of History = codes "history END"
+usage_of History = codes "history [--explain] END"
 usage_of input = name_of input
 
 -- a word that stands for a thing, as a file's name does, and is no option: it doesn't begin with - (45)
@@ -79,10 +81,16 @@ input_advice input [] = None
 input_advice input (word ∷ words) =
     if is_operand word then Some (input_text input) else unknown_advice input word
 
--- play, decode and terminal have a flag
-abbrev pub without_flag : List ℕ → List (List ℕ) → List (List ℕ)
-without_flag flag [] = []
-without_flag flag (word ∷ words) = if bytes_eq word flag then words else word ∷ words
+-- all but units and audit have a flag
+abbrev pub is_flag_of : Input → List ℕ → Bool
+is_flag_of Units word = false
+is_flag_of Audit word = false
+is_flag_of Decode word = bytes_eq word (codes "--wide")
+is_flag_of input word = bytes_eq word (codes "--explain")
+
+abbrev pub without_flag : Input → List (List ℕ) → List (List ℕ)
+without_flag input [] = []
+without_flag input (word ∷ words) = if is_flag_of input word then words else word ∷ words
 
 -- history has an end
 abbrev pub is_end : List ℕ → Bool
@@ -92,13 +100,20 @@ abbrev pub end_text : List ℕ → Option (List ℕ)
 end_text word =
     if is_operand word then (if is_end word then None
     else Some (codes "mtpbank history: " ++ (map plain word
-    ++ codes " isn't an end, a or b\nusage: mtpbank history END < FILE")))
+    ++ codes " isn't an end, a or b\nusage: mtpbank history [--explain] END < FILE")))
     else unknown_advice History word
 
+abbrev pub behind_advice : List ℕ → List (List ℕ) → Option (List ℕ)
+behind_advice end [] = end_text end
+behind_advice end (word ∷ words) = input_advice History (word ∷ words)
+
+-- its flag stands before or behind the end
+abbrev pub of_history : List (List ℕ) → Option (List ℕ)
+of_history [] = None
+of_history (end ∷ words) = behind_advice end (without_flag History words)
+
 abbrev pub history_advice : List (List ℕ) → Option (List ℕ)
-history_advice [] = None
-history_advice (end ∷ []) = end_text end
-history_advice (end ∷ word ∷ words) = input_advice History (word ∷ words)
+history_advice words = of_history (without_flag History words)
 
 -- THE OPTIONS of run that have a value.
 
@@ -235,13 +250,13 @@ command_text word =
 abbrev pub told_of_input : Option Input → List (List ℕ) → Option (List ℕ)
 told_of_input None words = None
 told_of_input (Some History) words = history_advice words
-told_of_input (Some Play) words = input_advice Play (without_flag (codes "--explain") words)
-told_of_input (Some Units) words = input_advice Units words
-told_of_input (Some Decode) words = input_advice Decode (without_flag (codes "--wide") words)
-told_of_input (Some Capture) words = input_advice Capture words
-told_of_input (Some Ladder) words = input_advice Ladder words
-told_of_input (Some Audit) words = input_advice Audit words
-told_of_input (Some Terminal) words = input_advice Terminal (without_flag (codes "--explain") words)
+told_of_input (Some Play) words = input_advice Play (without_flag Play words)
+told_of_input (Some Units) words = input_advice Units (without_flag Units words)
+told_of_input (Some Decode) words = input_advice Decode (without_flag Decode words)
+told_of_input (Some Capture) words = input_advice Capture (without_flag Capture words)
+told_of_input (Some Ladder) words = input_advice Ladder (without_flag Ladder words)
+told_of_input (Some Audit) words = input_advice Audit (without_flag Audit words)
+told_of_input (Some Terminal) words = input_advice Terminal (without_flag Terminal words)
 
 abbrev pub advice : List (List ℕ) → Option (List ℕ)
 advice [] = Some missing_text

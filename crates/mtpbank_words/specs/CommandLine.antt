@@ -1,19 +1,21 @@
 -- THE COMMAND LINE: the words behind the program's name, as the library that reads them defines it.
-use Rattle.std.specs.Prelude.{◌≡◌, ◌≢◌, ◌⊎◌, ℕ, true, List, [], ◌∷◌, codes, drop, map, Option, None, Some, String, string_bytes}
+use Rattle.std.specs.Str.{bytes_eq}
+use Rattle.std.specs.Prelude.{◌≡◌, ◌⊎◌, ℕ, Bool, true, false, List, [], ◌∷◌, codes, drop, map, Option, None, Some, String, string_bytes}
 use Rattle.clap.specs.Words.{App, Shape, Row, Rule, Text, first_of, new_rule, with_subcommand, subcommand_of, takes}
 use Rattle.clap.specs.Simple.{new_shape}
 use Rattle.clap.specs.Values.{kind_of}
 use Rattle.clap.specs.declared.error.kind.ErrorKind.{ErrorKind}
-use Rattle.clap.specs.declared.builder.action.ArgAction.TheVariants.{SetTrue}
 use Rattle.mtpbank_words.specs.declared.words.Words.{Words}
-use Rattle.mtpbank_words.specs.declared.words.Words.TheVariants.{Units, Play, PlayExplained, Decode, DecodeWide, Capture, Ladder, Audit, Terminal, TerminalExplained, HistoryOfA, HistoryOfB, Run}
+use Rattle.mtpbank_words.specs.declared.words.Words.TheVariants.{Units, Script, Decode, Audit, Terminal, Run}
+use Rattle.mtpbank_words.specs.declared.words.Told.{Told}
+use Rattle.mtpbank_words.specs.declared.words.Told.TheVariants.{Play, Capture, Ladder, HistoryOfA, HistoryOfB}
 use Rattle.mtpbank_words.specs.declared.words.WordsFault.{WordsFault}
 use Rattle.mtpbank_words.specs.declared.words.WordsFault.TheVariants.{NoMemory, Words as WrongWords, Link, Said}
 use Rattle.mtpbank_words.specs.declared.run_words.Unasked.{Unasked}
 use Rattle.mtpbank_words.specs.declared.run_words.Unasked.TheVariants.{Value, Link as NoLink}
 use Rattle.mtpbank_words.specs.Advice.{advice}
 use Rattle.clap.specs.declared.error.kind.ErrorKind.TheVariants.{InvalidSubcommand, InvalidValue, MissingSubcommand, UnknownArgument}
-use Rattle.mtpbank_words.specs.RunOptions.{IsRun, LacksLink, run_shape}
+use Rattle.mtpbank_words.specs.RunOptions.{IsRun, LacksLink, flag_rule, run_shape, with_rules}
 
 -- no program's name comes first, there is a version, and a subcommand has to be there
 abbrev pub program_itself : Shape
@@ -26,105 +28,115 @@ program_itself = record (new_shape (codes "mtpbank")) {
 abbrev pub without_subcommands : App
 without_subcommands = record { top = program_itself; subs = [] }
 
--- four subcommands, which take no words, three that take a flag, and one that takes an end, each of which is its END,
--- and one that takes options
+-- two subcommands, which take no words, five that take a flag, of which one takes an end, too, one with another flag, and
+-- one that takes options
 abbrev pub explain_rule : Rule
-explain_rule =
-    record (new_rule (codes "END")) { long = Some (codes "explain"); action = Some SetTrue }
+explain_rule = flag_rule (codes "explain")
 
-abbrev pub play_shape : Shape
-play_shape = record (new_shape (codes "play")) { rules = explain_rule ∷ [] }
-
-abbrev pub wide_rule : Rule
-wide_rule =
-    record (new_rule (codes "END")) { long = Some (codes "wide"); action = Some SetTrue }
+abbrev pub script_shape : List ℕ → Shape
+script_shape name = with_rules (new_shape name) (explain_rule ∷ [])
 
 abbrev pub decode_shape : Shape
-decode_shape = record (new_shape (codes "decode")) { rules = wide_rule ∷ [] }
+decode_shape = with_rules (new_shape (codes "decode")) (flag_rule (codes "wide") ∷ [])
 
 abbrev pub units_and_play : App
 units_and_play =
-    with_subcommand (with_subcommand without_subcommands (new_shape (codes "units"))) play_shape
+    with_subcommand (with_subcommand without_subcommands (new_shape (codes "units")))
+    (script_shape (codes "play"))
 
 abbrev pub with_units : App
 with_units =
     with_subcommand (with_subcommand units_and_play decode_shape)
-    (new_shape (codes "capture"))
+    (script_shape (codes "capture"))
 
 abbrev pub without_history : App
 without_history =
-    with_subcommand (with_subcommand with_units (new_shape (codes "ladder")))
+    with_subcommand (with_subcommand with_units (script_shape (codes "ladder")))
     (new_shape (codes "audit"))
 
 abbrev pub end_rule : Rule
 end_rule = record (new_rule (codes "END")) { required = true }
 
 abbrev pub history_shape : Shape
-history_shape = record (new_shape (codes "history")) { rules = end_rule ∷ [] }
+history_shape = with_rules (new_shape (codes "history")) (end_rule ∷ explain_rule ∷ [])
 
 abbrev pub without_run : App
 without_run = with_subcommand without_history history_shape
 
-abbrev pub terminal_shape : Shape
-terminal_shape = record (new_shape (codes "terminal")) { rules = explain_rule ∷ [] }
-
 abbrev pub with_terminal : App
-with_terminal = with_subcommand without_run terminal_shape
+with_terminal = with_subcommand without_run (script_shape (codes "terminal"))
 
 abbrev pub program : App
 program = with_subcommand with_terminal run_shape
 
 -- the subcommand that was asked for
+abbrev pub told_name : Told → List ℕ
+told_name Play = codes "play"
+told_name Capture = codes "capture"
+told_name Ladder = codes "ladder"
+told_name HistoryOfA = codes "history"
+told_name HistoryOfB = codes "history"
+
 abbrev pub name_of : Words → List ℕ
 name_of Units = codes "units"
-name_of Play = codes "play"
-name_of PlayExplained = codes "play"
-name_of Decode = codes "decode"
-name_of DecodeWide = codes "decode"
-name_of Capture = codes "capture"
-name_of Ladder = codes "ladder"
+name_of (Script told explains) = told_name told
+name_of (Decode wide) = codes "decode"
 name_of Audit = codes "audit"
-name_of Terminal = codes "terminal"
-name_of TerminalExplained = codes "terminal"
-name_of HistoryOfA = codes "history"
-name_of HistoryOfB = codes "history"
+name_of (Terminal explains) = codes "terminal"
 name_of (Run run) = codes "run"
 
 -- the words of a program's arguments, of which the first is its own name
 abbrev pub words_in : {A : Type 0} → List (String A) → List (List ℕ)
 words_in args = map string_bytes (drop 1 args)
 
--- the word that stands behind it, where one does, or whether the flag does
-abbrev pub IsEnd : Words → Option (List ℕ) → Type 0
-IsEnd Units end = Unit {0}
-IsEnd Play end = end ≢ Some (codes "true")
-IsEnd PlayExplained end = end ≡ Some (codes "true")
-IsEnd Decode end = end ≢ Some (codes "true")
-IsEnd DecodeWide end = end ≡ Some (codes "true")
+-- the word that stands behind it, where one does
+abbrev pub IsEnd : Told → Option (List ℕ) → Type 0
+IsEnd Play end = Unit {0}
 IsEnd Capture end = Unit {0}
 IsEnd Ladder end = Unit {0}
-IsEnd Audit end = Unit {0}
-IsEnd Terminal end = end ≢ Some (codes "true")
-IsEnd TerminalExplained end = end ≡ Some (codes "true")
 IsEnd HistoryOfA end = end ≡ Some (codes "a")
 IsEnd HistoryOfB end = end ≡ Some (codes "b")
-IsEnd (Run run) end = Unit {0}
+
+-- a subcommand's name, and the word behind it, ask that this is told of a script
+pub record IsTold (told : Told) (name : List ℕ) (end : Option (List ℕ)) : Type 0 where
+  pub name_is : name ≡ told_name told
+  pub end_is : IsEnd told end
+
+-- a flag stands there, whose value is true then
+abbrev pub is_true : Option (List ℕ) → Bool
+is_true None = false
+is_true (Some word) = bytes_eq word (codes "true")
+
+abbrev pub is_set : List ℕ → List Row → Bool
+is_set flag rows = is_true (first_of flag rows)
+
+-- what stands behind a subcommand: a word, and whether its flags do
+abbrev pub IsBehind : Words → List ℕ → Option (List ℕ) → Bool → Bool → Type 0
+IsBehind Units name end wide explains = Unit {0}
+IsBehind (Script told is_explained) name end wide explains =
+    IsTold told name end × (is_explained ≡ explains)
+IsBehind (Decode is_wide) name end wide explains = is_wide ≡ wide
+IsBehind Audit name end wide explains = Unit {0}
+IsBehind (Terminal is_explained) name end wide explains = is_explained ≡ explains
+IsBehind (Run run) name end wide explains = Unit {0}
 
 -- what its options tell
 abbrev pub HasOptions : Words → List Row → Type 0
 HasOptions (Run run) rows = IsRun run rows
 HasOptions asked rows = Unit {0}
 
--- a name of a subcommand, and the word behind it, ask for this
-pub record IsWord (asked : Words) (name : List ℕ) (end : Option (List ℕ)) : Type 0 where
+-- a name of a subcommand, and the word and flags behind it, ask for this
+pub record IsWord (asked : Words) (name : List ℕ) (end : Option (List ℕ)) (wide explains : Bool) : Type 0 where
   pub name_is : name ≡ name_of asked
-  pub end_is : IsEnd asked end
+  pub behind : IsBehind asked name end wide explains
 
--- what the library finds in words asks for this: a subcommand of this name, what it has for END, and its options
+-- what the library finds in words asks for this: a subcommand of this name, what it has for END, its flags and options
 abbrev pub IsFound : Words → Option (Text × List Row) → Type 0
 IsFound asked None = ⊥
 IsFound asked (Some found) =
-    IsWord asked found.0 (first_of (codes "END") found.1) × HasOptions asked found.1
+    IsWord asked found.0 (first_of (codes "END") found.1) (is_set (codes "wide") found.1)
+    (is_set (codes "explain") found.1)
+    × HasOptions asked found.1
 
 -- a run, but for the link that is to fail, which isn't below the links
 abbrev pub IsLinkless : ℕ → ℕ → Option (Text × List Row) → Type 0

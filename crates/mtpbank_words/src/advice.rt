@@ -1,7 +1,7 @@
 //! What is said of words that the program doesn't take, where more can be said than the library does.
 ghost use Rattle.std.specs.Prelude.{◌≡◌, ◌++◌, ◌<◌, IfOk, None, OnOk, Some, if◌then◌else◌, length, map, position};
 ghost use Rattle.std.specs.Option.{ForSome, option_map};
-ghost use Rattle.mtpbank_words.specs.Advice.{advice, command_text, commands, end_text, fits, history_advice, input_advice, input_of, input_text, is_equals, is_flag, is_known_flag, is_number_in, is_operand, linkless_text, missing_text, name_of, option_name, option_of, option_text, plain, range_text, run_advice, run_usage, title_text, unknown_advice, unknown_text, usage_of, usage_text, value_text, without_flag, word_text};
+ghost use Rattle.mtpbank_words.specs.Advice.{advice, behind_advice, command_text, commands, end_text, fits, history_advice, input_advice, input_of, input_text, is_equals, is_flag, is_flag_of, is_known_flag, is_number_in, is_operand, linkless_text, missing_text, name_of, option_name, option_of, option_text, plain, range_text, run_advice, run_usage, title_text, unknown_advice, unknown_text, usage_of, usage_text, value_text, without_flag, word_text};
 
 use std::alloc::{AllocError, Global};
 use std::convert::AsStr;
@@ -71,12 +71,7 @@ pub(crate) fn advise<S: AsStr>(alloc: Global, words: &[S]) -> Result<Option<Vec<
     }
     match find_input(name) {
         Some(Input::History) => advise_history(alloc, others),
-        Some(Input::Play) => { advise_input(alloc, Input::Play, skip_flag(b"--explain", others)) }
-        Some(Input::Terminal) => {
-            advise_input(alloc, Input::Terminal, skip_flag(b"--explain", others))
-        }
-        Some(Input::Decode) => { advise_input(alloc, Input::Decode, skip_flag(b"--wide", others)) }
-        Some(input) => advise_input(alloc, input, others),
+        Some(input) => advise_input(alloc, input, skip_flag(input, others)),
         None => Ok(Some(say_command(alloc, name)?)),
     }
 }
@@ -156,8 +151,10 @@ fn usage(input: Input) -> &'static [u8]
     match input {
         Input::Play => b"play [--explain]",
         Input::Decode => b"decode [--wide]",
+        Input::Capture => b"capture [--explain]",
+        Input::Ladder => b"ladder [--explain]",
         Input::Terminal => b"terminal [--explain]",
-        Input::History => b"history END",
+        Input::History => b"history [--explain] END",
         _ => title(input),
     }
 }
@@ -172,12 +169,23 @@ fn is_thing(word: &[u8]) -> bool
     }
 }
 
-/// The words behind this flag, where it stands first.
-fn skip_flag<'a, S: AsStr>(flag: &[u8], words: &'a [S]) -> &'a [S]
-    ensures { map S.text result.now ≡ without_flag flag.now (map S.text words.now) }
+/// Whether this is the flag of the subcommand.
+fn is_flag_of(input: Input, word: &[u8]) -> bool
+    ensures { result ≡ is_flag_of input word.now }
+{
+    match input {
+        Input::Units | Input::Audit => false,
+        Input::Decode => is_word(word, b"--wide"),
+        _ => is_word(word, b"--explain"),
+    }
+}
+
+/// The words behind the subcommand's flag, where it stands first.
+fn skip_flag<S: AsStr>(input: Input, words: &[S]) -> &[S]
+    ensures { map S.text result.now ≡ without_flag input (map S.text words.now) }
 {
     match words {
-        [first, others @ ..] if is_word(first.as_str().as_bytes(), flag) => others,
+        [first, others @ ..] if is_flag_of(input, first.as_str().as_bytes()) => others,
         _ => words,
     }
 }
@@ -261,11 +269,29 @@ fn advise_history<S: AsStr>(alloc: Global, words: &[S]) -> Result<Option<Vec<u8>
     ensures { IfOk result (λ said. option_map (λ text. text.items) said
         ≡ history_advice (map S.text words.now)) }
 {
-    match words {
+    match skip_flag(Input::History, words) {
         [] => Ok(None),
-        [end] => advise_end(alloc, end.as_str().as_bytes()),
-        [_, others @ ..] => advise_input(alloc, Input::History, others),
+        [end, others @ ..] => advise_behind(
+            alloc,
+            end.as_str().as_bytes(),
+            skip_flag(Input::History, others),
+        ),
     }
+}
+
+/// What is said of the end, or else of the words behind it.
+fn advise_behind<S: AsStr>(
+    alloc: Global,
+    end: &[u8],
+    words: &[S],
+) -> Result<Option<Vec<u8>>, AllocError>
+    ensures { IfOk result (λ said. option_map (λ text. text.items) said
+        ≡ behind_advice end.now (map S.text words.now)) }
+{
+    if words.is_empty() {
+        return advise_end(alloc, end);
+    }
+    advise_input(alloc, Input::History, words)
 }
 
 /// What is said of an end that is none.
@@ -280,7 +306,9 @@ fn advise_end(alloc: Global, word: &[u8]) -> Result<Option<Vec<u8>>, AllocError>
     }
     let mut text = Vec::from_slice(alloc, b"mtpbank history: ")?;
     push_shown(&mut text, word)?;
-    text.extend_from_slice(b" isn't an end, a or b\nusage: mtpbank history END < FILE")?;
+    text.extend_from_slice(
+        b" isn't an end, a or b\nusage: mtpbank history [--explain] END < FILE",
+    )?;
     Ok(Some(text))
 }
 

@@ -44,7 +44,8 @@ END is a or b. Standard input is a script, as that of `mtpbank play`. What is
 printed is the history of that end: what it was opened with, and a line for each
 thing that it was asked and answered, which `mtpbank audit` reads:
   mtpbank history a < examples/changeover.play | mtpbank audit
-`mtpbank history --help` says what stands in it, and each fault.";
+`mtpbank history --help` says what stands in it, and each fault. With --explain
+a line at fault is explained.";
 
 pub(crate) const HISTORY_HELP: &str = "\
 END is a or b. Standard input is a script, as `mtpbank play --help` says. When it has ended, all that this end was asked
@@ -56,7 +57,7 @@ and answered is printed, an entry a line, in the order in which it was:
                       nothing), hear one that arrives
 `mtpbank audit --help` says how each line is written. A script without a line prints nothing.
 A fault ends the script: one line on standard error, with status 1, and no history is printed, of which `mtpbank audit`
-behind a pipe says `fault line 1 text`. The faults are those of `mtpbank play`, whose --explain says more:
+behind a pipe says `fault line 1 text`. The faults are those of `mtpbank play`, and --explain says more of them, as there:
   fault line N text, fault line N step, fault exhausted
   fault read, fault long, fault write, fault memory";
 
@@ -145,7 +146,8 @@ pub(crate) const CAPTURE_PAGE: &str = "\
 Standard input is a script, as that of `mtpbank play`. What is written is a file
 of the units that its ends send, for Wireshark and other network analysers:
   mtpbank capture < examples/call.play > call.pcap
-`mtpbank capture --help` says what stands in it, and each fault.";
+`mtpbank capture --help` says what stands in it, and each fault. With --explain
+a line at fault is explained.";
 
 pub(crate) const AUDIT_PAGE: &str = "\
 Standard input is a history of one link set, wherever it comes from: what the
@@ -205,7 +207,7 @@ setting; of the FSN in a COO or COA it shows the low seven bits.
 A script without a line writes a file without a record.
 A fault ends the script: one line on standard error, with status 1; what was written before it stays, and is a capture
 of what was sent until then; where the first line is at fault nothing is written. The faults are those of `mtpbank
-play`, whose --explain says more:
+play`, and --explain says more of them, as there:
   fault line N text, fault line N step, fault exhausted
   fault read, fault long, fault write, fault memory";
 
@@ -213,7 +215,8 @@ pub(crate) const LADDER_PAGE: &str = "\
 Standard input is a script, as that of `mtpbank play`. What is printed is a
 chart of what happens, end a at the left, end b at the right, a row a thing:
   mtpbank ladder < examples/call.play
-`mtpbank ladder --help` says what each arrow and word of it tells.";
+`mtpbank ladder --help` says what each arrow and word of it tells. With
+--explain a line at fault is explained.";
 
 pub(crate) const LADDER_HELP: &str = "\
 Standard input is a script, as `mtpbank play --help` says. Standard output is a chart of 100 columns in plain ASCII: the
@@ -236,7 +239,7 @@ number of the script's line, what happens at end a, what is under way, and what 
                       where no link is up, back while their stream is on its way home, discarded for good
 Other words are the answers of `mtpbank play`, with the reason behind a number, as in refused 9 (nothing to do). Two dots
 (..) stand where more doesn't fit. A fault ends the script: one line on standard error, with status 1; what was drawn
-before it stays. The faults are those of `mtpbank play`, whose --explain says more:
+before it stays. The faults are those of `mtpbank play`, and --explain says more of them, as there:
   fault line N text, fault line N step, fault exhausted
   fault read, fault long, fault write, fault memory";
 
@@ -315,7 +318,7 @@ A link of --fail that isn't below --links is `fault link`, with status 2.";
 pub(crate) const HELP: &str = "\
 All but run read standard input to its end, as in `mtpbank play < examples/changeover.play`. `mtpbank play --help` is
 the manual of play, and so with each subcommand; with `-h` it's a page. A fault is one line on standard error (three
-more with --explain of play and terminal), and what was printed before it stays:
+more with --explain, which scripts and terminal have), and what was printed before it stays:
   fault line N text, fault line N step               a line can't be read, or one of a script can't be done
   fault line N illegal                               an entry of a history is one that no set makes
   fault octet P                                      a character is no hexadecimal digit, or one is left over

@@ -15,4 +15,4 @@ mod words;
 
 pub use advice::say_linkless;
 pub use run_words::RunWords;
-pub use words::{Words, WordsFault, asked_by, not_unicode, words_of};
+pub use words::{Told, Words, WordsFault, asked_by, not_unicode, words_of};

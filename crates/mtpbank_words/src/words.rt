@@ -1,13 +1,14 @@
 //! The words of the command line.
-ghost use Rattle.std.specs.Prelude.{◌≡◌, ◌≢◌, ◌↔◌, IfErr, IfOk, IsTrue, MatchOption, MatchResult, codes, false, map};
+ghost use Rattle.std.specs.Prelude.{◌≡◌, ◌≢◌, ◌↔◌, ◌∷◌, [], IfErr, IfOk, IsTrue, MatchOption, MatchResult, codes, false, map};
 ghost use Rattle.std.specs.Option.{option_map};
 ghost use Rattle.clap.specs.Words.{app_of, subcommand_rows_of};
 ghost use Rattle.clap.specs.declared.error.ErrorKind.TheVariants.{InvalidSubcommand, InvalidValue, OutOfMemory};
 ghost use Rattle.clap.specs.Simple.{new_shape, shape_of};
 ghost use Rattle.clap.specs.declared.builder.command.Command.{out-Command};
 ghost use Rattle.clap.specs.Values.{kind_of};
-ghost use Rattle.mtpbank_words.specs.CommandLine.{program, without_subcommands, decode_shape, history_shape, play_shape, terminal_shape, words_in};
-ghost use Rattle.mtpbank_words.specs.CommandLine.{AreWrong, IsAboutWord, IsAsked, IsFound, IsKind, IsNotFound, IsRefused, IsWord, Refuses, SaysAll};
+ghost use Rattle.mtpbank_words.specs.CommandLine.{program, without_subcommands, decode_shape, explain_rule, history_shape, is_true, script_shape, words_in};
+ghost use Rattle.mtpbank_words.specs.CommandLine.{AreWrong, IsAboutWord, IsAsked, IsFound, IsKind, IsNotFound, IsRefused, IsTold, IsWord, Refuses, SaysAll};
+ghost use Rattle.mtpbank_words.specs.RunOptions.{with_rules};
 
 use super::advice::advise;
 use super::help::{
@@ -15,42 +16,44 @@ use super::help::{
     HISTORY_HELP, HISTORY_PAGE, LADDER_HELP, LADDER_PAGE, PLAY_HELP, PLAY_PAGE, PROGRAM_PAGE,
     TERMINAL_HELP, TERMINAL_PAGE, UNITS_HELP, UNITS_PAGE,
 };
-use super::run_options::{run_command, run_of};
+use super::run_options::{flag, run_command, run_of, with_option};
 use super::run_words::{RunWords, Unasked};
 use clap::error::ErrorKind;
-use clap::{Arg, ArgAction, ArgMatches, Command};
+use clap::{Arg, ArgMatches, Command};
 use std::alloc::{AllocError, Global};
 use std::convert::AsStr;
+use text_base::is_word;
 
-/// What the command line asks for.
+/// What the command line asks for. Where it `explains`, the line that ends the input with a fault is explained.
 #[derive(Clone, Copy, Debug, PartialEq, Eq)]
 pub enum Words {
     /// Tell what a signalling terminal sees of the digits on standard input.
     Units,
-    /// Play a script of two ends of a link set from standard input.
-    Play,
-    /// Play it so, and explain the line that ends it with a fault.
-    PlayExplained,
-    /// Tell what the units on standard input say.
-    Decode,
-    /// The same of units of the wide profile.
-    DecodeWide,
-    /// Write what a script's ends send as a file that network analysers read.
-    Capture,
-    /// Draw what happens at both ends of a script as a chart.
-    Ladder,
+    /// Carry out the script of two ends of a link set on standard input, and tell this of it.
+    Script { told: Told, explains: bool },
+    /// Tell what the units on standard input, which may be of the wide profile, say.
+    Decode { wide: bool },
     /// Tell whether the history on standard input is legal.
     Audit,
     /// Drive one end of a link set, whose lines are elsewhere, by the lines on standard input.
-    Terminal,
-    /// Drive it so, and explain the line that ends it with a fault.
-    TerminalExplained,
-    /// Print the history of end a of a script.
-    HistoryOfA,
-    /// Print the history of end b of a script.
-    HistoryOfB,
+    Terminal { explains: bool },
     /// Run two banks of sets in threads, with traffic between them.
     Run(RunWords),
+}
+
+/// What is told of a script.
+#[derive(Clone, Copy, Debug, PartialEq, Eq)]
+pub enum Told {
+    /// The answer of each line.
+    Play,
+    /// What its ends send, as a file that network analysers read.
+    Capture,
+    /// What happens at both ends, as a chart.
+    Ladder,
+    /// The history of end a.
+    HistoryOfA,
+    /// The history of end b.
+    HistoryOfB,
 }
 
 /// Why the words ask for nothing.
@@ -167,7 +170,12 @@ fn named(matches: &ArgMatches<'_>) -> Result<Words, Unasked>
     };
     match name {
         "run" => Ok(Words::Run(run_of(found)?)),
-        _ => match word_of(name, found.get_str("END")) {
+        _ => match word_of(
+            name,
+            found.get_str("END"),
+            is_set(found.get_str("wide")),
+            is_set(found.get_str("explain")),
+        ) {
             Some(asked) => Ok(asked),
             None => Err(Unasked::Value(NO_END)),
         },
@@ -177,66 +185,60 @@ fn named(matches: &ArgMatches<'_>) -> Result<Words, Unasked>
 /// What is said where the end is neither.
 const NO_END: &str = "an end is a or b, as in `mtpbank history a`";
 
-/// What a subcommand of this name asks for, with the word behind it, if there is one.
-fn word_of(name: &str, end: Option<&str>) -> Option<Words>
+/// What a subcommand of this name asks for, with the word behind it, if there is one, and its flags.
+fn word_of(name: &str, end: Option<&str>, wide: bool, explains: bool) -> Option<Words>
     requires other { name.now ≢ codes "run" }
     ensures { MatchOption result
-        ((asked : Words) → IsWord asked name.now (option_map (λ s. s.now) end.entry) → ⊥)
-        (λ asked. IsWord asked name.now (option_map (λ s. s.now) end.entry)) }
+        ((asked : Words) → IsWord asked name.now (option_map (λ s. s.now) end.entry) wide explains → ⊥)
+        (λ asked. IsWord asked name.now (option_map (λ s. s.now) end.entry) wide explains) }
 {
     match name {
         "units" => Some(Words::Units),
-        "play" => Some(play_of(end)),
-        "decode" => Some(decode_of(end)),
-        "capture" => Some(Words::Capture),
-        "ladder" => Some(Words::Ladder),
+        "decode" => Some(Words::Decode { wide }),
         "audit" => Some(Words::Audit),
-        "terminal" => Some(terminal_of(end)),
+        "terminal" => Some(Words::Terminal { explains }),
+        _ => match told_of(name, end) {
+            Some(told) => Some(Words::Script { told, explains }),
+            None => None,
+        },
+    }
+}
+
+/// What a subcommand of this name tells of a script, with the word behind it, if there is one.
+fn told_of(name: &str, end: Option<&str>) -> Option<Told>
+    ensures { MatchOption result
+        ((told : Told) → IsTold told name.now (option_map (λ s. s.now) end.entry) → ⊥)
+        (λ told. IsTold told name.now (option_map (λ s. s.now) end.entry)) }
+{
+    match name {
+        "play" => Some(Told::Play),
+        "capture" => Some(Told::Capture),
+        "ladder" => Some(Told::Ladder),
         "history" => history_of(end),
         _ => None,
     }
 }
 
-/// What is asked for by `play`, with what its flag says.
-fn play_of(explains: Option<&str>) -> Words
-    ensures { IsWord result (codes "play") (option_map (λ s. s.now) explains.entry) }
-{
-    match explains {
-        Some("true") => Words::PlayExplained,
-        _ => Words::Play,
-    }
-}
-
-/// What is asked for by `decode`, with what its flag says.
-fn decode_of(is_wide: Option<&str>) -> Words
-    ensures { IsWord result (codes "decode") (option_map (λ s. s.now) is_wide.entry) }
-{
-    match is_wide {
-        Some("true") => Words::DecodeWide,
-        _ => Words::Decode,
-    }
-}
-
-/// What is asked for by `terminal`, with what its flag says.
-fn terminal_of(explains: Option<&str>) -> Words
-    ensures { IsWord result (codes "terminal") (option_map (λ s. s.now) explains.entry) }
-{
-    match explains {
-        Some("true") => Words::TerminalExplained,
-        _ => Words::Terminal,
-    }
-}
-
 /// The history that is asked for.
-fn history_of(end: Option<&str>) -> Option<Words>
+fn history_of(end: Option<&str>) -> Option<Told>
     ensures { MatchOption result
-        ((asked : Words) → IsWord asked (codes "history") (option_map (λ s. s.now) end.entry) → ⊥)
-        (λ asked. IsWord asked (codes "history") (option_map (λ s. s.now) end.entry)) }
+        ((told : Told) → IsTold told (codes "history") (option_map (λ s. s.now) end.entry) → ⊥)
+        (λ told. IsTold told (codes "history") (option_map (λ s. s.now) end.entry)) }
 {
     match end {
-        Some("a") => Some(Words::HistoryOfA),
-        Some("b") => Some(Words::HistoryOfB),
+        Some("a") => Some(Told::HistoryOfA),
+        Some("b") => Some(Told::HistoryOfB),
         _ => None,
+    }
+}
+
+/// Whether a flag, which has this for its value, stands there.
+fn is_set(word: Option<&str>) -> bool
+    ensures { result ≡ is_true (option_map (λ s. s.now) word.entry) }
+{
+    match word {
+        Some(word) => is_word(word.as_bytes(), b"true"),
+        None => false,
     }
 }
 
@@ -290,8 +292,8 @@ fn command<'a>(alloc: Global) -> Result<Command<'a>, AllocError>
         .subcommand(units_command(alloc))?
         .subcommand(play_command(alloc)?)?
         .subcommand(decode_command(alloc)?)?
-        .subcommand(capture_command(alloc))?
-        .subcommand(ladder_command(alloc))?
+        .subcommand(capture_command(alloc)?)?
+        .subcommand(ladder_command(alloc)?)?
         .subcommand(audit_command(alloc))?
         .subcommand(history_command(alloc)?)?
         .subcommand(terminal_command(alloc)?)?
@@ -309,20 +311,31 @@ fn units_command<'a>(alloc: Global) -> Command<'a>
         .after_long_help(UNITS_HELP)
 }
 
-/// The word `play`, and a flag. What stands behind a subcommand is END to the library, so that one reader serves all.
+/// A command that plays a script, and the flag by which it explains a fault.
+fn explaining_script<'a>(alloc: Global, command: Command<'a>) -> Result<Command<'a>, AllocError>
+    requires local { (out-Command command).has_globals ≡ false }
+    ensures shape { IfOk result (λ more. shape_of more
+        ≡ with_rules (shape_of command.entry) (explain_rule ∷ [])) }
+    ensures local { IfOk result (λ more. (out-Command more).has_globals ≡ false) }
+{
+    let explain = flag(
+        alloc,
+        "explain",
+        "Explains the line that ends the script with a fault",
+    );
+    with_option(command, explain)
+}
+
+/// The word `play`, and a flag.
 fn play_command<'a>(alloc: Global) -> Result<Command<'a>, AllocError>
-    ensures shape { IfOk result (λ command. shape_of command ≡ play_shape) }
+    ensures shape { IfOk result (λ command. shape_of command ≡ script_shape (codes "play")) }
     ensures local { IfOk result (λ command. (out-Command command).has_globals ≡ false) }
 {
-    let explain = Arg::new(alloc, "END")
-        .long("explain")
-        .action(ArgAction::SetTrue)
-        .help("Explains the line that ends the script with a fault");
-    Command::new(alloc, "play")
+    let play = Command::new(alloc, "play")
         .about("Plays a script of two ends of a link set, line by line")
         .after_help(PLAY_PAGE)
-        .after_long_help(PLAY_HELP)
-        .arg(explain)
+        .after_long_help(PLAY_HELP);
+    explaining_script(alloc, play)
 }
 
 /// The word `decode`, and a flag.
@@ -330,37 +343,40 @@ fn decode_command<'a>(alloc: Global) -> Result<Command<'a>, AllocError>
     ensures shape { IfOk result (λ command. shape_of command ≡ decode_shape) }
     ensures local { IfOk result (λ command. (out-Command command).has_globals ≡ false) }
 {
-    let wide = Arg::new(alloc, "END")
-        .long("wide")
-        .action(ArgAction::SetTrue)
-        .help("Reads units of the wide profile, with numbers of 12 bits");
-    Command::new(alloc, "decode")
+    let wide = flag(
+        alloc,
+        "wide",
+        "Reads units of the wide profile, with numbers of 12 bits",
+    );
+    let decode = Command::new(alloc, "decode")
         .about("Tells what the octets of signal units say, a unit a line")
         .after_help(DECODE_PAGE)
-        .after_long_help(DECODE_HELP)
-        .arg(wide)
+        .after_long_help(DECODE_HELP);
+    with_option(decode, wide)
 }
 
-/// The word `capture`.
-fn capture_command<'a>(alloc: Global) -> Command<'a>
-    ensures shape { shape_of result ≡ new_shape (codes "capture") }
-    ensures local { (out-Command result).has_globals ≡ false }
+/// The word `capture`, and a flag.
+fn capture_command<'a>(alloc: Global) -> Result<Command<'a>, AllocError>
+    ensures shape { IfOk result (λ command. shape_of command ≡ script_shape (codes "capture")) }
+    ensures local { IfOk result (λ command. (out-Command command).has_globals ≡ false) }
 {
-    Command::new(alloc, "capture")
+    let capture = Command::new(alloc, "capture")
         .about("Plays a script, and writes the units that are sent as a pcap file")
         .after_help(CAPTURE_PAGE)
-        .after_long_help(CAPTURE_HELP)
+        .after_long_help(CAPTURE_HELP);
+    explaining_script(alloc, capture)
 }
 
-/// The word `ladder`.
-fn ladder_command<'a>(alloc: Global) -> Command<'a>
-    ensures shape { shape_of result ≡ new_shape (codes "ladder") }
-    ensures local { (out-Command result).has_globals ≡ false }
+/// The word `ladder`, and a flag.
+fn ladder_command<'a>(alloc: Global) -> Result<Command<'a>, AllocError>
+    ensures shape { IfOk result (λ command. shape_of command ≡ script_shape (codes "ladder")) }
+    ensures local { IfOk result (λ command. (out-Command command).has_globals ≡ false) }
 {
-    Command::new(alloc, "ladder")
+    let ladder = Command::new(alloc, "ladder")
         .about("Plays a script, and draws what happens at both ends as a chart")
         .after_help(LADDER_PAGE)
-        .after_long_help(LADDER_HELP)
+        .after_long_help(LADDER_HELP);
+    explaining_script(alloc, ladder)
 }
 
 /// The word `audit`.
@@ -376,21 +392,22 @@ fn audit_command<'a>(alloc: Global) -> Command<'a>
 
 /// The word `terminal`, and a flag.
 fn terminal_command<'a>(alloc: Global) -> Result<Command<'a>, AllocError>
-    ensures shape { IfOk result (λ command. shape_of command ≡ terminal_shape) }
+    ensures shape { IfOk result (λ command. shape_of command ≡ script_shape (codes "terminal")) }
     ensures local { IfOk result (λ command. (out-Command command).has_globals ≡ false) }
 {
-    let explain = Arg::new(alloc, "END")
-        .long("explain")
-        .action(ArgAction::SetTrue)
-        .help("Explains the line that ends the input with a fault");
-    Command::new(alloc, "terminal")
+    let explain = flag(
+        alloc,
+        "explain",
+        "Explains the line that ends the input with a fault",
+    );
+    let terminal = Command::new(alloc, "terminal")
         .about("Drives one end of a link set, whose lines are yours, line by line")
         .after_help(TERMINAL_PAGE)
-        .after_long_help(TERMINAL_HELP)
-        .arg(explain)
+        .after_long_help(TERMINAL_HELP);
+    with_option(terminal, explain)
 }
 
-/// The word `history`, and an end behind it.
+/// The word `history`, an end behind it, and a flag.
 fn history_command<'a>(alloc: Global) -> Result<Command<'a>, AllocError>
     ensures shape { IfOk result (λ command. shape_of command ≡ history_shape) }
     ensures local { IfOk result (λ command. (out-Command command).has_globals ≡ false) }
@@ -398,11 +415,11 @@ fn history_command<'a>(alloc: Global) -> Result<Command<'a>, AllocError>
     let end = Arg::new(alloc, "END")
         .required(true)
         .help("Whose history: a or b");
-    Command::new(alloc, "history")
+    let history = Command::new(alloc, "history")
         .about("Prints what an end of a script, a or b, was asked and answered")
         .after_help(HISTORY_PAGE)
-        .after_long_help(HISTORY_HELP)
-        .arg(end)
+        .after_long_help(HISTORY_HELP);
+    explaining_script(alloc, history.arg(end)?)
 }
 
 /// The program's words but for its subcommands.

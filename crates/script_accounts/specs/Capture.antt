@@ -20,7 +20,9 @@ use Rattle.text_entries.specs.Texts.{unit_octets}
 use Rattle.text_pcap.specs.PcapFile.{file_head, record_at, two}
 use Rattle.text_base.specs.Printing.{Printed}
 use Rattle.script_walk.specs.declared.fault.ScriptFault.{ScriptFault}
+use Rattle.script_walk.specs.Explaining.{IsExplainedText}
 use Rattle.script_walk.specs.Scripts.{Told, profile_of, IsScriptText}
+use Rattle.text_lines.specs.Explaining.{Explained}
 
 -- the file's head, by the most octets that a record holds
 abbrev pub longest_record : Profile → ℕ
@@ -105,3 +107,7 @@ capture_told = record {
 -- THE FILE (script_walk, specs/Scripts.antt)
 abbrev pub IsCapture : List ℕ → Printed ScriptFault → Type 0
 IsCapture = IsScriptText capture_told
+
+-- the file, with an explanation of the line that ends the script with a fault (script_walk, specs/Explaining.antt)
+abbrev pub IsExplainedCapture : List ℕ → Printed (Explained ScriptFault) → Type 0
+IsExplainedCapture = IsExplainedText capture_told

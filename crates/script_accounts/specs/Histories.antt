@@ -6,7 +6,9 @@ use Rattle.pair_model.specs.World.{World, at_end}
 use Rattle.text_entries.specs.FirstLine.{history_text}
 use Rattle.text_base.specs.Printing.{Printed}
 use Rattle.script_walk.specs.declared.fault.ScriptFault.{ScriptFault}
+use Rattle.script_walk.specs.Explaining.{IsExplainedText}
 use Rattle.script_walk.specs.Scripts.{Told, IsScriptText}
+use Rattle.text_lines.specs.Explaining.{Explained}
 
 -- all that a set was asked and answered
 abbrev pub set_text : LinkSet → List ℕ
@@ -28,3 +30,7 @@ history_told end = record {
 -- THE TEXT (script_walk, specs/Scripts.antt)
 abbrev pub IsHistoryText : End → List ℕ → Printed ScriptFault → Type 0
 IsHistoryText end = IsScriptText (history_told end)
+
+-- the text, with an explanation of the line that ends the script with a fault (script_walk, specs/Explaining.antt)
+abbrev pub IsExplainedHistoryText : End → List ℕ → Printed (Explained ScriptFault) → Type 0
+IsExplainedHistoryText end = IsExplainedText (history_told end)

@@ -1,13 +1,14 @@
 //! `mtpbank capture`: the units of a script as a pcap file.
 ghost use Rattle.std.specs.Prelude.{◌≡◌, ◌≤◌, ◌^◌, ◌++◌, length, IfSome, MatchResult, OnOk};
 ghost use Rattle.text_base.specs.Printing.{Prints, FailsByDevices};
-ghost use Rattle.script_accounts.specs.Capture.{IsCapture, pseudo_header, shown_record};
+ghost use Rattle.text_lines.specs.Explaining.{fault_alone};
+ghost use Rattle.script_accounts.specs.Capture.{IsCapture, IsExplainedCapture, pseudo_header, shown_record};
 
 use super::records::{head_of_capture, record_of};
 use l2_units::Profile;
 use pair_steps::{End, Showing, ShownRef, Step};
 use pair_world::{Move, World};
-use script_walk::{Account, ScriptFault, tell_script, world_profile};
+use script_walk::{Account, Explained, ScriptFault, tell_explained, tell_script, world_profile};
 use set_events::AnswerRef;
 use std::alloc::{AllocError, Global};
 use text_base::{Fault, Sink, Source};
@@ -100,4 +101,24 @@ pub fn capture<S: Source, W: Sink>(
         (W.failures sink.old) (W.failures sink.new)) }
 {
     tell_script::<Units, S, W>(alloc, source, sink)
+}
+
+/// Writes the same file, and explains the line that ends the script with a fault, as [`tell_explained`] does.
+pub fn capture_explained<S: Source, W: Sink>(
+    alloc: Global,
+    source: &mut S,
+    sink: &mut W,
+) -> Result<(), Fault<Explained<ScriptFault>>>
+    ensures text { IfSome (S.left source.old)
+        (λ input. Prints result (IsExplainedCapture input)
+        (W.written sink.old) (W.written sink.new)) }
+    ensures same { IfSome (S.left source.old)
+        (λ input. Prints (fault_alone result) (IsCapture input)
+        (W.written sink.old) (W.written sink.new)) }
+    ensures bounded { IfSome (S.left source.old) (λ input. OnOk result (length input ≤ 2 ^ 24)) }
+    ensures devices { IfSome (S.left source.old)
+        (FailsByDevices (2 ^ 24) result (S.failures source.old) (S.failures source.new)
+        (W.failures sink.old) (W.failures sink.new)) }
+{
+    tell_explained::<Units, S, W>(alloc, source, sink)
 }

@@ -1,13 +1,14 @@
 //! `mtpbank history`: what one end of a script was asked and answered. The end stands in the type of the account, since what
 //! is told belongs to the type.
 ghost use Rattle.std.specs.Prelude.{◌≡◌, ◌≤◌, ◌^◌, ◌++◌, length, IfOk, IfSome, MatchResult, OnOk};
-ghost use Rattle.script_accounts.specs.Histories.{IsHistoryText, set_text, at_the_end};
+ghost use Rattle.script_accounts.specs.Histories.{IsExplainedHistoryText, IsHistoryText, set_text, at_the_end};
 ghost use Rattle.text_base.specs.Printing.{Prints, FailsByDevices};
+ghost use Rattle.text_lines.specs.Explaining.{fault_alone};
 
 use super::ends::{NamesEnd, OfA, OfB};
 use pair_steps::Showing;
 use pair_world::{End, Move, World};
-use script_walk::{Account, ScriptFault, tell_script};
+use script_walk::{Account, Explained, ScriptFault, tell_explained, tell_script};
 use set_core::SetCore;
 use std::alloc::{AllocError, Global};
 use std::marker::PhantomData;
@@ -35,6 +36,30 @@ pub fn history<S: Source, W: Sink>(
     match end {
         End::A => tell_script::<HistoryOf<OfA>, S, W>(alloc, source, sink),
         End::B => tell_script::<HistoryOf<OfB>, S, W>(alloc, source, sink),
+    }
+}
+
+/// Writes the same history, and explains the line that ends the script with a fault, as [`tell_explained`] does.
+pub fn history_explained<S: Source, W: Sink>(
+    alloc: Global,
+    end: End,
+    source: &mut S,
+    sink: &mut W,
+) -> Result<(), Fault<Explained<ScriptFault>>>
+    ensures text { IfSome (S.left source.old)
+        (λ input. Prints result (IsExplainedHistoryText end input)
+        (W.written sink.old) (W.written sink.new)) }
+    ensures same { IfSome (S.left source.old)
+        (λ input. Prints (fault_alone result) (IsHistoryText end input)
+        (W.written sink.old) (W.written sink.new)) }
+    ensures bounded { IfSome (S.left source.old) (λ input. OnOk result (length input ≤ 2 ^ 24)) }
+    ensures devices { IfSome (S.left source.old)
+        (FailsByDevices (2 ^ 24) result (S.failures source.old) (S.failures source.new)
+        (W.failures sink.old) (W.failures sink.new)) }
+{
+    match end {
+        End::A => tell_explained::<HistoryOf<OfA>, S, W>(alloc, source, sink),
+        End::B => tell_explained::<HistoryOf<OfB>, S, W>(alloc, source, sink),
     }
 }
 

@@ -30,6 +30,8 @@
 //!
 //! [`history`] writes, when the script has ended, all that one end was asked and answered, in the words of `text_entries`:
 //! another program can audit it (`specs/Histories.antt`). A script that ends with a fault prints no history.
+//!
+//! [`capture_explained`] and [`history_explained`] write the same octets, and explain a fault as [`play_explained`] does.
 #![tactic(auto)]
 
 mod answers;
@@ -40,8 +42,8 @@ mod named;
 mod plays;
 mod records;
 
-pub use captures::capture;
-pub use histories::history;
+pub use captures::{capture, capture_explained};
+pub use histories::{history, history_explained};
 pub use pair_world::End;
 pub use plays::{play, play_explained};
 pub use script_walk::{Explained, LineFlaw, ScriptFault};

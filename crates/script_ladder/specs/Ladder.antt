@@ -35,6 +35,8 @@ use Rattle.text_entries.specs.Texts.{shown_text, took_text, fault_code}
 use Rattle.text_base.specs.Figures.{bit, hex_text}
 use Rattle.text_base.specs.Printing.{Printed}
 use Rattle.script_walk.specs.declared.fault.ScriptFault.{ScriptFault}
+use Rattle.script_walk.specs.Explaining.{IsExplainedText}
+use Rattle.text_lines.specs.Explaining.{Explained}
 use Rattle.script_walk.specs.Scripts.{Told, profile_of, IsScriptText}
 use Rattle.script_ladder.specs.Names.{isup_name}
 use Rattle.script_ladder.specs.Diverted.{stood, diverted}
@@ -567,3 +569,7 @@ ladder_told = record { opening = λ w. heading; step = move_rows; at_the_end = �
 -- THE TEXT (script_walk, specs/Scripts.antt)
 abbrev pub IsLadder : List ℕ → Printed ScriptFault → Type 0
 IsLadder = IsScriptText ladder_told
+
+-- the text, with an explanation of the line that ends the script with a fault (script_walk, specs/Explaining.antt)
+abbrev pub IsExplainedLadder : List ℕ → Printed (Explained ScriptFault) → Type 0
+IsExplainedLadder = IsExplainedText ladder_told

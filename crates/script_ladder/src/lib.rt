@@ -15,6 +15,7 @@
 //! arrives or is lost, a link that comes up, is left or settles, a message that is accepted, which are diverted and where
 //! to, and how many are moved aside, taken up again or discarded. Between the ends stands what is under way then. It's one
 //! account of a script (`script_walk`); `specs/Ladder.antt` is the chart: a function from the octets of the script.
+//! [`ladder_explained`] draws the same, and explains the line that ends the script with a fault.
 //!
 //! A message has the number under which its sender accepted it, and its name where it's one of the ISDN user part
 //! (`specs/Names.antt`); its number is told while its sender has it unacknowledged on the link with the unit's FSN. Which
@@ -32,4 +33,4 @@ mod steps;
 mod under_way;
 mod units;
 
-pub use steps::ladder;
+pub use steps::{ladder, ladder_explained};

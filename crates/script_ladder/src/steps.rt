@@ -1,8 +1,9 @@
 //! `mtpbank ladder`: a script as a chart.
 ghost use Rattle.std.specs.Prelude.{◌≡◌, ◌≤◌, ◌^◌, [], codes, length, slice_get, IfOk, IfSome, None, OnOk};
 ghost use Rattle.text_base.specs.Printing.{Prints, FailsByDevices};
+ghost use Rattle.text_lines.specs.Explaining.{fault_alone};
 ghost use Rattle.pair_model.specs.World.{World as ModelWorld, other};
-ghost use Rattle.script_ladder.specs.Ladder.{IsLadder, affected, arrived_row, change_rows, effect_rows, end_of, far_words, first_row};
+ghost use Rattle.script_ladder.specs.Ladder.{IsExplainedLadder, IsLadder, affected, arrived_row, change_rows, effect_rows, end_of, far_words, first_row};
 ghost use Rattle.script_ladder.specs.Ladder.{forged_row, given_up, heading, link_at_stake, link_words, named_link, past_of, report_in, row_text};
 ghost use Rattle.script_ladder.specs.Ladder.{row_at, rows_with, sent_row, sent_in, move_rows, unit_words, unsettled};
 ghost use Rattle.script_ladder.specs.Notes.{IsBefore, IsNote, kept};
@@ -16,7 +17,7 @@ use super::units::{find_carried, write_any, write_sent_unit, write_unit};
 use l2_units::{Profile, Unit, UnitRef, copy_of_unit};
 use pair_steps::{Showing, ShownRef, Step};
 use pair_world::{End, Line, Move, World};
-use script_walk::{Account, ScriptFault, tell_script, world_profile};
+use script_walk::{Account, Explained, ScriptFault, tell_explained, tell_script, world_profile};
 use set_core::SetCore;
 use set_events::{AnswerRef, Counts, Event, Report};
 use std::alloc::{AllocError, Global};
@@ -99,6 +100,26 @@ pub fn ladder<S: Source, W: Sink>(
         (W.failures sink.old) (W.failures sink.new)) }
 {
     tell_script::<Chart, S, W>(alloc, source, sink)
+}
+
+/// Draws the same chart, and explains the line that ends the script with a fault, as [`tell_explained`] does.
+pub fn ladder_explained<S: Source, W: Sink>(
+    alloc: Global,
+    source: &mut S,
+    sink: &mut W,
+) -> Result<(), Fault<Explained<ScriptFault>>>
+    ensures text { IfSome (S.left source.old)
+        (λ input. Prints result (IsExplainedLadder input)
+        (W.written sink.old) (W.written sink.new)) }
+    ensures same { IfSome (S.left source.old)
+        (λ input. Prints (fault_alone result) (IsLadder input)
+        (W.written sink.old) (W.written sink.new)) }
+    ensures bounded { IfSome (S.left source.old) (λ input. OnOk result (length input ≤ 2 ^ 24)) }
+    ensures devices { IfSome (S.left source.old)
+        (FailsByDevices (2 ^ 24) result (S.failures source.old) (S.failures source.new)
+        (W.failures sink.old) (W.failures sink.new)) }
+{
+    tell_explained::<Chart, S, W>(alloc, source, sink)
 }
 
 /// What the rows of a move want of the world before it.

@@ -1,8 +1,10 @@
 //! The texts, each with a short input, and how one ends on devices that fail.
 use history_audit::audit;
 use l2_units::Profile;
-use script_accounts::{End as Side, capture, history, play, play_explained};
-use script_ladder::ladder;
+use script_accounts::{
+    End as Side, capture, capture_explained, history, history_explained, play, play_explained,
+};
+use script_ladder::{ladder, ladder_explained};
 use std::alloc::Global;
 use terminal_text::{terminal, terminal_explained};
 use test_devices::{Page, Text};
@@ -20,23 +22,31 @@ pub(crate) enum Which {
     Play,
     PlayExplained,
     Capture,
+    CaptureExplained,
     Ladder,
+    LadderExplained,
     HistoryOfA,
     HistoryOfB,
+    HistoryOfAExplained,
+    HistoryOfBExplained,
     Audit,
     Terminal,
     TerminalExplained,
 }
 
-pub(crate) const ALL: [Which; 11] = [
+pub(crate) const ALL: [Which; 15] = [
     Which::Units,
     Which::Decode,
     Which::Play,
     Which::PlayExplained,
     Which::Capture,
+    Which::CaptureExplained,
     Which::Ladder,
+    Which::LadderExplained,
     Which::HistoryOfA,
     Which::HistoryOfB,
+    Which::HistoryOfAExplained,
+    Which::HistoryOfBExplained,
     Which::Audit,
     Which::Terminal,
     Which::TerminalExplained,
@@ -106,9 +116,13 @@ pub(crate) fn run<S: Source, W: Sink>(
         Which::Play => end_of(play(alloc, text, page)),
         Which::PlayExplained => end_of(play_explained(alloc, text, page)),
         Which::Capture => end_of(capture(alloc, text, page)),
+        Which::CaptureExplained => end_of(capture_explained(alloc, text, page)),
         Which::Ladder => end_of(ladder(alloc, text, page)),
+        Which::LadderExplained => end_of(ladder_explained(alloc, text, page)),
         Which::HistoryOfA => end_of(history(alloc, Side::A, text, page)),
         Which::HistoryOfB => end_of(history(alloc, Side::B, text, page)),
+        Which::HistoryOfAExplained => end_of(history_explained(alloc, Side::A, text, page)),
+        Which::HistoryOfBExplained => end_of(history_explained(alloc, Side::B, text, page)),
         Which::Audit => end_of(audit(alloc, text, page)),
         Which::Terminal => end_of(terminal(alloc, text, page)),
         Which::TerminalExplained => end_of(terminal_explained(alloc, text, page)),

@@ -3,8 +3,10 @@ use super::kept::Kept;
 use super::{Came, holds, is_right};
 use history_audit::audit;
 use l2_units::Profile;
-use script_accounts::{End, capture, history, play, play_explained};
-use script_ladder::ladder;
+use script_accounts::{
+    End, capture, capture_explained, history, history_explained, play, play_explained,
+};
+use script_ladder::{ladder, ladder_explained};
 use std::alloc::Global;
 use std::test::Fail;
 use terminal_text::{terminal, terminal_explained};
@@ -119,6 +121,20 @@ fn a_refused_allocation_ends_capture(rt: HostRuntime) -> Result<(), Fail> {
     are_right(capture_of(rt.alloc()), capture_of(rt.alloc()))
 }
 
+fn capture_explained_of(alloc: Global) -> (Came, Kept) {
+    let (mut text, mut page) = (text_of(SCRIPT), Kept::new());
+    let ended = came(capture_explained(alloc, &mut text, &mut page));
+    (ended, page)
+}
+
+#[test]
+fn a_refused_allocation_ends_capture_explained(rt: HostRuntime) -> Result<(), Fail> {
+    are_right(
+        capture_explained_of(rt.alloc()),
+        capture_explained_of(rt.alloc()),
+    )
+}
+
 fn ladder_of(alloc: Global) -> (Came, Kept) {
     let (mut text, mut page) = (text_of(SCRIPT), Kept::new());
     let ended = came(ladder(alloc, &mut text, &mut page));
@@ -130,6 +146,20 @@ fn a_refused_allocation_ends_ladder(rt: HostRuntime) -> Result<(), Fail> {
     are_right(ladder_of(rt.alloc()), ladder_of(rt.alloc()))
 }
 
+fn ladder_explained_of(alloc: Global) -> (Came, Kept) {
+    let (mut text, mut page) = (text_of(SCRIPT), Kept::new());
+    let ended = came(ladder_explained(alloc, &mut text, &mut page));
+    (ended, page)
+}
+
+#[test]
+fn a_refused_allocation_ends_ladder_explained(rt: HostRuntime) -> Result<(), Fail> {
+    are_right(
+        ladder_explained_of(rt.alloc()),
+        ladder_explained_of(rt.alloc()),
+    )
+}
+
 fn history_of(alloc: Global) -> (Came, Kept) {
     let (mut text, mut page) = (text_of(SCRIPT), Kept::new());
     let ended = came(history(alloc, End::A, &mut text, &mut page));
@@ -139,6 +169,20 @@ fn history_of(alloc: Global) -> (Came, Kept) {
 #[test]
 fn a_refused_allocation_ends_history(rt: HostRuntime) -> Result<(), Fail> {
     are_right(history_of(rt.alloc()), history_of(rt.alloc()))
+}
+
+fn history_explained_of(alloc: Global) -> (Came, Kept) {
+    let (mut text, mut page) = (text_of(SCRIPT), Kept::new());
+    let ended = came(history_explained(alloc, End::A, &mut text, &mut page));
+    (ended, page)
+}
+
+#[test]
+fn a_refused_allocation_ends_history_explained(rt: HostRuntime) -> Result<(), Fail> {
+    are_right(
+        history_explained_of(rt.alloc()),
+        history_explained_of(rt.alloc()),
+    )
 }
 
 fn audit_of(alloc: Global) -> (Came, Kept) {
@@ -184,8 +228,11 @@ pub(crate) fn are_whole(alloc: Global) -> bool {
         && play_of(alloc).0 == Came::Whole
         && play_explained_of(alloc).0 == Came::Whole
         && capture_of(alloc).0 == Came::Whole
+        && capture_explained_of(alloc).0 == Came::Whole
         && ladder_of(alloc).0 == Came::Whole
+        && ladder_explained_of(alloc).0 == Came::Whole
         && history_of(alloc).0 == Came::Whole
+        && history_explained_of(alloc).0 == Came::Whole
         && audit_of(alloc).0 == Came::Whole
         && terminal_of(alloc).0 == Came::Whole
         && terminal_explained_of(alloc).0 == Came::Whole

@@ -1,6 +1,6 @@
 //! Words with what they ask for, and help.
 use super::holds;
-use mtpbank_words::{RunWords, Words, WordsFault, not_unicode, say_linkless, words_of};
+use mtpbank_words::{RunWords, Told, Words, WordsFault, not_unicode, say_linkless, words_of};
 use std::alloc::{AllocError, Global};
 use std::test::Fail;
 
@@ -8,24 +8,35 @@ use std::test::Fail;
 /// tests ask through here, so that the prover meets the contract once.
 fn told_of(alloc: Global, words: &[&str]) -> Result<String, AllocError> {
     match words_of(alloc, words) {
-        Ok(Words::Play) => "play".to_string(alloc),
-        Ok(Words::PlayExplained) => "play --explain".to_string(alloc),
         Ok(Words::Units) => "units".to_string(alloc),
-        Ok(Words::Decode) => "decode".to_string(alloc),
-        Ok(Words::DecodeWide) => "decode --wide".to_string(alloc),
-        Ok(Words::Capture) => "capture".to_string(alloc),
-        Ok(Words::Ladder) => "ladder".to_string(alloc),
+        Ok(Words::Script { told, explains }) => with_flag(alloc, script_told(told), explains),
+        Ok(Words::Decode { wide: false }) => "decode".to_string(alloc),
+        Ok(Words::Decode { wide: true }) => "decode --wide".to_string(alloc),
         Ok(Words::Audit) => "audit".to_string(alloc),
-        Ok(Words::Terminal) => "terminal".to_string(alloc),
-        Ok(Words::TerminalExplained) => "terminal --explain".to_string(alloc),
-        Ok(Words::HistoryOfA) => "history a".to_string(alloc),
-        Ok(Words::HistoryOfB) => "history b".to_string(alloc),
+        Ok(Words::Terminal { explains }) => with_flag(alloc, "terminal", explains),
         Ok(Words::Run(run)) => run_told(alloc, &run),
         Err(WordsFault::Words(error)) => error.to_string(alloc),
         Err(WordsFault::Link { fail, links }) => text_of(alloc, say_linkless(alloc, fail, links)?),
         Err(WordsFault::Said(said)) => text_of(alloc, said),
         Err(WordsFault::NoMemory) => Ok(String::new(alloc)),
     }
+}
+
+/// What is told of a script, in words.
+fn script_told(told: Told) -> &'static str {
+    match told {
+        Told::Play => "play",
+        Told::Capture => "capture",
+        Told::Ladder => "ladder",
+        Told::HistoryOfA => "history a",
+        Told::HistoryOfB => "history b",
+    }
+}
+
+/// These words, and whether an explanation is asked for.
+fn with_flag(alloc: Global, words: &str, explains: bool) -> Result<String, AllocError> {
+    let flag = if explains { " --explain" } else { "" };
+    format!(in alloc; "{words}{flag}")
 }
 
 /// What is said, as text.
@@ -89,7 +100,7 @@ fn ask_for(alloc: Global, words: &[&str], subcommand: &str) -> bool {
 
 #[test]
 fn words_of_the_command_line(rt: HostRuntime) -> Result<(), Fail> {
-    let asked: [(&[&str], &str); 13] = [
+    let asked: [(&[&str], &str); 18] = [
         (&["play"], "play"),
         (&["play", "--explain"], "play --explain"),
         (&["units"], "units"),
@@ -102,9 +113,14 @@ fn words_of_the_command_line(rt: HostRuntime) -> Result<(), Fail> {
         (&["terminal", "--explain"], "terminal --explain"),
         (&["history", "a"], "history a"),
         (&["history", "b"], "history b"),
+        (&["capture", "--explain"], "capture --explain"),
+        (&["ladder", "--explain"], "ladder --explain"),
+        (&["history", "a", "--explain"], "history a --explain"),
+        (&["history", "--explain", "b"], "history b --explain"),
+        (&["history", "b", "--explain"], "history b --explain"),
         (&["play", "--"], "play"),
     ];
-    let refused: [&[&str]; 11] = [
+    let refused: [&[&str]; 15] = [
         &[],
         &["units", "--explain"],
         &["play", "--explain", "it"],
@@ -116,6 +132,10 @@ fn words_of_the_command_line(rt: HostRuntime) -> Result<(), Fail> {
         &["history"],
         &["history", "c"],
         &["history", "a", "b"],
+        &["history", "--explain"],
+        &["history", "--explain", "c"],
+        &["audit", "--explain"],
+        &["ladder", "--explain", "it"],
     ];
     holds(all_ask_for(rt.alloc(), &asked) && all_are_refused(rt.alloc(), &refused))
 }
@@ -264,8 +284,9 @@ fn a_file_is_read_from_standard_input(rt: HostRuntime) -> Result<(), Fail> {
     let units = "mtpbank units: reads standard input: mtpbank units < FILE";
     let decode = "mtpbank decode: reads standard input: mtpbank decode [--wide] < FILE";
     let terminal = "mtpbank terminal: reads standard input: mtpbank terminal [--explain] < FILE";
-    let history = "mtpbank history: reads standard input: mtpbank history END < FILE";
-    let end = "mtpbank history: c isn't an end, a or b\nusage: mtpbank history END < FILE";
+    let history = "mtpbank history: reads standard input: mtpbank history [--explain] END < FILE";
+    let end =
+        "mtpbank history: c isn't an end, a or b\nusage: mtpbank history [--explain] END < FILE";
     holds(
         ask_for(alloc, &["play", "a.play"], play)
             && ask_for(alloc, &["play", "--explain", "a.play"], play)
@@ -274,6 +295,9 @@ fn a_file_is_read_from_standard_input(rt: HostRuntime) -> Result<(), Fail> {
             && ask_for(alloc, &["terminal", "a.terminal"], terminal)
             && ask_for(alloc, &["terminal", "--explain", "a.terminal"], terminal)
             && ask_for(alloc, &["history", "a", "a.play"], history)
+            && ask_for(alloc, &["history", "a", "--explain", "a.play"], history)
+            && ask_for(alloc, &["history", "--explain", "c"], end)
+            && ask_for(alloc, &["history", "c", "--explain"], end)
             && ask_for(alloc, &["history", "c"], end),
     )
 }
@@ -283,7 +307,7 @@ fn a_file_is_read_from_standard_input(rt: HostRuntime) -> Result<(), Fail> {
 fn what_is_no_command_or_option(rt: HostRuntime) -> Result<(), Fail> {
     let alloc = rt.alloc();
     let wide = "mtpbank play: --trace isn't an option\nusage: mtpbank play [--explain] < FILE";
-    let end = "mtpbank history: -c isn't an option\nusage: mtpbank history END < FILE";
+    let end = "mtpbank history: -c isn't an option\nusage: mtpbank history [--explain] END < FILE";
     holds(
         lists_commands(alloc, &[], "mtpbank: a command is missing\n")?
             && lists_commands(alloc, &["replay"], "mtpbank: replay isn't a command\n")?
@@ -342,11 +366,11 @@ fn short_help_is_a_page(rt: HostRuntime) -> Result<(), Fail> {
         ("units", "\nUsage: mtpbank units\n"),
         ("play", "\nUsage: mtpbank play [OPTIONS]\n"),
         ("decode", "\nUsage: mtpbank decode [OPTIONS]\n"),
-        ("capture", "\nUsage: mtpbank capture\n"),
-        ("ladder", "\nUsage: mtpbank ladder\n"),
+        ("capture", "\nUsage: mtpbank capture [OPTIONS]\n"),
+        ("ladder", "\nUsage: mtpbank ladder [OPTIONS]\n"),
         ("audit", "\nUsage: mtpbank audit\n"),
         ("terminal", "\nUsage: mtpbank terminal [OPTIONS]\n"),
-        ("history", "\nUsage: mtpbank history <END>\n"),
+        ("history", "\nUsage: mtpbank history [OPTIONS] <END>\n"),
         ("run", "\nUsage: mtpbank run [OPTIONS]\n"),
     ];
     holds(whole && all_have_help(alloc, &asked))

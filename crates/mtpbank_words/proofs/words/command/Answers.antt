@@ -12,10 +12,10 @@ returns c =
     ∙ ap₂ with_subcommand first c.in_ok-play_command.ensures.shape in
     let third = c.in_ok-subcommand-3.ensures.shape c.in_ok-decode_command.ensures.local
     ∙ ap₂ with_subcommand second c.in_ok-decode_command.ensures.shape in
-    let fourth = c.in_ok-subcommand-4.ensures.shape c.capture_command.ensures.local
-    ∙ ap₂ with_subcommand third c.capture_command.ensures.shape in
-    let fifth = c.in_ok-subcommand-5.ensures.shape c.ladder_command.ensures.local
-    ∙ ap₂ with_subcommand fourth c.ladder_command.ensures.shape in
+    let fourth = c.in_ok-subcommand-4.ensures.shape c.in_ok-capture_command.ensures.local
+    ∙ ap₂ with_subcommand third c.in_ok-capture_command.ensures.shape in
+    let fifth = c.in_ok-subcommand-5.ensures.shape c.in_ok-ladder_command.ensures.local
+    ∙ ap₂ with_subcommand fourth c.in_ok-ladder_command.ensures.shape in
     let sixth = c.in_ok-subcommand-6.ensures.shape c.audit_command.ensures.local
     ∙ ap₂ with_subcommand fifth c.audit_command.ensures.shape in
     let seventh = c.in_ok-subcommand-7.ensures.shape c.in_ok-history_command.ensures.local
