@@ -1,1 +1,2 @@
+pub mod TestTexts
 pub mod Texts

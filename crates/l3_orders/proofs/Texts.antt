@@ -12,7 +12,7 @@ use Rattle.l2_units.specs.Profile.{fsn_count}
 use Rattle.l3_orders.specs.Grammar.{label_number, label, heading_of, link_of, spares, number_with, content_with, IsOrder, StandsFor, is_numbered, bare_order, numbered_order, coded_order, order_with, order_of, first_of, order_any, IsOneGrammar}
 
 -- the SLC stands in the high half of the label's last octet
-slc_in : (dpc opc slc : ℕ) → dpc < 2 ^ 14 → opc < 2 ^ 14 → slc < 16 → label_number dpc opc slc / 0x1000000 % 256 / 16 ≡ slc
+pub slc_in : (dpc opc slc : ℕ) → dpc < 2 ^ 14 → opc < 2 ^ 14 → slc < 16 → label_number dpc opc slc / 0x1000000 % 256 / 16 ≡ slc
 slc_in dpc opc slc p q r = omega arith
 
 is_management : (sio : ℕ) → sio % 16 ≡ 0 → (sio % 16 == 0) ≡ true
@@ -50,20 +50,21 @@ stands_is profile octets (Eca link) s =
 
 -- Which order a body stands for, from its octets.
 
+-- the label of the point codes and the SLC that four octets hold is those octets
+pub label_back : (a b c d : ℕ) → a < 256 → b < 256 → c < 256 → d < 256 → (dpc opc : ℕ) → (a + 256 * b + 65536 * c + 16777216 * d) % 16384 ≡ dpc → (a + 256 * b + 65536 * c + 16777216 * d) / 16384 % 16384 ≡ opc → label dpc opc (d / 16) ≡ a ∷ b ∷ c ∷ d ∷ []
+label_back a b c d p q r s dpc opc to from =
+    let n = a + 256 * b + 65536 * c + 16777216 * d in
+    let whole : label_number dpc opc (d / 16) ≡ n = omega (arith, to, from) in
+    rw whole (ap (λ (x : ℕ). x ∷ n / 256 % 256 ∷ n / 65536 % 256 ∷ n / 16777216 % 256 ∷ []) (omega arith)
+    ∙ ap (λ (x : ℕ). a ∷ x ∷ n / 65536 % 256 ∷ n / 16777216 % 256 ∷ []) (omega arith)
+    ∙ ap (λ (x : ℕ). a ∷ b ∷ x ∷ n / 16777216 % 256 ∷ []) (omega arith)
+    ∙ ap (λ (x : ℕ). a ∷ b ∷ c ∷ x ∷ []) (omega arith))
+
 -- four octets are the label of two point codes and the SLC in the last one's high half
 label_again : (a b c d : ℕ) → a < 256 → b < 256 → c < 256 → d < 256 → (dpc : ℕ) × (opc : ℕ) × (dpc < 2 ^ 14) × (opc < 2 ^ 14) × (label dpc opc (d / 16) ≡ a ∷ b ∷ c ∷ d ∷ [])
 label_again a b c d p q r s =
     let n = a + 256 * b + 65536 * c + 16777216 * d in
-    let whole : label_number (n % 16384) (n / 16384 % 16384) (d / 16) ≡ n = omega arith in (
-      n % 16384,
-      n / 16384 % 16384,
-      omega arith,
-      omega arith,
-      rw whole (ap (λ (x : ℕ). x ∷ n / 256 % 256 ∷ n / 65536 % 256 ∷ n / 16777216 % 256 ∷ []) (omega arith)
-          ∙ ap (λ (x : ℕ). a ∷ x ∷ n / 65536 % 256 ∷ n / 16777216 % 256 ∷ []) (omega arith)
-          ∙ ap (λ (x : ℕ). a ∷ b ∷ x ∷ n / 16777216 % 256 ∷ []) (omega arith)
-          ∙ ap (λ (x : ℕ). a ∷ b ∷ c ∷ x ∷ []) (omega arith)),
-    )
+    (n % 16384, n / 16384 % 16384, omega arith, omega arith, label_back a b c d p q r s _ _ refl refl)
 
 -- each octet of the list is one
 abbrev pub EachOctet : List ℕ → Type 0
@@ -88,7 +89,7 @@ stood profile order spare sio a b c d code content each fits in_range management
     }
 
 -- one test of a chain
-tested : {A : Type 0} (b : Bool) (x y : A) (rest : Option A) → cond b (Some x) rest ≡ Some y → ((b ≡ true) × (x ≡ y)) ⊎ (rest ≡ Some y)
+pub tested : {A : Type 0} (b : Bool) (x y : A) (rest : Option A) → cond b (Some x) rest ≡ Some y → ((b ≡ true) × (x ≡ y)) ⊎ (rest ≡ Some y)
 tested true x y rest e = inl (refl, same_Some x y e)
 tested false x y rest e = inr e
 
@@ -185,7 +186,7 @@ pub found_stands : (profile : Profile) (octets : List ℕ) (result : Result Orde
 found_stands profile octets (Ok order) each e = read_stands profile octets order each (sym e)
 found_stands profile octets (Err fault) each e = tt
 
-octet_at : (octets : List ℕ) → All (λ octet. octet < 256) octets → EachOctet octets
+pub octet_at : (octets : List ℕ) → All (λ octet. octet < 256) octets → EachOctet octets
 octet_at [] all i = omega arith
 octet_at (octet ∷ rest) all zero = all 0 0 (omega arith)
 octet_at (octet ∷ rest) all (suc n) = octet_at rest (λ k d below. all (suc k) d (omega (arith, below))) n

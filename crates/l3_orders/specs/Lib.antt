@@ -1,2 +1,4 @@
 pub mod Fault
 pub mod Grammar
+pub mod TestFault
+pub mod Tests

@@ -1,8 +1,8 @@
-//! Changeover and changeback orders on the wire, as the bodies of messages (ITU-T Q.704 5, 6, 15).
+//! Orders and link tests on the wire, as the bodies of messages (ITU-T Q.704 5, 6, 9, 15; Q.707 2.2).
 //!
 //! An order is a message of the signalling network management: SIO, label, heading code, and what
 //! the order carries. [`read_order`] takes a body apart, [`write_order`] puts one together; both
-//! follow one grammar.
+//! follow one grammar. So do [`read_test`] and [`write_test`] for the test messages of a link.
 //!
 //! The six formats, octet by octet (Q.704 15.2 to 15.6). Octets 0 to 4 are those of every order:
 //!
@@ -31,15 +31,38 @@
 //!
 //! The spare bit is sent as 0; when read, it isn't looked at, nor are the point codes and the subservice field (own).
 //!
-//! This crate never acts on an order, knows neither links nor messages, and takes no memory.
+//! A test message has the service indicator 1 in octet 0, in its label the link that it goes on, and
+//! as octet 5 SLTM 0x11 or SLTA 0x21:
+//!
+//! | octet | bits, lowest first | field |
+//! |---|---|---|
+//! | 6 | 4 | spare, sent as 0, not looked at when read |
+//! |   | 4 | n, the octets of the test pattern, 1 to 15 |
+//! | 7 to 6 + n | 8 each | test pattern |
+//!
+//! A test finds a crossed line: it's read only if its DPC is this end's point code and its OPC the neighbour's. The
+//! pattern of test n is n modulo 2^32 in four octets, lowest first ([`pattern_of`], own).
+//!
+//! Traffic restart allowed (TRA) is octets 0 to 4, with the link that it goes on as SLC (own), and as octet 5 0x17:
+//! [`write_restart_allowed`]. It carries nothing, and isn't read.
+//!
+//! This crate never acts on a message, knows no links, and takes no memory.
 #![tactic(auto)]
 
 mod grammar;
+mod link_test;
 mod order;
 mod reading;
+mod test_grammar;
+mod test_reading;
+mod test_writing;
 mod writing;
 
 pub use grammar::{one_grammar, one_text};
+pub use link_test::{LONGEST_PATTERN, LinkTest, TestKind};
 pub use order::Order;
 pub use reading::{OrderFault, read_order, read_order_wide};
+pub use test_grammar::{a_pattern_tells_its_test, one_test_grammar, one_test_text};
+pub use test_reading::{TestFault, read_test};
+pub use test_writing::{pattern_of, write_restart_allowed, write_test};
 pub use writing::{write_order, write_order_wide};

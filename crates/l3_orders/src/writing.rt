@@ -1,5 +1,5 @@
 //! An order to a body.
-ghost use Rattle.std.specs.Prelude.{◌≡◌, ◌<◌, ◌≤◌, ◌+◌, ◌*◌, ◌^◌, ◌∷◌, ◌++◌, length};
+ghost use Rattle.std.specs.Prelude.{◌≡◌, ◌<◌, ◌≤◌, ◌+◌, ◌*◌, ◌^◌, [], ◌∷◌, ◌++◌, length};
 ghost use Rattle.l2_units.specs.Grammar.{four_octets};
 ghost use Rattle.l2_units.specs.declared.profile.Profile.TheVariants.{Narrow, Wide};
 ghost use Rattle.l3_orders.specs.Grammar.{IsEnvelope, IsOrder, text, label_number};
@@ -62,6 +62,17 @@ fn body_of(sio: u8, label: u32, heading: u8, content: &[u8]) -> ArrayVec<u8, 273
     requires { length content.now ≤ 2 }
     ensures { result.items ≡ sio ∷ four_octets label ++ heading ∷ content.now }
 {
+    let mut body = headed(sio, label, heading);
+    match body.try_extend_from_slice(content) {
+        Ok(()) => body,
+        Err(_) => unreachable!(),
+    }
+}
+
+/// SIO, label and heading code.
+pub(crate) fn headed(sio: u8, label: u32, heading: u8) -> ArrayVec<u8, 273>
+    ensures { result.items ≡ sio ∷ four_octets label ++ heading ∷ [] }
+{
     let mut body = ArrayVec::new();
     body.push(sio);
     match body.try_extend_from_slice(&label.to_le_bytes()) {
@@ -69,14 +80,11 @@ fn body_of(sio: u8, label: u32, heading: u8, content: &[u8]) -> ArrayVec<u8, 273
         Err(_) => unreachable!(),
     }
     body.push(heading);
-    match body.try_extend_from_slice(content) {
-        Ok(()) => body,
-        Err(_) => unreachable!(),
-    }
+    body
 }
 
 /// The label as a number: DPC in 14 bits, OPC in 14 bits, SLC in 4 bits (Q.704 15.2).
-fn label(dpc: u16, opc: u16, slc: u8) -> u32
+pub(crate) fn label(dpc: u16, opc: u16, slc: u8) -> u32
     requires dpc { dpc < 2 ^ 14 }
     requires opc { opc < 2 ^ 14 }
     requires slc { slc < 16 }

@@ -20,6 +20,8 @@ mod events;
 #[cfg(test)]
 mod lines;
 #[cfg(test)]
+mod link_tests;
+#[cfg(test)]
 mod lives;
 #[cfg(test)]
 mod many;
