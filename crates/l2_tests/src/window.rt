@@ -185,6 +185,57 @@ fn a_queue_grows_and_keeps_its_order(rt: HostRuntime) -> Result<(), Fail> {
     holds(through && grown && last)
 }
 
+/// The message goes behind so many, with room made for it.
+fn insert(queue: &mut Queue, place: usize, message: u64) -> bool {
+    if queue.reserve(1).is_err() || place > queue.len() {
+        return false;
+    }
+    queue.insert_reserved(place, message);
+    true
+}
+
+/// Of 666 messages from 334 on one goes behind two, one goes first, and one last.
+fn are_inserted(queue: &mut Queue) -> bool {
+    insert(queue, 2, 1000)
+        && insert(queue, 0, 1001)
+        && insert(queue, 668, 1002)
+        && stand(queue, &[(0, 1001), (1, 334), (2, 335), (3, 1000), (4, 336)])
+        && stand(queue, &[(667, 999), (668, 1002)])
+        && queue.len() == 669
+}
+
+/// At these places of the queue stand these messages.
+fn stand(queue: &Queue, messages: &[(usize, u64)]) -> bool {
+    for (place, message) in messages {
+        if queue.at(*place) != Some(*message) {
+            return false;
+        }
+    }
+    true
+}
+
+#[test]
+fn messages_are_inserted(rt: HostRuntime) -> Result<(), Fail> {
+    let mut queue = Queue::new(rt.alloc())?;
+    let through = goes_through(&mut queue);
+    holds(through && are_inserted(&mut queue))
+}
+
+/// Of three unsent messages two are passed by another.
+fn is_passed(window: &mut Window) -> bool {
+    if window.reserve(1).is_err() || window.unsent_len() == 0 {
+        return false;
+    }
+    window.insert_reserved(1, 7);
+    window.send() == Ok((0, 0)) && window.send() == Ok((7, 1)) && window.send() == Ok((1, 2))
+}
+
+#[test]
+fn a_message_passes_unsent_ones(rt: HostRuntime) -> Result<(), Fail> {
+    let mut window = filled(rt.alloc(), 3)?;
+    holds(is_passed(&mut window))
+}
+
 #[test]
 fn a_queue_is_cleared(rt: HostRuntime) -> Result<(), Fail> {
     let mut queue = Queue::new(rt.alloc())?;

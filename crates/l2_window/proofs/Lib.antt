@@ -1,5 +1,6 @@
 pub mod Cycles
 pub mod Heard
+pub mod Inserting
 pub mod Line
 pub mod Numbers
 pub mod Rules

@@ -2,7 +2,7 @@
 pub use Rattle.l2_units.specs.declared.profile.Profile.{Profile}
 pub use Rattle.l2_units.specs.declared.profile.Profile.TheVariants.{Narrow, Wide}
 pub use Rattle.l2_units.specs.Profile.{fsn_count, most_unacked}
-use Rattle.std.specs.Prelude.{◌≡◌, ◌↔◌, ℕ, ◌+◌, ◌-◌, ◌%◌, ◌<◌, ◌≤◌, List, [], ◌∷◌, ◌++◌, length, drop}
+use Rattle.std.specs.Prelude.{◌≡◌, ◌↔◌, ℕ, ◌+◌, ◌-◌, ◌%◌, ◌<◌, ◌≤◌, List, [], ◌∷◌, ◌++◌, length, take, drop}
 
 -- before the first message of a link's life this FSN counts as acknowledged (Q.703 5.2.1): the number before 0
 abbrev pub fsn_before_first : Profile → ℕ
@@ -67,6 +67,14 @@ pub record Pushes (message : ℕ) (old new : WindowState) : Type 0 where
   pub unacked : new.unacked ≡ old.unacked
   pub unsent : new.unsent ≡ old.unsent ++ message ∷ []
   pub room : old.room ≤ new.room + 1
+
+-- the message stands behind so many of the unsent ones, and the room is one less
+pub record Inserts (place message : ℕ) (old new : WindowState) : Type 0 where
+  pub profile : new.profile ≡ old.profile
+  pub last : new.last ≡ old.last
+  pub unacked : new.unacked ≡ old.unacked
+  pub unsent : new.unsent ≡ take place old.unsent ++ message ∷ drop place old.unsent
+  pub room : old.room ≡ new.room + 1
 
 -- the first unsent message was sent, and stands last among the unacknowledged ones
 pub record Sends (message : ℕ) (old new : WindowState) : Type 0 where

@@ -13,8 +13,8 @@
 //!
 //! Readers: [`Window::last`], [`Window::unacked_len`], [`Window::unsent_len`],
 //! [`Window::unacked_at`], [`Window::unsent_at`], [`Window::has_new`], [`Window::distance`]. Inputs:
-//! [`Window::push`], [`Window::send`], [`Window::ack`], [`Window::pop`], [`Window::clear_unacked`],
-//! [`Window::clear_unsent`], [`Window::reset`].
+//! [`Window::push`], [`Window::insert_reserved`], [`Window::send`], [`Window::ack`], [`Window::pop`],
+//! [`Window::clear_unacked`], [`Window::clear_unsent`], [`Window::reset`].
 //!
 //! Both error controls read a window and answer the same types, [`Choice`] and [`HeardPart`]: these
 //! stand here too, and the law of one link, over any control that gives its rules

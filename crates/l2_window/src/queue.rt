@@ -25,7 +25,7 @@ impl<A: Allocator> Model for Queue<A> {
 }
 
 impl<A: Allocator + Copy> Queue<A> {
-    ghost use Rattle.std.specs.Prelude.{◌≡◌, ◌+◌, ◌-◌, ◌<◌, ◌≤◌, ◌^◌, ◌==◌, ◌++◌, [], ◌∷◌, IfOk, IfSome, OnOk, OnErr, IsNone, length, drop, slice_get};
+    ghost use Rattle.std.specs.Prelude.{◌≡◌, ◌+◌, ◌-◌, ◌<◌, ◌≤◌, ◌^◌, ◌==◌, ◌++◌, [], ◌∷◌, IfOk, IfSome, OnOk, OnErr, IsNone, length, take, drop, slice_get};
     ghost use Rattle.l2_window.specs.Queue.{QueueState, SameQueue};
 
     /// No messages, and no room.
@@ -105,6 +105,26 @@ impl<A: Allocator + Copy> Queue<A> {
         match self.ring.try_push_back(message) {
             Ok(()) => (),
             Err(_) => unreachable!(),
+        }
+    }
+
+    /// Puts the message behind the `place` oldest ones, in reserved room: so many steps, however many stand behind it.
+    pub fn insert_reserved(&mut self, place: usize, message: u64)
+        requires room { 0 < self.old.room }
+        requires place { place ≤ length self.old.messages }
+        ensures messages { self.new.messages ≡ take place self.old.messages ++ message
+            ∷ drop place self.old.messages }
+        ensures room { self.old.room ≡ self.new.room + 1 }
+    {
+        match self.ring.try_push_front(message) {
+            Ok(()) => (),
+            Err(_) => unreachable!(),
+        }
+        // one after another goes ahead of it
+        for behind in 0..place {
+            let next = *self.ring.get(behind + 1).unwrap();
+            *self.ring.get_mut(behind).unwrap() = next;
+            *self.ring.get_mut(behind + 1).unwrap() = message;
         }
     }
 

@@ -50,7 +50,7 @@ impl<A: Allocator + Copy> Window<A> {
     ghost use Rattle.std.specs.Option.{SomeIff};
     ghost use Rattle.std.specs.Result.{OkIff};
     ghost use Rattle.l2_window.specs.Control.{has_new, bsn_of, fsn_after};
-    ghost use Rattle.l2_window.specs.Window.{IsWindow, IsEmpty, IsReasonable, SameMessages, Pushes, Sends, Withdraws, Pops};
+    ghost use Rattle.l2_window.specs.Window.{IsWindow, IsEmpty, IsReasonable, SameMessages, Pushes, Inserts, Sends, Withdraws, Pops};
     ghost use Rattle.l2_window.specs.Window.{Narrow, Wide, fsn_at, last_fsn, distance_to, fsn_count, most_unacked, fsn_before_first};
 
     /// A window with no messages. It takes the storage of all unacknowledged messages, so that
@@ -200,6 +200,16 @@ impl<A: Allocator + Copy> Window<A> {
         ensures fails { OnErr result (self.old.room ≡ 0) }
     {
         self.unsent.push(message)
+    }
+
+    /// Puts the message behind the `place` oldest of the unsent ones, in reserved room: so many steps, however many
+    /// stand behind it.
+    pub fn insert_reserved(&mut self, place: usize, message: u64)
+        requires room { 0 < self.old.room }
+        requires place { place ≤ length self.old.unsent }
+        ensures { Inserts place message self.old self.new }
+    {
+        self.unsent.insert_reserved(place, message);
     }
 
     /// Sends the first unsent message: the message and its FSN. It is then the last of the

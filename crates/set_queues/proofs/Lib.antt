@@ -1,5 +1,6 @@
 pub mod Forgetting
 pub mod Keeping
+pub mod Leading
 pub mod Linked
 pub mod Placing
 pub mod Sifting

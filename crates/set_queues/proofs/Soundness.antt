@@ -5,7 +5,7 @@ use Rattle.set_queues.specs.Buffers.{Fate, Waiting, Unacked, no_lists, empty_lis
 use Rattle.l2_units.specs.declared.profile.Profile.{Profile}
 use Rattle.l2_window.specs.Window.{most_unacked}
 use Rattle.set_queues.specs.Queues.{occurs, stands, passed, passed_first, AreTied, AreSound, AreNarrow}
-use Rattle.set_queues.proofs.Standing.{length-updated, updated_same, updated_other, slot_push, slot_past, slot_map, Moves, moved_tie, given_queue, take_get, same_is, occurs-append, occurs-split, occurs_here, queue_set, links_stay, queue_away, SameSize, size_stays, known_on, restood-append, same_self, queued_stands}
+use Rattle.set_queues.proofs.Standing.{length-updated, updated_same, updated_other, slot_push, slot_past, slot_map, Moves, moved_tie, take_get, same_is, occurs-append, occurs-split, queue_set, links_stay, queue_away, SameSize, size_stays, known_on, restood-append, same_self, queued_stands}
 use Rattle.set_queues.proofs.Tallies.{fit_push, fit_restood, fit_kept}
 use Rattle.std.proofs.lemmas.List.{get_or-replicate, get_or_past, length-replicate, length-append, length-take, length-drop}
 use Rattle.std.proofs.lemmas.Option.{slice_get_cases}
@@ -74,17 +74,21 @@ stood_push : (f : Fate) (m : ℕ) (ms : List (Option Message)) (x : Message) (b 
 stood_push f m ms x true e = let past : length ms ≤ m = grind (arith, nat_tests) in rw (slot_push ms (Some x) m, e, slot_past ms m past) (omega arith)
 stood_push f m ms x false e = rw (slot_push ms (Some x) m, e) (omega arith)
 
-added_tie : (q : Lists) (ms : List (Option Message)) (x : Message) → AreTied q ms → is_standing x.fate ≡ true → IsKnown x.fate q → AreTied (with_queue x.fate (queue_at x.fate q ++ length ms ∷ []) q) (ms ++ Some x ∷ [])
-added_tie q ms x tie u k f s m = rw (stood_push f m ms x (length ms == m) refl, queue_set x.fate f (queue_at x.fate q ++ length ms ∷ []) q u k) (go (same_fate x.fate f) refl)
+-- its number stands in the queue of its fate, wherever in it
+put_tie : (q : Lists) (ms : List (Option Message)) (x : Message) (xs : List ℕ) → AreTied q ms → is_standing x.fate ≡ true → IsKnown x.fate q → ((m : ℕ) → occurs m xs ≡ occurs m (queue_at x.fate q) + one_if (length ms == m)) → AreTied (with_queue x.fate xs q) (ms ++ Some x ∷ [])
+put_tie q ms x xs tie u k put f s m = rw (stood_push f m ms x (length ms == m) refl, queue_set x.fate f xs q u k) (go (same_fate x.fate f) refl)
   where
-    go : (b : Bool) → same_fate x.fate f ≡ b → occurs m (cond b (queue_at x.fate q ++ length ms ∷ []) (queue_at f q)) ≡ one_if (stands f m ms) + cond (length ms == m) (one_if b) 0
-    go true e = let is = same_is x.fate f s e in let had = tie f s m in rw is (grind (arith, had, occurs-append m (queue_at f q) (length ms ∷ [])))
+    go : (b : Bool) → same_fate x.fate f ≡ b → occurs m (cond b xs (queue_at f q)) ≡ one_if (stands f m ms) + cond (length ms == m) (one_if b) 0
+    go true e = let is = same_is x.fate f s e in let had = tie f s m in let there = put m in grind (arith, is, had, there)
     go false e = let had = tie f s m in grind (arith, had)
 
+pub sound_put : (q : Lists) (ms : List (Option Message)) (x : Message) (xs : List ℕ) → AreSound q ms → IsFit x → IsKnown x.fate q → IsQueued x.fate → ((m : ℕ) → occurs m xs ≡ occurs m (queue_at x.fate q) + one_if (length ms == m)) → AreSound (with_queue x.fate xs q) (ms ++ Some x ∷ [])
+sound_put q ms x xs s fit k u put =
+    let same : (l : ℕ) → queue_at (Unacked l) (with_queue x.fate xs q) ≡ queue_at (Unacked l) q = λ l. queue_away x.fate (Unacked l) _ q _ refl k (unqueued x.fate l (λ s. u)) in
+    sound_on q _ ms _ s (size_stays x.fate _ q) (λ l. rw (same l, profile_queue x.fate xs l q) (s.narrow l)) (put_tie q ms x xs s.tied (queued_stands x.fate u) k put) (fit_push ms x s.fit fit)
+
 pub sound_added : (q : Lists) (ms : List (Option Message)) (x : Message) → AreSound q ms → IsFit x → IsKnown x.fate q → IsQueued x.fate → AreSound (with_queue x.fate (queue_at x.fate q ++ length ms ∷ []) q) (ms ++ Some x ∷ [])
-sound_added q ms x s fit k u =
-    let same : (l : ℕ) → queue_at (Unacked l) (with_queue x.fate (queue_at x.fate q ++ length ms ∷ []) q) ≡ queue_at (Unacked l) q = λ l. queue_away x.fate (Unacked l) _ q _ refl k (unqueued x.fate l (λ s. u)) in
-    sound_on q _ ms _ s (size_stays x.fate _ q) (λ l. rw (same l, profile_queue x.fate (queue_at x.fate q ++ length ms ∷ []) l q) (s.narrow l)) (added_tie q ms x s.tied (queued_stands x.fate u) k) (fit_push ms x s.fit fit)
+sound_added q ms x s fit k u = sound_put q ms x _ s fit k u (λ m. grind (arith, occurs-append m (queue_at x.fate q) (length ms ∷ [])))
 
 -- WHAT IS FINISHED is forgotten
 

@@ -1,5 +1,5 @@
 -- Where every message of a set stands.
-use Rattle.std.specs.Prelude.{◌≡◌, ℕ, ◌+◌, ◌<◌, ◌≤◌, ◌==◌, Bool, true, false, not, List, [], ◌∷◌, ◌++◌, length, filter, Some, None, Option, IsSome, take, drop}
+use Rattle.std.specs.Prelude.{◌≡◌, ℕ, ◌+◌, ◌<◌, ◌≤◌, ◌==◌, Bool, true, false, not, List, [], ◌∷◌, ◌++◌, length, filter, Some, None, Option, IsSome, take, drop, if◌then◌else◌}
 use Rattle.std.specs.Option.{option_map_or}
 use Rattle.set_queues.specs.Messages.{one_if, Message, AreFit, slot_at, fate_at, is_order_at, restood, octets_at}
 use Rattle.set_queues.specs.Buffers.{Fate, Unacked, Discarded, Lists, Rooms, TakesRoom, KeepsRoom, is_standing, same_fate, queue_at, with_queue, profile_at}
@@ -64,6 +64,12 @@ orders_in messages numbers = filter (is_order_at messages) numbers
 
 abbrev pub others_in : List (Option Message) → List ℕ → List ℕ
 others_in messages numbers = filter (λ number. not (is_order_at messages number)) numbers
+
+-- a further number ahead of the first user's message of a queue, behind the orders that stand foremost, or last
+abbrev pub behind_orders : List (Option Message) → ℕ → List ℕ → List ℕ
+behind_orders messages number [] = number ∷ []
+behind_orders messages number (n ∷ ns) =
+    if is_order_at messages n then n ∷ behind_orders messages number ns else number ∷ n ∷ ns
 
 -- only what waits in the window changed, and there is no less room
 pub record KeepsSent (old new : WindowState) : Type 0 where

@@ -1,7 +1,7 @@
 //! The queues in which messages stand: of each link those of its window and the held ones, the parked
 //! ones, and of each changeback code those that wait for its acknowledgement.
 ghost use Rattle.set_queues.specs.Buffers.{BuffersState, empty_lists, IsKnown, CanTake, KeepsRoom, TakesRoom, queue_at, with_queue};
-ghost use Rattle.std.specs.Prelude.{◌≡◌, ◌<◌, ◌++◌, [], ◌∷◌, IfOk, length, drop, map, slice_get};
+ghost use Rattle.std.specs.Prelude.{◌≡◌, ◌<◌, ◌≤◌, ◌++◌, [], ◌∷◌, IfOk, length, take, drop, map, slice_get};
 ghost use Rattle.set_queues.specs.Kept.{lists_of, state_of};
 
 use l2_units::Profile;
@@ -97,6 +97,32 @@ impl<A: Allocator + Copy> Buffers<A> {
             Fate::Held { link } => self.links[usize::from(link)].held.push_reserved(message),
             Fate::Parked => self.parked.push_reserved(message),
             Fate::Back { code } => self.back[usize::from(code)].push_reserved(message),
+            Fate::Acked { .. } | Fate::Discarded { .. } => (),
+            Fate::Unacked { .. } => unreachable!(),
+        }
+    }
+
+    /// The message stands there, behind the `place` oldest, if the fate isn't final.
+    #[tactic(auto, using(crate::proofs::Linked::of_link, crate::proofs::Linked::of_code))]
+    pub(crate) fn insert(&mut self, fate: Fate, place: usize, message: u64)
+        requires known { IsKnown fate self.old.lists }
+        requires room { CanTake fate 1 self.old.rooms }
+        requires place { place ≤ length (queue_at fate self.old.lists) }
+        ensures lists { self.new.lists ≡ with_queue fate (take place (queue_at fate self.old.lists)
+            ++ message ∷ drop place (queue_at fate self.old.lists)) self.old.lists }
+        ensures room { TakesRoom fate 1 self.old.rooms self.new.rooms }
+    {
+        match fate {
+            Fate::Waiting { link } => {
+                let window = &mut self.links[usize::from(link)].window;
+                window.insert_reserved(place, message);
+            }
+            Fate::Held { link } => {
+                let held = &mut self.links[usize::from(link)].held;
+                held.insert_reserved(place, message);
+            }
+            Fate::Parked => self.parked.insert_reserved(place, message),
+            Fate::Back { code } => self.back[usize::from(code)].insert_reserved(place, message),
             Fate::Acked { .. } | Fate::Discarded { .. } => (),
             Fate::Unacked { .. } => unreachable!(),
         }

@@ -10,7 +10,7 @@
 //! to a link, or of what no link takes:
 //!
 //! ```text
-//!          add (Waiting, Held, Parked, Back)
+//!     add, add_ahead (Waiting, Held, Parked, Back)
 //!                  |
 //!   Back(c) -------+-- turn_back, divert -+
 //!                  |                      v
@@ -21,13 +21,17 @@
 //! ```
 //!
 //! [`Queues::settle`] moves all of a link to the target, or parks them: sent, waiting, held; [`Queues::reset`] begins
-//! its new life. Only [`Queues::new`], the copies and the calls that reserve take memory, here and in [`Bodies`]: a
-//! call that adds or moves needs its room reserved before. Each call costs the same however many messages there ever
-//! were; discarding, diverting and settling are linear in what moves, a copy in what is there, and a number that
-//! outlived a copy is searched for among those that did. To forget costs the same however many stand, but for a copy
-//! where more of the messages that are kept were forgotten than stand: so, taken together, what is forgotten. A message
-//! takes 8 octets, and 8 more while it stands in a queue; a queue of a code takes none for messages until one stands in
-//! it. A body takes 8 octets and its own. Each of the two takes 8 more once it outlived a copy.
+//! its new life. A message stands last where it comes to stand, but for one that is added ahead: it stands before the
+//! first user's message of its queue, behind the orders that stand foremost ([`Queues::add_ahead`]).
+//!
+//! Only [`Queues::new`], the copies and the calls that reserve take memory, here and in [`Bodies`]: a call that adds
+//! or moves needs its room reserved before. Each call costs the same however many messages there ever were; adding
+//! ahead is linear in the orders that stand foremost, discarding, diverting and settling in what moves, a copy in
+//! what is there, and a number that outlived a copy is searched for among those that did. To forget costs the same
+//! however many stand, but for a copy where more of the messages that are kept were forgotten than stand: so, taken
+//! together, what is forgotten. A message takes 8 octets, and 8 more while it stands in a queue; a queue of a code
+//! takes none for messages until one stands in it. A body takes 8 octets and its own. Each of the two takes 8 more
+//! once it outlived a copy.
 //!
 //! This crate decides nothing: which messages are sent, acknowledged or moved, and when, is the
 //! caller's to know. It reads no clock, does no IO and takes no lock.

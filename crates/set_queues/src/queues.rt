@@ -1,9 +1,9 @@
 //! Where every message of a set stands, with what the counts need.
-ghost use Rattle.std.specs.Prelude.{◌≡◌, ◌+◌, ◌<◌, ℕ, slice_index, if◌then◌else◌, IfSome, ◌≢◌, ◌↔◌, ◌%◌, ◌≤◌, ◌^◌, ◌++◌, [], ◌∷◌, Some, true, false, IsOk, IfOk, OnOk, OnErr, length, replicate, take, slice_get};
+ghost use Rattle.std.specs.Prelude.{◌≡◌, ◌+◌, ◌<◌, ℕ, slice_index, if◌then◌else◌, IfSome, ◌≢◌, ◌↔◌, ◌%◌, ◌≤◌, ◌^◌, ◌++◌, [], ◌∷◌, Some, true, false, IsOk, IfOk, OnOk, OnErr, length, replicate, take, drop, slice_get};
 ghost use Rattle.set_queues.specs.Buffers.{empty_lists, IsQueued, same_fate, IsKnown, CanTake, KeepsRoom, TakesRoom, HaveRoom, is_standing, queue_at, with_queue, last_at, profile_at, with_last, room_at};
 ghost use Rattle.l2_window.specs.Window.{fsn_count, most_unacked, fsn_before_first};
 ghost use Rattle.set_queues.specs.Settling.{fate_on, on, settled};
-ghost use Rattle.set_queues.specs.Queues.{QueuesState, AreSound, Moves, MovesAll, MovesFirst, DiscardsOrders, MakesRoom};
+ghost use Rattle.set_queues.specs.Queues.{QueuesState, AreSound, Moves, MovesAll, MovesFirst, DiscardsOrders, MakesRoom, behind_orders};
 ghost use Rattle.set_queues.specs.Messages.{restood, slot_at, fate_at, octets_of, counts_of, unsent_of, finished_in, is_unfinished, unfinished, IsFit};
 ghost use Rattle.std.specs.Result.{OkIff};
 ghost use Rattle.set_queues.specs.Backs.{IsOldestOf, back_count};
@@ -343,6 +343,50 @@ impl<A: Allocator + Copy> Queues<A> {
         self.messages.push(message);
         self.buffers.push(message.fate, number);
         number
+    }
+
+    /// A new message stands ahead of the first user's message in the queue that its fate names, behind the orders that
+    /// stand foremost there, or last where no user's stands there: its number. It costs as many steps as there are such
+    /// orders, however many stand behind it.
+    ///
+    /// Conditions: those of [`Queues::add`].
+    #[tactic(auto, using(crate::proofs::Tallies::few))]
+    pub fn add_ahead(&mut self, message: Message) -> u64
+        requires fit { IsFit message }
+        requires known { IsKnown message.fate self.old.lists }
+        requires queued { IsQueued message.fate }
+        requires room { 0 < self.old.room }
+        requires place { 0 < room_at message.fate self.old.rooms }
+        ensures number { result ≡ length self.old.messages }
+        ensures messages { self.new.messages ≡ self.old.messages ++ Some message ∷ [] }
+        ensures lists { self.new.lists ≡ with_queue message.fate (behind_orders self.old.messages
+            (length self.old.messages) (queue_at message.fate self.old.lists)) self.old.lists }
+        ensures room { self.old.room ≤ self.new.room + 1 }
+        ensures rooms { TakesRoom message.fate 1 self.old.rooms self.new.rooms }
+    {
+        let place = self.orders_ahead(message.fate);
+        let number = self.len() as u64;
+        self.messages.push(message);
+        self.buffers.insert(message.fate, place, number);
+        number
+    }
+
+    /// How many orders stand foremost in the queue.
+    fn orders_ahead(&self, fate: Fate) -> usize
+        requires { IsKnown fate self.now.lists }
+        ensures within { result ≤ length (queue_at fate self.now.lists) }
+        ensures ahead { (number : ℕ) → behind_orders self.now.messages number
+            (queue_at fate self.now.lists) ≡ take result (queue_at fate self.now.lists)
+            ++ number ∷ drop result (queue_at fate self.now.lists) }
+    {
+        let count = self.count_at(fate);
+        for place in 0..count {
+            let number = self.buffers.at(fate, place).unwrap();
+            if !self.messages.is_order(number) {
+                return place;
+            }
+        }
+        count
     }
 
     /// The first message that waits for the link is sent for the first time: it stands last among the

@@ -304,6 +304,77 @@ fn park(queues: &mut Queues) -> Result<u64, AllocError> {
     }))
 }
 
+/// An order stands there, ahead of users' messages; its number.
+fn put_ahead(queues: &mut Queues, fate: Fate) -> Result<u64, AllocError> {
+    if !is_known(queues, fate) || !is_queued(fate) {
+        return Err(AllocError);
+    }
+    queues.reserve(1)?;
+    queues.reserve_at(fate, 1)?;
+    Ok(queues.add_ahead(Message {
+        fate,
+        kind: Kind::Order,
+        octets: 7,
+    }))
+}
+
+/// An order is put ahead there, and gets this number.
+fn is_put_ahead(queues: &mut Queues, fate: Fate, number: u64) -> bool {
+    put_ahead(queues, fate) == Ok(number)
+}
+
+/// Order 3 is put last, behind users' messages 1 and 2: those that are put ahead pass all three, and no order that stands
+/// ahead of them. What is parked goes on in its order.
+#[test]
+fn an_order_stands_ahead_of_users_messages(rt: HostRuntime) -> Result<(), Fail> {
+    holds(stand_ahead(&mut Queues::new(rt.alloc(), Profile::Narrow, 2)?))
+}
+
+fn stand_ahead(queues: &mut Queues) -> bool {
+    is_put_ahead(queues, TO_LINK_1, 0)
+        && is_put(queues, TO_LINK_1, 1)
+        && is_put(queues, TO_LINK_1, 2)
+        && park(queues) == Ok(3)
+        && unpark(queues, 1).is_ok()
+        && wait_for_1(queues, &[0, 1, 2, 3])
+        && pass_the_users(queues)
+        && are_parked_ahead(queues)
+}
+
+fn pass_the_users(queues: &mut Queues) -> bool {
+    is_put_ahead(queues, TO_LINK_1, 4)
+        && is_put_ahead(queues, TO_LINK_1, 5)
+        && wait_for_1(queues, &[0, 4, 5, 1, 2, 3])
+        && stands(queues, 5, Some(TO_LINK_1))
+        && counts_of(queues).waiting == 2
+}
+
+/// Order 7 is parked ahead of message 6.
+fn are_parked_ahead(queues: &mut Queues) -> bool {
+    is_put(queues, Fate::Parked, 6)
+        && is_put_ahead(queues, Fate::Parked, 7)
+        && unpark(queues, 1).is_ok()
+        && wait_for_1(queues, &[0, 4, 5, 1, 2, 3, 7, 6])
+}
+
+/// Of what is held, and of what waits for an acknowledgement, an order stands first too.
+#[test]
+fn an_order_stands_first_in_other_queues(rt: HostRuntime) -> Result<(), Fail> {
+    holds(stand_first(&mut Queues::new(rt.alloc(), Profile::Narrow, 2)?))
+}
+
+fn stand_first(queues: &mut Queues) -> bool {
+    let (held, back) = (Fate::Held { link: 0 }, Fate::Back { code: 18 });
+    is_put(queues, held, 0)
+        && is_put_ahead(queues, held, 1)
+        && is_put(queues, back, 2)
+        && is_put_ahead(queues, back, 3)
+        && stand(queues, held, 0) == Some(1)
+        && stand(queues, held, 1) == Some(0)
+        && stand(queues, back, 0) == Some(3)
+        && stand(queues, back, 1) == Some(2)
+}
+
 /// FSNs go round 15 times, and no message is lost among so many.
 #[test]
 fn each_of_100_000_messages_is_found_again(rt: HostRuntime) -> Result<(), Fail> {
