@@ -11,6 +11,7 @@ use Rattle.std.proofs.lemmas.List.Elements.{All-nil, All-cons, All-head, All-tai
 use Rattle.std.proofs.Math.Seq.{drop-length, drop-nil, drop-append_seam, take-add}
 use Rattle.l2_units.specs.declared.unit.Unit.{Unit as SignalUnit}
 use Rattle.l2_units.specs.Grammar.{head_of as header_in}
+use Rattle.l3_orders.specs.declared.order.Order.{Order}
 use Rattle.l3_orders.specs.Grammar.{text}
 use Rattle.set_events.specs.declared.answer.DiscardCause.{DiscardCause}
 use Rattle.set_events.specs.declared.answer.DiscardCause.TheVariants.{NoAnswer as NoAnswerCame}
@@ -28,6 +29,7 @@ use Rattle.set_model.specs.Sound.{IsSound}
 use Rattle.set_model.specs.State.{FinishedCounts, all_finished, given, LinkState, State, Settings, has_phase_settled, is_settled, is_up, link_is_settled, new_link, opened_with, fate_at, target, window_of, with_link}
 use Rattle.set_model.specs.Step.{with_known, is_msu, after_control, next, offered, rises, rows_sent, step, takes}
 use Rattle.std.proofs.lemmas.Bool.{cond_both}
+use Rattle.set_model.proofs.Ahead.{put_length, put_out, numbered_put}
 use Rattle.set_model.proofs.Events.{sent_by, ChangesOn, acknowledged, appended_out, unparked, withdrawn_rows}
 use Rattle.set_model.proofs.Events as events
 use Rattle.set_model.proofs.Rows.{orders_there, with_number, numbered_appended, turned_there, turned_left, turned_same, changed_left, at_most_one, moved_length, moved_numbered, moved_same, new_row}
@@ -41,7 +43,7 @@ use Rattle.pair_model.specs.Run.{Message, Past, messages, first_sent, past_sent,
 use Rattle.pair_model.proofs.Moving.{next_refused}
 use Rattle.pair_model.proofs.Runs.{is_at_up}
 use Rattle.pair_model.proofs.Sending.{next_is, cleared_at, cleared_sends, cleared_sound, overtaken}
-use Rattle.pair_changeover.proofs.Staying.{orders_stay, Stays, turned_stay, changed_stay, moved_stay, joined_stay}
+use Rattle.pair_changeover.proofs.Staying.{orders_stay, Stays, turned_stay, changed_stay, moved_stay, joined_stay, put_stay}
 use Rattle.pair_changeover.proofs.Views.{acked_of, acked_on}
 
 abbrev pub AreAcked : ℕ → List Row → List Message → Type 0
@@ -266,6 +268,17 @@ module _ (l : ℕ) (sent : List Message) where
       (rw rows (joined_stay (Acked l) s.rows _)) links
       (ap (unack l) rows ∙ appended_out (given s) s.rows body fate (is_unacked l) unsent) a
 
+  puts : (order : Order) (s : State) → AckedFirst l sent s → AckedFirst l sent (queued order s)
+  puts order s a =
+      let body = text s.settings.profile order s.settings.sio s.settings.dpc s.settings.opc in
+      let fate = fate_on (target s.links) in
+      let t = queued order s in
+      let long : length t.rows ≡ length s.rows + 1 = put_length (given s) s.rows body fate in
+      let more : given t ≡ given s + 1 = omega (arith, long) in
+      goes_on s t (subst (λ (n : ℕ). IsNumbered n t.rows) (sym more) (numbered_put (given s) s.rows body fate a.numbered))
+      (put_stay (Acked l) (given s) s.rows body fate a.numbered) refl
+      (put_out (λ (row : Row). is_unacked l row.fate) (given s) s.rows body fate (not_sent l (target s.links))) a
+
   -- what stood back goes elsewhere
   turns : (test : Fate → Bool) (fate : Row → Fate) (s t : State) → t.finished ≡ s.finished → test (Acked l) ≡ false
       → ((f : Fate) → test f ≡ true → stands_back f ≡ true) → ((row : Row) → is_unacked l (fate row) ≡ false)
@@ -373,9 +386,7 @@ module _ (l : ℕ) (sent : List Message) where
     same = λ s a. a;
     after = λ s t u p q a. q (p a);
     delivers = λ body s a. record { numbered = a.numbered; few = a.few; first = a.first; going = a.going };
-    queues = λ order s a. appends s (queued order s)
-        (text s.settings.profile order s.settings.sio s.settings.dpc s.settings.opc) (fate_on (target s.links)) refl
-        (not_sent l (target s.links)) refl refl a;
+    queues = λ order s a. puts order s a;
     leaves = λ blind n link s known at a. leaves_any blind n link s at a;
     acknowledges = λ count n link s known at enough g a. acknowledges_any count n link (acknowledged_link count link) s
         (acknowledged_by count n link s) refl at.there refl refl refl refl (ap has_phase_settled at.phase_is) enough a;

@@ -36,7 +36,7 @@ use Rattle.pair_model.proofs.Kept.{kept_on}
 use Rattle.pair_model.proofs.Moving as moving
 use Rattle.pair_model.proofs.Pairs.{Two, HoldsOf, settings_stay}
 use Rattle.pair_model.proofs.Rising.{settled_at}
-use Rattle.pair_changeover.specs.Diverted.{Diverts, DivertsFrom, IsFsnIn, IsToldBy, FrontTells, as_left, answer_on, queue_for}
+use Rattle.pair_changeover.specs.Diverted.{Diverts, DivertsFrom, IsFsnIn, IsToldBy, FrontTells, as_left, answer_on, ahead_of_users, queue_for}
 use Rattle.pair_changeover.proofs.Alike.{left_unack, left_acked, left_alike}
 use Rattle.pair_changeover.proofs.Acked.{AckedFirst, acked_first, rises_first}
 use Rattle.pair_changeover.proofs.Changes.{by_link, other_then}
@@ -57,8 +57,8 @@ messages_dropped zero rows = refl
 messages_dropped (suc n) [] = refl
 messages_dropped (suc n) (row ∷ rows) = messages_dropped n rows
 
-told_apart : (q a d w h : List Message) → q ++ a ++ (d ++ w ++ h) ≡ q ++ a ++ d ++ w ++ h
-told_apart q a d w h = sym (append_assoc (q ++ a) (d ++ w) h) ∙ ap (λ (x : List Message). x ++ h) (sym (append_assoc (q ++ a) d w))
+told_apart : (q d w h : List Message) → q ++ (d ++ w ++ h) ≡ q ++ d ++ w ++ h
+told_apart q d w h = sym (append_assoc q (d ++ w) h) ∙ ap (λ (x : List Message). x ++ h) (sym (append_assoc q d w))
 
 queue_parts : (count l : ℕ) (rows : List Row) → queue count l rows ≡ drop count (messages (unack l rows)) ++ messages (wait l rows) ++ messages (held l rows)
 queue_parts count l rows =
@@ -221,24 +221,26 @@ module _ (mx my : Method) (one : IsOneMethod mx my) (p : Two) (h : HoldsOf mx my
 
     -- as the move tells it, of the link that is left there
     moved_there : (to : Option ℕ) (new : List Message)
-        → new ≡ messages (queue_for to (as_left l (slice_get mid.links l) mid).rows)
-        ++ answer_on l (slice_get mid.links l) mid ++ pending l (as_left l (slice_get mid.links l) mid) p.far
-        → new ≡ messages (queue_for to left_mid.rows) ++ answer_on l (slice_get mid.links l) mid ++ pending l left_mid p.far
-    moved_there to new e = subst (λ (o : Option LinkState). new ≡ messages (queue_for to (as_left l o mid).rows)
-        ++ answer_on l (slice_get mid.links l) mid ++ pending l (as_left l o mid) p.far) there_mid e
+        → new ≡ ahead_of_users (answer_on l (slice_get mid.links l) mid)
+        (messages (queue_for to (as_left l (slice_get mid.links l) mid).rows))
+        ++ pending l (as_left l (slice_get mid.links l) mid) p.far
+        → new ≡ ahead_of_users (answer_on l (slice_get mid.links l) mid) (messages (queue_for to left_mid.rows)) ++ pending l left_mid p.far
+    moved_there to new e = subst (λ (o : Option LinkState). new
+        ≡ ahead_of_users (answer_on l (slice_get mid.links l) mid) (messages (queue_for to (as_left l o mid).rows))
+        ++ pending l (as_left l o mid) p.far) there_mid e
 
     moved_from : (to : Option ℕ) (new : List Message)
-        → new ≡ messages (queue_for to left_mid.rows) ++ answer_on l (slice_get mid.links l) mid
+        → new ≡ ahead_of_users (answer_on l (slice_get mid.links l) mid) (messages (queue_for to left_mid.rows))
         ++ pending l left_mid p.far
-        → new ≡ messages (queue_for to left.rows) ++ answer_on l (slice_get p.near.links l) p.near
+        → new ≡ ahead_of_users (answer_on l (slice_get p.near.links l) p.near) (messages (queue_for to left.rows))
         ++ drop (length (p.far_past.taken l)) (p.near_past.sent l) ++ messages (wait l left.rows)
         ++ messages (held l left.rows)
     moved_from to new e =
         e
-        ∙ ap (λ (x : List Message). x ++ answer_on l (slice_get mid.links l) mid ++ pending l left_mid p.far) (same_queue to)
-        ∙ ap (λ (x : List Message). messages (queue_for to left.rows) ++ x ++ pending l left_mid p.far) same_answer
-        ∙ ap (λ (x : List Message). messages (queue_for to left.rows) ++ answer_on l (slice_get p.near.links l) p.near ++ x) rest_is
-        ∙ told_apart (messages (queue_for to left.rows)) (answer_on l (slice_get p.near.links l) p.near)
+        ∙ ap (λ (x : List Message). ahead_of_users (answer_on l (slice_get mid.links l) mid) x ++ pending l left_mid p.far) (same_queue to)
+        ∙ ap (λ (x : List Message). ahead_of_users x (messages (queue_for to left.rows)) ++ pending l left_mid p.far) same_answer
+        ∙ ap (λ (x : List Message). ahead_of_users (answer_on l (slice_get p.near.links l) p.near) (messages (queue_for to left.rows)) ++ x) rest_is
+        ∙ told_apart (ahead_of_users (answer_on l (slice_get p.near.links l) p.near) (messages (queue_for to left.rows)))
         (drop (length (p.far_past.taken l)) (p.near_past.sent l)) (messages (wait l left.rows))
         (messages (held l left.rows))
 

@@ -1,24 +1,28 @@
 -- WHAT AN END DOES, and the orders under way at both: the other stands still. `Both` is `Orders` of Views.antt in both
 -- directions; `acts` says that a change of one end which makes no order keeps it (`Acts`), and `queues_both` that
 -- queueing one does, about a link that its end just left. Views.antt argues on queues; here the rows and links of a
--- state give what it asks: a new message joins the queue of its place (`grows`), and an order's target is up, so it
--- isn't the link that the order is about. Case by case on the message's fate, no induction. Keeping.antt, Leaving.antt,
+-- state give what it asks: a new message joins the queue of its place (`grows`, and `places` for an order), and an
+-- order's target is up, so it isn't the link that the order is about. Case by case on the message's fate, no induction. Keeping.antt, Leaving.antt,
 -- Turning.antt, Passing.antt, Obeying.antt and Blind.antt make an `Acts` of each event's change, by link (`by_link`).
-use Rattle.std.proofs.Common.{refl, ◌≡◌, ◌≢◌, ◌∙◌, ap, sym, subst, ℕ, ◌==◌, ◌-◌, Bool, true, false, List, [], ◌∷◌, ◌++◌, slice_get, slice_set, Option, Some, None, ◌⊎◌, inl, inr}
+use Rattle.std.proofs.Common.{refl, ◌≡◌, ◌≢◌, ◌∙◌, ap, sym, subst, ℕ, ◌==◌, ◌-◌, Bool, true, false, List, [], ◌∷◌, ◌++◌, drop, slice_get, slice_set, Option, Some, None, ◌⊎◌, inl, inr}
 use Rattle.std.proofs.lemmas.Bool.{eqb-true}
+use Rattle.std.proofs.lemmas.List.{append-nil}
 use Rattle.l3_orders.specs.declared.order.Order.{Order}
 use Rattle.l3_orders.specs.Grammar.{text, order_any, link_of}
 use Rattle.set_events.specs.declared.answer.Fate.{Fate}
 use Rattle.set_events.specs.declared.answer.Fate.TheVariants.{Waiting, Unacked, Acked, Held, Parked, Back, Discarded}
-use Rattle.set_model.specs.Rows.{Row, is_on, is_waiting, is_unacked, is_held, is_parked, held, unack, appended}
+use Rattle.set_model.specs.Rows.{Row, is_on, is_waiting, is_unacked, is_held, is_parked, held, parked, unack, appended, put_ahead}
 use Rattle.set_model.specs.Sound.{IsSound}
 use Rattle.set_model.specs.State.{given, LinkState, State, is_up, is_settled, link_is_up, link_is_settled, target}
 use Rattle.set_model.specs.Changeover.{fate_on, queued}
+use Rattle.set_model.proofs.Ahead.{put_in, put_out}
+use Rattle.set_model.proofs.Events.{untouched}
 use Rattle.set_model.proofs.Lists.{get_set_same, get_set_other, within, target_up}
 use Rattle.set_model.proofs.Places.{false_true, itself}
+use Rattle.set_model.proofs.Rows.{new_row}
 use Rattle.pair_model.specs.Run.{Message, messages}
-use Rattle.pair_changeover.proofs.Table.{new_message, queue_waits, queue_holds, queue_apart, aside_joins, aside_apart}
-use Rattle.pair_changeover.proofs.Views.{view, pending, aside, queue, acked_on, accepted_of, accepted_on, last_of, last_on, Among, among_joined, stands_on, stands_aside, IsNoOrder, NoneAbout, Tells, Orders, Came, plain, stayed, moved, CameAside, plain_aside, was_in, plain_not, Passes, carries, Queues, queued_in}
+use Rattle.pair_changeover.proofs.Table.{joined, joins_at, new_message, queue_waits, queue_holds, queue_apart, queue_untouched, aside_joins, aside_apart}
+use Rattle.pair_changeover.proofs.Views.{view, pending, aside, queue, acked_on, accepted_of, accepted_on, last_of, last_on, Among, among_joined, among_front, among_behind, stands_on, stands_aside, IsNoOrder, NoneAbout, Tells, Orders, Came, plain, stayed, moved, CameAside, plain_aside, was_in, plain_not, Passes, carries, Queues, queued_in}
 
 -- the orders of both
 pub record Both (emergencies : Bool) (s f : State) : Type 0 where
@@ -132,6 +136,66 @@ module _ (count link number : ℕ) (rows : List Row) (body : List ℕ) where
   grows (Back code) (to_back c) = ungrown refl (queue_apart count link number rows body (Back code) refl)
   grows (Discarded cause) new = elim new [ ]
 
+-- AN ORDER joins it anywhere, as far as the orders under way go
+pub data Placed (z : Message) (is_there : Bool) (old new : List Message) : Type 0 where
+  joined_in : is_there ≡ true → (front rest : List Message) → old ≡ front ++ rest → new ≡ front ++ z ∷ rest → Placed z is_there old new
+  left_out : is_there ≡ false → new ≡ old → Placed z is_there old new
+
+pub placed_last : (z : Message) (b : Bool) (old new : List Message) → Grows z b old new → Placed z b old new
+placed_last z b old new (grown e q) = joined_in e old [] (sym (append-nil old)) q
+placed_last z b old new (ungrown e q) = left_out e q
+
+pub placed_among : (z : Message) (b : Bool) (old new : List Message) → Placed z b old new → (m : Message) → Among m new
+    → Among m old ⊎ ((m ≡ z) × (b ≡ true))
+placed_among z b old new (left_out e q) m a = inl (subst (λ (x : List Message). Among m x) q a)
+placed_among z b old new (joined_in e front rest was is) m a =
+    go (among_joined m front (z ∷ rest) (subst (λ (x : List Message). Among m x) is a))
+  where
+    back : Among m (front ++ rest) → Among m old
+    back = subst (λ (x : List Message). Among m x) (sym was)
+
+    go : Among m front ⊎ Among m (z ∷ rest) → Among m old ⊎ ((m ≡ z) × (b ≡ true))
+    go (inl f) = inl (back (among_front m front rest f))
+    go (inr (inl same)) = inr (same, e)
+    go (inr (inr r)) = inl (back (among_behind m front rest r))
+
+module _ (number : ℕ) (rows : List Row) (body : List ℕ) where
+  abbrev put : Option ℕ → List Row
+  put to = put_ahead number rows body (fate_on to)
+
+  module _ (count link : ℕ) where
+    places_waiting : (to : ℕ) (b : Bool) → (to == link) ≡ b
+        → Placed (new_message number body) b (queue count link rows) (queue count link (put (Some to)))
+    places_waiting to false e =
+        left_out refl (queue_untouched count link rows (put (Some to))
+        (untouched link rows (put (Some to)) (put_out (λ (row : Row). is_on link row.fate) number rows body (Waiting to) e)))
+    places_waiting to true e =
+        let sent = drop count (unack link rows) in
+        let there = put_in (λ (row : Row). is_waiting link row.fate) number rows body (Waiting to) e in
+        joined_in refl (messages (sent ++ there.front)) (messages (there.rest ++ held link rows))
+        (rw there.was (joins_at sent there.front there.rest (held link rows)))
+        (rw (
+          put_out (λ (row : Row). is_unacked link row.fate) number rows body (Waiting to) refl,
+          there.is,
+          put_out (λ (row : Row). is_held link row.fate) number rows body (Waiting to) refl,
+        )
+        (joins_at sent there.front (new_row number body (Waiting to) ∷ there.rest) (held link rows)))
+
+    pub places : (to : Option ℕ)
+        → Placed (new_message number body) (is_on link (fate_on to)) (queue count link rows) (queue count link (put to))
+    places None = left_out refl (queue_untouched count link rows (put None)
+        (untouched link rows (put None) (put_out (λ (row : Row). is_on link row.fate) number rows body Parked refl)))
+    places (Some to) = places_waiting to (to == link) refl
+
+  pub places_aside : (to : Option ℕ)
+      → Placed (new_message number body) (is_parked (fate_on to)) (messages (parked rows)) (messages (parked (put to)))
+  places_aside None =
+      let there = put_in (λ (row : Row). is_parked row.fate) number rows body Parked refl in
+      joined_in refl (messages there.front) (messages there.rest)
+      (ap messages there.was ∙ joined there.front there.rest)
+      (ap messages there.is ∙ joined there.front (new_row number body Parked ∷ there.rest))
+  places_aside (Some to) = left_out refl (ap messages (put_out (λ (row : Row). is_parked row.fate) number rows body (Waiting to) refl))
+
 -- a link that is up holds nothing
 pub held_none : (s : State) (link : ℕ) → IsSound s → is_up link s ≡ true → held link s.rows ≡ []
 held_none s link sound up = go (slice_get s.links link) refl
@@ -140,62 +204,75 @@ held_none s link sound up = go (slice_get s.links link) refl
     go None e = absurd (let no : false ≡ true = sym (ap link_is_up e) ∙ up in cc)
     go (Some state) e = (sound.links link state e).none_held (sym (ap link_is_up e) ∙ up)
 
--- A NEW MESSAGE that is no order
+-- A NEW MESSAGE that is no order of a changeover
+module _ (s f : State) (body : List ℕ) (t : State) (links : t.links ≡ s.links) (no_order : IsNoOrder body) where
+  abbrev fresh_one : Message
+  fresh_one = new_message (given s) body
+
+  fresh_plain : (m : Message) → m ≡ fresh_one → IsNoOrder m.body
+  fresh_plain m e order is over = no_order order (ap (λ (x : Message). order_any x.body) (sym e) ∙ is) over
+
+  pub new_acts : (on_link : ℕ → Bool) (on_none : Bool)
+      → ((link : ℕ) → Placed fresh_one (on_link link) (pending link s f) (pending link t f))
+      → Placed fresh_one on_none (aside s) (aside t) → Acts s t f
+  new_acts on_link on_none on besides = record {
+    came = λ link m among. on_case link m (placed_among fresh_one (on_link link) (pending link s f) (pending link t f) (on link) m among);
+    came_aside = λ m among. aside_case m (placed_among fresh_one on_none (aside s) (aside t) besides m among);
+    up_less = λ link up. ap (λ (ls : List LinkState). link_is_up (slice_get ls link)) (sym links) ∙ up;
+    settled_more = λ link settled. inl (ap (λ (ls : List LinkState). link_is_settled (slice_get ls link)) (sym links) ∙ settled);
+    accepted = λ link. inl (ap (λ (ls : List LinkState). last_of (slice_get ls link)) links);
+    far_came = far_same s t f (λ link. ap (λ (ls : List LinkState). accepted_of (slice_get ls link)) links);
+  }
+    where
+      on_case : (link : ℕ) (m : Message) → Among m (pending link s f) ⊎ ((m ≡ fresh_one) × (on_link link ≡ true)) → Came (view s f) link m
+      on_case link m (inl a) = stayed a
+      on_case link m (inr e) = plain (fresh_plain m e.0)
+
+      aside_case : (m : Message) → Among m (aside s) ⊎ ((m ≡ fresh_one) × (on_none ≡ true)) → CameAside (view s f) m
+      aside_case m (inl a) = was_in (stands_aside a)
+      aside_case m (inr e) = plain_aside (fresh_plain m e.0)
+
+-- it stands last
 module _ (s f : State) (body : List ℕ) (fate : Fate) (t : State) (rows : t.rows ≡ appended (given s) s.rows body fate)
     (links : t.links ≡ s.links) (new : (link : ℕ) → IsNew 0 link (given s) s.rows body fate) (no_order : IsNoOrder body)
   where
     abbrev count_at : ℕ → ℕ
     count_at link = accepted_on link f - acked_on link s
 
-    offer_came : (link : ℕ) (m : Message)
-        → Grows (new_message (given s) body) (is_on link fate) (pending link s f)
-        (queue (count_at link) link (appended (given s) s.rows body fate))
-        → Among m (queue (count_at link) link (appended (given s) s.rows body fate)) → Came (view s f) link m
-    offer_came link m (ungrown e q) among = stayed (subst (λ (x : List Message). Among m x) q among)
-    offer_came link m (grown e q) among =
-        go (among_joined m (pending link s f) (new_message (given s) body ∷ [])
-        (subst (λ (x : List Message). Among m x) q among))
-      where
-        go : Among m (pending link s f) ⊎ Among m (new_message (given s) body ∷ []) → Came (view s f) link m
-        go (inl a) = stayed a
-        go (inr (inl e)) = plain (λ order is over. no_order order (ap (λ (x : Message). order_any x.body) (sym e) ∙ is) over)
-        go (inr (inr a)) = absurd a
+    abbrev offer_z : Message
+    offer_z = new_message (given s) body
 
-    offer_aside : (m : Message) (b : Bool) → is_parked fate ≡ b
-        → Among m (messages (Rattle.set_model.specs.Rows.parked (appended (given s) s.rows body fate)))
-        → CameAside (view s f) m
-    offer_aside m false e among = was_in (stands_aside (subst (λ (x : List Message). Among m x) (aside_apart 0 0 (given s) s.rows body fate e) among))
-    offer_aside m true e among = go
-        (among_joined m (aside s) (new_message (given s) body ∷ [])
-        (subst (λ (x : List Message). Among m x) (aside_joins 0 0 (given s) s.rows body fate e) among))
+    offer_on : (link : ℕ) → Placed offer_z (is_on link fate) (pending link s f) (pending link t f)
+    offer_on link = placed_last offer_z (is_on link fate) (pending link s f) (pending link t f)
+        (subst (λ (q : List Message). Grows offer_z (is_on link fate) (pending link s f) q) (rw (rows, links) refl)
+        (grows (count_at link) link (given s) s.rows body fate (again fate (new link))))
       where
-        go : Among m (aside s) ⊎ Among m (new_message (given s) body ∷ []) → CameAside (view s f) m
-        go (inl a) = was_in (stands_aside a)
-        go (inr (inl e)) = plain_aside (λ order is over. no_order order (ap (λ (x : Message). order_any x.body) (sym e) ∙ is) over)
-        go (inr (inr a)) = absurd a
+        again : (fate : Fate) → IsNew 0 link (given s) s.rows body fate → IsNew (count_at link) link (given s) s.rows body fate
+        again (Waiting l) (to_wait k none) = to_wait k none
+        again (Held l) (to_hold k) = to_hold k
+        again Parked to_park = to_park
+        again (Unacked l) new = elim new [ ]
+        again (Acked l) new = elim new [ ]
+        again (Back code) (to_back c) = to_back code
+        again (Discarded cause) new = elim new [ ]
+
+    offer_aside : (b : Bool) → is_parked fate ≡ b → Grows offer_z b (aside s) (messages (parked (appended (given s) s.rows body fate)))
+    offer_aside false e = ungrown refl (aside_apart 0 0 (given s) s.rows body fate e)
+    offer_aside true e = grown refl (aside_joins 0 0 (given s) s.rows body fate e)
 
     pub offers_acts : Acts s t f
-    offers_acts = record {
-      came = λ link m among. offer_came link m (grows_at link) (subst (λ (x : List Message). Among m x) (rw (rows, links) refl) among);
-      came_aside = λ m among. offer_aside m (is_parked fate) refl (subst (λ (x : List Message). Among m x) (rw rows refl) among);
-      up_less = λ link up. ap (λ (ls : List LinkState). link_is_up (slice_get ls link)) (sym links) ∙ up;
-      settled_more = λ link settled. inl (ap (λ (ls : List LinkState). link_is_settled (slice_get ls link)) (sym links) ∙ settled);
-      accepted = λ link. inl (ap (λ (ls : List LinkState). last_of (slice_get ls link)) links);
-      far_came = far_same s t f (λ link. ap (λ (ls : List LinkState). accepted_of (slice_get ls link)) links);
-    }
-      where
-        grows_at : (link : ℕ) → Grows (new_message (given s) body) (is_on link fate) (pending link s f)
-            (queue (count_at link) link (appended (given s) s.rows body fate))
-        grows_at link = grows (count_at link) link (given s) s.rows body fate (again fate (new link))
-          where
-            again : (fate : Fate) → IsNew 0 link (given s) s.rows body fate → IsNew (count_at link) link (given s) s.rows body fate
-            again (Waiting l) (to_wait k none) = to_wait k none
-            again (Held l) (to_hold k) = to_hold k
-            again Parked to_park = to_park
-            again (Unacked l) new = elim new [ ]
-            again (Acked l) new = elim new [ ]
-            again (Back code) (to_back c) = to_back code
-            again (Discarded cause) new = elim new [ ]
+    offers_acts = new_acts s f body t links no_order (λ link. is_on link fate) (is_parked fate) offer_on
+        (placed_last offer_z (is_parked fate) (aside s) (aside t)
+        (subst (λ (q : List Message). Grows offer_z (is_parked fate) (aside s) q) (rw rows refl) (offer_aside (is_parked fate) refl)))
+
+-- or it's an order, which stands ahead of the users' messages
+pub orders_acts : (s f : State) (order : Order)
+    → IsNoOrder (text s.settings.profile order s.settings.sio s.settings.dpc s.settings.opc) → Acts s (queued order s) f
+orders_acts s f order no_order =
+    let body = text s.settings.profile order s.settings.sio s.settings.dpc s.settings.opc in
+    new_acts s f body (queued order s) refl no_order (λ link. is_on link (fate_on (target s.links))) (is_parked (fate_on (target s.links)))
+    (λ link. places (given s) s.rows body (accepted_on link f - acked_on link s) link (target s.links))
+    (places_aside (given s) s.rows body (target s.links))
 
 -- AN ORDER IS QUEUED
 module _ {emergencies : Bool} (s f : State) (order : Order) (sound : IsSound s) (o : Both emergencies s f)
@@ -211,10 +288,6 @@ module _ {emergencies : Bool} (s f : State) (order : Order) (sound : IsSound s) 
   up_at : (to : ℕ) → target s.links ≡ Some to → is_up to s ≡ true
   up_at to e = let up = target_up s.links to e in ap link_is_up up.1 ∙ up.2
 
-  new_at : (link : ℕ) (to : Option ℕ) → target s.links ≡ to → IsNew (accepted_on link f - acked_on link s) link (given s) s.rows body (fate_on to)
-  new_at link None e = to_park
-  new_at link (Some to) e = to_wait to (λ same. held_none s link sound (subst (λ (k : ℕ). is_up k s ≡ true) (eqb-true to link same) (up_at to e)))
-
   -- the link that the order is about is no target
   elsewhere : (link : ℕ) (to : Option ℕ) → target s.links ≡ to → is_on link (fate_on to) ≡ true → link ≢ link_of order
   elsewhere link None e on same = absurd cc
@@ -224,27 +297,14 @@ module _ {emergencies : Bool} (s f : State) (order : Order) (sound : IsSound s) 
       cc
 
   queue_came : (link : ℕ) (m : Message)
-      → Grows z (is_on link (fate_on (target s.links))) (pending link s f) (pending link (queued order s) f)
-      → Among m (pending link (queued order s) f) → ((m ≡ z) × (link ≢ link_of order)) ⊎ Among m (pending link s f)
-  queue_came link m (ungrown e q) among = inr (subst (λ (x : List Message). Among m x) q among)
-  queue_came link m (grown e q) among = go (among_joined m (pending link s f) (z ∷ []) (subst (λ (x : List Message). Among m x) q among))
-    where
-      go : Among m (pending link s f) ⊎ Among m (z ∷ []) → ((m ≡ z) × (link ≢ link_of order)) ⊎ Among m (pending link s f)
-      go (inl a) = inr a
-      go (inr (inl same)) = inl (same, elsewhere link (target s.links) refl e)
-      go (inr (inr a)) = absurd a
+      → Among m (pending link s f) ⊎ ((m ≡ z) × (is_on link (fate_on (target s.links)) ≡ true))
+      → ((m ≡ z) × (link ≢ link_of order)) ⊎ Among m (pending link s f)
+  queue_came link m (inl a) = inr a
+  queue_came link m (inr e) = inl (e.0, elsewhere link (target s.links) refl e.1)
 
-  queue_aside : (m : Message) (b : Bool) → is_parked (fate_on (target s.links)) ≡ b → Among m (aside (queued order s)) → (m ≡ z) ⊎ Among m (aside s)
-  queue_aside m false e among = inr (subst (λ (x : List Message). Among m x) (aside_apart 0 0 (given s) s.rows body (fate_on (target s.links)) e) among)
-  queue_aside m true e among = go
-      (among_joined m (aside s) (z ∷ [])
-      (subst (λ (x : List Message). Among m x) (aside_joins 0 0 (given s) s.rows body (fate_on (target s.links)) e)
-      among))
-    where
-      go : Among m (aside s) ⊎ Among m (z ∷ []) → (m ≡ z) ⊎ Among m (aside s)
-      go (inl a) = inr a
-      go (inr (inl same)) = inl same
-      go (inr (inr a)) = absurd a
+  queue_aside : (m : Message) → Among m (aside s) ⊎ ((m ≡ z) × (is_parked (fate_on (target s.links)) ≡ true)) → (m ≡ z) ⊎ Among m (aside s)
+  queue_aside m (inl a) = inr a
+  queue_aside m (inr e) = inl e.0
 
   queues : Queues emergencies z order (view s f) (view (queued order s) f) (view f s)
   queues = record {
@@ -254,9 +314,11 @@ module _ {emergencies : Bool} (s f : State) (order : Order) (sound : IsSound s) 
     down = down;
     unsettled = unsettled;
     came = λ link m among. queue_came link m
-        (grows (accepted_on link f - acked_on link s) link (given s) s.rows body (fate_on (target s.links))
-        (new_at link (target s.links) refl)) among;
-    came_aside = λ m among. queue_aside m (is_parked (fate_on (target s.links))) refl among;
+        (placed_among z (is_on link (fate_on (target s.links))) (pending link s f) (pending link (queued order s) f)
+        (places (given s) s.rows body (accepted_on link f - acked_on link s) link (target s.links)) m among);
+    came_aside = λ m among. queue_aside m
+        (placed_among z (is_parked (fate_on (target s.links))) (aside s) (aside (queued order s))
+        (places_aside (given s) s.rows body (target s.links)) m among);
     up_same = λ link. refl;
     settled_same = λ link. refl;
     accepted_same = λ link. refl;

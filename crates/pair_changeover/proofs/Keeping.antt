@@ -28,6 +28,7 @@ use Rattle.set_model.specs.State.{given, LinkState, State, Settings, link_count,
 use Rattle.set_model.specs.Control.{Choice, again, first, fill, choice_of, control_after}
 use Rattle.set_model.specs.Changeover.{fate_on, queued, leaving_order, left_link, left_by, can_declare, declared, declared_from, some_declare}
 use Rattle.set_model.specs.Step.{Outcome, refused, offer_refusal, offered, taken, found, with_known, in_service, falls, comes_back, next, rows_sent, step}
+use Rattle.set_model.proofs.Ahead.{put_out}
 use Rattle.set_model.proofs.Events.{Untouched, untouched, sent, appended_out}
 use Rattle.set_model.proofs.Rows.{turned_same}
 use Rattle.set_model.proofs.SoundBack.{leaves, declares, alternative_up}
@@ -179,9 +180,9 @@ down_at {emergencies = emergencies} blind k link s f may sound codes at =
       settled = all (λ n old new. link_is_settled new ≡ link_is_settled old) (sym was) (λ n old d. refl);
       acked = λ l e. all (λ n old new. acked_of new ≡ acked_of old) refl (λ n old d. refl) l;
       accepted = all (λ n old new. accepted_of new ≡ accepted_of old) refl (λ n old d. refl);
-      discards = appended_out (given left) left.rows
+      discards = put_out (λ (row : Row). was_discarded row.fate) (given left) left.rows
           (text s.settings.profile order s.settings.sio s.settings.dpc s.settings.opc) (fate_on (target left.links))
-          was_discarded (not_discarded (target left.links)) ∙ leaves_discards blind k link s f sound at;
+          (not_discarded (target left.links)) ∙ leaves_discards blind k link s f sound at;
     }
 
 pub down_kept : {emergencies : Bool} (k : ℕ) (s f : State) → IsSound s → AreCodes s.settings → Keeps emergencies s (step s (DownEvent k)).state f

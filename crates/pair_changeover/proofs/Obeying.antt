@@ -7,7 +7,6 @@
 use Rattle.std.proofs.Common.{refl, arith, ◌≡◌, ◌∙◌, ap, sym, subst, ℕ, ◌≤◌, ◌<◌, ◌==◌, ◌+◌, ◌-◌, ◌%◌, Bool, true, false, List, [], ◌∷◌, ◌++◌, length, slice_get, slice_set, Option, Some, None}
 use Rattle.std.proofs.lemmas.Bool.{eqb-true}
 use Rattle.std.proofs.lemmas.Bool.Decides.{nat_tests}
-use Rattle.std.proofs.lemmas.List.{append-nil}
 use Rattle.l3_orders.specs.declared.order.Order.{Order}
 use Rattle.l3_orders.specs.declared.order.Order.TheVariants.{Coa, Cbd, Cba}
 use Rattle.l3_orders.specs.Grammar.{text, order_of, order_any}
@@ -20,11 +19,12 @@ use Rattle.set_route.specs.declared.place.Code.TheVariants.{Free}
 use Rattle.set_route.specs.Routing.{code_of}
 use Rattle.set_model.specs.declared.phase.Phase.TheVariants.{Up, Down}
 use Rattle.set_model.specs.declared.reached.Reached.TheVariants.{Upto, Unknown}
-use Rattle.set_model.specs.Rows.{Row, is_back_to, is_on, is_unacked, is_waiting, was_discarded, standing, unack, wait, parked, appended, turned, all_with, moved}
+use Rattle.set_model.specs.Rows.{Row, is_back_to, is_on, is_unacked, was_discarded, standing, unack, wait, parked, put_ahead, turned, all_with, moved}
 use Rattle.set_model.specs.Sound.{IsSound}
 use Rattle.set_model.specs.State.{has_phase_settled, all_finished, given, LinkState, State, is_up, is_settled, link_is_up, link_is_settled, has_phase_up, last_accepted, target}
 use Rattle.set_model.specs.Changeover.{settled_link, fate_on, queued, left_link, left_by, out_of_service, released, reached_by, is_reasonable, settled}
-use Rattle.set_model.proofs.Events.{appended_in, appended_out}
+use Rattle.set_model.proofs.Ahead.{put_out}
+use Rattle.set_model.proofs.Events.{untouched}
 use Rattle.set_model.proofs.Rows.{turned_same, moved_length, moved_same}
 use Rattle.set_model.proofs.Lists.{within, map_set_same, same_at, target_up}
 use Rattle.set_model.proofs.Places.{apart, itself, home_back}
@@ -34,13 +34,13 @@ use Rattle.set_model.proofs.SoundBack.{leaves}
 use Rattle.set_model.proofs.SoundLink as new
 use Rattle.set_model.proofs.Walk.{IsAt}
 use Rattle.pair_model.specs.Run.{Message, messages}
-use Rattle.pair_changeover.specs.Diverted.{queue_for, as_left, answer_on}
+use Rattle.pair_changeover.specs.Diverted.{queue_for, as_left, answer_on, ahead_of_users}
 use Rattle.pair_changeover.proofs.Blind.{blind_both, blind_accepted}
-use Rattle.pair_changeover.proofs.Changes.{Both, Acts, acts, stands_still, acts_none, acts_far_none, queues_both, by_link, own_then, offers_acts, IsNew, to_wait, to_park, held_none}
+use Rattle.pair_changeover.proofs.Changes.{Both, Acts, acts, stands_still, acts_none, acts_far_none, queues_both, by_link, own_then, orders_acts}
 use Rattle.pair_changeover.proofs.Leaving.{goes_to, leaves_acts, leaves_discards, releases_acts, releases_discards}
 use Rattle.pair_changeover.proofs.Passing.{IsReached, settles_acts, links_then, rows_then, link_then}
 use Rattle.pair_changeover.proofs.Texts.{AreCodes, coa_read, cba_plain}
-use Rattle.pair_changeover.proofs.Table.{joined, aside_settled, wait_settled, aside_joins, queue_apart}
+use Rattle.pair_changeover.proofs.Table.{new_message, ahead_none, ahead_there, aside_settled, wait_settled, queue_untouched}
 use Rattle.pair_changeover.proofs.Turning.{unack_same}
 use Rattle.pair_changeover.proofs.Views.{view, queue, pending, acked_of, acked_on, accepted_of, accepted_on, last_of, IsChangeover, NoneAbout}
 
@@ -252,6 +252,9 @@ module _ (l : ℕ) (link : LinkState) (s f : State) (sound : IsSound s) (codes :
   pub told_heard : Heard l s f → Heard l told f
   told_heard h = record { far_down = h.far_down; none = acts_far_none s left f left_acts l h.none }
 
+  abbrev answer_text : List ℕ
+  answer_text = text s.settings.profile (Coa l (last_accepted link)) s.settings.sio s.settings.dpc s.settings.opc
+
   unsent : (to : Option ℕ) → is_unacked l (fate_on to) ≡ false
   unsent None = refl
   unsent (Some to) = refl
@@ -260,9 +263,8 @@ module _ (l : ℕ) (link : LinkState) (s f : State) (sound : IsSound s) (codes :
   unack_left n = unack_same (is_back_to l) (goes_to false l link s f sound at) (home_back l) s.rows (λ m row. offered_out m _ (out_of_service false l link s)) n
 
   unack_told : unack l told.rows ≡ unack l s.rows
-  unack_told = appended_out (given left) left.rows
-      (text s.settings.profile (Coa l (last_accepted link)) s.settings.sio s.settings.dpc s.settings.opc)
-      (fate_on (target left.links)) (is_unacked l) (unsent (target left.links)) ∙ unack_left l
+  unack_told = put_out (λ (row : Row). is_unacked l row.fate) (given left) left.rows answer_text
+      (fate_on (target left.links)) (unsent (target left.links)) ∙ unack_left l
 
   same_number : given left ≡ given s
   same_number = ap (λ (n : ℕ). all_finished s.finished + n) (moved_length (is_back_to l) (goes_to false l link s f sound at) s.rows)
@@ -277,30 +279,18 @@ module _ (l : ℕ) (link : LinkState) (s f : State) (sound : IsSound s) (codes :
   told_accepted = by_link l link (left_link false link) s left at.there refl (λ m old new. accepted_of new ≡ accepted_of old) refl (λ m old d. refl)
 
   answer_is : (q : List Message)
-      → q ++ record {
-        number = given left;
-        body = text s.settings.profile (Coa l (last_accepted link)) s.settings.sio s.settings.dpc s.settings.opc;
-      } ∷ []
-      ≡ q ++ answer_on l (Some link) s
+      → ahead_of_users (new_message (given left) answer_text ∷ []) q ≡ ahead_of_users (answer_on l (Some link) s) q
   answer_is q = rw (at.phase_is, same_number) refl
 
-  told_target : (to : Option ℕ) → target left.links ≡ to → messages (queue_for to told.rows) ≡ messages (queue_for to left.rows) ++ answer_on l (Some link) s
+  told_target : (to : Option ℕ) → target left.links ≡ to
+      → messages (queue_for to told.rows) ≡ ahead_of_users (answer_on l (Some link) s) (messages (queue_for to left.rows))
   told_target None e =
-      ap (λ (to : Option ℕ). messages
-      (parked (appended (given left) left.rows
-      (text s.settings.profile (Coa l (last_accepted link)) s.settings.sio s.settings.dpc s.settings.opc)
-      (fate_on to)))) e
-      ∙ aside_joins 0 0 (given left) left.rows (text s.settings.profile (Coa l (last_accepted link)) s.settings.sio s.settings.dpc s.settings.opc) Parked refl
+      ap (λ (to : Option ℕ). messages (parked (put_ahead (given left) left.rows answer_text (fate_on to)))) e
+      ∙ ahead_there (given left) answer_text Parked refl left.rows
       ∙ answer_is (messages (parked left.rows))
   told_target (Some to) e =
-      ap (λ (o : Option ℕ). messages
-      (wait to (appended (given left) left.rows
-      (text s.settings.profile (Coa l (last_accepted link)) s.settings.sio s.settings.dpc s.settings.opc)
-      (fate_on o)))) e
-      ∙ ap messages (appended_in (given left) left.rows
-      (text s.settings.profile (Coa l (last_accepted link)) s.settings.sio s.settings.dpc s.settings.opc)
-      (Waiting to) (is_waiting to) (itself to))
-      ∙ joined (wait to left.rows) _
+      ap (λ (o : Option ℕ). messages (wait to (put_ahead (given left) left.rows answer_text (fate_on o)))) e
+      ∙ ahead_there (given left) answer_text (Waiting to) (itself to) left.rows
       ∙ answer_is (messages (wait to left.rows))
 
   -- it isn't on its way to the link itself
@@ -316,42 +306,33 @@ module _ (l : ℕ) (link : LinkState) (s f : State) (sound : IsSound s) (codes :
 
   pub told_pending : pending l told f ≡ pending l left f
   told_pending =
-      queue_apart (accepted_on l f - acked_on l left) l (given left) left.rows
-      (text s.settings.profile (Coa l (last_accepted link)) s.settings.sio s.settings.dpc s.settings.opc)
-      (fate_on (target left.links)) (elsewhere (target left.links) refl (is_on l (fate_on (target left.links)))
-      refl)
+      queue_untouched (accepted_on l f - acked_on l left) l left.rows told.rows
+      (untouched l left.rows told.rows
+      (put_out (λ (row : Row). is_on l row.fate) (given left) left.rows answer_text (fate_on (target left.links))
+      (elsewhere (target left.links) refl (is_on l (fate_on (target left.links))) refl)))
 
   pub told_discards : standing was_discarded told.rows ≡ standing was_discarded s.rows
-  told_discards = appended_out (given left) left.rows
-      (text s.settings.profile (Coa l (last_accepted link)) s.settings.sio s.settings.dpc s.settings.opc)
-      (fate_on (target left.links)) was_discarded (not_discarded (target left.links))
+  told_discards = put_out (λ (row : Row). was_discarded row.fate) (given left) left.rows answer_text
+      (fate_on (target left.links)) (not_discarded (target left.links))
       ∙ leaves_discards false l link s f sound at
 
 -- A DECLARATION IS HEARD, and acknowledged; the acknowledgement is no order of a changeover
 module _ (l code : ℕ) (s f : State) (sound : IsSound s) where
-  abbrev body_back : List ℕ
-  body_back = text s.settings.profile (Cba l code) s.settings.sio s.settings.dpc s.settings.opc
-
-  new_back : (link : ℕ) (to : Option ℕ) → target s.links ≡ to → IsNew 0 link (given s) s.rows body_back (fate_on to)
-  new_back link None e = to_park
-  new_back link (Some to) e = let up =
-      target_up s.links to e in to_wait to
-      (λ same. held_none s link sound
-      (subst (λ (n : ℕ). is_up n s ≡ true) (eqb-true to link same) (ap link_is_up up.1 ∙ up.2)))
-
   pub acknowledges_acts : Acts s (queued (Cba l code) s) f
-  acknowledges_acts = offers_acts s f body_back (fate_on (target s.links)) (queued (Cba l code) s) refl refl
-      (λ link. new_back link (target s.links) refl) (cba_plain s.settings l code)
+  acknowledges_acts = orders_acts s f (Cba l code) (cba_plain s.settings l code)
 
   pub acknowledges_discards : standing was_discarded (queued (Cba l code) s).rows ≡ standing was_discarded s.rows
-  acknowledges_discards = appended_out (given s) s.rows body_back (fate_on (target s.links)) was_discarded (not_discarded (target s.links))
+  acknowledges_discards = put_out (λ (row : Row). was_discarded row.fate) (given s) s.rows
+      (text s.settings.profile (Cba l code) s.settings.sio s.settings.dpc s.settings.opc)
+      (fate_on (target s.links)) (not_discarded (target s.links))
 
 -- ALL OF IT
 pub record Moved (k n : ℕ) (s f t : State) : Type 0 where
   pub other : (k == n) ≡ false
   pub moved : messages (queue_for (target t.links) t.rows)
-      ≡ messages (queue_for (target t.links) (as_left n (slice_get s.links n) s).rows)
-      ++ answer_on n (slice_get s.links n) s ++ pending n (as_left n (slice_get s.links n) s) f
+      ≡ ahead_of_users (answer_on n (slice_get s.links n) s)
+      (messages (queue_for (target t.links) (as_left n (slice_get s.links n) s).rows))
+      ++ pending n (as_left n (slice_get s.links n) s) f
 
 module _ {emergencies : Bool} (k : ℕ) (body : List ℕ) (s f : State) (sound : IsSound s) (codes : AreCodes s.settings) (o : Both emergencies s f) where
   pub obeys_both : (t : State) → Obeys emergencies k body s f t → Both emergencies t f
@@ -482,9 +463,9 @@ module _ (k : ℕ) (body : List ℕ) (s f : State) (sound : IsSound s) (codes : 
         other = other;
         moved = settles_moves fsn l link s f sound at (is_reached fsn l link s f sound at told_so)
             ∙ ap (λ (q : List Message). q ++ pending l s f)
-            (sym (append-nil (messages (queue_for (target t.links) s.rows)))
-            ∙ ap (λ (a : List Message). messages (queue_for (target t.links) s.rows) ++ a) (sym none))
-            ∙ ap (λ (u : State). messages (queue_for (target t.links) u.rows) ++ answer_on l (slice_get s.links l) s ++ pending l u f) (sym stays);
+            (sym (ahead_none (messages (queue_for (target t.links) s.rows)))
+            ∙ ap (λ (a : List Message). ahead_of_users a (messages (queue_for (target t.links) s.rows))) (sym none))
+            ∙ ap (λ (u : State). ahead_of_users (answer_on l (slice_get s.links l) s) (messages (queue_for (target t.links) u.rows)) ++ pending l u f) (sym stays);
       })
   obeys_moves _ (answers fsn l link other at told_so heard over) n e g =
       let there = told l link s f sound codes at in
@@ -504,9 +485,9 @@ module _ (k : ℕ) (body : List ℕ) (s f : State) (sound : IsSound s) (codes : 
         moved = settles_moves fsn l (left_link false link) there f there_sound there_at there_told
             ∙ ap (λ (to : Option ℕ). messages (queue_for to there.rows) ++ pending l there f) to_is
             ∙ ap (λ (q : List Message). q ++ pending l there f) (told_target l link s f sound codes at (target there.links) refl)
-            ∙ ap (λ (p : List Message). messages (queue_for (target there.links) before.rows)
-            ++ answer_on l (Some link) s ++ p) (told_pending l link s f sound codes at)
-            ∙ ap (λ (to : Option ℕ). messages (queue_for to before.rows) ++ answer_on l (Some link) s ++ pending l before f) (sym to_is)
-            ∙ ap (λ (o : Option LinkState). messages (queue_for (target t.links) before.rows) ++ answer_on l o s ++ pending l before f) (sym at.there)
-            ∙ ap (λ (u : State). messages (queue_for (target t.links) u.rows) ++ answer_on l (slice_get s.links l) s ++ pending l u f) (sym left_so);
+            ∙ ap (λ (p : List Message). ahead_of_users (answer_on l (Some link) s) (messages (queue_for (target there.links) before.rows)) ++ p)
+            (told_pending l link s f sound codes at)
+            ∙ ap (λ (to : Option ℕ). ahead_of_users (answer_on l (Some link) s) (messages (queue_for to before.rows)) ++ pending l before f) (sym to_is)
+            ∙ ap (λ (o : Option LinkState). ahead_of_users (answer_on l o s) (messages (queue_for (target t.links) before.rows)) ++ pending l before f) (sym at.there)
+            ∙ ap (λ (u : State). ahead_of_users (answer_on l (slice_get s.links l) s) (messages (queue_for (target t.links) u.rows)) ++ pending l u f) (sym left_so);
       })

@@ -3,7 +3,7 @@
 -- service is just `next` (`sends_next`). What waits for a link is pending on it (`first_pending`), and if its first
 -- were an order about a link that is up, that would stand against `none_up` of what holds of the orders. Only who is
 -- among joined lists takes an induction. Used by Whole.antt, and by pair_streams's Acting.antt and Counting.antt.
-use Rattle.std.proofs.Common.{refl, ◌≡◌, ◌∙◌, ap, ℕ, Bool, true, false, List, [], ◌∷◌, ◌++◌, drop, Option, Some, None, inl, inr}
+use Rattle.std.proofs.Common.{refl, ◌≡◌, ◌∙◌, ap, ℕ, Bool, true, false, List, [], ◌∷◌, ◌++◌, drop, Option, Some, None, inl}
 use Rattle.l3_orders.specs.declared.order.Order.{Order}
 use Rattle.l3_orders.specs.declared.order.Order.TheVariants.{Coo, Coa, Cbd, Cba, Eco, Eca}
 use Rattle.l3_orders.specs.Grammar.{order_of}
@@ -19,16 +19,7 @@ use Rattle.pair_model.specs.Run.{Message, messages}
 use Rattle.pair_model.proofs.Sending.{next_is, overtaken}
 use Rattle.pair_changeover.proofs.Changes.{Both}
 use Rattle.pair_changeover.proofs.Table.{joined}
-use Rattle.pair_changeover.proofs.Views.{pending, queue, Among, stands_on}
-
-among_front : (m : Message) (xs ys : List Message) → Among m xs → Among m (xs ++ ys)
-among_front m [] ys a = absurd a
-among_front m (x ∷ xs) ys (inl e) = inl e
-among_front m (x ∷ xs) ys (inr a) = inr (among_front m xs ys a)
-
-among_behind : (m : Message) (xs ys : List Message) → Among m ys → Among m (xs ++ ys)
-among_behind m [] ys a = a
-among_behind m (x ∷ xs) ys a = inr (among_behind m xs ys a)
+use Rattle.pair_changeover.proofs.Views.{pending, queue, Among, among_front, among_behind, stands_on}
 
 -- what waits is pending
 abbrev message_of : Row → Message

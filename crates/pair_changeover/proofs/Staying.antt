@@ -1,15 +1,18 @@
 -- A FATE THAT STAYS: what is acknowledged, or was discarded, is so ever after, whatever changes of other rows
 -- (`Stays`). One lemma for each way in which rows change: some of them or all get a fate (`turned_stay`,
--- `changed_stay`, `orders_stay`), some move to the end (`moved_stay`), or more come (`joined_stay`). A change whose test doesn't hold
+-- `changed_stay`, `orders_stay`), some move to the end (`moved_stay`), or more come, last or not
+-- (`joined_stay`, `put_stay`). A change whose test doesn't hold
 -- of the fate leaves its rows alone; and rows that move are still found by their numbers, as each number stands once
 -- (`place_moved`). By induction on the rows, one for all that turn (`where_turned`). Used by Acked.antt, and by
 -- pair_streams's Known.antt and Blindly.antt.
-use Rattle.std.proofs.Common.{refl, ◌≡◌, ◌∙◌, ap, sym, ℕ, ◌==◌, Bool, true, false, List, [], ◌∷◌, ◌++◌, Option, Some, None, cond, length}
+use Rattle.std.proofs.Common.{refl, arith, ◌≡◌, ◌∙◌, ap, sym, ℕ, ◌==◌, nat_lt, Bool, true, false, List, [], ◌∷◌, ◌++◌, Option, Some, None, cond, length}
 use Rattle.std.specs.Option.{option_map}
+use Rattle.std.proofs.lemmas.Bool.Decides.{nat_tests}
 use Rattle.std.proofs.lemmas.Option.{same_Some}
 use Rattle.set_events.specs.declared.answer.Fate.{Fate}
-use Rattle.set_model.specs.Rows.{orders_changed, Row, turned, changed, moved, with_fate, place, row_of, IsNumbered}
-use Rattle.set_model.proofs.Rows.{where_orders, where_turned, place_moved}
+use Rattle.set_model.specs.Rows.{orders_changed, Row, turned, changed, moved, put_ahead, with_fate, place, row_of, IsNumbered}
+use Rattle.set_model.proofs.Ahead.{put_others}
+use Rattle.set_model.proofs.Rows.{where_orders, where_turned, place_moved, not_found}
 use Rattle.set_model.proofs.Places.{false_true}
 
 abbrev pub Stays : Fate → List Row → List Row → Type 0
@@ -61,3 +64,15 @@ joined_stay kept (x ∷ rows) more number e = go (x.number == number) refl (join
         → place number (x ∷ rows ++ more) ≡ Some kept
     go true h later = let f : Some x.fate ≡ Some kept = rw h at e in rw h f
     go false h later = rw h (later (rw h at e))
+
+-- a new message that isn't last: no row has its number
+pub put_stay : (kept : Fate) (given : ℕ) (rows : List Row) (body : List ℕ) (fate : Fate) → IsNumbered given rows
+    → Stays kept rows (put_ahead given rows body fate)
+put_stay kept given rows body fate numbered number e = go (nat_lt number given) refl
+  where
+    go : (b : Bool) → nat_lt number given ≡ b → place number (put_ahead given rows body fate) ≡ Some kept
+    go true low = ap (option_map (λ (row : Row). row.fate)) (put_others given rows body fate number (grind (arith, nat_tests, low))) ∙ e
+    go false high =
+        let none = not_found given number rows numbered (grind (arith, nat_tests, high)) in
+        let no : None ≡ Some kept = sym (ap (option_map (λ (row : Row). row.fate)) none) ∙ e in
+        absurd cc

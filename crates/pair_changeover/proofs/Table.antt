@@ -1,17 +1,18 @@
 -- THE TABLE: what each change of a set's rows does to what is pending on a link, and aside. A new message stands last
--- or elsewhere (`queue_waits`, `queue_apart`); sending and acknowledging change nothing (`queue_sent`, `queue_acked`),
+-- or elsewhere (`queue_waits`, `queue_apart`), and an order ahead of users' messages (`ahead_there`); sending and acknowledging change nothing (`queue_sent`, `queue_acked`),
 -- as pending is counted from what the far end accepted; what it accepts leaves first (`queue_accepted`); a link that
 -- settles leaves its queue behind the target's or aside (`queue_settled`, `aside_settled`). Equations on lists, from
 -- set_model's Events.antt; only `drop_twice` and its like are inductions. Used by Changes.antt, Turning.antt,
 -- Passing.antt, Obeying.antt, Hearing.antt and Keeping.antt.
-use Rattle.std.proofs.Common.{refl, arith, ◌≡◌, ◌∙◌, ap, sym, ℕ, zero, suc, ◌≤◌, ◌==◌, ◌+◌, ◌-◌, true, false, List, [], ◌∷◌, ◌++◌, length, map, take, drop, slice_get, Some, append_assoc}
+use Rattle.std.proofs.Common.{refl, arith, ◌≡◌, ◌∙◌, ap, sym, ℕ, zero, suc, ◌≤◌, ◌==◌, ◌+◌, ◌-◌, Bool, true, false, List, [], ◌∷◌, ◌++◌, length, map, take, drop, slice_get, Some, append_assoc}
 use Rattle.std.proofs.lemmas.List.{append-nil, map-append, drop-append-le, take-append-drop}
 use Rattle.set_events.specs.declared.answer.Fate.{Fate}
 use Rattle.set_events.specs.declared.answer.Fate.TheVariants.{Waiting, Unacked, Acked, Parked}
-use Rattle.set_model.specs.Rows.{Row, is_on, is_waiting, is_unacked, is_held, is_parked, all_with, unack, wait, held, parked, with_fate, turned, moved, appended, IsInOrder, IsHeldLast}
+use Rattle.set_model.specs.Rows.{Row, is_on, is_waiting, is_unacked, is_held, is_parked, all_with, unack, wait, held, parked, with_fate, turned, moved, appended, put_ahead, is_users, same_fate, standing, IsInOrder, IsHeldLast}
 use Rattle.set_model.proofs.Events.{Untouched, acknowledged, sent, moved_to, moved_aside, unparked, appended_in, appended_out, untouched}
 use Rattle.set_model.proofs.Rows.{new_row}
 use Rattle.pair_model.specs.Run.{Message, messages}
+use Rattle.pair_changeover.specs.Diverted.{is_from_users, ahead_of_users}
 use Rattle.pair_changeover.proofs.Views.{queue}
 
 pub joined : (xs ys : List Row) → messages (xs ++ ys) ≡ messages xs ++ messages ys
@@ -84,6 +85,37 @@ module _ (count link number : ℕ) (rows : List Row) (body : List ℕ) (fate : F
 
   pub aside_apart : is_parked fate ≡ false → messages (parked (appended number rows body fate)) ≡ messages (parked rows)
   aside_apart p = ap messages (appended_out number rows body fate is_parked p)
+
+-- AN ORDER stands ahead of the users' messages that wait where it does
+pub joins_at : (sent front rest kept : List Row) → messages (sent ++ (front ++ rest) ++ kept) ≡ messages (sent ++ front) ++ messages (rest ++ kept)
+joins_at sent front rest kept =
+    ap messages (ap (λ (xs : List Row). xs ++ kept) (sym (append_assoc sent front rest)) ∙ append_assoc (sent ++ front) rest kept)
+    ∙ joined (sent ++ front) (rest ++ kept)
+
+-- with no order nothing is ahead
+pub ahead_none : (ms : List Message) → ahead_of_users [] ms ≡ ms
+ahead_none [] = refl
+ahead_none (m ∷ ms) = go (is_from_users m) refl (ahead_none ms)
+  where
+    go : (b : Bool) → is_from_users m ≡ b → ahead_of_users [] ms ≡ ms → ahead_of_users [] (m ∷ ms) ≡ m ∷ ms
+    go true e later = rw e refl
+    go false e later = rw e (ap (λ (xs : List Message). m ∷ xs) later)
+
+module _ (number : ℕ) (body : List ℕ) (fate : Fate) (own : same_fate fate fate ≡ true) where
+  abbrev there : List Row → List Message
+  there rows = messages (standing (λ f. same_fate f fate) rows)
+
+  pub ahead_there : (rows : List Row) → there (put_ahead number rows body fate) ≡ ahead_of_users (new_message number body ∷ []) (there rows)
+  ahead_there [] = rw own refl
+  ahead_there (x ∷ rows) = go (same_fate x.fate fate) refl (is_users x) refl (ahead_there rows)
+    where
+      go : (b : Bool) → same_fate x.fate fate ≡ b → (u : Bool) → is_users x ≡ u
+          → there (put_ahead number rows body fate) ≡ ahead_of_users (new_message number body ∷ []) (there rows)
+          → there (put_ahead number (x ∷ rows) body fate) ≡ ahead_of_users (new_message number body ∷ []) (there (x ∷ rows))
+      go true e true u later = rw (u, e, own, e, u) refl
+      go true e false u later = rw (u, e, u) (ap (λ (xs : List Message). new_message x.number x.body ∷ xs) later)
+      go false e true u later = rw (u, e, e) later
+      go false e false u later = rw (u, e) later
 
 -- A FIRST SENDING: the first that waits is the last that was sent
 sends_on : (count : ℕ) (sent waiting kept : List Row) (fate : Fate) → count ≤ length sent

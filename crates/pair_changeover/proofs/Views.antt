@@ -2,8 +2,8 @@
 -- or acknowledgements occur here. `Orders` is what holds of them all along: each tells what its end counts, none is
 -- about a link that is up here or settled there, and of each other link there is at most one, on another link.
 -- `carries` says that a change in which no order is made keeps it (`Passes`), `queued_in` that a new order about a link
--- that was just left does (`Queues`). It's argued by where a message came from, on views alone; only `among_joined` is
--- an induction. Changes.antt takes both to states; the words are used all through this crate and pair_streams.
+-- that was just left does (`Queues`). It's argued by where a message came from, on views alone; only `among_joined`
+-- and its like are inductions. Changes.antt takes both to states; the words are used all through this crate and pair_streams.
 use Rattle.std.proofs.Common.{refl, ◌≡◌, ◌≢◌, ◌∙◌, ap, sym, subst, ℕ, Bool, true, false, List, [], ◌∷◌, ◌++◌, Some, ◌⊎◌, inl, inr}
 use Rattle.l3_orders.specs.declared.order.Order.{Order}
 use Rattle.l3_orders.specs.declared.order.Order.TheVariants.{Coo, Coa, Cbd, Cba, Eco, Eca}
@@ -41,6 +41,15 @@ among_joined m (x ∷ xs) ys (inr a) = go (among_joined m xs ys a)
     go : Among m xs ⊎ Among m ys → Among m (x ∷ xs) ⊎ Among m ys
     go (inl b) = inl (inr b)
     go (inr b) = inr b
+
+pub among_front : (m : Message) (xs ys : List Message) → Among m xs → Among m (xs ++ ys)
+among_front m [] ys a = absurd a
+among_front m (x ∷ xs) ys (inl e) = inl e
+among_front m (x ∷ xs) ys (inr a) = inr (among_front m xs ys a)
+
+pub among_behind : (m : Message) (xs ys : List Message) → Among m ys → Among m (xs ++ ys)
+among_behind m [] ys a = a
+among_behind m (x ∷ xs) ys a = inr (among_behind m xs ys a)
 
 -- on a link, or on none
 pub data In (m : Message) (v : View) : Type 0 where

@@ -1,13 +1,12 @@
 -- HOW A LINK GOES ON at an end by what isn't its own sending, hearing or coming up (`Follows`): unless it's settled
--- then, it wasn't settled before, its control, count and unacknowledged messages are the same, and more may wait for
--- it, last. There's a lemma for each event, from `offer_follows` to `timeout_follows`, and `takes_follows` for what an
+-- then, it wasn't settled before, and its control, count and unacknowledged messages are the same; what waits for it may
+-- be another. There's a lemma for each event, from `offer_follows` to `timeout_follows`, and `takes_follows` for what an
 -- accepted body leads to. Of other links it's a walk of small changes (`others`, set_model's Walk.antt); the link
 -- itself settles, or isn't touched. Only `released_follow` is an induction, on the codes. Tied.antt takes a tie on by
 -- it; Pairs.antt, Moving.antt and Hearing.antt use the lemmas.
 use Rattle.set_model.specs.Step.{is_heard}
-use Rattle.std.proofs.Common.{refl, ◌≡◌, ◌≢◌, ◌∙◌, ap, sym, subst, ℕ, zero, suc, ◌<◌, ◌==◌, Bool, true, false, List, [], ◌∷◌, ◌++◌, length, map, slice_get, slice_set, Option, Some, None, append_assoc, cond, inl, inr}
+use Rattle.std.proofs.Common.{refl, ◌≡◌, ◌≢◌, ◌∙◌, ap, sym, subst, ℕ, zero, suc, ◌<◌, ◌==◌, Bool, true, false, List, length, slice_get, slice_set, Option, Some, None, cond, inl, inr}
 use Rattle.std.proofs.lemmas.Bool.{eqb-true}
-use Rattle.std.proofs.lemmas.List.{append-nil}
 use Rattle.l2_units.specs.declared.unit.Unit.{Unit as SignalUnit}
 use Rattle.l2_units.specs.Grammar.{head_of as header_in}
 use Rattle.l3_orders.specs.declared.order.Order.{Order}
@@ -27,22 +26,22 @@ use Rattle.set_model.specs.declared.phase.Phase.{Phase}
 use Rattle.set_model.specs.declared.phase.Phase.TheVariants.{Up, Down, Settled}
 use Rattle.set_model.specs.declared.reached.Reached.{Reached}
 use Rattle.set_model.specs.declared.reached.Reached.TheVariants.{Upto, Unknown, Unanswered}
-use Rattle.set_model.specs.Rows.{Row, standing, is_waiting, is_unacked, is_back, is_back_to, stands_back, unack, wait, on, all_with, appended, moved, fated, with_fate, service_indicator, stream_of}
+use Rattle.set_model.specs.Rows.{Row, is_unacked, is_back, is_back_to, stands_back, unack, all_with, appended, moved, service_indicator, stream_of}
 use Rattle.set_model.specs.State.{given, LinkState, State, link_count, link_is_up, has_phase_up, has_phase_settled, is_up, fate_at, target, window_of, with_link}
 use Rattle.set_model.specs.Control.{part_of}
 use Rattle.set_model.specs.Changeover.{Obeyed, fate_on, answered_link, left_link, acknowledged as acknowledged_link, settled_link, moved_over, queued, out_of_service, left_by, leaving_order, declared, some_declare, released, released_from, some_in_use, acknowledged_back, is_reasonable, judged, settled, changed_over, answered, at_link, order_obeyed, obeyed, reply_of}
 use Rattle.set_model.specs.Step.{Outcome, refused, offer_refusal, offered, is_msu, brought, takes, after_control, controls, heard, falls, gives_up, comes_back, runs_out, with_known, in_service, step}
 use Rattle.set_model.specs.Frame.{LeavesAlone}
-use Rattle.set_model.proofs.Events.{Untouched, acknowledged, moved_to, left as left_by_rows, appended_in, appended_out, untouched}
-use Rattle.set_model.proofs.Rows.{new_row, moved_same, moved_more}
+use Rattle.set_model.proofs.Events.{Untouched, acknowledged, moved_to, left as left_by_rows, appended_out, untouched}
+use Rattle.set_model.proofs.Rows.{moved_same}
 use Rattle.set_model.proofs.Framing.{leaves_alone}
+use Rattle.set_model.proofs.Ahead.{put_apart}
 use Rattle.set_model.proofs.Lists.{get_set_same, get_set_other, same_at, within, length_set, target_up}
-use Rattle.set_model.proofs.Places.{false_true, itself, apart, not_on_unacked, not_on_waiting, back_not_on, code_back, home_back}
+use Rattle.set_model.proofs.Places.{false_true, itself, apart, not_on_unacked, back_not_on, code_back, home_back}
 use Rattle.set_model.proofs.Staying.{offered_out}
 use Rattle.set_model.proofs.Walk.{IsAt, KeptBy, Touches, settle_walks, declare_walks, obeys_walks}
 
--- it wasn't settled before; its control, its count and its unacknowledged messages are the same; and messages may have
--- come to wait for it, last
+-- it wasn't settled before, and its control, its count and its unacknowledged messages are the same
 pub record GoesOn (l : ℕ) (s t : State) (after : LinkState) : Type 0 where
   pub link : LinkState
   pub there : slice_get s.links l ≡ Some link
@@ -51,16 +50,14 @@ pub record GoesOn (l : ℕ) (s t : State) (after : LinkState) : Type 0 where
   pub profile : after.profile ≡ link.profile
   pub acked : after.acked ≡ link.acked
   pub unack_same : unack l t.rows ≡ unack l s.rows
-  pub more : List Row
-  pub wait_more : wait l t.rows ≡ wait l s.rows ++ more
 
 -- where it isn't settled then
 abbrev pub Follows : ℕ → State → State → Type 0
 Follows l s t = (after : LinkState) → slice_get t.links l ≡ Some after → has_phase_settled after.phase ≡ false → GoesOn l s t after
 
-pub follows_by : (l : ℕ) (s t : State) (more : List Row) → slice_get t.links l ≡ slice_get s.links l
-    → unack l t.rows ≡ unack l s.rows → wait l t.rows ≡ wait l s.rows ++ more → Follows l s t
-follows_by l s t more same unacked waiting = λ link there unsettled. record {
+pub follows_by : (l : ℕ) (s t : State) → slice_get t.links l ≡ slice_get s.links l
+    → unack l t.rows ≡ unack l s.rows → Follows l s t
+follows_by l s t same unacked = λ link there unsettled. record {
   link = link;
   there = sym same ∙ there;
   unsettled = unsettled;
@@ -68,18 +65,16 @@ follows_by l s t more same unacked waiting = λ link there unsettled. record {
   profile = refl;
   acked = refl;
   unack_same = unacked;
-  more = more;
-  wait_more = waiting;
 }
 
 pub follows_untouched : (l : ℕ) (s t : State) → slice_get t.links l ≡ slice_get s.links l → Untouched l s.rows t.rows → Follows l s t
-follows_untouched l s t same u = follows_by l s t [] same u.unack_same (u.wait_same ∙ sym (append-nil (wait l s.rows)))
+follows_untouched l s t same u = follows_by l s t same u.unack_same
 
 pub follows_same : (l : ℕ) (s : State) → Follows l s s
 follows_same l s = follows_untouched l s s refl (untouched l s.rows s.rows refl)
 
 pub follows_alone : (l : ℕ) (s t : State) → LeavesAlone l s t → Follows l s t
-follows_alone l s t a = follows_by l s t a.more a.link_same a.unack_same a.wait_more
+follows_alone l s t a = follows_by l s t a.link_same a.unack_same
 
 pub follows_then : (l : ℕ) (a b c : State) → Follows l a b → Follows l b c → Follows l a c
 follows_then l a b c p q = λ link there unsettled.
@@ -93,8 +88,6 @@ follows_then l a b c p q = λ link there unsettled.
       profile = y.profile ∙ x.profile;
       acked = y.acked ∙ x.acked;
       unack_same = y.unack_same ∙ x.unack_same;
-      more = x.more ++ y.more;
-      wait_more = y.wait_more ∙ ap (λ (xs : List Row). xs ++ y.more) x.wait_more ∙ append_assoc (wait l a.rows) x.more y.more;
     }
 
 -- one that settled needn't have gone on so
@@ -112,32 +105,25 @@ follows_set l m link s t d links u =
 -- a new message that wasn't sent
 follows_new : (l : ℕ) (body : List ℕ) (fate : Fate) (s t : State) → is_unacked l fate ≡ false
     → slice_get t.links l ≡ slice_get s.links l → t.rows ≡ appended (given s) s.rows body fate → Follows l s t
-follows_new l body fate s t unsent links rows = go (is_waiting l fate) refl
-  where
-    unacked : unack l t.rows ≡ unack l s.rows
-    unacked = ap (unack l) rows ∙ appended_out (given s) s.rows body fate (is_unacked l) unsent
-
-    go : (b : Bool) → is_waiting l fate ≡ b → Follows l s t
-    go true e = follows_by l s t (new_row (given s) body fate ∷ []) links unacked (ap (wait l) rows ∙ appended_in (given s) s.rows body fate (is_waiting l) e)
-    go false e = follows_by l s t [] links unacked
-        (ap (wait l) rows ∙ appended_out (given s) s.rows body fate (is_waiting l) e ∙ sym (append-nil (wait l s.rows)))
+follows_new l body fate s t unsent links rows =
+    follows_by l s t links (ap (unack l) rows ∙ appended_out (given s) s.rows body fate (is_unacked l) unsent)
 
 waits_or_parked : (l : ℕ) (to : Option ℕ) → is_unacked l (fate_on to) ≡ false
 waits_or_parked l None = refl
 waits_or_parked l (Some to) = refl
 
 pub follows_queued : (l : ℕ) (order : Order) (s : State) → Follows l s (queued order s)
-follows_queued l order s = follows_new l (text s.settings.profile order s.settings.sio s.settings.dpc s.settings.opc)
-    (fate_on (target s.links)) s (queued order s) (waits_or_parked l (target s.links)) refl refl
+follows_queued l order s = follows_by l s (queued order s) refl
+    (put_apart (given s) s.rows (text s.settings.profile order s.settings.sio s.settings.dpc s.settings.opc)
+    (fate_on (target s.links)) (is_unacked l) (waits_or_parked l (target s.links)))
 
 -- what stood back comes to wait for it, or for others
 follows_turned : (l : ℕ) (test : Fate → Bool) (fate : Row → Fate) (s t : State)
     → ((f : Fate) → test f ≡ true → stands_back f ≡ true) → ((row : Row) → is_unacked l (fate row) ≡ false)
     → t.links ≡ s.links → t.rows ≡ moved test fate s.rows → Follows l s t
 follows_turned l test fate s t back unsent links rows =
-    follows_by l s t (wait l (map (fated fate) (standing test s.rows))) (ap (λ (ls : List LinkState). slice_get ls l) links)
+    follows_by l s t (ap (λ (ls : List LinkState). slice_get ls l) links)
     (ap (unack l) rows ∙ moved_same test (is_unacked l) fate s.rows unsent (λ f e. not_on_unacked l f (back_not_on l f (back f e))))
-    (ap (wait l) rows ∙ moved_more test (is_waiting l) fate s.rows (λ f e. not_on_waiting l f (back_not_on l f (back f e))))
 
 follows_released : (l code : ℕ) (s : State) → Follows l s (released code s)
 follows_released l code s = follows_turned l (is_back code) (all_with (Waiting _)) s (released code s) (code_back code) (λ row. refl) refl refl
@@ -162,8 +148,6 @@ out_follows l blind m link s at = go (m == l) refl
           profile = ap (λ (k : LinkState). k.profile) is;
           acked = ap (λ (k : LinkState). k.acked) is;
           unack_same = refl;
-          more = [];
-          wait_more = sym (append-nil (wait l s.rows));
         }
 
 pub follows_left : (l : ℕ) (blind : Bool) (m : ℕ) (link : LinkState) (s : State) → IsAt m link Up s → Follows l s (left_by blind m link s)
@@ -189,9 +173,9 @@ follows_off told l m link s d at = go (target s.links) refl
     joins to e true f =
         let same : l ≡ to = sym (eqb-true to l f) in
         let moved = moved_to m to s.rows (apart_target to e) in
-        follows_by l s (moved_over told m link s) (map (with_fate (Waiting to)) (on m s.rows))
+        follows_by l s (moved_over told m link s)
         (get_set_other s.links m l (settled_link told link) (λ eq. false_true (m == l) d (rw eq (itself l))))
-        (rw (e, same) moved.unack_same) (rw (e, same) moved.wait_is)
+        (rw (e, same) moved.unack_same)
 
     go : (to : Option ℕ) → target s.links ≡ to → Follows l s (moved_over told m link s)
     go None e = follows_set l m (settled_link told link) s (moved_over told m link s) d refl (rw e ((left_by_rows m Parked s.rows refl refl).others l d refl))
@@ -243,8 +227,6 @@ marks l link s there = λ after found unsettled.
       profile = ap (λ (k : LinkState). k.profile) is;
       acked = ap (λ (k : LinkState). k.acked) is;
       unack_same = refl;
-      more = [];
-      wait_more = sym (append-nil (wait l s.rows));
     }
 
 over_own : (reached : Reached) (l : ℕ) (link : LinkState) (phase : Phase) (s : State) → slice_get s.links l ≡ Some link

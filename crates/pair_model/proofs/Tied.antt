@@ -1,8 +1,8 @@
 -- THE TIE of a link of two ends to the law of one link: a world of the law that a run leads to, whose messages are the
 -- numbers of the rows that are sent on the link (`Tied`). It stays while rows keep their bodies (`stand_kept`,
 -- `units_kept`), is the same seen from the other end (`turned`, by induction on the law's run), and goes on with the
--- link (`follows`, by Following.antt): each message that comes to wait is offered in the law's world, each that waits
--- no longer is taken back (`withdraws`), one after another. `lost` is of a unit that leaves the line. Used by
+-- link (`follows`, by Following.antt): in the law's world all that wait are taken back, and what waits then is offered,
+-- one after another (`anew`); the first that wait no longer are taken back (`withdraws`). `lost` is of a unit that leaves the line. Used by
 -- Sending.antt, Hearing.antt, Rising.antt, Moving.antt, Pairs.antt and Kept.antt.
 use Rattle.l2_units.specs.declared.profile.Profile.{Profile}
 use Rattle.l2_window.specs.Window.{fsn_before_first, fsn_count}
@@ -10,6 +10,7 @@ use Rattle.std.proofs.Common.{refl, arith, ◌≡◌, ◌∙◌, ap, sym, subst,
 use Rattle.std.proofs.lemmas.Bool.{ltb-true}
 use Rattle.std.proofs.lemmas.List.{append-nil, drop-map}
 use Rattle.std.proofs.lemmas.Option.{same_Some}
+use Rattle.std.proofs.Math.ListN.{drop_of_length-le}
 use Rattle.std.specs.Option.{option_map}
 use Rattle.l2_units.specs.declared.unit.Unit.{Unit as SignalUnit}
 use Rattle.l2_units.specs.declared.unit.Unit.TheVariants.{Fisu, Lssu, Msu}
@@ -206,7 +207,7 @@ pub same_window : {p p' : Profile} {last last' : ℕ} {unacked unacked' unsent u
     (record { profile = p'; last = last'; unacked = unacked'; unsent = unsent'; room = 0 })
 same_window d a b c = rw (d, a, b, c) refl
 
--- A LINK THAT GOES ON: each message that comes to wait is offered, and each that waits no longer is taken back.
+-- A LINK THAT GOES ON: what waits is taken back, and what waits then is offered.
 abbrev pub waiting : List ℕ → LinkWorld Control → LinkWorld Control
 waiting unsent w = record w { near = record w.near { window = record w.near.window { unsent = unsent } } }
 
@@ -249,6 +250,13 @@ take_all_back p near far (suc n) (m ∷ unsent) w e r =
     } in
     take_all_back p near far n unsent one refl (steps w one r (takes_back w one back))
 
+anew : (p : Profile) (near far : Control) (new : List ℕ) (w : LinkWorld Control) → Run rules p near far w → Run rules p near far (waiting new w)
+anew p near far new w r =
+    let unsent = w.near.window.unsent in
+    let none : drop (length unsent) unsent ≡ [] = drop_of_length-le unsent (omega arith) in
+    let empty = rw none at (take_all_back p near far (length unsent) unsent w refl r) in
+    push_all p near far new (waiting [] w) empty
+
 module _ (l : ℕ) (mx my : Method) (x y : Side) (out back : List SignalUnit) (s : State)
     (keep : KeepBodies x.state.rows s.rows) (count : CountStays l x.state s) where
   abbrev moved : Side
@@ -267,12 +275,12 @@ module _ (l : ℕ) (mx my : Method) (x y : Side) (out back : List SignalUnit) (s
     back = t.back;
   }
 
-  ends : (t : Tied l mx my x y out back) → (more : List ℕ) → Goes l (pushed more t.world).near s → Tied l mx my moved y out back
-  ends t more goes = record {
+  ends : (t : Tied l mx my x y out back) → (new : List ℕ) → Goes l (waiting new t.world).near s → Tied l mx my moved y out back
+  ends t new goes = record {
     profile = t.profile;
-    world = pushed more t.world;
-    run = push_all t.profile (start_of mx) (start_of my) more t.world t.run;
-    ties = tells_on (t.world.near.window.unsent ++ more) t.world t.ties goes;
+    world = waiting new t.world;
+    run = anew t.profile (start_of mx) (start_of my) new t.world t.run;
+    ties = tells_on new t.world t.ties goes;
   }
 
   -- the first that waited wait no longer, and nothing else changes
@@ -306,15 +314,14 @@ module _ (l : ℕ) (mx my : Method) (x y : Side) (out back : List SignalUnit) (s
       at link there false e =
           let g = f link there e in
           let old = t.ties.near_goes g.link g.there g.unsettled in
-          ends t (numbers g.more) (λ other found unsettled.
+          ends t (numbers (wait l s.rows)) (λ other found unsettled.
           let same : link ≡ other = same_Some link other (sym there ∙ found) in
-          subst (λ (k : LinkState). IsGoing l (pushed (numbers g.more) t.world).near k s.rows) same (record {
+          subst (λ (k : LinkState). IsGoing l (waiting (numbers (wait l s.rows)) t.world).near k s.rows) same (record {
             control = old.control ∙ sym g.control;
-            window = ap (λ (v : WindowState). record v { unsent = v.unsent ++ numbers g.more }) old.window ∙ same_window
+            window = ap (λ (v : WindowState). record v { unsent = numbers (wait l s.rows) }) old.window ∙ same_window
                 (sym g.profile)
                 (rw (← g.profile) (ap (λ (k : ℕ). (k + fsn_before_first link.profile) % fsn_count link.profile) (sym g.acked)))
-                (sym (ap numbers g.unack_same))
-                (sym (ap numbers g.wait_more ∙ numbers_append (wait l x.state.rows) g.more));
+                (sym (ap numbers g.unack_same)) refl;
             acked = old.acked ∙ sym g.acked;
           }))
 

@@ -1,12 +1,10 @@
 -- A LINK IS SHOWN AS ANOTHER that counts the same, is up where it is, and is settled there at most (`IsLike`): what holds
 -- of both ends is kept, where the tie of that link is (`shows_holds`, `shows_streams`), and so is what holds of awaited
 -- links (`shows_near`, `shows_far`). So it's nothing to it how many late orders a link shows (`recounts_tied`).
-use Rattle.std.proofs.Common.{refl, ◌≡◌, ◌∙◌, ap, ap₂, sym, subst, ℕ, ◌==◌, ◌-◌, ◌+◌, ◌%◌, Bool, true, false, [], length, slice_get, Option, Some, inl}
-use Rattle.std.proofs.lemmas.List.{append-nil}
+use Rattle.std.proofs.Common.{refl, ◌≡◌, ◌∙◌, ap, ap₂, sym, subst, ℕ, ◌==◌, ◌-◌, ◌+◌, ◌%◌, Bool, true, false, length, slice_get, Option, Some, inl}
 use Rattle.l2_units.specs.declared.profile.Profile.{Profile}
 use Rattle.l2_window.specs.Window.{fsn_count, fsn_before_first}
 use Rattle.set_events.specs.declared.config.Method.{Method}
-use Rattle.set_model.specs.Rows.{wait}
 use Rattle.set_model.specs.Sound.{IsSound}
 use Rattle.set_model.specs.State.{LinkState, State, has_phase_up, has_phase_settled, is_up, is_settled, link_is_up, link_is_settled}
 use Rattle.set_model.proofs.Lists.{get_set_same, within, same_at, length_set}
@@ -173,8 +171,6 @@ module _ (mx my : Method) (p : Two) (h : HoldsOf mx my p) (k : ℕ) (link : Link
         profile = ap (λ (x : LinkState). x.profile) same;
         acked = ap (λ (x : LinkState). x.acked) same;
         unack_same = refl;
-        more = [];
-        wait_more = sym (append-nil (wait k p.near.rows));
       }
 
   pub recounts_tied : TiedAt k mx my (record p { near = counted })

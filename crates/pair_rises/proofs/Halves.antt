@@ -16,7 +16,7 @@ use Rattle.set_model.specs.Rows.{was_discarded, IsNumbered}
 use Rattle.set_model.specs.Sound.{IsSound}
 use Rattle.set_model.specs.State.{given, late_at, LinkState, State, has_phase_settled, is_settled, link_is_settled, target}
 use Rattle.set_model.specs.Step.{risen_link, step}
-use Rattle.set_model.proofs.Events.{appended_out}
+use Rattle.set_model.proofs.Ahead.{put_apart}
 use Rattle.set_model.proofs.Lists.{get_set_same, same_at, within}
 use Rattle.set_model.proofs.Places.{apart_back}
 use Rattle.set_model.proofs.Settling.{settled_empty}
@@ -143,7 +143,7 @@ told_halves p l fsn halves = (
   record {
     equal = halves.0.equal;
     acked = λ n. (small n (p.near_past.sent n) (λ m. Unit {0}) ⊥).queues (Coa l fsn) p.near (halves.0.acked n);
-    none_discarded = appended_out (given p.near) p.near.rows
+    none_discarded = put_apart (given p.near) p.near.rows
         (text p.near.settings.profile (Coa l fsn) p.near.settings.sio p.near.settings.dpc p.near.settings.opc)
         (fate_on (target p.near.links)) was_discarded (not_discarded (target p.near.links)) ∙ halves.0.none_discarded;
     codes = halves.0.codes;

@@ -3,7 +3,6 @@
 -- is as it is (`seen_tied`). So a unit that an end hears keeps it, whatever order it brings (`hears`), and so do a life that
 -- begins (`begins`), the end that joins it (`joins`) or fills its line (`fills`), and what is lost (`loses`).
 use Rattle.std.proofs.Common.{refl, arith, ◌≡◌, ◌∙◌, ap, sym, subst, ℕ, ◌<◌, ◌==◌, Bool, true, false, List, [], ◌∷◌, length, slice_get, Option, Some, None, ◌⊎◌, inl, inr, cond}
-use Rattle.std.proofs.lemmas.List.{append-nil}
 use Rattle.l2_units.specs.declared.profile.Profile.{Profile}
 use Rattle.l2_units.specs.declared.unit.Unit.{Unit as SignalUnit}
 use Rattle.pair_steps.specs.Lines.{units_on, with_units, without, joined_on}
@@ -15,7 +14,6 @@ use Rattle.set_events.specs.declared.answer.Report.{Report}
 use Rattle.set_events.specs.declared.config.Method.{Method}
 use Rattle.set_events.specs.declared.event.Event.TheVariants.{Heard as HeardEvent, Up as UpEvent}
 use Rattle.set_model.specs.declared.phase.Phase.TheVariants.{Up, Settled}
-use Rattle.set_model.specs.Rows.{wait}
 use Rattle.set_model.specs.Sound.{IsSound}
 use Rattle.set_model.specs.State.{LinkState, State, Settings, is_settled}
 use Rattle.set_model.specs.Step.{Outcome, report_of, controls, step}
@@ -108,8 +106,6 @@ module _ (l : ℕ) (told then : ℕ → Cover) (s t : State) (sound : IsSound s)
         profile = g.profile;
         acked = g.acked;
         unack_same = g.unack_same;
-        more = g.more;
-        wait_more = g.wait_more;
       }
 
   awaited_follows : told l ≡ awaited → then l ≡ awaited → Follows l was now
@@ -128,8 +124,6 @@ module _ (l : ℕ) (told then : ℕ → Cover) (s t : State) (sound : IsSound s)
         profile = ap (λ (x : LinkState). x.profile) is;
         acked = ap (λ (x : LinkState). x.acked) is;
         unack_same = none_later.unack_none ∙ sym none_before.unack_none;
-        more = [];
-        wait_more = none_later.wait_none ∙ sym (append-nil (wait l s.rows) ∙ none_before.wait_none);
       }
 
   missed_follows : then l ≡ missed → Follows l was now

@@ -2,8 +2,8 @@
 -- that it left too, and settles it, which moves nothing; and the end acknowledges, with the number of a link on which
 -- nothing was accepted. `told_holds` and `told_streams` say that what holds of both ends is kept when an end queues such
 -- an acknowledgement about a link that isn't up at it, about which none stands there, and that the far end hasn't settled.
-use Rattle.std.proofs.Common.{◌⊎◌, inl, inr, refl, arith, ◌≡◌, ◌∙◌, ap, ap₂, sym, subst, ℕ, zero, suc, ◌<◌, ◌≤◌, ◌==◌, slice_set, slice_index_or, ◌%◌, Bool, true, false, not, List, [], ◌∷◌, ◌++◌, length, map, slice_get, Option, Some, None, cond}
-use Rattle.std.proofs.lemmas.Bool.{eq-eqb, eqb-true, leb-true}
+use Rattle.std.proofs.Common.{◌⊎◌, inl, inr, refl, arith, ◌≡◌, ◌∙◌, ap, ap₂, sym, subst, ℕ, zero, suc, ◌<◌, ◌≤◌, ◌==◌, slice_set, slice_index_or, Bool, true, false, not, List, [], ◌∷◌, ◌++◌, length, map, slice_get, Option, Some, None, cond}
+use Rattle.std.proofs.lemmas.Bool.{eqb-true, leb-true}
 use Rattle.std.proofs.lemmas.List.{append-nil, length-map}
 use Rattle.l2_window.specs.Window.{fsn_count, fsn_before_first}
 use Rattle.l3_orders.specs.declared.order.Order.{Order}
@@ -28,7 +28,7 @@ use Rattle.set_events.specs.declared.config.Method.{Method}
 use Rattle.set_model.specs.Changeover.{fate_on, queued, settled, settled_link, moved_over, is_reasonable, reached_by, acknowledged, acknowledged_by, discarded, reply_of, answered_link, one_later, order_obeyed, obeyed}
 use Rattle.set_model.specs.Step.{Outcome, with_known, brought, takes, controlled, controls, part_in, is_heard, risen_link, rises, step}
 use Rattle.set_model.specs.Laws.{IsEmptyLink}
-use Rattle.set_model.specs.Rows.{Row, unack, on, is_on, is_unacked, is_waiting, all_with, body_at, appended, standing, turned, changed, moved, with_fate, fated, service_indicator}
+use Rattle.set_model.specs.Rows.{Row, unack, on, is_on, is_unacked, is_waiting, all_with, put_ahead, standing, turned, changed, moved, with_fate, fated, service_indicator}
 use Rattle.set_model.specs.Sound.{IsSound, IsPlaced}
 use Rattle.set_model.specs.State.{late_at, late_in, LinkState, State, Settings, given, with_link, target, has_phase_up, has_phase_settled, is_up, is_settled, link_is_settled}
 use Rattle.set_model.proofs.Events.{Untouched, acknowledged as acks, empty_link}
@@ -44,7 +44,7 @@ use Rattle.pair_model.specs.Run.{Message}
 use Rattle.pair_model.proofs.Counts.{CountStays}
 use Rattle.pair_model.proofs.Following.{follows_queued}
 use Rattle.pair_model.proofs.Pairs.{Two, HoldsOf}
-use Rattle.pair_model.proofs.Tied.{KeepBodies, follows}
+use Rattle.pair_model.proofs.Tied.{follows}
 use Rattle.pair_changeover.proofs.Changes.{queues_both}
 use Rattle.pair_changeover.proofs.Texts.{coa_read, plain_in}
 use Rattle.pair_changeover.proofs.Views.{view, last_on, About, IsChangeover, NoneAbout, In}
@@ -52,18 +52,9 @@ use Rattle.pair_streams.proofs.Acting.{Streams}
 use Rattle.pair_streams.proofs.Codes.{far_carried, far_in}
 use Rattle.pair_streams.proofs.Declared.{coa_declares, coa_acknowledges}
 use Rattle.pair_streams.proofs.Flows.{order_in, order_z, queues_flow, queues_acks}
-use Rattle.pair_streams.proofs.Known.{covers_appended}
-use Rattle.pair_streams.proofs.Rising.{rise_further, one_more}
-
--- what comes last hides no body
-joined_bodies : (rows more : List Row) → KeepBodies rows (rows ++ more)
-joined_bodies [] more number body e = absurd (let no : None ≡ Some body = e in cc)
-joined_bodies (x ∷ rows) more number body e = go (x.number == number) refl (joined_bodies rows more number body)
-  where
-    go : (b : Bool) → (x.number == number) ≡ b → (body_at number rows ≡ Some body → body_at number (rows ++ more) ≡ Some body)
-        → body_at number (x ∷ rows ++ more) ≡ Some body
-    go true h later = let f : Some x.body ≡ Some body = rw h at e in rw h f
-    go false h later = rw h (later (rw h at e))
+use Rattle.set_model.proofs.Ahead.{put_bodies, put_length}
+use Rattle.pair_streams.proofs.Known.{order_covers}
+use Rattle.pair_streams.proofs.Rising.{rise_further}
 
 module _ {emergencies : Bool} (mx my : Method) (p : Two) (h : HoldsOf mx my p) (w : Streams emergencies p) (l fsn : ℕ)
     (few : l < 16) (small : fsn < fsn_count p.near.settings.profile) (is : fsn ≡ last_on l p.near)
@@ -93,11 +84,8 @@ module _ {emergencies : Bool} (mx my : Method) (p : Two) (h : HoldsOf mx my p) (
     far_links = h.far_links;
     out_lines = h.out_lines;
     back_lines = h.back_lines;
-    ties = λ n. follows n mx my _ _ _ _ told (joined_bodies p.near.rows _) (same_counts n) (follows_queued n coa p.near) (h.ties n);
+    ties = λ n. follows n mx my _ _ _ _ told (put_bodies (given p.near) p.near.rows body (fate_on (target p.near.links)) h.near_sound.numbered) (same_counts n) (follows_queued n coa p.near) (h.ties n);
   }
-
-  is_managed : (service_indicator body == 0) ≡ true
-  is_managed = eq-eqb (p.near.settings.sio % 16) 0 h.near_sound.managed
 
   pub told_streams : Streams emergencies told_two
   told_streams = record {
@@ -113,11 +101,10 @@ module _ {emergencies : Bool} (mx my : Method) (p : Two) (h : HoldsOf mx my p) (
         p.near_past.offered p.far_past.got w.out_lost w.out;
     back = far_carried p.near told p.far (λ n. refl) p.far_past.offered p.near_past.got w.back_lost
         (queues_acks coa p.near p.far h.near_sound (λ c a. coa_acknowledges p.near.settings l (given p.near) fsn c a)) w.back;
-    near_covers = covers_appended _ _ p.near told body (fate_on (target p.near.links)) refl refl refl
-        (λ users. absurd (let no : true ≡ false = sym is_managed ∙ users in cc)) w.near_covers;
+    near_covers = order_covers _ _ coa p.near w.near_covers;
     far_covers = w.far_covers;
     near_rises = λ stream. rise_further 0 (p.near_past.offered stream) (given p.near) (given told)
-        (let one = one_more p.near told body (fate_on (target p.near.links)) refl refl in omega (arith, one)) (w.near_rises stream);
+        (omega (arith, put_length (given p.near) p.near.rows body (fate_on (target p.near.links)))) (w.near_rises stream);
     far_rises = w.far_rises;
     out_whole = w.out_whole;
     back_whole = w.back_whole;
@@ -276,7 +263,7 @@ module _ (l : ℕ) (m : State) (sound : IsSound m) (link : LinkState) (at : IsAt
       ap (λ (order : Order). veil (closed m.settings) l (with_link l (answered_link link) (queued order m))) is
       ∙ ap₂ (λ (ls : List LinkState) (o : Option ℕ). record m {
         links = ls;
-        rows = appended (given m) m.rows (text m.settings.profile (Coa l (fsn_before_first m.settings.profile)) m.settings.sio m.settings.dpc m.settings.opc) (fate_on o);
+        rows = put_ahead (given m) m.rows (text m.settings.profile (Coa l (fsn_before_first m.settings.profile)) m.settings.sio m.settings.dpc m.settings.opc) (fate_on o);
       }) (set_twice m.links l (answered_link link) (closed m.settings)) (sym to)
 
 -- A UNIT IS HEARD on link `k`, while link `l` is settled

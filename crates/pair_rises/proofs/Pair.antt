@@ -2,7 +2,6 @@
 -- end joins it (`joins_holds`, `joins_streams`), or fills its line before that (`fills_holds`). What holds of both ends
 -- in pair_model (`HoldsOf`) and in pair_streams (`Streams`) is kept, word for word.
 use Rattle.std.proofs.Common.{refl, arith, ◌≡◌, ◌∙◌, ap, sym, subst, ℕ, ◌<◌, ◌==◌, ◌-◌, Bool, true, false, List, [], ◌∷◌, ◌++◌, length, slice_get}
-use Rattle.std.proofs.lemmas.List.{append-nil}
 use Rattle.l2_units.specs.declared.unit.Unit.{Unit as SignalUnit}
 use Rattle.pair_steps.specs.Lines.{units_on, with_units, joined_on}
 use Rattle.set_events.specs.declared.config.Method.{Method}
@@ -11,7 +10,7 @@ use Rattle.set_events.specs.declared.answer.Fate.{Fate}
 use Rattle.set_events.specs.declared.answer.Fate.TheVariants.{Waiting, Parked}
 use Rattle.set_route.specs.Routing.{raised}
 use Rattle.set_model.specs.declared.phase.Phase.TheVariants.{Settled}
-use Rattle.set_model.specs.Rows.{wait, is_parked, is_back, all_with}
+use Rattle.set_model.specs.Rows.{is_parked, is_back, all_with}
 use Rattle.set_model.specs.Sound.{IsSound}
 use Rattle.set_model.specs.State.{LinkState, State, Settings, is_settled, link_is_settled}
 use Rattle.set_model.specs.Step.{step}
@@ -61,8 +60,6 @@ module _ (k : ℕ) (s : State) (cover : LinkState) where
     profile = refl;
     acked = refl;
     unack_same = refl;
-    more = [];
-    wait_more = sym (append-nil (wait l s.rows));
   }
 
   pub veil_counts : (l : ℕ) → (k == l) ≡ false → CountStays l s (veil cover k s)
@@ -80,8 +77,6 @@ module _ (k : ℕ) (s : State) (cover : LinkState) where
         profile = g.profile;
         acked = g.acked;
         unack_same = g.unack_same;
-        more = g.more;
-        wait_more = g.wait_more;
       }
 
   counts_from : (t : State) (l : ℕ) → (k == l) ≡ false → CountStays l s t → CountStays l (veil cover k s) t

@@ -5,7 +5,7 @@ use Rattle.set_model.specs.Changeover.{left_by}
 use Rattle.set_model.specs.Rows.{Row, wait, held}
 use Rattle.set_model.specs.State.{LinkState, State, has_phase_up, is_settled, link_is_settled, target}
 use Rattle.pair_model.specs.Run.{Message, Past, messages}
-use Rattle.pair_changeover.specs.Diverted.{Diverts, DivertsFrom, as_left, answer_on, queue_for}
+use Rattle.pair_changeover.specs.Diverted.{Diverts, DivertsFrom, ahead_of_users, as_left, answer_on, queue_for}
 use Rattle.pair_changeover.proofs.Whole.{SettlesSo}
 use Rattle.pair_rises.specs.Rises.{Cover, inside, awaited, missed, is_covered, seen_under}
 use Rattle.pair_rises.proofs.Veils.{Fits, seen_off, seen_target, seen_left}
@@ -52,7 +52,7 @@ module _ (told : ℕ → Cover) (s t : State) (fits : Fits told s) (fits_then : 
     where
       whole : Option ℕ → List Row → List Message → List Message
       whole to rows answer =
-          messages (queue_for to rows) ++ answer ++ drop (length (far.taken l)) (near.sent l) ++ messages (wait l rows) ++ messages (held l rows)
+          ahead_of_users answer (messages (queue_for to rows)) ++ drop (length (far.taken l)) (near.sent l) ++ messages (wait l rows) ++ messages (held l rows)
 
   pub bare_settles : SettlesSo near far (seen_under told s) (seen_under told t) → SettlesSo near far s t
   bare_settles so l before now =

@@ -37,7 +37,7 @@ use Rattle.pair_streams.proofs.Mixed.{Mixed}
 use Rattle.pair_streams.proofs.Filtered.{joins_none, both_true}
 use Rattle.pair_streams.proofs.Flowing.{back_by, queue_at, waits_by, Stands, none_back_by}
 use Rattle.pair_streams.proofs.Flows.{no_stream}
-use Rattle.pair_streams.proofs.Moving.{those_stay, grows_on, grows_aside, grows_back, in_new, queue_stays, stands_stays, apart_kept}
+use Rattle.pair_streams.proofs.Moving.{Comes, comes_last, those_stay, grows_on, grows_aside, in_new, queue_stays, stands_stays, apart_kept}
 
 is_free_so : (c : Code) → is_free c ≡ true → c ≡ Free
 is_free_so Free e = refl
@@ -94,8 +94,11 @@ module _ (home alternative : ℕ) (s f : State) (sound : IsSound s) (home_up : i
   tells : (c : ℕ) → Declares c z → c ≡ code
   tells c d = cbd_other s.settings home (given s) code c d
 
+  comes : Comes z (Waiting alternative) s then_s f
+  comes = comes_last s then_s f body (Waiting alternative) refl refl new_at
+
   was_there : (m : Message) → In m (view then_s f) → In m (view s f) ⊎ (m ≡ z)
-  was_there = in_new s then_s f body (Waiting alternative) refl refl new_at
+  was_there = in_new s then_s f z (Waiting alternative) comes
 
   on_grows : (l : ℕ) → Grows z (alternative == l) (pending l s f) (pending l then_s f)
   on_grows = grows_on s then_s f body (Waiting alternative) refl refl new_at
@@ -148,12 +151,12 @@ module _ (home alternative : ℕ) (s f : State) (sound : IsSound s) (home_up : i
         was = subst (λ (q : Place). Stands stream q s f) is (w.stands stream low)
 
         stands : Stands stream (On alternative) then_s f
-        stands = stands_stays s then_s f body (Waiting alternative) refl refl new_at stream (of_none stream) (On alternative) was
+        stands = stands_stays s then_s f z (Waiting alternative) comes stream (of_none stream) (On alternative) was
 
         back_none : those_of stream (back_by code then_s) ≡ []
         back_none =
             those_stay z stream (of_none stream) false (back_by code s) (back_by code then_s)
-            (grows_back s then_s f body (Waiting alternative) refl refl new_at code)
+            (comes.on_back code)
             ∙ none_back_by stream code s sound (ap (λ (q : Place). waits_by q code) is)
 
         clear_new : Clear stream code alternative (view then_s f)
@@ -175,7 +178,7 @@ module _ (home alternative : ℕ) (s f : State) (sound : IsSound s) (home_up : i
           here_is =
               ap (λ (q : Place). those_of stream (queue_at q then_s f)) then_is
               ∙ joins_none stream (pending alternative then_s f) (back_by code then_s) back_none
-              ∙ queue_stays s then_s f body (Waiting alternative) refl refl new_at stream (of_none stream) (On alternative)
+              ∙ queue_stays s then_s f z (Waiting alternative) comes stream (of_none stream) (On alternative)
               ∙ ap (λ (q : Place). those_of stream (queue_at q s f)) (sym is);
           stands = subst (λ (q : Place). Stands stream q then_s f) (sym then_is) (record { alone = stands.alone; none_aside = stands.none_aside });
           used = used_then;
@@ -199,7 +202,7 @@ module _ (home alternative : ℕ) (s f : State) (sound : IsSound s) (home_up : i
               asked_kept (runs_on_so alternative (place_of stream s.routing) runs.1)
               (place_then ∙ ap (λ (b : Bool). cond b (Changing home code alternative) (place_of stream s.routing))
               e)
-          go false e = apart_kept s then_s f body (Waiting alternative) refl refl new_at stream (of_none stream) offered
+          go false e = apart_kept s then_s f z (Waiting alternative) comes stream (of_none stream) offered
               got lost w low (place_then ∙ ap
               (λ (b : Bool). cond b (Changing home code alternative) (place_of stream s.routing)) e) used_then
               other_code

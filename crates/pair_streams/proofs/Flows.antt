@@ -1,10 +1,10 @@
--- A MESSAGE STANDS LAST at an end, and each stream: one that is offered (`offers_flow`), or an order that declares
+-- A MESSAGE COMES at an end, and each stream: one that is offered, last (`offers_flow`), or an order that declares
 -- nothing (`queues_flow`); `offers_acks` and `queues_acks` say that no acknowledgement comes to stand there. An order
 -- is of no stream (`no_stream`), so each has what it had. What is offered stands last where its stream runs, whether on
 -- a link, on its way back or nowhere (`grows_there`), as it's last of what was offered. It stands behind no
 -- declaration, since on the way back it waits by the code. Case by case on the place; Moving.antt has the other
 -- streams. Used by Acting.antt and Hearing.antt; declarations are Declaring.antt's.
-use Rattle.std.proofs.Common.{refl, ◌≡◌, ◌∙◌, ap, ap₂, sym, subst, ℕ, ◌<◌, ◌==◌, ◌-◌, ◌%◌, Bool, true, false, List, [], ◌∷◌, ◌++◌, Option, Some, None, append_assoc, cond, ◌⊎◌, inl, inr}
+use Rattle.std.proofs.Common.{refl, ◌≡◌, ◌∙◌, ap, ap₂, sym, subst, ℕ, ◌<◌, ◌==◌, ◌-◌, ◌%◌, Bool, true, false, List, [], ◌∷◌, ◌++◌, None, append_assoc, cond, ◌⊎◌, inl, inr}
 use Rattle.std.proofs.lemmas.Bool.{eqb-true, eq-eqb}
 use Rattle.l3_orders.specs.declared.order.Order.{Order}
 use Rattle.l3_orders.specs.Grammar.{text, label, link_of, heading_of, content_with}
@@ -17,10 +17,9 @@ use Rattle.set_route.proofs.Alone as route
 use Rattle.set_model.specs.Changeover.{fate_on, queued}
 use Rattle.set_model.specs.Rows.{stream_of, service_indicator, is_on, is_back, is_parked}
 use Rattle.set_model.specs.Sound.{IsSound}
-use Rattle.set_model.specs.State.{given, State, is_up, link_is_up, fate_at, target}
+use Rattle.set_model.specs.State.{given, State, is_up, fate_at, target}
 use Rattle.set_model.specs.Step.{offered as offered_step}
 use Rattle.set_model.proofs.Places.{itself, apart_back}
-use Rattle.set_model.proofs.Lists.{target_up}
 use Rattle.pair_model.specs.Run.{Message, added_at}
 use Rattle.pair_changeover.specs.Pending.{pending, aside, acked_on, accepted_on}
 use Rattle.pair_changeover.proofs.Changes.{Grows, grown, ungrown, IsNew, to_wait, to_hold, to_park, to_back, held_none}
@@ -33,21 +32,13 @@ use Rattle.pair_streams.proofs.Declared.{Declares, Acknowledges, NoneDeclares, C
 use Rattle.pair_streams.proofs.Mixed.{Mixed, mixed_last}
 use Rattle.pair_streams.proofs.Filtered.{those_joined}
 use Rattle.pair_streams.proofs.Flowing.{back_by, queue_at, here, runs_by, runs_nowhere, Stands}
-use Rattle.pair_streams.proofs.Moving.{those_out, those_in, grows_on, grows_aside, grows_back, in_new, apart_kept}
+use Rattle.pair_streams.proofs.Moving.{those_out, those_in, grows_on, grows_aside, grows_back, comes_last, comes_ahead, in_new, apart_kept}
 
 -- an order is of no stream
 pub no_stream : (stream : ℕ) (sio number : ℕ) (rest : List ℕ) → sio % 16 ≡ 0 → is_of stream (record { number = number; body = sio ∷ rest }) ≡ false
 no_stream stream sio number rest e = rw (eq-eqb (sio % 16) 0 e) refl
 
 -- AN ORDER IS QUEUED that declares nothing
-pub order_new : (s f : State) (l : ℕ) (body : List ℕ) → IsSound s → (to : Option ℕ) → target s.links ≡ to
-    → IsNew (accepted_on l f - acked_on l s) l (given s) s.rows body (fate_on to)
-order_new s f l body sound None e = to_park
-order_new s f l body sound (Some to) e =
-    to_wait to (λ same. held_none s l sound
-    (subst (λ (k : ℕ). is_up k s ≡ true) (eqb-true to l same)
-    (let up = target_up s.links to e in ap link_is_up up.1 ∙ up.2)))
-
 module _ (order : Order) (s f : State) (sound : IsSound s) where
   abbrev body : List ℕ
   body = text s.settings.profile order s.settings.sio s.settings.dpc s.settings.opc
@@ -55,11 +46,8 @@ module _ (order : Order) (s f : State) (sound : IsSound s) where
   abbrev pub order_z : Message
   order_z = new_message (given s) body
 
-  new_at : (l : ℕ) → IsNew (accepted_on l f - acked_on l s) l (given s) s.rows body (fate_on (target s.links))
-  new_at l = order_new s f l body sound (target s.links) refl
-
   pub order_in : (m : Message) → In m (view (queued order s) f) → In m (view s f) ⊎ (m ≡ order_z)
-  order_in = in_new s (queued order s) f body (fate_on (target s.links)) refl refl new_at
+  order_in = in_new s (queued order s) f order_z (fate_on (target s.links)) (comes_ahead order s f)
 
   of_none : (stream : ℕ) → is_of stream order_z ≡ false
   of_none stream = no_stream stream s.settings.sio (given s)
@@ -69,7 +57,7 @@ module _ (order : Order) (s f : State) (sound : IsSound s) where
   pub queues_flow : ((c : ℕ) → Declares c order_z → ⊥) → (offered got lost : ℕ → List Message)
       → Flows s f offered got lost → Flows (queued order s) f offered got lost
   queues_flow none offered got lost w = carried s (queued order s) f f offered got lost w
-      (λ stream low. apart_kept s (queued order s) f body (fate_on (target s.links)) refl refl new_at stream
+      (λ stream low. apart_kept s (queued order s) f order_z (fate_on (target s.links)) (comes_ahead order s f) stream
       (of_none stream) offered got lost w low refl refl (λ to code via e. none code))
       (λ c few e. inl e) (λ c m i d. go c m d (order_in m i)) (λ c m i a. i)
     where
@@ -173,7 +161,7 @@ module _ (s f : State) (sound : IsSound s) (body : List ℕ) (low : stream_of bo
   module _ (offered got lost : ℕ → List Message) (w : Flows s f offered got lost) where
     apart_so : (stream : ℕ) → stream < 16 → (stream == stream_of body) ≡ false → Kept stream s then_s f f
     apart_so stream few e =
-        apart_kept s then_s f body fate refl refl new_for stream (rw (users, apart_back stream (stream_of body) e) refl)
+        apart_kept s then_s f z fate (comes_last s then_s f body fate refl refl new_for) stream (rw (users, apart_back stream (stream_of body) e) refl)
         offered got lost w few (same_place stream few)
         ((route.alone s.routing stream sound.routing few).accepted_messages (stream_of body) ∙ rw e refl) (λ to code via g. no_declaration code)
 
@@ -236,7 +224,7 @@ module _ (s f : State) (sound : IsSound s) (body : List ℕ) (low : stream_of bo
         (λ stream few d. (apart_so stream few d).answered)
 
     was_there : (c : ℕ) (m : Message) → In m (view then_s f) → Declares c m → In m (view s f)
-    was_there c m i d = go (in_new s then_s f body fate refl refl new_for m i)
+    was_there c m i d = go (in_new s then_s f z fate (comes_last s then_s f body fate refl refl new_for) m i)
       where
         go : In m (view s f) ⊎ (m ≡ z) → In m (view s f)
         go (inl j) = j
@@ -277,7 +265,7 @@ module _ (s f : State) (sound : IsSound s) (body : List ℕ) (low : stream_of bo
         unused_case stream few e false d = w.unused stream few (sym (apart_so stream few d).used ∙ e)
 
   pub offers_acks : NewAcknowledges (view then_s f) (view s f)
-  offers_acks c m i a = go (in_new s then_s f body fate refl refl new_for m i)
+  offers_acks c m i a = go (in_new s then_s f z fate (comes_last s then_s f body fate refl refl new_for) m i)
     where
       go : In m (view s f) ⊎ (m ≡ z) → In m (view s f)
       go (inl j) = j

@@ -4,7 +4,7 @@
 -- (`step_walks`, set_model's Walk.antt): each keeps the bodies of rows, or appends an order, which is of the
 -- management; only `last_row` is an induction, on the rows. Acting.antt and Hearing.antt keep it; by it Runs.antt knows
 -- that what is acknowledged was offered.
-use Rattle.std.proofs.Common.{refl, ◌≡◌, ◌∙◌, ap, sym, subst, ℕ, ◌==◌, ◌%◌, Bool, true, false, List, [], ◌∷◌, ◌++◌, length, cond, Some, None, ◌⊎◌, inl, inr}
+use Rattle.std.proofs.Common.{refl, arith, ◌+◌, ◌≡◌, ◌∙◌, ap, sym, subst, ℕ, ◌==◌, ◌%◌, Bool, true, false, List, [], ◌∷◌, ◌++◌, length, cond, Some, None, ◌⊎◌, inl, inr}
 use Rattle.std.proofs.lemmas.Bool.{eq-eqb, eqb-true}
 use Rattle.l3_orders.specs.declared.order.Order.{Order}
 use Rattle.l3_orders.specs.declared.order.Order.TheVariants.{Cbd}
@@ -23,12 +23,13 @@ use Rattle.set_model.specs.Sound.{IsManaged}
 use Rattle.set_model.specs.State.{given, LinkState, State, target, window_of, with_link}
 use Rattle.set_model.specs.Step.{is_msu, sends, step}
 use Rattle.std.proofs.lemmas.Bool.{cond_both}
+use Rattle.set_model.proofs.Ahead.{numbered_put, put_length, put_row}
 use Rattle.set_model.proofs.Events.{sent}
 use Rattle.set_model.proofs.Rows.{numbered_appended, new_row, body_moved, moved_length, moved_numbered}
 use Rattle.pair_changeover.proofs.Acked.{numbered_on}
 use Rattle.pair_streams.proofs.Rising.{one_more}
 use Rattle.set_model.proofs.Walk.{KeptBy, step_walks}
-use Rattle.pair_changeover.proofs.Staying.{orders_stay, Stays, turned_stay, changed_stay, moved_stay, joined_stay}
+use Rattle.pair_changeover.proofs.Staying.{orders_stay, Stays, turned_stay, changed_stay, moved_stay, joined_stay, put_stay}
 
 -- in an emergency
 abbrev pub given_up : Fate
@@ -93,14 +94,33 @@ module _ (P : ℕ → List ℕ → Type 0) (Q : ℕ → Type 0) where
           subst (λ (n : ℕ). P n other) e.0
           (subst (λ (b : List ℕ). P (given s) b) e.1 (new (ap (λ (b : List ℕ). service_indicator b == 0) e.1 ∙ users)))
 
-  order_covers : (order : Order) (s t : State) (fate : Fate) → t.settings ≡ s.settings → t.finished ≡ s.finished
-      → t.rows ≡ appended (given s) s.rows (text s.settings.profile order s.settings.sio s.settings.dpc s.settings.opc)
-      fate → Covers s → Covers t
-  order_covers order s t fate settings left rows c =
-      covers_appended s t (text s.settings.profile order s.settings.sio s.settings.dpc s.settings.opc) fate settings
-      left rows
-      (λ users. let own : (s.settings.sio % 16 == 0) ≡ true =
-      eq-eqb (s.settings.sio % 16) 0 c.managed in let no : true ≡ false = sym own ∙ users in absurd cc) c
+  -- an order is no user's
+  abbrev body_of : Order → State → List ℕ
+  body_of order s = text s.settings.profile order s.settings.sio s.settings.dpc s.settings.opc
+
+  never_users : {X : Type 0} (order : Order) (s : State) → Covers s → (service_indicator (body_of order s) == 0) ≡ false → X
+  never_users order s c users =
+      let own : (s.settings.sio % 16 == 0) ≡ true = eq-eqb (s.settings.sio % 16) 0 c.managed in
+      let no : true ≡ false = sym own ∙ users in
+      absurd cc
+
+  pub order_covers : (order : Order) (s : State) → Covers s → Covers (queued order s)
+  order_covers order s c =
+      let body = body_of order s in
+      let fate = fate_on (target s.links) in
+      let long = put_length (given s) s.rows body fate in
+      let more : given (queued order s) ≡ given s + 1 = omega (arith, long) in
+      record {
+        managed = c.managed;
+        numbered = subst (λ (n : ℕ). IsNumbered n (queued order s).rows) (sym more) (numbered_put (given s) s.rows body fate c.numbered);
+        known = λ number other e users. go number other users (put_row (given s) s.rows body fate c.numbered number other e);
+        gone = λ number q. put_stay given_up (given s) s.rows body fate c.numbered number (c.gone number q);
+      }
+    where
+      go : (number : ℕ) (other : List ℕ) → (service_indicator other == 0) ≡ false → (body_at number s.rows ≡ Some other)
+          ⊎ ((given s ≡ number) × (body_of order s ≡ other)) → P number other
+      go number other users (inl e) = c.known number other e users
+      go number other users (inr e) = never_users order s c (ap (λ (b : List ℕ). service_indicator b == 0) e.1 ∙ users)
 
   moved_covers : (test : Fate → Bool) (fate : Row → Fate) (s t : State) → test given_up ≡ false
       → t.settings ≡ s.settings → t.finished ≡ s.finished → t.rows ≡ moved test fate s.rows → Covers s → Covers t
@@ -115,7 +135,7 @@ module _ (P : ℕ → List ℕ → Type 0) (Q : ℕ → Type 0) where
     same = λ s c. c;
     after = λ a b d p q c. q (p c);
     delivers = λ body s c. record { managed = c.managed; numbered = c.numbered; known = c.known; gone = c.gone };
-    queues = λ order s c. order_covers order s (queued order s) (fate_on (target s.links)) refl refl refl c;
+    queues = λ order s c. order_covers order s c;
     leaves = λ blind n link s known at c. moved_covers (is_back_to n) _ s (left_by blind n link s) refl refl refl refl c;
     acknowledges = λ count n link s known at few g c.
         covers_kept s _ refl refl g.kept.count (g.kept.numbered (given s) c.numbered)
@@ -135,8 +155,10 @@ module _ (P : ℕ → List ℕ → Type 0) (Q : ℕ → Type 0) where
         covers_kept s (withdrawn count n s) refl refl g.kept.count (g.kept.numbered (given s) c.numbered)
         (g.kept.bodies (given s) c.numbered)
         (turned_stay given_up (is_waiting n) refl (Discarded NoAnswerCame) count s.rows) c;
-    declares = λ may home alternative s up can c. order_covers (Cbd home (code_for home alternative)) s
-        (declared home alternative s) (Waiting alternative) refl refl refl c;
+    declares = λ may home alternative s up can c.
+        let order = Cbd home (code_for home alternative) in
+        covers_appended s (declared home alternative s) (body_of order s) (Waiting alternative) refl refl refl
+        (λ users. never_users order s c users) c;
     releases = λ code s known c. moved_covers (is_back code) _ s (released code s) refl refl refl refl c;
   }
 

@@ -10,10 +10,12 @@ use Rattle.set_events.specs.declared.answer.Refusal.{Refusal as SetRefusal}
 use Rattle.set_events.specs.declared.event.Event.{Event}
 use Rattle.set_events.specs.declared.event.Event.TheVariants.{Offer}
 use Rattle.set_model.specs.Rows.{orders_changed, Discarded, changed, is_unacked, is_waiting, is_on, is_back, is_back_to, appended, stream_of}
-use Rattle.set_model.specs.State.{all_finished, given, State, with_link}
+use Rattle.set_model.specs.State.{all_finished, given, State, target, with_link}
 use Rattle.set_model.specs.declared.phase.Phase.TheVariants.{Settled}
 use Rattle.set_model.specs.Step.{controlled, next, offer_refusal, offered, rises, step}
-use Rattle.set_model.specs.Changeover.{acknowledged_by, answered_link, declared, left_by, moved_over, queued, released, withdrawn}
+use Rattle.set_model.specs.Changeover.{acknowledged_by, answered_link, declared, fate_on, left_by, moved_over, released, withdrawn}
+use Rattle.l3_orders.specs.Grammar.{text}
+use Rattle.set_model.proofs.Ahead.{put_length}
 use Rattle.set_model.proofs.Rows.{new_row, moved_length}
 use Rattle.set_model.proofs.Walk.{KeptBy, step_walks}
 use Rattle.pair_steps.specs.declared.step.Shown.TheVariants.{Answered}
@@ -64,7 +66,7 @@ small Known May = record {
   same = λ s. omega arith;
   after = λ a b d p q. omega (arith, p, q);
   delivers = λ body s. omega arith;
-  queues = λ order s. more_appended s (queued order s) _ _ refl refl;
+  queues = λ order s. omega (arith, put_length (given s) s.rows (text s.settings.profile order s.settings.sio s.settings.dpc s.settings.opc) (fate_on (target s.links)));
   leaves = λ blind n link s known at. same_many s (left_by blind n link s) refl (moved_length (is_back_to n) _ s.rows);
   acknowledges = λ count n link s known at few g. same_many s (acknowledged_by count n link s) refl g.kept.count;
   gives_up = λ sent cause n link s known at g. same_many s

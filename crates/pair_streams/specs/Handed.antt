@@ -12,7 +12,7 @@ use Rattle.set_model.specs.History.{LinkSet, IsLegal, after}
 use Rattle.set_model.specs.Rows.{stream_of}
 use Rattle.set_model.specs.State.{State}
 use Rattle.pair_steps.specs.declared.step.Step.{Step}
-use Rattle.pair_model.specs.Promises.{AreSteps, IsHonestRun, IsSoundRun, IsQuietRun}
+use Rattle.pair_model.specs.Promises.{IsHonestRun, IsSoundRun, IsQuietRun}
 use Rattle.pair_model.specs.Run.{Message, Past, Stage, begun, bodies, body_in, HoldsAlong}
 use Rattle.pair_streams.specs.Streams.{IsPart}
 

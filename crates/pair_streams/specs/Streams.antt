@@ -6,7 +6,7 @@ use Rattle.set_events.specs.declared.config.SetConfig.{SetConfig}
 use Rattle.set_model.specs.Rows.{stream_of, service_indicator, place, body_at}
 use Rattle.set_model.specs.State.{LinkState, State}
 use Rattle.pair_steps.specs.declared.step.Step.{Step}
-use Rattle.pair_model.specs.Promises.{AreSteps, IsSoundRun, IsQuietRun}
+use Rattle.pair_model.specs.Promises.{IsSoundRun, IsQuietRun}
 use Rattle.pair_model.specs.Run.{Message, Past, Stage, begun, HoldsAlong, HoldsAtEach}
 use Rattle.pair_changeover.specs.Diverted.{OrdersTell}
 use Rattle.pair_changeover.specs.Pending.{pending, aside, kept_back}

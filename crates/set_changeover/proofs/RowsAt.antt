@@ -1,7 +1,7 @@
 -- WHAT STANDS IN EACH PLACE after rows came to stand elsewhere, queue after queue, and where each number stands then
 -- (`Shifts`). The first so many of a place get a fate (`turned_shifts`): they stand last in their new place where none
--- there stands behind one of them. All of one or more places go (`moved_shifts`), a message is new (`appended_at`), or
--- rows stand last with their own fates (`parted_at`). Each number stands in one row, so it went or stayed (`GoesTo`),
+-- there stands behind one of them. All of one or more places go (`moved_shifts`), a message is new and stands last
+-- (`appended_at`) or ahead of users' (`ahead_at`), or rows stand last with their own fates (`parted_at`). Each number stands in one row, so it went or stayed (`GoesTo`),
 -- and what stood somewhere has a message (`given_all`). The inductions are on the rows. States.antt alone uses it, and
 -- lets the queues follow.
 use Rattle.std.proofs.Common.{append_assoc, slice_get, arith, refl, ap, sym, ◌∙◌, Option, ◌≡◌, ◌≤◌, ◌<◌, [], ◌∷◌, length, ℕ, zero, suc, Bool, true, false, List, ◌++◌, Some, None, take, drop, cond, not, ◌&&◌, ◌==◌, filter, option_map}
@@ -10,16 +10,18 @@ use Rattle.std.proofs.lemmas.Bool.Decides.{nat_tests}
 use Rattle.std.proofs.lemmas.Bool.{eq-eqb}
 use Rattle.std.proofs.lemmas.List.{map-append, append-nil, length-append}
 use Rattle.set_queues.specs.Buffers.{is_standing, same_fate}
-use Rattle.set_model.specs.Rows.{Fate, Row, standing, numbers, users, is_users, turned, orders_changed, moved, all_with, appended, IsNumbered, AreBefore, Each, row_of, place, body_at}
+use Rattle.set_model.specs.Rows.{Fate, Row, standing, numbers, users, is_users, turned, orders_changed, moved, all_with, appended, put_ahead, IsNumbered, AreBefore, Each, row_of, place, body_at}
 use Rattle.set_model.specs.Laws.{SameMessages}
 use Rattle.set_model.proofs.Events.{numbers_joined, appended_in, appended_out}
-use Rattle.set_model.proofs.Rows.{orders_there, same_numbers, turned_same, turned_left, moved_same, moved_gone, moved_joined, fewer_filter, filter_within, filter_apart, with_number, at_most_one, row_is_first, place_moved, not_found}
+use Rattle.set_model.proofs.Ahead.{put_apart}
+use Rattle.set_model.proofs.Rows.{new_row, orders_there, same_numbers, turned_same, turned_left, moved_same, moved_gone, moved_joined, fewer_filter, filter_within, filter_apart, with_number, at_most_one, row_is_first, place_moved, not_found}
 use Rattle.set_model.proofs.Staying.{messages_stay}
 use Rattle.std.specs.Prelude.{IsSome}
 use Rattle.set_queues.specs.Slots.{slot_at}
 use Rattle.set_changeover.specs.Agreement.{Message, is_there, label_in, label_of, rows_at}
 use Rattle.std.proofs.lemmas.List.Elements.{filter-append}
-use Rattle.set_queues.specs.Queues.{occurs, AreGiven}
+use Rattle.set_queues.specs.Messages.{is_order_at}
+use Rattle.set_queues.specs.Queues.{occurs, AreGiven, behind_orders}
 use Rattle.set_queues.proofs.Standing.{same_is, same_self, occurs-split}
 
 -- a number occurs among the rows that a test picks as often as its row is picked
@@ -106,6 +108,38 @@ all_found test given rows numbered = found_behind test [] rows (λ n. at_most_on
 -- A NEW MESSAGE stands last in the place of its fate.
 pub appended_at : (number : ℕ) (rows : List Row) (body : List ℕ) (fate f : Fate) → is_standing f ≡ true → numbers (rows_at f (appended number rows body fate)) ≡ cond (same_fate fate f) (numbers (rows_at f rows) ++ number ∷ []) (numbers (rows_at f rows))
 appended_at number rows body fate f s = grind (arith, appended_in number rows body fate (is_there f), appended_out number rows body fate (is_there f), map-append)
+
+-- An order is known by its label; a new message stands behind those that stand foremost in the place of its fate, ahead
+-- of the first user's there, and under the first number that no row had.
+abbrev pub AreTold : List (Option Message) → List Row → Type 0
+AreTold ms rows = Each (λ row. is_order_at ms row.number ≡ not (is_users row)) rows
+
+module _ (ms : List (Option Message)) (number : ℕ) (body : List ℕ) (fate : Fate) (stood : is_standing fate ≡ true) where
+  ahead_there : (rows : List Row) → AreTold ms (rows_at fate rows)
+      → numbers (rows_at fate (put_ahead number rows body fate)) ≡ behind_orders ms number (numbers (rows_at fate rows))
+  ahead_there [] known = grind (arith, same_self)
+  ahead_there (x ∷ rows) known = go (same_fate x.fate fate) refl (is_users x) refl known (ahead_there rows)
+    where
+      go : (b : Bool) → same_fate x.fate fate ≡ b → (c : Bool) → is_users x ≡ c → AreTold ms (rows_at fate (x ∷ rows))
+          → (AreTold ms (rows_at fate rows) → numbers (rows_at fate (put_ahead number rows body fate)) ≡ behind_orders ms number (numbers (rows_at fate rows)))
+          → numbers (rows_at fate (put_ahead number (x ∷ rows) body fate)) ≡ behind_orders ms number (numbers (rows_at fate (x ∷ rows)))
+      go true e true u known rest = grind (arith, same_self, known)
+      go true e false u known rest = grind (arith, known, rest)
+      go false e c u known rest = grind (arith, known, rest)
+
+  pub ahead_at : (rows : List Row) (f : Fate) → is_standing f ≡ true → AreTold ms (rows_at fate rows)
+      → numbers (rows_at f (put_ahead number rows body fate)) ≡ cond (same_fate fate f) (behind_orders ms number (numbers (rows_at fate rows))) (numbers (rows_at f rows))
+  ahead_at rows f s known = go (same_fate fate f) refl (ahead_there rows known)
+    where
+      go : (b : Bool) → same_fate fate f ≡ b
+          → numbers (rows_at fate (put_ahead number rows body fate)) ≡ behind_orders ms number (numbers (rows_at fate rows))
+          → numbers (rows_at f (put_ahead number rows body fate)) ≡ cond b (behind_orders ms number (numbers (rows_at fate rows))) (numbers (rows_at f rows))
+      go true e there = rw (← same_is fate f s e) there
+      go false e there = ap numbers (put_apart number rows body fate (is_there f) e)
+
+  pub row_ahead : (n : ℕ) (rows : List Row) → row_of number rows ≡ None → row_of n (put_ahead number rows body fate) ≡ cond (number == n) (Some (new_row number body fate)) (row_of n rows)
+  row_ahead n [] none = grind arith
+  row_ahead n (x ∷ rows) none = grind (arith, nat_tests, row_ahead n rows)
 
 -- where they don't stand
 elsewhere : (test : Fate → Bool) (f : Fate) → is_standing f ≡ true → test f ≡ false → (g : Fate) → test g ≡ true → is_there f g ≡ false

@@ -1,4 +1,4 @@
--- WHAT IS KEPT STANDS FOR THE STATE, before and after each small change: `appended_for`, `sent_for`, `acked_for`,
+-- WHAT IS KEPT STANDS FOR THE STATE, before and after each small change: `appended_for`, `ahead_for`, `sent_for`, `acked_for`,
 -- `given_up_for`, `withdrawn_for`, `settled_for`, `risen_for`, `released_for`, and `link_for` where no message moves.
 -- Queues that change as the places of the rows do stand for the rows (`shifts_stand`, from RowsAt.antt and set_queues's
 -- Standing.antt), and the FSN last acknowledged on a link is its count, modulo the FSNs. As many messages reached the
@@ -15,18 +15,19 @@ use Rattle.set_queues.specs.Buffers.{profile_at, Lists, is_standing, same_fate, 
 use Rattle.set_queues.specs.Messages.{restood, fate_at, is_order, is_order_at}
 use Rattle.set_queues.specs.Slots.{slot_at}
 use Rattle.set_queues.specs.Sending.{acknowledged as acked_lists, reach}
-use Rattle.set_queues.specs.Queues.{occurs, passed, passed_first, orders_in, others_in}
+use Rattle.set_queues.specs.Queues.{occurs, passed, passed_first, orders_in, others_in, behind_orders}
 use Rattle.set_queues.specs.Settling.{on as on_lists, settled}
 use Rattle.set_queues.proofs.Standing.{slot_push, restood_at, length-updated, updated_same, updated_other, updated_there, same_is, length-restood, fate_stays, fate_moves, queue_set, links_stay}
 use Rattle.set_queues.proofs.Soundness.{both_replaced, passed_replaces, profile_last, profile_queue, queue_last, last_links, IsAside, settling}
-use Rattle.set_model.specs.Rows.{Fate, Waiting, Unacked, Acked, Held, Parked, Back, Discarded, DiscardCause, Emergency, Unreasonable, NoAnswer, Row, standing, is_waiting, is_unacked, is_on, is_parked, is_back, on, numbers, users, is_users, Each, turned, changed, orders_changed, moved, all_with, appended, row_of, place, IsNumbered, IsInOrder, IsHeldLast, AreBefore}
+use Rattle.set_model.specs.Rows.{Fate, Waiting, Unacked, Acked, Held, Parked, Back, Discarded, DiscardCause, Emergency, Unreasonable, NoAnswer, Row, standing, is_waiting, is_unacked, is_on, is_parked, is_back, on, numbers, users, is_users, Each, turned, changed, orders_changed, moved, all_with, appended, put_ahead, row_of, place, IsNumbered, IsInOrder, IsHeldLast, AreBefore}
 use Rattle.set_model.specs.Changeover.{fate_on, reached_by, is_reasonable, judged, judged_link}
 use Rattle.set_model.specs.Laws.{SameMessages}
-use Rattle.set_model.proofs.Rows.{fewer_filter, place_moved, new_row, numbered_appended}
+use Rattle.set_model.proofs.Ahead.{numbered_put, put_length}
+use Rattle.set_model.proofs.Rows.{each_so, fewer_filter, place_moved, new_row, numbered_appended}
 use Rattle.set_model.proofs.Order.{on_in_order}
 use Rattle.set_model.proofs.Staying.{messages_stay}
 use Rattle.set_changeover.specs.Agreement.{Message, Stands, is_there, rows_at, label_in, label_of, kind_of, Kept, StandsFor}
-use Rattle.set_changeover.proofs.RowsAt.{given_all, none_at, Shifts, appended_at, parted, parted_at, turned_shifts, moved_shifts, orders, orders_shift, all_found}
+use Rattle.set_changeover.proofs.RowsAt.{given_all, none_at, row_ahead, Shifts, appended_at, ahead_at, AreTold, parted, parted_at, turned_shifts, moved_shifts, orders, orders_shift, all_found}
 use Rattle.set_route.specs.Routing.{Routing}
 use Rattle.set_model.specs.State.{LinkState, State, given}
 use Rattle.set_model.proofs.Lists.{at_set, length_set, within, present, get_set_same}
@@ -66,6 +67,28 @@ appended_for k s body fate f standing known =
     let more = numbered_appended (length k.messages) s.rows body fate f.stands.numbered in
     let out = f.given_out in
     grind (arith, nat_tests, length-append, same_is, queue_set, appended_at, slot_push, pushed, more, out, links_stay, last_stays, profile_queue)
+
+-- AN ORDER is known by its label.
+label_is : (slot : Option Message) (row : Row) → option_map label_in slot ≡ Some (label_of row.body) → is_order slot ≡ not (is_users row)
+label_is None row e = absurd cc
+label_is (Some m) row e = grind arith
+
+order_is : (k : Kept) (s : State) → StandsFor k s → (row : Row) → row_of row.number s.rows ≡ Some row → is_order_at k.messages row.number ≡ not (is_users row)
+order_is k s f row found = label_is (slot_at row.number k.messages) row (f.stands.labels row.number ∙ ap (λ (r : Option Row). option_map label_of (option_map (λ (x : Row). x.body) r)) found)
+
+told_at : (k : Kept) (s : State) (from : Fate) → StandsFor k s → AreTold k.messages (rows_at from s.rows)
+told_at k s from f = each_so _ _ (order_is k s f) (rows_at from s.rows) (all_found (is_there from) (length k.messages) s.rows f.stands.numbered)
+
+-- A NEW MESSAGE ahead of the first user's in its place.
+pub ahead_for : (k : Kept) (s : State) (body : List ℕ) (fate : Fate) → StandsFor k s → is_standing fate ≡ true → IsKnown fate k.lists
+    → StandsFor (record k { lists = with_queue fate (behind_orders k.messages (length k.messages) (queue_at fate k.lists)) k.lists; messages = k.messages ++ Some (record { fate = fate; kind = kind_of body; octets = length body }) ∷ []; bodies = k.bodies ++ Some body ∷ [] }) (record s { rows = put_ahead (given s) s.rows body fate })
+ahead_for k s body fate f standing known =
+    let pushed = λ (n : ℕ). row_ahead k.messages (length k.messages) body fate standing n s.rows (none_at (length k.messages) (length k.messages) s.rows f.stands.numbered (omega arith)) in
+    let more = numbered_put (length k.messages) s.rows body fate f.stands.numbered in
+    let there = λ (g : Fate) (t : is_standing g ≡ true). ahead_at k.messages (length k.messages) body fate standing s.rows g t (told_at k s fate f) in
+    let many = put_length (length k.messages) s.rows body fate in
+    let out = f.given_out in
+    grind (arith, nat_tests, length-append, same_is, queue_set, there, slot_push, pushed, more, many, out, links_stay, last_stays, profile_queue)
 
 -- MESSAGES COME TO STAND ELSEWHERE, and links and routing may change.
 module _ (k : Kept) (s : State) (f : StandsFor k s) (lists : Lists) (messages : List (Option Message)) (new : List Row) (moves : Moves lists messages s.rows new) (many : length messages ≡ length k.messages) (as_many : length lists.links ≡ length k.lists.links) (routing routing' : Routing) (way : routing ≡ routing') where
@@ -139,14 +162,7 @@ given_up_for k s from cause f stood known =
     queues_for k s f _ _ _ (shifts_stand f.stands (turned_shifts (length k.messages) from (Discarded cause) stood (grind arith) (length s.rows) s.rows f.stands.numbered (λ e. absurd cc))
     (λ g t. queue_set from g [] k.lists stood known ∙ grind (arith, nat_tests, same_is, drop_all, long)) all) (length-restood (queue_at from k.lists) (Discarded cause) k.messages) (links_stay from [] k.lists) _ _ f.routing (λ m. last_stays from [] k.lists m) (λ m. profile_queue from [] m k.lists)
 
--- THE ORDERS of a queue are given up. An order is known by its label.
-label_is : (slot : Option Message) (row : Row) → option_map label_in slot ≡ Some (label_of row.body) → is_order slot ≡ not (is_users row)
-label_is None row e = absurd cc
-label_is (Some m) row e = grind arith
-
-order_is : (k : Kept) (s : State) → StandsFor k s → (row : Row) → row_of row.number s.rows ≡ Some row → is_order_at k.messages row.number ≡ not (is_users row)
-order_is k s f row found = label_is (slot_at row.number k.messages) row (f.stands.labels row.number ∙ ap (λ (r : Option Row). option_map label_of (option_map (λ (x : Row). x.body) r)) found)
-
+-- THE ORDERS of a queue are given up.
 -- each of these rows is found under its number
 abbrev AreFound : List Row → List Row → Type 0
 AreFound rows all = Each (λ row. row_of row.number all ≡ Some row) rows

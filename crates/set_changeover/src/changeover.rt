@@ -13,7 +13,7 @@ ghost use Rattle.set_changeover.specs.Room.{HasRoom, IsReady, IsSpaciousFor, Can
 ghost use Rattle.set_changeover.specs.Turning.{TakesTurns};
 
 use super::changeback::release;
-use super::parts::{Parts, phase_of, stand_last, target_of};
+use super::parts::{Parts, phase_of, stand_ahead, target_of};
 use super::settling::settle;
 use super::turning::turn_back;
 use arrayvec::ArrayVec;
@@ -36,7 +36,8 @@ pub(crate) fn body_of(config: &SetConfig, order: &Order) -> ArrayVec<u8, 273>
     }
 }
 
-/// An order stands last, for the target.
+/// An order stands ahead of the users' messages that wait for the target (own), behind the orders that stand foremost
+/// there.
 #[tactic(auto, using(set_queues::proofs::Standing::links_stay))]
 pub fn queue<A: Allocator + Copy>(parts: &mut Parts<A>, order: Order)
     requires whole { IsWhole parts.old }
@@ -53,7 +54,7 @@ pub fn queue<A: Allocator + Copy>(parts: &mut Parts<A>, order: Order)
 {
     let fate = fate_on(target_of(&parts.links));
     let body = body_of(&parts.config, &order);
-    stand_last(parts, body.as_slice(), fate);
+    stand_ahead(parts, body.as_slice(), fate);
 }
 
 /// The link is left: out of service, its messages stay on it until it settles (Q.704 5.3). Streams on their way back

@@ -11,6 +11,9 @@
 //!      state      --- the same in the model ------->    state            rows in the order of queueing
 //! ```
 //!
+//! A new message stands last where it comes to stand, and so does a declaration, behind the messages of its streams. Any
+//! other order stands ahead of the users' messages there (own), behind the orders that stand foremost ([`queue`]).
+//!
 //! A move wants no memory: whoever makes it takes the room before ([`make_room`], [`make_room_beside`],
 //! [`make_room_parked`]), and [`restore`] and [`time_out`], which are whole events, take their own.
 //!

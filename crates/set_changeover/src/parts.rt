@@ -2,11 +2,13 @@
 ghost use Rattle.std.specs.Prelude.{◌≡◌, ◌+◌, ◌<◌, ◌≤◌, ◌++◌, ℕ, [], ◌∷◌, map, length, IfNone, IfSome, OnOk, slice_get, false, option_map};
 ghost use Rattle.set_queues.specs.Buffers.{IsKnown, IsQueued, TakesRoom, queue_at, room_at, with_queue};
 ghost use Rattle.set_queues.specs.Bodies.{CanHold};
-ghost use Rattle.set_model.specs.Rows.{appended};
+ghost use Rattle.set_queues.specs.Queues.{behind_orders};
+ghost use Rattle.set_queues.specs.Messages.{IsFit};
+ghost use Rattle.set_model.specs.Rows.{appended, put_ahead};
 ghost use Rattle.set_route.specs.Routing.{place_of};
 ghost use Rattle.set_model.specs.State.{State, LinkState, given, fate_at, target, has_phase_up};
 ghost use Rattle.set_model.specs.Step.{Outcome, in_service};
-ghost use Rattle.set_changeover.specs.Agreement.{StandsFor, Agrees};
+ghost use Rattle.set_changeover.specs.Agreement.{StandsFor, Agrees, kind_of};
 ghost use Rattle.set_changeover.specs.Parts.{Up, IsWhole, IsHere, Gives, Becomes, kept_of};
 ghost use Rattle.set_changeover.specs.Room.{HasRoom, IsReady, SameButRoom, target_beside};
 
@@ -167,19 +169,47 @@ pub fn stand_last<A: Allocator + Copy>(parts: &mut Parts<A>, body: &[u8], fate: 
     ensures links { parts.new.links ≡ parts.old.links }
     ensures routes { parts.new.routes ≡ parts.old.routes }
 {
+    parts.bodies.add(body);
+    parts.queues.add(message_of(body, fate))
+}
+
+/// An order stands where its fate tells, ahead of the first user's message there and behind the orders that stand
+/// foremost, or last where no user's stands there (own).
+pub(crate) fn stand_ahead<A: Allocator + Copy>(parts: &mut Parts<A>, order: &[u8], fate: Fate)
+    requires fits { length order.now ≤ 273 }
+    requires known { IsKnown fate parts.old.queues.lists }
+    requires queued { IsQueued fate }
+    requires room { HasRoom fate parts.old }
+    ensures stands { Becomes parts.old parts.new
+        (λ s. record s { rows = put_ahead (given s) s.rows order.now fate }) }
+    ensures rooms { TakesRoom fate 1 parts.old.queues.rooms parts.new.queues.rooms }
+    ensures lists { parts.new.queues.lists ≡ with_queue fate (behind_orders
+        parts.old.queues.messages (length parts.old.queues.messages)
+        (queue_at fate parts.old.queues.lists)) parts.old.queues.lists }
+    ensures links { parts.new.links ≡ parts.old.links }
+    ensures routes { parts.new.routes ≡ parts.old.routes }
+{
+    parts.bodies.add(order);
+    parts.queues.add_ahead(message_of(order, fate));
+}
+
+/// What is kept of a message beside its body.
+fn message_of(body: &[u8], fate: Fate) -> Message
+    requires { length body.now ≤ 273 }
+    ensures value { result ≡ record { fate = fate; kind = kind_of body.now; octets = length body.now } }
+    ensures fit { IsFit result }
+{
     let kind = match service_indicator(body) {
         0 => Kind::Order,
         _ => Kind::User {
             stream: stream_of_body(body),
         },
     };
-    let message = Message {
+    Message {
         fate,
         kind,
         octets: body.len() as u16,
-    };
-    parts.bodies.add(body);
-    parts.queues.add(message)
+    }
 }
 
 /// Where a new message of this stream stands.

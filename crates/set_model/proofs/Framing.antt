@@ -9,7 +9,7 @@ use Rattle.std.proofs.lemmas.Bool.{eqb-false}
 use Rattle.std.proofs.lemmas.Bool.Decides.{nat_tests}
 use Rattle.std.proofs.lemmas.List.Elements.{filter-append}
 use Rattle.std.proofs.lemmas.List.{append-nil, drop-map, take-map}
-use Rattle.l3_orders.specs.Grammar.{order_of, link_of}
+use Rattle.l3_orders.specs.Grammar.{order_of, link_of, text}
 use Rattle.set_route.specs.Routing.{Routing}
 use Rattle.std.specs.Prelude.{◌+◌, ◌-◌, ◌%◌, ◌<◌, if◌then◌else◌}
 use Rattle.l2_units.specs.declared.profile.Profile.{Profile}
@@ -17,9 +17,9 @@ use Rattle.l2_units.specs.Grammar.{head_of as header_in}
 use Rattle.l2_window.specs.Window.{WindowState, fsn_count, fsn_before_first}
 use Rattle.l2_window.proofs.Numbers.{acked_is}
 use Rattle.set_model.specs.Step.{SignalUnit, Fisu, Lssu, Msu, Event, step, brought, rows_sent, takes, is_heard, is_msu, part_in}
-use Rattle.set_model.specs.Changeover.{Order, fate_on}
+use Rattle.set_model.specs.Changeover.{Order, fate_on, queued}
 use Rattle.set_model.specs.Control.{Choice, Control, Basic, Cyclic, Header, part_of, acked_by, is_processed}
-use Rattle.set_model.specs.Frame.{BringsAbout, Concerns, LeavesAlone, MovesAsItsControl, window_after}
+use Rattle.set_model.specs.Frame.{behind, BringsAbout, Concerns, LeavesAlone, MovesAsItsControl, window_after}
 use Rattle.set_model.specs.Rows.{Fate, Waiting, Unacked, IsInOrder, Row, appended, fated, held, is_held, is_on, is_unacked, is_waiting, moved, numbers, standing, unack, wait}
 use Rattle.set_model.specs.Sound.{IsSound}
 use Rattle.set_model.specs.State.{Up, LinkState, State, given, is_up, link_is_up, target, window_of}
@@ -30,19 +30,20 @@ use Rattle.set_model.proofs.Places.{apart, apart_back, on_other, not_on_waiting,
 use Rattle.set_model.proofs.Staying.{offered_out, not_sent}
 use Rattle.set_model.proofs.SoundBack.{up_not_held, down_not_waiting, alternative_up}
 use Rattle.set_model.proofs.Walk.{step_walks}
+use Rattle.set_model.proofs.Ahead.{gains_then, put_apart, put_gains}
 
--- ALONE: a link has the messages that it had, and more behind them.
-alone_more : (n : ℕ) (s t : State) (come : List Row) → slice_get t.links n ≡ slice_get s.links n
+-- ALONE: a link has the messages that it had, with orders among those that wait, and more behind them.
+alone_more : (n : ℕ) (s t : State) (come : List Row) → t.settings ≡ s.settings → slice_get t.links n ≡ slice_get s.links n
     → unack n t.rows ≡ unack n s.rows → wait n t.rows ≡ wait n s.rows ++ wait n come
     → held n t.rows ≡ held n s.rows ++ held n come → (is_up n s ≡ false → wait n come ≡ [])
     → (is_up n s ≡ true → held n come ≡ []) → LeavesAlone n s t
-alone_more n s t come link sent waits holds no_wait no_held =
+alone_more n s t come settings link sent waits holds no_wait no_held =
     record {
+      settings_same = settings;
       link_same = link;
       unack_same = sent;
-      more = wait n come;
-      wait_more = waits;
-      none_more = no_wait;
+      waits = behind (wait n s.rows) (wait n t.rows) (wait n come) waits;
+      none_waits = λ e. waits ∙ ap (λ (xs : List Row). wait n s.rows ++ xs) (no_wait e) ∙ append-nil (wait n s.rows);
       later = held n come;
       held_later = holds;
       none_later = no_held;
@@ -53,9 +54,25 @@ alone_appended : (n : ℕ) (body : List ℕ) (fate : Fate) (s : State) (routing 
     → (is_up n s ≡ false → is_waiting n fate ≡ false) → (is_up n s ≡ true → is_held n fate ≡ false)
     → LeavesAlone n s (record s { rows = appended (given s) s.rows body fate; routing = routing })
 alone_appended n body fate s routing unsent waits holds =
-    alone_more n s _ (new_row (given s) body fate ∷ []) refl
+    alone_more n s _ (new_row (given s) body fate ∷ []) refl refl
     (appended_out (given s) s.rows body fate (is_unacked n) unsent) (grind (arith, filter-append))
     (grind (arith, filter-append)) (λ e. grind (arith, waits)) (λ e. grind (arith, holds))
+
+-- an order comes to wait for the link
+alone_queued : (n : ℕ) (order : Order) (s : State) → (is_up n s ≡ false → is_waiting n (fate_on (target s.links)) ≡ false) → LeavesAlone n s (queued order s)
+alone_queued n order s waits =
+    let body = text s.settings.profile order s.settings.sio s.settings.dpc s.settings.opc in
+    let fate = fate_on (target s.links) in
+    record {
+      settings_same = refl;
+      link_same = refl;
+      unack_same = put_apart (given s) s.rows body fate (is_unacked n) (not_sent n (target s.links));
+      waits = put_gains n (given s) s.rows body fate (λ managed. grind arith);
+      none_waits = λ down. put_apart (given s) s.rows body fate (is_waiting n) (waits down);
+      later = [];
+      held_later = put_apart (given s) s.rows body fate (is_held n) (grind arith) ∙ sym (append-nil (held n s.rows));
+      none_later = λ up. refl;
+    }
 
 -- rows of other places that move come to wait for the link, or to be held for it
 alone_moved : (n : ℕ) (test : Fate → Bool) (fate : Row → Fate) (s : State) (links : List LinkState) (routing : Routing)
@@ -65,23 +82,23 @@ alone_moved : (n : ℕ) (test : Fate → Bool) (fate : Row → Fate) (s : State)
     → (link_is_up (slice_get links n) ≡ true → (x : Row) → is_held n (fate x) ≡ false)
     → LeavesAlone n s (record s { links = links; rows = moved test fate s.rows; routing = routing })
 alone_moved n test fate s links routing same off unsent waits holds =
-    alone_more n s _ (map (fated fate) (standing test s.rows)) same (grind (arith, moved_same))
+    alone_more n s _ (map (fated fate) (standing test s.rows)) refl same (grind (arith, moved_same))
     (grind (arith, moved_more)) (grind (arith, moved_more)) (λ e. grind (arith, fated_none, waits))
     (λ e. grind (arith, fated_none, holds))
 
 pub leaves_alone : (n : ℕ) (s : State) (event : Event) → (Concerns event n s → ⊥) → LeavesAlone n s (step s event).state
 leaves_alone n s event free =
-    let alone_by = λ (s t : State) (links : slice_get t.links n ≡ slice_get s.links n) (u : Untouched n s.rows t.rows).
-    alone_more n s t [] links u.unack_same (grind (arith, append-nil, u)) (grind (arith, append-nil, u)) (λ e. refl)
+    let alone_by = λ (s t : State) (settings : t.settings ≡ s.settings) (links : slice_get t.links n ≡ slice_get s.links n) (u : Untouched n s.rows t.rows).
+    alone_more n s t [] settings links u.unack_same (grind (arith, append-nil, u)) (grind (arith, append-nil, u)) (λ e. refl)
     (λ e. refl) in
     let alone_then : (a b c : State) → LeavesAlone n a b → LeavesAlone n b c
     → LeavesAlone n a c = λ a b c p q.
     record {
+      settings_same = q.settings_same ∙ p.settings_same;
       link_same = grind arith;
       unack_same = grind arith;
-      more = p.more ++ q.more;
-      wait_more = grind (arith, append_assoc);
-      none_more = λ e. grind arith;
+      waits = gains_then _ _ _ p.waits (rw (← p.settings_same) q.waits);
+      none_waits = λ e. grind arith;
       later = p.later ++ q.later;
       held_later = grind (arith, append_assoc);
       none_later = λ e. grind arith;
@@ -116,6 +133,7 @@ leaves_alone n s event free =
       alone_by,
       untouched,
       alone_appended,
+      alone_queued,
       offered_out,
       up_not_held,
       down_not_waiting,

@@ -1,3 +1,4 @@
+pub mod Ahead
 pub mod Events
 pub mod Framing
 pub mod Lists

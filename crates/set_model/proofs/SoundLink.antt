@@ -4,7 +4,7 @@
 -- the other links see nothing (`changes`); the link's own window stays within its bound, its cursor in range
 -- (`range_heard`), and the FSN that it expects is its count of accepted bodies, modulo the FSNs (`expected_heard`). A
 -- new row stands last (`appended_sound`). No induction. Used by Soundness.antt and SoundBack.antt.
-use Rattle.std.proofs.Common.{arith, ◌||◌, ◌≡◌, ◌≢◌, ◌<◌, ◌≤◌, ℕ, ◌+◌, ◌%◌, Bool, length, drop, refl, ◌∙◌, ap, sym, subst, ◌==◌, true, false, List, [], ◌++◌, map, slice_get, slice_set, Some, cond, ◌∷◌, None}
+use Rattle.std.proofs.Common.{arith, ◌||◌, ◌≡◌, ◌≢◌, ◌<◌, ◌≤◌, ℕ, ◌+◌, ◌%◌, Bool, length, drop, refl, ◌∙◌, ap, sym, subst, ◌==◌, true, false, List, [], ◌++◌, map, slice_get, slice_set, Some, cond, ◌∷◌, None, Option}
 use Rattle.std.proofs.lemmas.List.{length-drop, append-nil, length-map, length-append, length-set, length-take}
 use Rattle.std.proofs.lemmas.Bool.Decides.{nat_tests}
 use Rattle.l2_window.specs.Window.{WindowState, fsn_count, most_unacked}
@@ -15,7 +15,7 @@ use Rattle.std.proofs.lemmas.List.Elements.{filter-append}
 use Rattle.l2_units.specs.Grammar.{head_of as header_in}
 use Rattle.set_route.specs.Routing.{IsRouting, Routing, accepted, code_of, home_of, place_of}
 use Rattle.set_model.specs.Changeover.{acknowledged_by, answered_link, Order, fate_on, queued, withdrawn}
-use Rattle.set_model.specs.Rows.{IsNumbered, AreFit, DiscardCause, Fate, Discarded, Row, changed, fated, held, is_held, is_on, is_parked, is_unacked, is_waiting, moved, octets_in, on, orders_changed, standing, stands_back, unack, wait, Back, appended, parked, service_indicator, stream_of}
+use Rattle.set_model.specs.Rows.{IsNumbered, AreFit, DiscardCause, Fate, Discarded, Row, changed, fated, held, is_held, is_on, is_parked, is_unacked, is_waiting, moved, octets_in, on, orders_changed, standing, stands_back, unack, wait, Back, back, appended, put_ahead, parked, same_fate, service_indicator, stream_of, IsInOrder, IsHeldLast}
 use Rattle.set_model.specs.State.{Asked, all_finished, given, is_up, Place, Changing, Nowhere, On, Down, Up, Settled, LinkState, State, Settings, with_link, has_phase_settled, has_phase_up, link_is_up, window_of, fate_at, target}
 use Rattle.set_model.specs.Step.{Event, Offer, SignalUnit, choice_in, controlled, is_msu, one_if, part_in, next, rows_sent, offer_refusal, offered}
 use Rattle.set_model.proofs.Order.{backs_of, stood, before_append, before_none, neither, gone_none, coded_at, ascends_appended}
@@ -24,6 +24,8 @@ use Rattle.set_model.proofs.Rows.{each_append, each_filter, each_so, turned_ther
 use Rattle.set_model.proofs.Lists.{at_set, each_set, get_set_same, get_set_other, set_same, within, target_up, none_up}
 use Rattle.set_model.proofs.Places.{false_true, stream_below_16}
 use Rattle.set_model.proofs.Walk.{IsAt}
+use Rattle.set_model.proofs.Ahead.{each_put, numbered_put, put_apart, put_before, put_length}
+use Rattle.l3_orders.specs.Grammar.{text}
 use Rattle.l2_window.proofs.Numbers.{after_next}
 use Rattle.l2_units.specs.declared.profile.Profile.{Profile}
 use Rattle.std.specs.Prelude.{if◌then◌else◌}
@@ -131,6 +133,34 @@ module _ (m : Settings) (k : ℕ) (link : LinkState) (rows come : List Row) (sen
   link_more base same l = let u = untouched k rows base same in let none =
       neither (is_unacked k) (is_waiting k) come sent in grind
       (arith, filter-append, append-nil, none, before_append, before_none)
+
+-- OR ONE THAT IS PUT AHEAD of users' messages, to wait for a link that is up, or to be parked
+pub link_put : (m : Settings) (k : ℕ) (link : LinkState) (number : ℕ) (rows : List Row) (body : List ℕ) (fate : Fate)
+    → ((f : Fate) → same_fate f fate ≡ true → f ≡ fate) → (is_unacked k fate ≡ false) → (is_held k fate ≡ false)
+    → (is_waiting k fate ≡ true → has_phase_up link.phase ≡ true)
+    → (has_phase_settled link.phase ≡ true → is_on k fate ≡ false)
+    → IsSoundLink m k link rows → IsSoundLink m k link (put_ahead number rows body fate)
+link_put m k link number rows body fate one unsent unheld waits gone l =
+    let out = put_apart number rows body fate in
+    let sent : unack k (put_ahead number rows body fate) ≡ unack k rows = out (is_unacked k) unsent in
+    let holds : held k (put_ahead number rows body fate) ≡ held k rows = out (is_held k) unheld in
+    let order : IsInOrder k (put_ahead number rows body fate) =
+    put_before (is_unacked k) (is_waiting k) number body fate (λ w. unsent) one rows (λ u. absurd (let no : false ≡ true = sym unsent ∙ u in cc)) l.in_order in
+    let last : IsHeldLast k (put_ahead number rows body fate) =
+    put_before (λ f. is_unacked k f || is_waiting k f) (is_held k) number body fate
+    (λ h. absurd (let no : false ≡ true = sym unheld ∙ h in cc)) one rows
+    (λ u. l.none_held (waits (grind (arith, unsent)))) l.held_last in
+    record {
+      profile = l.profile;
+      window = rw sent l.window;
+      counted = l.counted;
+      method = l.method;
+      in_order = order;
+      held_last = last;
+      none_held = λ up. holds ∙ l.none_held up;
+      in_range = λ up. rw sent (l.in_range up);
+      settled = λ e. out (is_on k) (gone e) ∙ l.settled e;
+    }
 
 -- those that move leave the others where they were; of what goes it is known that its stream is on its way back
 pub link_moved : (m : Settings) (k : ℕ) (link : LinkState) (test : Fate → Bool) (fate : Row → Fate) (routing : Routing)
@@ -320,11 +350,37 @@ module _ (s : State) (routing : Routing) (t : IsSound s) (sound : IsRouting rout
       search (numbered, back_order)
 
 -- AN ORDER goes to the target, and is of no stream.
+pub on_same : (to : Option ℕ) (f : Fate) → same_fate f (fate_on to) ≡ true → f ≡ fate_on to
+on_same to f e = grind (arith, nat_tests)
+
 pub queues : (order : Order) (s : State) → IsSound s → IsSound (queued order s)
 queues order s t =
-    appended_sound s s.routing t t.routing refl _ (fate_on (target s.links)) (grind arith)
-    (λ k link there. grind (arith, nat_tests, target_up, none_up)) (grind arith)
-    (λ k few. record { placed = t.placed k few; runs = λ n link there up. t.all_run n link there up k few; stays = λ code via e is. (via, is) }) t.homes_up
+    let body = text s.settings.profile order s.settings.sio s.settings.dpc s.settings.opc in
+    let fate = fate_on (target s.links) in
+    let new = put_ahead (given s) s.rows body fate in
+    let out = put_apart (given s) s.rows body fate in
+    let links = λ (k : ℕ) (link : LinkState) (there : slice_get s.links k ≡ Some link). link_put s.settings k link (given s)
+    s.rows body fate (on_same (target s.links)) (grind arith) (grind arith) (λ w. grind (arith, nat_tests, target_up))
+    (λ e. grind (arith, nat_tests, target_up)) (t.links k link there) in
+    let aside = λ (k : ℕ) (link : LinkState) (there : slice_get s.links k ≡ Some link) (up : has_phase_up link.phase ≡ true).
+    out is_parked (grind (arith, none_up)) ∙ t.none_aside k link there up in
+    let back_same : back new ≡ back s.rows = out stands_back (grind arith) in
+    let more : given (queued order s) ≡ given s + 1 = omega (arith, put_length (given s) s.rows body fate) in
+    record {
+      managed = t.managed;
+      routing = t.routing;
+      routed = t.routed;
+      count = t.count;
+      numbered = rw more (numbered_put (given s) s.rows body fate t.numbered);
+      fit = each_put _ (given s) s.rows body fate t.fit (grind arith);
+      links = links;
+      placed = t.placed;
+      none_aside = aside;
+      all_run = t.all_run;
+      homes_up = t.homes_up;
+      backs = each_put _ (given s) s.rows body fate t.backs (grind arith);
+      back_order = rw back_same t.back_order;
+    }
 
 -- AN OFFER goes where its stream runs.
 pub offers : (s : State) (event : Event) (body : List ℕ) → event ≡ Offer body

@@ -12,7 +12,7 @@ use Rattle.set_route.specs.Routing.{new_stream, stream_numbers, settled, runs_on
 use Rattle.set_route.specs.declared.stream.Stream.{Stream}
 use Rattle.set_model.specs.Step.{Event, Gains, choice_in, next, step, stepped, offered, rows_sent}
 use Rattle.set_model.specs.Laws.{IsNew, KeepsMessages, RunsStraight}
-use Rattle.set_model.specs.Rows.{numbers, stream_of, Fate, Unacked, Waiting, IsNumbered, Row, all_with, appended, fated, is_back, is_back_to, is_on, is_parked, is_waiting, moved, orders_changed, standing, stands_back, turned, with_fate}
+use Rattle.set_model.specs.Rows.{numbers, stream_of, Fate, Unacked, Waiting, IsNumbered, Row, all_with, appended, put_ahead, fated, is_back, is_back_to, is_on, is_parked, is_waiting, moved, orders_changed, standing, stands_back, turned, with_fate}
 use Rattle.set_model.specs.Sound.{IsManaged, IsPlaced, IsSettings, IsSound, AreAbove, AreTogether, BeginsNone, IsAscending, IsBackOf, IsSoundStream, astray, is_astray, is_live, is_unfinished, live, stands_at}
 use Rattle.set_model.specs.State.{Asked, Free, Nowhere, Up, LinkState, Settings, State, given, new_link, opened_with, Place, Changing, On, fate_at, target}
 use Rattle.set_route.proofs.Places.{new_sound}
@@ -32,6 +32,7 @@ use Rattle.set_route.proofs.Alone.{alone}
 use Rattle.set_route.proofs.Quiet.{left_quiet, back_quiet, never_changing}
 use Rattle.set_model.proofs.Rows.{filter_within, none_within, new_row, where_turned, where_orders, moved_nothing, no_rows}
 use Rattle.set_model.proofs.Order.{ascends_appended, none_standing}
+use Rattle.set_model.proofs.Ahead.{put_out}
 use Rattle.set_model.proofs.Places.{false_true, itself, code_back, home_back}
 
 -- THE STEP.
@@ -145,6 +146,16 @@ pub stream_appended : (given stream : ℕ) (place : Place) (used used' : Bool) (
     → (used' ≡ false → used ≡ false) → IsSoundStream stream place used' (appended given rows body fate)
 stream_appended given stream place used used' rows body fate numbered t fits grows = grind (arith, filter-append, ascends_appended, fits)
 
+-- an order is of no stream
+pub stream_put : (number stream : ℕ) (place : Place) (used : Bool) (rows : List Row) (body : List ℕ) (fate : Fate)
+    → is_live stream (new_row number body fate) ≡ false → IsSoundStream stream place used rows
+    → IsSoundStream stream place used (put_ahead number rows body fate)
+stream_put number stream place used rows body fate dead t =
+    let live_same : live stream (put_ahead number rows body fate) ≡ live stream rows = put_out (is_live stream) number rows body fate dead in
+    let away : astray stream place (put_ahead number rows body fate) ≡ astray stream place rows =
+    put_out (is_astray stream place) number rows body fate (grind (arith, dead)) in
+    record { in_order = rw live_same t.in_order; together = away ∙ t.together; unused = λ e. live_same ∙ t.unused e }
+
 -- ROWS THAT MOVE: all live ones of a stream do, or none.
 module _ (stream : ℕ) (place place' : Place) (test : Fate → Bool) (to : Fate) (goes : Bool)
     (open_there : (f : Fate) → test f ≡ true → is_unfinished f ≡ true) (open_to : is_unfinished to ≡ true)
@@ -251,9 +262,8 @@ step_straight s event begins t r =
     -- an order is of no stream
     let queues_straight : (order : Order) (s : State) → IsSound s → AreTogether s
     → AreTogether (queued order s) =
-    λ order s t r k low. stream_appended (given s) k (place_of k s.routing) (has_messages k s.routing)
-    (has_messages k s.routing) s.rows _ (fate_on (target s.links)) t.numbered (r k low)
-    (λ e. grind (arith, t.managed)) (λ e. e) in
+    λ order s t r k low. stream_put (given s) k (place_of k s.routing) (has_messages k s.routing) s.rows _
+    (fate_on (target s.links)) (grind (arith, t.managed)) (r k low) in
     let sends_straight : (choice : Choice) (n : ℕ) (s : State) → AreTogether s → (k : ℕ) → k < 16
     → IsSoundStream k (place_of k s.routing) (has_messages k s.routing) (rows_sent choice n s.rows) =
     λ choice n s r k low. let turns =

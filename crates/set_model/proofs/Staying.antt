@@ -10,7 +10,7 @@ use Rattle.std.proofs.lemmas.List.Filters.{length-filter_both}
 use Rattle.std.proofs.lemmas.List.Folds.{find-append}
 use Rattle.std.proofs.lemmas.Bool.Decides.{nat_tests}
 use Rattle.set_model.specs.Laws.{MessagesStay, MovesTheLinksRows, KeepsMessages}
-use Rattle.set_model.specs.Rows.{Fate, IsNumbered, Row, appended, counts_of, service_indicator, total_of, was_acked, Acked, Unacked, is_on, is_unacked, is_waiting, moved, standing, turned, unack}
+use Rattle.set_model.specs.Rows.{Fate, IsNumbered, Row, appended, put_ahead, counts_of, service_indicator, total_of, was_acked, Acked, Unacked, is_on, is_unacked, is_waiting, moved, standing, turned, unack}
 use Rattle.set_model.proofs.Rows.{turned_there, orders_there, moved_length, moved_numbered, not_found, numbered_appended, same_numbers, no_rows, body_moved, place_moved, row_is_first, total_is, filter_comm, fewer_filter, fated_none, turned_left}
 use Rattle.set_model.proofs.Events.{ChangesOn, numbers_fated, Kept, moved_kept, acknowledged, appended_out}
 use Rattle.std.proofs.lemmas.List.Elements.{filter-append}
@@ -22,6 +22,7 @@ use Rattle.set_model.specs.Control.{Choice, Header, part_of}
 use Rattle.set_model.specs.Sound.{IsManaged, AreAtMost, WholeNumbers, one_more}
 use Rattle.set_model.specs.State.{Place, Settings, State, given, fate_at, Phase, LinkState, window_of}
 use Rattle.set_model.proofs.Walk.{step_walks, IsAt}
+use Rattle.set_model.proofs.Ahead.{put_there, put_apart, put_length, put_others, put_found, numbered_put}
 use Rattle.std.proofs.Math.Nat.{le_refl}
 use Rattle.set_model.proofs.Lists.{each_set}
 
@@ -32,7 +33,8 @@ messages_stay test to fate given rows numbered =
     let moved_same = λ (number : ℕ). body_moved test fate given number rows numbered in
     let moved_on = moved_numbered test fate given rows numbered in
     let none = not_found given given rows numbered in
-    grind (arith, nat_tests, turned, same_numbers, moved_length, moved_same, moved_on, none, find-append, row_is_first, no_rows, numbered_appended)
+    let found = λ (body : List ℕ). put_found given rows body to numbered in
+    grind (arith, nat_tests, turned, same_numbers, moved_length, moved_same, moved_on, none, find-append, row_is_first, no_rows, numbered_appended, put_others, found, numbered_put)
 
 pub moves_rows : (link : ℕ) (fate : Row → Fate) (given : ℕ) (rows : List Row) → IsNumbered given rows → MovesTheLinksRows link fate rows
 moves_rows link fate given rows numbered =
@@ -59,6 +61,15 @@ grows_appended Free s routing body fate order =
     let stay = λ (numbered : IsNumbered (given s) s.rows). (messages_stay (λ f. false) fate (λ row. fate) (given s) s.rows numbered).others_stay body in
     grind (arith, length_push, stay, total_is, filter-append, length-append, numbered_appended, order)
 
+-- and an order, ahead of users' messages
+grows_put : (Free : Type 0) (s : State) (body : List ℕ) (fate : Fate)
+    → (Free → IsManaged s.settings → (service_indicator body == 0) ≡ true)
+    → Grows Free s (record s { rows = put_ahead (given s) s.rows body fate })
+grows_put Free s body fate order =
+    let stay = λ (numbered : IsNumbered (given s) s.rows). (messages_stay (λ f. false) fate (λ row. fate) (given s) s.rows numbered).ahead_others_stay body in
+    let t = put_there (given s) s.rows body fate in
+    grind (arith, put_length, stay, total_is, t.was, t.is, filter-append, length-append, numbered_put, order)
+
 pub step_grows : (s : State) (event : Event) → Grows (is_offer event ≡ false) s (step s event).state
 step_grows s event =
     let grows_then : (Free : Type 0) (a b c : State) → Grows Free a b → Grows Free b c → Grows Free a c = λ Free a b c p q. grind arith in
@@ -83,6 +94,7 @@ step_grows s event =
       grows_then,
       grows_kept,
       grows_appended,
+      grows_put,
       moved_kept,
       same,
       target_open,
@@ -193,6 +205,7 @@ step_counts s event =
       acked_at_most,
       few_moved,
       appended_out,
+      put_apart,
       not_sent,
       offered_out,
       few_sent,

@@ -8,16 +8,17 @@ use Rattle.l3_orders.specs.Grammar.{text, order_of}
 pub use Rattle.set_events.specs.Places.{fate_on}
 use Rattle.set_events.specs.declared.answer.Took.{Took}
 use Rattle.set_events.specs.declared.answer.Took.TheVariants.{Order as TookOrder, Ignored}
-use Rattle.set_model.specs.Rows.{Waiting, Acked, Discarded, DiscardCause, Emergency, Unreasonable, NoAnswer, Row, all_with, unack, wait, stream_of, is_unacked, is_waiting, is_on, is_back, is_back_to, turned, changed, orders_changed, moved, appended}
+use Rattle.set_model.specs.Rows.{Waiting, Acked, Discarded, DiscardCause, Emergency, Unreasonable, NoAnswer, Row, all_with, unack, wait, stream_of, is_unacked, is_waiting, is_on, is_back, is_back_to, turned, changed, orders_changed, moved, appended, put_ahead}
 use Rattle.set_route.specs.Routing.{place_of, code_for, home_of, code_of, is_free, can_ask, asked, given_back, left, settled as streams_settled}
 pub use Rattle.set_model.specs.declared.reached.Reached.{Reached}
 pub use Rattle.set_model.specs.declared.reached.Reached.TheVariants.{Upto, Unknown, Unanswered}
 use Rattle.set_model.specs.State.{Phase, Up, Down, Settled, Code, Free, LinkState, State, given, with_link, is_up, fate_at, target, window_of, last_accepted}
 
--- QUEUE: an order stands last, as a row of its own, for the target, in the octets that this set writes
+-- QUEUE: an order stands as a row of its own for the target, ahead of the users' messages that wait for it (own), in the
+-- octets that this set writes
 abbrev pub queued : Order → State → State
 queued order s = record s {
-  rows = appended (given s) s.rows (text s.settings.profile order s.settings.sio s.settings.dpc s.settings.opc) (fate_on (target s.links));
+  rows = put_ahead (given s) s.rows (text s.settings.profile order s.settings.sio s.settings.dpc s.settings.opc) (fate_on (target s.links));
 }
 
 -- LEAVE (Q.704 5.3): the link is out of service; its messages stay on it until it settles. Streams on their way back

@@ -1,5 +1,5 @@
 -- WHICH LINKS AN EVENT CONCERNS, what it leaves alone on all others, and what it does to the window of its own.
-use Rattle.std.specs.Prelude.{◌≡◌, ℕ, false, List, [], ◌++◌, take, drop, slice_get, true, Some, ◌⊎◌}
+use Rattle.std.specs.Prelude.{◌≡◌, ℕ, false, List, [], ◌∷◌, ◌++◌, take, drop, slice_get, true, Some, ◌⊎◌}
 use Rattle.l2_units.specs.Grammar.{head_of as header_in}
 use Rattle.l2_units.specs.declared.profile.Profile.{Profile}
 use Rattle.l2_window.specs.Window.{WindowState}
@@ -7,8 +7,9 @@ use Rattle.l3_orders.specs.declared.order.Order.{Order}
 use Rattle.l3_orders.specs.declared.order.Order.TheVariants.{Cba}
 use Rattle.l3_orders.specs.Grammar.{order_of, link_of}
 use Rattle.set_route.specs.Routing.{place_of, home_of}
-use Rattle.set_model.specs.Rows.{Row, stream_of, unack, wait, held, octets_in}
+use Rattle.set_model.specs.Rows.{Row, stream_of, unack, wait, held, octets_in, is_users}
 use Rattle.set_model.specs.Control.{Choice, first, control_after, window_heard, control_heard}
+use Rattle.set_model.specs.Sound.{IsManaged}
 use Rattle.set_model.specs.State.{On, LinkState, State, is_up, window_of}
 use Rattle.set_model.specs.Step.{SignalUnit, Msu, Event, Offer, Next, Heard, UpEvent, DownEvent, DownBlind, NoAnswer, BackTimeout, choice_in, next, controlled, controls, is_msu, is_heard}
 
@@ -36,14 +37,23 @@ Concerns (NoAnswer link) number s = link ≡ number
 Concerns (BackTimeout link) number s = link ≡ number
 Concerns _ number s = ⊥
 
--- nothing of the link changed, but that messages may have come, last: to wait for it if it's up, since it may be the
--- target or an alternative, and else to be held for it, which turned back from a changeback
+-- WHAT WAITS GAINS: messages ahead of the users' that wait, which are orders where the set's are the management's, and
+-- others behind all.
+pub data Gains (managed : Type 0) : List Row → List Row → Type 0 where
+  behind : (old new more : List Row) → new ≡ old ++ more → Gains managed old new
+  passed : (order : Row) (old new : List Row) → is_users order ≡ false → Gains managed old new
+      → Gains managed (order ∷ old) (order ∷ new)
+  ahead : (order : Row) (old new : List Row) → (managed → is_users order ≡ false) → Gains managed old new
+      → Gains managed old (order ∷ new)
+
+-- nothing of the link changed, but that messages may have come: to wait for it if it's up, since it may be the target or
+-- an alternative, and else last to be held for it, which turned back from a changeback
 pub record LeavesAlone (number : ℕ) (old new : State) : Type 0 where
+  pub settings_same : new.settings ≡ old.settings
   pub link_same : slice_get new.links number ≡ slice_get old.links number
   pub unack_same : unack number new.rows ≡ unack number old.rows
-  pub more : List Row
-  pub wait_more : wait number new.rows ≡ wait number old.rows ++ more
-  pub none_more : is_up number old ≡ false → more ≡ []
+  pub waits : Gains (IsManaged old.settings) (wait number old.rows) (wait number new.rows)
+  pub none_waits : is_up number old ≡ false → wait number new.rows ≡ wait number old.rows
   pub later : List Row
   pub held_later : held number new.rows ≡ held number old.rows ++ later
   pub none_later : is_up number old ≡ true → later ≡ []

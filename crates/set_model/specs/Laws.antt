@@ -1,7 +1,7 @@
 -- LAWS of the rows and of the step: of every state and every event.
 use Rattle.std.specs.Prelude.{◌≡◌, ℕ, ◌+◌, ◌-◌, ◌<◌, ◌≤◌, Bool, not, List, [], ◌++◌, length, map, drop, Option, Some, None, if◌then◌else◌, option_map}
 use Rattle.set_route.specs.Routing.{NoneOpen}
-use Rattle.set_model.specs.Rows.{Fate, Acked, Row, standing, is_unacked, is_on, unack, wait, held, on, parked, numbers, with_fate, turned, changed, moved, appended, row_of, place, body_at, IsNumbered}
+use Rattle.set_model.specs.Rows.{Fate, Acked, Row, standing, is_unacked, is_on, unack, wait, held, on, parked, numbers, with_fate, turned, changed, moved, appended, put_ahead, row_of, place, body_at, IsNumbered}
 use Rattle.set_model.specs.State.{LinkState, State, given, target}
 use Rattle.set_model.specs.Changeover.{Upto, fate_on, reached_by, settled}
 use Rattle.set_model.specs.Sound.{IsSound, AreTogether, AreFew}
@@ -24,6 +24,11 @@ pub record MessagesStay (test : Fate → Bool) (to : Fate) (fate : Row → Fate)
       → body_at number (appended given rows body to) ≡ body_at number rows
   pub new_found : (body : List ℕ) → body_at given (appended given rows body to) ≡ Some body
   pub appended_numbered : (body : List ℕ) → IsNumbered (given + 1) (appended given rows body to)
+  -- also where it's put ahead of users' messages
+  pub ahead_others_stay : (body : List ℕ) (number : ℕ) → number < given
+      → body_at number (put_ahead given rows body to) ≡ body_at number rows
+  pub ahead_found : (body : List ℕ) → body_at given (put_ahead given rows body to) ≡ Some body
+  pub ahead_numbered : (body : List ℕ) → IsNumbered (given + 1) (put_ahead given rows body to)
 
 -- what leaves a link are just its rows: they are the last ones then, in their old order; each has its new place,
 -- and every other message its old one.

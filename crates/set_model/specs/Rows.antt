@@ -135,6 +135,17 @@ all_with fate row = fate
 abbrev pub appended : ℕ → List Row → List ℕ → Fate → List Row
 appended number rows body fate = rows ++ record { number = number; body = body; fate = fate } ∷ []
 
+-- or before the first of the users' messages in its place, and at the end where there is none
+abbrev pub is_users_at : Fate → Row → Bool
+is_users_at fate row = is_users row && same_fate row.fate fate
+
+abbrev pub put_ahead : ℕ → List Row → List ℕ → Fate → List Row
+put_ahead number [] body fate = record { number = number; body = body; fate = fate } ∷ []
+put_ahead number (row ∷ rows) body fate =
+    if is_users_at fate row
+    then record { number = number; body = body; fate = fate } ∷ row ∷ rows
+    else row ∷ put_ahead number rows body fate
+
 -- What the readers tell.
 
 abbrev pub row_of : ℕ → List Row → Option Row

@@ -1,7 +1,7 @@
 -- WHAT HOLDS OF EVERY SET'S STATE. Every event keeps it.
 use Rattle.std.specs.Prelude.{◌≡◌, ◌≢◌, ℕ, Bool, true, false, not, ◌==◌, ◌&&◌, ◌||◌, ◌+◌, ◌%◌, ◌≤◌, ◌<◌, List, [], ◌∷◌, length, filter, slice_get, Some}
 use Rattle.set_events.specs.declared.event.Event.{Event}
-use Rattle.set_events.specs.declared.event.Event.TheVariants.{Offer, Restore}
+use Rattle.set_events.specs.declared.event.Event.TheVariants.{Restore}
 use Rattle.set_route.specs.Routing.{Routing, IsRouting, home_of, code_of, place_of, has_messages, most_links}
 use Rattle.set_model.specs.Rows.{Fate, Back, Row, was_acked, was_discarded, is_on, is_back, is_parked, is_users, stream_of, unack, held, on, back, parked, numbers, Each, IsNumbered, AreFit, IsInOrder, IsHeldLast}
 use Rattle.set_model.specs.Control.{Method, BasicMethod, CyclicMethod, Control, Basic, Cyclic, expected_of}

@@ -84,7 +84,7 @@ pub fn every_step_keeps_a_set_sound()
 
 /// An event leaves all links alone that it doesn't concern: its own link, that of an order which its unit
 /// brings, and the one on which an offered message's stream runs. Messages can come to wait for another
-/// one, last, if it's up.
+/// one if it's up: an order ahead of the users' that wait, others last.
 #[tactic(auto, using(crate::proofs::Soundness::step_laws))]
 pub fn an_event_leaves_the_rest_alone()
     ensures { (number : ℕ) (s : State) (event : Event) → (Concerns event number s → ⊥)

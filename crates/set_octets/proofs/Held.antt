@@ -20,6 +20,7 @@ use Rattle.set_model.specs.Control.{Choice, again, first, fill, fsn_of, head_of}
 use Rattle.set_model.specs.Rows.{AreFit, Acked, Discarded, Emergency, NoAnswer, Unacked, Unreasonable, Waiting, is_back, is_back_to, is_on, is_parked, is_unacked, is_waiting, place, service_indicator}
 use Rattle.set_model.specs.State.{Asked, Code, Free, Spent, has_phase_up, link_count, target, window_of}
 use Rattle.set_model.specs.Step.{Done, Message, Nothing, NotUp, Outcome, SetRefusal, brought, choice_in, chosen, comes_back, controlled, controls, falls, found as found_at, gives_up, heard, in_service, is_heard, next, offer_refusal, offered, on_link, part_in, refused, rises, rows_sent, runs_out, step, taken, takes, unit_of, with_known}
+use Rattle.set_model.proofs.Ahead.{each_put}
 use Rattle.set_model.proofs.Lists.{each_set, within}
 use Rattle.l2_units.specs.declared.profile.Profile.{Profile}
 use Rattle.l2_units.specs.declared.profile.Profile.TheVariants.{Narrow}
@@ -122,7 +123,7 @@ queued_holds : (order : Order) (s : State) → IsSmall order → HoldsOctets s �
 queued_holds order s small h = record {
   narrow = h.narrow;
   sio = h.sio;
-  rows = rows_appended (given s) s.rows _ (fate_on (target s.links)) h.rows
+  rows = each_put Is (given s) s.rows _ (fate_on (target s.links)) h.rows
       (subst (λ (p : Profile). IsBody (text p order s.settings.sio s.settings.dpc s.settings.opc)) (sym h.narrow)
       (text_is_body order s.settings.sio s.settings.dpc s.settings.opc small h.sio));
 }

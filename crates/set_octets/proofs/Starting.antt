@@ -23,6 +23,7 @@ use Rattle.set_model.specs.Sound.{IsInRange, IsSound}
 use Rattle.set_model.specs.State.{LinkState, State, fate_at, given, has_phase_up, late_at, link_is_up, target, window_of}
 use Rattle.set_model.specs.Step.{HeardBack, NotUp, Outcome, choice_in, controlled, controls, has_numbers, heard, is_msu, next, offered, one_if, part_in, refused, risen_link, rises, rows_sent, step, with_known}
 use Rattle.set_route.specs.Routing.{place_of}
+use Rattle.set_model.proofs.Ahead.{put_apart}
 use Rattle.set_model.proofs.Events.{appended_out}
 use Rattle.set_model.proofs.Lists.{at_set, set_same}
 use Rattle.set_model.proofs.Places.{apart, false_true, itself}
@@ -83,7 +84,7 @@ module _ (n : ℕ) where
     same = λ s. record { each = λ link there up. (there, refl) };
     after = stays_then;
     delivers = λ body s. stays_links s _ refl refl;
-    queues = λ order s. stays_links s _ refl (appended_out (given s) s.rows _ (fate_on (target s.links)) (is_unacked n) (not_sent n (target s.links)));
+    queues = λ order s. stays_links s _ refl (put_apart (given s) s.rows _ (fate_on (target s.links)) (is_unacked n) (not_sent n (target s.links)));
     leaves = λ blind m link s known at. stays_set m _ s _ refl refl
         (λ d. let left = out_of_service blind m link s in
         unsent_moved (is_back_to m) _ s.rows (λ x. offered_out n (place_of (stream_of x.body) left.routing) left) (λ f e. grind arith));

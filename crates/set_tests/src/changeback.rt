@@ -49,8 +49,8 @@ fn times_out(alloc: Global, set: &mut SetCore) -> bool {
         && accepts(alloc, set, 3, 3, Fate::Waiting { link: 1 })
 }
 
-/// The home link fails before the acknowledgement. Its code is spent: until it's freed nothing is asked again, and what
-/// frees it moves nothing.
+/// The home link fails before the acknowledgement: its order, number 3, goes out first. Its code is spent: until it's
+/// freed nothing is asked again, and what frees it moves nothing.
 #[test]
 fn the_home_link_fails(rt: HostRuntime) -> Result<(), Fail> {
     holds(of_set(rt.alloc(), 2, spends_its_code))
@@ -61,7 +61,7 @@ fn spends_its_code(alloc: Global, set: &mut SetCore) -> bool {
         && does(set, Call::Down(1))
         && stands(set, 2, Fate::Waiting { link: 0 })
         && stands(set, 3, Fate::Waiting { link: 0 })
-        && sends_in_order(set, 0, &[0, 1, 2, 3])
+        && sends_in_order(set, 0, &[3, 0, 1, 2])
         && does_all(set, &[Call::NoAnswer(1), Call::Up(1)])
         && accepts(alloc, set, 3, 4, Fate::Waiting { link: 0 })
         && is_freed(alloc, set)
@@ -144,8 +144,8 @@ fn takes_the_lowest_first(alloc: Global, set: &mut SetCore) -> bool {
 }
 
 /// Link 0 settles, so both streams come from link 1; then their home fails, and their messages move together, in their
-/// order: behind the first message, the declaration, the order about link 0, and message 1, which was never sent there,
-/// before the order about link 2.
+/// order: behind the first message, the declaration, and message 1, which was never sent on link 0. The orders about links
+/// 0 and 2 go out before all of them.
 #[test]
 fn two_codes_come_to_share_a_link(rt: HostRuntime) -> Result<(), Fail> {
     holds(of_set(rt.alloc(), 3, share_a_link))
@@ -158,7 +158,7 @@ fn share_a_link(alloc: Global, set: &mut SetCore) -> bool {
         && stands(set, 3, Fate::Discarded { cause })
         && stands(set, 6, Fate::Back { code: 32 })
         && does(set, Call::Down(2))
-        && sends_in_order(set, 1, &[0, 4, 9, 1, 5, 6, 7, 8, 10])
+        && sends_in_order(set, 1, &[9, 10, 0, 4, 1, 5, 6, 7, 8])
 }
 
 /// Link 0 was left and hasn't settled when the home fails: what comes from there is held, and moves when it settles.
@@ -173,7 +173,37 @@ fn is_held(alloc: Global, set: &mut SetCore) -> bool {
         && stands(set, 5, Fate::Waiting { link: 1 })
         && stands(set, 6, Fate::Held { link: 0 })
         && does(set, Call::NoAnswer(0))
-        && sends_in_order(set, 1, &[0, 4, 9, 5, 7, 10, 1, 6, 8])
+        && sends_in_order(set, 1, &[9, 10, 0, 4, 5, 7, 1, 6, 8])
+}
+
+/// Orders 1 and 3 about links 2 and 1 go out before message 0, which waited when they came, in the order in which they
+/// came; declaration 2 stays behind that message, which is of the stream that is asked back.
+#[test]
+fn orders_go_ahead_and_a_declaration_stays_last(rt: HostRuntime) -> Result<(), Fail> {
+    holds(of_set(rt.alloc(), 4, go_ahead))
+}
+
+fn go_ahead(alloc: Global, set: &mut SetCore) -> bool {
+    does(set, Call::Up(0))
+        && accepts(alloc, set, 3, 0, Fate::Waiting { link: 0 })
+        && does_all(set, &[Call::Up(1), Call::Up(2), Call::Up(3)])
+        && does_all(set, &[Call::Down(2), Call::Restore(3), Call::Down(1)])
+        && accepts(alloc, set, 0, 4, Fate::Waiting { link: 0 })
+        && sends_in_order(set, 0, &[1, 3, 0, 2, 4])
+}
+
+/// The acknowledgement of a declaration goes out before the message that waits.
+#[test]
+fn an_acknowledgement_goes_ahead(rt: HostRuntime) -> Result<(), Fail> {
+    holds(of_set(rt.alloc(), 1, goes_ahead))
+}
+
+fn goes_ahead(alloc: Global, set: &mut SetCore) -> bool {
+    let declaration = Order::Cbd { link: 7, code: 118 };
+    does(set, Call::Up(0))
+        && accepts(alloc, set, 0, 0, Fate::Waiting { link: 0 })
+        && hears(set, head_of(127, 0), &declaration, 0, Took::Order)
+        && sends_in_order(set, 0, &[1, 0])
 }
 
 /// A declaration is acknowledged by the same code and SLC, whatever they are.

@@ -75,14 +75,14 @@ fn is_sent_over_the_other(set: &mut SetCore) -> bool {
     does_all(set, &fail) && sends_order(set, head_of(127, 0), &order)
 }
 
-/// Foremost orders alone are discarded: message 2 waits before order 3, which was overtaken too and goes when it's first.
+/// An overtaken order that stands foremost is discarded, and message 1, which waits behind it, is sent.
 #[test]
-fn what_waits_before_an_overtaken_order_is_sent(rt: HostRuntime) -> Result<(), Fail> {
-    holds(of_set(rt.alloc(), 1, a_message_stands_between))
+fn what_waits_behind_an_overtaken_order_is_sent(rt: HostRuntime) -> Result<(), Fail> {
+    holds(of_set(rt.alloc(), 1, a_message_stands_behind))
 }
 
-/// The link fails twice before it sends anything: order 0 of the first time is parked, then message 1 is, then order 2.
-fn a_message_stands_between(alloc: Global, set: &mut SetCore) -> bool {
+/// The link fails before it sends anything: order 0 is parked, and then message 1 is.
+fn a_message_stands_behind(alloc: Global, set: &mut SetCore) -> bool {
     does_all(set, &[Call::Up(0), Call::Down(0), Call::NoAnswer(0)])
         && accepts(alloc, set, 0, 1, Fate::Parked)
         && does(set, Call::Up(0))

@@ -27,7 +27,7 @@ use Rattle.set_model.specs.declared.phase.Phase.TheVariants.{Up, Down, Settled}
 use Rattle.set_model.specs.declared.reached.Reached.{Reached}
 use Rattle.set_model.specs.declared.reached.Reached.TheVariants.{Upto, Unknown, Unanswered}
 use Rattle.set_model.specs.Control.{Choice, HeardPart}
-use Rattle.set_model.specs.Rows.{Row, service_indicator, with_fate, fated, standing, moved, appended, all_with, is_on, is_back_to, place, stream_of, wait}
+use Rattle.set_model.specs.Rows.{Row, service_indicator, with_fate, fated, standing, moved, appended, put_ahead, all_with, is_on, is_back_to, place, stream_of, wait}
 use Rattle.set_model.specs.State.{late_in, LinkState, State, given, with_link, has_phase_up, has_phase_settled, link_is_up, link_is_settled, is_up, is_settled, fate_at, target, link_count}
 use Rattle.set_model.specs.Changeover.{queued, out_of_service, turned_back, left_by, left_link, leaving_order, overtakes, is_overtaken, leading, withdrawn, cleared, reached_by, is_reasonable, discarded, acknowledged_by, judged, judged_link, is_told, moved_over, settled_link, settled, declared, can_declare, declared_if, declared_from, some_declare, released, released_from, some_in_use, Obeyed, ignored, reply_of, answered_link, changed_over, answered, at_link, obeyed_at, acknowledged_back, order_obeyed, obeyed}
 use Rattle.set_model.specs.Step.{Outcome, refused, offer_refusal, offered, taken, found, with_known, on_link, in_service, next, heard, controls, part_in, brought, takes, controlled, is_heard, rises, risen_link, falls, gives_up, comes_back, runs_out, step}
@@ -107,7 +107,7 @@ module _ (cover : LinkState) (not_up : has_phase_up cover.phase ≡ false) (l : 
   queued_same : (order : Order) (s : State) → IsOut s → queued order (veil cover l s) ≡ veil cover l (queued order s)
   queued_same order s o =
       ap (λ (to : Option ℕ). record (veil cover l s) {
-        rows = appended (given s) s.rows (text s.settings.profile order s.settings.sio s.settings.dpc s.settings.opc) (fate_on to);
+        rows = put_ahead (given s) s.rows (text s.settings.profile order s.settings.sio s.settings.dpc s.settings.opc) (fate_on to);
       }) (target_same s o)
 
   out_same : (blind : Bool) (n : ℕ) (link : LinkState) (s : State) → (n == l) ≡ false

@@ -5,6 +5,8 @@
 #![tactic(auto)]
 
 #[cfg(test)]
+mod busy;
+#[cfg(test)]
 mod carried;
 #[cfg(test)]
 mod impossible;

@@ -180,7 +180,7 @@ fn is_up(wires: &Wires, link: u8) -> bool {
 }
 
 /// The number of the message that a user of this end takes next; none where none has come.
-fn take(wires: &mut Wires, end: End) -> Option<u16> {
+pub(crate) fn take(wires: &mut Wires, end: End) -> Option<u16> {
     match wires.ask(end, Actor::User(0), &Event::Take) {
         Ok(Answer::Taken { body }) => number_in(body.as_slice()),
         _ => None,
