@@ -13,6 +13,7 @@ use Rattle.l2_units.specs.declared.profile.Profile.TheVariants.{Narrow, Wide}
 use Rattle.script_accounts.specs.PlayText.{IsPlayText, IsExplainedPlayText}
 use Rattle.text_units.specs.UnitsText.{IsUnitsText}
 use Rattle.text_units.specs.Decoding.{IsDecodeText}
+use Rattle.text_units.specs.DecodeExplaining.{IsExplainedDecodeText}
 use Rattle.script_walk.specs.declared.fault.ScriptFault.{ScriptFault}
 use Rattle.script_accounts.specs.Capture.{IsCapture, IsExplainedCapture}
 use Rattle.script_ladder.specs.Ladder.{IsExplainedLadder, IsLadder}
@@ -23,7 +24,7 @@ use Rattle.history_audit.specs.Auditing.{IsAuditText}
 use Rattle.terminal_text.specs.Explaining.{IsExplainedTerminalText}
 use Rattle.terminal_text.specs.Text.{IsTerminalText}
 use Rattle.mtpbank.specs.declared.running.TextFault.{TextFault}
-use Rattle.mtpbank.specs.declared.running.TextFault.TheVariants.{Units as UnitsFault, Play as PlayFault, Explained as ExplainedPlayFault, Decode as DecodeFault, Audit as AuditedFault, Terminal as TerminalLineFault, ExplainedTerminal as ExplainedTerminalLineFault}
+use Rattle.mtpbank.specs.declared.running.TextFault.TheVariants.{Units as UnitsFault, Play as PlayFault, Explained as ExplainedPlayFault, Decode as DecodeFault, ExplainedDecode as ExplainedDecodeFault, Audit as AuditedFault, Terminal as TerminalLineFault, ExplainedTerminal as ExplainedTerminalLineFault}
 
 -- a text of which only the fault, if any, has another type
 pub record IsText {F : Type 0} (IsIt : Printed F → Type 0) (of : F → TextFault)
@@ -55,7 +56,9 @@ abbrev pub IsTextOf : Words → List ℕ → Printed TextFault → Type 0
 IsTextOf Units input text = IsText (IsUnitsText input) UnitsFault text
 IsTextOf (Script told false) input text = IsText (IsToldOf told input) PlayFault text
 IsTextOf (Script told true) input text = IsText (IsExplainedOf told input) ExplainedPlayFault text
-IsTextOf (Decode wide) input text = IsText (IsDecodeText (profile_of wide) input) DecodeFault text
+IsTextOf (Decode wide false) input text = IsText (IsDecodeText (profile_of wide) input) DecodeFault text
+IsTextOf (Decode wide true) input text =
+    IsText (IsExplainedDecodeText (profile_of wide) input) ExplainedDecodeFault text
 IsTextOf Audit input text = IsText (IsAuditText input) AuditedFault text
 IsTextOf (Terminal false) input text = IsText (IsTerminalText input) TerminalLineFault text
 IsTextOf (Terminal true) input text = IsText (IsExplainedTerminalText input) ExplainedTerminalLineFault text

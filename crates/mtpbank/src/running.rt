@@ -1,7 +1,7 @@
 //! What the subcommands do, over any source and sink.
 ghost use Rattle.std.specs.Prelude.{◌≡◌, ◌≤◌, ◌^◌, length, IfSome, OnOk};
 ghost use Rattle.text_base.specs.Printing.{Prints, FailsByDevices};
-ghost use Rattle.mtpbank_words.specs.declared.words.Words.TheVariants.{Script, Terminal};
+ghost use Rattle.mtpbank_words.specs.declared.words.Words.TheVariants.{Decode, Script, Terminal};
 ghost use Rattle.mtpbank.specs.Running.{GivesFault, IsExplainedOf, IsTextOf, IsToldOf, ReadsInput, longest_of, profile_of};
 
 use history_audit::{AuditFault, audit};
@@ -15,7 +15,7 @@ use script_ladder::{ladder, ladder_explained};
 use std::alloc::Global;
 use terminal_text::{TerminalFault, terminal, terminal_explained};
 use text_base::{Fault, Sink, Source};
-use text_units::{UnreadableOctet, UnreadableUnit, decode, units};
+use text_units::{UnreadableOctet, UnreadableUnit, decode, decode_explained, units};
 use thiserror::Error;
 
 /// How the input of a subcommand can be at fault.
@@ -33,6 +33,9 @@ pub enum TextFault {
     /// In a way of `decode`.
     #[error("{0}")]
     Decode(UnreadableUnit),
+    /// In a way of `decode`, with an explanation.
+    #[error("{0}")]
+    ExplainedDecode(Explained<UnreadableUnit>),
     /// In a way of `audit`.
     #[error("{0}")]
     Audit(AuditFault),
@@ -62,10 +65,7 @@ pub fn run<S: Source, W: Sink>(
     match words {
         Words::Units => of_any(units(alloc, source, sink), TextFault::Units),
         Words::Script { told, explains } => run_script(alloc, told, explains, source, sink),
-        Words::Decode { wide } => of_any(
-            decode(alloc, profile_of(wide), source, sink),
-            TextFault::Decode,
-        ),
+        Words::Decode { wide, explains } => run_decode(alloc, wide, explains, source, sink),
         Words::Audit => of_any(audit(alloc, source, sink), TextFault::Audit),
         Words::Terminal { explains } => run_terminal(alloc, explains, source, sink),
         Words::Run(_) => unreachable!(),
@@ -95,6 +95,31 @@ fn run_script<S: Source, W: Sink>(
         );
     }
     of_any(tell(alloc, told, source, sink), TextFault::Play)
+}
+
+/// Reads the units that the source gives, and writes what they say, with an explanation of a fault or without.
+fn run_decode<S: Source, W: Sink>(
+    alloc: Global,
+    wide: bool,
+    explains: bool,
+    source: &mut S,
+    sink: &mut W,
+) -> Result<(), Fault<TextFault>>
+    ensures text { IfSome (S.left source.old) (λ input. Prints result (IsTextOf (Decode wide explains) input)
+        (W.written sink.old) (W.written sink.new)) }
+    ensures bounded { IfSome (S.left source.old) (λ input. OnOk result (length input ≤ 2 ^ 60)) }
+    ensures devices { IfSome (S.left source.old)
+        (FailsByDevices (2 ^ 60) result (S.failures source.old) (S.failures source.new)
+        (W.failures sink.old) (W.failures sink.new)) }
+{
+    let profile = profile_of(wide);
+    if explains {
+        return of_any(
+            decode_explained(alloc, profile, source, sink),
+            TextFault::ExplainedDecode,
+        );
+    }
+    of_any(decode(alloc, profile, source, sink), TextFault::Decode)
 }
 
 /// Drives the end by the lines that the source gives, and writes what they print, with an explanation of a fault or

@@ -8,8 +8,10 @@
 //! it. `NAME.pcap` is what the capture of `NAME.play` writes, `NAME.history_a` and `NAME.history_b` what the histories of
 //! its ends print, and `NAME.ladder` is its chart. `NAME.explained` is what is told of `NAME.play` where its fault is
 //! explained; so are `NAME.ladder_explained`, `NAME.pcap_explained`, `NAME.history_a_explained` and
-//! `NAME.history_b_explained`, which print what they do without an explanation; a table `NAME.told_first` or `NAME.told_second` has four such lines each, of which the third shows the line
-//! that is played, alone or with the opening before it. `NAME.terminal_explained` beside `NAME.terminal`, and the tables
+//! `NAME.history_b_explained`, which print what they do without an explanation, and beside units `NAME.decode_explained`
+//! and `NAME.decode_wide_explained`; a table `NAME.told_first` or `NAME.told_second` has four such lines each, of which the
+//! third shows the line that is played, alone or with the opening before it. `NAME.terminal_explained` beside
+//! `NAME.terminal`, and the tables
 //! `NAME.terminal_first`, `NAME.terminal_second` and `NAME.terminal_third`, are so for the lines that drive an end; before
 //! the third line stand the opening and a command. `NAME.run` is the words behind `mtpbank run`, one a line: threads run as
 //! they ask, and of what they print the time that they took is left out. `NAME.words` is words behind `mtpbank`, one a line,
@@ -36,7 +38,7 @@ use std::time::Clock;
 use std::{fs, io};
 use terminal_text::{terminal, terminal_explained};
 use text_base::{Fault, Reader, Writer};
-use text_units::{decode, units};
+use text_units::{decode, decode_explained, units};
 
 /// The first line of the scripts of a table.
 const OPENING: &str = "set links=1 method=basic a=2 b=1 sio=80\n";
@@ -164,6 +166,8 @@ enum Kind {
     Units,
     Decoded,
     WideDecoded,
+    DecodedExplained,
+    WideDecodedExplained,
     HistoryOfA,
     HistoryOfB,
     HistoryOfAExplained,
@@ -184,6 +188,8 @@ fn kind_of(name: &str) -> Kind {
         "units" => Kind::Units,
         "decode" => Kind::Decoded,
         "decode_wide" => Kind::WideDecoded,
+        "decode_explained" => Kind::DecodedExplained,
+        "decode_wide_explained" => Kind::WideDecodedExplained,
         "history_a" => Kind::HistoryOfA,
         "history_b" => Kind::HistoryOfB,
         "history" => Kind::Audited,
@@ -220,6 +226,8 @@ impl Kind {
             | Kind::Driven
             | Kind::Played => None,
             Kind::DrivenExplained => Some("terminal"),
+            Kind::DecodedExplained => Some("decode"),
+            Kind::WideDecodedExplained => Some("decode_wide"),
             _ => Some("play"),
         }
     }
@@ -230,6 +238,8 @@ impl Kind {
             self,
             Kind::Explained
                 | Kind::DrivenExplained
+                | Kind::DecodedExplained
+                | Kind::WideDecodedExplained
                 | Kind::HistoryOfAExplained
                 | Kind::HistoryOfBExplained
                 | Kind::LadderExplained
@@ -327,6 +337,14 @@ fn run_on(
         Kind::Units => told_of(alloc, units(alloc, source, sink)),
         Kind::Decoded => told_of(alloc, decode(alloc, Profile::Narrow, source, sink)),
         Kind::WideDecoded => told_of(alloc, decode(alloc, Profile::Wide, source, sink)),
+        Kind::DecodedExplained => told_of(
+            alloc,
+            decode_explained(alloc, Profile::Narrow, source, sink),
+        ),
+        Kind::WideDecodedExplained => told_of(
+            alloc,
+            decode_explained(alloc, Profile::Wide, source, sink),
+        ),
         Kind::HistoryOfA => told_of(alloc, history(alloc, End::A, source, sink)),
         Kind::HistoryOfB => told_of(alloc, history(alloc, End::B, source, sink)),
         Kind::HistoryOfAExplained => {

@@ -28,7 +28,7 @@ pub options : (asked : Words) (name : Text) (end : Option Text) (wide explains :
     → IsWord asked name end wide explains → HasOptions asked rows
 options Units name end wide explains rows other is = tt
 options (Script told by) name end wide explains rows other is = tt
-options (Decode by) name end wide explains rows other is = tt
+options (Decode width by) name end wide explains rows other is = tt
 options Audit name end wide explains rows other is = tt
 options (Terminal by) name end wide explains rows other is = tt
 options (Run run) name end wide explains rows other is = absurd (other is.name_is)
@@ -47,7 +47,7 @@ module _ (name : Text) (rows : List Row) (is_run : name ≡ codes "run") where
   no_word (Script Ladder by) none is = let bad : 108 ≡ 114 = letter (Script Ladder by) name is_run is.0.name_is in omega (arith, bad)
   no_word (Script HistoryOfA by) none is = let bad : 104 ≡ 114 = letter (Script HistoryOfA by) name is_run is.0.name_is in omega (arith, bad)
   no_word (Script HistoryOfB by) none is = let bad : 104 ≡ 114 = letter (Script HistoryOfB by) name is_run is.0.name_is in omega (arith, bad)
-  no_word (Decode by) none is = let bad : 100 ≡ 114 = letter (Decode by) name is_run is.0.name_is in omega (arith, bad)
+  no_word (Decode width by) none is = let bad : 100 ≡ 114 = letter (Decode width by) name is_run is.0.name_is in omega (arith, bad)
   no_word Audit none is = let bad : 97 ≡ 114 = letter Audit name is_run is.0.name_is in omega (arith, bad)
   no_word (Terminal by) none is = let bad : 116 ≡ 114 = letter (Terminal by) name is_run is.0.name_is in omega (arith, bad)
   no_word (Run run) none is = none run is.1

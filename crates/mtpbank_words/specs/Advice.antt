@@ -37,7 +37,7 @@ name_of History = codes "history"
 
 abbrev pub usage_of : Input → List ℕ
 usage_of Play = codes "play [--explain]"
-usage_of Decode = codes "decode [--wide]"
+usage_of Decode = codes "decode [--wide] [--explain]"
 usage_of Capture = codes "capture [--explain]"
 usage_of Ladder = codes "ladder [--explain]"
 usage_of Terminal = codes "terminal [--explain]"
@@ -81,11 +81,12 @@ input_advice input [] = None
 input_advice input (word ∷ words) =
     if is_operand word then Some (input_text input) else unknown_advice input word
 
--- all but units and audit have a flag
+-- all but units and audit have a flag, and decode two
 abbrev pub is_flag_of : Input → List ℕ → Bool
 is_flag_of Units word = false
 is_flag_of Audit word = false
-is_flag_of Decode word = bytes_eq word (codes "--wide")
+is_flag_of Decode word =
+    if bytes_eq word (codes "--wide") then true else bytes_eq word (codes "--explain")
 is_flag_of input word = bytes_eq word (codes "--explain")
 
 abbrev pub without_flag : Input → List (List ℕ) → List (List ℕ)
@@ -252,7 +253,7 @@ told_of_input None words = None
 told_of_input (Some History) words = history_advice words
 told_of_input (Some Play) words = input_advice Play (without_flag Play words)
 told_of_input (Some Units) words = input_advice Units (without_flag Units words)
-told_of_input (Some Decode) words = input_advice Decode (without_flag Decode words)
+told_of_input (Some Decode) words = input_advice Decode (without_flag Decode (without_flag Decode words))
 told_of_input (Some Capture) words = input_advice Capture (without_flag Capture words)
 told_of_input (Some Ladder) words = input_advice Ladder (without_flag Ladder words)
 told_of_input (Some Audit) words = input_advice Audit (without_flag Audit words)

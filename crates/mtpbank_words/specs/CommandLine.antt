@@ -28,7 +28,7 @@ program_itself = record (new_shape (codes "mtpbank")) {
 abbrev pub without_subcommands : App
 without_subcommands = record { top = program_itself; subs = [] }
 
--- two subcommands, which take no words, five that take a flag, of which one takes an end, too, one with another flag, and
+-- two subcommands, which take no words, six that take a flag, of which one takes an end, too, and one another flag, and
 -- one that takes options
 abbrev pub explain_rule : Rule
 explain_rule = flag_rule (codes "explain")
@@ -37,7 +37,7 @@ abbrev pub script_shape : List ℕ → Shape
 script_shape name = with_rules (new_shape name) (explain_rule ∷ [])
 
 abbrev pub decode_shape : Shape
-decode_shape = with_rules (new_shape (codes "decode")) (flag_rule (codes "wide") ∷ [])
+decode_shape = with_rules (new_shape (codes "decode")) (flag_rule (codes "wide") ∷ explain_rule ∷ [])
 
 abbrev pub units_and_play : App
 units_and_play =
@@ -80,7 +80,7 @@ told_name HistoryOfB = codes "history"
 abbrev pub name_of : Words → List ℕ
 name_of Units = codes "units"
 name_of (Script told explains) = told_name told
-name_of (Decode wide) = codes "decode"
+name_of (Decode wide explains) = codes "decode"
 name_of Audit = codes "audit"
 name_of (Terminal explains) = codes "terminal"
 name_of (Run run) = codes "run"
@@ -115,7 +115,7 @@ abbrev pub IsBehind : Words → List ℕ → Option (List ℕ) → Bool → Bool
 IsBehind Units name end wide explains = Unit {0}
 IsBehind (Script told is_explained) name end wide explains =
     IsTold told name end × (is_explained ≡ explains)
-IsBehind (Decode is_wide) name end wide explains = is_wide ≡ wide
+IsBehind (Decode is_wide is_explained) name end wide explains = (is_wide ≡ wide) × (is_explained ≡ explains)
 IsBehind Audit name end wide explains = Unit {0}
 IsBehind (Terminal is_explained) name end wide explains = is_explained ≡ explains
 IsBehind (Run run) name end wide explains = Unit {0}

@@ -71,6 +71,11 @@ pub(crate) fn advise<S: AsStr>(alloc: Global, words: &[S]) -> Result<Option<Vec<
     }
     match find_input(name) {
         Some(Input::History) => advise_history(alloc, others),
+        Some(Input::Decode) => advise_input(
+            alloc,
+            Input::Decode,
+            skip_flag(Input::Decode, skip_flag(Input::Decode, others)),
+        ),
         Some(input) => advise_input(alloc, input, skip_flag(input, others)),
         None => Ok(Some(say_command(alloc, name)?)),
     }
@@ -150,7 +155,7 @@ fn usage(input: Input) -> &'static [u8]
 {
     match input {
         Input::Play => b"play [--explain]",
-        Input::Decode => b"decode [--wide]",
+        Input::Decode => b"decode [--wide] [--explain]",
         Input::Capture => b"capture [--explain]",
         Input::Ladder => b"ladder [--explain]",
         Input::Terminal => b"terminal [--explain]",
@@ -169,18 +174,18 @@ fn is_thing(word: &[u8]) -> bool
     }
 }
 
-/// Whether this is the flag of the subcommand.
+/// Whether this is a flag of the subcommand.
 fn is_flag_of(input: Input, word: &[u8]) -> bool
     ensures { result ≡ is_flag_of input word.now }
 {
     match input {
         Input::Units | Input::Audit => false,
-        Input::Decode => is_word(word, b"--wide"),
+        Input::Decode => is_word(word, b"--wide") || is_word(word, b"--explain"),
         _ => is_word(word, b"--explain"),
     }
 }
 
-/// The words behind the subcommand's flag, where it stands first.
+/// The words behind a flag of the subcommand, where it stands first.
 fn skip_flag<S: AsStr>(input: Input, words: &[S]) -> &[S]
     ensures { map S.text result.now ≡ without_flag input (map S.text words.now) }
 {

@@ -36,7 +36,8 @@ their check octets, as `mtpbank play` prints sent ones:
   echo ff80058501800030156e | mtpbank decode
 Each prints a line: fisu, lssu or msu, what its header and check octets are, its
 status, or its label with an order or with stream and data; or `no unit`. With
---wide the units are those of a script with profile=wide.
+--wide the units are those of a script with profile=wide. With --explain a line
+at fault is explained.
 `mtpbank decode --help` says what each word of it tells, and each fault.";
 
 pub(crate) const HISTORY_PAGE: &str = "\
@@ -101,6 +102,9 @@ Each further line prints events and then its answer, so whoever drives the end r
   bits L BITS [xN]    these bits stand on the line, digits 0 and 1, the first one first: turns K
   offer HEX, take, find N                            user 0, answered as `mtpbank play` answers them
   noanswer L, restore L, backtimeout L               the terminal of link L, answered so too
+                      A refusal has its number. offer: 1 under 5 octets, 2 over 273, 3 service indicator 0, 4 the stream
+                      has 1,024 unsent messages. take: 9 nothing to take. find: 8 no such number, 11 the message left
+                      with a checkpoint. restore: 5 the link isn't up. The terminal's: 9 nothing to do
   look L              look L WORD phase=P turns=T sent=S good=G bad=B sixteen=X cause=C: how the link stands; its phase
                       at the set (settled, up or left); turns and units from the beginning on; the last cause, or 0
   checkpoint          what is finished leaves the set: the entries of its history that go, checkpoint, and done
@@ -116,20 +120,25 @@ In a turn messages come first, then the WORD, then the unit. The causes: 1 error
 7 a status that was heard, 8 alignment not possible, 9 stop, or a changeover order about a link that isn't up yet:
 the far end was up there, and has left it. Last comes `end a ..`, as `mtpbank play` prints it.
 The set line and the lines of history and checkpoint one behind another are the history that `mtpbank audit` reads.
+The SLC of an order is the link's number. To close an end so that the far end hears that its links are out of service
+(SIOS) write stop L for each link, then two blocks of octets, then end the input.
 To drive a real line read a block of octets from the timeslot, write it as octets, and write the answer to the timeslot:
 the line's clock keeps the pace. Begin with two blocks of flags; 64 to 160 octets are usual. Signal units go lowest bit
 first and PCM timeslots highest bit first, so a card that gives octets as G.711 has them needs the bits of each octet
-reversed, both ways. Since the end has no clock but its turns, whoever drives it does this:
+reversed, both ways. Where the line is gone go on with blocks of ones (ff), since the end has no clock but its turns.
+Whoever drives it does this:
   link L out, and phase=left after T2 of Q.704 (0.7 to 2 s)      noanswer L. T2 runs only while the order to the far end
                       can go out: another link is up, or all are out or waiting, so that none comes up without it
   link L out          start L again after a pause (T17 of Q.704, 0.8 to 1.5 s); emergency L before it, where no other
                       is up. Then fewer than 3,700 octets may be under way on it, both ways together: units of its last
                       life that come when it has proved again are heard as new ones, and their messages come twice
   link L up           restore L, at its first up too, since streams of which messages went over another link stay
-                      there: refused 9 where there are none; backtimeout L where nobody answers
+                      there: refused 9 where there are none; backtimeout L where nobody answers within T4 and T5 of
+                      Q.704 (0.5 to 1.2 s each)
   memory is short     busy L, and ease L later
 A fault ends it: one line on standard error, with status 1; what was printed before stays:
-  fault line N text   line N, from 1 and with those passed over, can't be read
+  fault line N text   line N, from 1 and with those passed over, can't be read; behind it stands where a space, a tab
+                      or a carriage return is wrong
   fault line N step   it asks for a link that isn't there
   fault memory        memory is wanted; or a link took 2^48 turns, or the set was asked 2^48 times
   fault read, fault write
@@ -269,7 +278,9 @@ A fault ends the input: one line on standard error, with status 1; what was prin
   fault line N text   line N, from 1 and with those passed over, isn't octets in hexadecimal. Behind it stands what else
                       is wrong: more than 4,096 octets, a carriage return or a space at its end, a tab, a space before
                       it, two spaces
-  fault read, fault write, fault memory              standard input, standard output or memory failed";
+  fault read, fault write, fault memory              standard input, standard output or memory failed
+With --explain three more lines come behind that of a line's fault: what is wanted there, the line, and a caret under the
+word at fault, as `mtpbank play --help` shows it; a line of more than 4,096 octets isn't shown.";
 
 pub(crate) const RUN_PAGE: &str = "\
 Two banks run, one with the ends a of all sets, the other with the ends b. Users
@@ -318,7 +329,7 @@ A link of --fail that isn't below --links is `fault link`, with status 2.";
 pub(crate) const HELP: &str = "\
 All but run read standard input to its end, as in `mtpbank play < examples/changeover.play`. `mtpbank play --help` is
 the manual of play, and so with each subcommand; with `-h` it's a page. A fault is one line on standard error (three
-more with --explain, which scripts and terminal have), and what was printed before it stays:
+more with --explain, which scripts, decode and terminal have), and what was printed before it stays:
   fault line N text, fault line N step               a line can't be read, or one of a script can't be done
   fault line N illegal                               an entry of a history is one that no set makes
   fault octet P                                      a character is no hexadecimal digit, or one is left over
@@ -411,12 +422,12 @@ The last two lines count the users' messages of each end by where they stand.
 A label is four octets, the lowest first: DPC + 2^14 OPC + 2^28 SLS. The SLS, the high digit of a message's fifth
 octet, is its stream, whose home is link stream modulo the number of links; where that link wasn't up or has failed,
 the stream runs on another one. A changeover of link 1 is `down a 1`, after which an order waits on the lowest link
-that is up; `emit a 0` and `arrive b 0`, where b leaves link 1 too; `emit b 0` and `arrive a 0`, which carry b's
-answer. Link 1 is settled then, and what b hasn't accepted waits at a for link 0, in order. Where no link is up the
-order is parked, and goes out on the first that comes up; if that is link 1 itself, after noanswer, the order is
-discarded there. When link 1 comes up again, its streams that have had messages stay on link 0, until `restore a 1`
-asks them back: an order waits on link 0 behind all that waits there, and what is offered then is found back. When b's
-answer has come, it waits for link 1, in order.
+that is up, ahead of users' messages; `emit a 0` and `arrive b 0`, where b leaves link 1 too; `emit b 0` and
+`arrive a 0`, which carry b's answer. Link 1 is settled then, and what b hasn't accepted waits at a for link 0, in
+order. Where no link is up the order is parked, and goes out on the first that comes up; if that is link 1 itself,
+after noanswer, the order is discarded there. When link 1 comes up again, its streams that have had messages stay on
+link 0, until `restore a 1` asks them back: an order waits on link 0 behind all that waits there, and what is offered
+then is found back. When b's answer has come, it waits for link 1, in order.
 
 A fault ends the script: one line on standard error, with status 1; what was printed before it stays.
   fault line N text   line N, from 1 and with remarks, can't be read: a word that isn't known, too few or too many

@@ -32,7 +32,7 @@ pub enum Words {
     /// Carry out the script of two ends of a link set on standard input, and tell this of it.
     Script { told: Told, explains: bool },
     /// Tell what the units on standard input, which may be of the wide profile, say.
-    Decode { wide: bool },
+    Decode { wide: bool, explains: bool },
     /// Tell whether the history on standard input is legal.
     Audit,
     /// Drive one end of a link set, whose lines are elsewhere, by the lines on standard input.
@@ -194,7 +194,7 @@ fn word_of(name: &str, end: Option<&str>, wide: bool, explains: bool) -> Option<
 {
     match name {
         "units" => Some(Words::Units),
-        "decode" => Some(Words::Decode { wide }),
+        "decode" => Some(Words::Decode { wide, explains }),
         "audit" => Some(Words::Audit),
         "terminal" => Some(Words::Terminal { explains }),
         _ => match told_of(name, end) {
@@ -326,6 +326,21 @@ fn explaining_script<'a>(alloc: Global, command: Command<'a>) -> Result<Command<
     with_option(command, explain)
 }
 
+/// A command that reads another input, and that flag.
+fn explaining_input<'a>(alloc: Global, command: Command<'a>) -> Result<Command<'a>, AllocError>
+    requires local { (out-Command command).has_globals ≡ false }
+    ensures shape { IfOk result (λ more. shape_of more
+        ≡ with_rules (shape_of command.entry) (explain_rule ∷ [])) }
+    ensures local { IfOk result (λ more. (out-Command more).has_globals ≡ false) }
+{
+    let explain = flag(
+        alloc,
+        "explain",
+        "Explains the line that ends the input with a fault",
+    );
+    with_option(command, explain)
+}
+
 /// The word `play`, and a flag.
 fn play_command<'a>(alloc: Global) -> Result<Command<'a>, AllocError>
     ensures shape { IfOk result (λ command. shape_of command ≡ script_shape (codes "play")) }
@@ -338,7 +353,7 @@ fn play_command<'a>(alloc: Global) -> Result<Command<'a>, AllocError>
     explaining_script(alloc, play)
 }
 
-/// The word `decode`, and a flag.
+/// The word `decode`, and two flags.
 fn decode_command<'a>(alloc: Global) -> Result<Command<'a>, AllocError>
     ensures shape { IfOk result (λ command. shape_of command ≡ decode_shape) }
     ensures local { IfOk result (λ command. (out-Command command).has_globals ≡ false) }
@@ -352,7 +367,7 @@ fn decode_command<'a>(alloc: Global) -> Result<Command<'a>, AllocError>
         .about("Tells what the octets of signal units say, a unit a line")
         .after_help(DECODE_PAGE)
         .after_long_help(DECODE_HELP);
-    with_option(decode, wide)
+    explaining_input(alloc, with_option(decode, wide)?)
 }
 
 /// The word `capture`, and a flag.
@@ -395,16 +410,11 @@ fn terminal_command<'a>(alloc: Global) -> Result<Command<'a>, AllocError>
     ensures shape { IfOk result (λ command. shape_of command ≡ script_shape (codes "terminal")) }
     ensures local { IfOk result (λ command. (out-Command command).has_globals ≡ false) }
 {
-    let explain = flag(
-        alloc,
-        "explain",
-        "Explains the line that ends the input with a fault",
-    );
     let terminal = Command::new(alloc, "terminal")
         .about("Drives one end of a link set, whose lines are yours, line by line")
         .after_help(TERMINAL_PAGE)
         .after_long_help(TERMINAL_HELP);
-    with_option(terminal, explain)
+    explaining_input(alloc, terminal)
 }
 
 /// The word `history`, an end behind it, and a flag.

@@ -9,7 +9,7 @@ use std::alloc::Global;
 use terminal_text::{terminal, terminal_explained};
 use test_devices::{Page, Text};
 use text_base::{Fault, Sink, Source};
-use text_units::{decode, units};
+use text_units::{decode, decode_explained, units};
 
 /// Many calls, more than any text here takes.
 pub(crate) const MANY: u32 = 1_000_000;
@@ -19,6 +19,7 @@ pub(crate) const MANY: u32 = 1_000_000;
 pub(crate) enum Which {
     Units,
     Decode,
+    DecodeExplained,
     Play,
     PlayExplained,
     Capture,
@@ -34,9 +35,10 @@ pub(crate) enum Which {
     TerminalExplained,
 }
 
-pub(crate) const ALL: [Which; 15] = [
+pub(crate) const ALL: [Which; 16] = [
     Which::Units,
     Which::Decode,
+    Which::DecodeExplained,
     Which::Play,
     Which::PlayExplained,
     Which::Capture,
@@ -73,7 +75,7 @@ impl Which {
     pub(crate) fn input(self) -> &'static [u8] {
         match self {
             Which::Units => b"7edff705f8beaf1f\n",
-            Which::Decode => b"ffff00\n80ff03850000\n",
+            Which::Decode | Which::DecodeExplained => b"ffff00\n80ff03850000\n",
             Which::Audit => HISTORY,
             Which::Terminal | Which::TerminalExplained => LINES,
             _ => SCRIPT,
@@ -113,6 +115,7 @@ pub(crate) fn run<S: Source, W: Sink>(
     match which {
         Which::Units => end_of(units(alloc, text, page)),
         Which::Decode => end_of(decode(alloc, Profile::Narrow, text, page)),
+        Which::DecodeExplained => end_of(decode_explained(alloc, Profile::Narrow, text, page)),
         Which::Play => end_of(play(alloc, text, page)),
         Which::PlayExplained => end_of(play_explained(alloc, text, page)),
         Which::Capture => end_of(capture(alloc, text, page)),

@@ -1,3 +1,4 @@
 pub mod Fitting
 pub mod Forms
 pub mod Lengths
+pub mod OctetLines

@@ -2,6 +2,7 @@ pub mod Asking
 pub mod Impossible
 pub mod Moves
 pub mod Named
+pub mod OctetLines
 pub mod Opened
 pub mod Opening
 pub mod Places

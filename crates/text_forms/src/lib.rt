@@ -11,6 +11,7 @@
 //! | any other of a script | [`read_move`], [`read_move_into`] | `specs/Moves.antt` | a [`pair_rises::Move`] |
 //! | `timers t1=N t2=N t3=N t5=N t6=N t7=N` of a terminal, each 1 to 2^32 - 1 | [`read_timers`] | `specs/Timers.antt` | the lengths of its timers, in octet times |
 //! | any other of a terminal but its first | [`read_asked`] | `specs/Asking.antt`, `specs/Units.antt` | [`Asked`] |
+//! | octets in one word, of `decode` | [`blame_octets`] | `specs/OctetLines.antt` | the blame alone |
 //!
 //! A reader fails without a blame only where memory is wanted ([`Unread`]). [`blame_opening`], [`blame_move`] and
 //! [`blame_line`] answer the blame alone; [`blame_impossible`], [`blame_link`] and [`blame_profile`] tell the word that says
@@ -37,6 +38,7 @@ mod impossible;
 mod mistake;
 mod moves;
 mod named;
+mod octet_lines;
 mod opened;
 mod opening;
 mod places;
@@ -53,6 +55,7 @@ pub use impossible::{blame_impossible, blame_link, blame_profile};
 pub use mistake::Mistake;
 pub use moves::{blame_move, read_move, read_move_into};
 pub use named::Named;
+pub use octet_lines::{blame_octets, no_octets_are_blamed};
 pub use opened::{Opening, Values};
 pub use opening::{blame_opening, read_opening};
 pub use places::{read_unit, unit_in};

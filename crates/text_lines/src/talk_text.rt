@@ -1,4 +1,4 @@
-//! What the lines of a text are, where a relation tells what they do.
+//! What the lines of a text are.
 ghost use Rattle.std.specs.Prelude.{◌≡◌, ◌≤◌, length};
 ghost use Rattle.text_lines.specs.Reading.{Adds};
 ghost use Rattle.text_lines.specs.Talking.{IsCarriedOut};

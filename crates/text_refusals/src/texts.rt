@@ -12,7 +12,7 @@ use std::test::Fail;
 use terminal_text::{terminal, terminal_explained};
 use test_devices::Text;
 use text_base::Fault;
-use text_units::{decode, units};
+use text_units::{decode, decode_explained, units};
 
 const SCRIPT: &[u8] = b"set links=1 method=basic a=2 b=1 sio=80
 together 0
@@ -86,6 +86,20 @@ fn decode_of(alloc: Global) -> (Came, Kept) {
 #[test]
 fn a_refused_allocation_ends_decode(rt: HostRuntime) -> Result<(), Fail> {
     are_right(decode_of(rt.alloc()), decode_of(rt.alloc()))
+}
+
+fn decode_explained_of(alloc: Global) -> (Came, Kept) {
+    let (mut text, mut page) = (text_of(OCTETS), Kept::new());
+    let ended = came(decode_explained(alloc, Profile::Narrow, &mut text, &mut page));
+    (ended, page)
+}
+
+#[test]
+fn a_refused_allocation_ends_decode_explained(rt: HostRuntime) -> Result<(), Fail> {
+    are_right(
+        decode_explained_of(rt.alloc()),
+        decode_explained_of(rt.alloc()),
+    )
 }
 
 fn play_of(alloc: Global) -> (Came, Kept) {
@@ -225,6 +239,7 @@ fn a_refused_allocation_ends_terminal_explained(rt: HostRuntime) -> Result<(), F
 pub(crate) fn are_whole(alloc: Global) -> bool {
     units_of(alloc).0 == Came::Whole
         && decode_of(alloc).0 == Came::Whole
+        && decode_explained_of(alloc).0 == Came::Whole
         && play_of(alloc).0 == Came::Whole
         && play_explained_of(alloc).0 == Came::Whole
         && capture_of(alloc).0 == Came::Whole

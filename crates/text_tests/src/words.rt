@@ -10,8 +10,7 @@ fn told_of(alloc: Global, words: &[&str]) -> Result<String, AllocError> {
     match words_of(alloc, words) {
         Ok(Words::Units) => "units".to_string(alloc),
         Ok(Words::Script { told, explains }) => with_flag(alloc, script_told(told), explains),
-        Ok(Words::Decode { wide: false }) => "decode".to_string(alloc),
-        Ok(Words::Decode { wide: true }) => "decode --wide".to_string(alloc),
+        Ok(Words::Decode { wide, explains }) => with_flag(alloc, decode_told(wide), explains),
         Ok(Words::Audit) => "audit".to_string(alloc),
         Ok(Words::Terminal { explains }) => with_flag(alloc, "terminal", explains),
         Ok(Words::Run(run)) => run_told(alloc, &run),
@@ -31,6 +30,11 @@ fn script_told(told: Told) -> &'static str {
         Told::HistoryOfA => "history a",
         Told::HistoryOfB => "history b",
     }
+}
+
+/// The units to decode, in words.
+fn decode_told(wide: bool) -> &'static str {
+    if wide { "decode --wide" } else { "decode" }
 }
 
 /// These words, and whether an explanation is asked for.
@@ -100,12 +104,21 @@ fn ask_for(alloc: Global, words: &[&str], subcommand: &str) -> bool {
 
 #[test]
 fn words_of_the_command_line(rt: HostRuntime) -> Result<(), Fail> {
-    let asked: [(&[&str], &str); 18] = [
+    let asked: [(&[&str], &str); 21] = [
         (&["play"], "play"),
         (&["play", "--explain"], "play --explain"),
         (&["units"], "units"),
         (&["decode"], "decode"),
         (&["decode", "--wide"], "decode --wide"),
+        (&["decode", "--explain"], "decode --explain"),
+        (
+            &["decode", "--wide", "--explain"],
+            "decode --wide --explain",
+        ),
+        (
+            &["decode", "--explain", "--wide"],
+            "decode --wide --explain",
+        ),
         (&["capture"], "capture"),
         (&["ladder"], "ladder"),
         (&["audit"], "audit"),
@@ -282,7 +295,7 @@ fn a_file_is_read_from_standard_input(rt: HostRuntime) -> Result<(), Fail> {
     let alloc = rt.alloc();
     let play = "mtpbank play: reads standard input: mtpbank play [--explain] < FILE";
     let units = "mtpbank units: reads standard input: mtpbank units < FILE";
-    let decode = "mtpbank decode: reads standard input: mtpbank decode [--wide] < FILE";
+    let decode = "mtpbank decode: reads standard input: mtpbank decode [--wide] [--explain] < FILE";
     let terminal = "mtpbank terminal: reads standard input: mtpbank terminal [--explain] < FILE";
     let history = "mtpbank history: reads standard input: mtpbank history [--explain] END < FILE";
     let end =
@@ -292,6 +305,11 @@ fn a_file_is_read_from_standard_input(rt: HostRuntime) -> Result<(), Fail> {
             && ask_for(alloc, &["play", "--explain", "a.play"], play)
             && ask_for(alloc, &["units", "a.units"], units)
             && ask_for(alloc, &["decode", "--wide", "a.decode"], decode)
+            && ask_for(
+                alloc,
+                &["decode", "--explain", "--wide", "a.decode"],
+                decode,
+            )
             && ask_for(alloc, &["terminal", "a.terminal"], terminal)
             && ask_for(alloc, &["terminal", "--explain", "a.terminal"], terminal)
             && ask_for(alloc, &["history", "a", "a.play"], history)

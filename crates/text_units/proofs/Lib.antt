@@ -1,5 +1,6 @@
 pub mod BitLemmas
 pub mod DigitLemmas
+pub mod ExplainLemmas
 pub mod ReaderLemmas
 pub mod TableLemmas
 pub mod UnitsLemmas

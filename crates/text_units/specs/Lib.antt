@@ -1,3 +1,4 @@
+pub mod DecodeExplaining
 pub mod Decoding
 pub mod UnitsReading
 pub mod UnitsText

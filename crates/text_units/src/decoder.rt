@@ -1,8 +1,6 @@
 //! The lines of `decode`.
-ghost use Rattle.std.specs.Prelude.{◌≡◌, IfOk, MatchResult, Some};
-ghost use Rattle.text_base.specs.Figures.{octets_of};
+ghost use Rattle.std.specs.Prelude.{◌≡◌};
 ghost use Rattle.l2_units.specs.declared.profile.Profile.{Profile};
-ghost use Rattle.text_units.specs.Decoding.{decode_rules};
 
 use super::decode_fault::UnreadableUnit;
 use super::unit_line::write_line;
@@ -10,7 +8,7 @@ use l2_units::Profile;
 use std::alloc::Global;
 use std::marker::{Model, PhantomData};
 use text_base::{Stop, read_octets};
-use text_lines::{LineFlaw, LineText, find_flaw};
+use text_lines::{LineFlaw, TalkText, find_flaw};
 
 /// A profile that a type names, since what is printed belongs to the type.
 pub(crate) trait NamesProfile {
@@ -69,12 +67,15 @@ impl<P> Decoder<P> {
     }
 }
 
-impl<P: NamesProfile> LineText for Decoder<P> {
+impl<P: NamesProfile> TalkText for Decoder<P> {
     type Fault = UnreadableUnit;
 
+    ghost use Rattle.text_lines.specs.Talks.{by_function, have_one};
     ghost use Rattle.text_units.specs.Decoding.{decode_rules};
 
-    ghost rules = { decode_rules P.profile };
+    ghost rules = { by_function (decode_rules P.profile) };
+
+    ghost one_outcome = { have_one (decode_rules P.profile) };
 
     fn unreadable(number: u64) -> UnreadableUnit {
         UnreadableUnit {

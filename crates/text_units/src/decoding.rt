@@ -8,7 +8,7 @@ use super::decoder::{Decoder, OfNarrow, OfWide};
 use l2_units::Profile;
 use std::alloc::Global;
 use text_base::{Fault, LONGEST_READ, Sink, Source};
-use text_lines::print_lines;
+use text_lines::print_talk;
 
 /// Reads the units of this profile that the source gives, and writes what they say.
 ///
@@ -28,17 +28,13 @@ pub fn decode<S: Source, W: Sink>(
         (W.failures sink.old) (W.failures sink.new)) }
 {
     match profile {
-        Profile::Narrow => {
-            print_lines(
-                alloc,
-                Decoder::<OfNarrow>::new(),
-                LONGEST_READ,
-                source,
-                sink,
-            )
-        }
-        Profile::Wide => {
-            print_lines(alloc, Decoder::<OfWide>::new(), LONGEST_READ, source, sink)
-        }
+        Profile::Narrow => print_talk(
+            alloc,
+            Decoder::<OfNarrow>::new(),
+            LONGEST_READ,
+            source,
+            sink,
+        ),
+        Profile::Wide => print_talk(alloc, Decoder::<OfWide>::new(), LONGEST_READ, source, sink),
     }
 }

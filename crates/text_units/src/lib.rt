@@ -25,9 +25,12 @@
 //! a message as an order, [`write_order_words`] has the words of an order, and [`write_both`] puts one text behind another.
 //! `specs/Decoding.antt` is the text: which octets count as check octets, and the line of each unit. A unit is read with or
 //! without its check octets, as `play` prints sent units and as `hear` takes them; no flags and no inserted zeros.
+//! [`decode_explained`] writes the same, and shows the word at fault of a line that can't be read
+//! (`specs/DecodeExplaining.antt`).
 #![tactic(auto)]
 
 mod body_line;
+mod decode_explaining;
 mod decode_fault;
 mod decoder;
 mod decoding;
@@ -41,10 +44,11 @@ mod unit_lines;
 mod units_reading;
 
 pub use body_line::{find_order, write_order_words};
+pub use decode_explaining::{decode_explained, each_unreadable_unit_is_explained};
 pub use decode_fault::UnreadableUnit;
 pub use decoding::decode;
 pub use fault::UnreadableOctet;
 pub use text::units;
-pub use text_lines::LineFlaw;
+pub use text_lines::{Explained, LineFlaw};
 pub use unit_line::write_both;
 pub use unit_lines::{one_units_text, push_unit_words};
