@@ -2,8 +2,9 @@
 -- directions; `acts` says that a change of one end which makes no order keeps it (`Acts`), and `queues_both` that
 -- queueing one does, about a link that its end just left. Views.antt argues on queues; here the rows and links of a
 -- state give what it asks: a new message joins the queue of its place (`grows`, and `places` for an order), and an
--- order's target is up, so it isn't the link that the order is about. Case by case on the message's fate, no induction. Keeping.antt, Leaving.antt,
--- Turning.antt, Passing.antt, Obeying.antt and Blind.antt make an `Acts` of each event's change, by link (`by_link`).
+-- order's target is up, so it isn't the link that the order is about. Case by case on the message's fate, no induction.
+-- Keeping.antt, Leaving.antt, Turning.antt, Passing.antt, Obeying.antt and Blind.antt make an `Acts` of each event's
+-- change, by link (`by_link`).
 use Rattle.std.proofs.Common.{refl, ◌≡◌, ◌≢◌, ◌∙◌, ap, sym, subst, ℕ, ◌==◌, ◌-◌, Bool, true, false, List, [], ◌∷◌, ◌++◌, drop, slice_get, slice_set, Option, Some, None, ◌⊎◌, inl, inr}
 use Rattle.std.proofs.lemmas.Bool.{eqb-true}
 use Rattle.std.proofs.lemmas.List.{append-nil}

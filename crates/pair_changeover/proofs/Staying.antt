@@ -1,10 +1,9 @@
 -- A FATE THAT STAYS: what is acknowledged, or was discarded, is so ever after, whatever changes of other rows
 -- (`Stays`). One lemma for each way in which rows change: some of them or all get a fate (`turned_stay`,
--- `changed_stay`, `orders_stay`), some move to the end (`moved_stay`), or more come, last or not
--- (`joined_stay`, `put_stay`). A change whose test doesn't hold
--- of the fate leaves its rows alone; and rows that move are still found by their numbers, as each number stands once
--- (`place_moved`). By induction on the rows, one for all that turn (`where_turned`). Used by Acked.antt, and by
--- pair_streams's Known.antt and Blindly.antt.
+-- `changed_stay`, `orders_stay`), some move to the end (`moved_stay`), or more come, last or not (`joined_stay`,
+-- `put_stay`). A change whose test doesn't hold of the fate leaves its rows alone; and rows that move are still found
+-- by their numbers, as each number stands once (`place_moved`). By induction on the rows, one for all that turn
+-- (`where_turned`). Used by Acked.antt, and by pair_streams's Known.antt and Blindly.antt.
 use Rattle.std.proofs.Common.{refl, arith, ◌≡◌, ◌∙◌, ap, sym, ℕ, ◌==◌, nat_lt, Bool, true, false, List, [], ◌∷◌, ◌++◌, Option, Some, None, cond, length}
 use Rattle.std.specs.Option.{option_map}
 use Rattle.std.proofs.lemmas.Bool.Decides.{nat_tests}

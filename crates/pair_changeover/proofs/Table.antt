@@ -1,9 +1,9 @@
 -- THE TABLE: what each change of a set's rows does to what is pending on a link, and aside. A new message stands last
--- or elsewhere (`queue_waits`, `queue_apart`), and an order ahead of users' messages (`ahead_there`); sending and acknowledging change nothing (`queue_sent`, `queue_acked`),
--- as pending is counted from what the far end accepted; what it accepts leaves first (`queue_accepted`); a link that
--- settles leaves its queue behind the target's or aside (`queue_settled`, `aside_settled`). Equations on lists, from
--- set_model's Events.antt; only `drop_twice` and its like are inductions. Used by Changes.antt, Turning.antt,
--- Passing.antt, Obeying.antt, Hearing.antt and Keeping.antt.
+-- or elsewhere (`queue_waits`, `queue_apart`), and an order ahead of users' messages (`ahead_there`); sending and
+-- acknowledging change nothing (`queue_sent`, `queue_acked`), as pending is counted from what the far end accepted;
+-- what it accepts leaves first (`queue_accepted`); a link that settles leaves its queue behind the target's or aside
+-- (`queue_settled`, `aside_settled`). Equations on lists, from set_model's Events.antt; only `drop_twice` and its like
+-- are inductions. Used by Changes.antt, Turning.antt, Passing.antt, Obeying.antt, Hearing.antt and Keeping.antt.
 use Rattle.std.proofs.Common.{refl, arith, ◌≡◌, ◌∙◌, ap, sym, ℕ, zero, suc, ◌≤◌, ◌==◌, ◌+◌, ◌-◌, Bool, true, false, List, [], ◌∷◌, ◌++◌, length, map, take, drop, slice_get, Some, append_assoc}
 use Rattle.std.proofs.lemmas.List.{append-nil, map-append, drop-append-le, take-append-drop}
 use Rattle.set_events.specs.declared.answer.Fate.{Fate}

@@ -1,5 +1,5 @@
--- THE ROWS OF A SET: its messages, each in exactly one place, as one list in the order of queueing. Read this file
--- first.
+-- THE ROWS OF A SET: its messages, each in exactly one place, as one list in the order of queueing, in which orders but
+-- declarations go ahead of the users' messages. Read this file first.
 use Rattle.l2_units.specs.declared.profile.Profile.{Profile}
 use Rattle.l2_units.specs.Profile.{longest_body}
 use Rattle.std.specs.Prelude.{◌≡◌, ℕ, suc, zero, ◌==◌, ◌+◌, ◌%◌, ◌/◌, ◌≤◌, nat_lt, Bool, true, false, not, ◌&&◌, ◌||◌, List, [], ◌∷◌, ◌++◌, length, filter, map, find, Option, slice_index, if◌then◌else◌, option_map}
