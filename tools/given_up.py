@@ -1,6 +1,7 @@
 """Walks in which links are given up, for `tools/two-ends-walk --given-up`: two ends of a set of 1 to 4 links, either method,
-whose links are lost, left, left blindly, given up without an answer and brought up again, while messages are offered in all
-streams. Then nothing is lost any more: each link comes up, and messages are offered in all streams.
+whose links are lost, left, left blindly, settled by time or without an answer and brought up again, while messages are offered in all
+streams. Then nothing is lost any more: a link that is up at one end alone fails there too, each link comes up, and messages are
+offered in all streams.
 
 Held against what `mtpbank play` shows, for each walk's end:
   arrives  each message that was offered in that end arrives once, and those of a stream in order
@@ -17,6 +18,7 @@ from collections import Counter, defaultdict
 
 LSSU = "ffff0100"
 QUIET_ROUNDS = 20_000
+ROUNDS_ALONE = 200
 
 
 class Walk:
@@ -88,10 +90,17 @@ class Walk:
         if self.is_up("a", link) or self.is_up("b", link):
             return
         for end in "ab":
-            self.figures["given up"] += self.say(f"noanswer {end} {link}") == "done"
+            self.give_up(end, link)
         self.say(f"together {link}")
         self.lines["a", link] = self.lines["b", link] = 0
         self.figures["came up"] += 1
+
+    def give_up(self, end, link):
+        """The link settles by time where its order never was sent, else without an answer."""
+        if self.say(f"timed {end} {link}") == "done":
+            self.figures["settled by time"] += 1
+        else:
+            self.figures["given up"] += self.say(f"noanswer {end} {link}") == "done"
 
     # The walk.
 
@@ -114,7 +123,7 @@ class Walk:
         elif kind == "leave":
             self.figures["left"] += self.say(f"{rng.choice(['down', 'down', 'blind'])} {end} {link}") == "done"
         elif kind == "give up":
-            self.figures["given up"] += self.say(f"noanswer {end} {link}") == "done"
+            self.give_up(end, link)
         elif kind == "rise":
             self.rise(link)
         elif kind == "restore":
@@ -124,8 +133,8 @@ class Walk:
 
     def drain(self):
         """Units go and come, and none is lost, until nothing but fill-in units does."""
-        for _ in range(QUIET_ROUNDS):
-            told = False
+        for turn in range(QUIET_ROUNDS):
+            told = turn % ROUNDS_ALONE == ROUNDS_ALONE - 1 and self.fails_alone()
             for link in range(self.count):
                 for end, other in ("ab", "ba"):
                     told |= self.emit(end, link)
@@ -136,6 +145,15 @@ class Walk:
             if not told:
                 return
         raise AssertionError("arrives: units go on and on")
+
+    def fails_alone(self):
+        """Whether a link was up at one end alone: its level 2, which hears the other end no more, takes it down."""
+        failed = False
+        for link in range(self.count):
+            up = [end for end in "ab" if self.is_up(end, link)]
+            if len(up) == 1:
+                failed |= self.say(f"down {up[0]} {link}") == "done"
+        return failed
 
     def end(self):
         """Nothing is lost any more, each link comes up, and messages are offered in all streams."""

@@ -11,7 +11,7 @@ that what is sent again is what was sent under that FSN, what becomes of an orde
 streams can be asked back and how many declarations that makes, that a message stands back just by the code that its
 stream waits for, and that the places on each `end` line add up to the messages accepted there, and how many are back.
 
-Of a script in which no unit was heard by `hear` and no `noanswer` was obeyed also: no unit shows a fault; what a link
+Of a script in which no unit was heard by `hear` and neither `noanswer` nor `timed` was obeyed also: no unit shows a fault; what a link
 brought is what was sent on it, from the first on, in order; each message that counts as acknowledged was heard; and of
 each stream what was heard is what was offered, from the first on, in order. Where a `blind` was obeyed, of each
 stream messages may be missing, but none comes twice or out of order; where a `backtimeout` was obeyed, none comes
@@ -27,7 +27,7 @@ from line_bits import NARROW, WIDE, Unit, check_octets, unit_of
 NUMBER = rb"(0|[1-9][0-9]*)"
 HEX = rb"((?:[0-9a-fA-F]{2})+)"
 SHAPE = re.compile(rb"(together) N|(take) ([ab])|(offer) ([ab])(?: X)?|(emit|arrive|find|rise|fill) ([ab]) N"
-                   rb"|(down|blind|noanswer|restore|backtimeout) ([ab]) N"
+                   rb"|(down|blind|noanswer|timed|restore|backtimeout) ([ab]) N"
                    rb"|(lose) ([ab]) N N|(hear) ([ab]) N X".replace(b"N", NUMBER).replace(b"X", HEX))
 OPENING = re.compile(rb"set links=N method=(?:basic|cyclic:N:N) a=N b=N sio=([0-9a-fA-F]{2})(?: profile=(narrow|wide))?".replace(b"N", NUMBER))
 PLACES = ("waiting", "unacked", "acked", "held", "parked", "back", "discarded")
@@ -447,6 +447,14 @@ class Trace:
         done = "done" if link.phase == "down" else "refused 9"
         expect(answer == done, "noanswer isn't obeyed just where an answer is wanted")
         if link.phase == "down":
+            end.settle(line.number)
+            self.gave_up = True
+
+    def on_timed(self, line, end, answer):
+        link = end.links[line.number]
+        expect(answer in (("done", "refused 9") if link.phase == "down" else ("refused 9",)),
+               "timed is obeyed where no order is to be sent")
+        if answer == "done":
             end.settle(line.number)
             self.gave_up = True
 

@@ -23,7 +23,7 @@ class Walk:
         self.streams = rng.sample(range(16), rng.choice([1, 2, 4, 16]))
         rates = {"offer": 20, "emit": 30, "arrive": 28, "take": 5, "find": 4, "together": 6, "remark": 1}
         rates.update(lose=rng.choice([0, 2, 8]), down=rng.choice([0, 1, 3]), blind=rng.choice([0, 0, 0, 1]))
-        rates.update(noanswer=rng.choice([0, 0, 0, 1]), hear=12 if hostile else 0)
+        rates.update(noanswer=rng.choice([0, 0, 0, 1]), timed=rng.choice([0, 0, 0, 1]), hear=12 if hostile else 0)
         rates.update(restore=rng.choice([0, 2, 6]), backtimeout=rng.choice([0, 0, 0, 1]))
         self.kinds, self.rates = list(rates), list(rates.values())
 

@@ -29,7 +29,7 @@ pub trait Door {
         ensures { result ≡ number self.now };
 
     /// One step of the link's terminal at the set: what the set answers is put into the reply. The event is one of that
-    /// terminal: Next, Heard, Up, Down, DownBlind, NoAnswer, Restore or BackTimeout, on its own link; a heard unit has a
+    /// terminal: Next, Heard, Up, Down, DownBlind, NoAnswer, Timed, Restore or BackTimeout, on its own link; a heard unit has a
     /// body of at most 273 octets.
     ///
     /// Faults: 2 [`SetFault::Exhausted`], 1 [`SetFault::NoMemory`]. No entry was made then, and the reply says nothing.

@@ -25,6 +25,7 @@ thing, mostly on link L:
   rise, fill              it comes up at one; before that its end sends a FISU
   down, blind             the link fails, and an order tells the other end
   noanswer                nobody answered that order
+  timed                   that order never was sent, and is taken back
   restore, backtimeout    streams are asked back to it, nobody answered that
 `mtpbank play --help` says how each line is written, what it prints, and each
 fault. Begin with `mtpbank play < examples/first_message.play`. With --explain
@@ -70,7 +71,7 @@ line opens the end, and each other asks for one thing, mostly of link L:
   octets                  octets come on the line; as many go out
   hear, flags, bits       units, flags or bits come on the line
   offer, take, find       a user's message is handed over, taken, looked for
-  noanswer, restore, backtimeout              what Q.704's timers tell the set
+  noanswer, timed, restore, backtimeout       what Q.704's timers tell the set
   look                    how the link stands
   checkpoint, history     what the set was asked goes out, or is shown
 An octet in and an octet out is a turn, and a turn is all the time there is.
@@ -101,7 +102,7 @@ Each further line prints events and then its answer, so whoever drives the end r
   flags L N           N flags stand on the line: turns K
   bits L BITS [xN]    these bits stand on the line, digits 0 and 1, the first one first: turns K
   offer HEX, take, find N                            user 0, answered as `mtpbank play` answers them
-  noanswer L, restore L, backtimeout L               the terminal of link L, answered so too
+  noanswer L, timed L, restore L, backtimeout L      the terminal of link L, answered so too
                       A refusal has its number. offer: 1 under 5 octets, 2 over 273, 3 service indicator 0, 4 the stream
                       has 1,024 unsent messages. take: 9 nothing to take. find: 8 no such number, 11 the message left
                       with a checkpoint. restore: 5 the link isn't up. The terminal's: 9 nothing to do
@@ -127,8 +128,9 @@ the line's clock keeps the pace. Begin with two blocks of flags; 64 to 160 octet
 first and PCM timeslots highest bit first, so a card that gives octets as G.711 has them needs the bits of each octet
 reversed, both ways. Where the line is gone go on with blocks of ones (ff), since the end has no clock but its turns.
 Whoever drives it does this:
-  link L out, and phase=left after T2 of Q.704 (0.7 to 2 s)      noanswer L. T2 runs only while the order to the far end
-                      can go out: another link is up, or all are out or waiting, so that none comes up without it
+  link L out, and phase=left after T1 of Q.704 (0.5 to 1.2 s)    timed L: where the order to the far end never went out.
+                      If it's refused 9, noanswer L after T2 (0.7 to 2 s). T1 and T2 run only while the order can go
+                      out: another link is up, or all are out or waiting, so that none comes up without it
   link L out          start L again after a pause (T17 of Q.704, 0.8 to 1.5 s); emergency L before it, where no other
                       is up. Then fewer than 3,700 octets may be under way on it, both ways together: units of its last
                       life that come when it has proved again are heard as new ones, and their messages come twice
@@ -179,7 +181,7 @@ lower case with one space between two words:
   .. next L           the next unit to send on link L
   .. hear L HEX       a unit that was heard on link L, without check octets
   .. up L             link L comes up at this end, which is answered done
-  .. down L, blind L, noanswer L, restore L, backtimeout L
+  .. down L, blind L, noanswer L, timed L, restore L, backtimeout L
   .. -> ANSWER        as `mtpbank play` prints it; the octets that were sent stand with their check octets. Where these
                       are wrong, or a number stands in it that no set answers, the line can't be read
 A line checkpoint between entries says that the set took a checkpoint there: what is finished leaves it, and who looks
@@ -388,6 +390,8 @@ messages are unacknowledged, bodies have 272 octets at most, and a cycle is forc
   blind E L           link L fails at end E, which can't tell what it accepted (ECO)
   noanswer E L        end E had no answer to the changeover of link L: what was sent on it is discarded, and orders that
                       wait there; users' messages that were never sent go on over another link
+  timed E L           end E takes back the order about link L, which never was sent: what was sent on the link is
+                      discarded, and all that was never sent goes on over another link
   restore E L         end E asks the streams whose home is link L back to it, from each other link that is up (CBD)
   backtimeout E L     end E had no answer to the changeback to link L
 Words are separated by one space, numbers are decimal without leading zeros, and lines end in LF.
@@ -410,13 +414,13 @@ Each of these lines prints one:
                       asked=1, the end asks for retransmission; resend=1, it is asked for it; F is 2 for
                       abnormal BSNs, 3 for abnormal FIBs, else 0 (the link stays up until down or blind)
   lost                the unit is lost, by lose or because the link isn't up where it arrives
-  done                the link has failed, or settled without an answer; or streams were asked back, or go home
-                      without an answer
+  done                the link has failed, or settled without an answer or by time; or streams were asked back, or go
+                      home without an answer
   refused C           1 under 5 octets, 2 over 273 (wide: 272), 3 service indicator 0, 4 the stream has 1,024 unsent
                       messages, 5 the link isn't up, 8 no such message, 9 nothing to take or to do: for hear
-                      the unit tells a status (LSSU), for noanswer the link wasn't left or has settled, for
-                      restore no stream of link L runs on another link that is up, but for those whose code is
-                      still in use, and for backtimeout no code of link L is in use
+                      the unit tells a status (LSSU), for noanswer and timed the link wasn't left or has settled,
+                      for timed its order was sent, for restore no stream of link L runs on another link that is up,
+                      but for those whose code is still in use, and for backtimeout no code of link L is in use
 The last two lines count the users' messages of each end by where they stand.
 
 A label is four octets, the lowest first: DPC + 2^14 OPC + 2^28 SLS. The SLS, the high digit of a message's fifth

@@ -4,7 +4,7 @@
 -- event is a walk of small changes (`step_walks`, set_model's Walk.antt). Acknowledging turns the first of the
 -- unacknowledged rows (`first_turned`, by induction on the rows), and no number stands in two of them. Whole.antt,
 -- Arriving.antt and Runs.antt use it.
-use Rattle.std.proofs.Common.{refl, arith, ◌≡◌, ◌∙◌, ap, sym, subst, ℕ, zero, suc, ◌+◌, ◌-◌, ◌≤◌, ◌==◌, Bool, true, false, List, [], ◌∷◌, ◌++◌, All, length, map, take, drop, slice_get, slice_set, Option, Some, None, replicate, ◌⊎◌, inl, inr, if◌then◌else◌}
+use Rattle.std.proofs.Common.{refl, arith, ◌≡◌, ◌∙◌, ap, sym, subst, ℕ, zero, suc, ◌+◌, ◌-◌, ◌≤◌, ◌==◌, Bool, true, false, not, List, [], ◌∷◌, ◌++◌, All, length, map, take, drop, slice_get, slice_set, Option, Some, None, replicate, ◌⊎◌, inl, inr, ◌||◌, if◌then◌else◌}
 use Rattle.std.proofs.lemmas.Bool.{eqb-true}
 use Rattle.std.proofs.lemmas.List.{append-nil, length-append, length-drop, length-map, map-append, drop-map, take-append-le, drop-append-le, drop-drop}
 use Rattle.std.proofs.lemmas.List.Elements.{All-nil, All-cons, All-head, All-tail, All-append}
@@ -18,13 +18,13 @@ use Rattle.set_events.specs.declared.answer.DiscardCause.TheVariants.{NoAnswer a
 use Rattle.set_events.specs.declared.answer.Fate.{Fate}
 use Rattle.set_events.specs.declared.answer.Fate.TheVariants.{Waiting, Unacked, Acked, Discarded}
 use Rattle.set_events.specs.declared.event.Event.{Event}
-use Rattle.set_events.specs.declared.event.Event.TheVariants.{Offer, Take, Find, Next, Heard, Up as UpEvent, Down as DownEvent, DownBlind, NoAnswer, Restore, BackTimeout}
+use Rattle.set_events.specs.declared.event.Event.TheVariants.{Offer, Take, Find, Next, Heard, Up as UpEvent, Down as DownEvent, DownBlind, NoAnswer, Timed, Restore, BackTimeout}
 use Rattle.set_model.specs.declared.phase.Phase.{Phase}
 use Rattle.set_model.specs.declared.phase.Phase.TheVariants.{Up, Down, Settled}
 use Rattle.set_model.specs.declared.reached.Reached.{Reached}
-use Rattle.set_model.specs.Changeover.{fate_on, queued, left_by, left_link, out_of_service, declared, released, acknowledged as acknowledged_link, acknowledged_by, answered_link, cleared, moved_over, settled, settled_link, withdrawn}
+use Rattle.set_model.specs.Changeover.{fate_on, queued, left_by, left_link, out_of_service, declared, released, acknowledged as acknowledged_link, acknowledged_by, answered_link, cleared, moved_over, settled, settled_link, taken_back, withdrawn}
 use Rattle.set_model.specs.Control.{Choice, again, first, fill, choice_of, part_of}
-use Rattle.set_model.specs.Rows.{orders_changed, Row, all_with, is_waiting, is_unacked, is_on, is_back, is_back_to, is_parked, stands_back, octets_in, stream_of, turned, changed, moved, appended, with_fate, place, unack, wait, IsNumbered, IsInOrder}
+use Rattle.set_model.specs.Rows.{orders_changed, Fate, is_users, is_parked, same_fate, waits, Row, all_with, is_waiting, is_unacked, is_on, is_back, is_back_to, is_parked, stands_back, octets_in, stream_of, turned, changed, moved, appended, with_fate, place, unack, wait, IsNumbered, IsInOrder}
 use Rattle.set_model.specs.Sound.{IsSound}
 use Rattle.set_model.specs.State.{FinishedCounts, all_finished, given, LinkState, State, Settings, has_phase_settled, is_settled, is_up, link_is_settled, new_link, opened_with, fate_at, target, window_of, with_link}
 use Rattle.set_model.specs.Step.{with_known, is_msu, after_control, next, offered, rises, rows_sent, step, takes}
@@ -32,7 +32,7 @@ use Rattle.std.proofs.lemmas.Bool.{cond_both}
 use Rattle.set_model.proofs.Ahead.{put_length, put_out, numbered_put}
 use Rattle.set_model.proofs.Events.{sent_by, ChangesOn, acknowledged, appended_out, unparked, withdrawn_rows}
 use Rattle.set_model.proofs.Events as events
-use Rattle.set_model.proofs.Rows.{orders_there, with_number, numbered_appended, turned_there, turned_left, turned_same, changed_left, at_most_one, moved_length, moved_numbered, moved_same, new_row}
+use Rattle.set_model.proofs.Rows.{picked_there, with_number, numbered_appended, turned_there, turned_left, turned_same, changed_left, at_most_one, moved_length, moved_numbered, moved_same, new_row}
 use Rattle.set_model.proofs.Lists.{get_set_same, get_set_other, same_at, within}
 use Rattle.set_model.proofs.Places.{false_true, itself, apart_back, on_other, not_on_unacked, back_not_on, code_back, home_back}
 use Rattle.set_model.proofs.Staying.{acked_few, not_sent, offered_out}
@@ -43,7 +43,7 @@ use Rattle.pair_model.specs.Run.{Message, Past, messages, first_sent, past_sent,
 use Rattle.pair_model.proofs.Moving.{next_refused}
 use Rattle.pair_model.proofs.Runs.{is_at_up}
 use Rattle.pair_model.proofs.Sending.{next_is, cleared_at, cleared_sends, cleared_sound, overtaken}
-use Rattle.pair_changeover.proofs.Staying.{orders_stay, Stays, turned_stay, changed_stay, moved_stay, joined_stay, put_stay}
+use Rattle.pair_changeover.proofs.Staying.{picked_stay, Stays, turned_stay, changed_stay, moved_stay, joined_stay, put_stay}
 use Rattle.pair_changeover.proofs.Views.{acked_of, acked_on}
 
 abbrev pub AreAcked : ℕ → List Row → List Message → Type 0
@@ -169,6 +169,9 @@ numbered_on s t gone long numbered =
     (sym (ap (λ (f : FinishedCounts). all_finished f + length t.rows) gone
     ∙ ap (λ (n : ℕ). all_finished s.finished + n) long)) numbered
 
+never_acked : (l : ℕ) (from : Fate) → (waits from || is_parked from) ≡ true → same_fate (Acked l) from ≡ false
+never_acked l from unsent = grind arith
+
 module _ (l : ℕ) (sent : List Message) where
   -- nothing that is told of the link changed
   goes_on : (s t : State) → IsNumbered (given t) t.rows → Stays (Acked l) s.rows t.rows
@@ -292,10 +295,10 @@ module _ (l : ℕ) (sent : List Message) where
 
   leaves_own : (blind : Bool) (link : LinkState) (s : State) → IsAt l link Up s → AckedFirst l sent s → AckedFirst l sent (out_of_service blind l link s)
   leaves_own blind link s at a = let now =
-      at_link s link at.there a in own_set s (out_of_service blind l link s) link (left_link blind link) at.there refl
+      at_link s link at.there a in own_set s (out_of_service blind l link s) link (left_link blind (given s) link) at.there refl
       a.numbered now.0 now.1 (λ e. go (a.going link at.there (ap has_phase_settled at.phase_is)))
     where
-      go : IsRest l link s.rows sent → IsRest l (left_link blind link) s.rows sent
+      go : IsRest l link s.rows sent → IsRest l (left_link blind (given s) link) s.rows sent
       go (inl rest) = inl rest
       go (inr none) = inr (refl, none.1)
 
@@ -305,7 +308,7 @@ module _ (l : ℕ) (sent : List Message) where
       turns (is_back_to n) _ out (left_by blind n link s) refl refl (home_back n) (λ row. offered_out l _ out) refl refl
       (by_link n (λ m. IsAt m link Up s → AckedFirst l sent (out_of_service blind m link s))
       (λ here. leaves_own blind link s here a)
-      (λ d here. goes_on s out a.numbered (λ number e. e) (other_set n (left_link blind link) s.links d) refl a) at)
+      (λ d here. goes_on s out a.numbered (λ number e. e) (other_set n (left_link blind (given s) link) s.links d) refl a) at)
 
   acknowledges_any : (count n : ℕ) (link after : LinkState) (s t : State) → t.finished ≡ s.finished
       → slice_get s.links n ≡ Some link → t.links ≡ slice_set s.links n after
@@ -411,8 +414,13 @@ module _ (l : ℕ) (sent : List Message) where
         goes_on s (record s { rows = orders_changed (is_waiting n) (Discarded cause) s.rows })
         (numbered_on s (record s { rows = orders_changed (is_waiting n) (Discarded cause) s.rows }) refl g.kept.count
         (g.kept.numbered (given s) a.numbered))
-        (orders_stay (Acked l) (is_waiting n) refl (Discarded cause) s.rows) refl
-        ((orders_there (is_waiting n) (Discarded cause) s.rows).same (is_unacked l) refl (λ f e. grind arith)) a;
+        (picked_stay (Acked l) (is_waiting n) refl (Discarded cause) (λ row. not (is_users row)) s.rows) refl
+        ((picked_there (λ row. not (is_users row)) (is_waiting n) (Discarded cause) s.rows).same (is_unacked l) refl (λ f e. grind arith)) a;
+    takes_back = λ order from s unsent known g a.
+        goes_on s (taken_back order from s)
+        (numbered_on s (taken_back order from s) refl g.kept.count (g.kept.numbered (given s) a.numbered))
+        (picked_stay (Acked l) (λ f. same_fate f from) (never_acked l from unsent) (Discarded NoAnswerCame) (λ row. row.number == order) s.rows) refl
+        (g.unack_same l) a;
     moves_off = λ told n link s known at a. moves_off_any told n link s at a;
     answers = λ n link s known at a. answers_any n link s at a;
     withdraws = λ count n link s known at g a. withdraws_any count n s a;
@@ -605,6 +613,7 @@ acked_first l s (Heard n unit) sent sound a = other_kept l sent s (Heard n unit)
 acked_first l s (DownEvent n) sent sound a = other_kept l sent s (DownEvent n) (λ m e. absurd cc) (λ m e. absurd cc) a
 acked_first l s (DownBlind n) sent sound a = other_kept l sent s (DownBlind n) (λ m e. absurd cc) (λ m e. absurd cc) a
 acked_first l s (NoAnswer n) sent sound a = other_kept l sent s (NoAnswer n) (λ m e. absurd cc) (λ m e. absurd cc) a
+acked_first l s (Timed n) sent sound a = other_kept l sent s (Timed n) (λ m e. absurd cc) (λ m e. absurd cc) a
 acked_first l s (Restore n) sent sound a = other_kept l sent s (Restore n) (λ m e. absurd cc) (λ m e. absurd cc) a
 acked_first l s (BackTimeout n) sent sound a = other_kept l sent s (BackTimeout n) (λ m e. absurd cc) (λ m e. absurd cc) a
 

@@ -13,7 +13,7 @@ use Rattle.set_route.specs.declared.place.Place.TheVariants.{On, Changing, Nowhe
 use Rattle.set_route.specs.Routing.{place_of}
 use Rattle.set_route.specs.Routing as routes
 use Rattle.set_model.specs.Rows.{Row, stream_of, is_unacked, is_back_to, stands_back, standing, unack, turned, fated}
-use Rattle.set_model.specs.State.{LinkState, State, is_up, link_is_up, has_phase_up, fate_at}
+use Rattle.set_model.specs.State.{given, LinkState, State, is_up, link_is_up, has_phase_up, fate_at}
 use Rattle.set_model.specs.Changeover.{out_of_service, left_by, left_link}
 use Rattle.set_model.proofs.Rows.{turned_same, moved_more}
 use Rattle.set_model.proofs.Lists.{get_set_same, within}
@@ -40,7 +40,7 @@ module _ (l : ℕ) (state : LinkState) (s : State) where
   left_acked there = go (has_phase_up state.phase) refl
     where
       go : (b : Bool) → has_phase_up state.phase ≡ b → acked_on l (as_left l (Some state) s) ≡ state.acked
-      go true e = rw e (ap acked_of (get_set_same s.links l (left_link false state) (within s.links l state there)))
+      go true e = rw e (ap acked_of (get_set_same s.links l (left_link false (given s) state) (within s.links l state there)))
       go false e = rw e (ap acked_of there)
 
 sent_not_back : (k l : ℕ) (f : Fate) → is_unacked k f ≡ true → is_back_to l f ≡ false
@@ -86,11 +86,11 @@ module _ (k l count : ℕ) (link link' state : LinkState) (s mid : State) (apart
     where
       go : (b : Bool) → (l == n) ≡ b → is_up n out_mid ≡ is_up n out
       go true e = subst (λ (m : ℕ). is_up m out_mid ≡ is_up m out) (eqb-true l n e)
-          (ap link_is_up (own_then l state (left_link false state) mid out_mid mid_there refl)
-          ∙ sym (ap link_is_up (own_then l state (left_link false state) s out state_there refl)))
+          (ap link_is_up (own_then l state (left_link false (given mid) state) mid out_mid mid_there refl)
+          ∙ sym (ap link_is_up (own_then l state (left_link false (given s) state) s out state_there refl)))
       go false e =
-          ap link_is_up (other_then l state (left_link false state) mid out_mid mid_there refl n e) ∙ mid_up n
-          ∙ sym (ap link_is_up (other_then l state (left_link false state) s out state_there refl n e))
+          ap link_is_up (other_then l state (left_link false (given mid) state) mid out_mid mid_there refl n e) ∙ mid_up n
+          ∙ sym (ap link_is_up (other_then l state (left_link false (given s) state) s out state_there refl n e))
 
   fate_alike : (place : Place) → fate_at place out_mid ≡ fate_at place out
   fate_alike Nowhere = refl

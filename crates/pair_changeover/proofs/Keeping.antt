@@ -164,8 +164,8 @@ down_at : {emergencies : Bool} (blind : Bool) (k : ℕ) (link : LinkState) (s f 
 down_at {emergencies = emergencies} blind k link s f may sound codes at =
     let order = leaving_order blind k link in
     let left = left_by blind k link s in
-    let there = own_then k link (left_link blind link) s left at.there refl in
-    let all = by_link k link (left_link blind link) s left at.there refl in
+    let there = own_then k link (left_link blind (given s) link) s left at.there refl in
+    let all = by_link k link (left_link blind (given s) link) s left at.there refl in
     let up : is_up k s ≡ true = ap link_is_up at.there ∙ ap has_phase_up at.phase_is in
     let was : link_is_settled (Some link) ≡ false = ap has_phase_settled at.phase_is in
     let left_does = leaves_acts blind k link s f sound at in

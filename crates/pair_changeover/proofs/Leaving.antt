@@ -14,7 +14,7 @@ use Rattle.set_route.specs.Routing.{place_of, home_of}
 use Rattle.set_model.specs.declared.phase.Phase.TheVariants.{Up}
 use Rattle.set_model.specs.Rows.{Row, stream_of, is_unacked, is_back, is_back_to, was_discarded, stands_back, standing, parked, all_with}
 use Rattle.set_model.specs.Sound.{IsSound}
-use Rattle.set_model.specs.State.{LinkState, State, is_up, link_is_up, link_is_settled, fate_at}
+use Rattle.set_model.specs.State.{given, LinkState, State, is_up, link_is_up, link_is_settled, fate_at}
 use Rattle.set_model.specs.Changeover.{out_of_service, left_by, left_link, released}
 use Rattle.set_model.proofs.Rows.{moved_same}
 use Rattle.set_model.proofs.Places.{code_back, home_back}
@@ -64,10 +64,10 @@ module _ (blind : Bool) (k : ℕ) (link : LinkState) (s f : State) (sound : IsSo
   abbrev pub turns_to : ℕ → List Message
   turns_to l = gained (is_back_to k) goes_to (home_back k) s.rows unsent l
 
-  all : (P : ℕ → Option LinkState → Option LinkState → Type 0) → P k (Some link) (Some (left_link blind link))
+  all : (P : ℕ → Option LinkState → Option LinkState → Type 0) → P k (Some link) (Some (left_link blind (given s) link))
       → ((l : ℕ) (o : Option LinkState) → (k == l) ≡ false → P l o o) → (l : ℕ)
       → P l (slice_get s.links l) (slice_get left.links l)
-  all = by_link k link (left_link blind link) s left at.there refl
+  all = by_link k link (left_link blind (given s) link) s left at.there refl
 
   up_less : (l : ℕ) → is_up l left ≡ true → is_up l s ≡ true
   up_less = all (λ n old new. link_is_up new ≡ true → link_is_up old ≡ true) (λ e. absurd cc) (λ n old d e. e)

@@ -91,12 +91,12 @@ pub data Obeys (emergencies : Bool) (k : ℕ) (body : List ℕ) (s f : State) : 
       → TellsOver body → Obeys emergencies k body s f (settled (Upto fsn) l link s)
   answers : (fsn l : ℕ) (link : LinkState) → (k == l) ≡ false → IsAt l link Up s → Told fsn l link s f → Heard l s f
       → TellsOver body → Obeys emergencies k body s f
-      (settled (Upto fsn) l (left_link false link) (left_and_told l link s))
+      (settled (Upto fsn) l (left_link false (given s) link) (left_and_told l link s))
   settles_blind : (l : ℕ) (link : LinkState) → emergencies ≡ true → (k == l) ≡ false → IsAt l link Down s → Heard l s f
       → TellsOver body → Obeys emergencies k body s f (settled Unknown l link s)
   answers_blind : (l : ℕ) (link : LinkState) → emergencies ≡ true → (k == l) ≡ false → IsAt l link Up s → Heard l s f
       → TellsOver body → Obeys emergencies k body s f
-      (settled Unknown l (left_link false link) (left_and_told l link s))
+      (settled Unknown l (left_link false (given s) link) (left_and_told l link s))
   acknowledges : (l code : ℕ) → order_of s.settings.profile body ≡ Some (Cbd l code) → Obeys emergencies k body s f (queued (Cba l code) s)
   releases : (l code : ℕ) → order_of s.settings.profile body ≡ Some (Cba l code) → Obeys emergencies k body s f (released code s)
 
@@ -225,8 +225,8 @@ module _ (l : ℕ) (link : LinkState) (s f : State) (sound : IsSound s) (codes :
   pub told_sound : IsSound told
   told_sound = new.queues (Coa l (last_accepted link)) left left_sound
 
-  pub told_at : IsAt l (left_link false link) Down told
-  told_at = record { there = own_then l link (left_link false link) s left at.there refl; phase_is = refl }
+  pub told_at : IsAt l (left_link false (given s) link) Down told
+  told_at = record { there = own_then l link (left_link false (given s) link) s left at.there refl; phase_is = refl }
 
   pub below : l < 16
   below = omega (arith, within s.links l link at.there, sound.count, sound.routed, sound.routing.at_most_16)
@@ -244,9 +244,9 @@ module _ (l : ℕ) (link : LinkState) (s f : State) (sound : IsSound s) (codes :
   told_both o =
       let up : is_up l s ≡ true = ap link_is_up at.there ∙ ap has_phase_up at.phase_is in
       queues_both left f (Coa l (last_accepted link)) left_sound (acts s left f left_acts o) coa_is
-      (sym (ap last_of (own_then l link (left_link false link) s left at.there refl)))
+      (sym (ap last_of (own_then l link (left_link false (given s) link) s left at.there refl)))
       (acts_none s left f left_acts l (o.near.none_up l up))
-      (ap link_is_up (own_then l link (left_link false link) s left at.there refl))
+      (ap link_is_up (own_then l link (left_link false (given s) link) s left at.there refl))
       (not_settled (is_settled l f) (is_up l s) (o.far.apart l) up)
 
   pub told_heard : Heard l s f → Heard l told f
@@ -269,14 +269,14 @@ module _ (l : ℕ) (link : LinkState) (s f : State) (sound : IsSound s) (codes :
   same_number : given left ≡ given s
   same_number = ap (λ (n : ℕ). all_finished s.finished + n) (moved_length (is_back_to l) (goes_to false l link s f sound at) s.rows)
 
-  pub told_still : (fsn : ℕ) → Told fsn l link s f → Told fsn l (left_link false link) told f
+  pub told_still : (fsn : ℕ) → Told fsn l link s f → Told fsn l (left_link false (given s) link) told f
   told_still fsn t = record { last = t.last; due = t.due; within = rw unack_told (t.within) }
 
-  pub told_reached_so : (fsn : ℕ) → Told fsn l link s f → IsReached fsn l (left_link false link) told f
-  told_reached_so fsn t = is_reached fsn l (left_link false link) told f told_sound told_at (told_still fsn t)
+  pub told_reached_so : (fsn : ℕ) → Told fsn l link s f → IsReached fsn l (left_link false (given s) link) told f
+  told_reached_so fsn t = is_reached fsn l (left_link false (given s) link) told f told_sound told_at (told_still fsn t)
 
   pub told_accepted : (n : ℕ) → accepted_on n told ≡ accepted_on n s
-  told_accepted = by_link l link (left_link false link) s left at.there refl (λ m old new. accepted_of new ≡ accepted_of old) refl (λ m old d. refl)
+  told_accepted = by_link l link (left_link false (given s) link) s left at.there refl (λ m old new. accepted_of new ≡ accepted_of old) refl (λ m old d. refl)
 
   answer_is : (q : List Message)
       → ahead_of_users (new_message (given left) answer_text ∷ []) q ≡ ahead_of_users (answer_on l (Some link) s) q
@@ -300,7 +300,7 @@ module _ (l : ℕ) (link : LinkState) (s f : State) (sound : IsSound s) (codes :
   elsewhere (Some to) e true f =
       let up = target_up left.links to e in
       let here : slice_get left.links l ≡ Some up.0 = subst (λ (n : ℕ). slice_get left.links n ≡ Some up.0) (eqb-true to l f) up.1 in
-      let same : up.0 ≡ left_link false link = same_at left.links l (left_link false link) up.0 told_at.there here in
+      let same : up.0 ≡ left_link false (given s) link = same_at left.links l (left_link false (given s) link) up.0 told_at.there here in
       let no : true ≡ false = sym up.2 ∙ ap (λ (k : LinkState). has_phase_up k.phase) same in
       absurd cc
 
@@ -339,13 +339,13 @@ module _ {emergencies : Bool} (k : ℕ) (body : List ℕ) (s f : State) (sound :
   obeys_both t (keeps _ rows links routing none) = acts s t f (stands_still s t f rows links) o
   obeys_both _ (settles fsn l link other at told_so heard over) = settles_both fsn l link s f sound at (is_reached fsn l link s f sound at told_so) o heard
   obeys_both _ (answers fsn l link other at told_so heard over) =
-      settles_both fsn l (left_link false link) (told l link s f sound codes at) f
+      settles_both fsn l (left_link false (given s) link) (told l link s f sound codes at) f
       (told_sound l link s f sound codes at) (told_at l link s f sound codes at)
       (told_reached_so l link s f sound codes at fsn told_so) (told_both l link s f sound codes at o)
       (told_heard l link s f sound codes at heard)
   obeys_both _ (settles_blind l link may other at heard over) = blind_both l link s f sound at o heard.far_down heard.none
   obeys_both _ (answers_blind l link may other at heard over) =
-      blind_both l (left_link false link) (told l link s f sound codes at) f (told_sound l link s f sound codes at)
+      blind_both l (left_link false (given s) link) (told l link s f sound codes at) f (told_sound l link s f sound codes at)
       (told_at l link s f sound codes at) (told_both l link s f sound codes at o) heard.far_down
       (told_heard l link s f sound codes at heard).none
   obeys_both _ (acknowledges l code is) = acts s (queued (Cba l code) s) f (acknowledges_acts l code s f sound) o
@@ -357,12 +357,12 @@ module _ {emergencies : Bool} (k : ℕ) (body : List ℕ) (s f : State) (sound :
   obeys_accepted _ (settles fsn l link other at told_so heard over) n = settles_accepted fsn l link s f sound at (is_reached fsn l link s f sound at told_so) n
   obeys_accepted _ (settles_blind l link may other at heard over) n = blind_accepted l link s f sound at n
   obeys_accepted _ (answers fsn l link other at told_so heard over) n =
-      settles_accepted fsn l (left_link false link) (told l link s f sound codes at) f
+      settles_accepted fsn l (left_link false (given s) link) (told l link s f sound codes at) f
       (told_sound l link s f sound codes at) (told_at l link s f sound codes at)
       (told_reached_so l link s f sound codes at fsn told_so) n
       ∙ told_accepted l link s f sound codes at n
   obeys_accepted _ (answers_blind l link may other at heard over) n =
-      blind_accepted l (left_link false link) (told l link s f sound codes at) f (told_sound l link s f sound codes at) (told_at l link s f sound codes at) n
+      blind_accepted l (left_link false (given s) link) (told l link s f sound codes at) f (told_sound l link s f sound codes at) (told_at l link s f sound codes at) n
       ∙ told_accepted l link s f sound codes at n
   obeys_accepted _ (acknowledges l code is) n = refl
   obeys_accepted _ (releases l code is) n = refl
@@ -381,7 +381,7 @@ still_less : (s f : State) (l : ℕ) (link : LinkState) → slice_get s.links l 
     → (is_settled n s ≡ true → acked_on n s ≤ accepted_on n f) → is_settled n (left_by false l link s) ≡ true
     → acked_on n (left_by false l link s) ≤ accepted_on n f
 still_less s f l link there =
-    by_link l link (left_link false link) s (left_by false l link s) there refl
+    by_link l link (left_link false (given s) link) s (left_by false l link s) there refl
     (λ m old new. (link_is_settled old ≡ true → acked_of old ≤ accepted_on m f) → link_is_settled new ≡ true → acked_of new ≤ accepted_on m f)
     (λ before g. absurd cc) (λ m old d before g. before g)
 
@@ -397,14 +397,14 @@ module _ {emergencies : Bool} (k : ℕ) (body : List ℕ) (s f : State) (sound :
   obeys_less less _ (settles fsn l link other at told_so heard over) n e =
       settles_less fsn l link s f sound at (is_reached fsn l link s f sound at told_so) told_so n (less n) e
   obeys_less less _ (answers fsn l link other at told_so heard over) n e =
-      settles_less fsn l (left_link false link) (told l link s f sound codes at) f
+      settles_less fsn l (left_link false (given s) link) (told l link s f sound codes at) f
       (told_sound l link s f sound codes at) (told_at l link s f sound codes at)
       (told_reached_so l link s f sound codes at fsn told_so) (told_still l link s f sound codes at fsn told_so) n
       (still_less s f l link at.there n (less n)) e
   obeys_less less _ (settles_blind l link may other at heard over) n e =
       blind_less l link s f at.there (due l link other at.there (ap has_phase_settled at.phase_is)) n (less n) e
   obeys_less less _ (answers_blind l link may other at heard over) n e =
-      blind_less l (left_link false link) (told l link s f sound codes at) f (told_at l link s f sound codes at).there
+      blind_less l (left_link false (given s) link) (told l link s f sound codes at) f (told_at l link s f sound codes at).there
       (due l link other at.there (ap has_phase_settled at.phase_is)) n (still_less s f l link at.there n (less n)) e
   obeys_less less _ (acknowledges l code is) n e = less n e
   obeys_less less _ (releases l code is) n e = less n e
@@ -419,10 +419,10 @@ module _ (k : ℕ) (body : List ℕ) (s f : State) (sound : IsSound s) (codes : 
   obeys_equal equal _ (settles fsn l link other at told_so heard over) n e =
       settles_equal fsn l link s f sound at (is_reached fsn l link s f sound at told_so) told_so n (equal n) e
   obeys_equal equal _ (answers fsn l link other at told_so heard over) n e =
-      settles_equal fsn l (left_link false link) (told l link s f sound codes at) f
+      settles_equal fsn l (left_link false (given s) link) (told l link s f sound codes at) f
       (told_sound l link s f sound codes at) (told_at l link s f sound codes at)
       (told_reached_so l link s f sound codes at fsn told_so) (told_still l link s f sound codes at fsn told_so) n
-      (by_link l link (left_link false link) s (left_by false l link s) at.there refl
+      (by_link l link (left_link false (given s) link) s (left_by false l link s) at.there refl
       (λ m old new. (link_is_settled old ≡ true → acked_of old ≡ accepted_on m f) → link_is_settled new ≡ true
       → acked_of new ≡ accepted_on m f) (λ before g. absurd cc) (λ m old d before g. before g) n (equal n)) e
   obeys_equal equal _ (settles_blind l link may other at heard over) n e = absurd cc
@@ -434,7 +434,7 @@ module _ (k : ℕ) (body : List ℕ) (s f : State) (sound : IsSound s) (codes : 
   obeys_discards t (keeps _ rows links routing none) = ap (standing was_discarded) rows
   obeys_discards _ (settles fsn l link other at told_so heard over) = settles_discards fsn l link s f sound at (is_reached fsn l link s f sound at told_so)
   obeys_discards _ (answers fsn l link other at told_so heard over) =
-      settles_discards fsn l (left_link false link) (told l link s f sound codes at) f
+      settles_discards fsn l (left_link false (given s) link) (told l link s f sound codes at) f
       (told_sound l link s f sound codes at) (told_at l link s f sound codes at)
       (told_reached_so l link s f sound codes at fsn told_so)
       ∙ told_discards l link s f sound codes at
@@ -473,16 +473,16 @@ module _ (k : ℕ) (body : List ℕ) (s f : State) (sound : IsSound s) (codes : 
       let there_at = told_at l link s f sound codes at in
       let there_told = told_reached_so l link s f sound codes at fsn told_so in
       let before = left_by false l link s in
-      let t = settled (Upto fsn) l (left_link false link) there in
+      let t = settled (Upto fsn) l (left_link false (given s) link) there in
       let unsettled : is_settled n there ≡ false =
-      by_link l link (left_link false link) s before at.there refl
+      by_link l link (left_link false (given s) link) s before at.there refl
       (λ m old new. link_is_settled old ≡ false → link_is_settled new ≡ false) (λ f. refl) (λ m old d f. f) n e in
-      let same : l ≡ n = settles_alone fsn l (left_link false link) there f there_sound there_at there_told n unsettled g in
-      let to_is : target t.links ≡ target there.links = same_target fsn l (left_link false link) there f there_sound there_at there_told in
+      let same : l ≡ n = settles_alone fsn l (left_link false (given s) link) there f there_sound there_at there_told n unsettled g in
+      let to_is : target t.links ≡ target there.links = same_target fsn l (left_link false (given s) link) there f there_sound there_at there_told in
       let left_so : as_left l (slice_get s.links l) s ≡ before = ap (λ (o : Option LinkState). as_left l o s) at.there ∙ rw (at.phase_is) refl in
       subst (λ (m : ℕ). Moved k m s f t) same (record {
         other = other;
-        moved = settles_moves fsn l (left_link false link) there f there_sound there_at there_told
+        moved = settles_moves fsn l (left_link false (given s) link) there f there_sound there_at there_told
             ∙ ap (λ (to : Option ℕ). messages (queue_for to there.rows) ++ pending l there f) to_is
             ∙ ap (λ (q : List Message). q ++ pending l there f) (told_target l link s f sound codes at (target there.links) refl)
             ∙ ap (λ (p : List Message). ahead_of_users (answer_on l (Some link) s) (messages (queue_for (target there.links) before.rows)) ++ p)

@@ -9,9 +9,9 @@ use Rattle.std.specs.Option.{option_map}
 use Rattle.std.proofs.lemmas.Bool.Decides.{nat_tests}
 use Rattle.std.proofs.lemmas.Option.{same_Some}
 use Rattle.set_events.specs.declared.answer.Fate.{Fate}
-use Rattle.set_model.specs.Rows.{orders_changed, Row, turned, changed, moved, put_ahead, with_fate, place, row_of, IsNumbered}
+use Rattle.set_model.specs.Rows.{picked_changed, Row, turned, changed, moved, put_ahead, with_fate, place, row_of, IsNumbered}
 use Rattle.set_model.proofs.Ahead.{put_others}
-use Rattle.set_model.proofs.Rows.{where_orders, where_turned, place_moved, not_found}
+use Rattle.set_model.proofs.Rows.{where_picked, where_turned, place_moved, not_found}
 use Rattle.set_model.proofs.Places.{false_true}
 
 abbrev pub Stays : Fate → List Row → List Row → Type 0
@@ -44,8 +44,8 @@ module _ (kept : Fate) (test : Fate → Bool) (w : test kept ≡ false) where
     pub changed_stay : (rows : List Row) → Stays kept rows (changed test fate rows)
     changed_stay rows = turned_stay (length rows) rows
 
-    pub orders_stay : (rows : List Row) → Stays kept rows (orders_changed test fate rows)
-    orders_stay rows = where_orders test fate (Stays kept) none_stay row_stays row_turns rows
+    pub picked_stay : (picks : Row → Bool) (rows : List Row) → Stays kept rows (picked_changed picks test fate rows)
+    picked_stay picks rows = where_picked test fate (Stays kept) none_stay row_stays row_turns picks rows
 
   pub moved_stay : (given : ℕ) (fate : Row → Fate) (rows : List Row) → IsNumbered given rows → Stays kept rows (moved test fate rows)
   moved_stay given fate rows numbered number e = place_moved test fate given number rows numbered ∙ go (row_of number rows) e

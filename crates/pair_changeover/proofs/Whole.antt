@@ -8,7 +8,7 @@ use Rattle.std.proofs.Common.{refl, arith, ◌≡◌, ◌∙◌, ap, sym, subst,
 use Rattle.l2_units.specs.declared.unit.Unit.{Unit as SignalUnit}
 use Rattle.set_events.specs.declared.config.Method.{Method}
 use Rattle.set_events.specs.declared.event.Event.{Event}
-use Rattle.set_events.specs.declared.event.Event.TheVariants.{Offer, Take, Find, Next, Heard as HeardEvent, Up as UpEvent, Down as DownEvent, DownBlind, NoAnswer, Restore, BackTimeout}
+use Rattle.set_events.specs.declared.event.Event.TheVariants.{Offer, Take, Find, Next, Heard as HeardEvent, Up as UpEvent, Down as DownEvent, DownBlind, NoAnswer, Timed, Restore, BackTimeout}
 use Rattle.set_model.specs.declared.phase.Phase.TheVariants.{Up}
 use Rattle.set_model.specs.Rows.{was_discarded, standing}
 use Rattle.set_model.specs.State.{LinkState, State, is_up, is_settled, link_is_settled, has_phase_settled}
@@ -143,6 +143,7 @@ module _ (mx my : Method) (one : IsOneMethod mx my) (p : Two) (h : HoldsOf mx my
       (first_at (DownEvent k))
   asks_did end (DownBlind k) shown own sound = absurd sound
   asks_did end (NoAnswer k) shown own sound = absurd sound
+  asks_did end (Timed k) shown own sound = absurd sound
   asks_did end (Restore k) shown own sound =
       keeps_did p w (Restore k) p.near_past p.out p.back (restore_kept k p.near p.far h.near_sound)
       (first_at (Restore k))

@@ -50,6 +50,7 @@ small Known May l = record {
   acknowledges = λ count m link s known at few g. set_links l m link _ s.links at.there refl;
   gives_up = λ sent cause m link s known at g. same_links l s.links;
   gives_up_orders = λ cause m link s known at g. same_links l s.links;
+  takes_back = λ order from s unsent known g. same_links l s.links;
   moves_off = λ told m link s known at. set_links l m link _ s.links at.there refl;
   answers = λ m link s known at. set_links l m link _ s.links at.there refl;
   withdraws = λ count m link s known at g. same_links l s.links;

@@ -5,7 +5,7 @@
 -- itself settles, or isn't touched. Only `released_follow` is an induction, on the codes. Tied.antt takes a tie on by
 -- it; Pairs.antt, Moving.antt and Hearing.antt use the lemmas.
 use Rattle.set_model.specs.Step.{is_heard}
-use Rattle.std.proofs.Common.{refl, ◌≡◌, ◌≢◌, ◌∙◌, ap, sym, subst, ℕ, zero, suc, ◌<◌, ◌==◌, Bool, true, false, List, length, slice_get, slice_set, Option, Some, None, cond, inl, inr}
+use Rattle.std.proofs.Common.{refl, ◌≡◌, ◌≢◌, ◌∙◌, ap, sym, subst, ℕ, zero, suc, ◌<◌, ◌==◌, Bool, true, false, List, length, slice_get, slice_set, Option, Some, None, cond, ◌||◌, inl, inr}
 use Rattle.std.proofs.lemmas.Bool.{eqb-true}
 use Rattle.l2_units.specs.declared.unit.Unit.{Unit as SignalUnit}
 use Rattle.l2_units.specs.Grammar.{head_of as header_in}
@@ -16,7 +16,7 @@ use Rattle.set_events.specs.declared.answer.Fate.{Fate}
 use Rattle.set_events.specs.declared.answer.Fate.TheVariants.{Parked, Waiting}
 use Rattle.set_events.specs.declared.answer.Refusal.{Refusal as SetRefusal}
 use Rattle.set_events.specs.declared.answer.Refusal.TheVariants.{NotUp}
-use Rattle.set_events.specs.declared.event.Event.TheVariants.{Offer, Take, Find, Next, Heard, Up as UpEvent, Down as DownEvent, DownBlind, NoAnswer, Restore, BackTimeout}
+use Rattle.set_events.specs.declared.event.Event.TheVariants.{Offer, Take, Find, Next, Heard, Up as UpEvent, Down as DownEvent, DownBlind, NoAnswer, Timed, Restore, BackTimeout}
 use Rattle.set_route.specs.declared.place.Place.{Place}
 use Rattle.set_route.specs.declared.place.Code.{Code}
 use Rattle.set_route.specs.declared.place.Code.TheVariants.{Free, Asked, Spent}
@@ -25,14 +25,14 @@ use Rattle.set_route.specs.Routing.{place_of, code_for, code_of}
 use Rattle.set_model.specs.declared.phase.Phase.{Phase}
 use Rattle.set_model.specs.declared.phase.Phase.TheVariants.{Up, Down, Settled}
 use Rattle.set_model.specs.declared.reached.Reached.{Reached}
-use Rattle.set_model.specs.declared.reached.Reached.TheVariants.{Upto, Unknown, Unanswered}
-use Rattle.set_model.specs.Rows.{Row, is_unacked, is_back, is_back_to, stands_back, unack, all_with, appended, moved, service_indicator, stream_of}
+use Rattle.set_model.specs.declared.reached.Reached.TheVariants.{Upto, Unknown, Unanswered, Unasked}
+use Rattle.set_model.specs.Rows.{Fate, Waiting, Unacked, Acked, Held, Back, Parked, Discarded, place, waits, is_parked, Row, is_unacked, is_back, is_back_to, stands_back, unack, all_with, appended, moved, service_indicator, stream_of}
 use Rattle.set_model.specs.State.{given, LinkState, State, link_count, link_is_up, has_phase_up, has_phase_settled, is_up, fate_at, target, window_of, with_link}
 use Rattle.set_model.specs.Control.{part_of}
-use Rattle.set_model.specs.Changeover.{Obeyed, fate_on, answered_link, left_link, acknowledged as acknowledged_link, settled_link, moved_over, queued, out_of_service, left_by, leaving_order, declared, some_declare, released, released_from, some_in_use, acknowledged_back, is_reasonable, judged, settled, changed_over, answered, at_link, order_obeyed, obeyed, reply_of}
-use Rattle.set_model.specs.Step.{Outcome, refused, offer_refusal, offered, is_msu, brought, takes, after_control, controls, heard, falls, gives_up, comes_back, runs_out, with_known, in_service, step}
+use Rattle.set_model.specs.Changeover.{Obeyed, fate_on, answered_link, left_link, acknowledged as acknowledged_link, settled_link, moved_over, queued, out_of_service, left_by, leaving_order, declared, some_declare, released, released_from, some_in_use, acknowledged_back, is_reasonable, judged, settled, taken_back, changed_over, answered, at_link, order_obeyed, obeyed, reply_of}
+use Rattle.set_model.specs.Step.{Outcome, refused, offer_refusal, offered, is_msu, brought, takes, after_control, controls, heard, falls, gives_up, over_by_time, timed, times_out, comes_back, runs_out, with_known, in_service, step}
 use Rattle.set_model.specs.Frame.{LeavesAlone}
-use Rattle.set_model.proofs.Events.{Untouched, acknowledged, moved_to, left as left_by_rows, appended_out, untouched}
+use Rattle.set_model.proofs.Events.{Untouched, taken_back_rows, acknowledged, moved_to, left as left_by_rows, appended_out, untouched}
 use Rattle.set_model.proofs.Rows.{moved_same}
 use Rattle.set_model.proofs.Framing.{leaves_alone}
 use Rattle.set_model.proofs.Ahead.{put_apart}
@@ -133,13 +133,13 @@ out_follows : (l : ℕ) (blind : Bool) (m : ℕ) (link : LinkState) (s : State) 
 out_follows l blind m link s at = go (m == l) refl
   where
     go : (b : Bool) → (m == l) ≡ b → Follows l s (out_of_service blind m link s)
-    go false d = follows_set l m (left_link blind link) s (out_of_service blind m link s) d refl (untouched l s.rows s.rows refl)
+    go false d = follows_set l m (left_link blind (given s) link) s (out_of_service blind m link s) d refl (untouched l s.rows s.rows refl)
     go true d = λ after there unsettled.
         let same : m ≡ l = eqb-true m l d in
-        let is : after ≡ left_link blind link =
-        same_at (slice_set s.links m (left_link blind link)) l (left_link blind link) after
-        (subst (λ (k : ℕ). slice_get (slice_set s.links m (left_link blind link)) k ≡ Some (left_link blind link))
-        same (get_set_same s.links m (left_link blind link) (within s.links m link at.there))) there in
+        let is : after ≡ left_link blind (given s) link =
+        same_at (slice_set s.links m (left_link blind (given s) link)) l (left_link blind (given s) link) after
+        (subst (λ (k : ℕ). slice_get (slice_set s.links m (left_link blind (given s) link)) k ≡ Some (left_link blind (given s) link))
+        same (get_set_same s.links m (left_link blind (given s) link) (within s.links m link at.there))) there in
         record {
           link = link;
           there = subst (λ (k : ℕ). slice_get s.links k ≡ Some link) same at.there;
@@ -191,6 +191,7 @@ others l May = record {
   acknowledges = λ count m link s d at few g. follows_set l m (acknowledged_link count link) s _ d refl (g.others l d);
   gives_up = λ sent cause m link s d at g. follows_untouched l s _ refl (g.others l d);
   gives_up_orders = λ cause m link s d at g. follows_untouched l s _ refl (g.others l d);
+  takes_back = λ order from s unsent known g. follows_by l s _ refl (g.unack_same l);
   moves_off = λ told m link s d at. follows_off told l m link s d at;
   answers = λ m link s d at. follows_set l m (answered_link link) s _ d refl (untouched l s.rows s.rows refl);
   withdraws = λ count m link s d at g. follows_untouched l s _ refl (g.others l d);
@@ -207,6 +208,7 @@ judged_count (Upto fsn) l link s = go (is_reasonable fsn l link s.rows) refl
     go false e = rw e refl
 judged_count Unknown l link s = refl
 judged_count Unanswered l link s = refl
+judged_count Unasked l link s = refl
 
 settles : (reached : Reached) (l : ℕ) (link : LinkState) (s t : State) → l < length s.links → Follows l t (settled reached l link s)
 settles reached l link s t few =
@@ -232,8 +234,8 @@ marks l link s there = λ after found unsettled.
 over_own : (reached : Reached) (l : ℕ) (link : LinkState) (phase : Phase) (s : State) → slice_get s.links l ≡ Some link
     → Follows l s (changed_over reached l link phase s).state
 over_own reached l link Up s there =
-    settles reached l (left_link false link) _ s
-    (rw (length_set s.links l (left_link false link)) (within s.links l link there))
+    settles reached l (left_link false (given s) link) _ s
+    (rw (length_set s.links l (left_link false (given s) link)) (within s.links l link there))
 over_own reached l link Down s there = settles reached l link s s (within s.links l link there)
 over_own reached l link Settled s there =
     let told = queued (reply_of l link) s in
@@ -388,6 +390,39 @@ pub unanswered_follows : (l m : ℕ) (s : State) → Follows l s (step s (NoAnsw
 unfolding step
 unanswered_follows l m s = on_goes l m s (λ link. gives_up m s link link.phase)
     (λ link there. give_goes l m s link link.phase (record { there = there; phase_is = refl }))
+
+-- an order that never was sent is taken back, and its link settles
+over_time : (l m : ℕ) (from : Fate) (s : State) (link : LinkState) → IsAt m link Down s → (waits from || is_parked from) ≡ true
+    → Follows l s (over_by_time from m s link).state
+over_time l m from s link at unsent =
+    let back = taken_back link.order from s in
+    follows_then l s back (settled Unasked m link back)
+    (follows_by l s back refl ((taken_back_rows link.order from s.rows unsent).unack_same l)) (go (m == l) refl)
+  where
+    go : (b : Bool) → (m == l) ≡ b → Follows l (taken_back link.order from s) (settled Unasked m link (taken_back link.order from s))
+    go true d = subst (λ (k : ℕ). Follows k (taken_back link.order from s) (settled Unasked m link (taken_back link.order from s))) (eqb-true m l d)
+        (settles Unasked m link (taken_back link.order from s) (taken_back link.order from s) (within s.links m link at.there))
+    go false d = settle_walks (λ k. (k == l) ≡ false) ⊥ (Follows l) (others l ⊥) Unasked m link (taken_back link.order from s) d (record { there = at.there; phase_is = at.phase_is })
+
+time_goes : (l m : ℕ) (s : State) (link : LinkState) → IsAt m link Down s → (o : Option Fate) → Follows l s (timed o m s link).state
+time_goes l m s link at None = follows_same l s
+time_goes l m s link at (Some (Waiting to)) = over_time l m (Waiting to) s link at refl
+time_goes l m s link at (Some Parked) = over_time l m Parked s link at refl
+time_goes l m s link at (Some (Unacked to)) = follows_same l s
+time_goes l m s link at (Some (Acked to)) = follows_same l s
+time_goes l m s link at (Some (Held to)) = follows_same l s
+time_goes l m s link at (Some (Back code)) = follows_same l s
+time_goes l m s link at (Some (Discarded cause)) = follows_same l s
+
+times_goes : (l m : ℕ) (s : State) (link : LinkState) (phase : Phase) → IsAt m link phase s → Follows l s (times_out m s link phase).state
+times_goes l m s link Up at = follows_same l s
+times_goes l m s link Settled at = follows_same l s
+times_goes l m s link Down at = time_goes l m s link at (place link.order s.rows)
+
+pub timed_follows : (l m : ℕ) (s : State) → Follows l s (step s (Timed m)).state
+unfolding step
+timed_follows l m s = on_goes l m s (λ link. times_out m s link link.phase)
+    (λ link there. times_goes l m s link link.phase (record { there = there; phase_is = refl }))
 
 -- changeback: declarations come to wait, and what stood back comes to wait at home
 comes_goes : (l m : ℕ) (s : State) → is_up m s ≡ true → Follows l s (comes_back m s).state

@@ -9,7 +9,7 @@ use Rattle.l2_units.specs.declared.unit.Unit.{Unit as SignalUnit}
 use Rattle.pair_steps.specs.Lines.{units_of, units_on, with_units}
 use Rattle.set_events.specs.declared.config.Method.{Method}
 use Rattle.set_events.specs.declared.event.Event.{Event}
-use Rattle.set_events.specs.declared.event.Event.TheVariants.{Offer, Take, Find, Next, Heard, Up as UpEvent, Down as DownEvent, DownBlind, NoAnswer, Restore, BackTimeout}
+use Rattle.set_events.specs.declared.event.Event.TheVariants.{Offer, Take, Find, Next, Heard, Up as UpEvent, Down as DownEvent, DownBlind, NoAnswer, Timed, Restore, BackTimeout}
 use Rattle.set_model.specs.Sound.{IsSound}
 use Rattle.set_model.specs.State.{State, Settings}
 use Rattle.set_model.specs.Step.{step}
@@ -22,7 +22,7 @@ use Rattle.pair_steps.specs.declared.step.Shown.{Shown}
 use Rattle.pair_model.specs.World.{has_own_step}
 use Rattle.pair_model.specs.Run.{Past, past_asked}
 use Rattle.pair_model.proofs.Counts.{IsApart, count_stays}
-use Rattle.pair_model.proofs.Following.{Follows, offer_follows, take_follows, find_follows, down_follows, blind_follows, unanswered_follows, restore_follows, timeout_follows}
+use Rattle.pair_model.proofs.Following.{Follows, offer_follows, take_follows, find_follows, down_follows, blind_follows, unanswered_follows, timed_follows, restore_follows, timeout_follows}
 use Rattle.pair_model.proofs.Tied.{KeepBodies, keep_bodies, Side, Tied, turned, follows}
 
 pub record Two : Type 0 where
@@ -92,6 +92,7 @@ small_settings Known May = record {
   acknowledges = λ count n link s known at few g. refl;
   gives_up = λ sent cause n link s known at g. refl;
   gives_up_orders = λ cause n link s known at g. refl;
+  takes_back = λ order from s unsent known g. refl;
   moves_off = λ told n link s known at. refl;
   answers = λ n link s known at. refl;
   withdraws = λ count n link s known at g. refl;
@@ -160,5 +161,6 @@ module _ (mx my : Method) (p : Two) (h : HoldsOf mx my p) where
   asks (DownEvent k) shown own = follows_all (DownEvent k) (λ l. tt) (λ l. down_follows l k p.near)
   asks (DownBlind k) shown own = follows_all (DownBlind k) (λ l. tt) (λ l. blind_follows l k p.near)
   asks (NoAnswer k) shown own = follows_all (NoAnswer k) (λ l. tt) (λ l. unanswered_follows l k p.near)
+  asks (Timed k) shown own = follows_all (Timed k) (λ l. tt) (λ l. timed_follows l k p.near)
   asks (Restore k) shown own = follows_all (Restore k) (λ l. tt) (λ l. restore_follows l k p.near)
   asks (BackTimeout k) shown own = follows_all (BackTimeout k) (λ l. tt) (λ l. timeout_follows l k p.near)

@@ -14,12 +14,12 @@ use Rattle.set_events.specs.declared.answer.Fate.{Fate}
 use Rattle.set_events.specs.declared.config.Method.{Method}
 use Rattle.set_events.specs.declared.config.SetConfig.{SetConfig}
 use Rattle.set_events.specs.declared.event.Event.{Event}
-use Rattle.set_events.specs.declared.event.Event.TheVariants.{Offer, Take, Find, Next, Heard, Up as UpEvent, Down as DownEvent, DownBlind, NoAnswer, Restore, BackTimeout}
+use Rattle.set_events.specs.declared.event.Event.TheVariants.{Offer, Take, Find, Next, Heard, Up as UpEvent, Down as DownEvent, DownBlind, NoAnswer, Timed, Restore, BackTimeout}
 use Rattle.set_model.specs.declared.phase.Phase.{Phase}
 use Rattle.set_model.specs.declared.phase.Phase.TheVariants.{Up, Down, Settled}
-use Rattle.set_model.specs.Rows.{place}
+use Rattle.set_model.specs.Rows.{Fate, place}
 use Rattle.set_model.specs.State.{LinkState, State, has_phase_up, is_up, is_settled, link_is_up, link_count}
-use Rattle.set_model.specs.Step.{Outcome as SetOutcome, refused, offer_refusal, offered, taken, found, with_known, in_service, falls, gives_up, comes_back, runs_out, step}
+use Rattle.set_model.specs.Step.{Outcome as SetOutcome, refused, offer_refusal, offered, taken, found, with_known, in_service, falls, gives_up, timed, times_out, comes_back, runs_out, step}
 use Rattle.set_model.specs.Changeover.{declared_from, some_declare, released_from, some_in_use}
 use Rattle.set_route.specs.Routing.{code_for}
 use Rattle.set_events.specs.declared.answer.Answer.TheVariants.{Done}
@@ -93,6 +93,14 @@ give_tells k s link Up = tt
 give_tells k s link Down = tt
 give_tells k s link Settled = tt
 
+time_tells : (k : ℕ) (s : State) (link : LinkState) (o : Option Fate) → TellsNoFault (Answered (timed o k s link).answer)
+time_tells k s link o = grind arith
+
+times_tell : (k : ℕ) (s : State) (link : LinkState) (phase : Phase) → TellsNoFault (Answered (times_out k s link phase).answer)
+times_tell k s link Up = tt
+times_tell k s link Down = time_tells k s link (place link.order s.rows)
+times_tell k s link Settled = tt
+
 comes_tells : (k : ℕ) (s : State) → TellsNoFault (Answered (comes_back k s).answer)
 comes_tells k s = go (some_declare k 0 (link_count s) s)
   where
@@ -118,6 +126,7 @@ answer_tells s (UpEvent k) own = absurd cc
 answer_tells s (DownEvent k) own = in_tells k s (falls false k s) (λ link. tt)
 answer_tells s (DownBlind k) own = in_tells k s (falls true k s) (λ link. tt)
 answer_tells s (NoAnswer k) own = on_tells k s (λ link. gives_up k s link link.phase) (λ link. give_tells k s link link.phase)
+answer_tells s (Timed k) own = on_tells k s (λ link. times_out k s link link.phase) (λ link. times_tell k s link link.phase)
 answer_tells s (Restore k) own = in_tells k s (λ link. comes_back k s) (λ link. comes_tells k s)
 answer_tells s (BackTimeout k) own = on_tells k s (λ link. runs_out k s) (λ link. runs_tells k s)
 

@@ -4,7 +4,7 @@ use Rattle.set_events.specs.declared.answer.Answer.TheVariants.{Heard}
 use Rattle.set_events.specs.declared.config.Method.{Method}
 use Rattle.set_events.specs.declared.config.Method.TheVariants.{Basic, Cyclic}
 use Rattle.set_events.specs.declared.config.SetConfig.{SetConfig}
-use Rattle.set_events.specs.declared.event.Event.TheVariants.{DownBlind, NoAnswer, BackTimeout}
+use Rattle.set_events.specs.declared.event.Event.TheVariants.{DownBlind, NoAnswer, Timed, BackTimeout}
 use Rattle.set_model.specs.Rows.{Row, unack}
 use Rattle.set_model.specs.State.{LinkState, State, has_phase_settled}
 use Rattle.pair_steps.specs.declared.step.Step.{Step}
@@ -25,11 +25,12 @@ abbrev pub IsHonestStep : Step → Type 0
 IsHonestStep (Inject end link unit) = ⊥
 IsHonestStep _ = Unit {0}
 
--- SOUND RUNS, in which no message is given up: besides, no link is left blindly or settled without an answer, and no
--- changeback goes home unacknowledged
+-- SOUND RUNS, in which no message is given up: besides, no link is left blindly, or settled without an answer or by time,
+-- and no changeback goes home unacknowledged
 abbrev pub IsSoundStep : Step → Type 0
 IsSoundStep (Act end (DownBlind link)) = ⊥
 IsSoundStep (Act end (NoAnswer link)) = ⊥
+IsSoundStep (Act end (Timed link)) = ⊥
 IsSoundStep (Act end (BackTimeout link)) = ⊥
 IsSoundStep (Inject end link unit) = ⊥
 IsSoundStep _ = Unit {0}
@@ -38,6 +39,7 @@ IsSoundStep _ = Unit {0}
 -- FSN is told), so that messages may be given up
 abbrev pub IsQuietStep : Step → Type 0
 IsQuietStep (Act end (NoAnswer link)) = ⊥
+IsQuietStep (Act end (Timed link)) = ⊥
 IsQuietStep (Act end (BackTimeout link)) = ⊥
 IsQuietStep (Inject end link unit) = ⊥
 IsQuietStep _ = Unit {0}

@@ -206,6 +206,7 @@ asked_in (Event.Up link) apart = tt
 asked_in (Event.Down link) apart = tt
 asked_in (Event.DownBlind link) apart = tt
 asked_in (Event.NoAnswer link) apart = tt
+asked_in (Event.Timed link) apart = tt
 asked_in (Event.Restore link) apart = tt
 asked_in (Event.BackTimeout link) apart = tt
 

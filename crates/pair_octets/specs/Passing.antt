@@ -58,6 +58,7 @@ IsAskedApart (Event.Offer body) = AreOctets body
 IsAskedApart Event.Take = Unit {0}
 IsAskedApart (Event.Find number) = Unit {0}
 IsAskedApart (Event.NoAnswer link) = Unit {0}
+IsAskedApart (Event.Timed link) = Unit {0}
 IsAskedApart (Event.Restore link) = Unit {0}
 IsAskedApart (Event.BackTimeout link) = Unit {0}
 IsAskedApart _ = ⊥

@@ -10,7 +10,7 @@ use Rattle.l2_units.specs.declared.unit.Unit.{Unit as SignalUnit}
 use Rattle.set_events.specs.declared.config.Method.{Method}
 use Rattle.set_events.specs.declared.config.SetConfig.{SetConfig}
 use Rattle.set_events.specs.declared.event.Event.{Event}
-use Rattle.set_events.specs.declared.event.Event.TheVariants.{Offer, Take, Find, Next, Heard as HeardEvent, Up as UpEvent, Down as DownEvent, DownBlind, NoAnswer, Restore, BackTimeout}
+use Rattle.set_events.specs.declared.event.Event.TheVariants.{Offer, Take, Find, Next, Heard as HeardEvent, Up as UpEvent, Down as DownEvent, DownBlind, NoAnswer, Timed, Restore, BackTimeout}
 use Rattle.set_model.specs.declared.phase.Phase.TheVariants.{Settled}
 use Rattle.set_model.specs.State.{LinkState, State, is_settled, settings_of}
 use Rattle.set_model.specs.Step.{step}
@@ -57,8 +57,22 @@ module _ (k : ℕ) (s : State) (link : LinkState) (at : IsAt k link Settled s) w
   unfolding step
   unanswered_tells = rw (at.there, at.phase_is) tt
 
+  by_time_same : (step s (Timed k)).state ≡ s
+  unfolding step
+  by_time_same = rw (at.there, at.phase_is) refl
+
+  by_time_tells : TellsNoFault (Answered (step s (Timed k)).answer)
+  unfolding step
+  by_time_tells = rw (at.there, at.phase_is) tt
+
+-- the link that an event gives up
+abbrev pub IsGivenUp : Event → ℕ → Type 0
+IsGivenUp (NoAnswer k) m = k ≡ m
+IsGivenUp (Timed k) m = k ≡ m
+IsGivenUp event m = ⊥
+
 -- what is asked is the same under the veils, but for that
-elsewhere : (event : Event) → has_own_step event ≡ false → (told : ℕ → Cover) → ((k : ℕ) → event ≡ NoAnswer k → told k ≡ inside)
+elsewhere : (event : Event) → has_own_step event ≡ false → (told : ℕ → Cover) → ((k : ℕ) → IsGivenUp event k → told k ≡ inside)
     → (s : State) (l : ℕ) → is_covered (told l) ≡ true → IsElsewhere l s event
 elsewhere (Offer body) own told off s l on = tt
 elsewhere Take own told off s l on = tt
@@ -69,6 +83,7 @@ elsewhere (UpEvent k) own told off s l on = absurd cc
 elsewhere (DownEvent k) own told off s l on = tt
 elsewhere (DownBlind k) own told off s l on = tt
 elsewhere (NoAnswer k) own told off s l on = off_other k told l (off k refl) on
+elsewhere (Timed k) own told off s l on = off_other k told l (off k refl) on
 elsewhere (Restore k) own told off s l on = tt
 elsewhere (BackTimeout k) own told off s l on = tt
 
@@ -165,7 +180,7 @@ module _ (ma mb : Method) (one : IsOneMethod ma mb) where
         step_on step (carried_out w step) other move
         (subst (links.Goes ma mb one (as_seen waiting) step) went.0 (links.step_goes ma mb one (as_seen waiting) h.links step honest)) went.1
 
-    asked_holds : (end : End) (event : Event) → ((k : ℕ) → event ≡ NoAnswer k → open_at g end k ≡ inside)
+    asked_holds : (end : End) (event : Event) → ((k : ℕ) → IsGivenUp event k → open_at g end k ≡ inside)
         → Goes g (MoveStep (Act end event)) (carried_out w (Act end event))
     asked_holds A event off = step_holds (Act A event) tt tt tt
         (λ own. (same_under waiting.open_a w.a.state h.fit_x event (λ l on. elsewhere event own waiting.open_a (λ k e. ap waits (off k e)) w.a.state l on), λ e. absurd (let no : false ≡ true = e in cc)))
@@ -197,22 +212,52 @@ module _ (ma mb : Method) (one : IsOneMethod ma mb) where
         go false full = tt
 
     given_up : (end : End) (k : ℕ) (c : Cover) → open_at g end k ≡ c → Goes g (MoveStep (Act end (NoAnswer k))) (carried_out w (Act end (NoAnswer k)))
-    given_up end k inside e = asked_holds end (NoAnswer k) (λ m same. ap (open_at g end) (let is : m ≡ k = cc in is) ∙ e)
+    given_up end k inside e = asked_holds end (NoAnswer k) (λ m same. ap (open_at g end) (sym same) ∙ e)
     given_up end k awaited e = unanswered end k (ap is_covered e)
     given_up end k missed e = unanswered end k (ap is_covered e)
 
+    -- or by time
+    by_time : (end : End) (k : ℕ) → is_covered (open_at g end k) ≡ true → Goes g (MoveStep (Act end (Timed k))) (carried_out w (Act end (Timed k)))
+    unfolding carried_out
+    by_time end k on = go (has_link w k) (is_full (at_end w end))
+      where
+        shown : (end : End) → is_covered (open_at g end k) ≡ true
+            → Goes g (MoveStep (Act end (Timed k))) (shows (Answered (answer_to (at_end w end) (Timed k))) (with_end w end (after (at_end w end) (Timed k))))
+        shown A on =
+            let at = settled_at k w.a.state (h.fit_x k (waits_covered (g.open_a k) ∙ on)) in (
+              by_time_tells k w.a.state at.0 at.1,
+              subst (λ (s : State). Linked ma mb waiting.open_a waiting.open_b s w.b.state g.stage.a g.stage.b w.to_b w.to_a) (sym (by_time_same k w.a.state at.0 at.1)) h,
+            )
+        shown B on =
+            let at = settled_at k w.b.state (h.fit_y k (waits_covered (g.open_b k) ∙ on)) in (
+              by_time_tells k w.b.state at.0 at.1,
+              subst (λ (s : State). Linked ma mb waiting.open_a waiting.open_b w.a.state s g.stage.a g.stage.b w.to_b w.to_a) (sym (by_time_same k w.b.state at.0 at.1)) h,
+            )
+
+        go : (known full : Bool) → Goes g (MoveStep (Act end (Timed k)))
+            (cond known (cond full exhausted (shows (Answered (answer_to (at_end w end) (Timed k))) (with_end w end (after (at_end w end) (Timed k))))) impossible)
+        go true true = tt
+        go true false = shown end on
+        go false full = tt
+
+    timed_out : (end : End) (k : ℕ) (c : Cover) → open_at g end k ≡ c → Goes g (MoveStep (Act end (Timed k))) (carried_out w (Act end (Timed k)))
+    timed_out end k inside e = asked_holds end (Timed k) (λ m same. ap (open_at g end) (sym same) ∙ e)
+    timed_out end k awaited e = by_time end k (ap is_covered e)
+    timed_out end k missed e = by_time end k (ap is_covered e)
+
     act_holds : (end : End) (event : Event) → Goes g (MoveStep (Act end event)) (carried_out w (Act end event))
     act_holds end (NoAnswer k) = given_up end k (open_at g end k) refl
-    act_holds end (Offer body) = asked_holds end (Offer body) (λ k e. absurd cc)
-    act_holds end Take = asked_holds end Take (λ k e. absurd cc)
-    act_holds end (Find number) = asked_holds end (Find number) (λ k e. absurd cc)
-    act_holds end (Next n) = asked_holds end (Next n) (λ k e. absurd cc)
-    act_holds end (HeardEvent n unit) = asked_holds end (HeardEvent n unit) (λ k e. absurd cc)
-    act_holds end (UpEvent n) = asked_holds end (UpEvent n) (λ k e. absurd cc)
-    act_holds end (DownEvent n) = asked_holds end (DownEvent n) (λ k e. absurd cc)
-    act_holds end (DownBlind n) = asked_holds end (DownBlind n) (λ k e. absurd cc)
-    act_holds end (Restore n) = asked_holds end (Restore n) (λ k e. absurd cc)
-    act_holds end (BackTimeout n) = asked_holds end (BackTimeout n) (λ k e. absurd cc)
+    act_holds end (Timed k) = timed_out end k (open_at g end k) refl
+    act_holds end (Offer body) = asked_holds end (Offer body) (λ k e. absurd e)
+    act_holds end Take = asked_holds end Take (λ k e. absurd e)
+    act_holds end (Find number) = asked_holds end (Find number) (λ k e. absurd e)
+    act_holds end (Next n) = asked_holds end (Next n) (λ k e. absurd e)
+    act_holds end (HeardEvent n unit) = asked_holds end (HeardEvent n unit) (λ k e. absurd e)
+    act_holds end (UpEvent n) = asked_holds end (UpEvent n) (λ k e. absurd e)
+    act_holds end (DownEvent n) = asked_holds end (DownEvent n) (λ k e. absurd e)
+    act_holds end (DownBlind n) = asked_holds end (DownBlind n) (λ k e. absurd e)
+    act_holds end (Restore n) = asked_holds end (Restore n) (λ k e. absurd e)
+    act_holds end (BackTimeout n) = asked_holds end (BackTimeout n) (λ k e. absurd e)
 
     -- A UNIT ARRIVES
     same_links : length w.b.state.links ≡ length w.a.state.links

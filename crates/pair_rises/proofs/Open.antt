@@ -14,7 +14,7 @@ use Rattle.pair_steps.specs.declared.step.End.{End}
 use Rattle.pair_steps.specs.declared.step.Step.TheVariants.{Act}
 use Rattle.set_events.specs.declared.config.Method.{Method}
 use Rattle.set_events.specs.declared.event.Event.{Event}
-use Rattle.set_events.specs.declared.event.Event.TheVariants.{Offer, Take, Find, Next, Heard as HeardEvent, Up as UpEvent, Down as DownEvent, DownBlind, NoAnswer, Restore, BackTimeout}
+use Rattle.set_events.specs.declared.event.Event.TheVariants.{Offer, Take, Find, Next, Heard as HeardEvent, Up as UpEvent, Down as DownEvent, DownBlind, NoAnswer, Timed, Restore, BackTimeout}
 use Rattle.set_events.specs.declared.answer.Took.TheVariants.{Message as TookMessage}
 use Rattle.set_route.specs.declared.place.Code.{Code}
 use Rattle.set_route.specs.declared.place.Code.TheVariants.{Free, Asked, Spent}
@@ -23,7 +23,7 @@ use Rattle.set_model.specs.declared.phase.Phase.TheVariants.{Up, Settled}
 use Rattle.set_model.specs.Changeover.{Obeyed, acknowledged_back, order_obeyed, obeyed, answered_link, settled_link, left_link, acknowledged}
 use Rattle.set_model.specs.Rows.{Row, service_indicator}
 use Rattle.set_model.specs.Sound.{IsSound}
-use Rattle.set_model.specs.State.{LinkState, State, is_up, is_settled, link_is_up, link_is_settled}
+use Rattle.set_model.specs.State.{LinkState, State, given, is_up, is_settled, link_is_up, link_is_settled}
 use Rattle.set_model.specs.Step.{Outcome, brought, takes, next, step}
 use Rattle.set_model.proofs.Lists.{get_set_same, get_set_other, within}
 use Rattle.set_model.proofs.Walk.{IsAt, KeptBy, Touches, obeys_walks}
@@ -161,6 +161,8 @@ asked_keeps false end s f (DownBlind k) safe own sound codes = absurd safe
 asked_keeps true end s f (DownBlind k) safe own sound codes = blind_kept k s f refl sound codes
 asked_keeps false end s f (NoAnswer k) safe own sound codes = absurd safe
 asked_keeps true end s f (NoAnswer k) safe own sound codes = absurd safe
+asked_keeps false end s f (Timed k) safe own sound codes = absurd safe
+asked_keeps true end s f (Timed k) safe own sound codes = absurd safe
 asked_keeps em end s f (Restore k) safe own sound codes = restore_kept k s f sound
 asked_keeps false end s f (BackTimeout k) safe own sound codes = absurd safe
 asked_keeps true end s f (BackTimeout k) safe own sound codes = absurd safe
@@ -217,10 +219,11 @@ module _ (l : ℕ) where
     after = λ a b c p q. q ∙ p;
     delivers = λ body s. refl;
     queues = λ order s. refl;
-    leaves = λ blind n link s known at. set_apart s.links n (left_link blind link) known;
+    leaves = λ blind n link s known at. set_apart s.links n (left_link blind (given s) link) known;
     acknowledges = λ count n link s known at few g. set_apart s.links n (acknowledged count link) known;
     gives_up = λ sent cause n link s known at g. refl;
     gives_up_orders = λ cause n link s known at g. refl;
+    takes_back = λ order from s unsent known g. refl;
     moves_off = λ told n link s known at. set_apart s.links n (settled_link told link) known;
     answers = λ n link s known at. set_apart s.links n (answered_link link) known;
     withdraws = λ count n link s known at g. refl;

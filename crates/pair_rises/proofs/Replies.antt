@@ -21,17 +21,17 @@ use Rattle.set_events.specs.declared.answer.Refusal.{Refusal}
 use Rattle.set_events.specs.declared.answer.Refusal.TheVariants.{Nothing, NotUp}
 use Rattle.set_events.specs.declared.answer.Took.TheVariants.{Message as TookMessage}
 use Rattle.set_events.specs.declared.event.Event.{Event}
-use Rattle.set_events.specs.declared.event.Event.TheVariants.{Offer, Take, Find, Next, Heard as HeardEvent, Up as UpEvent, Down as DownEvent, DownBlind, NoAnswer, Restore, BackTimeout}
+use Rattle.set_events.specs.declared.event.Event.TheVariants.{Offer, Take, Find, Next, Heard as HeardEvent, Up as UpEvent, Down as DownEvent, DownBlind, NoAnswer, Timed, Restore, BackTimeout}
 use Rattle.set_route.specs.Routing.{code_of}
 use Rattle.set_route.specs.declared.place.Code.{Code}
 use Rattle.set_route.specs.declared.place.Code.TheVariants.{Free, Asked, Spent}
 use Rattle.set_model.specs.declared.phase.Phase.{Phase}
 use Rattle.set_model.specs.declared.phase.Phase.TheVariants.{Up, Down, Settled}
 use Rattle.set_model.specs.declared.reached.Reached.{Reached}
-use Rattle.set_model.specs.declared.reached.Reached.TheVariants.{Upto, Unknown, Unanswered}
+use Rattle.set_model.specs.declared.reached.Reached.TheVariants.{Upto, Unknown, Unanswered, Unasked}
 use Rattle.set_model.specs.Changeover.{reply_of, settled, settled_link, left_link, is_reasonable, acknowledged, reached_by, acknowledged_by, discarded, judged, judged_link, is_told, cleared, can_declare, declared, declared_if, declared_from, some_declare, Obeyed, answered_link, changed_over, answered, at_link, obeyed_at, acknowledged_back, order_obeyed, obeyed}
 use Rattle.set_model.specs.Rows.{service_indicator, place}
-use Rattle.set_model.specs.State.{LinkState, State, Settings, has_phase_up, is_settled, link_is_settled, has_phase_settled, link_count, new_link, opened_with}
+use Rattle.set_model.specs.State.{LinkState, State, given, Settings, has_phase_up, is_settled, link_is_settled, has_phase_settled, link_count, new_link, opened_with}
 use Rattle.set_model.specs.Step.{Outcome, refused, offer_refusal, offered, taken, found, with_known, in_service, next, brought, takes, part_in, controlled, controls, is_heard, heard, falls, comes_back, step}
 use Rattle.set_model.proofs.Lists.{at_set}
 use Rattle.pair_model.specs.World.{has_own_step}
@@ -98,12 +98,13 @@ told_older : (reached : Reached) → is_told reached ≡ true → (n : ℕ) (lin
 told_older (Upto fsn) told n link s unsettled = settles_older fsn n link s unsettled
 told_older Unknown told n link s unsettled = blind_older n link s
 told_older Unanswered told n link s unsettled = absurd (let no : false ≡ true = told in cc)
+told_older Unasked told n link s unsettled = absurd (let no : false ≡ true = told in cc)
 
 changed_older : (reached : Reached) → is_told reached ≡ true → (n : ℕ) (link : LinkState) (phase : Phase) (s : State) → link.phase ≡ phase
     → Older s.links (changed_over reached n link phase s).state.links
 changed_older reached told n link Up s e =
-    older_then s.links (left_and_told n link s).links (settled reached n (left_link false link) (left_and_told n link s)).links
-    (older_set s.links n (left_link false link) (inl refl)) (told_older reached told n (left_link false link) (left_and_told n link s) refl)
+    older_then s.links (left_and_told n link s).links (settled reached n (left_link false (given s) link) (left_and_told n link s)).links
+    (older_set s.links n (left_link false (given s) link) (inl refl)) (told_older reached told n (left_link false (given s) link) (left_and_told n link s) refl)
 changed_older reached told n link Down s e = told_older reached told n link s (ap has_phase_settled e)
 changed_older reached told n link Settled s e = older_set s.links n (answered_link link) (inr refl)
 
@@ -208,10 +209,12 @@ asked_older em end (Find number) s plain own = go (place number s.rows)
 asked_older em end (Next k) s plain own = absurd cc
 asked_older em end (HeardEvent k unit) s plain own = absurd cc
 asked_older em end (UpEvent k) s plain own = absurd cc
-asked_older em end (DownEvent k) s plain own = in_older k s (falls false k s) (λ link up. older_set s.links k (left_link false link) (inl refl))
-asked_older em end (DownBlind k) s plain own = in_older k s (falls true k s) (λ link up. older_set s.links k (left_link true link) (inl refl))
+asked_older em end (DownEvent k) s plain own = in_older k s (falls false k s) (λ link up. older_set s.links k (left_link false (given s) link) (inl refl))
+asked_older em end (DownBlind k) s plain own = in_older k s (falls true k s) (λ link up. older_set s.links k (left_link true (given s) link) (inl refl))
 asked_older false end (NoAnswer k) s plain own = absurd plain
 asked_older true end (NoAnswer k) s plain own = absurd plain
+asked_older false end (Timed k) s plain own = absurd plain
+asked_older true end (Timed k) s plain own = absurd plain
 asked_older em end (Restore k) s plain own = in_older k s (λ link. comes_back k s) (λ link up. go (some_declare k 0 (link_count s) s))
   where
     go : (b : Bool) → Older s.links (cond b (record { answer = Done; state = declared_from k 0 (link_count s) s }) (refused s Nothing)).state.links

@@ -40,6 +40,7 @@ small Known May l = record {
   acknowledges = λ count n link s known at few g. stays_set l n link _ s.links at.there (λ e. e);
   gives_up = λ sent cause n link s known at g e. e;
   gives_up_orders = λ cause n link s known at g e. e;
+  takes_back = λ order from s unsent known g e. e;
   moves_off = λ told n link s known at. stays_set l n link _ s.links at.there (λ e. refl);
   answers = λ n link s known at. stays_set l n link _ s.links at.there (λ e. e);
   withdraws = λ count n link s known at g e. e;

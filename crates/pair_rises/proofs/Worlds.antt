@@ -8,7 +8,7 @@ use Rattle.set_events.specs.declared.answer.Answer.TheVariants.{Accepted, Taken,
 use Rattle.set_events.specs.declared.event.Actor.{Actor}
 use Rattle.set_events.specs.declared.event.Actor.TheVariants.{User, Terminal}
 use Rattle.set_events.specs.declared.event.Event.{Event}
-use Rattle.set_events.specs.declared.event.Event.TheVariants.{Offer, Take, Find, Next, Heard, Up as UpEvent, Down as DownEvent, DownBlind, NoAnswer, Restore, BackTimeout}
+use Rattle.set_events.specs.declared.event.Event.TheVariants.{Offer, Take, Find, Next, Heard, Up as UpEvent, Down as DownEvent, DownBlind, NoAnswer, Timed, Restore, BackTimeout}
 use Rattle.set_model.specs.History.{LinkSet}
 use Rattle.set_model.specs.Sound.{IsSound}
 use Rattle.set_model.specs.State.{State}
@@ -205,6 +205,8 @@ module _ (oa ob : ℕ → Cover) where
   act_elsewhere em end (DownBlind k) plain own l s = tt
   act_elsewhere false end (NoAnswer k) plain own l s = absurd plain
   act_elsewhere true end (NoAnswer k) plain own l s = absurd plain
+  act_elsewhere false end (Timed k) plain own l s = absurd plain
+  act_elsewhere true end (Timed k) plain own l s = absurd plain
   act_elsewhere em end (Restore k) plain own l s = tt
   act_elsewhere em end (BackTimeout k) plain own l s = tt
 

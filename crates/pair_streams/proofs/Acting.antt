@@ -14,7 +14,7 @@ use Rattle.set_events.specs.declared.answer.Refusal.{Refusal as SetRefusal}
 use Rattle.set_events.specs.declared.answer.Refusal.TheVariants.{NotUp}
 use Rattle.set_events.specs.declared.config.Method.{Method}
 use Rattle.set_events.specs.declared.event.Event.{Event}
-use Rattle.set_events.specs.declared.event.Event.TheVariants.{Offer, Take, Find, Next, Heard as HeardEvent, Up as UpEvent, Down as DownEvent, DownBlind, NoAnswer, Restore, BackTimeout}
+use Rattle.set_events.specs.declared.event.Event.TheVariants.{Offer, Take, Find, Next, Heard as HeardEvent, Up as UpEvent, Down as DownEvent, DownBlind, NoAnswer, Timed, Restore, BackTimeout}
 use Rattle.set_route.specs.Routing.{raised}
 use Rattle.set_model.specs.declared.phase.Phase.{Phase}
 use Rattle.set_model.specs.declared.phase.Phase.TheVariants.{Up, Down, Settled}
@@ -68,6 +68,10 @@ IsSafe true step = IsQuietStep step
 never_unanswered : (emergencies : Bool) (end : End) (k : ℕ) → IsSafe emergencies (Act end (NoAnswer k)) → ⊥
 never_unanswered false end k safe = safe
 never_unanswered true end k safe = safe
+
+never_by_time : (emergencies : Bool) (end : End) (k : ℕ) → IsSafe emergencies (Act end (Timed k)) → ⊥
+never_by_time false end k safe = safe
+never_by_time true end k safe = safe
 
 never_timed_out : (emergencies : Bool) (end : End) (k : ℕ) → IsSafe emergencies (Act end (BackTimeout k)) → ⊥
 never_timed_out false end k safe = safe
@@ -187,7 +191,7 @@ module _ (s f : State) (sound : IsSound s) (offered_here got lost : ℕ → List
       }
     where
       left_accepted : (link : LinkState) (at : IsAt k link Up s) → (l : ℕ) → accepted_on l (left_by blind k link s) ≡ accepted_on l s
-      left_accepted link at = by_link k link (left_link blind link) s (left_by blind k link s) at.there refl
+      left_accepted link at = by_link k link (left_link blind (given s) link) s (left_by blind k link s) at.there refl
           (λ n old new. accepted_of new ≡ accepted_of old) refl (λ n old d. refl)
 
   restore_keeps : (k : ℕ) (link : LinkState) → IsAt k link Up s → Keeps' (comes_back k s).state
@@ -208,6 +212,7 @@ module _ (s f : State) (sound : IsSound s) (offered_here got lost : ℕ → List
   event_keeps emergencies (DownEvent k) end own safe other = in_keeps k (falls false k s) (λ link at. down_keeps false k link at)
   event_keeps emergencies (DownBlind k) end own safe other = in_keeps k (falls true k s) (λ link at. down_keeps true k link at)
   event_keeps emergencies (NoAnswer k) end own safe other = absurd (never_unanswered emergencies end k safe)
+  event_keeps emergencies (Timed k) end own safe other = absurd (never_by_time emergencies end k safe)
   event_keeps emergencies (Restore k) end own safe other = in_keeps k (λ link. comes_back k s) (λ link at. restore_keeps k link at)
   event_keeps emergencies (BackTimeout k) end own safe other = absurd (never_timed_out emergencies end k safe)
 
@@ -331,6 +336,7 @@ module _ {emergencies : Bool} (p : Two) (sound : IsSound p.near) (w : Streams em
       event_streams end (DownBlind k) refl safe (λ body e. absurd cc)
       (blind_kept k p.near p.far (may_be_blind emergencies end k safe) sound w.ordered.near_codes)
   asked_streams end (NoAnswer k) own safe = absurd (never_unanswered emergencies end k safe)
+  asked_streams end (Timed k) own safe = absurd (never_by_time emergencies end k safe)
   asked_streams end (Restore k) own safe = event_streams end (Restore k) refl safe (λ body e. absurd cc) (restore_kept k p.near p.far sound)
   asked_streams end (BackTimeout k) own safe = absurd (never_timed_out emergencies end k safe)
 

@@ -12,7 +12,7 @@ use Rattle.set_events.specs.declared.answer.Answer.TheVariants.{Accepted, Taken,
 use Rattle.set_events.specs.declared.config.Method.{Method}
 use Rattle.set_events.specs.declared.config.SetConfig.{SetConfig}
 use Rattle.set_events.specs.declared.event.Event.{Event}
-use Rattle.set_events.specs.declared.event.Event.TheVariants.{Offer, Take, Find, Next, Heard, Up as UpEvent, Down as DownEvent, DownBlind, NoAnswer, Restore, BackTimeout}
+use Rattle.set_events.specs.declared.event.Event.TheVariants.{Offer, Take, Find, Next, Heard, Up as UpEvent, Down as DownEvent, DownBlind, NoAnswer, Timed, Restore, BackTimeout}
 use Rattle.set_model.specs.Sound.{IsSound}
 use Rattle.set_model.specs.State.{State, Settings, is_up, is_settled, link_is_settled, link_count, has_phase_settled, opened_with, settings_of}
 use Rattle.set_model.specs.Step.{Outcome as SetOutcome, step}
@@ -55,6 +55,7 @@ event_kept s f end (UpEvent k) sound codes own safe = absurd cc
 event_kept s f end (DownEvent k) sound codes own safe = down_kept k s f sound codes
 event_kept s f end (DownBlind k) sound codes own safe = blind_kept k s f refl sound codes
 event_kept s f end (NoAnswer k) sound codes own safe = absurd safe
+event_kept s f end (Timed k) sound codes own safe = absurd safe
 event_kept s f end (Restore k) sound codes own safe = restore_kept k s f sound
 event_kept s f end (BackTimeout k) sound codes own safe = absurd safe
 

@@ -125,7 +125,7 @@ module _ (emergencies : Bool) (k : ℕ) (body : List ℕ) (s f : State) (sound :
     there_out = queues_flow (Coa l (last_accepted link)) left f (left_sound l link s f sound codes at)
         (λ c d. coa_declares s.settings l (given left) (last_accepted link) c d) offered got lost
         (leaves_flow false l link s f sound at offered got lost w
-        (λ c m i a. far_in s left f (by_link l link (left_link false link) s left at.there refl
+        (λ c m i a. far_in s left f (by_link l link (left_link false (given s) link) s left at.there refl
         (λ n old new. accepted_of new ≡ accepted_of old) refl (λ n old d. refl)) m i))
 
     there_acks : (c : ℕ) (m : Message) → In m (view there f) → Acknowledges c m → In m (view s f)
@@ -133,30 +133,30 @@ module _ (emergencies : Bool) (k : ℕ) (body : List ℕ) (s f : State) (sound :
         (queues_acks (Coa l (last_accepted link)) left f (left_sound l link s f sound codes at)
         (λ d x. coa_acknowledges s.settings l (given left) (last_accepted link) d x) c m i a) a.is
 
-    answered_so : (fsn : ℕ) → Told fsn l link s f → Both' (settled (Upto fsn) l (left_link false link) there)
+    answered_so : (fsn : ℕ) → Told fsn l link s f → Both' (settled (Upto fsn) l (left_link false (given s) link) there)
     answered_so fsn told_so =
         let there_sound = told_sound l link s f sound codes at in
         let there_at = told_at l link s f sound codes at in
         let there_reached = told_reached_so l link s f sound codes at fsn told_so in
-        let t = settled (Upto fsn) l (left_link false link) there in
-        let settled_accepted = settles_accepted fsn l (left_link false link) there f there_sound there_at there_reached in
+        let t = settled (Upto fsn) l (left_link false (given s) link) there in
+        let settled_accepted = settles_accepted fsn l (left_link false (given s) link) there f there_sound there_at there_reached in
         by_acks t (λ n. settled_accepted n ∙ told_accepted l link s f sound codes at n)
-        (settles_flow fsn l (left_link false link) there f there_sound there_at there_reached offered got lost there_out
+        (settles_flow fsn l (left_link false (given s) link) there f there_sound there_at there_reached offered got lost there_out
         (λ c m i a. far_in there t f settled_accepted m i))
-        (λ c m i a. there_acks c m (was_in fsn l (left_link false link) there f there_sound there_at there_reached m i) a)
+        (λ c m i a. there_acks c m (was_in fsn l (left_link false (given s) link) there f there_sound there_at there_reached m i) a)
 
-    answered_blind : emergencies ≡ true → Both' (settled Unknown l (left_link false link) there)
+    answered_blind : emergencies ≡ true → Both' (settled Unknown l (left_link false (given s) link) there)
     answered_blind may =
         let there_sound = told_sound l link s f sound codes at in
         let there_at = told_at l link s f sound codes at in
-        let t = settled Unknown l (left_link false link) there in
-        let then_lost = blind_flow l (left_link false link) there f there_sound there_at offered got lost there_out in
+        let t = settled Unknown l (left_link false (given s) link) there in
+        let then_lost = blind_flow l (left_link false (given s) link) there f there_sound there_at offered got lost there_out in
         record {
           lost_then = then_lost.lost_then;
           out = then_lost.flows;
-          back = far_carried s t f (λ n. blind_accepted l (left_link false link) there f there_sound there_at n
+          back = far_carried s t f (λ n. blind_accepted l (left_link false (given s) link) there f there_sound there_at n
               ∙ told_accepted l link s f sound codes at n) far_offered far_got far_lost
-              (λ c m i a. there_acks c m (blind_was_in l (left_link false link) there f there_sound there_at m i) a) v;
+              (λ c m i a. there_acks c m (blind_was_in l (left_link false (given s) link) there f there_sound there_at m i) a) v;
           of = then_lost.of;
           none = λ e stream. absurd (let never : true ≡ false = sym may ∙ e in cc);
         }

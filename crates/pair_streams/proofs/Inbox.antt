@@ -18,7 +18,7 @@ use Rattle.set_events.specs.declared.answer.Refusal.{Refusal as SetRefusal}
 use Rattle.set_events.specs.declared.answer.Refusal.TheVariants.{NotUp, Nothing}
 use Rattle.set_events.specs.declared.answer.Took.{Took}
 use Rattle.set_events.specs.declared.event.Event.{Event}
-use Rattle.set_events.specs.declared.event.Event.TheVariants.{Offer, Take, Find, Next, Heard, Up as UpEvent, Down as DownEvent, DownBlind, NoAnswer, Restore, BackTimeout}
+use Rattle.set_events.specs.declared.event.Event.TheVariants.{Offer, Take, Find, Next, Heard, Up as UpEvent, Down as DownEvent, DownBlind, NoAnswer, Timed, Restore, BackTimeout}
 use Rattle.set_events.specs.declared.history.Entry.{Entry}
 use Rattle.set_route.specs.declared.place.Code.{Code}
 use Rattle.set_route.specs.declared.place.Code.TheVariants.{Free, Asked, Spent}
@@ -27,12 +27,12 @@ use Rattle.set_model.specs.Changeover.{cleared, Obeyed, left_link, judged, disca
 use Rattle.set_model.specs.declared.phase.Phase.{Phase}
 use Rattle.set_model.specs.declared.phase.Phase.TheVariants.{Up, Down, Settled}
 use Rattle.set_model.specs.declared.reached.Reached.{Reached}
-use Rattle.set_model.specs.declared.reached.Reached.TheVariants.{Upto, Unknown, Unanswered}
+use Rattle.set_model.specs.declared.reached.Reached.TheVariants.{Upto, Unknown, Unanswered, Unasked}
 use Rattle.set_model.specs.History.{IsLegal, after}
-use Rattle.set_model.specs.Rows.{place, service_indicator}
-use Rattle.set_model.specs.State.{LinkState, State, link_count, has_phase_up, window_of}
+use Rattle.set_model.specs.Rows.{Fate, Waiting, Unacked, Acked, Held, Back, Parked, Discarded, place, service_indicator}
+use Rattle.set_model.specs.State.{given, LinkState, State, link_count, has_phase_up, window_of}
 use Rattle.set_model.specs.Control.{part_of}
-use Rattle.set_model.specs.Step.{Outcome, refused, offer_refusal, offered, taken, found, with_known, in_service, next, brought, takes, after_control, heard, rises, falls, gives_up, comes_back, runs_out, step}
+use Rattle.set_model.specs.Step.{Outcome, refused, offer_refusal, offered, taken, found, with_known, in_service, next, brought, takes, after_control, heard, rises, falls, gives_up, timed, times_out, comes_back, runs_out, step}
 use Rattle.pair_streams.specs.Handed.{handed_by, message_of, delivered_by, handed_in, delivered_in, EveryHistoryHandsOutInOrder}
 
 -- SETTLING, ORDERS AND CHANGEBACK leave it alone.
@@ -44,6 +44,7 @@ judged_inbox (Upto fsn) n link s = go (is_reasonable fsn n link s.rows)
     go false = refl
 judged_inbox Unknown n link s = refl
 judged_inbox Unanswered n link s = refl
+judged_inbox Unasked n link s = refl
 
 declared_inbox : (home alternative n : ℕ) (s : State) → (declared_from home alternative n s).inbox ≡ s.inbox
 declared_inbox home alternative zero s = refl
@@ -63,7 +64,7 @@ record LeavesAlone (s : State) (o : Obeyed) : Type 0 where
   pub none : (body : List ℕ) → message_of o.took body ≡ []
 
 over_leaves : (reached : Reached) (n : ℕ) (link : LinkState) (phase : Phase) (s : State) → LeavesAlone s (changed_over reached n link phase s)
-over_leaves reached n link Up s = record { inbox = judged_inbox reached n (left_link false link) _; none = λ body. refl }
+over_leaves reached n link Up s = record { inbox = judged_inbox reached n (left_link false (given s) link) _; none = λ body. refl }
 over_leaves reached n link Down s = record { inbox = judged_inbox reached n link s; none = λ body. refl }
 over_leaves reached n link Settled s = record { inbox = refl; none = λ body. refl }
 
@@ -142,6 +143,21 @@ module _ (s : State) (event : Event) where
   give_passes n link Down = append-nil s.inbox
   give_passes n link Settled = append-nil s.inbox
 
+  time_passes_by : (n : ℕ) (link : LinkState) (o : Option Fate) → Passes (timed o n s link)
+  time_passes_by n link None = append-nil s.inbox
+  time_passes_by n link (Some (Waiting to)) = append-nil s.inbox
+  time_passes_by n link (Some Parked) = append-nil s.inbox
+  time_passes_by n link (Some (Unacked to)) = append-nil s.inbox
+  time_passes_by n link (Some (Acked to)) = append-nil s.inbox
+  time_passes_by n link (Some (Held to)) = append-nil s.inbox
+  time_passes_by n link (Some (Back code)) = append-nil s.inbox
+  time_passes_by n link (Some (Discarded cause)) = append-nil s.inbox
+
+  time_passes : (n : ℕ) (link : LinkState) (phase : Phase) → Passes (times_out n s link phase)
+  time_passes n link Up = append-nil s.inbox
+  time_passes n link Down = time_passes_by n link (place link.order s.rows)
+  time_passes n link Settled = append-nil s.inbox
+
   come_passes : (n : ℕ) → Passes (comes_back n s)
   come_passes n = go (some_declare n 0 (link_count s) s)
     where
@@ -204,6 +220,7 @@ event_passes s (UpEvent n) = on_passes s (UpEvent n) n (λ link. rises n s link.
 event_passes s (DownEvent n) = in_passes s (DownEvent n) n (falls false n s) (λ link. append-nil s.inbox)
 event_passes s (DownBlind n) = in_passes s (DownBlind n) n (falls true n s) (λ link. append-nil s.inbox)
 event_passes s (NoAnswer n) = on_passes s (NoAnswer n) n (λ link. gives_up n s link link.phase) (λ link. give_passes s (NoAnswer n) n link link.phase)
+event_passes s (Timed n) = on_passes s (Timed n) n (λ link. times_out n s link link.phase) (λ link. time_passes s (Timed n) n link link.phase)
 event_passes s (Restore n) = in_passes s (Restore n) n (λ link. comes_back n s) (λ link. come_passes s (Restore n) n)
 event_passes s (BackTimeout n) = on_passes s (BackTimeout n) n (λ link. runs_out n s) (λ link. run_passes s (BackTimeout n) n)
 

@@ -4,7 +4,7 @@
 -- (`step_walks`, set_model's Walk.antt): each keeps the bodies of rows, or appends an order, which is of the
 -- management; only `last_row` is an induction, on the rows. Acting.antt and Hearing.antt keep it; by it Runs.antt knows
 -- that what is acknowledged was offered.
-use Rattle.std.proofs.Common.{refl, arith, ◌+◌, ◌≡◌, ◌∙◌, ap, sym, subst, ℕ, ◌==◌, ◌%◌, Bool, true, false, List, [], ◌∷◌, ◌++◌, length, cond, Some, None, ◌⊎◌, inl, inr}
+use Rattle.std.proofs.Common.{refl, arith, ◌+◌, ◌≡◌, ◌∙◌, ap, sym, subst, ℕ, ◌==◌, ◌%◌, Bool, true, false, not, ◌||◌, List, [], ◌∷◌, ◌++◌, length, cond, Some, None, ◌⊎◌, inl, inr}
 use Rattle.std.proofs.lemmas.Bool.{eq-eqb, eqb-true}
 use Rattle.l3_orders.specs.declared.order.Order.{Order}
 use Rattle.l3_orders.specs.declared.order.Order.TheVariants.{Cbd}
@@ -15,10 +15,10 @@ use Rattle.set_events.specs.declared.answer.DiscardCause.TheVariants.{Emergency,
 use Rattle.set_route.specs.Routing.{code_for}
 use Rattle.set_events.specs.declared.event.Event.{Event}
 use Rattle.set_events.specs.declared.event.Event.TheVariants.{Offer}
-use Rattle.set_model.specs.Changeover.{answered_link, queued, fate_on, left_by, moved_over, declared, released, withdrawn}
+use Rattle.set_model.specs.Changeover.{answered_link, queued, fate_on, left_by, moved_over, taken_back, declared, released, withdrawn}
 use Rattle.l2_units.specs.Grammar.{head_of}
 use Rattle.set_model.specs.Control.{Choice, again, first, fill, choice_of, part_of}
-use Rattle.set_model.specs.Rows.{orders_changed, Row, is_on, is_back, is_back_to, is_unacked, is_waiting, is_parked, all_with, appended, moved, unack, octets_in, place, body_at, service_indicator, IsNumbered}
+use Rattle.set_model.specs.Rows.{orders_changed, is_users, same_fate, waits, Row, is_on, is_back, is_back_to, is_unacked, is_waiting, is_parked, all_with, appended, moved, unack, octets_in, place, body_at, service_indicator, IsNumbered}
 use Rattle.set_model.specs.Sound.{IsManaged}
 use Rattle.set_model.specs.State.{given, LinkState, State, target, window_of, with_link}
 use Rattle.set_model.specs.Step.{is_msu, sends, step}
@@ -29,11 +29,14 @@ use Rattle.set_model.proofs.Rows.{numbered_appended, new_row, body_moved, moved_
 use Rattle.pair_changeover.proofs.Acked.{numbered_on}
 use Rattle.pair_streams.proofs.Rising.{one_more}
 use Rattle.set_model.proofs.Walk.{KeptBy, step_walks}
-use Rattle.pair_changeover.proofs.Staying.{orders_stay, Stays, turned_stay, changed_stay, moved_stay, joined_stay, put_stay}
+use Rattle.pair_changeover.proofs.Staying.{picked_stay, Stays, turned_stay, changed_stay, moved_stay, joined_stay, put_stay}
 
 -- in an emergency
 abbrev pub given_up : Fate
 given_up = Discarded Emergency
+
+never_given_up : (from : Fate) → (waits from || is_parked from) ≡ true → same_fate given_up from ≡ false
+never_given_up from unsent = grind arith
 
 module _ (P : ℕ → List ℕ → Type 0) (Q : ℕ → Type 0) where
   pub record Covers (s : State) : Type 0 where
@@ -148,7 +151,11 @@ module _ (P : ℕ → List ℕ → Type 0) (Q : ℕ → Type 0) where
     gives_up_orders = λ cause n link s known at g c.
         covers_kept s (record s { rows = orders_changed (is_waiting n) (Discarded cause) s.rows }) refl refl g.kept.count
         (g.kept.numbered (given s) c.numbered) (g.kept.bodies (given s) c.numbered)
-        (orders_stay given_up (is_waiting n) refl (Discarded cause) s.rows) c;
+        (picked_stay given_up (is_waiting n) refl (Discarded cause) (λ row. not (is_users row)) s.rows) c;
+    takes_back = λ order from s unsent known g c.
+        covers_kept s (taken_back order from s) refl refl g.kept.count
+        (g.kept.numbered (given s) c.numbered) (g.kept.bodies (given s) c.numbered)
+        (picked_stay given_up (λ f. same_fate f from) (never_given_up from unsent) (Discarded NoAnswerCame) (λ row. row.number == order) s.rows) c;
     moves_off = λ told n link s known at c. moved_covers (is_on n) _ s (moved_over told n link s) refl refl refl refl c;
     answers = λ n link s known at c. covers_kept s (with_link n (answered_link link) s) refl refl refl c.numbered (λ number. refl) (λ number e. e) c;
     withdraws = λ count n link s known at g c.

@@ -13,7 +13,7 @@ use Rattle.set_model.specs.Rows.{orders_changed, Discarded, changed, is_unacked,
 use Rattle.set_model.specs.State.{all_finished, given, State, target, with_link}
 use Rattle.set_model.specs.declared.phase.Phase.TheVariants.{Settled}
 use Rattle.set_model.specs.Step.{controlled, next, offer_refusal, offered, rises, step}
-use Rattle.set_model.specs.Changeover.{acknowledged_by, answered_link, declared, fate_on, left_by, moved_over, released, withdrawn}
+use Rattle.set_model.specs.Changeover.{acknowledged_by, answered_link, declared, fate_on, left_by, moved_over, released, taken_back, withdrawn}
 use Rattle.l3_orders.specs.Grammar.{text}
 use Rattle.set_model.proofs.Ahead.{put_length}
 use Rattle.set_model.proofs.Rows.{new_row, moved_length}
@@ -75,6 +75,7 @@ small Known May = record {
   gives_up_orders = λ cause n link s known at g. same_many s
       (record s { rows = orders_changed (is_waiting n) (Discarded cause) s.rows }) refl
       g.kept.count;
+  takes_back = λ order from s unsent known g. same_many s (taken_back order from s) refl g.kept.count;
   answers = λ n link s known at. same_many s (with_link n (answered_link link) s) refl refl;
   withdraws = λ count n link s known at g. same_many s (withdrawn count n s) refl g.kept.count;
   moves_off = λ told n link s known at. same_many s (moved_over told n link s) refl (moved_length (is_on n) _ s.rows);

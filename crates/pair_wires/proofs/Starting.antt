@@ -311,6 +311,7 @@ asked_no (Event.Up link) m sound = absurd sound
 asked_no (Event.Down link) m sound = absurd sound
 asked_no (Event.DownBlind link) m sound = absurd sound
 asked_no (Event.NoAnswer link) m sound = absurd sound
+asked_no (Event.Timed link) m sound = absurd sound
 asked_no (Event.BackTimeout link) m sound = absurd sound
 
 ask_so : (event : Event) (old new : BenchState) → IsSoundEvent event → new.set.state ≡ (step old.set.state event).state → new.links ≡ old.links → EachSo old → EachSo new

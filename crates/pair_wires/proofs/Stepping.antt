@@ -316,6 +316,7 @@ module _ (a b : SetConfig) (end : End) (full : LinkSet) (far : LinkSet) (w : Goi
       go (Event.Down link) e s = absurd s
       go (Event.DownBlind link) e s = absurd s
       go (Event.NoAnswer link) e s = absurd s
+      go (Event.Timed link) e s = absurd s
       go (Event.BackTimeout link) e s = absurd s
 
 no_up : (event : Event) (m : ℕ) → IsSoundEvent event → IsNoUp m event × IsNotHeardOn m event
@@ -329,6 +330,7 @@ no_up (Event.Up link) m s = absurd s
 no_up (Event.Down link) m s = absurd s
 no_up (Event.DownBlind link) m s = absurd s
 no_up (Event.NoAnswer link) m s = absurd s
+no_up (Event.Timed link) m s = absurd s
 no_up (Event.BackTimeout link) m s = absurd s
 
 -- both ends then

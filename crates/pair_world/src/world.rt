@@ -293,6 +293,7 @@ impl<G: Allocator + Copy> World<G> {
             | EventRef::Down { link }
             | EventRef::DownBlind { link }
             | EventRef::NoAnswer { link }
+            | EventRef::Timed { link }
             | EventRef::Restore { link }
             | EventRef::BackTimeout { link } => self.terminal_of(*link),
         }

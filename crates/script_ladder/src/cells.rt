@@ -151,6 +151,7 @@ fn write_done(alloc: Global, event: &Event) -> Result<Vec<u8>, AllocError>
         Event::Down { link } => write_link(alloc, "", *link, " left"),
         Event::DownBlind { link } => write_link(alloc, "", *link, " left blindly"),
         Event::NoAnswer { link } => write_link(alloc, "", *link, " settled: no answer"),
+        Event::Timed { link } => write_link(alloc, "", *link, " settled: order not sent"),
         Event::Restore { link } => write_link(alloc, "streams asked back to ", *link, ""),
         Event::BackTimeout { link } => write_link(alloc, "no answer about ", *link, ""),
         _ => Vec::from_slice(alloc, b"done"),

@@ -180,7 +180,7 @@ fn find_given_up(event: &Event) -> Option<u8>
     ensures { result ≡ given_up event.now }
 {
     match event {
-        Event::NoAnswer { link } => Some(*link),
+        Event::NoAnswer { link } | Event::Timed { link } => Some(*link),
         _ => None,
     }
 }

@@ -4,13 +4,13 @@
 -- ignored (`none_there`, `not_left`), which link is the target once one is left (`beside_left`), and that there's room
 -- (`here_room`, `has_room_left`). Case by case, without induction. The functions of src/changeover.rt, src/settling.rt
 -- and src/changeback.rt use it; so do set_traffic's Traffic.antt and set_step's Kept.antt.
-use Rattle.std.proofs.Common.{arith, ◌≡◌, ◌∙◌, ap, sym, ◌<◌, ℕ, List, map, length, slice_get, slice_set, slice_index_or, Some, ◌≢◌, false, Option, IfSome, refl, subst, ◌≤◌, None, option_map, true, [], drop, not}
+use Rattle.std.proofs.Common.{arith, ◌≡◌, ◌∙◌, ap, sym, ◌<◌, ℕ, List, map, length, slice_get, slice_set, slice_index_or, Some, ◌≢◌, false, Option, IfSome, refl, subst, ◌≤◌, None, option_map, true, [], drop, not, ◌==◌}
 use Rattle.std.proofs.lemmas.Option.{slice_get-get_or}
 use Rattle.set_changeover.specs.Parts.{Link, Parts, kept_of, AtLink, IsOut, IsReach, Gives, Obeys, Phase, Down, IsWhole, IsCounted, AreCounted}
 use Rattle.std.proofs.lemmas.List.{length-map, length-drop}
 use Rattle.std.proofs.lemmas.List.Filters.{length-filter_both}
 use Rattle.set_queues.specs.Messages.{is_order_at}
-use Rattle.set_queues.specs.Queues.{others_in}
+use Rattle.set_queues.specs.Queues.{others_in, without}
 use Rattle.set_changeover.specs.Agreement.{Message, Agrees, Holds}
 use Rattle.set_model.specs.State.{LinkState, Profile, Settings, State, has_phase_up, target}
 use Rattle.set_model.proofs.Lists.{map_at, map_set, map_set_same, same_at, present, target_up, within, set_same, at_set}
@@ -134,6 +134,9 @@ cleared_less g q q' e s h f = rw e (replaced_less g [] q s h (omega arith) f)
 -- one of which some are left
 pub sifted_less : (g : Fate) (q q' : Lists) (ms : List (Option Message)) → q' ≡ with_queue g (others_in ms (queue_at g q)) q → is_standing g ≡ true → IsKnown g q → NoLonger q q'
 sifted_less g q q' ms e s h f = rw e (replaced_less g (others_in ms (queue_at g q)) q s h (omega (arith, length-filter_both (is_order_at ms) (λ (n : ℕ). not (is_order_at ms n)) (λ n. refl) (queue_at g q))) f)
+
+pub without_less : (g : Fate) (q q' : Lists) (number : ℕ) → q' ≡ with_queue g (without number (queue_at g q)) q → is_standing g ≡ true → IsKnown g q → NoLonger q q'
+without_less g q q' number e s h f = rw e (replaced_less g (without number (queue_at g q)) q s h (omega (arith, length-filter_both (λ (n : ℕ). n == number) (λ (n : ℕ). not (n == number)) (λ n. refl) (queue_at g q))) f)
 
 pub acked_less : (l fsn : ℕ) (q : Lists) → l < length q.links → NoLonger q (acknowledged l fsn q)
 acked_less l fsn q h f = rw (queue_last f l fsn _) (replaced_less (Unacked l) (drop (reach l fsn q) (queue_at (Unacked l) q)) q refl h (omega (arith, length-drop (reach l fsn q) (queue_at (Unacked l) q))) f)

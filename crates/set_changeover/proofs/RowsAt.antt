@@ -10,18 +10,18 @@ use Rattle.std.proofs.lemmas.Bool.Decides.{nat_tests}
 use Rattle.std.proofs.lemmas.Bool.{eq-eqb}
 use Rattle.std.proofs.lemmas.List.{map-append, append-nil, length-append}
 use Rattle.set_queues.specs.Buffers.{is_standing, same_fate}
-use Rattle.set_model.specs.Rows.{Fate, Row, standing, numbers, users, is_users, turned, orders_changed, moved, all_with, appended, put_ahead, IsNumbered, AreBefore, Each, row_of, place, body_at}
+use Rattle.set_model.specs.Rows.{Fate, Row, standing, numbers, is_users, turned, picked_changed, moved, all_with, appended, put_ahead, IsNumbered, AreBefore, Each, row_of, place, body_at}
 use Rattle.set_model.specs.Laws.{SameMessages}
 use Rattle.set_model.proofs.Events.{numbers_joined, appended_in, appended_out}
 use Rattle.set_model.proofs.Ahead.{put_apart}
-use Rattle.set_model.proofs.Rows.{new_row, orders_there, same_numbers, turned_same, turned_left, moved_same, moved_gone, moved_joined, fewer_filter, filter_within, filter_apart, with_number, at_most_one, row_is_first, place_moved, not_found}
+use Rattle.set_model.proofs.Rows.{new_row, picked_there, same_numbers, turned_same, turned_left, moved_same, moved_gone, moved_joined, fewer_filter, filter_within, filter_apart, with_number, at_most_one, row_is_first, place_moved, not_found}
 use Rattle.set_model.proofs.Staying.{messages_stay}
 use Rattle.std.specs.Prelude.{IsSome}
 use Rattle.set_queues.specs.Slots.{slot_at}
 use Rattle.set_changeover.specs.Agreement.{Message, is_there, label_in, label_of, rows_at}
 use Rattle.std.proofs.lemmas.List.Elements.{filter-append}
 use Rattle.set_queues.specs.Messages.{is_order_at}
-use Rattle.set_queues.specs.Queues.{occurs, AreGiven, behind_orders}
+use Rattle.set_queues.specs.Queues.{occurs, without, AreGiven, behind_orders}
 use Rattle.set_queues.proofs.Standing.{same_is, same_self, occurs-split}
 
 -- a number occurs among the rows that a test picks as often as its row is picked
@@ -54,15 +54,15 @@ module _ (test : Fate → Bool) (to : Fate) where
   told n rows new [] is one e = grind (arith, occurs_picked (λ (row : Row). test row.fate) n rows, row_is_first n rows)
   told n rows new (x ∷ here) is one e = grind (arith, occurs_picked (λ (row : Row). test row.fate) n rows, row_is_first n rows, fewer_filter (λ (row : Row). test row.fate) here)
 
-  -- the orders among them
-  goes_orders : (n : ℕ) (rows : List Row) → length (with_number n rows) ≤ 1 → GoesTo (numbers (orders (standing test rows))) to n rows (orders_changed test to rows)
-  goes_orders n [] one = record { stays = λ e. refl; goes = λ e. absurd (omega (arith, e)) }
-  goes_orders n (x ∷ rows) one =
+  -- those among them that another test picks
+  goes_picked : (picks : Row → Bool) (n : ℕ) (rows : List Row) → length (with_number n rows) ≤ 1 → GoesTo (numbers (filter picks (standing test rows))) to n rows (picked_changed picks test to rows)
+  goes_picked picks n [] one = record { stays = λ e. refl; goes = λ e. absurd (omega (arith, e)) }
+  goes_picked picks n (x ∷ rows) one =
       let few = fewer_filter (λ (row : Row). test row.fate) (with_number n rows) in
-      let picked = occurs_picked (λ (row : Row). test row.fate && not (is_users row)) n rows in
-      let both = filter_both (λ (row : Row). test row.fate) (λ (row : Row). not (is_users row)) rows in
-      let less = fewer_filter (λ (row : Row). test row.fate && not (is_users row)) (with_number n rows) in
-      grind (arith, nat_tests, goes_orders n rows, picked, both, less, few)
+      let picked = occurs_picked (λ (row : Row). test row.fate && picks row) n rows in
+      let both = filter_both (λ (row : Row). test row.fate) picks rows in
+      let less = fewer_filter (λ (row : Row). test row.fate && picks row) (with_number n rows) in
+      grind (arith, nat_tests, goes_picked picks n rows, picked, both, less, few)
 
 -- WHAT STANDS SOMEWHERE has a message.
 pub none_at : (given n : ℕ) (rows : List Row) → IsNumbered given rows → given ≤ n → row_of n rows ≡ None
@@ -170,27 +170,42 @@ turned_shifts given from to stood off n rows numbered order = record {
   goes = λ k. goes_first (is_there from) to k n rows (at_most_one given k rows numbered);
 }
 
--- the orders of one place, to a final fate: the users' messages stay there
-orders_left : (test : Fate → Bool) (to : Fate) → test to ≡ false → (rows : List Row) → standing test (orders_changed test to rows) ≡ users (standing test rows)
-orders_left test to off [] = refl
-orders_left test to off (x ∷ rows) = grind (arith, orders_left test to off rows)
+-- those of one place that another test picks, to a final fate: the others stay there
+module _ (picks stays : Row → Bool) (parts : (x : Row) → stays x ≡ not (picks x)) where
+  picked_left : (test : Fate → Bool) (to : Fate) → test to ≡ false → (rows : List Row) → standing test (picked_changed picks test to rows) ≡ filter stays (standing test rows)
+  picked_left test to off [] = refl
+  picked_left test to off (x ∷ rows) = grind (arith, picked_left test to off rows, parts)
 
-pub orders_shift : (given : ℕ) (from to : Fate) → is_standing from ≡ true → is_standing to ≡ false → is_there from to ≡ false → (rows : List Row) → IsNumbered given rows → Shifts given (is_there from) to (numbers (orders (rows_at from rows))) (numbers (users (rows_at from rows))) rows (orders_changed (is_there from) to rows)
-orders_shift given from to stood final off rows numbered =
-    let place = orders_there (is_there from) to rows in
-    record {
-      places = λ f s.
-          let left = orders_left (is_there from) to off rows in
-          let away : same_fate to f ≡ false = grind (arith, same_is) in
-          let same = λ (e : is_there from f ≡ false). place.same (is_there f) away (elsewhere (is_there from) f s e) in
-          grind (arith, left, same, same_is f from stood);
-      messages = record {
-        count = place.count;
-        bodies = place.bodies;
-        numbered = same_numbers given rows (orders_changed (is_there from) to rows) (λ number. place.as_many (λ row. row.number == number) (λ f x. refl)) numbered;
-      };
-      goes = λ k. goes_orders (is_there from) to k rows (at_most_one given k rows numbered);
-    }
+  pub picked_shift : (given : ℕ) (from to : Fate) → is_standing from ≡ true → is_standing to ≡ false → is_there from to ≡ false → (rows : List Row) → IsNumbered given rows → Shifts given (is_there from) to (numbers (filter picks (rows_at from rows))) (numbers (filter stays (rows_at from rows))) rows (picked_changed picks (is_there from) to rows)
+  picked_shift given from to stood final off rows numbered =
+      let place = picked_there picks (is_there from) to rows in
+      record {
+        places = λ f s.
+            let left = picked_left (is_there from) to off rows in
+            let away : same_fate to f ≡ false = grind (arith, same_is) in
+            let same = λ (e : is_there from f ≡ false). place.same (is_there f) away (elsewhere (is_there from) f s e) in
+            grind (arith, left, same, same_is f from stood);
+        messages = record {
+          count = place.count;
+          bodies = place.bodies;
+          numbered = same_numbers given rows (picked_changed picks (is_there from) to rows) (λ number. place.as_many (λ row. row.number == number) (λ f x. refl)) numbered;
+        };
+        goes = λ k. goes_picked (is_there from) to picks k rows (at_most_one given k rows numbered);
+      }
+
+-- the one of a number among those that stand somewhere
+none_there : (n : ℕ) (test : Fate → Bool) (rows : List Row) → length (with_number n rows) ≤ 0 → with_number n (standing test rows) ≡ []
+none_there n test [] none = refl
+none_there n test (x ∷ rows) none = grind (arith, nat_tests, none_there n test rows)
+
+pub one_there : (n : ℕ) (test : Fate → Bool) (f : Fate) (rows : List Row) → length (with_number n rows) ≤ 1 → place n rows ≡ Some f → test f ≡ true
+    → numbers (with_number n (standing test rows)) ≡ n ∷ []
+one_there n test f [] one at there = absurd cc
+one_there n test f (x ∷ rows) one at there = grind (arith, nat_tests, none_there n test rows, one_there n test f rows)
+
+pub numbers_without : (n : ℕ) (rows : List Row) → without n (numbers rows) ≡ numbers (filter (λ row. not (row.number == n)) rows)
+numbers_without n [] = refl
+numbers_without n (x ∷ rows) = grind (arith, numbers_without n rows)
 
 -- all of one or more places, behind those that stand there
 pub moved_shifts : (given : ℕ) (test : Fate → Bool) (to : Fate) (rows : List Row) → IsNumbered given rows → test to ≡ false → is_standing to ≡ true → Shifts given test to (numbers (standing test rows)) [] rows (moved test (all_with to) rows)

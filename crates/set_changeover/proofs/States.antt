@@ -4,7 +4,7 @@
 -- Standing.antt), and the FSN last acknowledged on a link is its count, modulo the FSNs. As many messages reached the
 -- far end by the queues as by the rows (`reaches`). No induction is left here. Used by Turns.antt, and by the functions
 -- of src/settling.rt, src/changeback.rt and src/parts.rt, of set_traffic and set_step.
-use Rattle.std.proofs.Common.{refl, arith, ◌≡◌, ◌∙◌, ap, sym, ◌<◌, ◌≤◌, [], ◌∷◌, length, ℕ, ◌==◌, Bool, true, false, List, ◌++◌, Option, Some, take, drop, cond, ◌≢◌, ◌+◌, ◌%◌, None, slice_get, slice_set, option_map, not, map-id, nat_le}
+use Rattle.std.proofs.Common.{refl, arith, ◌≡◌, ◌∙◌, ap, sym, ◌<◌, ◌≤◌, [], ◌∷◌, length, ℕ, ◌==◌, Bool, true, false, List, ◌++◌, Option, Some, take, drop, cond, ◌≢◌, ◌+◌, ◌%◌, None, slice_get, slice_set, option_map, not, filter, map-id, nat_le}
 use Rattle.std.proofs.lemmas.Bool.{cases_eq, cases_lt, ne_eqb, eq-eqb}
 use Rattle.std.proofs.lemmas.List.{length-append, map-append, length-map, take_all, drop_all}
 use Rattle.std.proofs.lemmas.List.Folds.{find-append}
@@ -15,23 +15,23 @@ use Rattle.set_queues.specs.Buffers.{profile_at, Lists, is_standing, same_fate, 
 use Rattle.set_queues.specs.Messages.{restood, fate_at, is_order, is_order_at}
 use Rattle.set_queues.specs.Slots.{slot_at}
 use Rattle.set_queues.specs.Sending.{acknowledged as acked_lists, reach}
-use Rattle.set_queues.specs.Queues.{occurs, passed, passed_first, orders_in, others_in, behind_orders}
+use Rattle.set_queues.specs.Queues.{occurs, passed, passed_first, without, orders_in, others_in, behind_orders}
 use Rattle.set_queues.specs.Settling.{on as on_lists, settled}
-use Rattle.set_queues.proofs.Standing.{slot_push, restood_at, length-updated, updated_same, updated_other, updated_there, same_is, length-restood, fate_stays, fate_moves, queue_set, links_stay}
+use Rattle.set_queues.proofs.Standing.{slot_push, restood_at, length-updated, updated_same, updated_other, updated_there, same_is, same_self, length-restood, fate_stays, fate_moves, queue_set, links_stay}
 use Rattle.set_queues.proofs.Soundness.{both_replaced, passed_replaces, profile_last, profile_queue, queue_last, last_links, IsAside, settling}
-use Rattle.set_model.specs.Rows.{Fate, Waiting, Unacked, Acked, Held, Parked, Back, Discarded, DiscardCause, Emergency, Unreasonable, NoAnswer, Row, standing, is_waiting, is_unacked, is_on, is_parked, is_back, on, numbers, users, is_users, Each, turned, changed, orders_changed, moved, all_with, appended, put_ahead, row_of, place, IsNumbered, IsInOrder, IsHeldLast, AreBefore}
+use Rattle.set_model.specs.Rows.{Fate, Waiting, Unacked, Acked, Held, Parked, Back, Discarded, DiscardCause, Emergency, Unreasonable, NoAnswer, Row, standing, is_waiting, is_unacked, is_on, is_parked, is_back, on, numbers, users, is_users, Each, turned, changed, orders_changed, one_changed, moved, all_with, appended, put_ahead, row_of, place, IsNumbered, IsInOrder, IsHeldLast, AreBefore}
 use Rattle.set_model.specs.Changeover.{fate_on, reached_by, is_reasonable, judged, judged_link}
 use Rattle.set_model.specs.Laws.{SameMessages}
 use Rattle.set_model.proofs.Ahead.{numbered_put, put_length}
-use Rattle.set_model.proofs.Rows.{each_so, fewer_filter, place_moved, new_row, numbered_appended}
+use Rattle.set_model.proofs.Rows.{at_most_one, each_so, fewer_filter, place_moved, new_row, numbered_appended}
 use Rattle.set_model.proofs.Order.{on_in_order}
 use Rattle.set_model.proofs.Staying.{messages_stay}
 use Rattle.set_changeover.specs.Agreement.{Message, Stands, is_there, rows_at, label_in, label_of, kind_of, Kept, StandsFor}
-use Rattle.set_changeover.proofs.RowsAt.{given_all, none_at, row_ahead, Shifts, appended_at, ahead_at, AreTold, parted, parted_at, turned_shifts, moved_shifts, orders, orders_shift, all_found}
+use Rattle.set_changeover.proofs.RowsAt.{given_all, none_at, row_ahead, Shifts, appended_at, ahead_at, AreTold, parted, parted_at, turned_shifts, moved_shifts, orders, picked_shift, one_there, numbers_without, all_found}
 use Rattle.set_route.specs.Routing.{Routing}
 use Rattle.set_model.specs.State.{LinkState, State, given}
 use Rattle.set_model.proofs.Lists.{at_set, length_set, within, present, get_set_same}
-use Rattle.set_changeover.specs.Parts.{Reached, Upto, Unknown, Unanswered}
+use Rattle.set_changeover.specs.Parts.{Reached, Upto, Unknown, Unanswered, Unasked}
 use Rattle.set_model.proofs.Events.{acknowledged as acked_rows, given_up, orders_given_up}
 
 -- THE QUEUES STAND FOR THE ROWS, which are the same messages,
@@ -163,6 +163,10 @@ given_up_for k s from cause f stood known =
     (λ g t. queue_set from g [] k.lists stood known ∙ grind (arith, nat_tests, same_is, drop_all, long)) all) (length-restood (queue_at from k.lists) (Discarded cause) k.messages) (links_stay from [] k.lists) _ _ f.routing (λ m. last_stays from [] k.lists m) (λ m. profile_queue from [] m k.lists)
 
 -- THE ORDERS of a queue are given up.
+not_twice : (b : Bool) → b ≡ not (not b)
+not_twice true = refl
+not_twice false = refl
+
 -- each of these rows is found under its number
 abbrev AreFound : List Row → List Row → Type 0
 AreFound rows all = Each (λ row. row_of row.number all ≡ Some row) rows
@@ -182,8 +186,19 @@ orders_given_up_for k s from cause f stood known =
     let are = orders_numbered k s f (rows_at from s.rows) (all_found (is_there from) (length k.messages) s.rows f.stands.numbered) in
     let gone : orders_in k.messages (queue_at from k.lists) ≡ numbers (orders (rows_at from s.rows)) = ap (orders_in k.messages) ns ∙ are.0 in
     let left : others_in k.messages (queue_at from k.lists) ≡ numbers (users (rows_at from s.rows)) = ap (others_in k.messages) ns ∙ are.1 in
-    queues_for k s f _ _ _ (shifts_stand f.stands (orders_shift (length k.messages) from (Discarded cause) stood refl (grind arith) s.rows f.stands.numbered)
+    queues_for k s f _ _ _ (shifts_stand f.stands (picked_shift (λ row. not (is_users row)) is_users (λ x. not_twice (is_users x)) (length k.messages) from (Discarded cause) stood refl (grind arith) s.rows f.stands.numbered)
     (λ g t. queue_set from g _ k.lists stood known ∙ grind (arith, nat_tests, same_is, left)) gone) (length-restood (orders_in k.messages (queue_at from k.lists)) (Discarded cause) k.messages) (links_stay from (others_in k.messages (queue_at from k.lists)) k.lists) _ _ f.routing (λ m. last_stays from (others_in k.messages (queue_at from k.lists)) k.lists m) (λ m. profile_queue from (others_in k.messages (queue_at from k.lists)) m k.lists)
+
+-- ONE MESSAGE of a queue is given up.
+pub one_given_up_for : (k : Kept) (s : State) (number : ℕ) (from : Fate) (cause : DiscardCause) → StandsFor k s → is_standing from ≡ true → IsKnown from k.lists → place number s.rows ≡ Some from
+    → StandsFor (record k { lists = with_queue from (without number (queue_at from k.lists)) k.lists; messages = restood (number ∷ []) (Discarded cause) k.messages }) (record s { rows = one_changed number (is_there from) (Discarded cause) s.rows })
+one_given_up_for k s number from cause f stood known at =
+    let ns = f.stands.queues from stood in
+    let left : without number (queue_at from k.lists) ≡ numbers (filter (λ row. not (row.number == number)) (rows_at from s.rows)) = ap (without number) ns ∙ numbers_without number (rows_at from s.rows) in
+    let gone : number ∷ [] ≡ numbers (filter (λ row. row.number == number) (rows_at from s.rows)) =
+    sym (one_there number (is_there from) from s.rows (at_most_one (length k.messages) number s.rows f.stands.numbered) at (same_self from stood)) in
+    queues_for k s f _ _ _ (shifts_stand f.stands (picked_shift (λ row. row.number == number) (λ row. not (row.number == number)) (λ x. refl) (length k.messages) from (Discarded cause) stood refl (grind arith) s.rows f.stands.numbered)
+    (λ g t. queue_set from g _ k.lists stood known ∙ grind (arith, nat_tests, same_is, left)) gone) (length-restood (number ∷ []) (Discarded cause) k.messages) (links_stay from (without number (queue_at from k.lists)) k.lists) _ _ f.routing (λ m. last_stays from (without number (queue_at from k.lists)) k.lists m) (λ m. profile_queue from (without number (queue_at from k.lists)) m k.lists)
 
 -- THE FIRST that waits is given up.
 pub withdrawn_for : (k : Kept) (s : State) (n : ℕ) (cause : DiscardCause) → StandsFor k s → n < length k.lists.links
@@ -258,4 +273,5 @@ module _ (n : ℕ) (link : LinkState) (s : State) (there : slice_get s.links n �
   pub is_judged : (reached : Reached) → IsOrdered n (judged reached n link s).rows × (slice_get (judged reached n link s).links n ≡ Some (judged_link reached n link s.rows))
   is_judged Unknown = (sent_up Emergency, there)
   is_judged Unanswered = (orders_up NoAnswer, there)
+  is_judged Unasked = (sent_up NoAnswer, there)
   is_judged (Upto fsn) = let g = acked_rows n (reached_by fsn n link s.rows) s.rows in let given_up = both_up Unreasonable in grind (arith, get_set_same, within, g.order_kept o.0, g.last_kept o.1)

@@ -1,8 +1,9 @@
 -- THE PARTS OF A SET as contracts see them.
-use Rattle.std.specs.Prelude.{◌≡◌, ℕ, false, ◌<◌, ◌≤◌, List, length, Some, slice_get}
+use Rattle.std.specs.Prelude.{◌≡◌, ℕ, false, ◌<◌, ◌≤◌, List, length, Option, None, Some, slice_get}
 pub use Rattle.set_model.specs.declared.phase.Phase.{Phase}
 pub use Rattle.set_model.specs.declared.reached.Reached.{Reached}
-pub use Rattle.set_model.specs.declared.reached.Reached.TheVariants.{Upto, Unknown, Unanswered}
+pub use Rattle.set_model.specs.declared.reached.Reached.TheVariants.{Upto, Unknown, Unanswered, Unasked}
+use Rattle.set_model.specs.Rows.{Fate, Waiting, Parked}
 use Rattle.l2_units.specs.declared.profile.Profile.{Profile}
 use Rattle.set_model.specs.State.{LinkState, State, settings_of, has_phase_up}
 use Rattle.set_model.specs.Step.{Answer, Took, Outcome}
@@ -54,11 +55,18 @@ pub record IsCounted (bound : ℕ) (link : Link) : Type 0 where
 abbrev pub AreCounted : ℕ → List Link → Type 0
 AreCounted bound links = (number : ℕ) → AtLink number links (IsCounted bound)
 
+-- where an order stands that never was sent: it waits, or is parked
+abbrev pub unsent_at : Option Fate → Option Fate
+unsent_at (Some (Waiting to)) = Some (Waiting to)
+unsent_at (Some Parked) = Some Parked
+unsent_at _ = None
+
 -- an FSN has 7 bits, or 12
 abbrev pub IsReach : Profile → Reached → Type 0
 IsReach profile (Upto number) = number < fsn_count profile
 IsReach profile Unknown = Unit {0}
 IsReach profile Unanswered = Unit {0}
+IsReach profile Unasked = Unit {0}
 
 -- WHATEVER STATE the old parts stand for, the new ones stand for what becomes of it,
 abbrev pub Becomes : {A : Type 0} → Parts A → Parts A → (State → State) → Type 0

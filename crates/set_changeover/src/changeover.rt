@@ -57,7 +57,8 @@ pub fn queue<A: Allocator + Copy>(parts: &mut Parts<A>, order: Order)
     stand_ahead(parts, body.as_slice(), fate);
 }
 
-/// The link is left: out of service, its messages stay on it until it settles (Q.704 5.3). Streams on their way back
+/// The link is left: out of service, its messages stay on it until it settles (Q.704 5.3), and the order that is queued
+/// next tells of it. Streams on their way back
 /// to it run where they came from, and what stood back for it goes there.
 #[tactic(auto, using(crate::proofs::Links::found, set_model::proofs::Lists::same_at))]
 pub fn leave<A: Allocator + Copy>(parts: &mut Parts<A>, number: u8, blind: bool)
@@ -67,15 +68,21 @@ pub fn leave<A: Allocator + Copy>(parts: &mut Parts<A>, number: u8, blind: bool)
     requires room { CanTurnBack number parts.old }
     ensures stands { AgreedBecomes number parts.old parts.new (left_by blind number) }
     ensures links { AtLink number parts.old.links.items (λ link. parts.new.links.items
-        ≡ slice_set parts.old.links.items number (record link { phase = Down; blind = blind })) }
+        ≡ slice_set parts.old.links.items number (record link {
+          phase = Down;
+          blind = blind;
+          order = length parts.old.queues.messages;
+        })) }
     ensures turns { TakesTurns (back_count number parts.old.queues.lists) parts.old.queues
         parts.new.queues }
     ensures bodies { parts.new.bodies ≡ parts.old.bodies }
     ensures whole { IsWhole parts.new }
 {
+    let order = parts.queues.len() as u64;
     let link = &mut parts.links[usize::from(number)];
     link.phase = Phase::Down;
     link.blind = blind;
+    link.order = order;
     parts.routes.divert(number);
     turn_back(parts, number);
 }

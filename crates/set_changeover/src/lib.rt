@@ -43,4 +43,4 @@ pub use parts::{
     Parts, fate_of_new, make_room, make_room_beside, make_room_parked, phase_of, stand_last,
     target_of, unserved,
 };
-pub use settling::settle;
+pub use settling::{settle, take_back, unsent_order};

@@ -32,6 +32,8 @@ pub struct Link {
     pub control: Control,
     /// How many changeover orders about it were heard while it was settled, in all its lives, modulo 2^32.
     pub late: u32,
+    /// The number of the order that was queued when it was left last.
+    pub order: u64,
 }
 
 impl Model for Link {
@@ -46,6 +48,7 @@ impl Model for Link {
       accepted = l.accepted;
       control = l.control;
       late = l.late;
+      order = l.order;
     } };
 }
 
@@ -63,6 +66,7 @@ impl Link {
             accepted: 0,
             control: Control::new(method),
             late: 0,
+            order: 0,
         }
     }
 
@@ -79,6 +83,7 @@ impl Link {
             accepted: self.accepted,
             control: self.control.copied(),
             late: self.late,
+            order: self.order,
         }
     }
 
@@ -92,6 +97,7 @@ impl Link {
         self.answered = false;
         self.acked = 0;
         self.accepted = 0;
+        self.order = 0;
         self.control = Control::new(method);
     }
 

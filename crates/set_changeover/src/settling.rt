@@ -1,11 +1,12 @@
 //! How a link settles (Q.704 5.5): what reached the far end is acknowledged, the rest is moved.
-ghost use Rattle.std.specs.Prelude.{◌≡◌, ◌<◌, ◌≤◌, ◌^◌, length, map, slice_get, Some};
-ghost use Rattle.set_queues.specs.Buffers.{KeepsRoom, profile_at, room_at};
+ghost use Rattle.std.specs.Prelude.{◌≡◌, ◌<◌, ◌≤◌, ◌^◌, length, map, slice_get, IfSome, Some};
+ghost use Rattle.set_queues.specs.Buffers.{IsKnown, IsQueued, KeepsRoom, profile_at, room_at};
+ghost use Rattle.set_queues.specs.Messages.{fate_at};
 ghost use Rattle.set_queues.specs.Settling.{on};
-ghost use Rattle.set_model.specs.Changeover.{settled, judged, discarded, unanswered, fate_on, is_told};
+ghost use Rattle.set_model.specs.Changeover.{settled, judged, discarded, unanswered, taken_back, fate_on, is_told};
 ghost use Rattle.set_model.specs.State.{State, LinkState, target};
 ghost use Rattle.set_changeover.specs.Agreement.{StandsFor, Agrees};
-ghost use Rattle.set_changeover.specs.Parts.{Down, IsWhole, AreCounted, AtLink, IsOut, IsReach, Becomes, BecomesAt, kept_of};
+ghost use Rattle.set_changeover.specs.Parts.{unsent_at, Down, IsWhole, AreCounted, AtLink, IsOut, IsReach, Becomes, BecomesAt, kept_of};
 
 use super::parts::{Parts, target_of};
 use set_events::{DiscardCause, Fate};
@@ -43,7 +44,7 @@ fn is_told(reached: Reached) -> bool
 {
     match reached {
         Reached::Upto { .. } | Reached::Unknown => true,
-        Reached::Unanswered => false,
+        Reached::Unanswered | Reached::Unasked => false,
     }
 }
 
@@ -71,7 +72,48 @@ fn judge<A: Allocator + Copy>(parts: &mut Parts<A>, number: u8, reached: Reached
             .queues
             .discard(Fate::Unacked { link: number }, DiscardCause::Emergency),
         Reached::Unanswered => forsake(parts, number),
+        Reached::Unasked => parts
+            .queues
+            .discard(Fate::Unacked { link: number }, DiscardCause::NoAnswer),
     }
+}
+
+/// Where the order waits, or is parked, that was queued when the link was left last: it never was sent.
+pub fn unsent_order<A: Allocator + Copy>(parts: &Parts<A>, number: u8) -> Option<Fate>
+    requires known { number < length parts.now.links.items }
+    ensures value { AtLink number parts.now.links.items (λ link. result ≡ unsent_at (fate_at link.order
+        parts.now.queues.messages)) }
+    ensures known { IfSome result (λ from. IsKnown from parts.now.queues.lists) }
+    ensures queued { IfSome result IsQueued }
+{
+    parts.queues.is_sound();
+    let fate = parts
+        .queues
+        .fate_of(parts.links[usize::from(number)].order)?;
+    match fate {
+        Fate::Waiting { .. } | Fate::Parked => Some(fate),
+        _ => None,
+    }
+}
+
+/// The order that was queued when the link was left last is taken back from there, and discarded (Q.704 5.6.2, own).
+#[tactic(auto, using(set_queues::proofs::Standing::links))]
+pub fn take_back<A: Allocator + Copy>(parts: &mut Parts<A>, number: u8, from: Fate)
+    requires whole { IsWhole parts.old }
+    requires known { number < length parts.old.links.items }
+    requires place { IsKnown from parts.old.queues.lists }
+    requires queued { IsQueued from }
+    requires there { AtLink number parts.old.links.items (λ link. fate_at link.order
+        parts.old.queues.messages ≡ Some from) }
+    ensures stands { BecomesAt number parts.old parts.new (λ link. taken_back link.order from) }
+    ensures fewer { length (on number parts.new.queues.lists) ≤ length
+        (on number parts.old.queues.lists) }
+    ensures rooms { KeepsRoom parts.old.queues.rooms parts.new.queues.rooms }
+    ensures links { parts.new.links ≡ parts.old.links }
+    ensures whole { IsWhole parts.new }
+{
+    let order = parts.links[usize::from(number)].order;
+    parts.queues.give_up(from, order, DiscardCause::NoAnswer);
 }
 
 /// What was sent on the link, or waits for it, is discarded.

@@ -44,6 +44,8 @@ pub enum Event {
     DownBlind { link: u8 },
     /// The far end didn't answer the changeover of this link.
     NoAnswer { link: u8 },
+    /// The changeover of this link is controlled by time, since its order never was sent (Q.704 5.6.2).
+    Timed { link: u8 },
     /// The streams whose home this link is are to come back to it (Q.704 6).
     Restore { link: u8 },
     /// The far end didn't acknowledge the changeback to this link (own).
@@ -70,6 +72,7 @@ impl Event {
             Event::Down { link } => Ok(Event::Down { link: *link }),
             Event::DownBlind { link } => Ok(Event::DownBlind { link: *link }),
             Event::NoAnswer { link } => Ok(Event::NoAnswer { link: *link }),
+            Event::Timed { link } => Ok(Event::Timed { link: *link }),
             Event::Restore { link } => Ok(Event::Restore { link: *link }),
             Event::BackTimeout { link } => Ok(Event::BackTimeout { link: *link }),
         }
@@ -91,6 +94,7 @@ impl Event {
             (Event::Down { link: a }, Event::Down { link: b }) => *a == *b,
             (Event::DownBlind { link: a }, Event::DownBlind { link: b }) => *a == *b,
             (Event::NoAnswer { link: a }, Event::NoAnswer { link: b }) => *a == *b,
+            (Event::Timed { link: a }, Event::Timed { link: b }) => *a == *b,
             (Event::Restore { link: a }, Event::Restore { link: b }) => *a == *b,
             (Event::BackTimeout { link: a }, Event::BackTimeout { link: b }) => *a == *b,
             _ => false,

@@ -22,6 +22,7 @@ pub enum EventRef<'a> {
     Down { link: u8 },
     DownBlind { link: u8 },
     NoAnswer { link: u8 },
+    Timed { link: u8 },
     Restore { link: u8 },
     BackTimeout { link: u8 },
 }
@@ -47,6 +48,7 @@ impl<'a> EventRef<'a> {
             Event::Down { link } => EventRef::Down { link: *link },
             Event::DownBlind { link } => EventRef::DownBlind { link: *link },
             Event::NoAnswer { link } => EventRef::NoAnswer { link: *link },
+            Event::Timed { link } => EventRef::Timed { link: *link },
             Event::Restore { link } => EventRef::Restore { link: *link },
             Event::BackTimeout { link } => EventRef::BackTimeout { link: *link },
         }
@@ -73,6 +75,7 @@ impl<'a> EventRef<'a> {
             EventRef::Down { link } => Ok(Event::Down { link: *link }),
             EventRef::DownBlind { link } => Ok(Event::DownBlind { link: *link }),
             EventRef::NoAnswer { link } => Ok(Event::NoAnswer { link: *link }),
+            EventRef::Timed { link } => Ok(Event::Timed { link: *link }),
             EventRef::Restore { link } => Ok(Event::Restore { link: *link }),
             EventRef::BackTimeout { link } => Ok(Event::BackTimeout { link: *link }),
         }
@@ -105,6 +108,7 @@ impl<'a> EventRef<'a> {
             (EventRef::Down { link: a }, EventRef::Down { link: b }) => *a == *b,
             (EventRef::DownBlind { link: a }, EventRef::DownBlind { link: b }) => *a == *b,
             (EventRef::NoAnswer { link: a }, EventRef::NoAnswer { link: b }) => *a == *b,
+            (EventRef::Timed { link: a }, EventRef::Timed { link: b }) => *a == *b,
             (EventRef::Restore { link: a }, EventRef::Restore { link: b }) => *a == *b,
             (EventRef::BackTimeout { link: a }, EventRef::BackTimeout { link: b }) => *a == *b,
             _ => false,

@@ -8,7 +8,7 @@
 //!    00    03 | 05  85 01 80 00 30     | 07
 //!    B3    00 | 00                     | 7F 10 00 06  05  85 01 80 00 30 a terminal's Next, Sent an MSU of 5
 //!    22    03 | 07                     | 02                              a user's Find of 7, Found Unacked on link 0
-//!    ^ 0 to 10: what was asked, and 16 times 0 to 6: what was answered, and 128 for a terminal
+//!    ^ 0 to 11: what was asked, and 16 times 0 to 6: what was answered, and 128 for a terminal
 //! ```
 //!
 //! Contracts see the list of entries. Whoever reads it goes from the first to the last by a [`Reader`], and sees each

@@ -78,7 +78,8 @@ impl<'a> Octets<'a> {
             7 => EventRef::DownBlind { link: self.octet() },
             8 => EventRef::NoAnswer { link: self.octet() },
             9 => EventRef::Restore { link: self.octet() },
-            _ => EventRef::BackTimeout { link: self.octet() },
+            10 => EventRef::BackTimeout { link: self.octet() },
+            _ => EventRef::Timed { link: self.octet() },
         }
     }
 

@@ -79,6 +79,7 @@ fn put_event<A: Allocator>(octets: &mut Vec<u8, A>, event: &EventRef<'_>)
         | EventRef::Down { link }
         | EventRef::DownBlind { link }
         | EventRef::NoAnswer { link }
+        | EventRef::Timed { link }
         | EventRef::Restore { link }
         | EventRef::BackTimeout { link } => octets.push_reserved(*link),
     }

@@ -6,15 +6,16 @@
 -- SoundLink.antt, Framing.antt and Settling.antt build on them, and so does pair_changeover's Table.antt.
 use Rattle.l2_units.specs.declared.profile.Profile.{Profile}
 use Rattle.std.proofs.Common.{inl, inr, refl, arith, ◌≡◌, ◌∙◌, ap, ◌≤◌, [], ◌∷◌, length, ℕ, Bool, true, false, ◌==◌, ◌||◌, List, ◌++◌, map, take, drop, not, cond}
+use Rattle.std.proofs.lemmas.Bool.Decides.{nat_tests}
 use Rattle.std.proofs.lemmas.List.{append-nil, map-append}
 use Rattle.std.proofs.lemmas.List.Elements.{filter-append}
-use Rattle.set_model.specs.Rows.{DiscardCause, NoAnswer, Fate, Acked, Discarded, Parked, Unacked, Waiting, AreFit, IsHeldLast, IsInOrder, IsNumbered, Row, all_with, appended, back, body_at, changed, counts_of, fated, held, is_held, is_on, is_parked, is_unacked, is_waiting, moved, numbers, on, orders_changed, parked, standing, stands_back, total_of, turned, unack, wait, was_acked, with_fate}
+use Rattle.set_model.specs.Rows.{DiscardCause, NoAnswer, Fate, Acked, Discarded, Parked, Unacked, Waiting, AreFit, IsHeldLast, IsInOrder, IsNumbered, Row, all_with, appended, back, body_at, changed, counts_of, fated, held, is_held, is_on, is_parked, is_unacked, is_waiting, moved, numbers, on, one_changed, orders_changed, parked, same_fate, waits, is_users, standing, stands_back, total_of, turned, unack, wait, was_acked, with_fate}
 use Rattle.set_model.specs.Control.{Choice, first}
 use Rattle.set_model.specs.Laws.{IsEmptyLink}
 use Rattle.set_model.specs.Sound.{is_unfinished}
 use Rattle.set_model.specs.Step.{rows_sent}
 use Rattle.set_model.proofs.Places.{itself, apart_back, on_other, not_on_waiting, not_on_unacked, not_on_held}
-use Rattle.set_model.proofs.Rows.{InPlace, turned_there, orders_there, turned_same, turned_left, moved_length, moved_fit, moved_numbered, moved_gone, moved_same, moved_joined, filter_moved, filter_comm, filter_within, none_within, body_moved, total_is, new_row, same_numbers}
+use Rattle.set_model.proofs.Rows.{InPlace, turned_there, picked_there, turned_same, turned_left, moved_length, moved_fit, moved_numbered, moved_gone, moved_same, moved_joined, filter_moved, filter_comm, filter_within, none_within, body_moved, total_is, new_row, same_numbers}
 use Rattle.set_model.proofs.Order.{before_filter, before_none, before_within, first_sent, on_in_order}
 
 -- Rows that got their fates have the same numbers and octets.
@@ -146,11 +147,11 @@ given_up l false cause rows = ends_on l (is_waiting l) (Discarded cause) rows _ 
 
 pub orders_given_up : (l : ℕ) (cause : DiscardCause) (rows : List Row)
     → ChangesOn l rows (orders_changed (is_waiting l) (Discarded cause) rows)
-orders_given_up l cause rows = ends_on l (is_waiting l) (Discarded cause) rows _ (orders_there (is_waiting l) (Discarded cause) rows) (λ f e. grind arith) refl
+orders_given_up l cause rows = ends_on l (is_waiting l) (Discarded cause) rows _ (picked_there (λ row. not (is_users row)) (is_waiting l) (Discarded cause) rows) (λ f e. grind arith) refl
 
 pub orders_given_up_unack : (l : ℕ) (cause : DiscardCause) (rows : List Row)
     → unack l (orders_changed (is_waiting l) (Discarded cause) rows) ≡ unack l rows
-orders_given_up_unack l cause rows = (orders_there (is_waiting l) (Discarded cause) rows).same (is_unacked l) refl (λ f e. grind arith)
+orders_given_up_unack l cause rows = (picked_there (λ row. not (is_users row)) (is_waiting l) (Discarded cause) rows).same (is_unacked l) refl (λ f e. grind arith)
 
 -- Foremost ones that are given up, as many as wait, before they are sent.
 pub withdrawn_rows : (count l : ℕ) (rows : List Row) → ChangesOn l rows (turned (is_waiting l) (Discarded NoAnswer) count rows)
@@ -162,6 +163,38 @@ withdrawn_unack count l rows = turned_same (is_waiting l) (is_unacked l) (Discar
 
 pub withdrawn_wait : (count l : ℕ) (rows : List Row) → wait l (turned (is_waiting l) (Discarded NoAnswer) count rows) ≡ drop count (wait l rows)
 withdrawn_wait count l rows = turned_left (is_waiting l) (Discarded NoAnswer) refl count rows
+
+-- ONE MESSAGE THAT IS TAKEN BACK, from where it waits for a link, or is parked.
+pub record TakenBack (from : Fate) (rows new : List Row) : Type 0 where
+  pub kept : Kept rows new
+  pub unack_same : (n : ℕ) → unack n new ≡ unack n rows
+  pub held_same : (n : ℕ) → held n new ≡ held n rows
+  pub back_same : back new ≡ back rows
+  pub none_parked : parked rows ≡ [] → parked new ≡ []
+  pub none_on : (n : ℕ) → on n rows ≡ [] → on n new ≡ []
+  pub order_kept : (n : ℕ) → IsInOrder n rows → IsInOrder n new
+  pub last_kept : (n : ℕ) → IsHeldLast n rows → IsHeldLast n new
+  pub others : (n : ℕ) → is_waiting n from ≡ false → Untouched n rows new
+
+pub taken_back_rows : (number : ℕ) (from : Fate) (rows : List Row) → (waits from || is_parked from) ≡ true
+    → TakenBack from rows (one_changed number (λ f. same_fate f from) (Discarded NoAnswer) rows)
+taken_back_rows number from rows unsent =
+    let test : Fate → Bool = λ f. same_fate f from in
+    let new = one_changed number test (Discarded NoAnswer) rows in
+    let i = picked_there (λ row. row.number == number) test (Discarded NoAnswer) rows in
+    let goes : (f : Fate) → test f ≡ true → f ≡ from = λ f e. grind (arith, nat_tests) in
+    let acked : (k : ℕ) → test (Acked k) ≡ false = λ k. grind arith in
+    record {
+      kept = grind (arith, total_is, same_numbers, i, acked);
+      unack_same = λ n. i.same (is_unacked n) refl (λ f e. rw (goes f e) (grind arith));
+      held_same = λ n. i.same (is_held n) refl (λ f e. rw (goes f e) (grind arith));
+      back_same = i.same stands_back refl (λ f e. rw (goes f e) (grind arith));
+      none_parked = i.none is_parked (λ f e p. absurd cc);
+      none_on = λ n. i.none (is_on n) (λ f e p. absurd cc);
+      order_kept = λ n. i.before (is_unacked n) (is_waiting n) (λ f e p. absurd cc) (λ f e p. absurd cc);
+      last_kept = λ n. i.before (λ f. is_unacked n f || is_waiting n f) (is_held n) (λ f e p. absurd cc) (λ f e p. absurd cc);
+      others = λ n off. untouched n rows new (i.same (is_on n) refl (λ f e. rw (goes f e) (grind arith)));
+    }
 
 -- A LINK THAT IS LEFT BY ITS MESSAGES.
 -- none of the three kinds is on it where nothing is

@@ -23,7 +23,7 @@ use Rattle.set_model.specs.Frame.{behind, BringsAbout, Concerns, LeavesAlone, Mo
 use Rattle.set_model.specs.Rows.{Fate, Waiting, Unacked, IsInOrder, Row, appended, fated, held, is_held, is_on, is_unacked, is_waiting, moved, numbers, standing, unack, wait}
 use Rattle.set_model.specs.Sound.{IsSound}
 use Rattle.set_model.specs.State.{Up, LinkState, State, given, is_up, link_is_up, target, window_of}
-use Rattle.set_model.proofs.Events.{ChangesOn, Unparked, Untouched, untouched, sent, acknowledged, appended_out, numbers_joined}
+use Rattle.set_model.proofs.Events.{ChangesOn, TakenBack, Unparked, Untouched, untouched, sent, acknowledged, appended_out, numbers_joined}
 use Rattle.set_model.proofs.Rows.{fated_none, new_row, moved_same, moved_more}
 use Rattle.set_model.proofs.Lists.{get_set_same, get_set_other, within, target_off}
 use Rattle.set_model.proofs.Places.{apart, apart_back, on_other, not_on_waiting, back_not_on, home_back, code_back}
@@ -86,6 +86,10 @@ alone_moved n test fate s links routing same off unsent waits holds =
     (grind (arith, moved_more)) (grind (arith, moved_more)) (λ e. grind (arith, fated_none, waits))
     (λ e. grind (arith, fated_none, holds))
 
+not_so : (b : Bool) → (b ≡ true → ⊥) → b ≡ false
+not_so true h = absurd (h refl)
+not_so false h = refl
+
 pub leaves_alone : (n : ℕ) (s : State) (event : Event) → (Concerns event n s → ⊥) → LeavesAlone n s (step s event).state
 leaves_alone n s event free =
     let alone_by = λ (s t : State) (settings : t.settings ≡ s.settings) (links : slice_get t.links n ≡ slice_get s.links n) (u : Untouched n s.rows t.rows).
@@ -114,10 +118,15 @@ leaves_alone n s event free =
     let target_unheld : (to : Option ℕ) → is_held n (fate_on to) ≡ false = λ to. grind arith in
     let apart_from = λ (m : ℕ) (rows new : List Row) (g : ChangesOn m rows new). g.others in
     let risen = λ (m : ℕ) (rows new : List Row) (u : Unparked m rows new). u.others in
+    -- an order that is taken back waited for a link that is concerned
+    let back_apart = λ (from : Fate) (rows new : List Row) (g : TakenBack from rows new). g.others n in
+    let off_from = λ (from : Fate) (all : (m : ℕ) → is_waiting m from ≡ true → Concerns event m s). not_so (is_waiting n from) (λ e. free (all n e)) in
     step_walks s (LeavesAlone n) (LeavesAlone n s) event
     (search (
       apart_from,
       risen,
+      back_apart,
+      off_from,
       up_waits,
       alternative_up,
       alone_moved,

@@ -7,7 +7,7 @@
 use Rattle.l2_units.specs.declared.profile.Profile.{Profile}
 use Rattle.l2_units.specs.Profile.{longest_body}
 use Rattle.std.proofs.Common.{refl, arith, ◌≡◌, ◌∙◌, ap, sym, [], ◌∷◌, length, ◌≤◌, Bool, true, false, List, ◌++◌, map, filter, not, ◌+◌, ◌<◌, ℕ, ◌==◌, None, cond, zero, suc, drop, Some, slice_get, option_map}
-use Rattle.set_model.specs.Rows.{Acked, Fate, Each, AreBefore, AreFit, Row, fated, standing, IsNumbered, moved, orders_changed, counts_of, is_parked, stands_back, total_of, users, waits, was_acked, was_discarded, was_held, was_sent, appended, row_of, body_at, changed, turned, with_fate, numbers, place}
+use Rattle.set_model.specs.Rows.{Acked, Fate, Each, AreBefore, AreFit, Row, fated, standing, IsNumbered, moved, picked_changed, counts_of, is_parked, stands_back, total_of, users, waits, was_acked, was_discarded, was_held, was_sent, appended, row_of, body_at, changed, turned, with_fate, numbers, place}
 use Rattle.std.proofs.lemmas.List.{append-nil, length-append, length-map, length_push}
 pub use Rattle.std.proofs.lemmas.List.{nil_from_length as no_rows}
 use Rattle.std.proofs.lemmas.List.Elements.{filter-append}
@@ -165,10 +165,10 @@ module _ (test : Fate → Bool) (fate : Fate) (P : List Row → List Row → Typ
   where_turned (suc n) [] = none
   where_turned (suc n) (x ∷ rows) = grind (arith, where_turned n rows, where_turned (suc n) rows)
 
-  -- of orders, where the test tells
-  pub where_orders : (rows : List Row) → P rows (orders_changed test fate rows)
-  where_orders [] = none
-  where_orders (x ∷ rows) = grind (arith, where_orders rows)
+  -- of those that are picked, where the test tells
+  pub where_picked : (picks : Row → Bool) (rows : List Row) → P rows (picked_changed picks test fate rows)
+  where_picked picks [] = none
+  where_picked picks (x ∷ rows) = grind (arith, where_picked picks rows)
 
 -- WHAT SUCH A CHANGE KEEPS.
 pub record InPlace (test : Fate → Bool) (fate : Fate) (xs ys : List Row) : Type 0 where
@@ -189,8 +189,8 @@ pub record InPlace (test : Fate → Bool) (fate : Fate) (xs ys : List Row) : Typ
 pub turned_there : (test : Fate → Bool) (fate : Fate) (n : ℕ) (rows : List Row) → InPlace test fate rows (turned test fate n rows)
 turned_there test fate n rows = where_turned test fate (InPlace test fate) (grind arith) (λ x xs ys p. grind arith) (λ x xs ys h p. grind arith) n rows
 
-pub orders_there : (test : Fate → Bool) (fate : Fate) (rows : List Row) → InPlace test fate rows (orders_changed test fate rows)
-orders_there test fate rows = where_orders test fate (InPlace test fate) (grind arith) (λ x xs ys p. grind arith) (λ x xs ys h p. grind arith) rows
+pub picked_there : (picks : Row → Bool) (test : Fate → Bool) (fate : Fate) (rows : List Row) → InPlace test fate rows (picked_changed picks test fate rows)
+picked_there picks test fate rows = where_picked test fate (InPlace test fate) (grind arith) (λ x xs ys p. grind arith) (λ x xs ys h p. grind arith) picks rows
 
 -- A place where none turns and none comes.
 pub turned_same : (test other : Fate → Bool) (fate : Fate) → other fate ≡ false

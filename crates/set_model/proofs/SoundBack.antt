@@ -132,7 +132,7 @@ module _ (blind : Bool) (n : ℕ) (link : LinkState) (s : State) (at : IsAt n li
   pub goes : (x : Row) → is_back_to n x.fate ≡ true → IsBackOf s.routing x x.fate → (via : ℕ)
       × (place_of (stream_of x.body) mid.routing ≡ On via) × IsPlaced mid.links (On via)
   goes x e b =
-      let placed = λ (via : ℕ). placed_set s.links n link (left_link blind link) (On via) at.there refl in
+      let placed = λ (via : ℕ). placed_set s.links n link (left_link blind (given s) link) (On via) at.there refl in
       let left = alone s.routing (stream_of x.body) t.routing in
       grind (arith, placed, left, t.placed)
 
@@ -143,17 +143,17 @@ module _ (blind : Bool) (n : ℕ) (link : LinkState) (s : State) (at : IsAt n li
 
   pub leaves : IsSound (left_by blind n link s)
   leaves =
-      let mid_links = links_set s.settings s.links n (left_link blind link) s.rows s.rows
+      let mid_links = links_set s.settings s.links n (left_link blind (given s) link) s.rows s.rows
       (let l = t.links n link at.there in grind arith) (λ k d. untouched k s.rows s.rows refl) t.links in
       let sound = left_sound n s.routing t.routing in
-      moved_sound s mid.links mid.routing (is_back_to n) fate t (length-set s.links n (left_link blind link)) sound refl
+      moved_sound s mid.links mid.routing (is_back_to n) fate t (length-set s.links n (left_link blind (given s) link)) sound refl
       (gone stands_back (λ via p. grind arith))
-      (λ k few. let stays = placed_set s.links n link (left_link blind link) (place_of k s.routing) at.there refl
+      (λ k few. let stays = placed_set s.links n link (left_link blind (given s) link) (place_of k s.routing) at.there refl
       (t.placed k few) in let a = (alone s.routing k t.routing few).left_place n in
-      let runs = up_before s.links n link (left_link blind link) at.there (λ e. absurd cc)
+      let runs = up_before s.links n link (left_link blind (given s) link) at.there (λ e. absurd cc)
       (λ j old here up. t.all_run j old here up k few) in grind (arith, stays, a, runs))
       (λ code e. grind (arith, nat_tests, (codes_alone s.routing code t.routing (grind arith)).left_code n, t.homes_up code, get_set_other))
-      (up_before s.links n link (left_link blind link) at.there (λ e. absurd cc)
+      (up_before s.links n link (left_link blind (given s) link) at.there (λ e. absurd cc)
       (λ k old here up. grind (arith, nat_tests, moved_more, gone, t.none_aside k old here up)))
       (λ k other there. link_moved s.settings k other (is_back_to n) fate s.routing s.rows t.backs
       (λ f e. back_not_on k f (home_back n f e)) (λ x. offered_out k _ mid)

@@ -14,12 +14,12 @@ use Rattle.set_model.specs.Sound.{IsInRange, IsOf, IsPlaced, IsSound, IsSoundLin
 use Rattle.std.proofs.lemmas.List.Elements.{filter-append}
 use Rattle.l2_units.specs.Grammar.{head_of as header_in}
 use Rattle.set_route.specs.Routing.{IsRouting, Routing, accepted, code_of, home_of, place_of}
-use Rattle.set_model.specs.Changeover.{acknowledged_by, answered_link, Order, fate_on, queued, withdrawn}
+use Rattle.set_model.specs.Changeover.{acknowledged_by, answered_link, Order, fate_on, queued, taken_back, withdrawn}
 use Rattle.set_model.specs.Rows.{IsNumbered, AreFit, DiscardCause, Fate, Discarded, Row, changed, fated, held, is_held, is_on, is_parked, is_unacked, is_waiting, moved, octets_in, on, orders_changed, standing, stands_back, unack, wait, Back, back, appended, put_ahead, parked, same_fate, service_indicator, stream_of, IsInOrder, IsHeldLast}
 use Rattle.set_model.specs.State.{Asked, all_finished, given, is_up, Place, Changing, Nowhere, On, Down, Up, Settled, LinkState, State, Settings, with_link, has_phase_settled, has_phase_up, link_is_up, window_of, fate_at, target}
 use Rattle.set_model.specs.Step.{Event, Offer, SignalUnit, choice_in, controlled, is_msu, one_if, part_in, next, rows_sent, offer_refusal, offered}
 use Rattle.set_model.proofs.Order.{backs_of, stood, before_append, before_none, neither, gone_none, coded_at, ascends_appended}
-use Rattle.set_model.proofs.Events.{orders_given_up_unack, Untouched, sent, acknowledged, ChangesOn, sent_by, untouched, appended_out, withdrawn_unack}
+use Rattle.set_model.proofs.Events.{TakenBack, orders_given_up_unack, Untouched, sent, acknowledged, ChangesOn, sent_by, untouched, appended_out, withdrawn_unack}
 use Rattle.set_model.proofs.Rows.{each_append, each_filter, each_so, turned_there, others_stay, new_row, numbered_appended, numbered_on}
 use Rattle.set_model.proofs.Lists.{at_set, each_set, get_set_same, get_set_other, set_same, within, target_up, none_up}
 use Rattle.set_model.proofs.Places.{false_true, stream_below_16}
@@ -213,6 +213,41 @@ gives_up_orders cause n link s g at t =
     subst (λ (links : List LinkState). IsSound
     (record s { links = links; rows = orders_changed (is_waiting n) (Discarded cause) s.rows })) (set_same s.links n link at.there)
     sound
+
+-- AN ORDER THAT IS TAKEN BACK: no link changes, and no row comes anywhere.
+pub takes_back : (order : ℕ) (from : Fate) (s : State) → TakenBack from s.rows (taken_back order from s).rows → IsSound s → IsSound (taken_back order from s)
+takes_back order from s g t =
+    let new = (taken_back order from s).rows in
+    record {
+      managed = t.managed;
+      routing = t.routing;
+      routed = t.routed;
+      count = t.count;
+      numbered = numbered_on (all_finished s.finished) s.rows new g.kept.count (g.kept.numbered (given s) t.numbered);
+      fit = g.kept.fit s.settings.profile t.fit;
+      links = λ n link there.
+          let l = t.links n link there in
+          record {
+            profile = l.profile;
+            window = rw (g.unack_same n) l.window;
+            counted = l.counted;
+            method = l.method;
+            in_order = g.order_kept n l.in_order;
+            held_last = g.last_kept n l.held_last;
+            none_held = λ up. g.held_same n ∙ l.none_held up;
+            in_range = λ up. rw (g.unack_same n) (l.in_range up);
+            settled = λ e. g.none_on n (l.settled e);
+          };
+      placed = t.placed;
+      none_aside = λ n link there up. g.none_parked (t.none_aside n link there up);
+      all_run = t.all_run;
+      homes_up = t.homes_up;
+      backs = backs_of s.routing new
+          (subst (AreBack s.routing) (sym g.back_same)
+          (each_filter (λ row. IsBackOf s.routing row row.fate) (λ row. IsBackOf s.routing row row.fate)
+          (λ row. stands_back row.fate) (λ x e b. b) s.rows t.backs));
+      back_order = rw g.back_same t.back_order;
+    }
 
 -- WHAT IS GIVEN UP of what waits, before it's sent.
 pub withdraws : (count n : ℕ) (link : LinkState) (s : State) → IsAt n link Up s

@@ -12,7 +12,7 @@ use Rattle.set_route.specs.Routing.{new_stream, stream_numbers, settled, runs_on
 use Rattle.set_route.specs.declared.stream.Stream.{Stream}
 use Rattle.set_model.specs.Step.{Event, Gains, choice_in, next, step, stepped, offered, rows_sent}
 use Rattle.set_model.specs.Laws.{IsNew, KeepsMessages, RunsStraight}
-use Rattle.set_model.specs.Rows.{numbers, stream_of, Fate, Unacked, Waiting, IsNumbered, Row, all_with, appended, put_ahead, fated, is_back, is_back_to, is_on, is_parked, is_waiting, moved, orders_changed, standing, stands_back, turned, with_fate}
+use Rattle.set_model.specs.Rows.{numbers, stream_of, Fate, Unacked, Waiting, IsNumbered, Row, all_with, appended, put_ahead, fated, is_back, is_back_to, is_on, is_parked, is_waiting, moved, picked_changed, standing, stands_back, turned, with_fate}
 use Rattle.set_model.specs.Sound.{IsManaged, IsPlaced, IsSettings, IsSound, AreAbove, AreTogether, BeginsNone, IsAscending, IsBackOf, IsSoundStream, astray, is_astray, is_live, is_unfinished, live, stands_at}
 use Rattle.set_model.specs.State.{Asked, Free, Nowhere, Up, LinkState, Settings, State, given, new_link, opened_with, Place, Changing, On, fate_at, target}
 use Rattle.set_route.proofs.Places.{new_sound}
@@ -23,14 +23,14 @@ use Rattle.set_model.proofs.Settling.{settled_empty, diverts_the_rest}
 use Rattle.set_model.proofs.Staying.{keeps_messages, step_gains}
 use Rattle.set_model.specs.Frame.{Concerns, LeavesAlone}
 use Rattle.set_model.proofs.SoundBack.{leaves, declares, releases, rises_sound, moves_off_sound}
-use Rattle.set_model.proofs.SoundLink.{with_inbox, acknowledges, gives_up, gives_up_orders, answers, withdraws, sends_sound, hears_sound, queues, offers}
+use Rattle.set_model.proofs.SoundLink.{with_inbox, acknowledges, gives_up, gives_up_orders, takes_back, answers, withdraws, sends_sound, hears_sound, queues, offers}
 use Rattle.std.proofs.lemmas.List.Elements.{filter-append}
 use Rattle.std.proofs.lemmas.Bool.{cond_both}
 use Rattle.set_model.specs.Changeover.{Order, fate_on, left_by, queued, released}
 use Rattle.set_model.specs.Control.{Choice}
 use Rattle.set_route.proofs.Alone.{alone}
 use Rattle.set_route.proofs.Quiet.{left_quiet, back_quiet, never_changing}
-use Rattle.set_model.proofs.Rows.{filter_within, none_within, new_row, where_turned, where_orders, moved_nothing, no_rows}
+use Rattle.set_model.proofs.Rows.{filter_within, none_within, new_row, where_turned, where_picked, moved_nothing, no_rows}
 use Rattle.set_model.proofs.Order.{ascends_appended, none_standing}
 use Rattle.set_model.proofs.Ahead.{put_out}
 use Rattle.set_model.proofs.Places.{false_true, itself, code_back, home_back}
@@ -43,6 +43,7 @@ pub ruleset sounds = (
   acknowledges,
   gives_up,
   gives_up_orders,
+  takes_back,
   moves_off_sound,
   answers,
   withdraws,
@@ -133,10 +134,10 @@ module _ (stream : ℕ) (place : Place) (test : Fate → Bool) (fate : Fate)
       let less = where_turned test fate (Less stream place) (grind arith) less_stays less_turns n rows in
       grind arith
 
-  pub stream_orders : (used : Bool) (rows : List Row)
-      → IsSoundStream stream place used rows → IsSoundStream stream place used (orders_changed test fate rows)
-  stream_orders used rows t =
-      let less = where_orders test fate (Less stream place) (grind arith) less_stays less_turns rows in
+  pub stream_picked : (picks : Row → Bool) (used : Bool) (rows : List Row)
+      → IsSoundStream stream place used rows → IsSoundStream stream place used (picked_changed picks test fate rows)
+  stream_picked picks used rows t =
+      let less = where_picked test fate (Less stream place) (grind arith) less_stays less_turns picks rows in
       grind arith
 
 -- A NEW MESSAGE has a number above all others.
@@ -272,8 +273,8 @@ step_straight s event begins t r =
     let stream_finishes = λ (k : ℕ) (place : Place) (test : Fate → Bool) (fate : Fate)
     (done : is_unfinished fate ≡ false). stream_turned k place test fate
     (λ f e alive. false_true (is_unfinished fate) done alive) in
-    let orders_finish = λ (k : ℕ) (place : Place) (test : Fate → Bool) (fate : Fate)
-    (done : is_unfinished fate ≡ false). stream_orders k place test fate
+    let picked_finish = λ (k : ℕ) (place : Place) (test : Fate → Bool) (fate : Fate)
+    (done : is_unfinished fate ≡ false). stream_picked k place test fate
     (λ f e alive. false_true (is_unfinished fate) done alive) in
     let rests : (a b : State) → IsSound a × RunsStraight a → StaysStraight a b → IsSound b
     × RunsStraight b = λ a b q then. then q.0 q.1.none_open q.1.together in
@@ -290,7 +291,7 @@ step_straight s event begins t r =
       releases_straight,
       queues_straight,
       stream_finishes,
-      orders_finish,
+      picked_finish,
       moves_off_straight,
       offers_straight,
       sends_straight,

@@ -11,8 +11,8 @@ use Rattle.std.proofs.lemmas.List.Folds.{find-append}
 use Rattle.std.proofs.lemmas.Bool.Decides.{nat_tests}
 use Rattle.set_model.specs.Laws.{MessagesStay, MovesTheLinksRows, KeepsMessages}
 use Rattle.set_model.specs.Rows.{Fate, IsNumbered, Row, appended, put_ahead, counts_of, service_indicator, total_of, was_acked, Acked, Unacked, is_on, is_unacked, is_waiting, moved, standing, turned, unack}
-use Rattle.set_model.proofs.Rows.{turned_there, orders_there, moved_length, moved_numbered, not_found, numbered_appended, same_numbers, no_rows, body_moved, place_moved, row_is_first, total_is, filter_comm, fewer_filter, fated_none, turned_left}
-use Rattle.set_model.proofs.Events.{ChangesOn, numbers_fated, Kept, moved_kept, acknowledged, appended_out}
+use Rattle.set_model.proofs.Rows.{turned_there, picked_there, moved_length, moved_numbered, not_found, numbered_appended, same_numbers, no_rows, body_moved, place_moved, row_is_first, total_is, filter_comm, fewer_filter, fated_none, turned_left}
+use Rattle.set_model.proofs.Events.{ChangesOn, TakenBack, numbers_fated, Kept, moved_kept, acknowledged, appended_out}
 use Rattle.std.proofs.lemmas.List.Elements.{filter-append}
 use Rattle.l3_orders.specs.Grammar.{text}
 use Rattle.set_model.specs.Changeover.{Order, fate_on}
@@ -87,10 +87,12 @@ step_grows s event =
     let target_open : (to : Option ℕ) → was_acked (fate_on to) ≡ false = λ to. grind arith in
     let fate_open : (p : Place) (s : State) → was_acked (fate_at p s) ≡ false = λ p s. grind arith in
     let kept_on = λ (n : ℕ) (rows new : List Row) (g : ChangesOn n rows new). g.kept in
+    let kept_back = λ (from : Fate) (rows new : List Row) (g : TakenBack from rows new). g.kept in
     let same = λ (rows : List Row). (acknowledged 0 0 rows).kept in
     step_walks s (Grows (is_offer event ≡ false)) (Grows (is_offer event ≡ false) s) event
     (search (
       kept_on,
+      kept_back,
       grows_then,
       grows_kept,
       grows_appended,
@@ -193,7 +195,7 @@ step_counts s event =
     let sum_at_most : (d c a b more : ℕ) → d ≤ c → a ≤ b + more → d + a ≤ c + b + more = λ d c a b more e few. omega arith in
     let one_low : (a more : ℕ) (b : Bool) → 1 ≤ more → a + one_if b ≤ a + more = λ a more b some. grind arith in
     let fewer = λ (m count : ℕ) (test : Fate → Bool) (fate : Fate) (rows : List Row). (turned_there test fate count rows).fewer (is_unacked m) in
-    let fewer_orders = λ (m : ℕ) (test : Fate → Bool) (fate : Fate) (rows : List Row). (orders_there test fate rows).fewer (is_unacked m) in
+    let fewer_picked = λ (m : ℕ) (picks : Row → Bool) (test : Fate → Bool) (fate : Fate) (rows : List Row). (picked_there picks test fate rows).fewer (is_unacked m) in
     step_walks s (GrowBy 0) (GrowBy 1 s) event
     (search (
       le_refl,

@@ -4,17 +4,18 @@
 -- case by case on the event, the order and the phase; `declare_walks` and `release_walks` are inductions on the links
 -- and codes that are left. Soundness.antt, Staying.antt and Framing.antt are such walks; so are parts of pair_model's
 -- Following.antt and pair_changeover's Acked.antt.
-use Rattle.std.proofs.Common.{refl, arith, ◌≡◌, ◌<◌, ◌≤◌, length, ℕ, zero, suc, ◌+◌, Bool, true, false, ◌⊎◌, List, [], ◌∷◌, ◌++◌, slice_get, Option, Some, None, inr, cond}
+use Rattle.std.proofs.Common.{refl, arith, ap, ◌≡◌, ◌∙◌, ◌<◌, ◌≤◌, length, ℕ, zero, suc, ◌+◌, Bool, true, false, ◌⊎◌, List, [], ◌∷◌, ◌++◌, slice_get, Option, Some, None, inl, inr, cond, ◌||◌}
 use Rattle.std.proofs.lemmas.Bool.{cond_both}
+use Rattle.std.proofs.lemmas.Bool.Decides.{nat_tests}
 use Rattle.l3_orders.specs.Grammar.{link_of, order_of}
 use Rattle.set_route.specs.Routing.{code_for, home_of}
-use Rattle.set_model.specs.Step.{SignalUnit, Event, BackTimeout, DownEvent, DownBlind, Heard, Next, NoAnswer, Offer, Take, UpEvent, step, Outcome, brought, controlled, controls, falls, in_service, next, offer_refusal, offered, part_in, rises, taken, takes, stepped, is_heard}
-use Rattle.set_model.specs.Changeover.{Order, Cba, Cbd, Coa, Reached, Unanswered, Unknown, Upto, acknowledged_by, answered, answered_link, can_declare, changed_over, cleared, declared, declared_from, is_overtaken, leading, leaving_order, left_by, left_link, moved_over, obeyed, order_obeyed, queued, reached_by, released, released_from, reply_of, settled, withdrawn}
+use Rattle.set_model.specs.Step.{SignalUnit, Event, BackTimeout, DownEvent, DownBlind, Heard, Next, NoAnswer, Timed, timed, times_out, Offer, Take, UpEvent, step, Outcome, brought, controlled, controls, falls, in_service, next, offer_refusal, offered, part_in, rises, taken, takes, stepped, is_heard}
+use Rattle.set_model.specs.Changeover.{Order, Cba, Cbd, Coa, Reached, Unanswered, Unasked, order_at, taken_back, Unknown, Upto, acknowledged_by, answered, answered_link, can_declare, changed_over, cleared, declared, declared_from, is_overtaken, leading, leaving_order, left_by, left_link, moved_over, obeyed, order_obeyed, queued, reached_by, released, released_from, reply_of, settled, withdrawn}
 use Rattle.set_model.specs.Frame.{BringsAbout, BringsBackTo, Concerns}
-use Rattle.set_model.specs.Rows.{DiscardCause, Emergency, NoAnswer as NoAnswerCame, Unreasonable, Discarded, changed, orders_changed, is_unacked, is_waiting, unack, wait}
+use Rattle.set_model.specs.Rows.{DiscardCause, Emergency, NoAnswer as NoAnswerCame, Unreasonable, Discarded, changed, orders_changed, is_unacked, is_waiting, unack, wait, waits, is_parked, Fate, Waiting, Parked, place}
 use Rattle.set_model.specs.Sound.{BeginsNone}
-use Rattle.set_model.specs.State.{Phase, Down, Settled, Up, LinkState, State, is_up, last_accepted, with_link}
-use Rattle.set_model.proofs.Events.{ChangesOn, Unparked, acknowledged, given_up, orders_given_up, sent_by, unparked, withdrawn_rows}
+use Rattle.set_model.specs.State.{Phase, Down, Settled, Up, LinkState, State, given, is_up, last_accepted, with_link}
+use Rattle.set_model.proofs.Events.{ChangesOn, Unparked, acknowledged, given_up, orders_given_up, sent_by, TakenBack, taken_back_rows, unparked, withdrawn_rows}
 use Rattle.set_model.proofs.Lists.{within, get_set_same}
 use Rattle.std.proofs.lemmas.List.{length-set}
 
@@ -41,6 +42,9 @@ pub record KeptBy (Known : ℕ → Type 0) (May : Type 0) (R : State → State �
   pub gives_up_orders : (cause : DiscardCause) (n : ℕ) (link : LinkState) (s : State) → Known n → IsAt n link Down s
       → ChangesOn n s.rows (orders_changed (is_waiting n) (Discarded cause) s.rows)
       → R s (record s { rows = orders_changed (is_waiting n) (Discarded cause) s.rows })
+  pub takes_back : (order : ℕ) (from : Fate) (s : State) → (waits from || is_parked from) ≡ true
+      → ((n : ℕ) → is_waiting n from ≡ true → Known n) → TakenBack from s.rows (taken_back order from s).rows
+      → R s (taken_back order from s)
   pub moves_off : (told : Bool) (n : ℕ) (link : LinkState) (s : State) → Known n → IsAt n link Down s → R s (moved_over told n link s)
   pub answers : (n : ℕ) (link : LinkState) (s : State) → Known n → IsAt n link Settled s → R s (with_link n (answered_link link) s)
   pub withdraws : (count n : ℕ) (link : LinkState) (s : State) → Known n → IsAt n link Up s
@@ -81,6 +85,9 @@ module _ (Known : ℕ → Type 0) (May : Type 0) (R : State → State → Type 0
       (k.gives_up_orders NoAnswerCame n link mid known (record { there = at.there; phase_is = at.phase_is })
       (orders_given_up n NoAnswerCame mid.rows)))
       (record { there = at.there; phase_is = at.phase_is })
+  settle_walks Unasked n link s known at =
+      off false n link s _ known (k.gives_up true NoAnswerCame n link s known at (given_up n true NoAnswerCame s.rows))
+      (record { there = at.there; phase_is = at.phase_is })
   settle_walks (Upto fsn) n link s known at =
       let refused = off true n link s _ known (both_given_up Unreasonable n link s known at) (record { there = at.there; phase_is = at.phase_is }) in
       let count = reached_by fsn n link s.rows in
@@ -94,9 +101,9 @@ module _ (Known : ℕ → Type 0) (May : Type 0) (R : State → State → Type 0
       let told = queued (Coa n (last_accepted link)) (left_by false n link s) in
       k.after s told _ (k.after s _ told (k.leaves false n link s known at)
       (k.queues (Coa n (last_accepted link)) (left_by false n link s)))
-      (settle_walks reached n (left_link false link) told known
+      (settle_walks reached n (left_link false (given s) link) told known
       (record {
-        there = get_set_same s.links n (left_link false link) (within s.links n link at.there);
+        there = get_set_same s.links n (left_link false (given s) link) (within s.links n link at.there);
         phase_is = refl;
       }))
   over_walks reached n link Down s known at = settle_walks reached n link s known at
@@ -180,6 +187,32 @@ module _ (s : State) (R : State → State → Type 0) (S : State → Type 0) whe
       w.rests s _ w.unmoved (w.small.after s (left_by blind n link s) _ (w.small.leaves blind n link s known at)
       (w.small.queues (leaving_order blind n link) (left_by blind n link s)))
 
+  -- an order is taken back, and the link settles
+  over_walks_by_time : (n : ℕ) (link : LinkState) (from : Fate) → WalkedBy s (Timed n) R S → IsAt n link Down s
+      → place link.order s.rows ≡ Some from → (waits from || is_parked from) ≡ true
+      → S (settled Unasked n link (taken_back link.order from s))
+  over_walks_by_time n link from w at e unsent =
+      let back = taken_back link.order from s in
+      let found : order_at n s ≡ Some from = rw at.there e in
+      w.rests s _ w.unmoved (w.small.after s back _
+      (w.small.takes_back link.order from s unsent
+      (λ m there. inr (found ∙ (let is : from ≡ Waiting m = grind (arith, nat_tests) in ap Some is)))
+      (taken_back_rows link.order from s.rows unsent))
+      (settle_walks (λ m. Concerns (Timed n) m s) (BeginsNone (Timed n) → ⊥) R w.small Unasked n link back
+      (inl refl) (record { there = at.there; phase_is = at.phase_is })))
+
+  timed_walks : (n : ℕ) (link : LinkState) (o : Option Fate) → WalkedBy s (Timed n) R S → IsAt n link Down s
+      → place link.order s.rows ≡ o → S (timed o n s link).state
+  timed_walks n link (Some (Waiting to)) w at e = over_walks_by_time n link (Waiting to) w at e refl
+  timed_walks n link (Some Parked) w at e = over_walks_by_time n link Parked w at e refl
+  timed_walks n link o w at e = let still = w.unmoved in grind arith
+
+  time_walks : (n : ℕ) (link : LinkState) → WalkedBy s (Timed n) R S → slice_get s.links n ≡ Some link
+      → S (times_out n s link link.phase).state
+  time_walks n link w there =
+      let over = λ (at : IsAt n link Down s). timed_walks n link (place link.order s.rows) w at refl in
+      let still = w.unmoved in grind arith
+
   pub step_walks : (event : Event) → WalkedBy s event R S → S (step s event).state
   unfolding step
   step_walks Take w = take_walks w s.inbox refl
@@ -188,6 +221,7 @@ module _ (s : State) (R : State → State → Type 0) (S : State → Type 0) whe
       (settle_walks (λ m. Concerns (NoAnswer n) m s) (BeginsNone (NoAnswer n) → ⊥) R w.small Unanswered n link s
       refl at) in
       grind (arith, settle)
+  step_walks (Timed n) w = grind (arith, time_walks)
   step_walks (BackTimeout n) w =
       let release = w.rests s _ w.unmoved
       (release_walks (λ m. Concerns (BackTimeout n) m s) (BeginsNone (BackTimeout n) → ⊥) R w.small (code_for n 0)

@@ -8,10 +8,10 @@ use Rattle.l3_orders.specs.Grammar.{text, order_of}
 pub use Rattle.set_events.specs.Places.{fate_on}
 use Rattle.set_events.specs.declared.answer.Took.{Took}
 use Rattle.set_events.specs.declared.answer.Took.TheVariants.{Order as TookOrder, Ignored}
-use Rattle.set_model.specs.Rows.{Waiting, Acked, Discarded, DiscardCause, Emergency, Unreasonable, NoAnswer, Row, all_with, unack, wait, stream_of, is_unacked, is_waiting, is_on, is_back, is_back_to, turned, changed, orders_changed, moved, appended, put_ahead}
+use Rattle.set_model.specs.Rows.{Waiting, Acked, Discarded, DiscardCause, Emergency, Unreasonable, NoAnswer, Row, all_with, unack, wait, stream_of, is_unacked, is_waiting, is_on, is_back, is_back_to, turned, changed, orders_changed, one_changed, same_fate, place, Fate, moved, appended, put_ahead}
 use Rattle.set_route.specs.Routing.{place_of, code_for, home_of, code_of, is_free, can_ask, asked, given_back, left, settled as streams_settled}
 pub use Rattle.set_model.specs.declared.reached.Reached.{Reached}
-pub use Rattle.set_model.specs.declared.reached.Reached.TheVariants.{Upto, Unknown, Unanswered}
+pub use Rattle.set_model.specs.declared.reached.Reached.TheVariants.{Upto, Unknown, Unanswered, Unasked}
 use Rattle.set_model.specs.State.{Phase, Up, Down, Settled, Code, Free, LinkState, State, given, with_link, is_up, fate_at, target, window_of, last_accepted}
 
 -- QUEUE: an order stands as a row of its own for the target, ahead of the users' messages that wait for it (own), in the
@@ -21,14 +21,14 @@ queued order s = record s {
   rows = put_ahead (given s) s.rows (text s.settings.profile order s.settings.sio s.settings.dpc s.settings.opc) (fate_on (target s.links));
 }
 
--- LEAVE (Q.704 5.3): the link is out of service; its messages stay on it until it settles. Streams on their way back
--- to it run where they came from again,
-abbrev pub left_link : Bool → LinkState → LinkState
-left_link blind link = record link { phase = Down; blind = blind }
+-- LEAVE (Q.704 5.3): the link is out of service; its messages stay on it until it settles, and the order that is queued
+-- next tells of it. Streams on their way back to it run where they came from again,
+abbrev pub left_link : Bool → ℕ → LinkState → LinkState
+left_link blind order link = record link { phase = Down; blind = blind; order = order }
 
 abbrev pub out_of_service : Bool → ℕ → LinkState → State → State
 out_of_service blind number link s = record s {
-  links = slice_set s.links number (left_link blind link);
+  links = slice_set s.links number (left_link blind (given s) link);
   routing = left number s.routing;
 }
 
@@ -68,7 +68,20 @@ withdrawn count number s = record s { rows = turned (is_waiting number) (Discard
 abbrev pub cleared : ℕ → State → State
 cleared number s = withdrawn (leading (is_overtaken s) (wait number s.rows)) number s
 
--- SETTLE (Q.704 5.5). How far the far end got is told by its FSN, or isn't told, or no answer came (Reached).
+-- (Q.704 5.6.2) Where the order of a link that was left stands, and the order taken back from there: it's discarded in its
+-- place (own).
+abbrev pub order_in : Option LinkState → State → Option Fate
+order_in None s = None
+order_in (Some link) s = place link.order s.rows
+
+abbrev pub order_at : ℕ → State → Option Fate
+order_at number s = order_in (slice_get s.links number) s
+
+abbrev pub taken_back : ℕ → Fate → State → State
+taken_back order from s = record s { rows = one_changed order (λ fate. same_fate fate from) (Discarded NoAnswer) s.rows }
+
+-- SETTLE (Q.704 5.5). How far the far end got is told by its FSN, or isn't told, or no answer came, or it wasn't asked,
+-- since the order never was sent (Reached).
 
 -- the message numbers that the FSN acknowledges, if it's reasonable: that last acknowledged, or an unacknowledged one's
 abbrev pub reached_by : ℕ → ℕ → LinkState → List Row → ℕ
@@ -107,6 +120,7 @@ judged (Upto fsn) number link s =
     else discarded Unreasonable number s
 judged Unknown number link s = record s { rows = changed (is_unacked number) (Discarded Emergency) s.rows }
 judged Unanswered number link s = unanswered number s
+judged Unasked number link s = record s { rows = changed (is_unacked number) (Discarded NoAnswer) s.rows }
 
 abbrev pub judged_link : Reached → ℕ → LinkState → List Row → LinkState
 judged_link (Upto fsn) number link rows =
@@ -118,6 +132,7 @@ judged_link _ number link rows = link
 -- then: what stands on the link is moved, in its order, and so are its streams
 abbrev pub is_told : Reached → Bool
 is_told Unanswered = false
+is_told Unasked = false
 is_told _ = true
 
 abbrev pub settled_link : Bool → LinkState → LinkState
@@ -207,7 +222,7 @@ answered_link link = record link { answered = true; late = one_later link.late }
 abbrev pub changed_over : Reached → ℕ → LinkState → Phase → State → Obeyed
 changed_over reached number link Up s = record {
   took = TookOrder;
-  state = settled reached number (left_link false link)
+  state = settled reached number (left_link false (given s) link)
       (queued (Coa number (last_accepted link)) (left_by false number link s));
 }
 changed_over reached number link Down s = record { took = TookOrder; state = settled reached number link s }

@@ -7,11 +7,12 @@ use Rattle.l3_orders.specs.declared.order.Order.{Order}
 use Rattle.l3_orders.specs.declared.order.Order.TheVariants.{Cba}
 use Rattle.l3_orders.specs.Grammar.{order_of, link_of}
 use Rattle.set_route.specs.Routing.{place_of, home_of}
-use Rattle.set_model.specs.Rows.{Row, stream_of, unack, wait, held, octets_in, is_users}
+use Rattle.set_model.specs.Changeover.{order_at}
+use Rattle.set_model.specs.Rows.{Waiting, Row, stream_of, unack, wait, held, octets_in, is_users}
 use Rattle.set_model.specs.Control.{Choice, first, control_after, window_heard, control_heard}
 use Rattle.set_model.specs.Sound.{IsManaged}
 use Rattle.set_model.specs.State.{On, LinkState, State, is_up, window_of}
-use Rattle.set_model.specs.Step.{SignalUnit, Msu, Event, Offer, Next, Heard, UpEvent, DownEvent, DownBlind, NoAnswer, BackTimeout, choice_in, next, controlled, controls, is_msu, is_heard}
+use Rattle.set_model.specs.Step.{SignalUnit, Msu, Event, Offer, Next, Heard, UpEvent, DownEvent, DownBlind, NoAnswer, Timed, BackTimeout, choice_in, next, controlled, controls, is_msu, is_heard}
 
 -- the unit brings an order about this link
 abbrev pub BringsAbout : Profile → ℕ → SignalUnit → Type 0
@@ -24,8 +25,8 @@ BringsBackTo profile number (Msu head body) =
     (link code : ℕ) × (order_of profile body.items ≡ Some (Cba link code)) × (home_of code ≡ number)
 BringsBackTo profile number _ = ⊥
 
--- its own link, that of an order which its unit brings, the home of the code that it acknowledges, or the one on which
--- the stream of an offered message runs; Take, Find and Restore concern none
+-- its own link, that of an order which its unit brings, the home of the code that it acknowledges, the one on which the
+-- stream of an offered message runs, or for which the order waits that is taken back; Take, Find and Restore concern none
 abbrev pub Concerns : Event → ℕ → State → Type 0
 Concerns (Offer body) number s = place_of (stream_of body) s.routing ≡ On number
 Concerns (Next link) number s = link ≡ number
@@ -34,6 +35,7 @@ Concerns (UpEvent link) number s = link ≡ number
 Concerns (DownEvent link) number s = link ≡ number
 Concerns (DownBlind link) number s = link ≡ number
 Concerns (NoAnswer link) number s = link ≡ number
+Concerns (Timed link) number s = (link ≡ number) ⊎ (order_at link s ≡ Some (Waiting number))
 Concerns (BackTimeout link) number s = link ≡ number
 Concerns _ number s = ⊥
 

@@ -112,12 +112,18 @@ turned test fate (suc n) (row ∷ rows) =
 abbrev pub changed : (Fate → Bool) → Fate → List Row → List Row
 changed test fate rows = turned test fate (length rows) rows
 
--- those of them that are orders, all of them, in their places
-abbrev pub order_turned : (Fate → Bool) → Fate → Row → Row
-order_turned test fate row = if test row.fate && not (is_users row) then with_fate fate row else row
+-- those of them that a test of rows picks, all of them, in their places: orders, or the one of a number
+abbrev pub picked_turned : (Row → Bool) → (Fate → Bool) → Fate → Row → Row
+picked_turned picks test fate row = if test row.fate && picks row then with_fate fate row else row
+
+abbrev pub picked_changed : (Row → Bool) → (Fate → Bool) → Fate → List Row → List Row
+picked_changed picks test fate rows = map (picked_turned picks test fate) rows
 
 abbrev pub orders_changed : (Fate → Bool) → Fate → List Row → List Row
-orders_changed test fate rows = map (order_turned test fate) rows
+orders_changed test fate rows = picked_changed (λ row. not (is_users row)) test fate rows
+
+abbrev pub one_changed : ℕ → (Fate → Bool) → Fate → List Row → List Row
+one_changed number test fate rows = picked_changed (λ row. row.number == number) test fate rows
 
 -- the fate that each row has then, told by the row
 abbrev pub fated : (Row → Fate) → Row → Row

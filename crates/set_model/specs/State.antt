@@ -35,6 +35,8 @@ pub record LinkState : Type 0 where
   -- (own) and of all its lives: how many changeover orders about it were heard while it was settled, modulo 2^32. Each
   -- tells that the far end has left a life of which this end had no part.
   pub late : ℕ
+  -- the number of the order that was queued when it was left last
+  pub order : ℕ
 
 -- what a set is opened with: its own number; how many links; how their messages are kept safe; the SIO and the point
 -- codes of its orders
@@ -85,6 +87,7 @@ new_link profile method = record {
   accepted = 0;
   control = start_of method;
   late = 0;
+  order = 0;
 }
 
 -- a set that nothing was asked of

@@ -15,12 +15,12 @@ pub use Rattle.set_events.specs.declared.answer.Refusal.TheVariants.{TooShort, T
 pub use Rattle.set_events.specs.declared.answer.Answer.{Answer}
 pub use Rattle.set_events.specs.declared.answer.Answer.TheVariants.{Accepted, Taken, Found, Sent, Heard as HeardBack, Done, Refused}
 pub use Rattle.set_events.specs.declared.event.Event.{Event}
-pub use Rattle.set_events.specs.declared.event.Event.TheVariants.{Offer, Take, Find, Next, Heard, Up as UpEvent, Down as DownEvent, DownBlind, NoAnswer, Restore, BackTimeout}
+pub use Rattle.set_events.specs.declared.event.Event.TheVariants.{Offer, Take, Find, Next, Heard, Up as UpEvent, Down as DownEvent, DownBlind, NoAnswer, Timed, Restore, BackTimeout}
 use Rattle.set_route.specs.Routing.{place_of, code_for, accepted, raised}
-use Rattle.set_model.specs.Rows.{Fate, Waiting, Unacked, Acked, Row, all_with, unack, wait, is_unacked, is_waiting, is_parked, octets_in, unsent, stream_of, service_indicator, turned, moved, appended, place, counts_of, total_of}
+use Rattle.set_model.specs.Rows.{Fate, Waiting, Parked, Unacked, Acked, Row, all_with, unack, wait, is_unacked, is_waiting, is_parked, octets_in, unsent, stream_of, service_indicator, turned, moved, appended, place, counts_of, total_of}
 use Rattle.set_model.specs.State.{Phase, Up, Down, Settled, LinkState, State, given, with_link, link_count, late_at, has_phase_up, fate_at, window_of}
 use Rattle.set_model.specs.Control.{Header, Method, HeardPart, Choice, again, first, fill, start_of, choice_of, fsn_of, head_of, control_after, part_of, control_heard}
-use Rattle.set_model.specs.Changeover.{Unanswered, Obeyed, cleared, left_by, leaving_order, queued, settled, declared_from, some_declare, released_from, some_in_use, obeyed}
+use Rattle.set_model.specs.Changeover.{Unanswered, Unasked, taken_back, Obeyed, cleared, left_by, leaving_order, queued, settled, declared_from, some_declare, released_from, some_in_use, obeyed}
 
 -- what is answered, and what the set holds then
 pub record Outcome : Type 0 where
@@ -177,7 +177,7 @@ heard unit number s link =
 -- UP. The error control starts anew; streams move to the link, and what was parked waits for it.
 abbrev pub risen_link : Profile → Method → ℕ → LinkState
 risen_link profile method late =
-    record { phase = Up; profile = profile; blind = false; answered = false; acked = 0; accepted = 0; control = start_of method; late = late }
+    record { phase = Up; profile = profile; blind = false; answered = false; acked = 0; accepted = 0; control = start_of method; late = late; order = 0 }
 
 abbrev pub rises : ℕ → State → Phase → Outcome
 rises number s Up = refused s NotDown
@@ -203,6 +203,21 @@ falls blind number s link = record {
 abbrev pub gives_up : ℕ → State → LinkState → Phase → Outcome
 gives_up number s link Down = record { answer = Done; state = settled Unanswered number link s }
 gives_up number s link _ = refused s Nothing
+
+-- TIME (Q.704 5.6.2): an order that never was sent is taken back from where it waits, or is parked, and the link settles:
+-- what was sent on it may have arrived or not, and is discarded; all that never was sent moves to another link. Once it was
+-- sent the far end may answer it (own).
+abbrev pub over_by_time : Fate → ℕ → State → LinkState → Outcome
+over_by_time from number s link = record { answer = Done; state = settled Unasked number link (taken_back link.order from s) }
+
+abbrev pub timed : Option Fate → ℕ → State → LinkState → Outcome
+timed (Some (Waiting to)) number s link = over_by_time (Waiting to) number s link
+timed (Some Parked) number s link = over_by_time Parked number s link
+timed _ number s link = refused s Nothing
+
+abbrev pub times_out : ℕ → State → LinkState → Phase → Outcome
+times_out number s link Down = timed (place link.order s.rows) number s link
+times_out number s link _ = refused s Nothing
 
 -- RESTORE (Q.704 6.2): streams come back from every other link that is up, the lowest-numbered first.
 abbrev pub comes_back : ℕ → State → Outcome
@@ -230,6 +245,7 @@ stepped s (UpEvent link) = on_link link s (λ state. rises link s state.phase)
 stepped s (DownEvent link) = in_service link s (falls false link s)
 stepped s (DownBlind link) = in_service link s (falls true link s)
 stepped s (NoAnswer link) = on_link link s (λ state. gives_up link s state state.phase)
+stepped s (Timed link) = on_link link s (λ state. times_out link s state state.phase)
 stepped s (Restore link) = in_service link s (λ state. comes_back link s)
 stepped s (BackTimeout link) = on_link link s (λ state. runs_out link s)
 

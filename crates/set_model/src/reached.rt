@@ -9,4 +9,6 @@ pub enum Reached {
     Unknown,
     /// No answer came.
     Unanswered,
+    /// The far end wasn't asked: the order never was sent, and was taken back.
+    Unasked,
 }

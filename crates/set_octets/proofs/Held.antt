@@ -12,14 +12,14 @@ use Rattle.l3_orders.specs.Grammar.{IsOrder}
 use Rattle.l3_orders.proofs.Texts.{one_grammar}
 use Rattle.set_route.specs.Routing.{code_for, code_of}
 use Rattle.set_model.specs.declared.reached.Reached.{Reached}
-use Rattle.set_model.specs.declared.reached.Reached.TheVariants.{Upto, Unknown, Unanswered}
+use Rattle.set_model.specs.declared.reached.Reached.TheVariants.{Upto, Unknown, Unanswered, Unasked}
 use Rattle.set_model.specs.declared.phase.Phase.{Phase}
 use Rattle.set_model.specs.declared.phase.Phase.TheVariants.{Up, Down, Settled}
-use Rattle.set_model.specs.Changeover.{Obeyed, acknowledged_back, acknowledged_by, answered, at_link, can_declare, changed_over, cleared, declared, declared_from, discarded, fate_on, is_reasonable, judged, leaving_order, left_by, left_link, obeyed, order_obeyed, queued, reached_by, released, released_from, reply_of, settled, some_declare, some_in_use}
+use Rattle.set_model.specs.Changeover.{Obeyed, acknowledged_back, acknowledged_by, answered, at_link, can_declare, changed_over, cleared, declared, declared_from, discarded, fate_on, is_reasonable, judged, leaving_order, left_by, left_link, obeyed, order_obeyed, queued, reached_by, released, released_from, reply_of, settled, taken_back, some_declare, some_in_use}
 use Rattle.set_model.specs.Control.{Choice, again, first, fill, fsn_of, head_of}
-use Rattle.set_model.specs.Rows.{AreFit, Acked, Discarded, Emergency, NoAnswer, Unacked, Unreasonable, Waiting, is_back, is_back_to, is_on, is_parked, is_unacked, is_waiting, place, service_indicator}
+use Rattle.set_model.specs.Rows.{AreFit, Parked, same_fate, Acked, Discarded, Emergency, NoAnswer, Unacked, Unreasonable, Waiting, is_back, is_back_to, is_on, is_parked, is_unacked, is_waiting, place, service_indicator}
 use Rattle.set_model.specs.State.{Asked, Code, Free, Spent, has_phase_up, link_count, target, window_of}
-use Rattle.set_model.specs.Step.{Done, Message, Nothing, NotUp, Outcome, SetRefusal, brought, choice_in, chosen, comes_back, controlled, controls, falls, found as found_at, gives_up, heard, in_service, is_heard, next, offer_refusal, offered, on_link, part_in, refused, rises, rows_sent, runs_out, step, taken, takes, unit_of, with_known}
+use Rattle.set_model.specs.Step.{Done, Message, Nothing, NotUp, Outcome, SetRefusal, brought, choice_in, chosen, comes_back, controlled, controls, falls, found as found_at, gives_up, over_by_time, timed, times_out, heard, in_service, is_heard, next, offer_refusal, offered, on_link, part_in, refused, rises, rows_sent, runs_out, step, taken, takes, unit_of, with_known}
 use Rattle.set_model.proofs.Ahead.{each_put}
 use Rattle.set_model.proofs.Lists.{each_set, within}
 use Rattle.l2_units.specs.declared.profile.Profile.{Profile}
@@ -32,10 +32,10 @@ use Rattle.l3_orders.specs.declared.order.Order.TheVariants.{Coo, Coa, Cbd, Cba,
 use Rattle.l3_orders.specs.Grammar.{text, order_of, label_number}
 use Rattle.set_events.specs.declared.answer.Answer.{Answer}
 use Rattle.set_events.specs.declared.event.Event.{Event}
-use Rattle.set_model.specs.Rows.{Fate, Row, appended, changed, fated, moved, orders_changed, standing, turned, unack, wait}
+use Rattle.set_model.specs.Rows.{Fate, Row, appended, changed, fated, moved, picked_changed, is_users, standing, turned, unack, wait}
 use Rattle.set_model.specs.Sound.{IsSettings, IsSound}
 use Rattle.set_model.specs.State.{LinkState, State, given, last_accepted}
-use Rattle.set_model.proofs.Rows.{each_append, each_filter, turned_there, where_turned, where_orders}
+use Rattle.set_model.proofs.Rows.{each_append, each_filter, turned_there, where_turned, where_picked}
 use Rattle.set_octets.specs.Octets.{AreOctets, IsBody, AreBodies, HoldsOctets, AskedInOctets, IsOnWire, GivesOctets, StepsGiveOctets}
 
 -- ROWS.
@@ -48,8 +48,8 @@ rows_turned test fate n rows = where_turned test fate (λ xs ys. AreBodies xs �
 rows_changed : (test : Fate → Bool) (fate : Fate) (rows : List Row) → AreBodies rows → AreBodies (changed test fate rows)
 rows_changed test fate rows = rows_turned test fate (length rows) rows
 
-rows_orders : (test : Fate → Bool) (fate : Fate) (rows : List Row) → AreBodies rows → AreBodies (orders_changed test fate rows)
-rows_orders test fate rows = where_orders test fate (λ xs ys. AreBodies xs → AreBodies ys) (λ e. e) (λ x xs ys p e. (e.0, p e.1)) (λ x xs ys h p e. (e.0, p e.1)) rows
+rows_picked : (picks : Row → Bool) (test : Fate → Bool) (fate : Fate) (rows : List Row) → AreBodies rows → AreBodies (picked_changed picks test fate rows)
+rows_picked picks test fate rows = where_picked test fate (λ xs ys. AreBodies xs → AreBodies ys) (λ e. e) (λ x xs ys p e. (e.0, p e.1)) (λ x xs ys h p e. (e.0, p e.1)) picks rows
 
 rows_fated : (fate : Row → Fate) (rows : List Row) → AreBodies rows → AreBodies (map (fated fate) rows)
 rows_fated fate [] e = tt
@@ -144,8 +144,9 @@ judged_holds Unknown n link s h = record { narrow = h.narrow; sio = h.sio; rows 
 judged_holds Unanswered n link s h = record {
   narrow = h.narrow;
   sio = h.sio;
-  rows = rows_orders (is_waiting n) (Discarded NoAnswer) _ (rows_changed (is_unacked n) (Discarded NoAnswer) s.rows h.rows);
+  rows = rows_picked (λ row. not (is_users row)) (is_waiting n) (Discarded NoAnswer) _ (rows_changed (is_unacked n) (Discarded NoAnswer) s.rows h.rows);
 }
+judged_holds Unasked n link s h = record { narrow = h.narrow; sio = h.sio; rows = rows_changed (is_unacked n) (Discarded NoAnswer) s.rows h.rows }
 
 settled_holds : (reached : Reached) (n : ℕ) (link : LinkState) (s : State) → HoldsOctets s → HoldsOctets (settled reached n link s)
 settled_holds reached n link s h =
@@ -172,7 +173,7 @@ reply_small n link narrow =
 over_holds : (reached : Reached) (n : ℕ) (link : LinkState) (phase : Phase) (s : State) → link.profile ≡ Narrow → HoldsOctets s
     → HoldsOctets (changed_over reached n link phase s).state
 over_holds reached n link Up s narrow h =
-    settled_holds reached n (left_link false link) _
+    settled_holds reached n (left_link false (given s) link) _
     (queued_holds (Coa n (last_accepted link)) (left_by false n link s) (last_fits link.accepted link.profile narrow) (left_holds false n link s h))
 over_holds reached n link Down s narrow h = settled_holds reached n link s h
 over_holds reached n link Settled s narrow h =
@@ -342,6 +343,20 @@ runs_out_holds n s h =
     cond_both (some_in_use (code_for n 0) 16 s) (record { answer = Done; state = released_from (code_for n 0) 16 s }) (refused s Nothing)
     (λ (o : Outcome). HoldsOctets o.state) (λ e. releases_hold (code_for n 0) 16 s h) (λ e. h)
 
+by_time_holds : (from : Fate) (n : ℕ) (s : State) (link : LinkState) → HoldsOctets s → HoldsOctets (over_by_time from n s link).state
+by_time_holds from n s link h = settled_holds Unasked n link (taken_back link.order from s)
+    (record { narrow = h.narrow; sio = h.sio; rows = rows_picked (λ row. row.number == link.order) (λ f. same_fate f from) (Discarded NoAnswer) s.rows h.rows })
+
+timed_holds : (order : Option Fate) (n : ℕ) (s : State) (link : LinkState) → HoldsOctets s → HoldsOctets (timed order n s link).state
+timed_holds (Some (Waiting to)) n s link h = by_time_holds (Waiting to) n s link h
+timed_holds (Some Parked) n s link h = by_time_holds Parked n s link h
+timed_holds order n s link h = grind (arith, h)
+
+times_out_holds : (n : ℕ) (s : State) (link : LinkState) (phase : Phase) → HoldsOctets s → HoldsOctets (times_out n s link phase).state
+times_out_holds n s link Down h = timed_holds (place link.order s.rows) n s link h
+times_out_holds n s link Up h = h
+times_out_holds n s link Settled h = h
+
 module _ (s : State) (sound : IsSound s) (settings : IsSettings s.settings) (h : HoldsOctets s) where
   narrow : AreNarrow s.links
   narrow n link there = (sound.links n link there).profile ∙ h.narrow
@@ -360,6 +375,7 @@ module _ (s : State) (sound : IsSound s) (settings : IsSettings s.settings) (h :
   step_holds (Event.Down n) asked = in_holds n s (falls false n s) h (λ link there. falls_holds false n s link (narrow n link there) h)
   step_holds (Event.DownBlind n) asked = in_holds n s (falls true n s) h (λ link there. falls_holds true n s link (narrow n link there) h)
   step_holds (Event.NoAnswer n) asked = on_holds n s (λ link. gives_up n s link link.phase) h (λ link there. gives_up_holds n s link link.phase h)
+  step_holds (Event.Timed n) asked = on_holds n s (λ link. times_out n s link link.phase) h (λ link there. times_out_holds n s link link.phase h)
   step_holds (Event.Restore n) asked = in_holds n s (λ link. comes_back n s) h (λ link there. restores_hold n s (omega (arith, within s.links n link there, few)) few h)
   step_holds (Event.BackTimeout n) asked = on_holds n s (λ link. runs_out n s) h (λ link there. runs_out_holds n s h)
 

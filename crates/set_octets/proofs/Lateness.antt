@@ -6,15 +6,15 @@ use Rattle.l3_orders.specs.declared.order.Order.{Order}
 use Rattle.l3_orders.specs.Grammar.{order_of}
 use Rattle.l2_units.specs.declared.unit.Unit.{Unit as SignalUnit}
 use Rattle.set_events.specs.declared.event.Event.{Event}
-use Rattle.set_events.specs.declared.event.Event.TheVariants.{Next, Heard, Up as UpEvent, Down as DownEvent, DownBlind, NoAnswer}
+use Rattle.set_events.specs.declared.event.Event.TheVariants.{Next, Heard, Up as UpEvent, Down as DownEvent, DownBlind, NoAnswer, Timed}
 use Rattle.set_model.specs.declared.phase.Phase.{Phase}
 use Rattle.set_model.specs.declared.phase.Phase.TheVariants.{Up, Down, Settled}
 use Rattle.set_model.specs.declared.reached.Reached.{Reached}
-use Rattle.set_model.specs.declared.reached.Reached.TheVariants.{Upto, Unknown, Unanswered}
-use Rattle.set_model.specs.State.{LinkState, State, late_at, late_in}
-use Rattle.set_model.specs.Changeover.{acknowledged, acknowledged_by, answered, answered_link, changed_over, cleared, declared, declared_from, declared_if, can_declare, discarded, is_reasonable, left_link, moved_over, obeyed, one_later, order_obeyed, reached_by, released, released_from, settled}
-use Rattle.set_model.specs.Rows.{Unreasonable}
-use Rattle.set_model.specs.Step.{Outcome, brought, controlled, controls, falls, heard, in_service, is_heard, next, Nothing, part_in, refused, step, takes}
+use Rattle.set_model.specs.declared.reached.Reached.TheVariants.{Upto, Unknown, Unanswered, Unasked}
+use Rattle.set_model.specs.State.{LinkState, State, given, late_at, late_in}
+use Rattle.set_model.specs.Changeover.{acknowledged, acknowledged_by, answered, answered_link, changed_over, cleared, declared, declared_from, declared_if, can_declare, discarded, is_reasonable, left_link, moved_over, obeyed, one_later, order_obeyed, reached_by, released, released_from, settled, taken_back}
+use Rattle.set_model.specs.Rows.{Fate, Waiting, Parked, Unreasonable, place}
+use Rattle.set_model.specs.Step.{Outcome, timed, times_out, brought, controlled, controls, falls, heard, in_service, is_heard, next, Nothing, part_in, refused, step, takes}
 use Rattle.set_model.proofs.Lists.{get_set_same, within}
 use Rattle.set_octets.specs.Lives.{IsLateOnce, LateOrdersAreCounted}
 
@@ -59,6 +59,7 @@ module _ (n : ℕ) where
       → Stands s (settled reached k link s)
   settled_late Unknown k link s there = set_late s.links k link _ there refl n
   settled_late Unanswered k link s there = set_late s.links k link _ there refl n
+  settled_late Unasked k link s there = set_late s.links k link _ there refl n
   settled_late (Upto fsn) k link s there = judge (is_reasonable fsn k link s.rows)
     where
       count : ℕ
@@ -80,7 +81,7 @@ module _ (n : ℕ) where
   over_counts : (reached : Reached) (k : ℕ) (link : LinkState) (phase : Phase) (s : State)
       → slice_get s.links k ≡ Some link → Counts s (changed_over reached k link phase s).state
   over_counts reached k link Up s there =
-      let left = left_link false link in
+      let left = left_link false (given s) link in
       let at = get_set_same s.links k left (within s.links k link there) in
       inl (settled_late reached k left _ at ∙ set_late s.links k link left there refl n)
   over_counts reached k link Down s there = inl (settled_late reached k link s there)
@@ -132,12 +133,26 @@ module _ (n : ℕ) where
       → Counts s (record s { links = slice_set s.links k link' })
   same_counts k s link link' there same = inl (set_late s.links k link link' there same n)
 
+  -- an order is taken back, and the link settles
+  timed_counts : (k : ℕ) (order : Option Fate) (link : LinkState) (s : State) → slice_get s.links k ≡ Some link
+      → Counts s (timed order k s link).state
+  timed_counts k (Some (Waiting to)) link s there = inl (settled_late Unasked k link (taken_back link.order (Waiting to) s) there)
+  timed_counts k (Some Parked) link s there = inl (settled_late Unasked k link (taken_back link.order Parked s) there)
+  timed_counts k order link s there = grind arith
+
+  times_count : (k : ℕ) (phase : Phase) (link : LinkState) (s : State) → slice_get s.links k ≡ Some link
+      → Counts s (times_out k s link phase).state
+  times_count k Down link s there = timed_counts k (place link.order s.rows) link s there
+  times_count k Up link s there = inl refl
+  times_count k Settled link s there = inl refl
+
   late_counts : (s : State) (event : Event) → Counts s (step s event).state
   unfolding step
   late_counts s (Heard k unit) = in_counts k s (heard unit k s) (heard_counts unit k s)
   late_counts s (NoAnswer k) =
       let settle = λ (link : LinkState) (there : slice_get s.links k ≡ Some link). settled_late Unanswered k link s there in
       grind (arith, settle)
+  late_counts s (Timed k) = grind (arith, times_count)
   late_counts s (UpEvent k) = grind (arith, set_late)
   late_counts s (Next k) = in_counts k s (next k (cleared k s)) (λ link there. same_counts k s link _ there refl)
   late_counts s (DownEvent k) = in_counts k s (falls false k s) (λ link there. same_counts k s link _ there refl)

@@ -6,7 +6,7 @@ use Rattle.std.proofs.lemmas.Bool.Decides.{nat_tests}
 use Rattle.set_events.specs.declared.event.Event.{Event}
 use Rattle.set_model.specs.declared.phase.Phase.{Phase}
 use Rattle.set_model.specs.declared.phase.Phase.TheVariants.{Up, Down, Settled}
-use Rattle.set_model.specs.State.{LinkState, State, has_phase_settled, has_phase_up, is_settled, is_up, late_at, link_is_settled, link_is_up}
+use Rattle.set_model.specs.State.{LinkState, State, given, has_phase_settled, has_phase_up, is_settled, is_up, late_at, link_is_settled, link_is_up}
 use Rattle.set_model.specs.Step.{NotUp, Nothing, Outcome, Refused, SignalUnit, controls, falls, heard, in_service, is_heard, next, on_link, refused, risen_link, rises, step, with_known}
 use Rattle.set_model.specs.Changeover.{cleared, left_link}
 use Rattle.set_model.proofs.Lists.{get_set_other, get_set_same, present, within}
@@ -59,6 +59,7 @@ module _ (n : ℕ) where
     acknowledges = λ count m link s known at few changes. goes_set m link _ s _ at.there refl (λ e. e) (λ e. e);
     gives_up = λ sent cause m link s known at changes. goes_links s _ refl;
     gives_up_orders = λ cause m link s known at changes. goes_links s _ refl;
+    takes_back = λ order from s unsent known back. goes_links s _ refl;
     moves_off = λ told m link s known at. goes_set m link _ s _ at.there refl (λ e. refl) (λ e. absurd cc);
     answers = λ m link s known at. goes_set m link _ s _ at.there refl (λ e. e) (λ e. e);
     withdraws = λ count m link s known at changes. goes_links s _ refl;
@@ -177,7 +178,7 @@ down_ends n s = go (slice_get s.links n) refl
   where
     one : (link : LinkState) → slice_get s.links n ≡ Some link → (b : Bool) → has_phase_up link.phase ≡ b
         → is_up n (if b then falls false n s link else refused s NotUp).state ≡ false
-    one link e true up = ap link_is_up (get_set_same s.links n (left_link false link) (within s.links n link e))
+    one link e true up = ap link_is_up (get_set_same s.links n (left_link false (given s) link) (within s.links n link e))
     one link e false down = ap link_is_up e ∙ down
 
     go : (found : Option LinkState) → slice_get s.links n ≡ found → is_up n (with_known found s (λ link. if has_phase_up link.phase then falls false n s link else refused s NotUp)).state ≡ false

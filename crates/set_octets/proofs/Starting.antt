@@ -91,6 +91,7 @@ module _ (n : ℕ) where
     acknowledges = λ count m link s known at few changes. stays_set m _ s _ (ap has_phase_up at.phase_is) refl (λ d. (changes.others n d).unack_same);
     gives_up = λ sent cause m link s known at changes. stays_off m link s _ at.there (ap has_phase_up at.phase_is) refl (λ d. (changes.others n d).unack_same);
     gives_up_orders = λ cause m link s known at changes. stays_off m link s _ at.there (ap has_phase_up at.phase_is) refl (λ d. (changes.others n d).unack_same);
+    takes_back = λ order from s unsent known back. stays_links s _ refl (back.unack_same n);
     moves_off = λ told m link s known at. stays_set m _ s _ refl refl
         (λ d. unsent_moved (is_on m) _ s.rows (λ x. not_sent n (target s.links)) (λ f e. grind arith));
     answers = λ m link s known at. stays_set m _ s _ (ap has_phase_up at.phase_is) refl (λ d. refl);

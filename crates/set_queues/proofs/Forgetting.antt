@@ -1,10 +1,8 @@
 -- MESSAGES THAT ARE FORGOTTEN WHERE THEY STAND: what is seen of those that are kept, as one joins, stands elsewhere, and
 -- the finished ones are forgotten.
-use Rattle.std.proofs.Common.{refl, arith, ◌≡◌, ◌∙◌, ap, sym, ◌<◌, ◌≤◌, ◌+◌, ◌^◌, ◌==◌, ◌++◌, [], ◌∷◌, ℕ, zero, suc, Bool, true, false, List, length, map, Option, None, Some, option_and_then, option_map, slice_get, slice_set, cond}
+use Rattle.std.proofs.Common.{refl, arith, ◌≡◌, ◌∙◌, ap, sym, ◌<◌, ◌≤◌, ◌+◌, ◌^◌, ◌++◌, [], ◌∷◌, ℕ, zero, suc, true, false, List, length, map, Option, None, Some, option_and_then, option_map, slice_get, slice_set, cond}
 use Rattle.std.proofs.lemmas.Bool.Decides.{nat_tests}
-use Rattle.std.proofs.lemmas.Bool.{cases_eq}
 use Rattle.std.proofs.lemmas.List.{length-map, map-append}
-use Rattle.std.proofs.lemmas.Option.{slice_get_within}
 use Rattle.set_queues.specs.Buffers.{Fate, is_standing, updated}
 use Rattle.set_queues.specs.Messages.{kept_slot, restood_one, unfinished, with_fate}
 use Rattle.set_queues.specs.Slots.{AreKept, AreSlots, given_to, item_at, place_in, place_within, slot_at, slots_of, slots_to}

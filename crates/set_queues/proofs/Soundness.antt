@@ -1,6 +1,6 @@
 -- What holds of every set's queues goes on holding.
-use Rattle.std.proofs.Common.{refl, arith, ◌≡◌, ◌∙◌, ap, sym, ◌+◌, ◌≤◌, ◌<◌, [], ◌∷◌, ◌++◌, length, ℕ, Bool, true, false, ◌==◌, List, Some, cond, take, drop, slice_get, ◌≢◌, subst, Option, append_assoc, IfSome}
-use Rattle.set_queues.specs.Messages.{one_if, Message, restood_one, restood, unfinished, kept_slot, IsFit, AreFit}
+use Rattle.std.proofs.Common.{refl, arith, ◌≡◌, ◌∙◌, ap, sym, ◌+◌, ◌≤◌, ◌<◌, [], ◌∷◌, ◌++◌, length, ℕ, Bool, true, false, ◌==◌, List, Some, cond, take, drop, slice_get, ◌≢◌, subst, Option, None, append_assoc, IfSome}
+use Rattle.set_queues.specs.Messages.{one_if, fate_at, Message, restood_one, restood, unfinished, kept_slot, IsFit, AreFit}
 use Rattle.set_queues.specs.Buffers.{Fate, Waiting, Unacked, no_lists, empty_lists, LinkLists, Lists, is_standing, same_fate, queue_at, with_queue, with_last, profile_at, on_link, IsKnown, IsQueued, Rooms, Held, room_at, TakesRoom}
 use Rattle.l2_units.specs.declared.profile.Profile.{Profile}
 use Rattle.l2_window.specs.Window.{most_unacked}
@@ -8,7 +8,7 @@ use Rattle.set_queues.specs.Queues.{occurs, stands, passed, passed_first, AreTie
 use Rattle.set_queues.proofs.Standing.{length-updated, updated_same, updated_other, slot_push, slot_past, slot_map, Moves, moved_tie, take_get, same_is, occurs-append, occurs-split, queue_set, links_stay, queue_away, SameSize, size_stays, known_on, restood-append, same_self, queued_stands}
 use Rattle.set_queues.proofs.Tallies.{fit_push, fit_restood, fit_kept}
 use Rattle.std.proofs.lemmas.List.{get_or-replicate, get_or_past, length-replicate, length-append, length-take, length-drop}
-use Rattle.std.proofs.lemmas.Option.{slice_get_cases}
+use Rattle.std.proofs.lemmas.Option.{slice_get_cases, slice_get_within}
 use Rattle.std.proofs.lemmas.Bool.{eq-eqb}
 use Rattle.std.proofs.lemmas.Bool.Decides.{nat_tests}
 use Rattle.set_queues.specs.Settling.{fate_on, on, Settles}
@@ -187,3 +187,13 @@ settling link to q a =
     }
 
 pub ruleset settles = (aside_of, waits_on, held_last, on_length, restood-append, links_stay, length-updated, known_passed)
+
+-- a message that waits for a link waits for one of the set
+pub waits_known : (q : Lists) (ms : List (Option Message)) (n l : ℕ) → AreSound q ms → fate_at n ms ≡ Some (Waiting l) → l < length q.links
+waits_known q ms n l s e = go (slice_get q.links l) refl
+  where
+    go : (o : Option LinkLists) → slice_get q.links l ≡ o → l < length q.links
+    go None none =
+        let once = s.tied (Waiting l) refl n in
+        absurd (grind (arith, once, nat_tests))
+    go (Some link) there = slice_get_within q.links l link there

@@ -78,6 +78,14 @@ pub record KeepsSent (old new : WindowState) : Type 0 where
   pub unacked : new.unacked ≡ old.unacked
   pub room : old.room ≤ new.room
 
+-- of a queue the message of one number is given up, and the others stay in their order
+abbrev pub without : ℕ → List ℕ → List ℕ
+without number numbers = filter (λ n. not (n == number)) numbers
+
+abbrev pub GivesUp : ℕ → Fate → DiscardCause → QueuesState → QueuesState → Type 0
+GivesUp number from cause old new = Moves (number ∷ []) (Discarded cause)
+    (with_queue from (without number (queue_at from old.lists)) old.lists) old new
+
 abbrev pub DiscardsOrders : Fate → DiscardCause → QueuesState → QueuesState → Type 0
 DiscardsOrders from cause old new = Moves (orders_in old.messages (queue_at from old.lists)) (Discarded cause)
     (with_queue from (others_in old.messages (queue_at from old.lists)) old.lists) old new

@@ -1,7 +1,7 @@
 //! The queues in which messages stand: of each link those of its window and the held ones, the parked
 //! ones, and of each changeback code those that wait for its acknowledgement.
-ghost use Rattle.set_queues.specs.Buffers.{BuffersState, empty_lists, IsKnown, CanTake, KeepsRoom, TakesRoom, queue_at, with_queue};
-ghost use Rattle.std.specs.Prelude.{◌≡◌, ◌<◌, ◌≤◌, ◌++◌, [], ◌∷◌, IfOk, length, take, drop, map, slice_get};
+ghost use Rattle.set_queues.specs.Buffers.{BuffersState, empty_lists, IsKnown, IsQueued, CanTake, KeepsRoom, TakesRoom, queue_at, room_at, with_queue};
+ghost use Rattle.std.specs.Prelude.{◌≡◌, ◌+◌, ◌<◌, ◌≤◌, ◌++◌, [], ◌∷◌, IfOk, IfSome, length, take, drop, map, slice_get};
 ghost use Rattle.set_queues.specs.Kept.{lists_of, state_of};
 
 use l2_units::Profile;
@@ -125,6 +125,26 @@ impl<A: Allocator + Copy> Buffers<A> {
             Fate::Back { code } => self.back[usize::from(code)].insert_reserved(place, message),
             Fate::Acked { .. } | Fate::Discarded { .. } => (),
             Fate::Unacked { .. } => unreachable!(),
+        }
+    }
+
+    /// The oldest of those that stand there leaves, if there is one. Condition: messages come to stand there otherwise than
+    /// by being sent.
+    #[tactic(auto, using(crate::proofs::Linked::of_link, crate::proofs::Linked::of_code))]
+    pub(crate) fn pop(&mut self, fate: Fate) -> Option<u64>
+        requires known { IsKnown fate self.old.lists }
+        requires queued { IsQueued fate }
+        ensures value { result ≡ slice_get (queue_at fate self.old.lists) 0 }
+        ensures lists { self.new.lists ≡ with_queue fate (drop 1 (queue_at fate self.old.lists)) self.old.lists }
+        ensures room { KeepsRoom self.old.rooms self.new.rooms }
+        ensures freed { IfSome result (λ _. room_at fate self.old.rooms + 1 ≤ room_at fate self.new.rooms) }
+    {
+        match fate {
+            Fate::Waiting { link } => self.links[usize::from(link)].window.withdraw(),
+            Fate::Held { link } => self.links[usize::from(link)].held.pop(),
+            Fate::Parked => self.parked.pop(),
+            Fate::Back { code } => self.back[usize::from(code)].pop(),
+            Fate::Unacked { .. } | Fate::Acked { .. } | Fate::Discarded { .. } => unreachable!(),
         }
     }
 

@@ -1,8 +1,8 @@
 //! Where each message stands, with the counts of all of them, and what is done with the first of a queue.
 ghost use Rattle.std.specs.Prelude.{◌≡◌, ◌*◌, ◌≤◌, ◌<◌, ◌+◌, ◌-◌, ◌/◌, ◌^◌, ◌++◌, ◌∷◌, ◌==◌, ◌||◌, [], false, true, nat_lt, Some, IfOk, OnOk, length, sum_by, take};
 ghost use Rattle.set_queues.specs.Messages.{restood, restood_one, slot_at, counts_of, unsent_of, octets_on, finished_in, unfinished, is_order_at, IsFit};
-ghost use Rattle.set_queues.specs.Buffers.{IsKnown, CanTake, TakesRoom, queue_at, with_queue, same_fate};
-ghost use Rattle.set_queues.specs.Queues.{KeepsSent, orders_in, others_in};
+ghost use Rattle.set_queues.specs.Buffers.{IsKnown, IsQueued, CanTake, KeepsRoom, TakesRoom, queue_at, with_queue, same_fate};
+ghost use Rattle.set_queues.specs.Queues.{KeepsSent, orders_in, others_in, without};
 ghost use Rattle.set_queues.specs.Slots.{AreSlots, AreKept, item_at, given_to};
 ghost use Rattle.set_queues.specs.Stored.{AreStanding, shown_in, stays_on};
 
@@ -324,6 +324,29 @@ pub(crate) fn pass<A: Allocator + Copy>(
         let number = buffers.at(from, place).unwrap();
         messages.restand(number, to);
         buffers.push(to, number);
+    }
+}
+
+/// Of so many messages that stand in a queue the one of this number leaves it, and the others stay in their order.
+/// Condition: messages come to stand there otherwise than by being sent.
+#[tactic(auto, using(crate::proofs::Standing::passing))]
+pub(crate) fn omit<A: Allocator + Copy>(
+    buffers: &mut Buffers<A>,
+    from: Fate,
+    count: usize,
+    number: u64,
+)
+    requires known { IsKnown from buffers.old.lists }
+    requires queued { IsQueued from }
+    requires all { count ≡ length (queue_at from buffers.old.lists) }
+    ensures lists { buffers.new.lists ≡ with_queue from (without number (queue_at from buffers.old.lists)) buffers.old.lists }
+    ensures rooms { KeepsRoom buffers.old.rooms buffers.new.rooms }
+{
+    for _ in 0..count {
+        let first = buffers.pop(from).unwrap();
+        if first != number {
+            buffers.push(from, first);
+        }
     }
 }
 

@@ -3,7 +3,7 @@ ghost use Rattle.std.specs.Prelude.{◌≡◌, ◌+◌, ◌<◌, ℕ, slice_inde
 ghost use Rattle.set_queues.specs.Buffers.{empty_lists, IsQueued, same_fate, IsKnown, CanTake, KeepsRoom, TakesRoom, HaveRoom, is_standing, queue_at, with_queue, last_at, profile_at, with_last, room_at};
 ghost use Rattle.l2_window.specs.Window.{fsn_count, most_unacked, fsn_before_first};
 ghost use Rattle.set_queues.specs.Settling.{fate_on, on, settled};
-ghost use Rattle.set_queues.specs.Queues.{QueuesState, AreSound, Moves, MovesAll, MovesFirst, DiscardsOrders, MakesRoom, behind_orders};
+ghost use Rattle.set_queues.specs.Queues.{QueuesState, AreSound, Moves, MovesAll, MovesFirst, DiscardsOrders, GivesUp, MakesRoom, behind_orders};
 ghost use Rattle.set_queues.specs.Messages.{restood, slot_at, fate_at, octets_of, counts_of, unsent_of, finished_in, is_unfinished, unfinished, IsFit};
 ghost use Rattle.std.specs.Result.{OkIff};
 ghost use Rattle.set_queues.specs.Backs.{IsOldestOf, back_count};
@@ -11,7 +11,7 @@ ghost use Rattle.set_queues.specs.Sending.{acknowledged, reach};
 
 use super::buffers::Buffers;
 use super::message::Message;
-use super::messages::{Messages, pass, sift};
+use super::messages::{Messages, omit, pass, sift};
 use super::tally::is_standing;
 use l2_units::Profile;
 use l2_window::{Queue, Window, WindowFault};
@@ -495,6 +495,21 @@ impl<A: Allocator + Copy> Queues<A> {
         let buffers = &mut self.buffers;
         let window = &mut buffers.links[usize::from(link)].window;
         sift(window, &mut self.messages, Fate::Discarded { cause });
+    }
+
+    /// The message of this number, that stands in the queue, is given up, for this cause; the others stay there, in their
+    /// order. It costs as many steps as messages stand there.
+    ///
+    /// Conditions: it stands there, where messages come to stand otherwise than by being sent.
+    pub fn give_up(&mut self, from: Fate, number: u64, cause: DiscardCause)
+        requires known { IsKnown from self.old.lists }
+        requires queued { IsQueued from }
+        requires there { fate_at number self.old.messages ≡ Some from }
+        ensures { GivesUp number from cause self.old self.new }
+    {
+        let count = self.count_at(from);
+        omit(&mut self.buffers, from, count, number);
+        self.messages.restand(number, Fate::Discarded { cause });
     }
 
     /// The first message that waits for the link is given up, for this cause.

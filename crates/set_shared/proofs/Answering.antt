@@ -1,5 +1,5 @@
 -- Each step is answered by what its event can have.
-use Rattle.std.proofs.Common.{◌≡◌, ◌∙◌, ◌+◌, ◌*◌, ap, refl, ℕ, Bool, true, false, List, Option, Some, None, [], ◌∷◌}
+use Rattle.std.proofs.Common.{arith, ◌≡◌, ◌∙◌, ◌+◌, ◌*◌, ap, refl, ℕ, Bool, true, false, List, Option, Some, None, [], ◌∷◌}
 use Rattle.std.specs.Prelude.{if◌then◌else◌}
 use Rattle.set_events.specs.declared.event.Actor.{Actor}
 use Rattle.set_model.specs.History.{LinkSet, IsStep}
@@ -8,7 +8,7 @@ use Rattle.set_model.specs.State.{LinkState, State, has_phase_up, link_count}
 use Rattle.set_model.specs.Changeover.{declared_from, released_from, some_declare, some_in_use}
 use Rattle.set_model.specs.declared.phase.Phase.{Phase}
 use Rattle.set_model.specs.declared.phase.Phase.TheVariants.{Down, Settled, Up}
-use Rattle.set_model.specs.Step.{Answer, BackTimeout, Done, DownBlind, DownEvent, Event, Find, Heard, Next, NoAnswer, NoSuchLink, NotUp, Nothing, Offer, Outcome, Reserved, Restore, SetRefusal, StreamFull, Take, TooLong, TooShort, UpEvent, controls, found, gives_up, in_service, is_heard, offered, on_link, refused, rises, step, taken, with_known}
+use Rattle.set_model.specs.Step.{Answer, BackTimeout, Done, DownBlind, DownEvent, Event, Find, Heard, Next, NoAnswer, Timed, NoSuchLink, NotUp, Nothing, Offer, Outcome, Reserved, Restore, SetRefusal, StreamFull, Take, TooLong, TooShort, UpEvent, controls, found, gives_up, timed, times_out, in_service, is_heard, offered, on_link, refused, rises, step, taken, with_known}
 use Rattle.set_shared.specs.Asking.{MayAnswer, may_answer, may_refuse}
 
 either : (event : Event) (test : Bool) (first second : Outcome) → may_answer event first.answer ≡ true → may_answer event second.answer ≡ true → may_answer event (if test then first else second).answer ≡ true
@@ -56,6 +56,14 @@ of_no_answer number s state Up = refl
 of_no_answer number s state Down = refl
 of_no_answer number s state Settled = refl
 
+of_time : (number : ℕ) (order : Option Fate) (s : State) (state : LinkState) → may_answer (Timed number) (timed order number s state).answer ≡ true
+of_time number order s state = grind arith
+
+of_timed : (number : ℕ) (s : State) (state : LinkState) (phase : Phase) → may_answer (Timed number) (times_out number s state phase).answer ≡ true
+of_timed number s state Up = refl
+of_timed number s state Down = of_time number (place state.order s.rows) s state
+of_timed number s state Settled = refl
+
 answers : (s : State) (event : Event) → may_answer event (step s event).answer ≡ true
 unfolding step
 answers s (Offer body) = of_offer body s _ _ _ _
@@ -67,6 +75,7 @@ answers s (UpEvent link) = of_link (UpEvent link) link s _ refl (λ state. of_up
 answers s (DownEvent link) = of_link_up (DownEvent link) link s _ refl refl (λ state. refl)
 answers s (DownBlind link) = of_link_up (DownBlind link) link s _ refl refl (λ state. refl)
 answers s (NoAnswer link) = of_link (NoAnswer link) link s _ refl (λ state. of_no_answer link s state state.phase)
+answers s (Timed link) = of_link (Timed link) link s _ refl (λ state. of_timed link s state state.phase)
 answers s (Restore link) = of_link_up (Restore link) link s _ refl refl (λ state. either (Restore link) (some_declare link 0 (link_count s) s) (record { answer = Done; state = declared_from link 0 (link_count s) s }) (refused s Nothing) refl refl)
 answers s (BackTimeout link) = of_link (BackTimeout link) link s _ refl (λ state. either (BackTimeout link) (some_in_use (16 * link + 0) 16 s) (record { answer = Done; state = released_from (16 * link + 0) 16 s }) (refused s Nothing) refl refl)
 

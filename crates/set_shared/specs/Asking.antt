@@ -3,7 +3,7 @@
 use Rattle.std.specs.Prelude.{◌≡◌, ℕ, Bool, true, false}
 use Rattle.set_model.specs.Checkpoint.{counts_in}
 use Rattle.set_model.specs.State.{State, is_settled, late_at}
-use Rattle.set_model.specs.Step.{Accepted, Answer, BackTimeout, Done, DownBlind, DownEvent, Event, Find, Finished, Found, Heard, HeardBack, Next, NoAnswer, NoSuchLink, NotDown, NotUp, Nothing, Offer, Refused, Reserved, Restore, Sent, SetRefusal, StreamFull, Take, Taken, TooLong, TooShort, UnknownNumber, Unsettled, UpEvent}
+use Rattle.set_model.specs.Step.{Accepted, Answer, BackTimeout, Done, DownBlind, DownEvent, Event, Find, Finished, Found, Heard, HeardBack, Next, NoAnswer, Timed, NoSuchLink, NotDown, NotUp, Nothing, Offer, Refused, Reserved, Restore, Sent, SetRefusal, StreamFull, Take, Taken, TooLong, TooShort, UnknownNumber, Unsettled, UpEvent}
 use Rattle.set_shared.specs.declared.link_set.LinkNow.{LinkNow}
 
 -- in such a state the link stands so, and so many messages of users stand in each place
@@ -33,6 +33,8 @@ may_refuse (DownBlind link) NoSuchLink = true
 may_refuse (DownBlind link) NotUp = true
 may_refuse (NoAnswer link) NoSuchLink = true
 may_refuse (NoAnswer link) Nothing = true
+may_refuse (Timed link) NoSuchLink = true
+may_refuse (Timed link) Nothing = true
 may_refuse (Restore link) NoSuchLink = true
 may_refuse (Restore link) NotUp = true
 may_refuse (Restore link) Nothing = true
@@ -52,6 +54,7 @@ may_answer (UpEvent link) Done = true
 may_answer (DownEvent link) Done = true
 may_answer (DownBlind link) Done = true
 may_answer (NoAnswer link) Done = true
+may_answer (Timed link) Done = true
 may_answer (Restore link) Done = true
 may_answer (BackTimeout link) Done = true
 may_answer event answer = false

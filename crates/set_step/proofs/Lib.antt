@@ -1,3 +1,4 @@
 pub mod Forgotten
 pub mod Kept
 pub mod Listed
+pub mod Timed

@@ -1,15 +1,15 @@
 //! What an event does to a set. Each function is a case of the set's step.
 ghost use Rattle.std.specs.Prelude.{◌≡◌, ◌^◌, true, IsOk, OnOk, OnErr};
 ghost use Rattle.set_events.specs.Lent.{event_in};
-ghost use Rattle.set_model.specs.Step.{on_link, in_service, rises, falls, gives_up};
+ghost use Rattle.set_model.specs.Step.{on_link, in_service, rises, falls, gives_up, times_out};
 ghost use Rattle.set_changeover.specs.Agreement.{Holds};
 ghost use Rattle.set_step.specs.Answering.{wants_none, stepped_by};
 ghost use Rattle.set_changeover.specs.Parts.{Answers, AreCounted, kept_of};
 
 use l3_orders::Order;
 use set_changeover::{
-    Parts, leave, make_room_beside, make_room_parked, phase_of, queue, restore, settle, time_out,
-    unserved,
+    Parts, leave, make_room_beside, make_room_parked, phase_of, queue, restore, settle, take_back,
+    time_out, unsent_order, unserved,
 };
 use set_events::{EventRef, Fate, Refusal, Reply};
 use set_model::{Phase, Reached};
@@ -55,6 +55,7 @@ pub(crate) fn take_step<A: Allocator + Copy>(
         EventRef::Down { link } => take_down(parts, *link, false, reply),
         EventRef::DownBlind { link } => take_down(parts, *link, true, reply),
         EventRef::NoAnswer { link } => give_up(parts, *link, reply),
+        EventRef::Timed { link } => settle_by_time(parts, *link, reply),
         EventRef::Restore { link } => restore(parts, *link, reply),
         EventRef::BackTimeout { link } => time_out(parts, *link, reply),
     }
@@ -80,6 +81,35 @@ fn give_up<A: Allocator + Copy>(
             settle(parts, number, Reached::Unanswered);
             reply.set_done();
         }
+        Some(Phase::Up | Phase::Settled) => reply.set_refused(Refusal::Nothing),
+    }
+    Ok(())
+}
+
+/// The order of a link that was left never was sent: it's taken back, and the link settles; what was sent on it is
+/// discarded (Q.704 5.6.2, own).
+fn settle_by_time<A: Allocator + Copy>(
+    parts: &mut Parts<A>,
+    number: u8,
+    reply: &mut Reply,
+) -> Result<(), AllocError>
+    requires holds { Holds (kept_of parts.old) }
+    requires counted { AreCounted (2 ^ 60) parts.old.links.items }
+    ensures ok { OnOk result (Answers parts.old parts.new reply.new
+        (λ s. on_link number s (λ link. times_out number s link link.phase))) }
+    ensures err { OnErr result (kept_of parts.new ≡ kept_of parts.old) }
+{
+    match phase_of(parts, number) {
+        None => reply.set_refused(Refusal::NoSuchLink),
+        Some(Phase::Down) => match unsent_order(parts, number) {
+            None => reply.set_refused(Refusal::Nothing),
+            Some(from) => {
+                make_room_beside(parts, number, 0)?;
+                take_back(parts, number, from);
+                settle(parts, number, Reached::Unasked);
+                reply.set_done();
+            }
+        },
         Some(Phase::Up | Phase::Settled) => reply.set_refused(Refusal::Nothing),
     }
     Ok(())

@@ -96,6 +96,7 @@ pub(crate) enum Call {
     Down(u8),
     DownBlind(u8),
     NoAnswer(u8),
+    Timed(u8),
     Restore(u8),
     BackTimeout(u8),
 }
@@ -106,6 +107,7 @@ fn event_of(call: Call) -> Event {
         Call::Down(link) => Event::Down { link },
         Call::DownBlind(link) => Event::DownBlind { link },
         Call::NoAnswer(link) => Event::NoAnswer { link },
+        Call::Timed(link) => Event::Timed { link },
         Call::Restore(link) => Event::Restore { link },
         Call::BackTimeout(link) => Event::BackTimeout { link },
     }

@@ -34,4 +34,6 @@ mod routes;
 #[cfg(test)]
 mod sets;
 #[cfg(test)]
+mod timed;
+#[cfg(test)]
 mod wide;

@@ -1,5 +1,5 @@
 -- A VEIL LEAVES A SET SOUND: nothing stands on a settled link, and no stream runs there.
-use Rattle.std.proofs.Common.{refl, arith, ◌≡◌, ◌≢◌, ◌∙◌, ap, sym, subst, ℕ, ◌==◌, ◌%◌, ◌≤◌, ◌<◌, Bool, true, false, List, [], length, slice_get, Option, Some, None}
+use Rattle.std.proofs.Common.{refl, arith, ◌≡◌, ◌∙◌, ap, sym, subst, ℕ, ◌==◌, ◌%◌, ◌≤◌, Bool, true, false, [], length, slice_get, Option, Some, None}
 use Rattle.std.proofs.lemmas.Bool.{eqb-true}
 use Rattle.l2_units.specs.declared.profile.Profile.{Profile}
 use Rattle.l2_units.specs.declared.profile.Profile.TheVariants.{Narrow, Wide}
@@ -11,10 +11,10 @@ use Rattle.set_route.specs.declared.place.Place.TheVariants.{On, Changing, Nowhe
 use Rattle.set_model.specs.declared.phase.Phase.{Phase}
 use Rattle.set_model.specs.declared.phase.Phase.TheVariants.{Up, Down, Settled}
 use Rattle.set_model.specs.Control.{BasicMethod, CyclicMethod, start_of, expected_of}
-use Rattle.set_model.specs.Rows.{Row, unack}
+use Rattle.set_model.specs.Rows.{unack}
 use Rattle.set_model.specs.Sound.{IsOf, IsSoundLink, IsPlaced, IsSound}
-use Rattle.set_model.specs.State.{LinkState, State, has_phase_up, has_phase_settled, link_is_settled, is_up, is_settled}
-use Rattle.set_model.proofs.Lists.{get_set_same, get_set_other, length_set, same_at}
+use Rattle.set_model.specs.State.{LinkState, State, has_phase_up, has_phase_settled, link_is_settled, is_settled}
+use Rattle.set_model.proofs.Lists.{length_set, same_at}
 use Rattle.set_model.proofs.Settling.{settled_empty}
 use Rattle.set_veiled.specs.Veil.{dormant, veil, VeilsStaySound}
 use Rattle.set_veiled.proofs.Veiled.{IsOut, this_link, other_link, up_same, settled_out}

@@ -3,7 +3,6 @@
 use Rattle.std.proofs.Common.{refl, arith, ◌≡◌, ◌≢◌, ◌∙◌, ap, sym, subst, ℕ, zero, suc, ◌==◌, ◌<◌, ◌+◌, Bool, true, false, not, ◌&&◌, ◌||◌, List, [], ◌∷◌, ◌++◌, length, map, slice_get, slice_set, Option, Some, None, cond}
 use Rattle.std.proofs.lemmas.Bool.{eqb-true}
 use Rattle.std.proofs.lemmas.Bool.Decides.{nat_tests}
-use Rattle.l2_units.specs.declared.profile.Profile.{Profile}
 use Rattle.l2_units.specs.declared.unit.Unit.{Unit as SignalUnit}
 use Rattle.l2_units.specs.declared.unit.Unit.TheVariants.{Fisu, Lssu, Msu}
 use Rattle.l2_units.specs.Grammar.{head_of as header_in}
@@ -14,7 +13,7 @@ use Rattle.set_events.specs.declared.answer.Fate.{Fate}
 use Rattle.set_events.specs.declared.answer.Refusal.{Refusal as SetRefusal}
 use Rattle.set_events.specs.declared.answer.Took.{Took}
 use Rattle.set_events.specs.declared.event.Event.{Event}
-use Rattle.set_events.specs.declared.event.Event.TheVariants.{Offer, Take, Find, Next, Heard, Up as UpEvent, Down as DownEvent, DownBlind, NoAnswer, Restore, BackTimeout}
+use Rattle.set_events.specs.declared.event.Event.TheVariants.{Offer, Take, Find, Next, Heard, Up as UpEvent, Down as DownEvent, DownBlind, NoAnswer, Timed, Restore, BackTimeout}
 use Rattle.set_route.specs.Routing.{place_of, code_for, code_of, can_ask}
 use Rattle.set_route.specs.declared.place.Place.{Place}
 use Rattle.set_route.specs.declared.place.Place.TheVariants.{On, Changing, Nowhere}
@@ -25,12 +24,12 @@ use Rattle.set_events.specs.Places.{fate_on}
 use Rattle.set_model.specs.declared.phase.Phase.{Phase}
 use Rattle.set_model.specs.declared.phase.Phase.TheVariants.{Up, Down, Settled}
 use Rattle.set_model.specs.declared.reached.Reached.{Reached}
-use Rattle.set_model.specs.declared.reached.Reached.TheVariants.{Upto, Unknown, Unanswered}
+use Rattle.set_model.specs.declared.reached.Reached.TheVariants.{Upto, Unknown, Unanswered, Unasked}
 use Rattle.set_model.specs.Control.{Choice, HeardPart}
-use Rattle.set_model.specs.Rows.{Row, service_indicator, with_fate, fated, standing, moved, appended, put_ahead, all_with, is_on, is_back_to, place, stream_of, wait}
+use Rattle.set_model.specs.Rows.{Fate, Waiting, Unacked, Acked, Held, Back, Parked, Discarded, Row, service_indicator, with_fate, fated, standing, moved, appended, put_ahead, all_with, is_on, is_back_to, place, stream_of, wait}
 use Rattle.set_model.specs.State.{late_in, LinkState, State, given, with_link, has_phase_up, has_phase_settled, link_is_up, link_is_settled, is_up, is_settled, fate_at, target, link_count}
-use Rattle.set_model.specs.Changeover.{queued, out_of_service, turned_back, left_by, left_link, leaving_order, overtakes, is_overtaken, leading, withdrawn, cleared, reached_by, is_reasonable, discarded, acknowledged_by, judged, judged_link, is_told, moved_over, settled_link, settled, declared, can_declare, declared_if, declared_from, some_declare, released, released_from, some_in_use, Obeyed, ignored, reply_of, answered_link, changed_over, answered, at_link, obeyed_at, acknowledged_back, order_obeyed, obeyed}
-use Rattle.set_model.specs.Step.{Outcome, refused, offer_refusal, offered, taken, found, with_known, on_link, in_service, next, heard, controls, part_in, brought, takes, controlled, is_heard, rises, risen_link, falls, gives_up, comes_back, runs_out, step}
+use Rattle.set_model.specs.Changeover.{queued, out_of_service, turned_back, left_by, left_link, leaving_order, overtakes, is_overtaken, leading, withdrawn, cleared, reached_by, is_reasonable, discarded, acknowledged_by, judged, judged_link, taken_back, is_told, moved_over, settled_link, settled, declared, can_declare, declared_if, declared_from, some_declare, released, released_from, some_in_use, Obeyed, ignored, reply_of, answered_link, changed_over, answered, at_link, obeyed_at, acknowledged_back, order_obeyed, obeyed}
+use Rattle.set_model.specs.Step.{Outcome, refused, offer_refusal, offered, taken, found, with_known, on_link, in_service, next, heard, controls, part_in, brought, takes, controlled, is_heard, rises, risen_link, falls, gives_up, over_by_time, timed, times_out, comes_back, runs_out, step}
 use Rattle.set_model.proofs.Lists.{get_set_same, get_set_other, within, length_set, map_set_same, present}
 use Rattle.set_model.proofs.Places.{false_true, itself}
 use Rattle.set_veiled.specs.Veil.{veil, IsOfOther, IsNoOrderOf, IsElsewhere, IsAlike, VeilsKeepSteps}
@@ -113,7 +112,7 @@ module _ (cover : LinkState) (not_up : has_phase_up cover.phase ≡ false) (l : 
   out_same : (blind : Bool) (n : ℕ) (link : LinkState) (s : State) → (n == l) ≡ false
       → out_of_service blind n link (veil cover l s) ≡ veil cover l (out_of_service blind n link s)
   out_same blind n link s d =
-      ap (λ (ls : List LinkState). record (out_of_service blind n link s) { links = ls }) (swap s.links n l (left_link blind link) cover d)
+      ap (λ (ls : List LinkState). record (out_of_service blind n link s) { links = ls }) (swap s.links n l (left_link blind (given s) link) cover d)
 
   back_same : (n : ℕ) (s : State) → IsOut s → turned_back n (veil cover l s) ≡ veil cover l (turned_back n s)
   back_same n s o =
@@ -122,12 +121,12 @@ module _ (cover : LinkState) (not_up : has_phase_up cover.phase ≡ false) (l : 
       (λ row. fate_at (place_of (stream_of row.body) s.routing) s) (λ row. fate_same s o (place_of (stream_of row.body) s.routing)) s.rows)
 
   left_out : (blind : Bool) (n : ℕ) (link : LinkState) (s : State) → (n == l) ≡ false → IsOut s → IsOut (left_by blind n link s)
-  left_out blind n link s d o = let p = out_set s n (left_link blind link) d o in record { few = p.few; out = p.out }
+  left_out blind n link s d o = let p = out_set s n (left_link blind (given s) link) d o in record { few = p.few; out = p.out }
 
   pub left_same : (blind : Bool) (n : ℕ) (link : LinkState) (s : State) → (n == l) ≡ false → IsOut s
       → left_by blind n link (veil cover l s) ≡ veil cover l (left_by blind n link s)
   left_same blind n link s d o =
-      let p = out_set s n (left_link blind link) d o in
+      let p = out_set s n (left_link blind (given s) link) d o in
       ap (turned_back n) (out_same blind n link s d)
       ∙ back_same n (out_of_service blind n link s) (record { few = p.few; out = p.out })
 
@@ -146,6 +145,7 @@ module _ (cover : LinkState) (not_up : has_phase_up cover.phase ≡ false) (l : 
       go false = refl
   judged_same Unknown n link s d = refl
   judged_same Unanswered n link s d = refl
+  judged_same Unasked n link s d = refl
 
   judged_out : (reached : Reached) (n : ℕ) (link : LinkState) (s : State) → (n == l) ≡ false → IsOut s → IsOut (judged reached n link s)
   judged_out (Upto fsn) n link s d o = go (is_reasonable fsn n link s.rows)
@@ -155,6 +155,7 @@ module _ (cover : LinkState) (not_up : has_phase_up cover.phase ≡ false) (l : 
       go false = record { few = o.few; out = o.out }
   judged_out Unknown n link s d o = record { few = o.few; out = o.out }
   judged_out Unanswered n link s d o = record { few = o.few; out = o.out }
+  judged_out Unasked n link s d o = record { few = o.few; out = o.out }
 
   over_same : (told : Bool) (n : ℕ) (link : LinkState) (s : State) → (n == l) ≡ false → IsOut s
       → moved_over told n link (veil cover l s) ≡ veil cover l (moved_over told n link s)
@@ -187,9 +188,9 @@ module _ (cover : LinkState) (not_up : has_phase_up cover.phase ≡ false) (l : 
       let left = left_out false n link s d o in
       record {
         took = refl;
-        state = ap (λ (t : State). settled reached n (left_link false link) (queued coa t)) (left_same false n link s d o)
-            ∙ ap (settled reached n (left_link false link)) (queued_same coa (left_by false n link s) left)
-            ∙ settled_same reached n (left_link false link) (queued coa (left_by false n link s)) d (queued_out coa (left_by false n link s) left);
+        state = ap (λ (t : State). settled reached n (left_link false (given s) link) (queued coa t)) (left_same false n link s d o)
+            ∙ ap (settled reached n (left_link false (given s) link)) (queued_same coa (left_by false n link s) left)
+            ∙ settled_same reached n (left_link false (given s) link) (queued coa (left_by false n link s)) d (queued_out coa (left_by false n link s) left);
       }
   over_alike reached n link Down s d o = record { took = refl; state = settled_same reached n link s d o }
   over_alike reached n link Settled s d o = record {
@@ -478,6 +479,27 @@ module _ (cover : LinkState) (not_up : has_phase_up cover.phase ≡ false) (l : 
   gives_alike n s link Up d o = refused_alike s SetRefusal.Nothing
   gives_alike n s link Settled d o = refused_alike s SetRefusal.Nothing
 
+  by_time_alike : (from : Fate) (n : ℕ) (s : State) (link : LinkState) → (n == l) ≡ false → IsOut s
+      → IsAlike cover l (over_by_time from n (veil cover l s) link) (over_by_time from n s link)
+  by_time_alike from n s link d o = record { answer = refl; state = settled_same Unasked n link (taken_back link.order from s) d (record { few = o.few; out = o.out }) }
+
+  timed_alike : (order : Option Fate) (n : ℕ) (s : State) (link : LinkState) → (n == l) ≡ false → IsOut s
+      → IsAlike cover l (timed order n (veil cover l s) link) (timed order n s link)
+  timed_alike None n s link d o = refused_alike s SetRefusal.Nothing
+  timed_alike (Some (Waiting to)) n s link d o = by_time_alike (Waiting to) n s link d o
+  timed_alike (Some Parked) n s link d o = by_time_alike Parked n s link d o
+  timed_alike (Some (Unacked to)) n s link d o = refused_alike s SetRefusal.Nothing
+  timed_alike (Some (Acked to)) n s link d o = refused_alike s SetRefusal.Nothing
+  timed_alike (Some (Held to)) n s link d o = refused_alike s SetRefusal.Nothing
+  timed_alike (Some (Back code)) n s link d o = refused_alike s SetRefusal.Nothing
+  timed_alike (Some (Discarded cause)) n s link d o = refused_alike s SetRefusal.Nothing
+
+  times_alike : (n : ℕ) (s : State) (link : LinkState) (phase : Phase) → (n == l) ≡ false → IsOut s
+      → IsAlike cover l (times_out n (veil cover l s) link phase) (times_out n s link phase)
+  times_alike n s link Down d o = timed_alike (place link.order s.rows) n s link d o
+  times_alike n s link Up d o = refused_alike s SetRefusal.Nothing
+  times_alike n s link Settled d o = refused_alike s SetRefusal.Nothing
+
   heard_alike : (unit : SignalUnit) (n : ℕ) (s : State) (link : LinkState) → (n == l) ≡ false → IsNoOrderOf l s unit → IsOut s
       → IsAlike cover l (heard unit n (veil cover l s) link) (heard unit n s link)
   heard_alike unit n s link d other o = go (is_heard s.settings.profile unit)
@@ -497,6 +519,7 @@ module _ (cover : LinkState) (not_up : has_phase_up cover.phase ≡ false) (l : 
   all_alike s (DownEvent n) o other = service_alike n s (falls false n) o (λ link d. falls_alike false n s link d o)
   all_alike s (DownBlind n) o other = service_alike n s (falls true n) o (λ link d. falls_alike true n s link d o)
   all_alike s (NoAnswer n) o other = there_alike n s (λ t link. gives_up n t link link.phase) other (λ link. gives_alike n s link link.phase other o)
+  all_alike s (Timed n) o other = there_alike n s (λ t link. times_out n t link link.phase) other (λ link. times_alike n s link link.phase other o)
   all_alike s (Restore n) o other = service_alike n s (λ t link. comes_back n t) o (λ link d. comes_alike n s o)
   all_alike s (BackTimeout n) o other = timeout_alike n s o
 

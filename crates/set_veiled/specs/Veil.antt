@@ -1,14 +1,13 @@
 -- A LINK THAT IS SETTLED, SEEN AS ANOTHER that isn't up, as one that was left at once and in silence: it's Down, nothing was
 -- counted on it, and no order was queued.
-use Rattle.std.specs.Prelude.{◌≡◌, ℕ, ◌==◌, Bool, true, false, List, [], Option, Some, None, slice_get, slice_set}
+use Rattle.std.specs.Prelude.{◌≡◌, ℕ, ◌==◌, true, false, Option, Some, slice_set}
 use Rattle.l3_orders.specs.declared.order.Order.{Order}
-use Rattle.l3_orders.specs.declared.order.Order.TheVariants.{Coo, Coa, Cbd, Cba, Eco, Eca}
+use Rattle.l3_orders.specs.declared.order.Order.TheVariants.{Coo, Coa, Eco, Eca}
 use Rattle.l3_orders.specs.Grammar.{order_of}
-use Rattle.set_events.specs.declared.answer.Answer.{Answer}
 use Rattle.set_events.specs.declared.event.Event.{Event}
-use Rattle.set_events.specs.declared.event.Event.TheVariants.{Offer, Take, Find, Next, Heard, Up as UpEvent, Down as DownEvent, DownBlind, NoAnswer, Restore, BackTimeout}
+use Rattle.set_events.specs.declared.event.Event.TheVariants.{Heard, Up as UpEvent, NoAnswer, Timed}
 use Rattle.l2_units.specs.declared.unit.Unit.{Unit as SignalUnit}
-use Rattle.l2_units.specs.declared.unit.Unit.TheVariants.{Fisu, Lssu, Msu}
+use Rattle.l2_units.specs.declared.unit.Unit.TheVariants.{Msu}
 use Rattle.set_model.specs.declared.phase.Phase.TheVariants.{Down}
 use Rattle.set_model.specs.State.{LinkState, Settings, State, has_phase_up, is_settled}
 use Rattle.set_model.specs.Sound.{IsSound}
@@ -37,6 +36,7 @@ IsNoOrderOf l s _ = Unit {0}
 abbrev pub IsElsewhere : ℕ → State → Event → Type 0
 IsElsewhere l s (UpEvent n) = (n == l) ≡ false
 IsElsewhere l s (NoAnswer n) = (n == l) ≡ false
+IsElsewhere l s (Timed n) = (n == l) ≡ false
 IsElsewhere l s (Heard n unit) = IsNoOrderOf l s unit
 IsElsewhere l s _ = Unit {0}
 

@@ -10,7 +10,7 @@ use Rattle.set_events.specs.declared.answer.Answer.{Answer}
 use Rattle.set_events.specs.declared.answer.Fate.{Fate}
 use Rattle.set_events.specs.declared.answer.Refusal.{Refusal as SetRefusal}
 use Rattle.set_events.specs.declared.event.Event.{Event}
-use Rattle.set_events.specs.declared.event.Event.TheVariants.{Offer, Take, Find, Next, Heard, Up as UpEvent, Down as DownEvent, DownBlind, NoAnswer, Restore, BackTimeout}
+use Rattle.set_events.specs.declared.event.Event.TheVariants.{Offer, Take, Find, Next, Heard, Up as UpEvent, Down as DownEvent, DownBlind, NoAnswer, Timed, Restore, BackTimeout}
 use Rattle.set_route.specs.Routing.{code_for, code_of}
 use Rattle.set_route.specs.declared.place.Code.{Code}
 use Rattle.set_route.specs.declared.place.Code.TheVariants.{Free}
@@ -18,10 +18,10 @@ use Rattle.set_model.specs.declared.phase.Phase.{Phase}
 use Rattle.set_model.specs.declared.phase.Phase.TheVariants.{Up, Down, Settled}
 use Rattle.set_model.specs.declared.reached.Reached.{Reached}
 use Rattle.set_model.specs.declared.reached.Reached.TheVariants.{Upto, Unknown}
-use Rattle.set_model.specs.Rows.{place}
+use Rattle.set_model.specs.Rows.{Fate, Waiting, Unacked, Acked, Held, Back, Parked, Discarded, place}
 use Rattle.set_model.specs.State.{LinkState, State, has_phase_up, late_at, late_in, link_count}
 use Rattle.set_model.specs.Changeover.{acknowledged_back, answered, at_link, can_declare, changed_over, cleared, declared, declared_from, declared_if, obeyed, order_obeyed, released, released_from, some_declare, some_in_use}
-use Rattle.set_model.specs.Step.{Outcome, brought, comes_back, controls, controlled, falls, found, gives_up, heard, in_service, is_heard, next, offer_refusal, offered, on_link, part_in, refused, rises, runs_out, step, taken, takes, with_known}
+use Rattle.set_model.specs.Step.{Outcome, brought, comes_back, controls, controlled, falls, found, gives_up, heard, in_service, is_heard, next, offer_refusal, offered, on_link, part_in, refused, rises, runs_out, step, timed, times_out, taken, takes, with_known}
 use Rattle.term_bench.specs.Ends.{AtLink}
 use Rattle.term_bench.specs.Late.{AreLate, brings_order, ended_from, is_order}
 use Rattle.term_bench.proofs.BenchLemmas.{not_late}
@@ -96,6 +96,21 @@ module _ (n : ℕ) where
   gives_keeps k s link Up e = λ none. refl
   gives_keeps k s link Settled e = λ none. refl
 
+  time_keeps : (k : ℕ) (s : State) (link : LinkState) (order : Option Fate) → slice_get s.links k ≡ Some link → Keeps s (timed order k s link)
+  time_keeps k s link (Some (Waiting to)) e = λ none. set_late s.links k link _ e refl n
+  time_keeps k s link (Some Parked) e = λ none. set_late s.links k link _ e refl n
+  time_keeps k s link None e = λ none. refl
+  time_keeps k s link (Some (Unacked to)) e = λ none. refl
+  time_keeps k s link (Some (Acked to)) e = λ none. refl
+  time_keeps k s link (Some (Held to)) e = λ none. refl
+  time_keeps k s link (Some (Back code)) e = λ none. refl
+  time_keeps k s link (Some (Discarded cause)) e = λ none. refl
+
+  times_keep : (k : ℕ) (s : State) (link : LinkState) (phase : Phase) → slice_get s.links k ≡ Some link → Keeps s (times_out k s link phase)
+  times_keep k s link Down e = time_keeps k s link (place link.order s.rows) e
+  times_keep k s link Up e = λ none. refl
+  times_keep k s link Settled e = λ none. refl
+
   comes_keeps : (k : ℕ) (s : State) → Keeps s (comes_back k s)
   comes_keeps k s = if_keeps (some_declare k 0 (link_count s) s) s _ SetRefusal.Nothing
       (λ none. ap (λ (ls : List LinkState). late_in (slice_get ls n)) (declared_links k 0 (link_count s) s))
@@ -168,6 +183,7 @@ module _ (n : ℕ) where
   late_stays s (DownEvent k) = service_keeps k s _ (λ link e. falls_keeps false k s link e)
   late_stays s (DownBlind k) = service_keeps k s _ (λ link e. falls_keeps true k s link e)
   late_stays s (NoAnswer k) = known_keeps k s _ (λ link e. gives_keeps k s link link.phase e)
+  late_stays s (Timed k) = known_keeps k s _ (λ link e. times_keep k s link link.phase e)
   late_stays s (Restore k) = service_keeps k s _ (λ link e. comes_keeps k s)
   late_stays s (BackTimeout k) = known_keeps k s _ (λ link e. runs_keeps k s)
 

@@ -247,8 +247,8 @@ impl Bench {
 
     /// What the set answers to this event of this actor, at once.
     ///
-    /// Users offer, take and find. A terminal's own are those that its turns don't ask: NoAnswer, Restore and
-    /// BackTimeout. Faults: those of [`SetCore::apply`]; the bench is then as it was.
+    /// Users offer, take and find. A terminal's own are those that its turns don't ask: NoAnswer, Timed,
+    /// Restore and BackTimeout. Faults: those of [`SetCore::apply`]; the bench is then as it was.
     pub fn ask(&mut self, who: Actor, event: &Event) -> Result<Answer, SetFault>
         requires { IsActor who }
         ensures ok { IfOk result (λ answer. IsStep self.old.set who event.now answer self.new.set) }

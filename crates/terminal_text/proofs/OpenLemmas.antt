@@ -94,5 +94,6 @@ is_actor (Event.Up link) links few below = below_16 link links few below
 is_actor (Event.Down link) links few below = below_16 link links few below
 is_actor (Event.DownBlind link) links few below = below_16 link links few below
 is_actor (Event.NoAnswer link) links few below = below_16 link links few below
+is_actor (Event.Timed link) links few below = below_16 link links few below
 is_actor (Event.Restore link) links few below = below_16 link links few below
 is_actor (Event.BackTimeout link) links few below = below_16 link links few below

@@ -43,6 +43,7 @@ fn link_of_event(event: &Event) -> Option<u8>
         | Event::Down { link }
         | Event::DownBlind { link }
         | Event::NoAnswer { link }
+        | Event::Timed { link }
         | Event::Restore { link }
         | Event::BackTimeout { link } => Some(*link),
         Event::Offer { .. } | Event::Take | Event::Find { .. } => None,

@@ -8,7 +8,7 @@ use Rattle.term_model.specs.declared.command.Command.TheVariants.{Start, Stop, E
 use Rattle.text_forms.specs.declared.asked.Asked.{Asked}
 use Rattle.text_forms.specs.declared.asked.OfLink.{OfLink}
 use Rattle.text_forms.specs.declared.asked.OfLink.TheVariants.{Look as Looking, Command as Commanding, Event as Telling}
-use Rattle.text_forms.specs.declared.at_link.LinkEvent.TheVariants.{NoAnswer, Restore, BackTimeout}
+use Rattle.text_forms.specs.declared.at_link.LinkEvent.TheVariants.{NoAnswer, Timed, Restore, BackTimeout}
 use Rattle.text_forms.specs.declared.mistake.Mistake.{Mistake}
 use Rattle.text_forms.specs.declared.mistake.Mistake.TheVariants.{SecondSet, Terminal}
 use Rattle.text_forms.specs.declared.named.Named.TheVariants.{Times, Flags}
@@ -63,8 +63,9 @@ abbrev pub event_or_command : List ℕ → Option Command → Option OfLink
 event_or_command name (Some command) = Some (Commanding command)
 event_or_command name None =
     if bytes_eq name (codes "noanswer") then Some (Telling NoAnswer)
+    else (if bytes_eq name (codes "timed") then Some (Telling Timed)
     else (if bytes_eq name (codes "restore") then Some (Telling Restore)
-    else (if bytes_eq name (codes "backtimeout") then Some (Telling BackTimeout) else None))
+    else (if bytes_eq name (codes "backtimeout") then Some (Telling BackTimeout) else None)))
 
 abbrev pub of_link_of : List ℕ → Option OfLink
 of_link_of name =

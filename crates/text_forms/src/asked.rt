@@ -44,7 +44,7 @@ pub(crate) enum OfLink {
     Look,
     /// `start`, `stop`, `emergency`, `busy`, `ease` or `blind`
     Command(Command),
-    /// `noanswer`, `restore` or `backtimeout`
+    /// `noanswer`, `timed`, `restore` or `backtimeout`
     Event(LinkEvent),
 }
 
@@ -78,6 +78,8 @@ pub(crate) fn find_of_link(name: &[u8]) -> Option<OfLink>
     }
     let event = if is_word(name, b"noanswer") {
         LinkEvent::NoAnswer
+    } else if is_word(name, b"timed") {
+        LinkEvent::Timed
     } else if is_word(name, b"restore") {
         LinkEvent::Restore
     } else if is_word(name, b"backtimeout") {

@@ -16,6 +16,8 @@ pub enum LinkEvent {
     Blind,
     /// `noanswer`
     NoAnswer,
+    /// `timed`
+    Timed,
     /// `restore`
     Restore,
     /// `backtimeout`
@@ -34,6 +36,7 @@ impl LinkEvent {
             LinkEvent::Down => Event::Down { link },
             LinkEvent::Blind => Event::DownBlind { link },
             LinkEvent::NoAnswer => Event::NoAnswer { link },
+            LinkEvent::Timed => Event::Timed { link },
             LinkEvent::Restore => Event::Restore { link },
             LinkEvent::BackTimeout => Event::BackTimeout { link },
         }
@@ -105,6 +108,8 @@ pub(crate) fn find_link_event(name: &[u8]) -> Option<LinkEvent>
         Some(LinkEvent::Blind)
     } else if is_word(name, b"noanswer") {
         Some(LinkEvent::NoAnswer)
+    } else if is_word(name, b"timed") {
+        Some(LinkEvent::Timed)
     } else if is_word(name, b"restore") {
         Some(LinkEvent::Restore)
     } else if is_word(name, b"backtimeout") {
@@ -114,7 +119,7 @@ pub(crate) fn find_link_event(name: &[u8]) -> Option<LinkEvent>
     }
 }
 
-/// What `down`, `blind`, `noanswer`, `restore` and `backtimeout` tell of a link.
+/// What `down`, `blind`, `noanswer`, `timed`, `restore` and `backtimeout` tell of a link.
 pub fn read_link_event(name: &[u8], link: u8) -> Option<Event>
     ensures { result ≡ link_event name.now link }
 {

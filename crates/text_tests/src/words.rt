@@ -451,7 +451,7 @@ fn the_help_shows_each_line_of_a_terminal(rt: HostRuntime) -> Result<(), Fail> {
         "  flags L N ",
         "  bits L BITS [xN] ",
         "  offer HEX, take, find N ",
-        "  noanswer L, restore L, backtimeout L ",
+        "  noanswer L, timed L, restore L, backtimeout L ",
         "  look L ",
         "  checkpoint ",
         "  history ",

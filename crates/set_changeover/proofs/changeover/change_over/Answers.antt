@@ -2,7 +2,7 @@ use Rattle.std.proofs.Common.{slice_set, refl, arith, length, ◌≡◌, ◌∙�
 use Rattle.l2_units.specs.Profile.{fsn_count}
 use Rattle.l3_orders.specs.Grammar.{IsOrder}
 use Rattle.set_model.specs.Changeover.{Coa, answered_link, changed_over, queued, left_by, left_link, reply_of}
-use Rattle.set_model.specs.State.{LinkState, Profile, Settings, last_accepted}
+use Rattle.set_model.specs.State.{LinkState, Profile, Settings, given, last_accepted}
 use Rattle.set_model.proofs.Lists.{within, get_set_same, length_set}
 use Rattle.set_model.proofs.SoundBack.{leaves}
 use Rattle.set_model.proofs.SoundLink.{queues}
@@ -40,9 +40,9 @@ settle-requires o c =
       reached =
           let a = c.requires.holds.1 in
           let there = is_in c.args.parts.now c.requires.holds.0 n Up a h in
-          let left = get_set_same c.requires.holds.0.links n (left_link false there.link) (within c.requires.holds.0.links n there.link there.there) in
+          let left = get_set_same c.requires.holds.0.links n (left_link false (given c.requires.holds.0) there.link) (within c.requires.holds.0.links n there.link there.there) in
           let stands = c.queue.ensures.stands _ (c.leave.ensures.stands c.requires.holds.0 there.link there.there a) in
-          subst (λ (p : Profile). IsReach p c.args.reached) (sym (stands.profiles n (left_link false there.link) left ∙ profile_of c.args.parts.now c.requires.holds.0 n there.link a there.there)) c.requires.reached;
+          subst (λ (p : Profile). IsReach p c.args.reached) (sym (stands.profiles n (left_link false (given c.requires.holds.0) there.link) left ∙ profile_of c.args.parts.now c.requires.holds.0 n there.link a there.there)) c.requires.reached;
       known = rw (c.queue.ensures.links, many) h.known;
       out = rw c.queue.ensures.links out;
       room = grind (arith, room_left, c.requires.room h.known, c.leave.ensures.turns, beside, c.queue.ensures.links, c.queue.ensures.elsewhere n (rw many h.known) out, c.queue.ensures.rooms, (whole_of c.args.parts.now c.requires.holds).as_many);
@@ -61,7 +61,7 @@ returns-in-Some-Up o c =
           let mid = left_by false n link s in
           let told = subst (λ (f : ℕ). StandsFor (kept_of c.queue.new.parts) (queued (Coa n f) mid)) fsn (c.queue.ensures.stands mid (c.leave.ensures.stands s link at.there a)) in
           let sound = queues (Coa n (last_accepted link)) mid (leaves false n link s (record { there = at.there; phase_is = at.phase_is }) a.sound) in
-          rw (at.there, at.phase_is) (record { took_is = refl; stands = c.settle.ensures.stands (queued (Coa n (last_accepted link)) mid) (left_link false link) (get_set_same s.links n (left_link false link) (within s.links n link at.there)) refl (record { stands = told; sound = sound }) });
+          rw (at.there, at.phase_is) (record { took_is = refl; stands = c.settle.ensures.stands (queued (Coa n (last_accepted link)) mid) (left_link false (given s) link) (get_set_same s.links n (left_link false (given s) link) (within s.links n link at.there)) refl (record { stands = told; sound = sound }) });
     }
 
 -- one that was left settles

@@ -1,4 +1,4 @@
-use Rattle.std.proofs.Common.{◌≡◌, refl, slice_set, slice_get, Some, ap, ◌∙◌}
+use Rattle.std.proofs.Common.{◌≡◌, length, refl, slice_set, slice_get, Some, ap, ◌∙◌}
 use Rattle.set_model.specs.Changeover.{out_of_service, left_link}
 use Rattle.set_route.specs.Routing.{left as streams_left}
 use Rattle.set_model.proofs.Lists.{present}
@@ -15,11 +15,11 @@ use Rattle.set_changeover.proofs.changeover.leave.Goals.{After-divert}
 
 -- the link is out of service, streams on their way back to it run where they came from, and what stood back can turn
 out : (o : Over) (c : After-divert o) (y : Link) → y ≡ c.index_mut-link.result.now → (s : State) (link : Link) → slice_get s.links c.args.number ≡ Some link → Agrees (kept_of c.args.parts.now) s
-    → StandsFor (record (kept_of c.args.parts.now) { links = slice_set c.args.parts.now.links.items c.from.result (left_link c.args.blind y); routing = c.divert.new.self }) (out_of_service c.args.blind c.args.number link s)
+    → StandsFor (record (kept_of c.args.parts.now) { links = slice_set c.args.parts.now.links.items c.from.result (left_link c.args.blind c.len-order.result y); routing = c.divert.new.self }) (out_of_service c.args.blind c.args.number link s)
     × IsTurning c.args.number (out_of_service c.args.blind c.args.number link s)
 out o c y same s link there a =
     let n = c.args.number in (
-      rw (link_set c.args.parts.now.links.items n c.from.result c.index_mut-link.result.now c.from.ensures c.requires.known c.index_mut-link.ensures.value (left_link c.args.blind) y s.links link same a.stands.links there, c.divert.ensures, a.stands.routing) (link_for (kept_of c.args.parts.now) s n link (left_link c.args.blind link) (streams_left n s.routing) a.stands there refl refl),
+      rw (c.len-order.ensures.value, ← a.stands.given_out, link_set c.args.parts.now.links.items n c.from.result c.index_mut-link.result.now c.from.ensures c.requires.known c.index_mut-link.ensures.value (left_link c.args.blind (length c.args.parts.now.queues.messages)) y s.links link same a.stands.links there, c.divert.ensures, a.stands.routing) (link_for (kept_of c.args.parts.now) s n link (left_link c.args.blind (length c.args.parts.now.queues.messages) link) (streams_left n s.routing) a.stands there refl refl),
       turning_of c.args.blind n link s (record { there = there; phase_is = c.requires.up link (ap (λ links. slice_get links n) a.stands.links ∙ there) }) a.sound,
     )
 

@@ -4,7 +4,7 @@ use Rattle.set_queues.specs.Buffers.{queue_at}
 use Rattle.set_queues.specs.Sending.{reach}
 use Rattle.set_model.specs.Changeover.{acknowledged}
 use Rattle.set_changeover.specs.Agreement.{StandsFor}
-use Rattle.set_model.specs.Rows.{Unacked, Emergency}
+use Rattle.set_model.specs.Rows.{Unacked, Emergency, NoAnswer}
 use Rattle.set_changeover.specs.Parts.{kept_of}
 use Rattle.set_changeover.proofs.States.{becomes, reaches, acked_for, given_up_for}
 use Rattle.set_changeover.proofs.Links.{link_set, cleared_less, on_less}
@@ -28,3 +28,9 @@ returns-in-Unknown-clause-stands o c = λ s link there f. rw c.in-Unknown.is (be
 
 pub returns-in-Unknown-clause-fewer : goal.returns-in-Unknown-clause-fewer
 returns-in-Unknown-clause-fewer o c = search (rules, cleared_less, on_less)
+
+pub returns-in-Unasked-clause-stands : goal.returns-in-Unasked-clause-stands
+returns-in-Unasked-clause-stands o c = λ s link there f. rw c.in-Unasked.is (becomes (given_up_for (kept_of c.args.parts.now) s (Unacked c.args.number) NoAnswer f refl (omega arith)) (search rules))
+
+pub returns-in-Unasked-clause-fewer : goal.returns-in-Unasked-clause-fewer
+returns-in-Unasked-clause-fewer o c = search (rules, cleared_less, on_less)

@@ -29,6 +29,9 @@ returns-in-DownBlind-clause-ok o c = rw c.in-DownBlind.is c.take_down-in-DownBli
 pub returns-in-NoAnswer-clause-ok : goal.returns-in-NoAnswer-clause-ok
 returns-in-NoAnswer-clause-ok o c = rw c.in-NoAnswer.is c.give_up.ensures.ok
 
+pub returns-in-Timed-clause-ok : goal.returns-in-Timed-clause-ok
+returns-in-Timed-clause-ok o c = rw c.in-Timed.is c.settle_by_time.ensures.ok
+
 pub returns-in-Restore-clause-ok : goal.returns-in-Restore-clause-ok
 returns-in-Restore-clause-ok o c = rw c.in-Restore.is c.restore.ensures.ok
 

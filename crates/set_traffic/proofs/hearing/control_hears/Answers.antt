@@ -18,7 +18,7 @@ tells o c s link there f = told c.args.parts.now s c.args.number c.from.result c
 
 -- the link as it was, and as it counts
 abbrev was : (o : Over) (c : After-hear-part o) → Link
-was o c = record { phase = c.link.inside.phase; profile = c.link.inside.profile; blind = c.link.inside.blind; answered = c.link.inside.answered; acked = c.link.inside.acked; accepted = c.link.inside.accepted; control = c.link.inside.control; late = c.link.inside.late }
+was o c = record { phase = c.link.inside.phase; profile = c.link.inside.profile; blind = c.link.inside.blind; answered = c.link.inside.answered; acked = c.link.inside.acked; accepted = c.link.inside.accepted; control = c.link.inside.control; late = c.link.inside.late; order = c.link.inside.order }
 
 abbrev counted : ℕ → ℕ → Control → Link → Link
 counted acked accepted control link = record link { acked = link.acked + acked; accepted = link.accepted + accepted; control = control }
