@@ -1,3 +1,4 @@
 mod Courses
-mod Lines
+mod Said
+mod Told
 mod Verdicts

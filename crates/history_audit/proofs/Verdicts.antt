@@ -54,7 +54,7 @@ one_audit s items lines a b (full many is) (legal few l is2) = absurd (omega (ar
 one_audit s items lines a b (full many is) (wrong p few w is2) = absurd (omega (arith, few, many))
 one_audit s items lines a b (full many is) (full many2 is2) = is ∙ sym is2
 
-one_of_telling : (t : Telling) (a b : Printed AuditFault) → IsAuditOf t a → IsAuditOf t b → a ≡ b
+pub one_of_telling : (t : Telling) (a b : Printed AuditFault) → IsAuditOf t a → IsAuditOf t b → a ≡ b
 one_of_telling (unreadable n flaw) a b x y = x ∙ sym y
 one_of_telling (tells s items lines) a b x y = one_audit (opened_with s) items lines a b x y
 

@@ -11,7 +11,7 @@ use Rattle.set_events.specs.declared.answer.Answer.{Answer}
 use Rattle.text_entries.specs.Texts.{answer_text}
 use Rattle.set_core.specs.FirstWrong.{IsFirstWrong, answer_at}
 use Rattle.set_core.specs.Hearing.{unasked}
-use Rattle.text_entries.specs.Telling.{Telling, tells, unreadable, history_in}
+use Rattle.text_entries.specs.Telling.{Telling, tells, unreadable, history_in, nothing_told, told_from}
 use Rattle.history_audit.specs.declared.fault.AuditFault.{AuditFault}
 use Rattle.history_audit.specs.declared.fault.AuditFault.TheVariants.{Text, Illegal, Exhausted}
 use Rattle.history_audit.specs.declared.verdict.Verdict.{Verdict}
@@ -66,7 +66,10 @@ abbrev pub IsAuditOf : Telling → Printed AuditFault → Type 0
 IsAuditOf (unreadable n flaw) text = text ≡ fails (Text n flaw)
 IsAuditOf (tells s items lines) text = IsAudited (opened_with s) items lines text
 
--- THE TEXT
+-- THE TEXT, of lines and of an input
+abbrev pub IsAuditOfLines : List (List ℕ) → Printed AuditFault → Type 0
+IsAuditOfLines lines text = IsAuditOf (told_from 1 nothing_told lines) text
+
 abbrev pub IsAuditText : List ℕ → Printed AuditFault → Type 0
 IsAuditText input text = IsAuditOf (history_in input) text
 

@@ -1,2 +1,3 @@
 pub mod Auditing
+pub mod Explaining
 pub mod Reading

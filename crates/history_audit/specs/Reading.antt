@@ -1,6 +1,7 @@
 -- WHAT A READER OF A HISTORY STANDS FOR: what the lines so far told, and what they came to.
-use Rattle.std.specs.Prelude.{◌≡◌, ◌<◌, ◌≤◌, ◌+◌, ◌^◌, ℕ, Bool, true, false, nat_le, List, [], ◌∷◌, ◌++◌, length, Option, None, Some, Result, Ok, Err, MatchResult, get_or, if◌then◌else◌}
-use Rattle.history_audit.specs.Auditing.{IsAuditOf, IsAuditText, IsAudited, fails}
+use Rattle.std.specs.Prelude.{◌≡◌, ◌<◌, ◌≤◌, ◌+◌, ℕ, suc, Bool, true, false, nat_le, List, [], ◌∷◌, ◌++◌, length, Option, None, Some, Result, Ok, Err, get_or, if◌then◌else◌}
+use Rattle.history_audit.specs.Auditing.{IsAuditOf, IsAudited}
+use Rattle.history_audit.specs.Explaining.{said_from}
 use Rattle.history_audit.specs.declared.course.Course.{Course}
 use Rattle.history_audit.specs.declared.course.Stand.{Stand}
 use Rattle.history_audit.specs.declared.course.Stand.TheVariants.{Legal, Wrong, Full}
@@ -10,16 +11,15 @@ use Rattle.set_core.specs.Hearing.{HasHeard, Hearing, IsWrongNext, unasked}
 use Rattle.set_core.specs.declared.item.Item.{Item}
 use Rattle.set_core.specs.declared.item.Item.TheVariants.{Entered, Checkpoint}
 use Rattle.set_core.specs.Items.{entries_among}
-use Rattle.text_entries.specs.Telling.{Told, Telling, history_in, longest_line, nothing_told, opened, told_from, told_in_all}
-use Rattle.text_base.specs.Printing.{Printed, StopsIn}
+use Rattle.text_entries.specs.Telling.{Told, nothing_told, opened, told_from, told_in_all}
+use Rattle.text_base.specs.Printing.{Printed}
 use Rattle.text_base.specs.declared.fault.Stop.{Stop}
 use Rattle.text_base.specs.declared.fault.Stop.TheVariants.{Input, Memory}
 use Rattle.set_events.specs.declared.answer.Answer.{Answer}
 use Rattle.set_model.specs.History.{longest_history}
 use Rattle.set_model.specs.State.{State, Settings, opened_with}
 use Rattle.text_lines.specs.Flaws.{flaw_of}
-use Rattle.text_lines.specs.Lines.{lines_of}
-use Rattle.text_lines.specs.Reading.{IsOpen}
+use Rattle.text_lines.specs.LineTexts.{IsLast}
 
 -- WHAT WAS TOLD, AND WHERE IT STANDS
 
@@ -89,70 +89,27 @@ passed_over (Entered entry) Full = Full
 passed_over (Entered entry) (Wrong line answer entries) =
     if nat_le longest_history entries then Full else Wrong line answer (entries + 1)
 
--- LINES UNDER WAY
+-- LINES, one after another
 
--- the line is no longer than a line may be, and hasn't ended
-pub record IsLine (text : List ℕ) : Type 0 where
-  pub short : length text ≤ longest_line
-  pub is_open : IsOpen text
-
--- the number of the line that is being read, its octets so far, and what those before it came to
-pub record Reading : Type 0 where
-  pub line : ℕ
-  pub text : List ℕ
-  pub course : Option Course
-
-abbrev pub first_reading : Reading
-first_reading = record { line = 1; text = []; course = None }
-
--- so much was read of an input: whatever is left, it tells what goes on from there
-pub record HasRead (past : List ℕ) (r : Reading) : Type 0 where
+-- these lines were told, and nothing was printed: whatever lines are left, it goes on from there, and so does what is said of
+-- one that can't be read
+pub record HasTold (course : Option Course) (past : List (List ℕ)) (printed : List ℕ) : Type 0 where
   pub told : Told
-  pub stands : StandsFor told r.course
-  pub counted : r.line ≤ 1 + length past
-  pub goes_on : (left : List ℕ) → history_in (past ++ left) ≡ told_from r.line told (lines_of (r.text ++ left))
-
--- these octets were read; the number of a line stands in 64 bits
-abbrev pub Advances : Reading → List ℕ → Reading → Type 0
-Advances old octets new =
-    (past : List ℕ) → length past + length octets ≤ 2 ^ 61 → HasRead past old → HasRead (past ++ octets) new
-
--- the fault is all that is said; want of memory says nothing
-abbrev pub IsFaultOf : Stop AuditFault → Telling → Type 0
-IsFaultOf (Input fault) telling = IsAuditOf telling (fails fault)
-IsFaultOf Memory telling = Unit {0}
-
--- among these octets the history ended with a fault
-abbrev pub Halts : Stop AuditFault → Reading → List ℕ → Type 0
-Halts stop old octets =
-    (past : List ℕ) → length past + length octets ≤ 2 ^ 61 → HasRead past old
-    → (left : List ℕ) → IsFaultOf stop (history_in (past ++ (octets ++ left)))
-
-abbrev pub AdvancesOrHalts : Result (Unit {0}) (Stop AuditFault) → Reading → List ℕ → Reading → Type 0
-AdvancesOrHalts (Ok done) old octets new = Advances old octets new
-AdvancesOrHalts (Err stop) old octets new = Halts stop old octets
+  pub stands : StandsFor told course
+  pub nothing : printed ≡ []
+  pub goes_on : (left : List (List ℕ)) → told_from 1 nothing_told (past ++ left) ≡ told_from (suc (length past)) told left
+  pub says : (left : List (List ℕ)) → said_from 1 nothing_told (past ++ left) ≡ said_from (suc (length past)) told left
 
 -- THE END
 
--- this was appended, and it's all that is said of such a history; where memory is wanted it's the beginning
-abbrev pub Says : Result (Unit {0}) (Stop AuditFault) → (Printed AuditFault → Type 0) → List ℕ → Type 0
-Says result IsIt printed =
-    MatchResult result (λ done. IsIt (record { printed = printed; fault = None })) (λ stop. StopsIn stop IsIt printed)
-
--- no line is left from this number on
+-- this was appended, and it's all that is said of what was told where no line is left from this number on; where memory is
+-- wanted it's the beginning
 pub record Concludes (result : Result (Unit {0}) (Stop AuditFault)) (course : Option Course) (n : ℕ)
     (before after : List ℕ) : Type 0 where
   pub printed : List ℕ
   pub added : after ≡ before ++ printed
   pub ends : (told : Told) → StandsFor told course
-      → Says result (IsAuditOf (told_in_all n told.settings told)) printed
-
--- no octet is left
-pub record Finishes (result : Result (Unit {0}) (Stop AuditFault)) (old : Reading)
-    (before after : List ℕ) : Type 0 where
-  pub printed : List ℕ
-  pub added : after ≡ before ++ printed
-  pub ends : (past : List ℕ) → length past ≤ 2 ^ 60 → HasRead past old → Says result (IsAuditText past) printed
+      → IsLast result (IsAuditOf (told_in_all n told.settings told)) printed
 
 -- what is said of a course
 abbrev pub IsSaidOf : Told → Printed AuditFault → Type 0

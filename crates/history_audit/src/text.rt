@@ -4,9 +4,10 @@ ghost use Rattle.text_base.specs.Printing.{Prints, FailsByDevices};
 ghost use Rattle.history_audit.specs.Auditing.{IsAuditText, OneAuditText};
 
 use super::fault::AuditFault;
-use super::reader::HistoryReader;
+use super::lines::HistoryLines;
 use std::alloc::Global;
-use text_base::{Fault, LONGEST_READ, Sink, Source, print_all};
+use text_base::{Fault, LONGEST_READ, Sink, Source};
+use text_lines::print_lines;
 
 /// Reads the history that the source gives, and writes whether it's legal.
 ///
@@ -26,7 +27,7 @@ pub fn audit<S: Source, W: Sink>(
         (FailsByDevices (2 ^ 60) result (S.failures source.old) (S.failures source.new)
         (W.failures sink.old) (W.failures sink.new)) }
 {
-    print_all(alloc, HistoryReader::new(alloc), LONGEST_READ, source, sink)
+    print_lines(alloc, HistoryLines::new(alloc), LONGEST_READ, source, sink)
 }
 
 /// A law over the definitions alone: an input has one text.

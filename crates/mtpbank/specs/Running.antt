@@ -21,10 +21,11 @@ use Rattle.script_accounts.specs.Histories.{IsExplainedHistoryText, IsHistoryTex
 use Rattle.text_lines.specs.Explaining.{Explained}
 use Rattle.pair_steps.specs.declared.step.End.TheVariants.{A, B}
 use Rattle.history_audit.specs.Auditing.{IsAuditText}
+use Rattle.history_audit.specs.Explaining.{IsExplainedAuditText}
 use Rattle.terminal_text.specs.Explaining.{IsExplainedTerminalText}
 use Rattle.terminal_text.specs.Text.{IsTerminalText}
 use Rattle.mtpbank.specs.declared.running.TextFault.{TextFault}
-use Rattle.mtpbank.specs.declared.running.TextFault.TheVariants.{Units as UnitsFault, Play as PlayFault, Explained as ExplainedPlayFault, Decode as DecodeFault, ExplainedDecode as ExplainedDecodeFault, Audit as AuditedFault, Terminal as TerminalLineFault, ExplainedTerminal as ExplainedTerminalLineFault}
+use Rattle.mtpbank.specs.declared.running.TextFault.TheVariants.{Units as UnitsFault, Play as PlayFault, Explained as ExplainedPlayFault, Decode as DecodeFault, ExplainedDecode as ExplainedDecodeFault, Audit as AuditedFault, ExplainedAudit as ExplainedAuditedFault, Terminal as TerminalLineFault, ExplainedTerminal as ExplainedTerminalLineFault}
 
 -- a text of which only the fault, if any, has another type
 pub record IsText {F : Type 0} (IsIt : Printed F → Type 0) (of : F → TextFault)
@@ -59,7 +60,8 @@ IsTextOf (Script told true) input text = IsText (IsExplainedOf told input) Expla
 IsTextOf (Decode wide false) input text = IsText (IsDecodeText (profile_of wide) input) DecodeFault text
 IsTextOf (Decode wide true) input text =
     IsText (IsExplainedDecodeText (profile_of wide) input) ExplainedDecodeFault text
-IsTextOf Audit input text = IsText (IsAuditText input) AuditedFault text
+IsTextOf (Audit false) input text = IsText (IsAuditText input) AuditedFault text
+IsTextOf (Audit true) input text = IsText (IsExplainedAuditText input) ExplainedAuditedFault text
 IsTextOf (Terminal false) input text = IsText (IsTerminalText input) TerminalLineFault text
 IsTextOf (Terminal true) input text = IsText (IsExplainedTerminalText input) ExplainedTerminalLineFault text
 IsTextOf (Run run) input text = ⊥

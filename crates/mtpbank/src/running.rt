@@ -1,10 +1,10 @@
 //! What the subcommands do, over any source and sink.
 ghost use Rattle.std.specs.Prelude.{◌≡◌, ◌≤◌, ◌^◌, length, IfSome, OnOk};
 ghost use Rattle.text_base.specs.Printing.{Prints, FailsByDevices};
-ghost use Rattle.mtpbank_words.specs.declared.words.Words.TheVariants.{Decode, Script, Terminal};
+ghost use Rattle.mtpbank_words.specs.declared.words.Words.TheVariants.{Audit, Decode, Script, Terminal};
 ghost use Rattle.mtpbank.specs.Running.{GivesFault, IsExplainedOf, IsTextOf, IsToldOf, ReadsInput, longest_of, profile_of};
 
-use history_audit::{AuditFault, audit};
+use history_audit::{AuditFault, audit, audit_explained};
 use l2_units::Profile;
 use mtpbank_words::{Told, Words};
 use script_accounts::{
@@ -39,6 +39,9 @@ pub enum TextFault {
     /// In a way of `audit`.
     #[error("{0}")]
     Audit(AuditFault),
+    /// In a way of `audit`, with an explanation.
+    #[error("{0}")]
+    ExplainedAudit(Explained<AuditFault>),
     /// In a way of `terminal`.
     #[error("{0}")]
     Terminal(TerminalFault),
@@ -66,7 +69,7 @@ pub fn run<S: Source, W: Sink>(
         Words::Units => of_any(units(alloc, source, sink), TextFault::Units),
         Words::Script { told, explains } => run_script(alloc, told, explains, source, sink),
         Words::Decode { wide, explains } => run_decode(alloc, wide, explains, source, sink),
-        Words::Audit => of_any(audit(alloc, source, sink), TextFault::Audit),
+        Words::Audit { explains } => run_audit(alloc, explains, source, sink),
         Words::Terminal { explains } => run_terminal(alloc, explains, source, sink),
         Words::Run(_) => unreachable!(),
     }
@@ -120,6 +123,29 @@ fn run_decode<S: Source, W: Sink>(
         );
     }
     of_any(decode(alloc, profile, source, sink), TextFault::Decode)
+}
+
+/// Reads the history that the source gives, and writes whether it's legal, with an explanation of a fault or without.
+fn run_audit<S: Source, W: Sink>(
+    alloc: Global,
+    explains: bool,
+    source: &mut S,
+    sink: &mut W,
+) -> Result<(), Fault<TextFault>>
+    ensures text { IfSome (S.left source.old) (λ input. Prints result (IsTextOf (Audit explains) input)
+        (W.written sink.old) (W.written sink.new)) }
+    ensures bounded { IfSome (S.left source.old) (λ input. OnOk result (length input ≤ 2 ^ 60)) }
+    ensures devices { IfSome (S.left source.old)
+        (FailsByDevices (2 ^ 60) result (S.failures source.old) (S.failures source.new)
+        (W.failures sink.old) (W.failures sink.new)) }
+{
+    if explains {
+        return of_any(
+            audit_explained(alloc, source, sink),
+            TextFault::ExplainedAudit,
+        );
+    }
+    of_any(audit(alloc, source, sink), TextFault::Audit)
 }
 
 /// Drives the end by the lines that the source gives, and writes what they print, with an explanation of a fault or

@@ -10,7 +10,8 @@
 //! explained; so are `NAME.ladder_explained`, `NAME.pcap_explained`, `NAME.history_a_explained` and
 //! `NAME.history_b_explained`, which print what they do without an explanation, and beside units `NAME.decode_explained`
 //! and `NAME.decode_wide_explained`; a table `NAME.told_first` or `NAME.told_second` has four such lines each, of which the
-//! third shows the line that is played, alone or with the opening before it. `NAME.terminal_explained` beside
+//! third shows the line that is played, alone or with the opening before it. `NAME.history_explained` beside `NAME.history`
+//! and the tables `NAME.audited_first` and `NAME.audited_second` are so for a history. `NAME.terminal_explained` beside
 //! `NAME.terminal`, and the tables
 //! `NAME.terminal_first`, `NAME.terminal_second` and `NAME.terminal_third`, are so for the lines that drive an end; before
 //! the third line stand the opening and a command. `NAME.run` is the words behind `mtpbank run`, one a line: threads run as
@@ -21,7 +22,7 @@
 //! Whether a run is as it should be is all that this program tells; it proves nothing.
 #![tactic(auto)]
 
-use history_audit::audit;
+use history_audit::{audit, audit_explained};
 use l2_units::Profile;
 use mtpbank_words::{RunWords, Words, WordsFault, words_of};
 use script_accounts::{
@@ -99,6 +100,10 @@ fn is_as_stored<R: Threads + Wait + Clock + Eprint + Copy + Send + Sync + 'stati
         all_told(rt, name, Kind::DrivenExplained, OPENING)
     } else if name.ends_with(".terminal_third") {
         all_told(rt, name, Kind::DrivenExplained, TWO_LINES)
+    } else if name.ends_with(".audited_first") {
+        all_told(rt, name, Kind::AuditedExplained, "")
+    } else if name.ends_with(".audited_second") {
+        all_told(rt, name, Kind::AuditedExplained, OPENING)
     } else if name.ends_with(".run") {
         gives_stored(rt, name, threads_of(threads, rt, name)?)
     } else if name.ends_with(".words") {
@@ -173,6 +178,7 @@ enum Kind {
     HistoryOfAExplained,
     HistoryOfBExplained,
     Audited,
+    AuditedExplained,
     Driven,
     DrivenExplained,
     Ladder,
@@ -193,6 +199,7 @@ fn kind_of(name: &str) -> Kind {
         "history_a" => Kind::HistoryOfA,
         "history_b" => Kind::HistoryOfB,
         "history" => Kind::Audited,
+        "history_explained" => Kind::AuditedExplained,
         "terminal" => Kind::Driven,
         "history_a_explained" => Kind::HistoryOfAExplained,
         "history_b_explained" => Kind::HistoryOfBExplained,
@@ -226,6 +233,7 @@ impl Kind {
             | Kind::Driven
             | Kind::Played => None,
             Kind::DrivenExplained => Some("terminal"),
+            Kind::AuditedExplained => Some("history"),
             Kind::DecodedExplained => Some("decode"),
             Kind::WideDecodedExplained => Some("decode_wide"),
             _ => Some("play"),
@@ -238,6 +246,7 @@ impl Kind {
             self,
             Kind::Explained
                 | Kind::DrivenExplained
+                | Kind::AuditedExplained
                 | Kind::DecodedExplained
                 | Kind::WideDecodedExplained
                 | Kind::HistoryOfAExplained
@@ -354,6 +363,7 @@ fn run_on(
             told_of(alloc, history_explained(alloc, End::B, source, sink))
         }
         Kind::Audited => told_of(alloc, audit(alloc, source, sink)),
+        Kind::AuditedExplained => told_of(alloc, audit_explained(alloc, source, sink)),
         Kind::Driven => told_of(alloc, terminal(alloc, source, sink)),
         Kind::DrivenExplained => told_of(alloc, terminal_explained(alloc, source, sink)),
         Kind::Ladder => told_of(alloc, ladder(alloc, source, sink)),

@@ -29,7 +29,7 @@ pub options : (asked : Words) (name : Text) (end : Option Text) (wide explains :
 options Units name end wide explains rows other is = tt
 options (Script told by) name end wide explains rows other is = tt
 options (Decode width by) name end wide explains rows other is = tt
-options Audit name end wide explains rows other is = tt
+options (Audit by) name end wide explains rows other is = tt
 options (Terminal by) name end wide explains rows other is = tt
 options (Run run) name end wide explains rows other is = absurd (other is.name_is)
 
@@ -48,7 +48,7 @@ module _ (name : Text) (rows : List Row) (is_run : name ≡ codes "run") where
   no_word (Script HistoryOfA by) none is = let bad : 104 ≡ 114 = letter (Script HistoryOfA by) name is_run is.0.name_is in omega (arith, bad)
   no_word (Script HistoryOfB by) none is = let bad : 104 ≡ 114 = letter (Script HistoryOfB by) name is_run is.0.name_is in omega (arith, bad)
   no_word (Decode width by) none is = let bad : 100 ≡ 114 = letter (Decode width by) name is_run is.0.name_is in omega (arith, bad)
-  no_word Audit none is = let bad : 97 ≡ 114 = letter Audit name is_run is.0.name_is in omega (arith, bad)
+  no_word (Audit by) none is = let bad : 97 ≡ 114 = letter (Audit by) name is_run is.0.name_is in omega (arith, bad)
   no_word (Terminal by) none is = let bad : 116 ≡ 114 = letter (Terminal by) name is_run is.0.name_is in omega (arith, bad)
   no_word (Run run) none is = none run is.1
 

@@ -40,6 +40,7 @@ usage_of Play = codes "play [--explain]"
 usage_of Decode = codes "decode [--wide] [--explain]"
 usage_of Capture = codes "capture [--explain]"
 usage_of Ladder = codes "ladder [--explain]"
+usage_of Audit = codes "audit [--explain]"
 usage_of Terminal = codes "terminal [--explain]"
 usage_of History = codes "history [--explain] END"
 usage_of input = name_of input
@@ -81,10 +82,9 @@ input_advice input [] = None
 input_advice input (word ∷ words) =
     if is_operand word then Some (input_text input) else unknown_advice input word
 
--- all but units and audit have a flag, and decode two
+-- all but units have a flag, and decode two
 abbrev pub is_flag_of : Input → List ℕ → Bool
 is_flag_of Units word = false
-is_flag_of Audit word = false
 is_flag_of Decode word =
     if bytes_eq word (codes "--wide") then true else bytes_eq word (codes "--explain")
 is_flag_of input word = bytes_eq word (codes "--explain")

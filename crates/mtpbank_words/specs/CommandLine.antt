@@ -52,7 +52,7 @@ with_units =
 abbrev pub without_history : App
 without_history =
     with_subcommand (with_subcommand with_units (script_shape (codes "ladder")))
-    (new_shape (codes "audit"))
+    (script_shape (codes "audit"))
 
 abbrev pub end_rule : Rule
 end_rule = record (new_rule (codes "END")) { required = true }
@@ -81,7 +81,7 @@ abbrev pub name_of : Words → List ℕ
 name_of Units = codes "units"
 name_of (Script told explains) = told_name told
 name_of (Decode wide explains) = codes "decode"
-name_of Audit = codes "audit"
+name_of (Audit explains) = codes "audit"
 name_of (Terminal explains) = codes "terminal"
 name_of (Run run) = codes "run"
 
@@ -116,7 +116,7 @@ IsBehind Units name end wide explains = Unit {0}
 IsBehind (Script told is_explained) name end wide explains =
     IsTold told name end × (is_explained ≡ explains)
 IsBehind (Decode is_wide is_explained) name end wide explains = (is_wide ≡ wide) × (is_explained ≡ explains)
-IsBehind Audit name end wide explains = Unit {0}
+IsBehind (Audit is_explained) name end wide explains = is_explained ≡ explains
 IsBehind (Terminal is_explained) name end wide explains = is_explained ≡ explains
 IsBehind (Run run) name end wide explains = Unit {0}
 

@@ -158,6 +158,7 @@ fn usage(input: Input) -> &'static [u8]
         Input::Decode => b"decode [--wide] [--explain]",
         Input::Capture => b"capture [--explain]",
         Input::Ladder => b"ladder [--explain]",
+        Input::Audit => b"audit [--explain]",
         Input::Terminal => b"terminal [--explain]",
         Input::History => b"history [--explain] END",
         _ => title(input),
@@ -179,7 +180,7 @@ fn is_flag_of(input: Input, word: &[u8]) -> bool
     ensures { result ≡ is_flag_of input word.now }
 {
     match input {
-        Input::Units | Input::Audit => false,
+        Input::Units => false,
         Input::Decode => is_word(word, b"--wide") || is_word(word, b"--explain"),
         _ => is_word(word, b"--explain"),
     }

@@ -168,7 +168,8 @@ set was opened with, and then a line for each thing that was asked and answered:
   user 0 offer 8501800030 -> accepted 0
 What is printed is legal=yes with what the history adds up to, or legal=no with
 the line of the first entry that no such set makes, and its answer there.
-`mtpbank audit --help` says how each line is written, and each fault.";
+`mtpbank audit --help` says how each line is written, and each fault. With
+--explain a line that can't be read is explained.";
 
 pub(crate) const AUDIT_HELP: &str = "\
 Standard input is a history of one link set. Lines that are empty or begin with # are passed over; the first other
@@ -201,6 +202,13 @@ with status 1; but for the first, nothing is printed then:
   fault read          standard input failed
   fault long          standard input has more than 2^60 octets
   fault write, fault memory
+With --explain three more lines come behind that of a line which can't be read: what is wanted there, the line, and a
+caret under the word at fault, or right behind the line where a word is missing; of a line of more than 16,384 octets
+nothing is said, and nothing of an illegal entry: the line behind legal=no is what a set answers there.
+  fault line 3 text
+  line 3: here stands offer, take, find, next, hear, up, down, blind, noanswer, timed, restore or backtimeout
+    user 0 ofer 8501800030 -> accepted 0
+           ^
 The status is 0 for legal=yes, and 1 else.";
 
 pub(crate) const CAPTURE_HELP: &str = "\

@@ -34,7 +34,7 @@ pub enum Words {
     /// Tell what the units on standard input, which may be of the wide profile, say.
     Decode { wide: bool, explains: bool },
     /// Tell whether the history on standard input is legal.
-    Audit,
+    Audit { explains: bool },
     /// Drive one end of a link set, whose lines are elsewhere, by the lines on standard input.
     Terminal { explains: bool },
     /// Run two banks of sets in threads, with traffic between them.
@@ -195,7 +195,7 @@ fn word_of(name: &str, end: Option<&str>, wide: bool, explains: bool) -> Option<
     match name {
         "units" => Some(Words::Units),
         "decode" => Some(Words::Decode { wide, explains }),
-        "audit" => Some(Words::Audit),
+        "audit" => Some(Words::Audit { explains }),
         "terminal" => Some(Words::Terminal { explains }),
         _ => match told_of(name, end) {
             Some(told) => Some(Words::Script { told, explains }),
@@ -294,7 +294,7 @@ fn command<'a>(alloc: Global) -> Result<Command<'a>, AllocError>
         .subcommand(decode_command(alloc)?)?
         .subcommand(capture_command(alloc)?)?
         .subcommand(ladder_command(alloc)?)?
-        .subcommand(audit_command(alloc))?
+        .subcommand(audit_command(alloc)?)?
         .subcommand(history_command(alloc)?)?
         .subcommand(terminal_command(alloc)?)?
         .subcommand(run_command(alloc)?)
@@ -394,15 +394,16 @@ fn ladder_command<'a>(alloc: Global) -> Result<Command<'a>, AllocError>
     explaining_script(alloc, ladder)
 }
 
-/// The word `audit`.
-fn audit_command<'a>(alloc: Global) -> Command<'a>
-    ensures shape { shape_of result ≡ new_shape (codes "audit") }
-    ensures local { (out-Command result).has_globals ≡ false }
+/// The word `audit`, and a flag.
+fn audit_command<'a>(alloc: Global) -> Result<Command<'a>, AllocError>
+    ensures shape { IfOk result (λ command. shape_of command ≡ script_shape (codes "audit")) }
+    ensures local { IfOk result (λ command. (out-Command command).has_globals ≡ false) }
 {
-    Command::new(alloc, "audit")
+    let audit = Command::new(alloc, "audit")
         .about("Tells whether a history of a link set is legal")
         .after_help(AUDIT_PAGE)
-        .after_long_help(AUDIT_HELP)
+        .after_long_help(AUDIT_HELP);
+    explaining_input(alloc, audit)
 }
 
 /// The word `terminal`, and a flag.

@@ -18,13 +18,17 @@ abbrev pub at_the_end : Option World → List ℕ
 at_the_end None = []
 at_the_end (Some w) = ends_text w
 
--- what is told of a script: nothing of the line that makes the world, and what each further one showed
-abbrev pub play_told : Told
-play_told = record {
+-- what is told of a script: nothing of the line that makes the world, and what each further one showed, in a wording
+abbrev pub answers_told : (List ℕ → List ℕ) → Told
+answers_told worded = record {
   opening = λ w. [];
-  step = λ n before move shown w. shown_text (profile_of w) shown;
+  step = λ n before move shown w. worded (shown_text (profile_of w) shown);
   at_the_end = at_the_end;
 }
+
+-- in numbers alone
+abbrev pub play_told : Told
+play_told = answers_told (λ text. text)
 
 -- THE TEXT (script_walk, specs/Scripts.antt)
 abbrev pub IsPlayText : List ℕ → Printed ScriptFault → Type 0
@@ -32,11 +36,7 @@ IsPlayText = IsScriptText play_told
 
 -- what is told in words: a number that tells a reason has its words behind it
 abbrev pub named_told : Told
-named_told = record {
-  opening = λ w. [];
-  step = λ n before move shown w. named (shown_text (profile_of w) shown);
-  at_the_end = at_the_end;
-}
+named_told = answers_told named
 
 -- the text in words, with an explanation of the line that ends it with a fault (script_walk, specs/Explaining.antt)
 abbrev pub IsExplainedPlayText : List ℕ → Printed (Explained ScriptFault) → Type 0

@@ -2,21 +2,25 @@
 ghost use Rattle.std.specs.Prelude.{◌≡◌, IfOk};
 ghost use Rattle.script_accounts.specs.PlayText.{ends_text};
 
+use super::wordings::NamesWording;
 use pair_steps::Showing;
 use pair_world::{End, Move, World};
 use script_walk::{Account, world_profile};
 use std::alloc::{AllocError, Global};
-use text_entries::{push_shown, write_end};
+use std::marker::PhantomData;
+use text_entries::write_end;
 
-/// The answers of a script's lines, and how both ends stand at last.
-pub(crate) struct Answers;
+/// The answers of a script's lines in the wording that the type names, and how both ends stand at last.
+pub(crate) struct Answers<N> {
+    wording: PhantomData<N>,
+}
 
-impl Account for Answers {
+impl<N: NamesWording> Account for Answers<N> {
     type Note = ();
 
-    ghost use Rattle.script_accounts.specs.PlayText.{play_told};
+    ghost use Rattle.script_accounts.specs.PlayText.{answers_told};
 
-    ghost told = { play_told };
+    ghost told = { answers_told N.worded };
 
     ghost is_note = { λ world move note. Unit {0} };
 
@@ -27,7 +31,7 @@ impl Account for Answers {
     }
 
     fn tell_step(
-        _alloc: Global,
+        alloc: Global,
         _number: u64,
         _note: (),
         _next: &Move,
@@ -35,7 +39,7 @@ impl Account for Answers {
         world: &World,
         out: &mut Vec<u8>,
     ) -> Result<(), AllocError> {
-        push_shown(out, world_profile(world), shown)
+        N::push(alloc, world_profile(world), shown, out)
     }
 
     fn tell_end(alloc: Global, world: &Option<World>, out: &mut Vec<u8>) -> Result<(), AllocError> {

@@ -38,9 +38,9 @@ mod answers;
 mod captures;
 mod ends;
 mod histories;
-mod named;
 mod plays;
 mod records;
+mod wordings;
 
 pub use captures::{capture, capture_explained};
 pub use histories::{history, history_explained};

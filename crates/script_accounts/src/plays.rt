@@ -4,7 +4,7 @@ ghost use Rattle.text_base.specs.Printing.{Prints, FailsByDevices};
 ghost use Rattle.script_accounts.specs.PlayText.{IsPlayText, IsExplainedPlayText};
 
 use super::answers::Answers;
-use super::named::NamedAnswers;
+use super::wordings::{InNumbers, InWords};
 use script_walk::{Explained, ScriptFault, tell_explained, tell_script};
 use std::alloc::Global;
 use text_base::{Fault, Sink, Source};
@@ -25,7 +25,7 @@ pub fn play<S: Source, W: Sink>(
         (FailsByDevices (2 ^ 24) result (S.failures source.old) (S.failures source.new)
         (W.failures sink.old) (W.failures sink.new)) }
 {
-    tell_script::<Answers, S, W>(alloc, source, sink)
+    tell_script::<Answers<InNumbers>, S, W>(alloc, source, sink)
 }
 
 /// Plays the script in words, and explains the line that ends it with a fault.
@@ -45,5 +45,5 @@ pub fn play_explained<S: Source, W: Sink>(
         (FailsByDevices (2 ^ 24) result (S.failures source.old) (S.failures source.new)
         (W.failures sink.old) (W.failures sink.new)) }
 {
-    tell_explained::<NamedAnswers, S, W>(alloc, source, sink)
+    tell_explained::<Answers<InWords>, S, W>(alloc, source, sink)
 }

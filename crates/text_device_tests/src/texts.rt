@@ -1,5 +1,5 @@
 //! The texts, each with a short input, and how one ends on devices that fail.
-use history_audit::audit;
+use history_audit::{audit, audit_explained};
 use l2_units::Profile;
 use script_accounts::{
     End as Side, capture, capture_explained, history, history_explained, play, play_explained,
@@ -31,11 +31,12 @@ pub(crate) enum Which {
     HistoryOfAExplained,
     HistoryOfBExplained,
     Audit,
+    AuditExplained,
     Terminal,
     TerminalExplained,
 }
 
-pub(crate) const ALL: [Which; 16] = [
+pub(crate) const ALL: [Which; 17] = [
     Which::Units,
     Which::Decode,
     Which::DecodeExplained,
@@ -50,6 +51,7 @@ pub(crate) const ALL: [Which; 16] = [
     Which::HistoryOfAExplained,
     Which::HistoryOfBExplained,
     Which::Audit,
+    Which::AuditExplained,
     Which::Terminal,
     Which::TerminalExplained,
 ];
@@ -76,7 +78,7 @@ impl Which {
         match self {
             Which::Units => b"7edff705f8beaf1f\n",
             Which::Decode | Which::DecodeExplained => b"ffff00\n80ff03850000\n",
-            Which::Audit => HISTORY,
+            Which::Audit | Which::AuditExplained => HISTORY,
             Which::Terminal | Which::TerminalExplained => LINES,
             _ => SCRIPT,
         }
@@ -127,6 +129,7 @@ pub(crate) fn run<S: Source, W: Sink>(
         Which::HistoryOfAExplained => end_of(history_explained(alloc, Side::A, text, page)),
         Which::HistoryOfBExplained => end_of(history_explained(alloc, Side::B, text, page)),
         Which::Audit => end_of(audit(alloc, text, page)),
+        Which::AuditExplained => end_of(audit_explained(alloc, text, page)),
         Which::Terminal => end_of(terminal(alloc, text, page)),
         Which::TerminalExplained => end_of(terminal_explained(alloc, text, page)),
     }

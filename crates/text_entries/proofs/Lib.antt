@@ -5,3 +5,4 @@ pub mod Pieces
 pub mod ReadingLemmas
 pub mod Sealed
 pub mod WordLemmas
+pub mod Blamed

@@ -1,3 +1,4 @@
+pub mod Blaming
 pub mod Entries
 pub mod FirstLine
 pub mod Pieces

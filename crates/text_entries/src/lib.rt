@@ -41,10 +41,14 @@
 //! `specs/Telling.antt`. [`reads_back`] and [`one_line`] are the laws of the first line. That of a wide set ends in
 //! `profile=wide`; that of a narrow set has no such word.
 //!
+//! [`explain_line`] tells of a line that can't be read which word is at fault and what is wanted in its place
+//! (`specs/Blaming.antt`), and [`each_line_is_explained`] is the law that it does so of each.
+//!
 //! This crate knows no set and no script: whether a history is legal isn't its matter.
 #![tactic(auto)]
 
 mod answers;
+mod blaming;
 mod events;
 mod first_line;
 mod items;
@@ -56,6 +60,7 @@ mod units;
 mod words;
 mod writing;
 
+pub use blaming::{each_line_is_explained, explain_line};
 pub use first_line::{one_line, reads_back, write_history};
 pub use items::{ItemPlace, items_read_back, pieces_are_the_whole, read_item, write_piece};
 pub use lines::{LinePlace, read_config};

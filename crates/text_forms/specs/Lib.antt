@@ -1,4 +1,6 @@
 pub mod Asking
+pub mod AtColumn
+pub mod EntryMistakes
 pub mod Impossible
 pub mod Moves
 pub mod Named

@@ -1,7 +1,8 @@
 -- THE TEXT of each mistake: what is wanted in its place.
 use Rattle.std.specs.Prelude.{ℕ, List, codes}
 use Rattle.text_forms.specs.declared.mistake.Mistake.{Mistake}
-use Rattle.text_forms.specs.declared.mistake.Mistake.TheVariants.{NotSet, OpeningShort, LinksName, LinksRange, MethodName, MethodLimits, WideMethodLimits, CodeAName, CodeBName, CodeRange, SioName, SioDigits, SioIndicator, ProfileValue, Space, CarriageReturn, NotPrintable, Surplus, UnknownWord, SecondSet, TogetherWants, OfferWants, TakeWants, FindWants, OnLinkWants, LoseWants, HearWants, End, Link, Number, OddDigits, NotHexadecimal, UnitShort, WideUnitShort, UnitLong, UnitLength, WideUnitLength, NoSuchLink, NotSettled, NotSettledThere, NothingUnderWay, NoUnitThere, Terminal}
+use Rattle.text_forms.specs.declared.mistake.Mistake.TheVariants.{NotSet, OpeningShort, LinksName, LinksRange, MethodName, MethodLimits, WideMethodLimits, CodeAName, CodeBName, CodeRange, SioName, SioDigits, SioIndicator, ProfileValue, Space, CarriageReturn, NotPrintable, Surplus, UnknownWord, SecondSet, TogetherWants, OfferWants, TakeWants, FindWants, OnLinkWants, LoseWants, HearWants, End, Link, Number, OddDigits, NotHexadecimal, UnitShort, WideUnitShort, UnitLong, UnitLength, WideUnitLength, NoSuchLink, NotSettled, NotSettledThere, NothingUnderWay, NoUnitThere, Terminal, Entry}
+use Rattle.text_forms.specs.EntryMistakes.{entry_mistake_text}
 use Rattle.text_forms.specs.TerminalTexts.{terminal_text}
 
 abbrev pub mistake_text : Mistake → List ℕ
@@ -56,3 +57,4 @@ mistake_text NotSettledThere =
 mistake_text NothingUnderWay = codes "no unit is under way to this end on this link"
 mistake_text NoUnitThere = codes "no unit under way to this end on this link has this place, from 0"
 mistake_text (Terminal mistake) = terminal_text mistake
+mistake_text (Entry mistake) = entry_mistake_text mistake

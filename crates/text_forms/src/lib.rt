@@ -15,7 +15,8 @@
 //!
 //! A reader fails without a blame only where memory is wanted ([`Unread`]). [`blame_opening`], [`blame_move`] and
 //! [`blame_line`] answer the blame alone; [`blame_impossible`], [`blame_link`] and [`blame_profile`] tell the word that says
-//! why what a line asks for can't be done (`specs/Impossible.antt`).
+//! why what a line asks for can't be done (`specs/Impossible.antt`). [`blame_at`] is for who reads a line in another way, as an
+//! entry of a history.
 //!
 //! [`explain`] shows a blame on three lines, with a caret under the word:
 //!
@@ -33,7 +34,9 @@
 
 mod asked;
 mod asking;
+mod at_column;
 mod at_link;
+mod entry_mistake;
 mod impossible;
 mod mistake;
 mod moves;
@@ -50,7 +53,9 @@ mod words;
 
 pub use asked::{Asked, Repeated};
 pub use asking::{blame_line, read_asked};
+pub use at_column::blame_at;
 pub use at_link::{AtLink, LinkEvent, read_link_event};
+pub use entry_mistake::EntryMistake;
 pub use impossible::{blame_impossible, blame_link, blame_profile};
 pub use mistake::Mistake;
 pub use moves::{blame_move, read_move, read_move_into};

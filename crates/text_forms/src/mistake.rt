@@ -2,6 +2,7 @@
 ghost use Rattle.std.specs.Prelude.{◌≡◌};
 ghost use Rattle.text_forms.specs.Texts.{mistake_text};
 
+use super::entry_mistake::EntryMistake;
 use super::terminal_mistake::TerminalMistake;
 
 /// A mistake of a line; its text says what is wanted in its place.
@@ -93,6 +94,8 @@ pub enum Mistake {
     NoUnitThere,
     /// One that only the lines of a terminal have.
     Terminal(TerminalMistake),
+    /// One that only an entry's line of a history has.
+    Entry(EntryMistake),
 }
 
 impl Mistake {
@@ -157,6 +160,7 @@ impl Mistake {
             Mistake::NoUnitThere =>
                 "no unit under way to this end on this link has this place, from 0",
             Mistake::Terminal(mistake) => mistake.text(),
+            Mistake::Entry(mistake) => mistake.text(),
         }
     }
 }

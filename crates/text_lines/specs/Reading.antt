@@ -16,8 +16,8 @@ IsOpen [] = Unit {0}
 IsOpen (octet ∷ octets) = (octet ≢ 10) × IsOpen octets
 
 -- the line is no longer than a line may be, and hasn't ended
-pub record IsReading (text : List ℕ) : Type 0 where
-  pub short : length text ≤ 4096
+pub record IsReading (longest : ℕ) (text : List ℕ) : Type 0 where
+  pub short : length text ≤ longest
   pub is_open : IsOpen text
 
 -- a fault that a line tells is that of its definition; want of memory tells nothing

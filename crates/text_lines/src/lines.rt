@@ -4,7 +4,7 @@ ghost use Rattle.std.specs.Option.{ForSome};
 ghost use Rattle.text_lines.specs.Lines.{is_lf, is_remark};
 
 /// The place of the first LF.
-pub fn end_of_line(octets: &[u8]) -> Option<usize>
+pub(crate) fn end_of_line(octets: &[u8]) -> Option<usize>
     ensures place { result ≡ position is_lf octets.now }
     ensures within { ForSome result (λ place. place < length octets.now) }
 {

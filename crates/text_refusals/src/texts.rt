@@ -1,7 +1,7 @@
 //! The texts that read an input, each with a short one.
 use super::kept::Kept;
 use super::{Came, holds, is_right};
-use history_audit::audit;
+use history_audit::{audit, audit_explained};
 use l2_units::Profile;
 use script_accounts::{
     End, capture, capture_explained, history, history_explained, play, play_explained,
@@ -210,6 +210,20 @@ fn a_refused_allocation_ends_audit(rt: HostRuntime) -> Result<(), Fail> {
     are_right(audit_of(rt.alloc()), audit_of(rt.alloc()))
 }
 
+fn audit_explained_of(alloc: Global) -> (Came, Kept) {
+    let (mut text, mut page) = (text_of(HISTORY), Kept::new());
+    let ended = came(audit_explained(alloc, &mut text, &mut page));
+    (ended, page)
+}
+
+#[test]
+fn a_refused_allocation_ends_audit_explained(rt: HostRuntime) -> Result<(), Fail> {
+    are_right(
+        audit_explained_of(rt.alloc()),
+        audit_explained_of(rt.alloc()),
+    )
+}
+
 fn terminal_of(alloc: Global) -> (Came, Kept) {
     let (mut text, mut page) = (text_of(LINES), Kept::new());
     let ended = came(terminal(alloc, &mut text, &mut page));
@@ -249,6 +263,7 @@ pub(crate) fn are_whole(alloc: Global) -> bool {
         && history_of(alloc).0 == Came::Whole
         && history_explained_of(alloc).0 == Came::Whole
         && audit_of(alloc).0 == Came::Whole
+        && audit_explained_of(alloc).0 == Came::Whole
         && terminal_of(alloc).0 == Came::Whole
         && terminal_explained_of(alloc).0 == Came::Whole
 }

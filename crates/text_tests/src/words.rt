@@ -11,7 +11,7 @@ fn told_of(alloc: Global, words: &[&str]) -> Result<String, AllocError> {
         Ok(Words::Units) => "units".to_string(alloc),
         Ok(Words::Script { told, explains }) => with_flag(alloc, script_told(told), explains),
         Ok(Words::Decode { wide, explains }) => with_flag(alloc, decode_told(wide), explains),
-        Ok(Words::Audit) => "audit".to_string(alloc),
+        Ok(Words::Audit { explains }) => with_flag(alloc, "audit", explains),
         Ok(Words::Terminal { explains }) => with_flag(alloc, "terminal", explains),
         Ok(Words::Run(run)) => run_told(alloc, &run),
         Err(WordsFault::Words(error)) => error.to_string(alloc),
@@ -104,7 +104,7 @@ fn ask_for(alloc: Global, words: &[&str], subcommand: &str) -> bool {
 
 #[test]
 fn words_of_the_command_line(rt: HostRuntime) -> Result<(), Fail> {
-    let asked: [(&[&str], &str); 21] = [
+    let asked: [(&[&str], &str); 22] = [
         (&["play"], "play"),
         (&["play", "--explain"], "play --explain"),
         (&["units"], "units"),
@@ -122,6 +122,7 @@ fn words_of_the_command_line(rt: HostRuntime) -> Result<(), Fail> {
         (&["capture"], "capture"),
         (&["ladder"], "ladder"),
         (&["audit"], "audit"),
+        (&["audit", "--explain"], "audit --explain"),
         (&["terminal"], "terminal"),
         (&["terminal", "--explain"], "terminal --explain"),
         (&["history", "a"], "history a"),
@@ -147,7 +148,7 @@ fn words_of_the_command_line(rt: HostRuntime) -> Result<(), Fail> {
         &["history", "a", "b"],
         &["history", "--explain"],
         &["history", "--explain", "c"],
-        &["audit", "--explain"],
+        &["audit", "--explain", "it"],
         &["ladder", "--explain", "it"],
     ];
     holds(all_ask_for(rt.alloc(), &asked) && all_are_refused(rt.alloc(), &refused))
@@ -386,7 +387,7 @@ fn short_help_is_a_page(rt: HostRuntime) -> Result<(), Fail> {
         ("decode", "\nUsage: mtpbank decode [OPTIONS]\n"),
         ("capture", "\nUsage: mtpbank capture [OPTIONS]\n"),
         ("ladder", "\nUsage: mtpbank ladder [OPTIONS]\n"),
-        ("audit", "\nUsage: mtpbank audit\n"),
+        ("audit", "\nUsage: mtpbank audit [OPTIONS]\n"),
         ("terminal", "\nUsage: mtpbank terminal [OPTIONS]\n"),
         ("history", "\nUsage: mtpbank history [OPTIONS] <END>\n"),
         ("run", "\nUsage: mtpbank run [OPTIONS]\n"),

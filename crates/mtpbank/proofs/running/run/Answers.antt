@@ -1,11 +1,7 @@
 use Rattle.text_units.specs.UnitsText.{IsUnitsText}
-use Rattle.history_audit.specs.Auditing.{IsAuditText}
-use Rattle.mtpbank.specs.declared.running.TextFault.TheVariants.{Units as UnitsFault, Audit as AuditedFault}
+use Rattle.mtpbank.specs.declared.running.TextFault.TheVariants.{Units as UnitsFault}
 use Rattle.mtpbank.proofs.RunLemmas.{one_fault, prints_all}
 use Rattle.mtpbank.proofs.running.run.Goals as goal
 
 pub returns-in-Units-clause-text : goal.returns-in-Units-clause-text
 returns-in-Units-clause-text g c = rw (one_fault UnitsFault _ (λ fault given e. e) c.units.result c.of_any.result c.of_any.ensures, c.in-Units.is) (prints_all IsUnitsText UnitsFault c.units.result _ _ _ c.units.ensures.text)
-
-pub returns-in-Audit-clause-text : goal.returns-in-Audit-clause-text
-returns-in-Audit-clause-text g c = rw (one_fault AuditedFault _ (λ fault given e. e) c.audit.result c.of_any-in-Audit.result c.of_any-in-Audit.ensures, c.in-Audit.is) (prints_all IsAuditText AuditedFault c.audit.result _ _ _ c.audit.ensures.text)

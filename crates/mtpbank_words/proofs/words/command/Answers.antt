@@ -16,8 +16,8 @@ returns c =
     ∙ ap₂ with_subcommand third c.in_ok-capture_command.ensures.shape in
     let fifth = c.in_ok-subcommand-5.ensures.shape c.in_ok-ladder_command.ensures.local
     ∙ ap₂ with_subcommand fourth c.in_ok-ladder_command.ensures.shape in
-    let sixth = c.in_ok-subcommand-6.ensures.shape c.audit_command.ensures.local
-    ∙ ap₂ with_subcommand fifth c.audit_command.ensures.shape in
+    let sixth = c.in_ok-subcommand-6.ensures.shape c.in_ok-audit_command.ensures.local
+    ∙ ap₂ with_subcommand fifth c.in_ok-audit_command.ensures.shape in
     let seventh = c.in_ok-subcommand-7.ensures.shape c.in_ok-history_command.ensures.local
     ∙ ap₂ with_subcommand sixth c.in_ok-history_command.ensures.shape in
     let eighth = c.in_ok-subcommand-8.ensures.shape c.in_ok-terminal_command.ensures.local

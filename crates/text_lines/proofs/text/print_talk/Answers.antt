@@ -1,5 +1,5 @@
-use Rattle.text_lines.proofs.LineLemmas.{begins}
+use Rattle.text_lines.proofs.TalkLemmas.{talk_begins}
 use Rattle.text_lines.proofs.text.print_talk.Goals as goal
 
-pub print_all-requires-clause-begins : goal.print_all-requires-clause-begins
-print_all-requires-clause-begins g c = rw (c.new.ensures, c.requires.start) (begins g.L.TalkText.rules g.L.TalkText.one_outcome)
+pub print_lines-requires-clause-start : goal.print_lines-requires-clause-start
+print_lines-requires-clause-start g c = rw c.requires.start (talk_begins g.L.TalkText.rules)
