@@ -47,6 +47,8 @@ ends State.NotAligned (AlignIn.Heard status) a = ends_not_aligned status a
 ends State.Aligned (AlignIn.Heard status) a = ends_aligned status a
 ends State.Proving (AlignIn.Heard status) a = ends_proving status a
 ends State.Proving AlignIn.Emergency a = either (λ r. Ends (record { out = record r.out { send = Some Status.Emergency }; next = r.next })) a.short _ _ (λ e h. cc) (λ e h. cc)
+ends State.Aligned AlignIn.Calm a = either Ends a.local _ _ (λ e h. cc) (λ e h. cc)
+ends State.Proving AlignIn.Calm a = either Ends a.local _ _ (λ e h. cc) (λ e h. cc)
 ends State.Proving AlignIn.Abort a = either Ends a.pending _ _ (λ e h. cc) (ends_aborted a)
 ends State.Proving AlignIn.Good a = either Ends a.pending _ _ (λ e h. cc) (λ e h. cc)
 ends State.Proving AlignIn.T4 a = either Ends a.pending _ _ (λ e h. cc) (λ e h. refl)
@@ -92,6 +94,8 @@ completes State.Aligned (AlignIn.Heard status) a h = absurd (goes_on_aligned sta
 completes State.Proving (AlignIn.Heard status) a h = absurd (goes_on_proving status a h)
 completes State.Proving AlignIn.Emergency a h =
     absurd (either (λ r. r.out.outcome ≢ Some Outcome.Complete) a.short _ _ (λ k. cc) (λ k. cc) h)
+completes State.Aligned AlignIn.Calm a h = absurd (either GoesOn a.local _ _ (λ k. cc) (λ k. cc) h)
+completes State.Proving AlignIn.Calm a h = absurd (either GoesOn a.local _ _ (λ k. cc) (λ k. cc) h)
 completes State.Proving AlignIn.Abort a h = absurd (goes_on_abort a h)
 completes State.Proving AlignIn.Good a h = absurd (either GoesOn a.pending _ _ (λ k. cc) (λ k. cc) h)
 completes State.Proving AlignIn.T4 a h = record { input = refl; state = refl; pending = completes_by a.pending a h }
@@ -143,6 +147,10 @@ keeps State.Aligned (AlignIn.Heard status) a e = keeps_aligned status a e
 keeps State.Proving (AlignIn.Heard status) a e = keeps_heard status a
 keeps State.Proving AlignIn.Emergency a e =
     either (λ r. Keeps State.Proving a AlignIn.Emergency (record { out = record r.out { send = Some Status.Emergency }; next = r.next })) a.short _ _ (λ f s p. record { state = refl; pending = p; no_abort = λ q. cc; kept = refl }) (λ f s p. absurd cc)
+keeps State.Aligned AlignIn.Calm a e =
+    either (Keeps State.Aligned a AlignIn.Calm) a.local _ _ (λ f s p. absurd cc) (λ f s p. absurd cc)
+keeps State.Proving AlignIn.Calm a e =
+    either (Keeps State.Proving a AlignIn.Calm) a.local _ _ (λ f s p. record { state = refl; pending = p; no_abort = λ q. cc; kept = refl }) (keeps_silent a _ (λ q. cc))
 keeps State.Proving AlignIn.Abort a e = keeps_abort a.pending a refl
 keeps State.Proving AlignIn.Good a e =
     either (Keeps State.Proving a AlignIn.Good) a.pending _ _ (λ f s p. absurd cc) (keeps_silent a _ (λ q. cc))
@@ -164,6 +172,8 @@ leaves_heard _ a e h = absurd cc
 
 leaves : (i : AlignIn) (a : Alignment) → a.state ≡ State.Aligned → (table State.Aligned i a).next.state ≡ State.Proving → (table State.Aligned i a).next.aborts ≡ 0
 leaves (AlignIn.Heard status) a e h = leaves_heard status a e h
+leaves AlignIn.Calm a e h =
+    either (λ r. r.next.state ≡ State.Proving → r.next.aborts ≡ 0) a.local _ _ (λ k. absurd cc) (λ k. absurd cc) h
 leaves _ a e h = absurd cc
 
 pub leaves_on : (a : Alignment) (i : AlignIn) → a.state ≡ State.Aligned → (row a i).next.state ≡ State.Proving → (row a i).next.aborts ≡ 0
@@ -195,6 +205,8 @@ counts : (i : AlignIn) (a : Alignment) → a.aborts ≤ 4 → CountsIn a i (tabl
 counts (AlignIn.Heard status) a f = counts_heard status a f
 counts AlignIn.Emergency a f =
     either (λ r. CountsIn a AlignIn.Emergency (record { out = record r.out { send = Some Status.Emergency }; next = r.next })) a.short _ _ (λ h. record { more = omega arith; few = f }) (λ h. record { more = omega arith; few = f })
+counts AlignIn.Calm a f =
+    either (CountsIn a AlignIn.Calm) a.local _ _ (λ h. record { more = omega arith; few = f }) (λ h. record { more = omega arith; few = f })
 counts AlignIn.Abort a f =
     either (CountsIn a AlignIn.Abort) a.pending _ _ (λ h. record { more = omega arith; few = f }) (counts_few (nat_lt (a.aborts + 1) 5) a refl)
 counts AlignIn.Good a f =

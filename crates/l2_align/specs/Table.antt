@@ -1,5 +1,5 @@
 -- The table of initial alignment control (Q.703 7.3): a row for each state and input.
-use Rattle.std.specs.Prelude.{◌+◌, true, false, if◌then◌else◌, nat_lt, Option, Some, None}
+use Rattle.std.specs.Prelude.{◌+◌, Bool, true, false, if◌then◌else◌, nat_lt, Option, Some, None}
 use Rattle.l2_units.specs.declared.status.Status.{Status}
 use Rattle.l2_units.specs.declared.timer.TimerOrder.{TimerOrder}
 use Rattle.l2_align.specs.declared.align.State.{State}
@@ -64,6 +64,11 @@ aligned a = record {
 abbrev pub asking : Alignment → Row
 asking a = sending Status.Emergency (silent (record a { local = true; short = true }))
 
+-- and no longer (Q.703 7.4): SIN goes out again
+abbrev pub calmed : Bool → Alignment → Row
+calmed short a =
+    if a.local then sending Status.Normal (silent (record a { local = false; short = short })) else silent a
+
 -- a proving period begins, the first or anew (Q.703 7.4): 2^16 octet times, or 2^12 in emergency
 abbrev pub proving : Alignment → Row
 proving a = record {
@@ -108,6 +113,7 @@ aborted a = if nat_lt (a.aborts + 1) 5 then counted_abort a else idle stop_t4 (S
 
 abbrev pub when_idle : AlignIn → Alignment → Row
 when_idle AlignIn.Emergency a = silent (record a { local = true })
+when_idle AlignIn.Calm a = silent (record a { local = false })
 when_idle AlignIn.Start a = seeking a
 when_idle _ a = silent a
 
@@ -119,6 +125,7 @@ heard_not_aligned _ a = silent a
 
 abbrev pub when_not_aligned : AlignIn → Alignment → Row
 when_not_aligned AlignIn.Emergency a = silent (record a { local = true })
+when_not_aligned AlignIn.Calm a = silent (record a { local = false })
 when_not_aligned (AlignIn.Heard status) a = heard_not_aligned status a
 when_not_aligned AlignIn.T2 a = idle stop_t2 (Some Outcome.NotPossible)
 when_not_aligned AlignIn.Stop a = idle stop_t2 None
@@ -132,6 +139,7 @@ heard_aligned _ a = silent a
 
 abbrev pub when_aligned : AlignIn → Alignment → Row
 when_aligned AlignIn.Emergency a = asking a
+when_aligned AlignIn.Calm a = calmed false a
 when_aligned (AlignIn.Heard status) a = heard_aligned status a
 when_aligned AlignIn.T3 a = idle stop_t3 (Some Outcome.NotPossible)
 when_aligned AlignIn.Stop a = idle stop_t3 None
@@ -145,6 +153,8 @@ heard_proving _ a = silent a
 
 abbrev pub when_proving : AlignIn → Alignment → Row
 when_proving AlignIn.Emergency a = sending Status.Emergency (shortened (record a { local = true }))
+-- the proving period that runs goes on as it is (own)
+when_proving AlignIn.Calm a = calmed a.short a
 when_proving (AlignIn.Heard status) a = heard_proving status a
 when_proving AlignIn.Abort a = if a.pending then silent a else aborted a
 when_proving AlignIn.Good a = if a.pending then proving a else silent a

@@ -1,8 +1,8 @@
 //! The machine: its state, and the rows of its table as the arms of one `match`.
 
-ghost use Rattle.std.specs.Prelude.{◌≡◌, true};
+ghost use Rattle.std.specs.Prelude.{◌≡◌, true, false};
 ghost use Rattle.l2_align.specs.Alignment.{initial};
-ghost use Rattle.l2_align.specs.Table.{row, aborted, aligned, asking, fallen_back, first_proving, idle, nothing, proving, seeking, sending, shortened};
+ghost use Rattle.l2_align.specs.Table.{row, aborted, aligned, asking, calmed, fallen_back, first_proving, idle, nothing, proving, seeking, sending, shortened};
 
 use crate::signals::{AlignIn, AlignOut, Monitor, Outcome};
 use l2_units::{Status, TimerOrder};
@@ -108,6 +108,7 @@ impl Align {
     {
         match (self.state, event) {
             (State::Idle, AlignIn::Emergency) => self.note_emergency(),
+            (State::Idle | State::NotAligned, AlignIn::Calm) => self.forget_emergency(),
             (State::Idle, AlignIn::Start) => self.seek(),
             (State::NotAligned, AlignIn::Emergency) => self.note_emergency(),
             (State::NotAligned, AlignIn::Heard(Status::OutOfAlignment | Status::Normal)) => {
@@ -116,12 +117,14 @@ impl Align {
             (State::NotAligned, AlignIn::Heard(Status::Emergency)) => self.align(true),
             (State::NotAligned, AlignIn::T2) => self.go_idle(STOPS_T2, Some(Outcome::NotPossible)),
             (State::Aligned, AlignIn::Emergency) => self.ask_emergency(),
+            (State::Aligned, AlignIn::Calm) => self.calm(false),
             (State::Aligned, AlignIn::Heard(Status::Normal)) => self.leave_aligned(self.short),
             (State::Aligned, AlignIn::Heard(Status::Emergency)) => self.leave_aligned(true),
             (State::Aligned, AlignIn::Heard(Status::OutOfService) | AlignIn::T3) => {
                 self.go_idle(STOPS_T3, Some(Outcome::NotPossible))
             }
             (State::Proving, AlignIn::Emergency) => self.turn_to_emergency(),
+            (State::Proving, AlignIn::Calm) => self.calm(self.short),
             (State::Proving, AlignIn::Heard(Status::Emergency)) => self.shorten(),
             (State::Proving, AlignIn::Heard(Status::OutOfAlignment)) => self.fall_back(),
             (State::Proving, AlignIn::Heard(Status::OutOfService)) => {
@@ -144,6 +147,15 @@ impl Align {
         ensures next { self.new ≡ record self.old { local = true } }
     {
         self.local = true;
+        NOTHING
+    }
+
+    // And no longer asked for, before anything was heard.
+    fn forget_emergency(&mut self) -> AlignOut
+        ensures out { result ≡ nothing }
+        ensures next { self.new ≡ record self.old { local = false } }
+    {
+        self.local = false;
         NOTHING
     }
 
@@ -188,6 +200,22 @@ impl Align {
         self.short = true;
         AlignOut {
             send: Some(Status::Emergency),
+            ..NOTHING
+        }
+    }
+
+    // Emergency is asked for no longer, while aligned or proving.
+    fn calm(&mut self, short: bool) -> AlignOut
+        ensures out { result ≡ (calmed short self.old).out }
+        ensures next { self.new ≡ (calmed short self.old).next }
+    {
+        if !self.local {
+            return NOTHING;
+        }
+        self.local = false;
+        self.short = short;
+        AlignOut {
+            send: Some(Status::Normal),
             ..NOTHING
         }
     }

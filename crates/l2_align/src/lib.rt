@@ -43,17 +43,21 @@
 //! state        input        effect                                                      next
 //! -----------  -----------  ----------------------------------------------------------  ---------------
 //! Idle         Emergency    local                                                       Idle
+//! Idle         Calm         not local                                                   Idle
 //! Idle         Start        send O, start T2                                            NotAligned
 //! NotAligned   Emergency    local                                                       NotAligned
+//! NotAligned   Calm         not local                                                   NotAligned
 //! NotAligned   Heard O, N   short = local; send E if local, else N; stop T2, start T3   Aligned
 //! NotAligned   Heard E      short; send E if local, else N; stop T2, start T3           Aligned
 //! NotAligned   T2           NotPossible                                                 Idle
 //! Aligned      Emergency    local, short; send E                                        Aligned
+//! Aligned      Calm         if local: not local, not short; send N                      Aligned
 //! Aligned      Heard N      stop T3, aborts 0, PROVE                                    Proving
 //! Aligned      Heard E      short; stop T3, aborts 0, PROVE                             Proving
 //! Aligned      Heard OS     NotPossible                                                 Idle
 //! Aligned      T3           NotPossible                                                 Idle
 //! Proving      Emergency    local; send E; if not short: short, PROVE                   Proving
+//! Proving      Calm         if local: not local; send N; the period goes on (own)       Proving
 //! Proving      Heard E      if not short: short, PROVE                                  Proving
 //! Proving      Heard O      pending false, monitor off, stop T4, start T3               Aligned
 //! Proving      Heard OS     NotPossible                                                 Idle

@@ -11,6 +11,8 @@ pub enum AlignIn {
     Stop,
     /// Emergency is asked for at this end.
     Emergency,
+    /// Emergency is asked for no longer at this end.
+    Calm,
     /// A unit with this status was heard.
     Heard(Status),
     /// T2 has ended.

@@ -45,7 +45,7 @@ begins_wait (Acked more) = more
 begins_wait (Resumed more) = more
 begins_wait _ = false
 
--- an acknowledgement left none unacknowledged, the far end has a processor outage, or all was reset
+-- an acknowledgement left none unacknowledged, an end has a processor outage, or all was reset
 abbrev pub ends_wait : FlowIn → Bool
 ends_wait (Acked true) = false
 ends_wait (Acked false) = true
@@ -61,7 +61,7 @@ IsBusy inputs = Since is_busy is_ease_or_reset inputs
 abbrev pub IsFarBusy : List FlowIn → Type 0
 IsFarBusy inputs = Since is_heard_busy is_acked_or_reset inputs
 
--- messages are unacknowledged, by what was told, and the far end has no processor outage
+-- messages are unacknowledged, by what was told, and no end has a processor outage
 abbrev pub AwaitsAcknowledgement : List FlowIn → Type 0
 AwaitsAcknowledgement inputs = Since begins_wait ends_wait inputs
 
@@ -98,7 +98,7 @@ T6RunsOnlyWhileFarBusy = (inputs : List FlowIn) → T6Runs inputs → IsFarBusy 
 abbrev pub T6RunsWhileFarBusy : Type 0
 T6RunsWhileFarBusy = (inputs : List FlowIn) → list_any is_t6 inputs ≡ false → IsFarBusy inputs → T6Runs inputs
 
--- T7 runs only while messages are unacknowledged and the far end has no processor outage
+-- T7 runs only while messages are unacknowledged and no end has a processor outage
 abbrev pub T7RunsOnlyWhileAwaiting : Type 0
 T7RunsOnlyWhileAwaiting = (inputs : List FlowIn) → T7Runs inputs → AwaitsAcknowledgement inputs
 

@@ -31,7 +31,7 @@ row busy true true HeardBusy = effect (record quiet { t7 = Start }) busy true tr
 row busy far t7 (Acked true) = effect (record quiet { t6 = Stop; t7 = Start }) busy false true
 row busy far t7 (Acked false) = effect (record quiet { t6 = Stop; t7 = Stop }) busy false false
 row busy far false Sent = effect (record quiet { t7 = Start }) busy far true
--- T7 stands still while the far end has a processor outage (Q.703 8, own); T6 runs on
+-- T7 stands still while an end has a processor outage (Q.703 8, own); T6 runs on
 row busy far true Paused = effect (record quiet { t7 = Stop }) busy far false
 row busy far false (Resumed true) = effect (record quiet { t7 = Start }) busy far true
 row busy far t7 T6 = effect (record quiet { failure = Some Cause.T6 }) busy far t7

@@ -14,10 +14,10 @@ pub enum FlowIn {
     Acked { more: bool },
     /// A message signal unit was sent.
     Sent,
-    /// The far end has a processor outage (Q.703 8): it can't acknowledge.
+    /// An end has a processor outage (Q.703 8): the far one can't acknowledge, or this one hears nothing of it.
     Paused,
-    /// A fill-in or message signal unit was received behind the far end's processor outage. `more`: messages are
-    /// unacknowledged.
+    /// The outage of this end is over, or a fill-in or message signal unit was received behind that of the far end.
+    /// `more`: messages are unacknowledged.
     Resumed { more: bool },
     /// T6 has ended.
     T6,

@@ -46,7 +46,8 @@
 //!   Reset                            stop T5, T6 and T7                             as at the start
 //! ```
 //!
-//! An end with a processor outage (Q.703 8) acknowledges nothing, so T7 stands still till it's over; T6 runs on.
+//! In a processor outage of either end (Q.703 8) no acknowledgement is sent, or none is heard, so T7 stands still till
+//! it's over; T6 runs on.
 //!
 //! Causes of failure, by number, and orders to timers are those of `l2_units`.
 //!

@@ -1,5 +1,5 @@
-//! Link state control of one end of a signalling link (Q.703 12): out of service, aligning, ready for the far end,
-//! in service.
+//! Link state control of one end of a signalling link (Q.703 8, 12): out of service, aligning, ready for the far end,
+//! in service; and whether this end has a processor outage.
 //!
 //! A pure machine: an input in, a value of outputs back. It never reads a clock, does no input or output, takes
 //! no lock and no memory. The timer T1, initial alignment and the signal unit error rate monitor (SUERM, Q.703 10.2)
@@ -34,7 +34,8 @@
 //!   +---------+                                          +------------+
 //! ```
 //!
-//! DOWN c sends OS, stops T1, tells Down with the cause c, and leaves the link out of service, not paused. Whole:
+//! DOWN c sends OS, stops T1, tells Down with the cause c, and leaves the link out of service, neither paused nor out.
+//! Whole:
 //!
 //! ```text
 //! state             input               effect                                      next
@@ -51,13 +52,19 @@
 //! InService         heard O, N, E, OS   DOWN 7                                      OutOfService
 //! Ready, InService  Failure c           DOWN c                                      OutOfService
 //! not OutOfService  Stop                stop alignment, DOWN 9                      OutOfService
+//! any               Outage              out; send PO if Ready or InService          the same
+//! any               Recover             not out; send fill-in units if Ready,       the same
+//!                                       traffic if InService
 //! ```
 //!
-//! What has no row is ignored: nothing is sent, T1 and alignment are left as they are, nothing is told, and the
-//! state stays, paused or not. Only a link in service can be paused.
+//! While this end is out, so that it has a processor outage (Q.703 8.1), PO is sent in place of fill-in units and of
+//! traffic. T1 runs in Ready whether it's out or not.
 //!
-//! (own): local processor outage isn't part of this terminal; where the far end has one, a link that is not up yet
-//! waits for it without T1, and one that is in service sends no message until a FISU or an MSU is heard.
+//! What has no row is ignored: nothing is sent, T1 and alignment are left as they are, nothing is told, and the
+//! state stays, paused or not, out or not. Only a link in service can be paused.
+//!
+//! (own): where the far end has an outage, a link that is not up yet waits for it without T1, and one that is in
+//! service sends no message until a FISU or an MSU is heard. A link that goes down isn't out any more.
 #![tactic(auto)]
 
 pub mod laws;

@@ -1,8 +1,20 @@
 //! The machine: its state, and the rows of its table as the arms of one `match`.
 
-ghost use Rattle.std.specs.Prelude.{◌≡◌};
+ghost use Rattle.std.specs.Prelude.{◌≡◌, Some, None, false};
 ghost use Rattle.l2_units.specs.declared.cause.Cause.{Cause};
-ghost use Rattle.l2_state.specs.Table.{row, down, silent, raised, ready, aligning, stopped};
+ghost use Rattle.l2_state.specs.Table.{
+  row,
+  aligning,
+  as_sent,
+  down,
+  link_after,
+  out_or_not,
+  raised,
+  ready,
+  silent,
+  stopped,
+  told_by,
+};
 
 use crate::signals::{Indication, Sending, StateIn, StateOut, Switch};
 use l2_units::{Cause, Status, TimerOrder};
@@ -28,14 +40,18 @@ pub enum State {
 #[derive(Debug, Drop)]
 pub struct LinkState {
     state: State,
+    out: bool,
 }
 
 impl Model for LinkState {
-    ghost use Rattle.l2_state.specs.declared.link_state.State.{State};
+    ghost use Rattle.l2_state.specs.Table.{Link};
 
-    ghost Value = { State };
+    ghost Value = { Link };
 
-    ghost view = { λ link. link.state };
+    ghost view = { λ link. record {
+      state = link.state;
+      out = link.out;
+    } };
 }
 
 // An ignored input's answer while nothing pauses the link, on which the others build.
@@ -55,27 +71,35 @@ const STOPS_T1: StateOut = StateOut {
 };
 
 impl LinkState {
-    /// A link out of service.
+    /// A link out of service, of an end that has no processor outage.
     pub fn new() -> LinkState
-        ensures { result ≡ State.OutOfService }
+        ensures { result ≡ record { state = State.OutOfService; out = false } }
     {
         LinkState {
             state: State::OutOfService,
+            out: false,
         }
     }
 
     /// Where the link stands.
     pub fn state(&self) -> State
-        ensures { result ≡ self.now }
+        ensures { result ≡ self.now.state }
     {
         self.state
     }
 
+    /// Whether this end has a processor outage (Q.703 8.1).
+    pub fn is_out(&self) -> bool
+        ensures { result ≡ self.now.out }
+    {
+        self.out
+    }
+
     /// Carries out the row of the table for this state and this input, or ignores it where there is none
-    /// (Q.703 12).
+    /// (Q.703 8, 12).
     pub fn input(&mut self, event: StateIn) -> StateOut
-        ensures out { result ≡ (row self.old event).out }
-        ensures next { self.new ≡ (row self.old event).next }
+        ensures out { result ≡ told_by (row self.old.state event) self.old }
+        ensures next { self.new ≡ link_after (row self.old.state event) self.old }
     {
         match (self.state, event) {
             (State::OutOfService, StateIn::Start) => self.align(),
@@ -103,6 +127,8 @@ impl LinkState {
             (State::Aligning, StateIn::Stop) => self.stop(),
             (State::Ready, StateIn::Stop) => self.stop(),
             (State::InService { .. }, StateIn::Stop) => self.stop(),
+            (_, StateIn::Outage) => self.change_outage(true),
+            (_, StateIn::Recover) => self.change_outage(false),
             (State::InService { paused }, _) => StateOut { paused, ..NOTHING },
             _ => NOTHING,
         }
@@ -110,8 +136,8 @@ impl LinkState {
 
     // From OutOfService: initial alignment begins.
     fn align(&mut self) -> StateOut
-        ensures out { result ≡ aligning.out }
-        ensures next { self.new ≡ aligning.next }
+        ensures out { result ≡ told_by aligning self.old }
+        ensures next { self.new ≡ link_after aligning self.old }
     {
         self.state = State::Aligning;
         StateOut {
@@ -123,12 +149,12 @@ impl LinkState {
 
     // From Aligning: this end is ready.
     fn get_ready(&mut self) -> StateOut
-        ensures out { result ≡ ready.out }
-        ensures next { self.new ≡ ready.next }
+        ensures out { result ≡ told_by ready self.old }
+        ensures next { self.new ≡ link_after ready self.old }
     {
         self.state = State::Ready;
         StateOut {
-            send: Some(Sending::FillIn),
+            send: Some(self.sent(Sending::FillIn)),
             t1: TimerOrder::Start,
             new_suerm: true,
             ..NOTHING
@@ -137,12 +163,12 @@ impl LinkState {
 
     // From Ready: the far end is ready too.
     fn go_up(&mut self) -> StateOut
-        ensures out { result ≡ raised.out }
-        ensures next { self.new ≡ raised.next }
+        ensures out { result ≡ told_by raised self.old }
+        ensures next { self.new ≡ link_after raised self.old }
     {
         self.state = State::InService { paused: false };
         StateOut {
-            send: Some(Sending::Traffic),
+            send: Some(self.sent(Sending::Traffic)),
             t1: TimerOrder::Stop,
             indication: Some(Indication::Up),
             ..NOTHING
@@ -151,8 +177,8 @@ impl LinkState {
 
     // In service: the far end's processor outage begins or is over.
     fn pause(&mut self, paused: bool) -> StateOut
-        ensures out { result ≡ (silent (State.InService paused)).out }
-        ensures next { self.new ≡ State.InService paused }
+        ensures out { result ≡ told_by (silent (State.InService paused)) self.old }
+        ensures next { self.new ≡ link_after (silent (State.InService paused)) self.old }
     {
         self.state = State::InService { paused };
         StateOut { paused, ..NOTHING }
@@ -160,10 +186,11 @@ impl LinkState {
 
     // The link fails, or is taken out of service.
     fn go_down(&mut self, cause: Cause) -> StateOut
-        ensures out { result ≡ (down cause).out }
-        ensures next { self.new ≡ (down cause).next }
+        ensures out { result ≡ told_by (down cause) self.old }
+        ensures next { self.new ≡ link_after (down cause) self.old }
     {
         self.state = State::OutOfService;
+        self.out = false; // (own)
         StateOut {
             send: Some(Sending::OutOfService),
             t1: TimerOrder::Stop,
@@ -174,12 +201,42 @@ impl LinkState {
 
     // The link is taken out of service at this end.
     fn stop(&mut self) -> StateOut
-        ensures out { result ≡ stopped.out }
-        ensures next { self.new ≡ stopped.next }
+        ensures out { result ≡ told_by stopped self.old }
+        ensures next { self.new ≡ link_after stopped self.old }
     {
         StateOut {
             alignment: Some(Switch::Stop),
             ..self.go_down(Cause::Stop)
+        }
+    }
+
+    // An outage of this end begins or ends: what is sent is told anew.
+    fn change_outage(&mut self, out: bool) -> StateOut
+        ensures told { result ≡ told_by (out_or_not out self.old.state) self.old }
+        ensures next { self.new ≡ record { state = self.old.state; out = out } }
+    {
+        self.out = out;
+        match self.state {
+            State::OutOfService | State::Aligning => NOTHING,
+            State::Ready => StateOut {
+                send: Some(self.sent(Sending::FillIn)),
+                ..NOTHING
+            },
+            State::InService { paused } => StateOut {
+                send: Some(self.sent(Sending::Traffic)),
+                paused,
+                ..NOTHING
+            },
+        }
+    }
+
+    // In an outage of this end SIPO stands for fill-in units and messages.
+    fn sent(&self, what: Sending) -> Sending
+        ensures { result ≡ as_sent self.now.out what }
+    {
+        match what {
+            Sending::FillIn | Sending::Traffic if self.out => Sending::ProcessorOutage,
+            _ => what,
         }
     }
 }

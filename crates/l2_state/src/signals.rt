@@ -23,6 +23,10 @@ pub enum StateIn {
     T1,
     /// A part of the terminal says that the link has failed.
     Failure(Cause),
+    /// This end has a processor outage from now on (Q.703 8.1).
+    Outage,
+    /// This end's processor outage is over.
+    Recover,
 }
 
 /// What to send from now on.
@@ -36,6 +40,8 @@ pub enum Sending {
     FillIn,
     /// Messages, and fill-in units where there are none.
     Traffic,
+    /// The status PO, SIPO, while this end has a processor outage.
+    ProcessorOutage,
 }
 
 /// A start or a stop of initial alignment.

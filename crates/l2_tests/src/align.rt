@@ -84,3 +84,57 @@ fn emergency_heard_in_normal_proving() -> Result<(), Fail> {
     let mut align = proving_normally();
     holds(told(&mut align, AlignIn::Heard(Status::Emergency)) == shortened)
 }
+
+/// Nothing is told but this status to send.
+fn only_sends(align: &mut Align, event: AlignIn, send: Option<Status>) -> bool {
+    let wanted = AlignOut {
+        send,
+        t2: TimerOrder::Keep,
+        t3: TimerOrder::Keep,
+        t4: TimerOrder::Keep,
+        monitor: Monitor::Keep,
+        outcome: None,
+    };
+    told(align, event) == wanted
+}
+
+/// Emergency ceases in an emergency proving, which goes on, with SIN.
+#[test]
+fn emergency_ceases_while_proving() -> Result<(), Fail> {
+    holds(is_calmed_while_proving(&mut proving_normally()))
+}
+
+fn is_calmed_while_proving(align: &mut Align) -> bool {
+    told(align, AlignIn::Emergency).send == Some(Status::Emergency)
+        && only_sends(align, AlignIn::Calm, Some(Status::Normal))
+        && only_sends(align, AlignIn::Calm, None)
+        && only_sends(align, AlignIn::Heard(Status::Emergency), None)
+        && told(align, AlignIn::T4).outcome == Some(Outcome::Complete)
+}
+
+/// It ceases while aligned: the period that begins then is a normal one.
+#[test]
+fn emergency_ceases_while_aligned() -> Result<(), Fail> {
+    holds(is_calmed_while_aligned(&mut Align::new()))
+}
+
+fn is_calmed_while_aligned(align: &mut Align) -> bool {
+    starts(align)
+        && is_aligned(align)
+        && only_sends(align, AlignIn::Emergency, Some(Status::Emergency))
+        && only_sends(align, AlignIn::Calm, Some(Status::Normal))
+        && begins_to_prove(align)
+}
+
+/// It ceases before anything is heard: SIN goes out at once.
+#[test]
+fn emergency_ceases_before_alignment() -> Result<(), Fail> {
+    let mut align = Align::new();
+    told(&mut align, AlignIn::Emergency);
+    holds(
+        starts(&mut align)
+            && only_sends(&mut align, AlignIn::Calm, None)
+            && is_aligned(&mut align)
+            && begins_to_prove(&mut align),
+    )
+}

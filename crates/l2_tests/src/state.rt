@@ -66,3 +66,81 @@ fn pauses(link: &mut LinkState) -> bool {
         && told(link, StateIn::T1).paused
         && !told(link, StateIn::Msu).paused
 }
+
+/// What is sent from now on, where nothing else is told.
+fn only_sends(link: &mut LinkState, event: StateIn, send: Option<Sending>, paused: bool) -> bool {
+    let wanted = StateOut {
+        send,
+        t1: TimerOrder::Keep,
+        alignment: None,
+        new_suerm: false,
+        indication: None,
+        paused,
+    };
+    told(link, event) == wanted
+}
+
+fn sends_sipo(link: &mut LinkState) -> bool {
+    only_sends(link, StateIn::Outage, Some(Sending::ProcessorOutage), false)
+}
+
+/// An outage of this end in service, and one of the far end within it.
+#[test]
+fn own_processor_outage_in_service() -> Result<(), Fail> {
+    holds(has_an_outage(&mut LinkState::new()))
+}
+
+fn has_an_outage(link: &mut LinkState) -> bool {
+    let far = StateIn::Heard(Status::ProcessorOutage);
+    comes_up(link)
+        && sends_sipo(link)
+        && only_sends(link, far, None, true)
+        && only_sends(link, StateIn::Fisu, None, false)
+        && only_sends(link, StateIn::Recover, Some(Sending::Traffic), false)
+}
+
+/// Aligned, not ready: the outage began before the link was started, T1 runs in it, and the link comes up in it.
+#[test]
+fn own_processor_outage_before_the_start() -> Result<(), Fail> {
+    holds(comes_up_in_an_outage(&mut LinkState::new()))
+}
+
+fn comes_up_in_an_outage(link: &mut LinkState) -> bool {
+    only_sends(link, StateIn::Outage, None, false)
+        && begins_alignment(link)
+        && is_aligned_not_ready(link)
+        && comes_up_with_sipo(link)
+}
+
+fn is_aligned_not_ready(link: &mut LinkState) -> bool {
+    let complete = told(link, StateIn::Complete);
+    complete.send == Some(Sending::ProcessorOutage) && complete.t1 == TimerOrder::Start
+}
+
+fn comes_up_with_sipo(link: &mut LinkState) -> bool {
+    let heard = told(link, StateIn::Fisu);
+    heard.indication == Some(Indication::Up) && heard.send == Some(Sending::ProcessorOutage)
+}
+
+/// The outage ends while the far end isn't ready: fill-in units go out then, and T1 runs on.
+#[test]
+fn recovery_while_ready() -> Result<(), Fail> {
+    holds(recovers_while_ready(&mut LinkState::new()))
+}
+
+fn recovers_while_ready(link: &mut LinkState) -> bool {
+    begins_alignment(link)
+        && is_aligned(link)
+        && sends_sipo(link)
+        && only_sends(link, StateIn::Recover, Some(Sending::FillIn), false)
+}
+
+/// A link that goes down isn't out any more: it comes up with traffic.
+#[test]
+fn outage_ends_with_the_service() -> Result<(), Fail> {
+    holds(is_out_no_more(&mut LinkState::new()))
+}
+
+fn is_out_no_more(link: &mut LinkState) -> bool {
+    comes_up(link) && sends_sipo(link) && is_lost(link) && !link.is_out() && comes_up(link)
+}

@@ -4,7 +4,7 @@ use Rattle.l2_units.specs.declared.unit.Unit.{Unit as SignalUnit}
 use Rattle.set_events.specs.declared.event.Event.{Event}
 use Rattle.set_events.specs.declared.history.Entry.{Entry}
 use Rattle.set_events.specs.declared.fault.SetFault.{SetFault}
-use Rattle.term_model.specs.Choosing.{Filled, sent_by, serves, up_first}
+use Rattle.term_model.specs.Choosing.{Filled, sent_by, serves, unless_out, up_first}
 use Rattle.term_model.specs.OctetOut.{Appends}
 use Rattle.term_model.specs.Talk.{Talk, ask, and_then}
 use Rattle.term_model.specs.Terminal.{Terminal}
@@ -13,7 +13,7 @@ use Rattle.link_term.specs.declared.counts.Filling.{Filling}
 
 -- in service: Up first, where it was refused
 abbrev pub served : Bool → Terminal → Talk Filled
-served paused t = and_then (up_first t) (λ t. serves paused t)
+served paused t = and_then (up_first t) (λ t. unless_out (serves paused t) t)
 
 -- the set is asked for the next unit
 abbrev pub next_asked : Terminal → Talk Filled

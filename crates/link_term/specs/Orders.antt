@@ -8,7 +8,7 @@ use Rattle.term_core.specs.TimerEnds.{clock_of, without}
 use Rattle.term_model.specs.declared.command.Command.{Command}
 use Rattle.term_model.specs.declared.command.Commands.{Commands}
 use Rattle.term_model.specs.Machines.{state_in, align_in, flow_in}
-use Rattle.term_model.specs.Obeying.{obeys_if, blinded}
+use Rattle.term_model.specs.Obeying.{obeys_if, blinded, changes_outage}
 use Rattle.term_model.specs.Talk.{Talk, done, in_turn}
 use Rattle.term_model.specs.Terminal.{Terminal}
 use Rattle.term_model.specs.Timing.{is_over}
@@ -16,19 +16,25 @@ use Rattle.term_model.specs.Timing.{is_over}
 -- it was commanded
 abbrev pub is_among : Command → Commands → Bool
 is_among Command.Emergency commands = commands.emergency
+is_among Command.Calm commands = commands.calm
 is_among Command.Start commands = commands.start
 is_among Command.Busy commands = commands.busy
 is_among Command.Ease commands = commands.ease
 is_among Command.Blind commands = commands.blind
+is_among Command.Outage commands = commands.outage
+is_among Command.Recover commands = commands.recover
 is_among Command.Stop commands = commands.stop
 
 -- what a command asks for
 abbrev pub obeys : Command → Terminal → Talk Terminal
 obeys Command.Emergency t = align_in AlignIn.Emergency t
+obeys Command.Calm t = align_in AlignIn.Calm t
 obeys Command.Start t = state_in StateIn.Start t
 obeys Command.Busy t = flow_in FlowIn.Busy t
 obeys Command.Ease t = flow_in FlowIn.Ease t
 obeys Command.Blind t = blinded t
+obeys Command.Outage t = changes_outage StateIn.Outage t
+obeys Command.Recover t = changes_outage StateIn.Recover t
 obeys Command.Stop t = state_in StateIn.Stop t
 
 abbrev pub obeys_among : Commands → Command → Terminal → Talk Terminal
@@ -40,7 +46,8 @@ obeys_all commands order t = in_turn (map (obeys_among commands) order) t
 
 -- the order in which they are obeyed (own)
 abbrev pub every_command : List Command
-every_command = Command.Emergency ∷ Command.Start ∷ Command.Busy ∷ Command.Ease ∷ Command.Blind ∷ Command.Stop ∷ []
+every_command =
+    Command.Emergency ∷ Command.Calm ∷ Command.Start ∷ Command.Busy ∷ Command.Ease ∷ Command.Blind ∷ Command.Outage ∷ Command.Recover ∷ Command.Stop ∷ []
 
 -- what the end of a timer is told to
 abbrev pub end_told : Timer → Terminal → Talk Terminal

@@ -9,7 +9,7 @@ ghost use Rattle.link_term.specs.Filling.{next_asked, served, Fills, FillsBits};
 ghost use Rattle.link_term.specs.Talking.{Talks, asked, at_door};
 ghost use Rattle.set_events.specs.Lent.{answer_in, body_in as body_of_answer};
 ghost use Rattle.set_events.specs.declared.history.Entry.{Entry};
-ghost use Rattle.term_model.specs.Choosing.{chosen, counts_sent, filled, given, held_back, is_narrow, sends, sends_fisu, sends_status, sent_by, serves, up_first};
+ghost use Rattle.term_model.specs.Choosing.{chosen, counts_sent, filled, given, held_back, is_narrow, sends, sends_fisu, sends_start_fisu, sends_status, sent_by, serves, unless_out, up_first};
 ghost use Rattle.term_model.specs.Talk.{done};
 ghost use Rattle.term_model.specs.Terminal.{start_head};
 
@@ -65,10 +65,24 @@ fn choose<D: Door, T: Tap>(
             let status = inside.status();
             send_status(inside, status, tap);
         }
-        State::Ready => send_own(inside, &start_fisu(), tap),
+        State::Ready => send_ready(inside, tap),
         State::InService { paused } => return serve(inside, door, reply, paused, tap),
     }
     Ok(Filling::Chosen)
+}
+
+/// A link that is ready sends the start FISU (Q.703 12.1), or SIPO in a processor outage of this end (8.1).
+fn send_ready<T: Tap>(inside: &mut Inside, tap: &mut T)
+    requires { length inside.old.bits < 8 }
+    ensures sends { (made : List Entry) → FillsBits (unless_out (sends_start_fisu inside.old) inside.old) Chosen made made
+        inside.new T.told tap.old tap.new }
+    ensures link { inside.new.link ≡ inside.old.link }
+{
+    if inside.is_out() {
+        send_status(inside, Status::ProcessorOutage, tap);
+        return;
+    }
+    send_own(inside, &start_fisu(), tap);
 }
 
 /// A unit that the set wasn't asked for is appended.
@@ -157,7 +171,7 @@ fn ask_up_first<D: Door>(inside: &mut Inside, door: &mut D) -> Result<(), SetFau
     ask_up(inside, door)
 }
 
-/// The start FISU while the set refuses Up; else SIB where it's due (Q.703 9.3); else a FISU in a processor outage of the
+/// SIPO in a processor outage of this end (Q.703 8.1); else the start FISU while the set refuses Up; else SIB where it's due (Q.703 9.3); else a FISU in a processor outage of the
 /// far end (8.2, own); else what the set's error control gives (5, 6).
 fn serve_up<D: Door, T: Tap>(
     inside: &mut Inside,
@@ -168,12 +182,16 @@ fn serve_up<D: Door, T: Tap>(
 ) -> Result<Filling, SetFault>
     requires at { D.number door.old ≡ inside.old.link }
     requires short { length inside.old.bits < 8 }
-    ensures sends { Fills (serves paused inside.old) result (asked D.Door door.old)
+    ensures sends { Fills (unless_out (serves paused inside.old) inside.old) result (asked D.Door door.old)
         (at_door D.Door inside.new door.new) T.told tap.old tap.new }
     ensures at { D.number door.new ≡ inside.new.link }
     ensures number { D.number door.new ≡ D.number door.old }
     ensures door { D.is_same door.old door.new }
 {
+    if inside.is_out() {
+        send_status(inside, Status::ProcessorOutage, tap);
+        return Ok(Filling::Chosen);
+    }
     if !inside.is_up() {
         send_own(inside, &start_fisu(), tap);
         return Ok(Filling::Chosen);

@@ -1,7 +1,7 @@
 //! What a terminal does with a mark of the line: the monitors, the machines, the set (Q.703 5 to 10).
 ghost use Rattle.std.specs.Prelude.{◌≡◌, ◌≤◌, Some, None, length};
 ghost use Rattle.l2_bits.specs.Deframing.{marked as mark_of};
-ghost use Rattle.l2_state.specs.Table.{is_paused};
+ghost use Rattle.l2_units.specs.declared.status.Status.TheVariants.{Busy};
 ghost use Rattle.l2_units.specs.Lent.{body_in, unit_in};
 ghost use Rattle.link_term.specs.Reading.{brings, status_heard, report_heard, told_heard};
 ghost use Rattle.link_term.specs.Talking.{Talks, asked};
@@ -11,10 +11,11 @@ ghost use Rattle.term_model.specs.Hearing.{
   judged,
   heard,
   all_hear,
+  is_held,
   waits,
   machines_hear,
   flow_hears,
-  set_hears,
+  reaches_set,
   reported,
   acks,
   faults,
@@ -101,7 +102,7 @@ fn judge<D: Door>(inside: &mut Inside, door: &mut D, error: bool) -> Result<(), 
     }
 }
 
-/// A unit that is readable, and then what it says of the far end's processor (Q.703 8.2).
+/// A unit that is readable, and then what it says of the far end's processor (Q.703 8).
 fn hear<D: Door>(
     inside: &mut Inside,
     door: &mut D,
@@ -116,25 +117,29 @@ fn hear<D: Door>(
     ensures number { D.number door.new ≡ D.number door.old }
     ensures door { D.is_same door.old door.new }
 {
-    let was_paused = inside.is_paused();
+    let was_held = inside.is_held();
     tell_all(inside, door, reply, unit)?;
-    tell_outage(inside, door, was_paused)
+    tell_outage(inside, door, was_held)
 }
 
-/// T7 stands still while the far end has a processor outage; the first unit that the set hears behind it starts it anew,
-/// where messages are unacknowledged (own).
-fn tell_outage<D: Door>(inside: &mut Inside, door: &mut D, was_paused: bool) -> Result<(), SetFault>
+/// T7 stands still while an end has a processor outage, and starts anew behind it, where messages are unacknowledged
+/// (own).
+pub(crate) fn tell_outage<D: Door>(
+    inside: &mut Inside,
+    door: &mut D,
+    was_held: bool,
+) -> Result<(), SetFault>
     requires { D.number door.old ≡ inside.old.link }
-    ensures talks { Talks (waits was_paused (is_paused inside.old.state) inside.old) result (asked D.Door door.old)
+    ensures talks { Talks (waits was_held (is_held inside.old) inside.old) result (asked D.Door door.old)
         (asked D.Door door.new) inside.new }
     ensures at { D.number door.new ≡ inside.new.link }
     ensures number { D.number door.new ≡ D.number door.old }
     ensures door { D.is_same door.old door.new }
 {
-    if inside.is_paused() {
+    if inside.is_held() {
         return input_flow(inside, door, FlowIn::Paused);
     }
-    if was_paused && inside.is_up() {
+    if was_held && inside.is_up() {
         let more = inside.has_unacked();
         return input_flow(inside, door, FlowIn::Resumed { more });
     }
@@ -196,7 +201,7 @@ fn hear_status<D: Door>(inside: &mut Inside, door: &mut D, status: Status) -> Re
     tell_flow(inside, door, status)
 }
 
-/// Busy is flow control's, in every state of the link (Q.703 9.3, own).
+/// Busy is flow control's, in every state of the link (Q.703 9.3, own), but for a processor outage of this end (8.1, own).
 fn tell_flow<D: Door>(inside: &mut Inside, door: &mut D, status: Status) -> Result<(), SetFault>
     requires { D.number door.old ≡ inside.old.link }
     ensures talks { Talks (flow_hears status inside.old) result (asked D.Door door.old)
@@ -206,12 +211,26 @@ fn tell_flow<D: Door>(inside: &mut Inside, door: &mut D, status: Status) -> Resu
     ensures door { D.is_same door.old door.new }
 {
     match status {
-        Status::Busy => input_flow(inside, door, FlowIn::HeardBusy),
+        Status::Busy => tell_busy(inside, door),
         _ => Ok(()),
     }
 }
 
-/// The set hears a unit of any kind, where the link is up there (Q.703 5, 6).
+/// The far end is busy (Q.703 9.3), if this end hears it.
+fn tell_busy<D: Door>(inside: &mut Inside, door: &mut D) -> Result<(), SetFault>
+    requires { D.number door.old ≡ inside.old.link }
+    ensures talks { Talks (flow_hears Busy inside.old) result (asked D.Door door.old) (asked D.Door door.new) inside.new }
+    ensures at { D.number door.new ≡ inside.new.link }
+    ensures number { D.number door.new ≡ D.number door.old }
+    ensures door { D.is_same door.old door.new }
+{
+    if inside.is_deaf() {
+        return Ok(());
+    }
+    input_flow(inside, door, FlowIn::HeardBusy)
+}
+
+/// The set hears a unit of any kind, where the link is up there (Q.703 5, 6), but in a processor outage of this end (8.1).
 fn tell_set<D: Door>(
     inside: &mut Inside,
     door: &mut D,
@@ -220,12 +239,15 @@ fn tell_set<D: Door>(
 ) -> Result<(), SetFault>
     requires at { D.number door.old ≡ inside.old.link }
     requires few { length (body_in unit.now) ≤ 273 }
-    ensures talks { Talks (set_hears (unit_in unit.now) inside.old) result (asked D.Door door.old)
+    ensures talks { Talks (reaches_set (unit_in unit.now) inside.old) result (asked D.Door door.old)
         (asked D.Door door.new) inside.new }
     ensures at { D.number door.new ≡ inside.new.link }
     ensures number { D.number door.new ≡ D.number door.old }
     ensures door { D.is_same door.old door.new }
 {
+    if inside.is_out() {
+        return Ok(());
+    }
     if inside.is_up() {
         return tell_heard(inside, door, reply, unit);
     }

@@ -1,10 +1,11 @@
-//! The commands that waited (Q.703 7.2, 9.2, 12.1).
+//! The commands that waited (Q.703 7.2, 8.1, 9.2, 12.1).
 ghost use Rattle.std.specs.Prelude.{◌≡◌};
 ghost use Rattle.link_term.specs.Orders.{is_among, every_command, obeys, obeys_among, obeys_all};
 ghost use Rattle.link_term.specs.Talking.{Talks, asked};
-ghost use Rattle.term_model.specs.Obeying.{commanded};
+ghost use Rattle.term_model.specs.Obeying.{changes_outage, commanded};
 
 use super::door::Door;
+use super::hearing::tell_outage;
 use super::machines::{input_align, input_flow, input_state};
 use l2_align::AlignIn;
 use l2_flow::FlowIn;
@@ -14,12 +15,15 @@ use term_core::Inside;
 use term_model::{Command, Commands};
 
 /// The commands, in the order in which they are obeyed (own).
-static ORDER: [Command; 6] = [
+static ORDER: [Command; 9] = [
     Command::Emergency,
+    Command::Calm,
     Command::Start,
     Command::Busy,
     Command::Ease,
     Command::Blind,
+    Command::Outage,
+    Command::Recover,
     Command::Stop,
 ];
 
@@ -101,10 +105,13 @@ fn contains(commands: Commands, command: Command) -> bool
 {
     match command {
         Command::Emergency => commands.emergency,
+        Command::Calm => commands.calm,
         Command::Start => commands.start,
         Command::Busy => commands.busy,
         Command::Ease => commands.ease,
         Command::Blind => commands.blind,
+        Command::Outage => commands.outage,
+        Command::Recover => commands.recover,
         Command::Stop => commands.stop,
     }
 }
@@ -119,6 +126,7 @@ fn obey_one<D: Door>(inside: &mut Inside, door: &mut D, command: Command) -> Res
 {
     match command {
         Command::Emergency => input_align(inside, door, AlignIn::Emergency),
+        Command::Calm => input_align(inside, door, AlignIn::Calm),
         Command::Start => input_state(inside, door, StateIn::Start),
         Command::Busy => input_flow(inside, door, FlowIn::Busy),
         Command::Ease => input_flow(inside, door, FlowIn::Ease),
@@ -126,6 +134,22 @@ fn obey_one<D: Door>(inside: &mut Inside, door: &mut D, command: Command) -> Res
             inside.blind();
             Ok(())
         }
+        Command::Outage => change_outage(inside, door, StateIn::Outage),
+        Command::Recover => change_outage(inside, door, StateIn::Recover),
         Command::Stop => input_state(inside, door, StateIn::Stop),
     }
+}
+
+/// This end's processor outage begins or is over; T7 stands still meanwhile (Q.703 8.1).
+fn change_outage<D: Door>(inside: &mut Inside, door: &mut D, input: StateIn) -> Result<(), SetFault>
+    requires { D.number door.old ≡ inside.old.link }
+    ensures talks { Talks (changes_outage input inside.old) result (asked D.Door door.old)
+        (asked D.Door door.new) inside.new }
+    ensures at { D.number door.new ≡ inside.new.link }
+    ensures number { D.number door.new ≡ D.number door.old }
+    ensures door { D.is_same door.old door.new }
+{
+    let was_held = inside.is_held();
+    input_state(inside, door, input)?;
+    tell_outage(inside, door, was_held)
 }

@@ -216,6 +216,13 @@ impl Works {
         }
     }
 
+    /// Whether this end has a processor outage (Q.703 8.1).
+    pub fn is_out(&self) -> bool
+        ensures { result ≡ self.now.inside.outage }
+    {
+        self.inside.is_out()
+    }
+
     /// Why the link failed last, if it did.
     pub fn cause(&self) -> Option<Cause>
         ensures { result ≡ self.now.inside.cause }

@@ -67,7 +67,8 @@ pub(crate) const TERMINAL_PAGE: &str = "\
 Standard input drives one end of a link set, whose lines are yours. Its first
 line opens the end, and each other asks for one thing, mostly of link L:
   set links=1 method=basic a=2 b=1 sio=80
-  start, stop, emergency, busy, ease, blind   a command to the link's terminal
+  start, stop, emergency, calm, busy, ease, blind, outage, recover
+                          a command to the link's terminal
   octets                  octets come on the line; as many go out
   hear, flags, bits       units, flags or bits come on the line
   offer, take, find       a user's message is handed over, taken, looked for
@@ -87,13 +88,15 @@ second may tell the lengths of its timers (Q.703 12.3) in octet times, each 1 to
   timers t1=N t2=N t3=N t5=N t6=N t7=N               without it 360000, 400000, 12000, 800, 32000 and 8000, which are
                       45 s, 50 s, 1.5 s, 0.1 s, 4 s and 1 s at 64 kbit/s
 Each further line prints events and then its answer, so whoever drives the end reads until a line that is no event:
-  start L, stop L, emergency L, busy L, ease L, blind L
+  start L, stop L, emergency L, calm L, busy L, ease L, blind L, outage L, recover L
                       a command that is obeyed in the link's next turn: done. start and emergency of a link that the set
                       has left and not settled: refused 7, and nothing is done. Those given before one turn are obeyed
-                      in the order emergency, start, busy, ease, blind, stop, in whatever order they were given: a link
-                      that was out and is told to stop and to start before one turn stays out, and no event tells it.
-                      Proving takes 65,536 turns, 4,096 after emergency; SIB goes out from busy until ease; after blind
-                      the link stays up, and its next failure is told without an FSN (ECO)
+                      in the order emergency, calm, start, busy, ease, blind, outage, recover, stop, in whatever order
+                      they were given: a link that was out and is told to stop and to start before one turn stays out,
+                      and no event tells it. Proving takes 65,536 turns, 4,096 after emergency; after calm SIN goes out
+                      again, and the proving that runs goes on; SIB goes out from busy until ease; after blind the link
+                      stays up, and its next failure is told without an FSN (ECO). From outage until recover, or until
+                      it's out, a link that is ready or in service sends SIPO, and its set hears and sends nothing
   octets L HEX        a turn for each octet: octets L HEX, the octets that went out, as many
   hear L UNIT [xN]    a unit stands on the line, N times (1 to 2^20), with check octets, inserted zeros and a flag
                       behind: turns K, how many turns were taken. UNIT is 1 to 276 octets without check octets, or
@@ -115,7 +118,7 @@ for the next line of this link. The events; T counts the link's turns from 1:
   message L turn=T    a message for users was heard: `take` gives it
   link L WORD turn=T  the link stands otherwise: out (of service, with cause=C), unaligned, aligned, proving, ready
                       (aligned, and no FISU heard yet), waiting (in service; the set refuses it, since its last life
-                      isn't settled), up, or paused (the far end has a processor outage)
+                      isn't settled), up, paused (the far end has a processor outage), or outage (this end has one)
   sent L UNIT [xN]    this unit was appended to what goes out, N times in a row; with hear, flags and bits alone
 In a turn messages come first, then the WORD, then the unit. The causes: 1 error rate, 2 BSN, 3 FIB, 4 T1, 5 T6, 6 T7,
 7 a status that was heard, 8 alignment not possible, 9 stop, or a changeover order about a link that isn't up yet:

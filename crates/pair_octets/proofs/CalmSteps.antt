@@ -1,5 +1,5 @@
 -- ENDS THAT ARE NEVER BUSY, step by step (`each_status_is_plain`): a set gives no status, a turn leaves its link calm
--- (term_asks's Calm.antt), and so do commands but Busy, and all else. By induction on the steps.
+-- (term_asks's Calm.antt), and so do commands but Busy and Outage, and all else. By induction on the steps.
 use Rattle.std.proofs.Common.{refl, sym, subst, arith, ◌≡◌, ◌==◌, ◌&&◌, ℕ, zero, suc, Bool, true, false, not, List, [], ◌∷◌, ◌++◌, All, Option, Some, None, slice_get, slice_set, if◌then◌else◌}
 use Rattle.std.proofs.lemmas.Bool.{cond_both}
 use Rattle.std.proofs.lemmas.List.Elements.{All-append, All-cons, All-nil}
@@ -82,12 +82,15 @@ abbrev IsCalmEnd : BenchState → Type 0
 IsCalmEnd bench = EachLink (λ n at. IsCalmLink at) bench.links
 
 told_calm : (command : Command) (at : AtLink) → IsCalmCommand command → IsCalmLink at → IsCalmLink (told_at command at)
-told_calm Command.Emergency at is k = record { busy = k.busy; due = k.due; status = k.status; none = k.none }
-told_calm Command.Start at is k = record { busy = k.busy; due = k.due; status = k.status; none = k.none }
+told_calm Command.Emergency at is k = record { busy = k.busy; due = k.due; status = k.status; none = k.none; outage = k.outage; no_outage = k.no_outage }
+told_calm Command.Calm at is k = record { busy = k.busy; due = k.due; status = k.status; none = k.none; outage = k.outage; no_outage = k.no_outage }
+told_calm Command.Start at is k = record { busy = k.busy; due = k.due; status = k.status; none = k.none; outage = k.outage; no_outage = k.no_outage }
 told_calm Command.Busy at is k = absurd is
-told_calm Command.Ease at is k = record { busy = k.busy; due = k.due; status = k.status; none = k.none }
-told_calm Command.Blind at is k = record { busy = k.busy; due = k.due; status = k.status; none = k.none }
-told_calm Command.Stop at is k = record { busy = k.busy; due = k.due; status = k.status; none = k.none }
+told_calm Command.Ease at is k = record { busy = k.busy; due = k.due; status = k.status; none = k.none; outage = k.outage; no_outage = k.no_outage }
+told_calm Command.Blind at is k = record { busy = k.busy; due = k.due; status = k.status; none = k.none; outage = k.outage; no_outage = k.no_outage }
+told_calm Command.Outage at is k = absurd is
+told_calm Command.Recover at is k = record { busy = k.busy; due = k.due; status = k.status; none = k.none; outage = k.outage; no_outage = k.no_outage }
+told_calm Command.Stop at is k = record { busy = k.busy; due = k.due; status = k.status; none = k.none; outage = k.outage; no_outage = k.no_outage }
 
 abbrev AllPlain : List Doing → Type 0
 AllPlain ds = All IsPlainUnit (units_of ds)
@@ -111,7 +114,7 @@ turned_calm link old new takes calm = record {
       ended_each (λ m y. IsCalmLink y) (λ m y k. told_calm Command.Stop y tt k) 0 old.near.set.state new.near.set.state (slice_set old.near.links link takes.turns.now)
       (each_set (λ m y. IsCalmLink y) old.near.links link takes.turns.now
       (subst (λ (t : Terminal). Calm t) (sym by.puts.after_is)
-      (record { busy = all.after.busy; due = all.after.due; status = all.after.status; none = all.after.none }))
+      (record { busy = all.after.busy; due = all.after.due; status = all.after.status; none = all.after.none; outage = all.after.outage; no_outage = all.after.no_outage }))
       (λ m y apart is. calm m y is))
       n at (subst (λ (ls : List AtLink). slice_get ls n ≡ Some at) takes.turns.links_are there);
   unit = subst (λ (u : Option SignalUnit). PlainOrNone u) (sym by.unit_is) all.unit;
@@ -180,7 +183,7 @@ steps_plain end link (step ∷ steps) old new happen are calm =
 new_calm : (lengths : Timers) (n : ℕ) → EachLink (λ m at. IsCalmLink at) (new_links lengths n)
 new_calm lengths zero m at there = absurd cc
 new_calm lengths (suc n) m at there =
-    each_more (λ at. IsCalmLink at) (new_links lengths n) (new_link lengths n) (new_calm lengths n) (record { busy = refl; due = refl; status = refl; none = refl }) m at there
+    each_more (λ at. IsCalmLink at) (new_links lengths n) (new_link lengths n) (new_calm lengths n) (record { busy = refl; due = refl; status = refl; none = refl; outage = refl; no_outage = refl }) m at there
 
 pub each_status_is_plain : EachStatusIsPlain
 each_status_is_plain a b lengths steps w run are end link =

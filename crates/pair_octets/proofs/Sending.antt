@@ -24,7 +24,7 @@ use Rattle.l2_state.specs.declared.link_state.State.{State as LinkPhase}
 use Rattle.l2_state.specs.declared.signals.StateIn.{StateIn}
 use Rattle.l2_state.specs.declared.signals.Switch.{Switch}
 use Rattle.l2_state.specs.declared.signals.Indication.{Indication}
-use Rattle.l2_state.specs.Table.{is_paused, row as state_row}
+use Rattle.l2_state.specs.Table.{row as state_row}
 use Rattle.l2_flow.specs.declared.input.FlowIn.{FlowIn}
 use Rattle.l2_flow.specs.Table.{row_of as flow_row}
 use Rattle.set_events.specs.declared.answer.Answer.{Answer}
@@ -32,10 +32,10 @@ use Rattle.set_events.specs.declared.answer.Refusal.{Refusal}
 use Rattle.set_events.specs.declared.answer.Report.{Report}
 use Rattle.set_events.specs.declared.event.Event.{Event}
 use Rattle.set_octets.specs.Octets.{AreOctets, AskedInOctets, GivesOctets, IsOnWire}
-use Rattle.term_model.specs.Choosing.{Filled, sends, sends_status, sends_fisu, sends_start_fisu, counts_sent, given, held_back, is_narrow, sent_by, serves, up_first, chosen, filled}
-use Rattle.term_model.specs.Hearing.{unit_in, is_error, aerm_judges, suerm_judges, service_judges, judges, judged, flow_hears, machines_hear, acked, acks, faults, reported, set_hears, waits, all_hear, heard, marked, all_marked}
+use Rattle.term_model.specs.Choosing.{Filled, sends, sends_status, sends_fisu, sends_start_fisu, counts_sent, given, held_back, is_narrow, sent_by, serves, up_first, chosen, filled, unless_out}
+use Rattle.term_model.specs.Hearing.{unit_in, is_error, aerm_judges, suerm_judges, service_judges, judges, judged, flow_hears, machines_hear, acked, acks, faults, reported, set_hears, waits, all_hear, heard, marked, all_marked, is_deaf, is_held, reaches_set}
 use Rattle.term_model.specs.Machines.{aligns, switched, after_state, controls, fallen, risen, asks_up, asks_down, tells, state_in, ends, align_in, fails, flow_in, fallen_if, stops_quietly}
-use Rattle.term_model.specs.Obeying.{obeys_if, blinded, commanded}
+use Rattle.term_model.specs.Obeying.{obeys_if, blinded, commanded, changes_outage}
 use Rattle.term_model.specs.Talk.{Talk, done, ask, and_then, in_turn}
 use Rattle.term_model.specs.Terminal.{Terminal, no_commands, head_or_start, last_head}
 use Rattle.term_model.specs.Timing.{lessened, is_over, ends_t1, ends_t2, ends_t3, ends_t4, ends_t5, ends_t6, ends_t7, timed}
@@ -143,31 +143,48 @@ module _ (l : Option Header) (b : List Bool) where
   obeys_so : (is : Bool) (obeys : Terminal → Talk Terminal) → ((t : Terminal) → So t → Keep (obeys t)) → (t : Terminal) → So t → Keep (obeys_if is obeys t)
   obeys_so is obeys each t k = if_keeps So is (obeys t) (done t) (λ yes. each t k) (λ no. k)
 
+  outage_so : (was is : Bool) (t : Terminal) → So t → Keep (waits was is t)
+  outage_so was true t k = flow_so t FlowIn.Paused k
+  outage_so true false t k = if_keeps So t.up (flow_in (FlowIn.Resumed t.unacked) t) (done t) (λ up. flow_so t (FlowIn.Resumed t.unacked) k) (λ down. k)
+  outage_so false false t k = k
+
+  changes_so : (t : Terminal) (input : StateIn) → So t → Keep (changes_outage input t)
+  changes_so t input k =
+      then_keeps So So (state_in input t) (λ u. waits (is_held t) (is_held u) u) (state_so t input k) (λ u x. outage_so (is_held t) (is_held u) u x)
+
   commanded_so : (t : Terminal) → So t → Keep (commanded t)
   commanded_so t k =
       let c = t.commands in
       in_turn_keeps So
-      (obeys_if c.emergency (align_in AlignIn.Emergency) ∷ obeys_if c.start (state_in StateIn.Start) ∷ obeys_if c.busy (flow_in FlowIn.Busy) ∷
-      obeys_if c.ease (flow_in FlowIn.Ease) ∷ obeys_if c.blind blinded ∷ obeys_if c.stop (state_in StateIn.Stop) ∷ [])
+      (obeys_if c.emergency (align_in AlignIn.Emergency) ∷ obeys_if c.calm (align_in AlignIn.Calm) ∷ obeys_if c.start (state_in StateIn.Start) ∷
+      obeys_if c.busy (flow_in FlowIn.Busy) ∷ obeys_if c.ease (flow_in FlowIn.Ease) ∷ obeys_if c.blind blinded ∷
+      obeys_if c.outage (changes_outage StateIn.Outage) ∷ obeys_if c.recover (changes_outage StateIn.Recover) ∷ obeys_if c.stop (state_in StateIn.Stop) ∷ [])
       (record t { commands = no_commands }) (
         obeys_so c.emergency (align_in AlignIn.Emergency) (λ u. align_so u AlignIn.Emergency),
         (
-          obeys_so c.start (state_in StateIn.Start) (λ u. state_so u StateIn.Start),
+          obeys_so c.calm (align_in AlignIn.Calm) (λ u. align_so u AlignIn.Calm),
           (
-            obeys_so c.busy (flow_in FlowIn.Busy) (λ u. flow_so u FlowIn.Busy),
+            obeys_so c.start (state_in StateIn.Start) (λ u. state_so u StateIn.Start),
             (
-              obeys_so c.ease (flow_in FlowIn.Ease) (λ u. flow_so u FlowIn.Ease),
+              obeys_so c.busy (flow_in FlowIn.Busy) (λ u. flow_so u FlowIn.Busy),
               (
-                obeys_so c.blind blinded (λ u k. k),
+                obeys_so c.ease (flow_in FlowIn.Ease) (λ u. flow_so u FlowIn.Ease),
                 (
-                  obeys_so c.stop (state_in StateIn.Stop) (λ u. state_so u StateIn.Stop),
-                  tt,
+                  obeys_so c.blind blinded (λ u k. k),
+                  (
+                    obeys_so c.outage (changes_outage StateIn.Outage) (λ u. changes_so u StateIn.Outage),
+                    (
+                      obeys_so c.recover (changes_outage StateIn.Recover) (λ u. changes_so u StateIn.Recover),
+                      (obeys_so c.stop (state_in StateIn.Stop) (λ u. state_so u StateIn.Stop), tt),
+                    ),
+                  ),
                 ),
               ),
             ),
           ),
         ),
-      ) k
+      )
+      k
 
   -- STEP 3.
   aerm_so : (aerm : Option ℕ) (error : Bool) (t : Terminal) → So t → Keep (aerm_judges aerm error t)
@@ -200,7 +217,8 @@ module _ (l : Option Header) (b : List Bool) where
   flow_hears_so Status.Emergency t k = k
   flow_hears_so Status.OutOfService t k = k
   flow_hears_so Status.ProcessorOutage t k = k
-  flow_hears_so Status.Busy t k = flow_so t FlowIn.HeardBusy k
+  flow_hears_so Status.Busy t k =
+      if_keeps So (is_deaf t.state t.outage) (done t) (flow_in FlowIn.HeardBusy t) (λ deaf. k) (λ not. flow_so t FlowIn.HeardBusy k)
   flow_hears_so Status.Unassigned6 t k = k
   flow_hears_so Status.Unassigned7 t k = k
 
@@ -249,21 +267,19 @@ module _ (l : Option Header) (b : List Bool) where
       if_keeps So t.up (ask (Event.Heard t.link unit) (λ answer. reported answer (head_of unit).bsn t)) (done t)
       (λ up. (octets, λ answer gives. reported_so answer (head_of unit).bsn t k)) (λ down. k)
 
+  reaches_so : (unit : SignalUnit) → AreOctets (body_of unit) → (t : Terminal) → So t → Keep (reaches_set unit t)
+  reaches_so unit octets t k = if_keeps So t.outage (done t) (set_hears unit t) (λ out. k) (λ not. set_so unit octets t k)
+
   all_hear_so : (unit : SignalUnit) → AreOctets (body_of unit) → (t : Terminal) → So t → Keep (all_hear unit t)
   all_hear_so unit octets t k =
-      then_keeps So So (align_in AlignIn.Good t) (λ u. and_then (machines_hear unit u) (λ v. set_hears unit v)) (align_so t AlignIn.Good k)
-      (λ u x. then_keeps So So (machines_hear unit u) (λ v. set_hears unit v) (machines_so unit u x) (λ v y. set_so unit octets v y))
-
-  outage_so : (was is : Bool) (t : Terminal) → So t → Keep (waits was is t)
-  outage_so was true t k = flow_so t FlowIn.Paused k
-  outage_so true false t k = if_keeps So t.up (flow_in (FlowIn.Resumed t.unacked) t) (done t) (λ up. flow_so t (FlowIn.Resumed t.unacked) k) (λ down. k)
-  outage_so false false t k = k
+      then_keeps So So (align_in AlignIn.Good t) (λ u. and_then (machines_hear unit u) (λ v. reaches_set unit v)) (align_so t AlignIn.Good k)
+      (λ u x. then_keeps So So (machines_hear unit u) (λ v. reaches_set unit v) (machines_so unit u x) (λ v y. reaches_so unit octets v y))
 
   heard_so : (unit : Option SignalUnit) → HeardOctets unit → (t : Terminal) → So t → Keep (heard unit t)
   heard_so None octets t k = k
   heard_so (Some unit) octets t k =
-      then_keeps So So (all_hear unit t) (λ after. waits (is_paused t.state) (is_paused after.state) after) (all_hear_so unit octets t k)
-      (λ u x. outage_so (is_paused t.state) (is_paused u.state) u x)
+      then_keeps So So (all_hear unit t) (λ after. waits (is_held t) (is_held after) after) (all_hear_so unit octets t k)
+      (λ u x. outage_so (is_held t) (is_held u) u x)
 
   marks_so : (marks : List Mark) → AllOctets marks → (t : Terminal) → So t → Keep (all_marked marks t)
   marks_so [] all t k = k
@@ -390,13 +406,17 @@ module _ (l : Option Header) (b : List Bool) where
           (λ is. fisu_sends t k) (λ not. (tt, λ answer gives. answer_sends answer t k gives))))
           (λ down. start_sends t k)
 
+      unless_out_sends : (talk : Talk Filled) (t : Terminal) → So t → Keeps Sends talk → Keeps Sends (unless_out talk t)
+      unless_out_sends talk t k sends =
+          if_keeps Sends t.outage (sends_status Status.ProcessorOutage t) talk (λ out. status_sends Status.ProcessorOutage t k) (λ not. sends)
+
       chosen_sends : (state : LinkPhase) (t : Terminal) → So t → Keeps Sends (chosen state t)
       chosen_sends LinkPhase.OutOfService t k = status_sends Status.OutOfService t k
       chosen_sends LinkPhase.Aligning t k = status_sends t.status t k
-      chosen_sends LinkPhase.Ready t k = start_sends t k
+      chosen_sends LinkPhase.Ready t k = unless_out_sends (sends_start_fisu t) t k (start_sends t k)
       chosen_sends (LinkPhase.InService paused) t k =
-          then_keeps So Sends (up_first t) (λ u. serves paused u) (if_keeps So t.up (done t) (asks_up t) (λ up. k) (λ down. up_so t k))
-          (λ u x. serves_sends paused u x)
+          then_keeps So Sends (up_first t) (λ u. unless_out (serves paused u) u) (if_keeps So t.up (done t) (asks_up t) (λ up. k) (λ down. up_so t k))
+          (λ u x. unless_out_sends (serves paused u) u x (serves_sends paused u x))
 
     filled_sends : (t : Terminal) → So t → Keeps Sends (filled t)
     filled_sends t k =

@@ -1,4 +1,4 @@
--- ENDS THAT ARE NEVER BUSY, and what the statuses on their lines are (Q.703 11.1).
+-- ENDS THAT ARE NEVER BUSY and have no processor outage, and what the statuses on their lines are (Q.703 11.1).
 use Rattle.std.specs.Prelude.{ℕ, List, [], ◌∷◌, All}
 use Rattle.term_asks.specs.Plain.{IsPlainUnit}
 use Rattle.term_model.specs.Runs.{units_of}
@@ -11,9 +11,10 @@ use Rattle.pair_octets.specs.declared.step.LineLengths.{LineLengths}
 use Rattle.pair_octets.specs.declared.step.WireStep.{WireStep}
 use Rattle.pair_octets.specs.declared.step.WireStep.TheVariants.{Turn, Command as CommandStep, Ask, Damage}
 
--- no end is told that it's busy (Q.703 9.2)
+-- no end is told that it's busy (Q.703 9.2), or has a processor outage (8.1)
 abbrev pub IsCalmCommand : Command → Type 0
 IsCalmCommand Command.Busy = ⊥
+IsCalmCommand Command.Outage = ⊥
 IsCalmCommand _ = Unit {0}
 
 abbrev pub IsCalm : WireStep → Type 0

@@ -139,10 +139,13 @@ or_left false c e = true_false (sym e)
 
 told_marked : (command : Command) (at : AtLink) → IsMarked at → IsMarked (told_at command at)
 told_marked Command.Emergency at m = m
+told_marked Command.Calm at m = m
 told_marked Command.Start at m = m
 told_marked Command.Busy at m = m
 told_marked Command.Ease at m = m
 told_marked Command.Blind at m = m
+told_marked Command.Outage at m = m
+told_marked Command.Recover at m = m
 told_marked Command.Stop at m = or_true (is_out (standing_of at.terminal))
 
 out_marked : (at : AtLink) → standing_of at.terminal ≡ out → IsMarked at

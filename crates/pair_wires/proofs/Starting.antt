@@ -157,8 +157,9 @@ stop_so m at s so = record {
     due = so.ordinary.due;
     status = so.ordinary.status;
     blind = so.ordinary.blind;
+    outage = so.ordinary.outage;
   };
-  commanded = record { busy = so.commanded.busy; blind = so.commanded.blind };
+  commanded = record { busy = so.commanded.busy; blind = so.commanded.blind; outage = so.commanded.outage };
   stands = so.stands;
   starts = so.starts;
 }
@@ -230,8 +231,9 @@ turn_so link old new takes few plain each = λ n at there.
         due = turned.after.due;
         status = turned.after.status;
         blind = turned.after.blind;
+        outage = turned.after.outage;
       };
-      commanded = record { busy = ap (λ c. c.busy) turned.quiet; blind = ap (λ c. c.blind) turned.quiet };
+      commanded = record { busy = ap (λ c. c.busy) turned.quiet; blind = ap (λ c. c.blind) turned.quiet; outage = ap (λ c. c.outage) turned.quiet };
       stands = subst (StandsAt link (standing_of (outcome_with talk s).after)) leads
           (turns_keep link t.commands.start t.commands.stop takes.turns.takes.by_octet.marks (standing_of t) (standing_of (outcome_with talk s).after) entries (outcome_with talk s).unit s
           asks legal.legal so.stands so.starts);
@@ -253,8 +255,9 @@ told_so Command.Start m at s sound may so = record {
     due = so.ordinary.due;
     status = so.ordinary.status;
     blind = so.ordinary.blind;
+    outage = so.ordinary.outage;
   };
-  commanded = record { busy = so.commanded.busy; blind = so.commanded.blind };
+  commanded = record { busy = so.commanded.busy; blind = so.commanded.blind; outage = so.commanded.outage };
   stands = so.stands;
   starts = λ started is. may refl is;
 }
@@ -269,14 +272,18 @@ told_so Command.Emergency m at s sound may so = record {
     due = so.ordinary.due;
     status = so.ordinary.status;
     blind = so.ordinary.blind;
+    outage = so.ordinary.outage;
   };
-  commanded = record { busy = so.commanded.busy; blind = so.commanded.blind };
+  commanded = record { busy = so.commanded.busy; blind = so.commanded.blind; outage = so.commanded.outage };
   stands = so.stands;
   starts = so.starts;
 }
+told_so Command.Calm m at s sound may so = absurd sound
 told_so Command.Busy m at s sound may so = absurd sound
 told_so Command.Ease m at s sound may so = absurd sound
 told_so Command.Blind m at s sound may so = absurd sound
+told_so Command.Outage m at s sound may so = absurd sound
+told_so Command.Recover m at s sound may so = absurd sound
 
 -- one that isn't refused, of a link that is out of service, is of a settled one
 may_start : (m : ℕ) (t : Terminal) (s : State) → StandsAt m (standing_of t) s → (command : Command) → is_start command ≡ true
@@ -447,8 +454,8 @@ each_new lengths (suc n) m at there =
 opened_so : (lengths : Timers) (k : ℕ) (s : State) → is_up k s ≡ false → IsLinkSo k (new_link lengths k).terminal s
 opened_so lengths k s down = record {
   number = refl;
-  ordinary = record { served = λ up. absurd cc; idle = λ is. refl; aligned = λ is. refl; paused = refl; busy = refl; due = refl; status = refl; blind = refl };
-  commanded = record { busy = refl; blind = refl };
+  ordinary = record { served = λ up. absurd cc; idle = λ is. refl; aligned = λ is. refl; paused = refl; busy = refl; due = refl; status = refl; blind = refl; outage = refl };
+  commanded = record { busy = refl; blind = refl; outage = refl };
   stands = record { up = λ up. let no : true ≡ false = sym up ∙ down in absurd cc; settled = λ starting. absurd starting };
   starts = λ started. absurd cc;
 }
@@ -477,6 +484,9 @@ calm_command Command.Stop sound = tt
 calm_command Command.Busy sound = absurd sound
 calm_command Command.Ease sound = tt
 calm_command Command.Blind sound = tt
+calm_command Command.Calm sound = tt
+calm_command Command.Outage sound = absurd sound
+calm_command Command.Recover sound = tt
 
 pub calm_steps : (steps : List WireStep) → AreSound steps → AreCalm steps
 calm_steps [] sound = tt

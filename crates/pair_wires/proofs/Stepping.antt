@@ -229,10 +229,13 @@ told_unmarked Command.Stop at is = absurd (let wrong : true ≡ false = sym (or_
     or_more true = refl
     or_more false = refl
 told_unmarked Command.Emergency at is = is
+told_unmarked Command.Calm at is = is
 told_unmarked Command.Start at is = is
 told_unmarked Command.Busy at is = is
 told_unmarked Command.Ease at is = is
 told_unmarked Command.Blind at is = is
+told_unmarked Command.Outage at is = is
+told_unmarked Command.Recover at is = is
 
 pub record SameStands (old new : BenchState) : Type 0 where
   pub set_is : new.set ≡ old.set

@@ -18,7 +18,7 @@ use Rattle.set_events.specs.declared.answer.Answer.{Answer}
 use Rattle.set_events.specs.declared.answer.Refusal.{Refusal}
 use Rattle.set_events.specs.declared.event.Event.{Event}
 use Rattle.set_events.specs.declared.history.Entry.{Entry}
-use Rattle.term_model.specs.Choosing.{Filled, raised_top, sends, sends_status, sends_fisu, sends_start_fisu, counts_sent, given, held_back, is_narrow, sent_by, serves, up_first, chosen, filled}
+use Rattle.term_model.specs.Choosing.{Filled, raised_top, sends, sends_status, sends_fisu, sends_start_fisu, counts_sent, given, held_back, is_narrow, sent_by, serves, unless_out, up_first, chosen, filled}
 use Rattle.term_model.specs.Hearing.{all_marked}
 use Rattle.term_model.specs.Machines.{aligns, after_state, risen, asks_up, tells as told_by, state_in, ends, align_in, flow_in, stops_quietly}
 use Rattle.term_model.specs.Obeying.{commanded}
@@ -47,32 +47,32 @@ over_falls over f falls link s t u t' entries at there went = go (if_went over (
 t1_falls : FallsBy ends_t1
 t1_falls link s t t' entries at went =
     let u : Terminal = record t { clocks = record t.clocks { t1 = None } } in
-    over_falls (is_over t.clocks.t1) (state_in StateIn.T1) (state_falls StateIn.T1 refl) link s t u t' entries at (at_same link s t u at refl refl refl refl refl) went
+    over_falls (is_over t.clocks.t1) (state_in StateIn.T1) (state_falls StateIn.T1 refl) link s t u t' entries at (at_same link s t u at refl refl refl refl refl at.outage) went
 
 t2_falls : FallsBy ends_t2
 t2_falls link s t t' entries at went =
     let u : Terminal = record t { clocks = record t.clocks { t2 = None } } in
-    over_falls (is_over t.clocks.t2) (align_in AlignIn.T2) (align_falls AlignIn.T2 refl) link s t u t' entries at (at_same link s t u at refl refl refl refl refl) went
+    over_falls (is_over t.clocks.t2) (align_in AlignIn.T2) (align_falls AlignIn.T2 refl) link s t u t' entries at (at_same link s t u at refl refl refl refl refl at.outage) went
 
 t3_falls : FallsBy ends_t3
 t3_falls link s t t' entries at went =
     let u : Terminal = record t { clocks = record t.clocks { t3 = None } } in
-    over_falls (is_over t.clocks.t3) (align_in AlignIn.T3) (align_falls AlignIn.T3 refl) link s t u t' entries at (at_same link s t u at refl refl refl refl refl) went
+    over_falls (is_over t.clocks.t3) (align_in AlignIn.T3) (align_falls AlignIn.T3 refl) link s t u t' entries at (at_same link s t u at refl refl refl refl refl at.outage) went
 
 t5_falls : FallsBy ends_t5
 t5_falls link s t t' entries at went =
     let u : Terminal = record t { clocks = record t.clocks { t5 = None } } in
-    over_falls (is_over t.clocks.t5) (flow_in FlowIn.T5) (flow_falls FlowIn.T5) link s t u t' entries at (at_same link s t u at refl refl refl refl refl) went
+    over_falls (is_over t.clocks.t5) (flow_in FlowIn.T5) (flow_falls FlowIn.T5) link s t u t' entries at (at_same link s t u at refl refl refl refl refl at.outage) went
 
 t6_falls : FallsBy ends_t6
 t6_falls link s t t' entries at went =
     let u : Terminal = record t { clocks = record t.clocks { t6 = None } } in
-    over_falls (is_over t.clocks.t6) (flow_in FlowIn.T6) (flow_falls FlowIn.T6) link s t u t' entries at (at_same link s t u at refl refl refl refl refl) went
+    over_falls (is_over t.clocks.t6) (flow_in FlowIn.T6) (flow_falls FlowIn.T6) link s t u t' entries at (at_same link s t u at refl refl refl refl refl at.outage) went
 
 t7_falls : FallsBy ends_t7
 t7_falls link s t t' entries at went =
     let u : Terminal = record t { clocks = record t.clocks { t7 = None } } in
-    over_falls (is_over t.clocks.t7) (flow_in FlowIn.T7) (flow_falls FlowIn.T7) link s t u t' entries at (at_same link s t u at refl refl refl refl refl) went
+    over_falls (is_over t.clocks.t7) (flow_in FlowIn.T7) (flow_falls FlowIn.T7) link s t u t' entries at (at_same link s t u at refl refl refl refl refl at.outage) went
 
 record TimesTo (link : ℕ) (s : Standing) (entries : List Entry) (t : Terminal) : Type 0 where
   pub to : Standing
@@ -92,9 +92,9 @@ complete_goes link s t t' entries at went = go t.state refl
     still : (phase : LinkPhase) → t.state ≡ phase → (state_row phase StateIn.Complete).next ≡ phase → (state_row phase StateIn.Complete).out.indication ≡ None
         → TimesTo link s entries t'
     still phase e next none =
-        let set = after_sets t StateIn.Complete in
+        let set = after_sets t StateIn.Complete refl in
         times_of link s entries t' (falls_done link s u t' entries
-        (at_same link s t u at set.link (set.state ∙ ap (λ (p : LinkPhase). (state_row p StateIn.Complete).next) e ∙ next ∙ sym e) set.up set.blind set.commands)
+        (at_same link s t u at set.link (set.state ∙ ap (λ (p : LinkPhase). (state_row p StateIn.Complete).next) e ∙ next ∙ sym e) set.up set.blind set.commands (set.outage at.outage))
         (subst (λ (o : Option Indication). Went (told_by o u) entries t') (ap (λ (p : LinkPhase). (state_row p StateIn.Complete).out.indication) e ∙ none) went))
 
     go : (phase : LinkPhase) → t.state ≡ phase → TimesTo link s entries t'
@@ -102,7 +102,7 @@ complete_goes link s t t' entries at went = go t.state refl
     go LinkPhase.Ready e = still LinkPhase.Ready e refl refl
     go (LinkPhase.InService paused) e = still (LinkPhase.InService paused) e refl refl
     go LinkPhase.Aligning e =
-        let set = after_sets t StateIn.Complete in
+        let set = after_sets t StateIn.Complete refl in
         let d = done_is u t' entries (subst (λ (o : Option Indication). Went (told_by o u) entries t')
         (ap (λ (p : LinkPhase). (state_row p StateIn.Complete).out.indication) e) went) in
         let state : u.state ≡ LinkPhase.Ready = set.state ∙ ap (λ (p : LinkPhase). (state_row p StateIn.Complete).next) e in
@@ -114,6 +114,7 @@ complete_goes link s t t' entries at went = go t.state refl
           paused = ap is_paused state;
           blind = set.blind ∙ at.blind;
           quiet = set.commands ∙ at.quiet;
+          outage = set.outage at.outage;
         } in
         record { to = ready; at = subst (λ (v : Terminal). At link ready v) (sym d.1) there; times = completes was refl d.0 }
 
@@ -132,7 +133,7 @@ t4_goes link s t t' entries at went = go (if_went (is_over t.clocks.t4) (align_i
     go : ((is_over t.clocks.t4 ≡ true) × Went (align_in AlignIn.T4 u) entries t') ⊎ ((is_over t.clocks.t4 ≡ false) × Went (done t) entries t') → TimesTo link s entries t'
     go (inl is) =
         ends_times (align_row u.align AlignIn.T4).out.outcome link s (aligns AlignIn.T4 u) t' entries
-        (at_aligns link s u AlignIn.T4 (at_same link s t u at refl refl refl refl refl)) is.1
+        (at_aligns link s u AlignIn.T4 (at_same link s t u at refl refl refl refl refl at.outage)) is.1
     go (inr not_is) = times_of link s entries t' (falls_done link s t t' entries at not_is.1)
 
 times_front : (link : ℕ) (s mid last : Standing) (xs ys : List Entry) → Falls link s mid xs → Times link mid last ys → Times link s last (xs ++ ys)
@@ -156,7 +157,7 @@ timed_goes link s t t' entries at went =
     let q = splits (ends_t2 p.mid) (λ b. in_turn (ends_t3 ∷ ends_t4 ∷ last) b) p.second t' p.went_second in
     let r = splits (ends_t3 q.mid) (λ b. in_turn (ends_t4 ∷ last) b) q.second t' q.went_second in
     let x = splits (ends_t4 r.mid) (λ b. in_turn last b) r.second t' r.went_second in
-    let f = t1_falls link s u p.mid p.first (at_same link s t u at refl refl refl refl refl) p.went_first in
+    let f = t1_falls link s u p.mid p.first (at_same link s t u at refl refl refl refl refl at.outage) p.went_first in
     let g = t2_falls link f.to p.mid q.mid q.first f.at q.went_first in
     let h = t3_falls link g.to q.mid r.mid r.first g.at r.went_first in
     let m = t4_goes link h.to r.mid x.mid x.first h.at x.went_first in
@@ -182,7 +183,7 @@ record ChosenTo (link : ℕ) (s : Standing) (entries : List Entry) (f : Filled) 
 
 -- the unit that is chosen so, of a terminal that stands there
 at_sends : (link : ℕ) (s : Standing) (unit : SignalUnit) (t : Terminal) → At link s t → At link s (record t { last = Some (head_of unit) })
-at_sends link s unit t at = at_same link s t (record t { last = Some (head_of unit) }) at refl refl refl refl refl
+at_sends link s unit t at = at_same link s t (record t { last = Some (head_of unit) }) at refl refl refl refl refl at.outage
 
 record SentOne (link : ℕ) (s : Standing) (unit : SignalUnit) (entries : List Entry) (f : Filled) : Type 0 where
   pub none : entries ≡ []
@@ -223,7 +224,7 @@ counts_falls : (unit : SignalUnit) → FallsBy (counts_sent unit)
 counts_falls (SignalUnit.Fisu head) link s t t' entries at went = falls_done link s t t' entries at went
 counts_falls (SignalUnit.Lssu head status) link s t t' entries at went = falls_done link s t t' entries at went
 counts_falls (SignalUnit.Msu head body) link s t t' entries at went =
-    flow_falls FlowIn.Sent link s (record t { top = raised_top head.fsn t.top; unacked = true }) t' entries (at_same link s t _ at refl refl refl refl refl) went
+    flow_falls FlowIn.Sent link s (record t { top = raised_top head.fsn t.top; unacked = true }) t' entries (at_same link s t _ at refl refl refl refl refl at.outage) went
 
 not_held : (unit : SignalUnit) (t : Terminal) → t.flow.busy ≡ false → held_back t unit ≡ unit
 not_held unit t calm = rw calm refl
@@ -330,6 +331,12 @@ serves_goes link s false t entries f paused at waits calm plain narrow went =
         let fisu : IsIdleUnit s (SignalUnit.Fisu start_head) = subst (λ (x : Standing). IsIdleUnit x (SignalUnit.Fisu start_head)) (sym (waits flat.0)) refl in
         record { to = s; at = d.at; serves = idles (not_up link s t at flat.0) refl d.none (idle_one s (SignalUnit.Fisu start_head) f.unit d.unit_is fisu) }
 
+-- an end without an outage
+in_service : {X : Type 0} (talk : Talk Filled) (t : Terminal) (entries : List Entry) (f : Filled) → t.outage ≡ false → Went (unless_out talk t) entries f
+    → (Went talk entries f → X) → X
+in_service talk t entries f none went then_so =
+    then_so (subst (λ (b : Bool). Went (if b then sends_status Status.ProcessorOutage t else talk) entries f) none went)
+
 risen_state : (t : Terminal) (answer : Answer) → (risen answer t).state ≡ t.state
 risen_state t Answer.Done = refl
 risen_state t (Answer.Accepted number) = refl
@@ -355,9 +362,10 @@ chosen_goes link s t entries f at calm plain narrow LinkPhase.Ready e went =
     let is : s ≡ ready = sym at.stands ∙ ap (λ (p : LinkPhase). standing_in p t.up) e in
     idle_goes link s (SignalUnit.Fisu start_head) t entries f at (λ (no : s ≡ served). let not : ready ≡ served = sym is ∙ no in absurd cc)
     (λ (no : s ≡ waiting). let not : ready ≡ waiting = sym is ∙ no in absurd cc)
-    (subst (λ (x : Standing). IsIdleUnit x (SignalUnit.Fisu start_head)) (sym is) refl) went
+    (subst (λ (x : Standing). IsIdleUnit x (SignalUnit.Fisu start_head)) (sym is) refl)
+    (in_service (sends_start_fisu t) t entries f at.outage went (λ w. w))
 chosen_goes link s t entries f at calm plain narrow (LinkPhase.InService paused) e went =
-    let p = splits (up_first t) (λ u. serves paused u) entries f went in
+    let p = splits (up_first t) (λ u. unless_out (serves paused u) u) entries f went in
     let parts = plain_parts p.first p.second (subst AnswersPlainly p.entries_are plain) in
     go p.mid p.first p.second p.entries_are parts.1 (if_went t.up (done t) (asks_up t) p.first p.mid p.went_first) p.went_second
   where
@@ -365,11 +373,12 @@ chosen_goes link s t entries f at calm plain narrow (LinkPhase.InService paused)
     no_outage = ap is_paused (sym e) ∙ at.paused
 
     whole : (mid : Terminal) (first second : List Entry) (risen : Standing) → entries ≡ first ++ second → AsksUp link s risen first → AnswersPlainly second
-        → At link risen mid → mid.state ≡ LinkPhase.InService paused → Calm mid → Went (serves paused mid) second f → ChosenTo link s entries f
+        → At link risen mid → mid.state ≡ LinkPhase.InService paused → Calm mid → Went (unless_out (serves paused mid) mid) second f → ChosenTo link s entries f
     whole mid first second risen same asks plain there phase mid_calm w =
         let waits = λ (flat : mid.up ≡ false).
         sym there.stands ∙ ap (λ (p : LinkPhase). standing_in p mid.up) phase ∙ ap (λ (b : Bool). standing_in (LinkPhase.InService paused) b) flat in
-        let g = serves_goes link risen paused mid second f no_outage there waits mid_calm plain narrow w in
+        let g = serves_goes link risen paused mid second f no_outage there waits mid_calm plain narrow
+        (in_service (serves paused mid) mid second f there.outage w (λ v. v)) in
         record {
           to = g.to;
           at = g.at;
@@ -377,7 +386,7 @@ chosen_goes link s t entries f at calm plain narrow (LinkPhase.InService paused)
         }
 
     go : (mid : Terminal) (first second : List Entry) → entries ≡ first ++ second → AnswersPlainly second
-        → ((t.up ≡ true) × Went (done t) first mid) ⊎ ((t.up ≡ false) × Went (asks_up t) first mid) → Went (serves paused mid) second f → ChosenTo link s entries f
+        → ((t.up ≡ true) × Went (done t) first mid) ⊎ ((t.up ≡ false) × Went (asks_up t) first mid) → Went (unless_out (serves paused mid) mid) second f → ChosenTo link s entries f
     go mid first second same plain (inl up) w =
         let d = done_is t mid first up.1 in
         let is : s ≡ served = sym at.stands ∙ at.serves up.0 in
@@ -385,7 +394,7 @@ chosen_goes link s t entries f at calm plain narrow (LinkPhase.InService paused)
         (subst (λ (v : Terminal). At link s v) (sym d.1) at) (ap (λ (v : Terminal). v.state) d.1 ∙ e) (subst Calm (sym d.1) calm) w
     go mid first second same plain (inr flat) w =
         let is : s ≡ waiting = sym at.stands ∙ ap (λ (p : LinkPhase). standing_in p t.up) e ∙ ap (λ (b : Bool). standing_in (LinkPhase.InService paused) b) flat.0 in
-        let a = ups link t mid first at.link_is (e ∙ ap LinkPhase.InService no_outage) flat.0 at.blind at.quiet flat.1 in
+        let a = ups link t mid first at.link_is (e ∙ ap LinkPhase.InService no_outage) flat.0 at.blind at.quiet at.outage flat.1 in
         whole mid first second (risen_by a.entry.answer) same (asks_again a.entry is a.entries_are a.event_is refl) plain a.at (still_up mid first flat.1)
         (calm_up mid first flat.1) w
       where
@@ -436,10 +445,10 @@ rests_aligned (LinkPhase.InService paused) s is rests = rests
 module _ (marks : List Mark) (t : Terminal) (entries : List Entry) (f : Filled) (o : IsOrdinary t) (c : IsCommandedSo t) (plain : ArePlain marks)
     (answers : AnswersPlainly entries) (went : Went (turn_talk marks t) entries f) (narrow : f.narrow ≡ true) where
   calm : Calm t
-  calm = record { busy = o.busy; due = o.due; status = o.status; none = c.busy }
+  calm = record { busy = o.busy; due = o.due; status = o.status; none = c.busy; outage = o.outage; no_outage = c.outage }
 
   there : At t.link (standing_of t) (record t { commands = no_commands })
-  there = record { link_is = refl; stands = refl; serves = o.served; paused = o.paused; blind = o.blind; quiet = refl }
+  there = record { link_is = refl; stands = refl; serves = o.served; paused = o.paused; blind = o.blind; quiet = refl; outage = o.outage }
 
   turn_goes : IsOrdinaryTurn marks t entries f
   turn_goes =
@@ -452,7 +461,7 @@ module _ (marks : List Mark) (t : Terminal) (entries : List Entry) (f : Filled) 
       let calm_p = kept_by Calm (commanded t) p.first p.mid (commanded_calm t calm) plain_p.0 p.went_first in
       let calm_q = kept_by Calm (all_marked marks p.mid) q.first q.mid (marks_calm marks p.mid calm_p) plain_q.0 q.went_first in
       let calm_r = kept_by Calm (timed q.mid) r.first r.mid (timed_calm q.mid calm_q) plain_r.0 r.went_first in
-      let one = commanded_goes t.link (standing_of t) t p.mid p.first there c.blind p.went_first in
+      let one = commanded_goes t.link (standing_of t) t p.mid p.first there c.blind c.outage p.went_first in
       let three = marks_goes marks plain t.link one.to p.mid q.mid q.first one.at q.went_first in
       let four = timed_goes t.link three.to q.mid r.mid r.first three.at r.went_first in
       let five = filled_goes t.link four.to r.mid r.second f four.at calm_r plain_r.1 narrow r.went_second in
@@ -483,6 +492,7 @@ module _ (marks : List Mark) (t : Terminal) (entries : List Entry) (f : Filled) 
           due = after.after.due;
           status = after.after.status;
           blind = five.at.blind;
+          outage = five.at.outage;
         };
         link_is = five.at.link_is;
         quiet = five.at.quiet;

@@ -1,5 +1,5 @@
--- AN END THAT IS NEVER TOLD THAT IT'S BUSY sends no status but those of a link that isn't in service (`turn_calm`):
--- flow control stays as it is, and alignment names no other. Each step of a turn keeps it, as in Sending.antt, whatever
+-- AN END THAT IS NEVER TOLD THAT IT'S BUSY, nor that it has a processor outage, sends no status but those of a link that
+-- isn't in service (`turn_calm`): flow control stays as it is, and alignment names no other. Each step of a turn keeps it, as in Sending.antt, whatever
 -- comes on the line. Used by Asking.antt, and by pair_octets's CalmSteps.antt.
 use Rattle.std.proofs.Common.{refl, sym, subst, ◌≡◌, ◌∙◌, ◌==◌, ◌||◌, ◌+◌, ℕ, nat_lt, length, Bool, true, false, not, List, [], ◌∷◌, Option, Some, None, if◌then◌else◌}
 use Rattle.l2_units.specs.declared.cause.Cause.{Cause}
@@ -15,22 +15,22 @@ use Rattle.l2_align.specs.Alignment.{Alignment}
 use Rattle.l2_align.specs.declared.align.State.{State as AlignState}
 use Rattle.l2_align.specs.declared.signals.AlignIn.{AlignIn}
 use Rattle.l2_align.specs.declared.signals.Outcome.{Outcome}
-use Rattle.l2_align.specs.Table.{Row as AlignRow, row as align_row, table, silent, proving, aborted, counted_abort, idle, stop_t4, when_idle, when_not_aligned, when_aligned, when_proving, heard_not_aligned, heard_aligned, heard_proving}
+use Rattle.l2_align.specs.Table.{Row as AlignRow, row as align_row, table, calmed, silent, proving, aborted, counted_abort, idle, stop_t4, when_idle, when_not_aligned, when_aligned, when_proving, heard_not_aligned, heard_aligned, heard_proving}
 use Rattle.l2_state.specs.declared.link_state.State.{State as LinkPhase}
 use Rattle.l2_state.specs.declared.signals.StateIn.{StateIn}
 use Rattle.l2_state.specs.declared.signals.Switch.{Switch}
 use Rattle.l2_state.specs.declared.signals.Indication.{Indication}
-use Rattle.l2_state.specs.Table.{is_paused, row as state_row}
+use Rattle.l2_state.specs.Table.{outage_after, row as state_row}
 use Rattle.l2_flow.specs.declared.input.FlowIn.{FlowIn}
 use Rattle.l2_flow.specs.Table.{row as flow_table, row_of as flow_row}
 use Rattle.set_events.specs.declared.answer.Answer.{Answer}
 use Rattle.set_events.specs.declared.answer.Refusal.{Refusal}
 use Rattle.set_events.specs.declared.answer.Report.{Report}
 use Rattle.set_events.specs.declared.event.Event.{Event}
-use Rattle.term_model.specs.Choosing.{Filled, sends, sends_status, sends_fisu, sends_start_fisu, counts_sent, given, held_back, is_narrow, sent_by, serves, up_first, chosen, filled}
-use Rattle.term_model.specs.Hearing.{unit_in, is_error, aerm_judges, suerm_judges, service_judges, judges, judged, flow_hears, machines_hear, acked, acks, faults, reported, set_hears, waits, all_hear, heard, marked, all_marked}
+use Rattle.term_model.specs.Choosing.{Filled, sends, sends_status, sends_fisu, sends_start_fisu, counts_sent, given, held_back, is_narrow, sent_by, serves, unless_out, up_first, chosen, filled}
+use Rattle.term_model.specs.Hearing.{unit_in, is_error, aerm_judges, suerm_judges, service_judges, judges, judged, flow_hears, machines_hear, acked, acks, faults, reported, is_deaf, is_held, reaches_set, set_hears, waits, all_hear, heard, marked, all_marked}
 use Rattle.term_model.specs.Machines.{aligns, status_after, switched, after_state, controls, fallen, risen, asks_up, asks_down, tells, state_in, ends, align_in, fails, flow_in, fallen_if, stops_quietly}
-use Rattle.term_model.specs.Obeying.{obeys_if, blinded, commanded}
+use Rattle.term_model.specs.Obeying.{obeys_if, blinded, changes_outage, commanded}
 use Rattle.term_model.specs.Talk.{Talk, done, ask, and_then}
 use Rattle.term_model.specs.Terminal.{Terminal, last_head, no_commands}
 use Rattle.term_model.specs.Timing.{lessened, is_over, ends_t1, ends_t2, ends_t3, ends_t4, ends_t5, ends_t6, ends_t7, timed}
@@ -77,8 +77,13 @@ module _ (a : Alignment) where
   not_aligned_plain AlignIn.Stop = refl
   not_aligned_plain _ = refl
 
+  calmed_plain : (local short : Bool) → RowPlain (calmed short (record a { local = local }))
+  calmed_plain true short = refl
+  calmed_plain false short = refl
+
   aligned_plain : (input : AlignIn) → RowPlain (when_aligned input a)
   aligned_plain AlignIn.Emergency = refl
+  aligned_plain AlignIn.Calm = calmed_plain a.local false
   aligned_plain (AlignIn.Heard status) = by status
     where
       by : (status : Status) → RowPlain (heard_aligned status a)
@@ -92,6 +97,7 @@ module _ (a : Alignment) where
 
   proving_plain : (input : AlignIn) → RowPlain (when_proving input a)
   proving_plain AlignIn.Emergency = refl
+  proving_plain AlignIn.Calm = calmed_plain a.local a.short
   proving_plain (AlignIn.Heard status) = by status
     where
       by : (status : Status) → RowPlain (heard_proving status a)
@@ -171,13 +177,68 @@ flow_calm false false FlowIn.T6 not = (refl, refl)
 flow_calm false false FlowIn.T7 not = (refl, refl)
 flow_calm false false FlowIn.Reset not = (refl, refl)
 
--- A TERMINAL whose end isn't busy
+-- link state control of an end that isn't told of an outage: no row begins one
+abbrev pub is_outage_in : StateIn → Bool
+is_outage_in StateIn.Outage = true
+is_outage_in _ = false
+
+abbrev BeginsNone : Option Bool → Type 0
+BeginsNone None = Unit {0}
+BeginsNone (Some out) = out ≡ false
+
+begins_none : (phase : LinkPhase) (input : StateIn) → is_outage_in input ≡ false → BeginsNone (state_row phase input).outage
+begins_none phase StateIn.Outage not = absurd (cc not)
+begins_none LinkPhase.OutOfService StateIn.Start not = tt
+begins_none LinkPhase.OutOfService StateIn.Recover not = refl
+begins_none LinkPhase.OutOfService _ not = tt
+begins_none LinkPhase.Aligning StateIn.Complete not = tt
+begins_none LinkPhase.Aligning StateIn.NotPossible not = refl
+begins_none LinkPhase.Aligning StateIn.Stop not = refl
+begins_none LinkPhase.Aligning StateIn.Recover not = refl
+begins_none LinkPhase.Aligning _ not = tt
+begins_none LinkPhase.Ready StateIn.Fisu not = tt
+begins_none LinkPhase.Ready StateIn.Msu not = tt
+begins_none LinkPhase.Ready (StateIn.Heard Status.OutOfAlignment) not = refl
+begins_none LinkPhase.Ready (StateIn.Heard Status.OutOfService) not = refl
+begins_none LinkPhase.Ready (StateIn.Heard _) not = tt
+begins_none LinkPhase.Ready StateIn.T1 not = refl
+begins_none LinkPhase.Ready (StateIn.Failure cause) not = refl
+begins_none LinkPhase.Ready StateIn.Stop not = refl
+begins_none LinkPhase.Ready StateIn.Recover not = refl
+begins_none LinkPhase.Ready _ not = tt
+begins_none (LinkPhase.InService paused) (StateIn.Heard Status.OutOfAlignment) not = refl
+begins_none (LinkPhase.InService paused) (StateIn.Heard Status.Normal) not = refl
+begins_none (LinkPhase.InService paused) (StateIn.Heard Status.Emergency) not = refl
+begins_none (LinkPhase.InService paused) (StateIn.Heard Status.OutOfService) not = refl
+begins_none (LinkPhase.InService paused) (StateIn.Heard _) not = tt
+begins_none (LinkPhase.InService paused) (StateIn.Failure cause) not = refl
+begins_none (LinkPhase.InService paused) StateIn.Stop not = refl
+begins_none (LinkPhase.InService paused) StateIn.Recover not = refl
+begins_none (LinkPhase.InService paused) _ not = tt
+
+none_after : (change : Option Bool) (out : Bool) → BeginsNone change → out ≡ false → outage_after change out ≡ false
+none_after None out none not = not
+none_after (Some changed) out none not = none
+
+switched_outage : (t : Terminal) (switch : Option Switch) → (switched switch t).outage ≡ t.outage
+switched_outage t None = refl
+switched_outage t (Some Switch.Start) = refl
+switched_outage t (Some Switch.Stop) = refl
+
+pub never_out : (t : Terminal) (input : StateIn) → is_outage_in input ≡ false → t.outage ≡ false → (after_state input t).outage ≡ false
+never_out t input not none =
+    switched_outage _ (state_row t.state input).out.alignment
+    ∙ none_after (state_row t.state input).outage t.outage (begins_none t.state input not) none
+
+-- A TERMINAL whose end isn't busy, and has no processor outage
 pub record Calm (t : Terminal) : Type 0 where
   pub busy : t.flow.busy ≡ false
   pub due : t.b_due ≡ false
   pub status : is_plain t.status ≡ true
   -- and isn't told so in the next turn
   pub none : t.commands.busy ≡ false
+  pub outage : t.outage ≡ false
+  pub no_outage : t.commands.outage ≡ false
 
 abbrev Keep : Talk Terminal → Type 0
 Keep talk = KeepsBy Any IsPlainAnswer Calm talk
@@ -193,6 +254,8 @@ aligns_calm t input k = record {
   due = k.due;
   status = after_plain (align_row t.align input).out.send t.status (align_plain t.align t.align.state input) k.status;
   none = k.none;
+  outage = k.outage;
+  no_outage = k.no_outage;
 }
 
 switched_calm : (t : Terminal) (switch : Option Switch) → Calm t → Calm (switched switch t)
@@ -200,9 +263,15 @@ switched_calm t None k = k
 switched_calm t (Some Switch.Start) k = aligns_calm t AlignIn.Start k
 switched_calm t (Some Switch.Stop) k = aligns_calm t AlignIn.Stop k
 
-after_state_calm : (t : Terminal) (input : StateIn) → Calm t → Calm (after_state input t)
-after_state_calm t input k =
-    switched_calm _ (state_row t.state input).out.alignment (record { busy = k.busy; due = k.due; status = k.status; none = k.none })
+after_state_calm : (t : Terminal) (input : StateIn) → is_outage_in input ≡ false → Calm t → Calm (after_state input t)
+after_state_calm t input not k = switched_calm _ (state_row t.state input).out.alignment (record {
+  busy = k.busy;
+  due = k.due;
+  status = k.status;
+  none = k.none;
+  outage = none_after (state_row t.state input).outage t.outage (begins_none t.state input not) k.outage;
+  no_outage = k.no_outage;
+})
 
 row_calm : (t : Terminal) (input : FlowIn) → t.flow.busy ≡ false → is_busy_in input ≡ false
     → ((flow_row t.flow input).next.busy ≡ false) × ((flow_row t.flow input).out.send_busy ≡ false)
@@ -216,13 +285,13 @@ none_due due more a b = rw (a, b) refl
 controls_calm : (t : Terminal) (input : FlowIn) → is_busy_in input ≡ false → Calm t → Calm (controls input t)
 controls_calm t input not k =
     let row = row_calm t input k.busy not in
-    record { busy = row.0; due = none_due t.b_due (flow_row t.flow input).out.send_busy k.due row.1; status = k.status; none = k.none }
+    record { busy = row.0; due = none_due t.b_due (flow_row t.flow input).out.send_busy k.due row.1; status = k.status; none = k.none; outage = k.outage; no_outage = k.no_outage }
 
 fallen_calm : (t : Terminal) (cause : Cause) → Calm t → Calm (fallen cause t)
 fallen_calm t cause k =
     let u : Terminal = record t { cause = Some cause; suerm = None; up = false } in
     let row = row_calm u FlowIn.Reset k.busy refl in
-    record { busy = row.0; due = refl; status = k.status; none = k.none }
+    record { busy = row.0; due = refl; status = k.status; none = k.none; outage = k.outage; no_outage = k.no_outage }
 
 pub risen_calm : (t : Terminal) (answer : Answer) → Calm t → Calm (risen answer t)
 risen_calm t (Answer.Accepted number) k = k
@@ -230,7 +299,7 @@ risen_calm t (Answer.Taken body) k = k
 risen_calm t (Answer.Found fate) k = k
 risen_calm t (Answer.Sent unit) k = k
 risen_calm t (Answer.Heard report) k = k
-risen_calm t Answer.Done k = record { busy = k.busy; due = k.due; status = k.status; none = k.none }
+risen_calm t Answer.Done k = record { busy = k.busy; due = k.due; status = k.status; none = k.none; outage = k.outage; no_outage = k.no_outage }
 risen_calm t (Answer.Refused why) k = k
 
 up_calm : (t : Terminal) → Calm t → Keep (asks_up t)
@@ -242,77 +311,97 @@ tells_calm t (Some Indication.Up) k = up_calm t k
 tells_calm t (Some (Indication.Down cause)) k =
     if_by Any IsPlainAnswer Calm t.up (asks_down cause t) (done (fallen cause t)) (λ up. (tt, λ answer gives. fallen_calm t cause k)) (λ down. fallen_calm t cause k)
 
-state_calm : (t : Terminal) (input : StateIn) → Calm t → Keep (state_in input t)
-state_calm t input k = tells_calm (after_state input t) (state_row t.state input).out.indication (after_state_calm t input k)
+state_calm : (t : Terminal) (input : StateIn) → is_outage_in input ≡ false → Calm t → Keep (state_in input t)
+state_calm t input not k = tells_calm (after_state input t) (state_row t.state input).out.indication (after_state_calm t input not k)
 
 ends_calm : (t : Terminal) (end : Option Outcome) → Calm t → Keep (ends end t)
 ends_calm t None k = k
-ends_calm t (Some Outcome.Complete) k = state_calm t StateIn.Complete k
-ends_calm t (Some Outcome.NotPossible) k = state_calm t StateIn.NotPossible k
+ends_calm t (Some Outcome.Complete) k = state_calm t StateIn.Complete refl k
+ends_calm t (Some Outcome.NotPossible) k = state_calm t StateIn.NotPossible refl k
 
 align_calm : (t : Terminal) (input : AlignIn) → Calm t → Keep (align_in input t)
 align_calm t input k = ends_calm (aligns input t) (align_row t.align input).out.outcome (aligns_calm t input k)
 
 fails_calm : (t : Terminal) (failure : Option Cause) → Calm t → Keep (fails failure t)
 fails_calm t None k = k
-fails_calm t (Some cause) k = state_calm t (StateIn.Failure cause) k
+fails_calm t (Some cause) k = state_calm t (StateIn.Failure cause) refl k
 
 flow_in_calm : (t : Terminal) (input : FlowIn) → is_busy_in input ≡ false → Calm t → Keep (flow_in input t)
 flow_in_calm t input not k = fails_calm (controls input t) (flow_row t.flow input).out.failure (controls_calm t input not k)
 
 quiet_calm : (t : Terminal) → Calm t → Calm (stops_quietly t)
-quiet_calm t k = go (state_row t.state StateIn.Stop).out.indication (after_state_calm t StateIn.Stop k)
+quiet_calm t k = go (state_row t.state StateIn.Stop).out.indication (after_state_calm t StateIn.Stop refl k)
   where
     go : (told : Option Indication) → Calm (after_state StateIn.Stop t) → Calm (fallen_if told (after_state StateIn.Stop t))
     go None k = k
     go (Some Indication.Up) k = k
     go (Some (Indication.Down cause)) k = fallen_calm (after_state StateIn.Stop t) cause k
 
--- STEP 1, where no Busy waits.
+-- STEP 1, where neither Busy nor Outage waits.
 obeys_calm : (is : Bool) (obeys : Terminal → Talk Terminal) → ((t : Terminal) → Calm t → Keep (obeys t)) → (t : Terminal) → Calm t → Keep (obeys_if is obeys t)
 obeys_calm is obeys each t k = if_by Any IsPlainAnswer Calm is (obeys t) (done t) (λ yes. each t k) (λ no. k)
 
 never_calm : (is : Bool) (obeys : Terminal → Talk Terminal) → is ≡ false → (t : Terminal) → Calm t → Keep (obeys_if is obeys t)
 never_calm is obeys not t k = rw not k
 
+outage_calm : (was is : Bool) (t : Terminal) → Calm t → Keep (waits was is t)
+outage_calm was true t k = flow_in_calm t FlowIn.Paused refl k
+outage_calm true false t k = if_by Any IsPlainAnswer Calm t.up (flow_in (FlowIn.Resumed t.unacked) t) (done t) (λ up. flow_in_calm t (FlowIn.Resumed t.unacked) refl k) (λ down. k)
+outage_calm false false t k = k
+
+changes_calm : (t : Terminal) (input : StateIn) → is_outage_in input ≡ false → Calm t → Keep (changes_outage input t)
+changes_calm t input not k =
+    then_by Any IsPlainAnswer Calm Calm (state_in input t) (λ u. waits (is_held t) (is_held u) u) (state_calm t input not k)
+    (λ u x. outage_calm (is_held t) (is_held u) u x)
+
 pub commanded_calm : (t : Terminal) → Calm t → Keep (commanded t)
 commanded_calm t k =
     let c = t.commands in
     in_turn_by Any IsPlainAnswer Calm
-    (obeys_if c.emergency (align_in AlignIn.Emergency) ∷ obeys_if c.start (state_in StateIn.Start) ∷ obeys_if c.busy (flow_in FlowIn.Busy) ∷
-    obeys_if c.ease (flow_in FlowIn.Ease) ∷ obeys_if c.blind blinded ∷ obeys_if c.stop (state_in StateIn.Stop) ∷ [])
+    (obeys_if c.emergency (align_in AlignIn.Emergency) ∷ obeys_if c.calm (align_in AlignIn.Calm) ∷ obeys_if c.start (state_in StateIn.Start) ∷
+    obeys_if c.busy (flow_in FlowIn.Busy) ∷ obeys_if c.ease (flow_in FlowIn.Ease) ∷ obeys_if c.blind blinded ∷
+    obeys_if c.outage (changes_outage StateIn.Outage) ∷ obeys_if c.recover (changes_outage StateIn.Recover) ∷ obeys_if c.stop (state_in StateIn.Stop) ∷ [])
     (record t { commands = no_commands }) (
       obeys_calm c.emergency (align_in AlignIn.Emergency) (λ u. align_calm u AlignIn.Emergency),
       (
-        obeys_calm c.start (state_in StateIn.Start) (λ u. state_calm u StateIn.Start),
+        obeys_calm c.calm (align_in AlignIn.Calm) (λ u. align_calm u AlignIn.Calm),
         (
-          never_calm c.busy (flow_in FlowIn.Busy) k.none,
+          obeys_calm c.start (state_in StateIn.Start) (λ u. state_calm u StateIn.Start refl),
           (
-            obeys_calm c.ease (flow_in FlowIn.Ease) (λ u. flow_in_calm u FlowIn.Ease refl),
+            never_calm c.busy (flow_in FlowIn.Busy) k.none,
             (
-              obeys_calm c.blind blinded (λ u x. record { busy = x.busy; due = x.due; status = x.status; none = x.none }),
-              (obeys_calm c.stop (state_in StateIn.Stop) (λ u. state_calm u StateIn.Stop), tt),
+              obeys_calm c.ease (flow_in FlowIn.Ease) (λ u. flow_in_calm u FlowIn.Ease refl),
+              (
+                obeys_calm c.blind blinded (λ u x. record { busy = x.busy; due = x.due; status = x.status; none = x.none; outage = x.outage; no_outage = x.no_outage }),
+                (
+                  never_calm c.outage (changes_outage StateIn.Outage) k.no_outage,
+                  (
+                    obeys_calm c.recover (changes_outage StateIn.Recover) (λ u. changes_calm u StateIn.Recover refl),
+                    (obeys_calm c.stop (state_in StateIn.Stop) (λ u. state_calm u StateIn.Stop refl), tt),
+                  ),
+                ),
+              ),
             ),
           ),
         ),
       ),
     )
-    (record { busy = k.busy; due = k.due; status = k.status; none = refl })
+    (record { busy = k.busy; due = k.due; status = k.status; none = refl; outage = k.outage; no_outage = refl })
 
 -- STEP 3.
 aerm_calm : (aerm : Option ℕ) (error : Bool) (t : Terminal) → Calm t → Keep (aerm_judges aerm error t)
 aerm_calm None error t k = k
 aerm_calm (Some left) error t k =
     let u : Terminal = record t { aerm = Some (after_aerm_mark left error) } in
-    let v : Calm u = record { busy = k.busy; due = k.due; status = k.status; none = k.none } in
+    let v : Calm u = record { busy = k.busy; due = k.due; status = k.status; none = k.none; outage = k.outage; no_outage = k.no_outage } in
     if_by Any IsPlainAnswer Calm (after_aerm_mark left error == 0) (align_in AlignIn.Abort u) (done u) (λ is. align_calm u AlignIn.Abort v) (λ not. v)
 
 suerm_calm : (suerm : Option Kept) (error : Bool) (t : Terminal) → Calm t → Keep (suerm_judges suerm error t)
 suerm_calm None error t k = k
 suerm_calm (Some kept) error t k =
     let u : Terminal = record t { suerm = Some (after_mark kept error) } in
-    let v : Calm u = record { busy = k.busy; due = k.due; status = k.status; none = k.none } in
-    if_by Any IsPlainAnswer Calm (after_mark kept error).tripped (state_in (StateIn.Failure Cause.Suerm) u) (done u) (λ is. state_calm u (StateIn.Failure Cause.Suerm) v) (λ not. v)
+    let v : Calm u = record { busy = k.busy; due = k.due; status = k.status; none = k.none; outage = k.outage; no_outage = k.no_outage } in
+    if_by Any IsPlainAnswer Calm (after_mark kept error).tripped (state_in (StateIn.Failure Cause.Suerm) u) (done u) (λ is. state_calm u (StateIn.Failure Cause.Suerm) refl v) (λ not. v)
 
 service_calm : (s : LinkPhase) (error : Bool) (t : Terminal) → Calm t → Keep (service_judges s error t)
 service_calm LinkPhase.OutOfService error t k = k
@@ -332,28 +421,29 @@ flow_hears_calm Status.Normal t k = k
 flow_hears_calm Status.Emergency t k = k
 flow_hears_calm Status.OutOfService t k = k
 flow_hears_calm Status.ProcessorOutage t k = k
-flow_hears_calm Status.Busy t k = flow_in_calm t FlowIn.HeardBusy refl k
+flow_hears_calm Status.Busy t k =
+    if_by Any IsPlainAnswer Calm (is_deaf t.state t.outage) (done t) (flow_in FlowIn.HeardBusy t) (λ deaf. k) (λ not. flow_in_calm t FlowIn.HeardBusy refl k)
 flow_hears_calm Status.Unassigned6 t k = k
 flow_hears_calm Status.Unassigned7 t k = k
 
 machines_calm : (unit : SignalUnit) (t : Terminal) → Calm t → Keep (machines_hear unit t)
-machines_calm (SignalUnit.Fisu head) t k = state_calm t StateIn.Fisu k
+machines_calm (SignalUnit.Fisu head) t k = state_calm t StateIn.Fisu refl k
 machines_calm (SignalUnit.Lssu head status) t k =
     then_by Any IsPlainAnswer Calm Calm (align_in (AlignIn.Heard status) t) (λ u. and_then (state_in (StateIn.Heard status) u) (λ v. flow_hears status v))
     (align_calm t (AlignIn.Heard status) k)
-    (λ u x. then_by Any IsPlainAnswer Calm Calm (state_in (StateIn.Heard status) u) (λ v. flow_hears status v) (state_calm u (StateIn.Heard status) x)
+    (λ u x. then_by Any IsPlainAnswer Calm Calm (state_in (StateIn.Heard status) u) (λ v. flow_hears status v) (state_calm u (StateIn.Heard status) refl x)
     (λ v y. flow_hears_calm status v y))
-machines_calm (SignalUnit.Msu head body) t k = state_calm t StateIn.Msu k
+machines_calm (SignalUnit.Msu head body) t k = state_calm t StateIn.Msu refl k
 
 acks_calm : (report : Report) (bsn : ℕ) (t : Terminal) → Calm t → Keep (acks report bsn t)
 acks_calm report bsn t k =
     if_by Any IsPlainAnswer Calm (nat_lt 0 report.acked || report.resend) (acked (not (bsn == t.top)) t) (done t)
-    (λ is. flow_in_calm (record t { unacked = not (bsn == t.top) }) (FlowIn.Acked (not (bsn == t.top))) refl (record { busy = k.busy; due = k.due; status = k.status; none = k.none }))
+    (λ is. flow_in_calm (record t { unacked = not (bsn == t.top) }) (FlowIn.Acked (not (bsn == t.top))) refl (record { busy = k.busy; due = k.due; status = k.status; none = k.none; outage = k.outage; no_outage = k.no_outage }))
     (λ not. k)
 
 faults_calm : (fault : Option ControlFault) (t : Terminal) → Calm t → Keep (faults fault t)
 faults_calm None t k = k
-faults_calm (Some fault) t k = state_calm t (StateIn.Failure (cause_of fault)) k
+faults_calm (Some fault) t k = state_calm t (StateIn.Failure (cause_of fault)) refl k
 
 refused_calm : (why : Refusal) (bsn : ℕ) (t : Terminal) → Calm t → Keep (reported (Answer.Refused why) bsn t)
 refused_calm Refusal.TooShort bsn t k = k
@@ -383,21 +473,19 @@ set_calm unit t k =
     if_by Any IsPlainAnswer Calm t.up (ask (Event.Heard t.link unit) (λ answer. reported answer (head_of unit).bsn t)) (done t)
     (λ up. (tt, λ answer gives. reported_calm answer (head_of unit).bsn t k)) (λ down. k)
 
+reaches_calm : (unit : SignalUnit) (t : Terminal) → Calm t → Keep (reaches_set unit t)
+reaches_calm unit t k = if_by Any IsPlainAnswer Calm t.outage (done t) (set_hears unit t) (λ out. k) (λ not. set_calm unit t k)
+
 all_hear_calm : (unit : SignalUnit) (t : Terminal) → Calm t → Keep (all_hear unit t)
 all_hear_calm unit t k =
-    then_by Any IsPlainAnswer Calm Calm (align_in AlignIn.Good t) (λ u. and_then (machines_hear unit u) (λ v. set_hears unit v)) (align_calm t AlignIn.Good k)
-    (λ u x. then_by Any IsPlainAnswer Calm Calm (machines_hear unit u) (λ v. set_hears unit v) (machines_calm unit u x) (λ v y. set_calm unit v y))
-
-outage_calm : (was is : Bool) (t : Terminal) → Calm t → Keep (waits was is t)
-outage_calm was true t k = flow_in_calm t FlowIn.Paused refl k
-outage_calm true false t k = if_by Any IsPlainAnswer Calm t.up (flow_in (FlowIn.Resumed t.unacked) t) (done t) (λ up. flow_in_calm t (FlowIn.Resumed t.unacked) refl k) (λ down. k)
-outage_calm false false t k = k
+    then_by Any IsPlainAnswer Calm Calm (align_in AlignIn.Good t) (λ u. and_then (machines_hear unit u) (λ v. reaches_set unit v)) (align_calm t AlignIn.Good k)
+    (λ u x. then_by Any IsPlainAnswer Calm Calm (machines_hear unit u) (λ v. reaches_set unit v) (machines_calm unit u x) (λ v y. reaches_calm unit v y))
 
 heard_calm : (unit : Option SignalUnit) (t : Terminal) → Calm t → Keep (heard unit t)
 heard_calm None t k = k
 heard_calm (Some unit) t k =
-    then_by Any IsPlainAnswer Calm Calm (all_hear unit t) (λ after. waits (is_paused t.state) (is_paused after.state) after) (all_hear_calm unit t k)
-    (λ u x. outage_calm (is_paused t.state) (is_paused u.state) u x)
+    then_by Any IsPlainAnswer Calm Calm (all_hear unit t) (λ after. waits (is_held t) (is_held after) after) (all_hear_calm unit t k)
+    (λ u x. outage_calm (is_held t) (is_held u) u x)
 
 pub marks_calm : (marks : List Mark) (t : Terminal) → Calm t → Keep (all_marked marks t)
 marks_calm [] t k = k
@@ -414,26 +502,26 @@ over_calm t u over input each k x = if_by Any IsPlainAnswer Calm over (input u) 
 
 pub timed_calm : (t : Terminal) → Calm t → Keep (timed t)
 timed_calm t k = in_turn_by Any IsPlainAnswer Calm (ends_t1 ∷ ends_t2 ∷ ends_t3 ∷ ends_t4 ∷ ends_t5 ∷ ends_t6 ∷ ends_t7 ∷ []) (lessened t) (
-  (λ u x. over_calm u (record u { clocks = record u.clocks { t1 = None } }) (is_over u.clocks.t1) (state_in StateIn.T1) (λ v. state_calm v StateIn.T1) x
-      (record { busy = x.busy; due = x.due; status = x.status; none = x.none })),
+  (λ u x. over_calm u (record u { clocks = record u.clocks { t1 = None } }) (is_over u.clocks.t1) (state_in StateIn.T1) (λ v. state_calm v StateIn.T1 refl) x
+      (record { busy = x.busy; due = x.due; status = x.status; none = x.none; outage = x.outage; no_outage = x.no_outage })),
   (
     (λ u x. over_calm u (record u { clocks = record u.clocks { t2 = None } }) (is_over u.clocks.t2) (align_in AlignIn.T2) (λ v. align_calm v AlignIn.T2) x
-        (record { busy = x.busy; due = x.due; status = x.status; none = x.none })),
+        (record { busy = x.busy; due = x.due; status = x.status; none = x.none; outage = x.outage; no_outage = x.no_outage })),
     (
       (λ u x. over_calm u (record u { clocks = record u.clocks { t3 = None } }) (is_over u.clocks.t3) (align_in AlignIn.T3) (λ v. align_calm v AlignIn.T3) x
-          (record { busy = x.busy; due = x.due; status = x.status; none = x.none })),
+          (record { busy = x.busy; due = x.due; status = x.status; none = x.none; outage = x.outage; no_outage = x.no_outage })),
       (
         (λ u x. over_calm u (record u { clocks = record u.clocks { t4 = None } }) (is_over u.clocks.t4) (align_in AlignIn.T4) (λ v. align_calm v AlignIn.T4) x
-            (record { busy = x.busy; due = x.due; status = x.status; none = x.none })),
+            (record { busy = x.busy; due = x.due; status = x.status; none = x.none; outage = x.outage; no_outage = x.no_outage })),
         (
           (λ u x. over_calm u (record u { clocks = record u.clocks { t5 = None } }) (is_over u.clocks.t5) (flow_in FlowIn.T5) (λ v. flow_in_calm v FlowIn.T5 refl) x
-              (record { busy = x.busy; due = x.due; status = x.status; none = x.none })),
+              (record { busy = x.busy; due = x.due; status = x.status; none = x.none; outage = x.outage; no_outage = x.no_outage })),
           (
             (λ u x. over_calm u (record u { clocks = record u.clocks { t6 = None } }) (is_over u.clocks.t6) (flow_in FlowIn.T6) (λ v. flow_in_calm v FlowIn.T6 refl) x
-                (record { busy = x.busy; due = x.due; status = x.status; none = x.none })),
+                (record { busy = x.busy; due = x.due; status = x.status; none = x.none; outage = x.outage; no_outage = x.no_outage })),
             (
               (λ u x. over_calm u (record u { clocks = record u.clocks { t7 = None } }) (is_over u.clocks.t7) (flow_in FlowIn.T7) (λ v. flow_in_calm v FlowIn.T7 refl) x
-                  (record { busy = x.busy; due = x.due; status = x.status; none = x.none })),
+                  (record { busy = x.busy; due = x.due; status = x.status; none = x.none; outage = x.outage; no_outage = x.no_outage })),
               tt,
             ),
           ),
@@ -442,7 +530,7 @@ timed_calm t k = in_turn_by Any IsPlainAnswer Calm (ends_t1 ∷ ends_t2 ∷ ends
     ),
   ),
 )
-    (record { busy = k.busy; due = k.due; status = k.status; none = k.none })
+    (record { busy = k.busy; due = k.due; status = k.status; none = k.none; outage = k.outage; no_outage = k.no_outage })
 
 -- STEP 5.
 abbrev pub PlainOrNone : Option SignalUnit → Type 0
@@ -457,7 +545,7 @@ abbrev Chooses : Talk Filled → Type 0
 Chooses talk = KeepsBy Any IsPlainAnswer Sends talk
 
 sent_calm : (unit : SignalUnit) (t : Terminal) → IsPlainUnit unit → Calm t → Chooses (sends unit t)
-sent_calm unit t plain k = record { unit = plain; after = record { busy = k.busy; due = k.due; status = k.status; none = k.none } }
+sent_calm unit t plain k = record { unit = plain; after = record { busy = k.busy; due = k.due; status = k.status; none = k.none; outage = k.outage; no_outage = k.no_outage } }
 
 status_calm : (status : Status) (t : Terminal) → is_plain status ≡ true → Calm t → Chooses (sends_status status t)
 status_calm status t plain k = sent_calm (SignalUnit.Lssu (last_head t) status) t plain k
@@ -471,7 +559,7 @@ start_calm t k = sent_calm _ t tt k
 pub counts_calm : (unit : SignalUnit) (t : Terminal) → Calm t → Keep (counts_sent unit t)
 counts_calm (SignalUnit.Fisu head) t k = k
 counts_calm (SignalUnit.Lssu head status) t k = k
-counts_calm (SignalUnit.Msu head body) t k = flow_in_calm _ FlowIn.Sent refl (record { busy = k.busy; due = k.due; status = k.status; none = k.none })
+counts_calm (SignalUnit.Msu head body) t k = flow_in_calm _ FlowIn.Sent refl (record { busy = k.busy; due = k.due; status = k.status; none = k.none; outage = k.outage; no_outage = k.no_outage })
 
 held_plain : (unit : SignalUnit) (t : Terminal) → t.flow.busy ≡ false → IsPlainUnit unit → IsPlainUnit (held_back t unit)
 held_plain unit t calm plain = rw calm plain
@@ -517,13 +605,19 @@ serves_calm paused t k =
     true_false : {X : Type 0} → true ≡ false → X
     true_false e = absurd cc
 
+unless_out_calm : (talk : Talk Filled) (t : Terminal) → Calm t → Chooses talk → Chooses (unless_out talk t)
+unless_out_calm talk t k chooses = if_by Any IsPlainAnswer Sends t.outage (sends_status Status.ProcessorOutage t) talk (λ out. true_false (sym out ∙ k.outage)) (λ not. chooses)
+  where
+    true_false : {X : Type 0} → true ≡ false → X
+    true_false e = absurd cc
+
 chosen_calm : (state : LinkPhase) (t : Terminal) → Calm t → Chooses (chosen state t)
 chosen_calm LinkPhase.OutOfService t k = status_calm Status.OutOfService t refl k
 chosen_calm LinkPhase.Aligning t k = status_calm t.status t k.status k
-chosen_calm LinkPhase.Ready t k = start_calm t k
+chosen_calm LinkPhase.Ready t k = unless_out_calm (sends_start_fisu t) t k (start_calm t k)
 chosen_calm (LinkPhase.InService paused) t k =
-    then_by Any IsPlainAnswer Calm Sends (up_first t) (λ u. serves paused u) (if_by Any IsPlainAnswer Calm t.up (done t) (asks_up t) (λ up. k) (λ down. up_calm t k))
-    (λ u x. serves_calm paused u x)
+    then_by Any IsPlainAnswer Calm Sends (up_first t) (λ u. unless_out (serves paused u) u) (if_by Any IsPlainAnswer Calm t.up (done t) (asks_up t) (λ up. k) (λ down. up_calm t k))
+    (λ u x. unless_out_calm (serves paused u) u x (serves_calm paused u x))
 
 filled_calm : (t : Terminal) → Calm t → Chooses (filled t)
 filled_calm t k =

@@ -8,12 +8,12 @@ use Rattle.l2_align.specs.Alignment.{Alignment}
 use Rattle.l2_align.specs.declared.align.State.{State as AlignState}
 use Rattle.l2_align.specs.declared.signals.AlignIn.{AlignIn}
 use Rattle.l2_align.specs.declared.signals.Outcome.{Outcome}
-use Rattle.l2_align.specs.Table.{Row as AlignRow, row as align_row, table, silent as keeps_still, proving, aborted, counted_abort, idle, stop_t4, when_idle, when_not_aligned, when_aligned, when_proving, heard_not_aligned, heard_aligned, heard_proving}
+use Rattle.l2_align.specs.Table.{Row as AlignRow, row as align_row, table, calmed, silent as keeps_still, proving, aborted, counted_abort, idle, stop_t4, when_idle, when_not_aligned, when_aligned, when_proving, heard_not_aligned, heard_aligned, heard_proving}
 use Rattle.l2_state.specs.declared.link_state.State.{State as LinkPhase}
 use Rattle.l2_state.specs.declared.signals.StateIn.{StateIn}
 use Rattle.l2_state.specs.declared.signals.Switch.{Switch}
 use Rattle.l2_state.specs.declared.signals.Indication.{Indication}
-use Rattle.l2_state.specs.Table.{Row as StateRow, is_paused, row as state_row}
+use Rattle.l2_state.specs.Table.{Row as StateRow, is_paused, outage_after, row as state_row}
 use Rattle.l2_flow.specs.declared.input.FlowIn.{FlowIn}
 use Rattle.l2_flow.specs.Table.{row_of as flow_row}
 use Rattle.set_events.specs.declared.answer.Answer.{Answer}
@@ -24,7 +24,7 @@ use Rattle.term_model.specs.Talk.{Talk, done, ask, and_then, Went}
 use Rattle.term_model.specs.Terminal.{Terminal, no_commands}
 use Rattle.term_model.proofs.Talks.{splits}
 use Rattle.term_asks.specs.Asking.{Standing, out, aligning, ready, served, standing_in, standing_of, Falls, stays, drops, tells, IsPlainAnswer, AnswersPlainly}
-use Rattle.term_asks.proofs.Calm.{Any}
+use Rattle.term_asks.proofs.Calm.{Any, is_outage_in, never_out}
 use Rattle.term_asks.proofs.Talking.{KeepsBy}
 
 -- TALKS.
@@ -90,6 +90,7 @@ pub record At (link : ℕ) (s : Standing) (t : Terminal) : Type 0 where
   pub paused : is_paused t.state ≡ false
   pub blind : t.blind ≡ false
   pub quiet : t.commands ≡ no_commands
+  pub outage : t.outage ≡ false
 
 pub never_served : (phase : LinkPhase) → standing_in phase false ≡ served → ⊥
 never_served LinkPhase.OutOfService e = absurd cc
@@ -101,8 +102,9 @@ pub not_up : (link : ℕ) (s : Standing) (t : Terminal) → At link s t → t.up
 not_up link s t at down is = never_served t.state (subst (λ (b : Bool). standing_in t.state b ≡ served) down (at.stands ∙ is))
 
 -- the same place, by state and up alone
-pub at_same : (link : ℕ) (s : Standing) (t u : Terminal) → At link s t → u.link ≡ t.link → u.state ≡ t.state → u.up ≡ t.up → u.blind ≡ t.blind → u.commands ≡ t.commands → At link s u
-at_same link s t u at link_is state up blind commands =
+pub at_same : (link : ℕ) (s : Standing) (t u : Terminal) → At link s t → u.link ≡ t.link → u.state ≡ t.state → u.up ≡ t.up → u.blind ≡ t.blind → u.commands ≡ t.commands
+    → u.outage ≡ false → At link s u
+at_same link s t u at link_is state up blind commands outage =
     let same : standing_of u ≡ standing_of t = ap (λ (p : LinkPhase). standing_in p u.up) state ∙ ap (λ (b : Bool). standing_in t.state b) up in
     record {
       link_is = link_is ∙ at.link_is;
@@ -111,17 +113,19 @@ at_same link s t u at link_is state up blind commands =
       paused = ap is_paused state ∙ at.paused;
       blind = blind ∙ at.blind;
       quiet = commands ∙ at.quiet;
+      outage = outage;
     }
 
 pub at_out : (link : ℕ) (t u : Terminal) → u.link ≡ link → u.state ≡ LinkPhase.OutOfService → u.up ≡ false → u.blind ≡ false
-    → u.commands ≡ no_commands → At link out u
-at_out link t u link_is state up blind quiet = record {
+    → u.commands ≡ no_commands → u.outage ≡ false → At link out u
+at_out link t u link_is state up blind quiet outage = record {
   link_is = link_is;
   stands = ap (λ (p : LinkPhase). standing_in p u.up) state;
   serves = λ is. true_false (sym is ∙ up);
   paused = ap is_paused state;
   blind = blind;
   quiet = quiet;
+  outage = outage;
 }
 
 pub record FallsTo (link : ℕ) (s : Standing) (entries : List Entry) (t : Terminal) : Type 0 where
@@ -166,6 +170,7 @@ is_low StateIn.Start = false
 is_low StateIn.Complete = false
 is_low StateIn.Fisu = false
 is_low StateIn.Msu = false
+is_low StateIn.Outage = false
 is_low (StateIn.Heard status) = is_low_status status
 is_low _ = true
 
@@ -174,6 +179,11 @@ low_row phase StateIn.Start low = absurd cc
 low_row phase StateIn.Complete low = absurd cc
 low_row phase StateIn.Fisu low = absurd cc
 low_row phase StateIn.Msu low = absurd cc
+low_row phase StateIn.Outage low = absurd cc
+low_row LinkPhase.OutOfService StateIn.Recover low = row_stays refl refl
+low_row LinkPhase.Aligning StateIn.Recover low = row_stays refl refl
+low_row LinkPhase.Ready StateIn.Recover low = row_stays refl refl
+low_row (LinkPhase.InService paused) StateIn.Recover low = row_stays refl refl
 low_row LinkPhase.OutOfService StateIn.Stop low = row_stays refl refl
 low_row LinkPhase.OutOfService StateIn.NotPossible low = row_stays refl refl
 low_row LinkPhase.OutOfService (StateIn.Heard status) low = row_stays refl refl
@@ -209,28 +219,34 @@ low_row (LinkPhase.InService paused) (StateIn.Heard Status.Unassigned7) low = ro
 low_row (LinkPhase.InService paused) StateIn.T1 low = row_stays refl refl
 low_row (LinkPhase.InService paused) (StateIn.Failure cause) low = row_falls cause refl refl
 
--- but for alignment a row sets the state alone
+pub low_no_outage : (input : StateIn) → is_low input ≡ true → is_outage_in input ≡ false
+low_no_outage StateIn.Outage low = absurd cc
+low_no_outage _ low = refl
+
+-- but for alignment a row sets the state alone, and begins no outage
 pub record Sets (t u : Terminal) (phase : LinkPhase) : Type 0 where
   pub link : u.link ≡ t.link
   pub state : u.state ≡ phase
   pub up : u.up ≡ t.up
   pub blind : u.blind ≡ t.blind
   pub commands : u.commands ≡ t.commands
+  pub outage : t.outage ≡ false → u.outage ≡ false
 
 pub switched_sets : (t : Terminal) (switch : Option Switch) → Sets t (switched switch t) t.state
-switched_sets t None = record { link = refl; state = refl; up = refl; blind = refl; commands = refl }
-switched_sets t (Some Switch.Start) = record { link = refl; state = refl; up = refl; blind = refl; commands = refl }
-switched_sets t (Some Switch.Stop) = record { link = refl; state = refl; up = refl; blind = refl; commands = refl }
+switched_sets t None = record { link = refl; state = refl; up = refl; blind = refl; commands = refl; outage = λ e. e }
+switched_sets t (Some Switch.Start) = record { link = refl; state = refl; up = refl; blind = refl; commands = refl; outage = λ e. e }
+switched_sets t (Some Switch.Stop) = record { link = refl; state = refl; up = refl; blind = refl; commands = refl; outage = λ e. e }
 
-pub after_sets : (t : Terminal) (input : StateIn) → Sets t (after_state input t) (state_row t.state input).next
-after_sets t input =
+pub after_sets : (t : Terminal) (input : StateIn) → is_outage_in input ≡ false → Sets t (after_state input t) (state_row t.state input).next
+after_sets t input not =
     let row = state_row t.state input in
     let x = switched_sets (record t {
       state = row.next;
+      outage = outage_after row.outage t.outage;
       suerm = suerm_after row.out.new_suerm t.suerm;
       clocks = record t.clocks { t1 = ordered row.out.t1 t.lengths.t1 t.clocks.t1 };
     }) row.out.alignment in
-    record { link = x.link; state = x.state; up = x.up; blind = x.blind; commands = x.commands }
+    record { link = x.link; state = x.state; up = x.up; blind = x.blind; commands = x.commands; outage = never_out t input not }
 
 -- it falls for this cause
 abbrev pub FallsOut : ℕ → Standing → List Entry → Terminal → Type 0
@@ -241,7 +257,7 @@ pub told_falls : (link : ℕ) (s : Standing) (t u t' : Terminal) (cause : Cause)
 told_falls link s t u t' cause entries at set went = go (if_went u.up (asks_down cause u) (done (fallen cause u)) entries t' went)
   where
     down : At link out (fallen cause u)
-    down = at_out link t (fallen cause u) (set.link ∙ at.link_is) set.state refl (set.blind ∙ at.blind) (set.commands ∙ at.quiet)
+    down = at_out link t (fallen cause u) (set.link ∙ at.link_is) set.state refl (set.blind ∙ at.blind) (set.commands ∙ at.quiet) (set.outage at.outage)
 
     go : ((u.up ≡ true) × Went (asks_down cause u) entries t') ⊎ ((u.up ≡ false) × Went (done (fallen cause u)) entries t') → FallsOut link s entries t'
     go (inl up) =
@@ -274,12 +290,12 @@ state_falls input low link s t t' entries at went = go (low_row t.state input lo
 
     go : RowFalls t.state (state_row t.state input) → FallsTo link s entries t'
     go (row_stays next none) =
-        let set = after_sets t input in
-        falls_done link s u t' entries (at_same link s t u at set.link (set.state ∙ next) set.up set.blind set.commands)
+        let set = after_sets t input (low_no_outage input low) in
+        falls_done link s u t' entries (at_same link s t u at set.link (set.state ∙ next) set.up set.blind set.commands (set.outage at.outage))
         (subst (λ (o : Option Indication). Went (told_by o u) entries t') none went)
     go (row_falls cause next told) =
-        let set = after_sets t input in
-        (told_falls link s t u t' cause entries at (record { link = set.link; state = set.state ∙ next; up = set.up; blind = set.blind; commands = set.commands })
+        let set = after_sets t input (low_no_outage input low) in
+        (told_falls link s t u t' cause entries at (record { link = set.link; state = set.state ∙ next; up = set.up; blind = set.blind; commands = set.commands; outage = set.outage })
         (subst (λ (o : Option Indication). Went (told_by o u) entries t') told went)).0
 
 -- INITIAL ALIGNMENT ends with T4 alone, if it's complete then.
@@ -317,8 +333,13 @@ module _ (a : Alignment) where
   not_aligned_open AlignIn.Stop = refl
   not_aligned_open _ = refl
 
+  calmed_open : (local short : Bool) → IsOpen (calmed short (record a { local = local }))
+  calmed_open true short = refl
+  calmed_open false short = refl
+
   aligned_open : (input : AlignIn) → IsOpen (when_aligned input a)
   aligned_open AlignIn.Emergency = refl
+  aligned_open AlignIn.Calm = calmed_open a.local false
   aligned_open (AlignIn.Heard status) = by status
     where
       by : (status : Status) → IsOpen (heard_aligned status a)
@@ -332,6 +353,7 @@ module _ (a : Alignment) where
 
   proving_open : (input : AlignIn) → is_t4 input ≡ false → IsOpen (when_proving input a)
   proving_open AlignIn.Emergency other = if_open a.short (keeps_still (record a { local = true })) (proving (record a { local = true; short = true })) refl refl
+  proving_open AlignIn.Calm other = calmed_open a.local a.short
   proving_open (AlignIn.Heard status) other = by status
     where
       by : (status : Status) → IsOpen (heard_proving status a)
@@ -363,8 +385,22 @@ module _ (a : Alignment) where
       by true = refl
       by false = refl
 
+  pub calm_none : (s : AlignState) → (table s AlignIn.Calm a).out.outcome ≡ None
+  calm_none AlignState.Idle = refl
+  calm_none AlignState.NotAligned = refl
+  calm_none AlignState.Aligned = by a.local
+    where
+      by : (b : Bool) → (calmed false (record a { local = b })).out.outcome ≡ None
+      by true = refl
+      by false = refl
+  calm_none AlignState.Proving = by a.local
+    where
+      by : (b : Bool) → (calmed a.short (record a { local = b })).out.outcome ≡ None
+      by true = refl
+      by false = refl
+
 pub at_aligns : (link : ℕ) (s : Standing) (t : Terminal) (input : AlignIn) → At link s t → At link s (aligns input t)
-at_aligns link s t input at = at_same link s t (aligns input t) at refl refl refl refl refl
+at_aligns link s t input at = at_same link s t (aligns input t) at refl refl refl refl refl at.outage
 
 pub ends_falls : (outcome : Option Outcome) → is_complete outcome ≡ false → FallsBy (ends outcome)
 ends_falls None not link s t t' entries at went = falls_done link s t t' entries at went
@@ -382,7 +418,7 @@ fails_falls (Some cause) link s t t' entries at went = state_falls (StateIn.Fail
 
 pub flow_falls : (input : FlowIn) → FallsBy (flow_in input)
 flow_falls input link s t t' entries at went =
-    fails_falls (flow_row t.flow input).out.failure link s (controls input t) t' entries (at_same link s t (controls input t) at refl refl refl refl refl) went
+    fails_falls (flow_row t.flow input).out.failure link s (controls input t) t' entries (at_same link s t (controls input t) at refl refl refl refl refl at.outage) went
 
 -- one that is up is stopped quietly
 pub quiet_out : (link : ℕ) (s : Standing) (t : Terminal) → At link s t → s ≡ served → At link out (stops_quietly t)
@@ -393,11 +429,11 @@ quiet_out link s t at is = go t.state refl
 
     go : (phase : LinkPhase) → t.state ≡ phase → At link out (stops_quietly t)
     go (LinkPhase.InService paused) e =
-        let set = after_sets t StateIn.Stop in
+        let set = after_sets t StateIn.Stop refl in
         let told : (state_row t.state StateIn.Stop).out.indication ≡ Some (Indication.Down Cause.Stop) = rw e refl in
         let next : (state_row t.state StateIn.Stop).next ≡ LinkPhase.OutOfService = rw e refl in
         subst (λ (o : Option Indication). At link out (fallen_if o u)) (sym told)
-        (at_out link t (fallen Cause.Stop u) (set.link ∙ at.link_is) (set.state ∙ next) refl (set.blind ∙ at.blind) (set.commands ∙ at.quiet))
+        (at_out link t (fallen Cause.Stop u) (set.link ∙ at.link_is) (set.state ∙ next) refl (set.blind ∙ at.blind) (set.commands ∙ at.quiet) (set.outage at.outage))
     go LinkPhase.OutOfService e = let no : out ≡ served = ap (λ (p : LinkPhase). standing_in p t.up) (sym e) ∙ at.stands ∙ is in absurd cc
     go LinkPhase.Aligning e = let no : aligning ≡ served = ap (λ (p : LinkPhase). standing_in p t.up) (sym e) ∙ at.stands ∙ is in absurd cc
     go LinkPhase.Ready e = let no : ready ≡ served = ap (λ (p : LinkPhase). standing_in p t.up) (sym e) ∙ at.stands ∙ is in absurd cc

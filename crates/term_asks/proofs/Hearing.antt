@@ -1,7 +1,7 @@
 -- WHAT IS ASKED in steps 1 and 3 of a turn: commands let a link fall or begin to align (`commanded_goes`); each unit
 -- lets it fall, or brings it up, and is heard at the set where it's up there (`unit_goes`, `marks_goes`). Talks are
 -- split where one follows another (term_model's Talks.antt). Used by Asking.antt.
-use Rattle.std.proofs.Common.{refl, sym, subst, ap, ◌≡◌, ◌∙◌, ◌==◌, ◌||◌, ◌⊎◌, inl, inr, ℕ, nat_lt, Bool, true, false, not, List, [], ◌∷◌, ◌++◌, Option, Some, None, append-nil, append_assoc}
+use Rattle.std.proofs.Common.{refl, sym, subst, ap, ◌≡◌, ◌∙◌, ◌==◌, ◌||◌, ◌⊎◌, inl, inr, ℕ, nat_lt, Bool, true, false, not, List, [], ◌∷◌, ◌++◌, Option, Some, None, append-nil, append_assoc, if◌then◌else◌}
 use Rattle.l2_units.specs.declared.cause.Cause.{Cause}
 use Rattle.l2_units.specs.declared.cause.ControlFault.{ControlFault}
 use Rattle.l2_units.specs.declared.status.Status.{Status}
@@ -14,6 +14,8 @@ use Rattle.l2_monitors.specs.Suerm.{Kept, after_mark}
 use Rattle.l2_align.specs.declared.align.State.{State as AlignState}
 use Rattle.l2_align.specs.declared.signals.AlignIn.{AlignIn}
 use Rattle.l2_align.specs.declared.signals.Outcome.{Outcome}
+use Rattle.l2_align.specs.Alignment.{Alignment}
+use Rattle.l2_align.specs.Table.{table}
 use Rattle.l2_state.specs.declared.link_state.State.{State as LinkPhase}
 use Rattle.l2_state.specs.declared.signals.StateIn.{StateIn}
 use Rattle.l2_state.specs.declared.signals.Indication.{Indication}
@@ -24,15 +26,16 @@ use Rattle.set_events.specs.declared.answer.Refusal.{Refusal}
 use Rattle.set_events.specs.declared.answer.Report.{Report}
 use Rattle.set_events.specs.declared.event.Event.{Event}
 use Rattle.set_events.specs.declared.history.Entry.{Entry}
-use Rattle.term_model.specs.Hearing.{unit_in, is_error, aerm_judges, suerm_judges, service_judges, judges, judged, flow_hears, machines_hear, acked, acks, faults, reported, set_hears, waits, all_hear, heard, marked, all_marked}
+use Rattle.term_model.specs.Hearing.{unit_in, is_error, aerm_judges, suerm_judges, service_judges, judges, judged, flow_hears, machines_hear, acked, acks, faults, reported, is_deaf, is_held, reaches_set, set_hears, waits, all_hear, heard, marked, all_marked}
 use Rattle.term_model.specs.Machines.{aligns, after_state, risen, asks_up, tells as told_by, state_in, ends, align_in, flow_in, stops_quietly}
-use Rattle.term_model.specs.Obeying.{obeys_if, blinded, commanded}
+use Rattle.term_model.specs.Obeying.{obeys_if, blinded, changes_outage, commanded}
 use Rattle.term_model.specs.Talk.{Talk, done, ask, and_then, in_turn, Went}
 use Rattle.term_model.specs.Terminal.{Terminal, no_commands}
 use Rattle.term_model.proofs.Talks.{ends_the_same, splits}
 use Rattle.term_asks.specs.Asking.{Standing, out, aligning, ready, waiting, served, standing_in, Falls, stays, drops, tells, Obeys, only_falls, begins, risen_by, is_status, Rises, not_yet, comes_up, heard_by, Hears, passes, is_heard, HearsUnit, HearsOne, HearsAll, IsPlainOne, ArePlain}
 use Rattle.term_asks.specs.Plain.{is_plain, IsPlainUnit}
-use Rattle.term_asks.proofs.Falling.{emergency_none, done_is, ask_is, if_went, true_false, out_served, nothing_then, falls_then, At, not_up, at_same, FallsTo, falls_done, FallsBy, falls_next, is_low_status, after_sets, FallsOut, told_falls, state_falls, at_aligns, align_falls, flow_falls, quiet_out}
+use Rattle.term_asks.proofs.Calm.{is_outage_in}
+use Rattle.term_asks.proofs.Falling.{emergency_none, calm_none, done_is, ask_is, if_went, true_false, out_served, nothing_then, falls_then, At, not_up, at_same, FallsTo, falls_done, FallsBy, falls_next, is_low_status, after_sets, FallsOut, told_falls, state_falls, at_aligns, align_falls, flow_falls, quiet_out}
 
 -- STEP 1.
 abbrev pub AllFall : List (Terminal → Talk Terminal) → Type 0
@@ -55,15 +58,16 @@ pub never_falls : (c : Bool) (f : Terminal → Talk Terminal) → c ≡ false �
 never_falls true f never link s t t' entries at went = true_false never
 never_falls false f never link s t t' entries at went = falls_done link s t t' entries at went
 
-pub emergency_stays : (c : Bool) (link : ℕ) (s : Standing) (t t' : Terminal) (entries : List Entry) → At link s t
-    → Went (obeys_if c (align_in AlignIn.Emergency) t) entries t' → (entries ≡ []) × At link s t'
-emergency_stays c link s t t' entries at went = go (if_went c (align_in AlignIn.Emergency t) (done t) entries t' went)
+-- an emergency begins or ceases
+pub named_stays : (input : AlignIn) → ((a : Alignment) (state : AlignState) → (table state input a).out.outcome ≡ None) → (c : Bool) (link : ℕ) (s : Standing)
+    (t t' : Terminal) (entries : List Entry) → At link s t → Went (obeys_if c (align_in input) t) entries t' → (entries ≡ []) × At link s t'
+named_stays input none c link s t t' entries at went = go (if_went c (align_in input t) (done t) entries t' went)
   where
-    go : ((c ≡ true) × Went (align_in AlignIn.Emergency t) entries t') ⊎ ((c ≡ false) × Went (done t) entries t') → (entries ≡ []) × At link s t'
+    go : ((c ≡ true) × Went (align_in input t) entries t') ⊎ ((c ≡ false) × Went (done t) entries t') → (entries ≡ []) × At link s t'
     go (inl is) =
-        let u = aligns AlignIn.Emergency t in
-        let d = done_is u t' entries (subst (λ (o : Option Outcome). Went (ends o u) entries t') (emergency_none t.align t.align.state) is.1) in
-        (d.0, subst (λ (v : Terminal). At link s v) (sym d.1) (at_aligns link s t AlignIn.Emergency at))
+        let u = aligns input t in
+        let d = done_is u t' entries (subst (λ (o : Option Outcome). Went (ends o u) entries t') (none t.align t.align.state) is.1) in
+        (d.0, subst (λ (v : Terminal). At link s v) (sym d.1) (at_aligns link s t input at))
     go (inr not) = let d = done_is t t' entries not.1 in (d.0, subst (λ (v : Terminal). At link s v) (sym d.1) at)
 
 pub record Began (link : ℕ) (started : Bool) (s : Standing) (entries : List Entry) (t : Terminal) : Type 0 where
@@ -86,20 +90,20 @@ start_goes c link s t t' entries at went = go (if_went c (state_in StateIn.Start
     still : (phase : LinkPhase) → t.state ≡ phase → (state_row phase StateIn.Start).next ≡ phase → (state_row phase StateIn.Start).out.indication ≡ None
         → Went (state_in StateIn.Start t) entries t' → Began link c s entries t'
     still phase e next none w =
-        let set = after_sets t StateIn.Start in
+        let set = after_sets t StateIn.Start refl in
         let d = done_is u t' entries (subst (λ (o : Option Indication). Went (told_by o u) entries t')
         (ap (λ (p : LinkPhase). (state_row p StateIn.Start).out.indication) e ∙ none) w) in
         record {
           to = s;
           at = subst (λ (v : Terminal). At link s v) (sym d.1)
-              (at_same link s t u at set.link (set.state ∙ ap (λ (p : LinkPhase). (state_row p StateIn.Start).next) e ∙ next ∙ sym e) set.up set.blind set.commands);
+              (at_same link s t u at set.link (set.state ∙ ap (λ (p : LinkPhase). (state_row p StateIn.Start).next) e ∙ next ∙ sym e) set.up set.blind set.commands (set.outage at.outage));
           none = d.0;
           how = inl refl;
         }
 
     begun : t.state ≡ LinkPhase.OutOfService → c ≡ true → Went (state_in StateIn.Start t) entries t' → Began link c s entries t'
     begun e is w =
-        let set = after_sets t StateIn.Start in
+        let set = after_sets t StateIn.Start refl in
         let d = done_is u t' entries (subst (λ (o : Option Indication). Went (told_by o u) entries t')
         (ap (λ (p : LinkPhase). (state_row p StateIn.Start).out.indication) e) w) in
         let state : u.state ≡ LinkPhase.Aligning = set.state ∙ ap (λ (p : LinkPhase). (state_row p StateIn.Start).next) e in
@@ -111,6 +115,7 @@ start_goes c link s t t' entries at went = go (if_went c (state_in StateIn.Start
           paused = ap is_paused state;
           blind = set.blind ∙ at.blind;
           quiet = set.commands ∙ at.quiet;
+          outage = set.outage at.outage;
         } in
         record { to = aligning; at = subst (λ (v : Terminal). At link aligning v) (sym d.1) risen; none = d.0; how = inr (is, was, refl) }
 
@@ -137,23 +142,24 @@ stop_out link s t t' entries at went = go t.state refl
     down : (phase : LinkPhase) → t.state ≡ phase → (state_row phase StateIn.Stop).next ≡ LinkPhase.OutOfService
         → (state_row phase StateIn.Stop).out.indication ≡ Some (Indication.Down Cause.Stop) → FallsOut link s entries t'
     down phase e next told =
-        let set = after_sets t StateIn.Stop in
+        let set = after_sets t StateIn.Stop refl in
         told_falls link s t u t' Cause.Stop entries at (record {
           link = set.link;
           state = set.state ∙ ap (λ (p : LinkPhase). (state_row p StateIn.Stop).next) e ∙ next;
           up = set.up;
           blind = set.blind;
           commands = set.commands;
+          outage = set.outage;
         })
         (subst (λ (o : Option Indication). Went (told_by o u) entries t') (ap (λ (p : LinkPhase). (state_row p StateIn.Stop).out.indication) e ∙ told) went)
 
     go : (phase : LinkPhase) → t.state ≡ phase → FallsOut link s entries t'
     go LinkPhase.OutOfService e =
-        let set = after_sets t StateIn.Stop in
+        let set = after_sets t StateIn.Stop refl in
         let d = done_is u t' entries (subst (λ (o : Option Indication). Went (told_by o u) entries t')
         (ap (λ (p : LinkPhase). (state_row p StateIn.Stop).out.indication) e) went) in
         let still : At link s u = at_same link s t u at set.link (set.state ∙ ap (λ (p : LinkPhase). (state_row p StateIn.Stop).next) e ∙ sym e) set.up set.blind
-        set.commands in (
+        set.commands (set.outage at.outage) in (
           record { to = s; at = subst (λ (v : Terminal). At link s v) (sym d.1) still; falls = stays refl d.0 },
           sym at.stands ∙ ap (λ (p : LinkPhase). standing_in p t.up) e,
         )
@@ -201,23 +207,59 @@ obeys_then link started s mid last entries (inr began) (drops not_served is_out 
 obeys_then link started s mid last entries (inr began) (tells entry is_served is_out one event) =
     let no : aligning ≡ served = sym began.2 ∙ is_served in absurd cc
 
+pub waits_falls : (was is : Bool) → FallsBy (waits was is)
+waits_falls was true link s t t' entries at went = flow_falls FlowIn.Paused link s t t' entries at went
+waits_falls true false link s t t' entries at went = go (if_went t.up (flow_in (FlowIn.Resumed t.unacked) t) (done t) entries t' went)
+  where
+    go : ((t.up ≡ true) × Went (flow_in (FlowIn.Resumed t.unacked) t) entries t') ⊎ ((t.up ≡ false) × Went (done t) entries t') → FallsTo link s entries t'
+    go (inl is) = flow_falls (FlowIn.Resumed t.unacked) link s t t' entries at is.1
+    go (inr not_is) = falls_done link s t t' entries at not_is.1
+waits_falls false false link s t t' entries at went = falls_done link s t t' entries at went
+
+pub recover_falls : FallsBy (changes_outage StateIn.Recover)
+recover_falls link s t t' entries at went =
+    falls_next link s t t' entries (state_in StateIn.Recover t) (λ u. waits (is_held t) (is_held u) u)
+    (λ mid es w. state_falls StateIn.Recover refl link s t mid es at w)
+    (λ l x u v es there w. waits_falls (is_held t) (is_held u) l x u v es there w) went
+
+nothing_first : (all xs ys : List Entry) → all ≡ xs ++ ys → xs ≡ [] → all ≡ ys
+nothing_first all xs ys are none = are ∙ nothing_then xs ys none
+
 pub commanded_goes : (link : ℕ) (s : Standing) (t t' : Terminal) (entries : List Entry) → At link s (record t { commands = no_commands })
-    → t.commands.blind ≡ false → Went (commanded t) entries t' → ObeysTo link t.commands.start t.commands.stop s entries t'
-commanded_goes link s t t' entries at never went =
+    → t.commands.blind ≡ false → t.commands.outage ≡ false → Went (commanded t) entries t' → ObeysTo link t.commands.start t.commands.stop s entries t'
+commanded_goes link s t t' entries at never no_outage went =
     let c = t.commands in
     let u : Terminal = record t { commands = no_commands } in
-    let middle = obeys_if c.busy (flow_in FlowIn.Busy) ∷ obeys_if c.ease (flow_in FlowIn.Ease) ∷ obeys_if c.blind blinded ∷ [] in
+    let middle =
+    obeys_if c.busy (flow_in FlowIn.Busy) ∷ obeys_if c.ease (flow_in FlowIn.Ease) ∷ obeys_if c.blind blinded ∷
+    obeys_if c.outage (changes_outage StateIn.Outage) ∷ obeys_if c.recover (changes_outage StateIn.Recover) ∷ [] in
     let last = middle ++ (obeys_if c.stop (state_in StateIn.Stop) ∷ []) in
     let all : AllFall middle = (
       obeys_falls c.busy (flow_in FlowIn.Busy) (flow_falls FlowIn.Busy),
-      (obeys_falls c.ease (flow_in FlowIn.Ease) (flow_falls FlowIn.Ease), (never_falls c.blind blinded never, tt)),
+      (
+        obeys_falls c.ease (flow_in FlowIn.Ease) (flow_falls FlowIn.Ease),
+        (
+          never_falls c.blind blinded never,
+          (
+            never_falls c.outage (changes_outage StateIn.Outage) no_outage,
+            (obeys_falls c.recover (changes_outage StateIn.Recover) recover_falls, tt),
+          ),
+        ),
+      ),
     ) in
-    let p = splits (obeys_if c.emergency (align_in AlignIn.Emergency) u) (λ b. in_turn (obeys_if c.start (state_in StateIn.Start) ∷ last) b) entries t' went in
-    let e = emergency_stays c.emergency link s u p.mid p.first at p.went_first in
-    let q = splits (obeys_if c.start (state_in StateIn.Start) p.mid) (λ b. in_turn last b) p.second t' p.went_second in
-    let b = start_goes c.start link s p.mid q.mid q.first e.1 q.went_first in
+    let start = obeys_if c.start (state_in StateIn.Start) in
+    let calm = obeys_if c.calm (align_in AlignIn.Calm) in
+    let p = splits (obeys_if c.emergency (align_in AlignIn.Emergency) u) (λ b. in_turn (calm ∷ start ∷ last) b) entries t' went in
+    let e = named_stays AlignIn.Emergency emergency_none c.emergency link s u p.mid p.first at p.went_first in
+    let k = splits (calm p.mid) (λ b. in_turn (start ∷ last) b) p.second t' p.went_second in
+    let g = named_stays AlignIn.Calm calm_none c.calm link s p.mid k.mid k.first e.1 k.went_first in
+    let q = splits (start k.mid) (λ b. in_turn last b) k.second t' k.went_second in
+    let b = start_goes c.start link s k.mid q.mid q.first g.1 q.went_first in
     let f = then_stop middle all c.stop link b.to q.mid t' q.second b.at q.went_second in
-    let same : entries ≡ q.second = p.entries_are ∙ nothing_then p.first p.second e.0 ∙ q.entries_are ∙ nothing_then q.first q.second b.none in
+    let one : entries ≡ p.second = nothing_first entries p.first p.second p.entries_are e.0 in
+    let two : p.second ≡ k.second = nothing_first p.second k.first k.second k.entries_are g.0 in
+    let three : k.second ≡ q.second = nothing_first k.second q.first q.second q.entries_are b.none in
+    let same : entries ≡ q.second = one ∙ (two ∙ three) in
     record {
       to = f.falls.to;
       at = f.falls.at;
@@ -235,7 +277,7 @@ aerm_falls (Some left) error link s t t' entries at went =
     u = record t { aerm = Some (after_aerm_mark left error) }
 
     there : At link s u
-    there = at_same link s t u at refl refl refl refl refl
+    there = at_same link s t u at refl refl refl refl refl at.outage
 
     go : (((after_aerm_mark left error == 0) ≡ true) × Went (align_in AlignIn.Abort u) entries t') ⊎ (((after_aerm_mark left error == 0) ≡ false) × Went (done u) entries t')
         → FallsTo link s entries t'
@@ -251,7 +293,7 @@ suerm_falls (Some kept) error link s t t' entries at went =
     u = record t { suerm = Some (after_mark kept error) }
 
     there : At link s u
-    there = at_same link s t u at refl refl refl refl refl
+    there = at_same link s t u at refl refl refl refl refl at.outage
 
     go : (((after_mark kept error).tripped ≡ true) × Went (state_in (StateIn.Failure Cause.Suerm) u) entries t') ⊎ (((after_mark kept error).tripped ≡ false) × Went (done u) entries t')
         → FallsTo link s entries t'
@@ -279,7 +321,12 @@ flow_hears_falls Status.Normal link s t t' entries at went = falls_done link s t
 flow_hears_falls Status.Emergency link s t t' entries at went = falls_done link s t t' entries at went
 flow_hears_falls Status.OutOfService link s t t' entries at went = falls_done link s t t' entries at went
 flow_hears_falls Status.ProcessorOutage link s t t' entries at went = falls_done link s t t' entries at went
-flow_hears_falls Status.Busy link s t t' entries at went = flow_falls FlowIn.HeardBusy link s t t' entries at went
+flow_hears_falls Status.Busy link s t t' entries at went = go (if_went (is_deaf t.state t.outage) (done t) (flow_in FlowIn.HeardBusy t) entries t' went)
+  where
+    go : ((is_deaf t.state t.outage ≡ true) × Went (done t) entries t') ⊎ ((is_deaf t.state t.outage ≡ false) × Went (flow_in FlowIn.HeardBusy t) entries t')
+        → FallsTo link s entries t'
+    go (inl deaf) = falls_done link s t t' entries at deaf.1
+    go (inr hears) = flow_falls FlowIn.HeardBusy link s t t' entries at hears.1
 flow_hears_falls Status.Unassigned6 link s t t' entries at went = falls_done link s t t' entries at went
 flow_hears_falls Status.Unassigned7 link s t t' entries at went = falls_done link s t t' entries at went
 
@@ -323,11 +370,11 @@ status_falls status plain link s t t' entries at went = go t.state refl
 
     go : (phase : LinkPhase) → t.state ≡ phase → FallsAway link s entries t'
     go (LinkPhase.InService paused) e =
-        let set = after_sets t (StateIn.Heard status) in
+        let set = after_sets t (StateIn.Heard status) refl in
         let row = plain_row status paused plain in
         let next = ap (λ (p : LinkPhase). (state_row p (StateIn.Heard status)).next) e ∙ row.0 in
         let told = ap (λ (p : LinkPhase). (state_row p (StateIn.Heard status)).out.indication) e ∙ row.1 in
-        let f = told_falls link s t u t' Cause.Status entries at (record { link = set.link; state = set.state ∙ next; up = set.up; blind = set.blind; commands = set.commands })
+        let f = told_falls link s t u t' Cause.Status entries at (record { link = set.link; state = set.state ∙ next; up = set.up; blind = set.blind; commands = set.commands; outage = set.outage })
         (subst (λ (o : Option Indication). Went (told_by o u) entries t') told went) in
         (f.0, λ is. out_served f.0.to f.1 is)
     go LinkPhase.OutOfService e = others (λ is. let no : out ≡ served = ap (λ (p : LinkPhase). standing_in p t.up) (sym e) ∙ at.stands ∙ is in absurd cc)
@@ -352,8 +399,8 @@ msu_row LinkPhase.Ready not = rises_up refl refl refl
 msu_row (LinkPhase.InService paused) not = rises_not (ap LinkPhase.InService (sym not)) refl
 
 pub risen_at : (link : ℕ) (u : Terminal) (answer : Answer) → u.link ≡ link → u.state ≡ LinkPhase.InService false → u.up ≡ false → u.blind ≡ false → u.commands ≡ no_commands
-    → At link (risen_by answer) (risen answer u)
-risen_at link u answer link_is state up blind quiet = go answer
+    → u.outage ≡ false → At link (risen_by answer) (risen answer u)
+risen_at link u answer link_is state up blind quiet outage = go answer
   where
     still : At link waiting u
     still = record {
@@ -363,6 +410,7 @@ risen_at link u answer link_is state up blind quiet = go answer
       paused = ap is_paused state;
       blind = blind;
       quiet = quiet;
+      outage = outage;
     }
 
     go : (answer : Answer) → At link (risen_by answer) (risen answer u)
@@ -378,6 +426,7 @@ risen_at link u answer link_is state up blind quiet = go answer
       paused = ap is_paused state;
       blind = refl;
       quiet = quiet;
+      outage = outage;
     }
     go (Answer.Refused why) = still
 
@@ -389,15 +438,15 @@ pub record UpTo (link : ℕ) (entries : List Entry) (t : Terminal) : Type 0 wher
   pub at : At link (risen_by entry.answer) t
 
 pub ups : (link : ℕ) (u t' : Terminal) (entries : List Entry) → u.link ≡ link → u.state ≡ LinkPhase.InService false → u.up ≡ false → u.blind ≡ false → u.commands ≡ no_commands
-    → Went (asks_up u) entries t' → UpTo link entries t'
-ups link u t' entries link_is state up blind quiet went =
+    → u.outage ≡ false → Went (asks_up u) entries t' → UpTo link entries t'
+ups link u t' entries link_is state up blind quiet outage went =
     let a = ask_is (Event.Up u.link) (λ answer. done (risen answer u)) entries t' went in
     let d = done_is (risen a.entry.answer u) t' a.later a.went in
     record {
       entry = a.entry;
       entries_are = a.entries_are ∙ ap (λ (es : List Entry). a.entry ∷ es) d.0;
       event_is = a.event_is ∙ ap Event.Up link_is;
-      at = subst (λ (v : Terminal). At link (risen_by a.entry.answer) v) (sym d.1) (risen_at link u a.entry.answer link_is state up blind quiet);
+      at = subst (λ (v : Terminal). At link (risen_by a.entry.answer) v) (sym d.1) (risen_at link u a.entry.answer link_is state up blind quiet outage);
     }
 
 pub record RisesTo (link : ℕ) (unit : SignalUnit) (s : Standing) (entries : List Entry) (t : Terminal) : Type 0 where
@@ -405,10 +454,10 @@ pub record RisesTo (link : ℕ) (unit : SignalUnit) (s : Standing) (entries : Li
   pub at : At link to t
   pub rises : Rises link unit s to entries
 
-pub rise_goes : (unit : SignalUnit) (input : StateIn) → is_status unit ≡ false
+pub rise_goes : (unit : SignalUnit) (input : StateIn) → is_status unit ≡ false → is_outage_in input ≡ false
     → ((phase : LinkPhase) → is_paused phase ≡ false → RowRises phase (state_row phase input)) → (link : ℕ) (s : Standing) (t t' : Terminal)
     (entries : List Entry) → At link s t → Went (state_in input t) entries t' → RisesTo link unit s entries t'
-rise_goes unit input other rows link s t t' entries at went = go (rows t.state at.paused)
+rise_goes unit input other not rows link s t t' entries at went = go (rows t.state at.paused)
   where
     u : Terminal
     u = after_state input t
@@ -419,17 +468,17 @@ rise_goes unit input other rows link s t t' entries at went = go (rows t.state a
 
     go : RowRises t.state (state_row t.state input) → RisesTo link unit s entries t'
     go (rises_not next none) =
-        let set = after_sets t input in
+        let set = after_sets t input not in
         let d = done_is u t' entries (subst (λ (o : Option Indication). Went (told_by o u) entries t') none went) in
         record {
           to = s;
-          at = subst (λ (v : Terminal). At link s v) (sym d.1) (at_same link s t u at set.link (set.state ∙ next) set.up set.blind set.commands);
+          at = subst (λ (v : Terminal). At link s v) (sym d.1) (at_same link s t u at set.link (set.state ∙ next) set.up set.blind set.commands (set.outage at.outage));
           rises = not_yet refl d.0;
         }
     go (rises_up was next told) =
-        let set = after_sets t input in
+        let set = after_sets t input not in
         let is : s ≡ ready = sym at.stands ∙ ap (λ (p : LinkPhase). standing_in p t.up) was in
-        let a = ups link u t' entries (set.link ∙ at.link_is) (set.state ∙ next) (set.up ∙ ready_down is t.up refl) (set.blind ∙ at.blind) (set.commands ∙ at.quiet)
+        let a = ups link u t' entries (set.link ∙ at.link_is) (set.state ∙ next) (set.up ∙ ready_down is t.up refl) (set.blind ∙ at.blind) (set.commands ∙ at.quiet) (set.outage at.outage)
         (subst (λ (o : Option Indication). Went (told_by o u) entries t') told went) in
         record { to = risen_by a.entry.answer; at = a.at; rises = comes_up a.entry other is a.entries_are a.event_is refl }
 
@@ -478,9 +527,9 @@ away_after link s xs ys t t' f g = (record { to = g.0.to; at = g.0.at; falls = f
 pub machines_goes : (unit : SignalUnit) → IsPlainUnit unit → (link : ℕ) (s : Standing) (t t' : Terminal) (entries : List Entry) → At link s t
     → Went (machines_hear unit t) entries t' → MachinesTo link unit s entries t'
 machines_goes (SignalUnit.Fisu head) plain link s t t' entries at went =
-    machines_rise (SignalUnit.Fisu head) link s entries t' refl (rise_goes (SignalUnit.Fisu head) StateIn.Fisu refl fisu_row link s t t' entries at went)
+    machines_rise (SignalUnit.Fisu head) link s entries t' refl (rise_goes (SignalUnit.Fisu head) StateIn.Fisu refl refl fisu_row link s t t' entries at went)
 machines_goes (SignalUnit.Msu head body) plain link s t t' entries at went =
-    machines_rise (SignalUnit.Msu head body) link s entries t' refl (rise_goes (SignalUnit.Msu head body) StateIn.Msu refl msu_row link s t t' entries at went)
+    machines_rise (SignalUnit.Msu head body) link s entries t' refl (rise_goes (SignalUnit.Msu head body) StateIn.Msu refl refl msu_row link s t t' entries at went)
 machines_goes (SignalUnit.Lssu head status) plain link s t t' entries at went =
     let p = splits (align_in (AlignIn.Heard status) t) (λ u. and_then (state_in (StateIn.Heard status) u) (λ v. flow_hears status v)) entries t' went in
     let f = align_falls (AlignIn.Heard status) refl link s t p.mid p.first at p.went_first in
@@ -501,7 +550,7 @@ acks_falls report bsn link s t t' entries at went =
 
     go : (((nat_lt 0 report.acked || report.resend) ≡ true) × Went (acked (not (bsn == t.top)) t) entries t')
         ⊎ (((nat_lt 0 report.acked || report.resend) ≡ false) × Went (done t) entries t') → FallsTo link s entries t'
-    go (inl is) = flow_falls (FlowIn.Acked (not (bsn == t.top))) link s u t' entries (at_same link s t u at refl refl refl refl refl) is.1
+    go (inl is) = flow_falls (FlowIn.Acked (not (bsn == t.top))) link s u t' entries (at_same link s t u at refl refl refl refl refl at.outage) is.1
     go (inr not_is) = falls_done link s t t' entries at not_is.1
 
 pub faults_falls : (fault : Option ControlFault) → FallsBy (faults fault)
@@ -568,6 +617,15 @@ set_goes unit link s t t' entries no_status at went =
         let d = done_is t t' entries flat.1 in
         record { to = s; at = subst (λ (v : Terminal). At link s v) (sym d.1) at; hears = passes (not_up link s t at flat.0) refl d.0 }
 
+-- an end without an outage
+pub reaches_goes : (unit : SignalUnit) (link : ℕ) (s : Standing) (t t' : Terminal) (entries : List Entry) → (is_status unit ≡ true → s ≡ served → ⊥) → At link s t
+    → Went (reaches_set unit t) entries t' → HearsTo link unit s entries t'
+reaches_goes unit link s t t' entries no_status at went =
+    set_goes unit link s t t' entries no_status at (subst (λ (b : Bool). Went (if b then done t else set_hears unit t) entries t') at.outage went)
+
+pub not_held : (link : ℕ) (s : Standing) (t : Terminal) → At link s t → is_held t ≡ false
+not_held link s t at = rw (at.outage, at.paused) refl
+
 pub record UnitTo (link : ℕ) (unit : SignalUnit) (s : Standing) (entries : List Entry) (t : Terminal) : Type 0 where
   pub to : Standing
   pub at : At link to t
@@ -584,13 +642,13 @@ waits_done link s t t' entries false true e f at went = true_false f
 pub unit_goes : (unit : SignalUnit) → IsPlainUnit unit → (link : ℕ) (s0 s : Standing) (t t' : Terminal) (before entries : List Entry) → Falls link s0 s before → At link s t
     → Went (heard (Some unit) t) entries t' → UnitTo link unit s0 (before ++ entries) t'
 unit_goes unit plain link s0 s t t' before entries fell at went =
-    let p = splits (all_hear unit t) (λ after. waits (is_paused t.state) (is_paused after.state) after) entries t' went in
-    let q = splits (align_in AlignIn.Good t) (λ u. and_then (machines_hear unit u) (λ v. set_hears unit v)) p.first p.mid p.went_first in
+    let p = splits (all_hear unit t) (λ after. waits (is_held t) (is_held after) after) entries t' went in
+    let q = splits (align_in AlignIn.Good t) (λ u. and_then (machines_hear unit u) (λ v. reaches_set unit v)) p.first p.mid p.went_first in
     let f = align_falls AlignIn.Good refl link s t q.mid q.first at q.went_first in
-    let r = splits (machines_hear unit q.mid) (λ v. set_hears unit v) q.second p.mid q.went_second in
+    let r = splits (machines_hear unit q.mid) (λ v. reaches_set unit v) q.second p.mid q.went_second in
     let m = machines_goes unit plain link f.to q.mid r.mid r.first f.at r.went_first in
-    let h = set_goes unit link m.to r.mid p.mid r.second m.status m.at r.went_second in
-    let w = waits_done link h.to p.mid t' p.second (is_paused t.state) (is_paused p.mid.state) at.paused h.at.paused h.at p.went_second in
+    let h = reaches_goes unit link m.to r.mid p.mid r.second m.status m.at r.went_second in
+    let w = waits_done link h.to p.mid t' p.second (is_held t) (is_held p.mid) (not_held link s t at) (not_held link h.to p.mid h.at) h.at p.went_second in
     let first = before ++ (q.first ++ m.first) in
     let same : entries ≡ q.first ++ (m.first ++ (m.second ++ r.second)) =
     p.entries_are ∙ ap (λ (es : List Entry). p.first ++ es) w.0 ∙ append-nil p.first ∙ q.entries_are

@@ -15,22 +15,22 @@ use Rattle.l2_align.specs.Alignment.{Alignment}
 use Rattle.l2_align.specs.declared.align.State.{State as AlignState}
 use Rattle.l2_align.specs.declared.signals.AlignIn.{AlignIn}
 use Rattle.l2_align.specs.declared.signals.Outcome.{Outcome}
-use Rattle.l2_align.specs.Table.{Row as AlignRow, row as align_row, table, silent, proving, aborted, counted_abort, idle, stop_t4, when_idle, when_not_aligned, when_aligned, when_proving, heard_not_aligned, heard_aligned, heard_proving}
+use Rattle.l2_align.specs.Table.{Row as AlignRow, row as align_row, table, calmed, silent, proving, aborted, counted_abort, idle, stop_t4, when_idle, when_not_aligned, when_aligned, when_proving, heard_not_aligned, heard_aligned, heard_proving}
 use Rattle.l2_state.specs.declared.link_state.State.{State as LinkPhase}
 use Rattle.l2_state.specs.declared.signals.StateIn.{StateIn}
 use Rattle.l2_state.specs.declared.signals.Switch.{Switch}
 use Rattle.l2_state.specs.declared.signals.Indication.{Indication}
-use Rattle.l2_state.specs.Table.{is_paused, row as state_row}
+use Rattle.l2_state.specs.Table.{row as state_row}
 use Rattle.l2_flow.specs.declared.input.FlowIn.{FlowIn}
 use Rattle.l2_flow.specs.Table.{row_of as flow_row}
 use Rattle.set_events.specs.declared.answer.Answer.{Answer}
 use Rattle.set_events.specs.declared.answer.Refusal.{Refusal}
 use Rattle.set_events.specs.declared.answer.Report.{Report}
 use Rattle.set_events.specs.declared.event.Event.{Event}
-use Rattle.term_model.specs.Choosing.{Filled, sends, sends_status, sends_fisu, sends_start_fisu, counts_sent, given, held_back, is_narrow, sent_by, serves, up_first, chosen, filled}
-use Rattle.term_model.specs.Hearing.{unit_in, is_error, aerm_judges, suerm_judges, service_judges, judges, judged, flow_hears, machines_hear, acked, acks, faults, reported, set_hears, waits, all_hear, heard, marked, all_marked}
+use Rattle.term_model.specs.Choosing.{Filled, sends, sends_status, sends_fisu, sends_start_fisu, counts_sent, given, held_back, is_narrow, sent_by, serves, unless_out, up_first, chosen, filled}
+use Rattle.term_model.specs.Hearing.{unit_in, is_error, aerm_judges, suerm_judges, service_judges, judges, judged, flow_hears, machines_hear, acked, acks, faults, reported, is_deaf, is_held, reaches_set, set_hears, waits, all_hear, heard, marked, all_marked}
 use Rattle.term_model.specs.Machines.{aligns, switched, after_state, controls, fallen, risen, asks_up, asks_down, tells, state_in, ends, align_in, fails, flow_in, fallen_if, stops_quietly}
-use Rattle.term_model.specs.Obeying.{obeys_if, blinded, commanded}
+use Rattle.term_model.specs.Obeying.{obeys_if, blinded, changes_outage, commanded}
 use Rattle.term_model.specs.Talk.{Talk, done, ask, and_then}
 use Rattle.term_model.specs.Terminal.{Terminal, no_commands}
 use Rattle.term_model.specs.Timing.{lessened, is_over, ends_t1, ends_t2, ends_t3, ends_t4, ends_t5, ends_t6, ends_t7, timed}
@@ -86,8 +86,13 @@ module _ (a : Alignment) where
   not_aligned_ends AlignIn.Stop = tt
   not_aligned_ends _ = tt
 
+  calmed_ends : (local short : Bool) → EndsIdle (calmed short (record a { local = local }))
+  calmed_ends true short = tt
+  calmed_ends false short = tt
+
   aligned_ends : (input : AlignIn) → EndsIdle (when_aligned input a)
   aligned_ends AlignIn.Emergency = tt
+  aligned_ends AlignIn.Calm = calmed_ends a.local false
   aligned_ends (AlignIn.Heard status) = by status
     where
       by : (status : Status) → EndsIdle (heard_aligned status a)
@@ -101,6 +106,7 @@ module _ (a : Alignment) where
 
   proving_ends : (input : AlignIn) → EndsIdle (when_proving input a)
   proving_ends AlignIn.Emergency = if_idle a.short (silent (record a { local = true })) (proving (record a { local = true; short = true })) tt tt
+  proving_ends AlignIn.Calm = calmed_ends a.local a.short
   proving_ends (AlignIn.Heard status) = by status
     where
       by : (status : Status) → EndsIdle (heard_proving status a)
@@ -253,21 +259,45 @@ quiet_rests t r = go (state_row t.state StateIn.Stop).out.indication (after_rest
 obeys_rests : (is : Bool) (obeys : Terminal → Talk Terminal) → ((t : Terminal) → Rests t → Keep (obeys t)) → (t : Terminal) → Rests t → Keep (obeys_if is obeys t)
 obeys_rests is obeys each t r = if_keeps Any Rests is (obeys t) (done t) (λ yes. each t r) (λ no. r)
 
+outage_rests : (was is : Bool) (t : Terminal) → Rests t → Keep (waits was is t)
+outage_rests was true t r = flow_rests t FlowIn.Paused r
+outage_rests true false t r =
+    if_keeps Any Rests t.up (flow_in (FlowIn.Resumed t.unacked) t) (done t) (λ up. flow_rests t (FlowIn.Resumed t.unacked) r) (λ down. r)
+outage_rests false false t r = r
+
+changes_rests : (t : Terminal) (input : StateIn) → IsTold input t.align.state → Rests t → Keep (changes_outage input t)
+changes_rests t input told r =
+    then_keeps Any Rests Rests (state_in input t) (λ u. waits (is_held t) (is_held u) u) (state_rests t input told r)
+    (λ u x. outage_rests (is_held t) (is_held u) u x)
+
 commanded_rests : (t : Terminal) → Rests t → Keep (commanded t)
 commanded_rests t r =
     let c = t.commands in
     in_turn_keeps Any Rests
-    (obeys_if c.emergency (align_in AlignIn.Emergency) ∷ obeys_if c.start (state_in StateIn.Start) ∷ obeys_if c.busy (flow_in FlowIn.Busy) ∷
-    obeys_if c.ease (flow_in FlowIn.Ease) ∷ obeys_if c.blind blinded ∷ obeys_if c.stop (state_in StateIn.Stop) ∷ [])
+    (obeys_if c.emergency (align_in AlignIn.Emergency) ∷ obeys_if c.calm (align_in AlignIn.Calm) ∷ obeys_if c.start (state_in StateIn.Start) ∷
+    obeys_if c.busy (flow_in FlowIn.Busy) ∷ obeys_if c.ease (flow_in FlowIn.Ease) ∷ obeys_if c.blind blinded ∷
+    obeys_if c.outage (changes_outage StateIn.Outage) ∷ obeys_if c.recover (changes_outage StateIn.Recover) ∷ obeys_if c.stop (state_in StateIn.Stop) ∷ [])
     (record t { commands = no_commands }) (
       obeys_rests c.emergency (align_in AlignIn.Emergency) (λ u. align_rests u AlignIn.Emergency refl),
       (
-        obeys_rests c.start (state_in StateIn.Start) (λ u. state_rests u StateIn.Start tt),
+        obeys_rests c.calm (align_in AlignIn.Calm) (λ u. align_rests u AlignIn.Calm refl),
         (
-          obeys_rests c.busy (flow_in FlowIn.Busy) (λ u. flow_rests u FlowIn.Busy),
+          obeys_rests c.start (state_in StateIn.Start) (λ u. state_rests u StateIn.Start tt),
           (
-            obeys_rests c.ease (flow_in FlowIn.Ease) (λ u. flow_rests u FlowIn.Ease),
-            (obeys_rests c.blind blinded (λ u x. x), (obeys_rests c.stop (state_in StateIn.Stop) (λ u. state_rests u StateIn.Stop tt), tt)),
+            obeys_rests c.busy (flow_in FlowIn.Busy) (λ u. flow_rests u FlowIn.Busy),
+            (
+              obeys_rests c.ease (flow_in FlowIn.Ease) (λ u. flow_rests u FlowIn.Ease),
+              (
+                obeys_rests c.blind blinded (λ u x. x),
+                (
+                  obeys_rests c.outage (changes_outage StateIn.Outage) (λ u. changes_rests u StateIn.Outage tt),
+                  (
+                    obeys_rests c.recover (changes_outage StateIn.Recover) (λ u. changes_rests u StateIn.Recover tt),
+                    (obeys_rests c.stop (state_in StateIn.Stop) (λ u. state_rests u StateIn.Stop tt), tt),
+                  ),
+                ),
+              ),
+            ),
           ),
         ),
       ),
@@ -301,7 +331,8 @@ judges_rests AlignState.Aligned error t r = service_rests t.state error t r
 judges_rests AlignState.Proving error t r = aerm_rests t.aerm error t r
 
 flow_hears_rests : (status : Status) (t : Terminal) → Rests t → Keep (flow_hears status t)
-flow_hears_rests Status.Busy t r = flow_rests t FlowIn.HeardBusy r
+flow_hears_rests Status.Busy t r =
+    if_keeps Any Rests (is_deaf t.state t.outage) (done t) (flow_in FlowIn.HeardBusy t) (λ deaf. r) (λ not. flow_rests t FlowIn.HeardBusy r)
 flow_hears_rests _ t r = r
 
 machines_rest : (unit : SignalUnit) (t : Terminal) → Rests t → Keep (machines_hear unit t)
@@ -337,22 +368,19 @@ set_rests unit t r =
     if_keeps Any Rests t.up (ask (Event.Heard t.link unit) (λ answer. reported answer (head_of unit).bsn t)) (done t)
     (λ up. (tt, λ answer. reported_rests answer (head_of unit).bsn t r)) (λ down. r)
 
+reaches_rests : (unit : SignalUnit) (t : Terminal) → Rests t → Keep (reaches_set unit t)
+reaches_rests unit t r = if_keeps Any Rests t.outage (done t) (set_hears unit t) (λ out. r) (λ not. set_rests unit t r)
+
 all_hear_rests : (unit : SignalUnit) (t : Terminal) → Rests t → Keep (all_hear unit t)
 all_hear_rests unit t r =
-    then_keeps Any Rests Rests (align_in AlignIn.Good t) (λ u. and_then (machines_hear unit u) (λ v. set_hears unit v)) (align_rests t AlignIn.Good refl r)
-    (λ u x. then_keeps Any Rests Rests (machines_hear unit u) (λ v. set_hears unit v) (machines_rest unit u x) (λ v y. set_rests unit v y))
-
-outage_rests : (was is : Bool) (t : Terminal) → Rests t → Keep (waits was is t)
-outage_rests was true t r = flow_rests t FlowIn.Paused r
-outage_rests true false t r =
-    if_keeps Any Rests t.up (flow_in (FlowIn.Resumed t.unacked) t) (done t) (λ up. flow_rests t (FlowIn.Resumed t.unacked) r) (λ down. r)
-outage_rests false false t r = r
+    then_keeps Any Rests Rests (align_in AlignIn.Good t) (λ u. and_then (machines_hear unit u) (λ v. reaches_set unit v)) (align_rests t AlignIn.Good refl r)
+    (λ u x. then_keeps Any Rests Rests (machines_hear unit u) (λ v. reaches_set unit v) (machines_rest unit u x) (λ v y. reaches_rests unit v y))
 
 heard_rests : (unit : Option SignalUnit) (t : Terminal) → Rests t → Keep (heard unit t)
 heard_rests None t r = r
 heard_rests (Some unit) t r =
-    then_keeps Any Rests Rests (all_hear unit t) (λ after. waits (is_paused t.state) (is_paused after.state) after) (all_hear_rests unit t r)
-    (λ u x. outage_rests (is_paused t.state) (is_paused u.state) u x)
+    then_keeps Any Rests Rests (all_hear unit t) (λ after. waits (is_held t) (is_held after) after) (all_hear_rests unit t r)
+    (λ u x. outage_rests (is_held t) (is_held u) u x)
 
 marks_rest : (marks : List Mark) (t : Terminal) → Rests t → Keep (all_marked marks t)
 marks_rest [] t r = r
@@ -424,13 +452,16 @@ serves_rests paused t r =
     (λ is. r) (λ not. (tt, λ answer. answer_rests answer t r))))
     (λ down. r)
 
+unless_out_rests : (talk : Talk Filled) (t : Terminal) → Rests t → Chooses talk → Chooses (unless_out talk t)
+unless_out_rests talk t r rests = if_keeps Any RestsAfter t.outage (sends_status Status.ProcessorOutage t) talk (λ out. r) (λ not. rests)
+
 chosen_rests : (phase : LinkPhase) (t : Terminal) → Rests t → Chooses (chosen phase t)
 chosen_rests LinkPhase.OutOfService t r = r
 chosen_rests LinkPhase.Aligning t r = r
-chosen_rests LinkPhase.Ready t r = r
+chosen_rests LinkPhase.Ready t r = unless_out_rests (sends_start_fisu t) t r r
 chosen_rests (LinkPhase.InService paused) t r =
-    then_keeps Any Rests RestsAfter (up_first t) (λ u. serves paused u) (if_keeps Any Rests t.up (done t) (asks_up t) (λ up. r) (λ down. up_rests t r))
-    (λ u x. serves_rests paused u x)
+    then_keeps Any Rests RestsAfter (up_first t) (λ u. unless_out (serves paused u) u) (if_keeps Any Rests t.up (done t) (asks_up t) (λ up. r) (λ down. up_rests t r))
+    (λ u x. unless_out_rests (serves paused u) u x (serves_rests paused u x))
 
 filled_rests : (t : Terminal) → Rests t → Chooses (filled t)
 filled_rests t r =

@@ -1,5 +1,5 @@
--- WHAT A TURN ASKS OF THE SET, by where the link stands and by the units that are heard: of an end that isn't busy, and
--- whose far end sends SIO, SIN, SIE and SIOS alone (Q.703 8, 12).
+-- WHAT A TURN ASKS OF THE SET, by where the link stands and by the units that are heard: of an end that isn't busy and has
+-- no processor outage, and whose far end sends SIO, SIN, SIE and SIOS alone (Q.703 8, 12).
 use Rattle.std.specs.Prelude.{◌≡◌, ℕ, Bool, true, false, List, [], ◌∷◌, ◌++◌, Option, Some, None}
 use Rattle.l2_align.specs.declared.align.State.{State as AlignState}
 use Rattle.l2_bits.specs.declared.marks.Mark.{Mark}
@@ -179,7 +179,7 @@ is_aligned LinkPhase.Ready = true
 is_aligned (LinkPhase.InService paused) = true
 
 -- OF SUCH A TERMINAL: it's up at the set in service alone, aligns nowhere while it's out of service, nor once it's
--- aligned, and isn't busy, nor told so, nor told to fall blindly
+-- aligned, and isn't busy and has no processor outage, nor is told so, nor told to fall blindly
 pub record IsOrdinary (t : Terminal) : Type 0 where
   pub served : t.up ≡ true → standing_of t ≡ served
   pub idle : t.state ≡ LinkPhase.OutOfService → t.align.state ≡ AlignState.Idle
@@ -189,10 +189,12 @@ pub record IsOrdinary (t : Terminal) : Type 0 where
   pub due : t.b_due ≡ false
   pub status : is_plain t.status ≡ true
   pub blind : t.blind ≡ false
+  pub outage : t.outage ≡ false
 
 pub record IsCommandedSo (t : Terminal) : Type 0 where
   pub busy : t.commands.busy ≡ false
   pub blind : t.commands.blind ≡ false
+  pub outage : t.commands.outage ≡ false
 
 abbrev pub IsPlainOne : Option SignalUnit → Type 0
 IsPlainOne None = Unit {0}

@@ -1,7 +1,7 @@
 //! A law of a terminal's turns, over definitions alone.
 ghost use Rattle.term_asks.specs.Asking.{TurnsAskSo};
 
-/// What a turn asks of the set, entry by entry, of an end that isn't busy and whose far end has no processor outage.
+/// What a turn asks of the set, entry by entry, of ends that aren't busy and have no processor outage.
 /// Its commands and its timers let a link fall, which the set is told where it's up there; but out of service it begins
 /// to align if so commanded, and it's ready as its proving period ends. Commanded to stop it's out of service before it
 /// hears anything. A FISU or an MSU brings up one that is ready; and each that comes while the link is up at the set is

@@ -3,6 +3,7 @@
 use Rattle.std.proofs.Common.{refl, sym, ap, subst, arith, ◌≡◌, ◌∙◌, ℕ, Bool, true, false, nat_lt, List, length, Option, None, Some, slice_get, if◌then◌else◌}
 use Rattle.std.proofs.lemmas.Bool.Decides.{nat_tests}
 use Rattle.l2_bits.specs.declared.marks.Mark.{Mark}
+use Rattle.l2_units.specs.declared.status.Status.{Status}
 use Rattle.l2_units.specs.Grammar.{head_of}
 use Rattle.l2_units.specs.declared.profile.Profile.TheVariants.{Narrow}
 use Rattle.l2_units.specs.declared.unit.Unit.{Unit as SignalUnit}
@@ -18,7 +19,7 @@ use Rattle.set_model.proofs.Soundness.{step_sound}
 use Rattle.set_model.proofs.Staying.{step_grows}
 use Rattle.term_bench.specs.Ready.{GivesNarrow}
 use Rattle.term_bench.specs.Talks.{outcome_with, state_with}
-use Rattle.term_model.specs.Choosing.{Filled, chosen, counts_sent, filled, held_back, is_narrow, sends, sent_by, serves, up_first}
+use Rattle.term_model.specs.Choosing.{Filled, chosen, counts_sent, filled, held_back, is_narrow, sends, sent_by, serves, up_first, sends_status, sends_start_fisu, unless_out}
 use Rattle.term_model.specs.Hearing.{all_marked}
 use Rattle.term_model.specs.Obeying.{commanded}
 use Rattle.term_model.specs.Talk.{Talk, done, ask, and_then}
@@ -80,11 +81,18 @@ serves_narrow paused t = go t.up t.b_due paused
     go true false false = λ answer is. sent_narrow answer (record t { up = true; b_due = false }) is
     go false due paused = refl
 
+unless_out_narrow : (talk : Talk Filled) (t : Terminal) → ChoosesNarrow talk → ChoosesNarrow (unless_out talk t)
+unless_out_narrow talk t narrow = go t.outage
+  where
+    go : (out : Bool) → ChoosesNarrow (if out then sends_status Status.ProcessorOutage t else talk)
+    go true = refl
+    go false = narrow
+
 chosen_narrow : (state : LinkPhase) (t : Terminal) → ChoosesNarrow (chosen state t)
 chosen_narrow LinkPhase.OutOfService t = refl
 chosen_narrow LinkPhase.Aligning t = refl
-chosen_narrow LinkPhase.Ready t = refl
-chosen_narrow (LinkPhase.InService paused) t = then_narrow (up_first t) (λ t. serves paused t) (λ t. serves_narrow paused t)
+chosen_narrow LinkPhase.Ready t = unless_out_narrow (sends_start_fisu t) t refl
+chosen_narrow (LinkPhase.InService paused) t = then_narrow (up_first t) (λ t. unless_out (serves paused t) t) (λ t. unless_out_narrow (serves paused t) t (serves_narrow paused t))
 
 filled_narrow : (t : Terminal) → ChoosesNarrow (filled t)
 filled_narrow t = go (nat_lt (length t.bits) 8)

@@ -88,17 +88,19 @@ pub record Commands (link : ℕ) (command : Command) (old new : BenchState) : Ty
   pub links_are : new.links ≡ slice_set old.links link (told_at command was)
   pub set_is : new.set ≡ old.set
 
--- HOW A LINK STANDS (Q.703 7.3, 8.2, 12): in service here it waits while the set refuses Up
-abbrev pub word_in_service : Bool → Bool → LinkWord
-word_in_service up paused = if up then (if paused then LinkWord.Paused else LinkWord.Up) else LinkWord.Waiting
+-- HOW A LINK STANDS (Q.703 7.3, 8, 12): in service here, where this end has no processor outage, it waits while the set
+-- refuses Up
+abbrev pub word_in_service : Bool → Bool → Bool → LinkWord
+word_in_service out up paused =
+    if out then LinkWord.Outage else (if up then (if paused then LinkWord.Paused else LinkWord.Up) else LinkWord.Waiting)
 
-abbrev pub word_by : TermState → Bool → Bool → LinkWord
-word_by TermState.OutOfService up paused = LinkWord.Out
-word_by TermState.NotAligned up paused = LinkWord.Unaligned
-word_by TermState.Aligned up paused = LinkWord.Aligned
-word_by TermState.Proving up paused = LinkWord.Proving
-word_by TermState.Ready up paused = LinkWord.Ready
-word_by TermState.InService up paused = word_in_service up paused
+abbrev pub word_by : TermState → Bool → Bool → Bool → LinkWord
+word_by TermState.OutOfService out up paused = LinkWord.Out
+word_by TermState.NotAligned out up paused = LinkWord.Unaligned
+word_by TermState.Aligned out up paused = LinkWord.Aligned
+word_by TermState.Proving out up paused = LinkWord.Proving
+word_by TermState.Ready out up paused = LinkWord.Ready
+word_by TermState.InService out up paused = word_in_service out up paused
 
 abbrev pub word_of : Terminal → LinkWord
-word_of t = word_by (state_of t) t.up (is_paused t.state)
+word_of t = word_by (state_of t) t.outage t.up (is_paused t.state)

@@ -5,7 +5,7 @@ ghost use Rattle.term_bench.specs.Ends.{is_start, phase_of, word_in_service, wor
 use link_term::{Command, TermState, Works};
 use set_core::SetCore;
 
-/// How a link stands (Q.703 7.3, 8.2, 12), seen from its terminal.
+/// How a link stands (Q.703 7.3, 8, 12), seen from its terminal.
 #[derive(Clone, Copy, Debug, PartialEq, Eq)]
 pub enum LinkWord {
     /// Out of service: SIOS goes out.
@@ -24,6 +24,8 @@ pub enum LinkWord {
     Up,
     /// Up, and the far end has a processor outage.
     Paused,
+    /// In service here, and this end has a processor outage: SIPO goes out.
+    Outage,
 }
 
 /// Where a link is in its life, seen from its set (Q.704 5).
@@ -47,18 +49,21 @@ pub(crate) fn word_of(works: &Works) -> LinkWord
         TermState::Aligned => LinkWord::Aligned,
         TermState::Proving => LinkWord::Proving,
         TermState::Ready => LinkWord::Ready,
-        TermState::InService => word_in_service(works.is_up(), works.is_paused()),
+        TermState::InService => {
+            word_in_service(works.is_out(), works.is_up(), works.is_paused())
+        }
     }
 }
 
 /// How a link stands that is in service here.
-fn word_in_service(up: bool, paused: bool) -> LinkWord
-    ensures { result ≡ word_in_service up paused }
+fn word_in_service(out: bool, up: bool, paused: bool) -> LinkWord
+    ensures { result ≡ word_in_service out up paused }
 {
-    match (up, paused) {
-        (false, _) => LinkWord::Waiting,
-        (true, false) => LinkWord::Up,
-        (true, true) => LinkWord::Paused,
+    match (out, up, paused) {
+        (true, _, _) => LinkWord::Outage,
+        (false, false, _) => LinkWord::Waiting,
+        (false, true, false) => LinkWord::Up,
+        (false, true, true) => LinkWord::Paused,
     }
 }
 
@@ -79,6 +84,12 @@ pub(crate) fn is_start(command: Command) -> bool
 {
     match command {
         Command::Start | Command::Emergency => true,
-        Command::Busy | Command::Ease | Command::Blind | Command::Stop => false,
+        Command::Calm
+        | Command::Busy
+        | Command::Ease
+        | Command::Blind
+        | Command::Outage
+        | Command::Recover
+        | Command::Stop => false,
     }
 }

@@ -2,6 +2,7 @@
 
 ghost use Rattle.std.specs.Prelude.{◌≡◌, ◌<◌, ◌^◌, ◌||◌, false};
 ghost use Rattle.l2_state.specs.Table.{is_paused};
+ghost use Rattle.term_model.specs.Hearing.{is_deaf, is_held};
 ghost use Rattle.term_model.specs.Terminal.{opened, told, no_commands};
 
 use l2_align::{Align, State as AlignState};
@@ -66,7 +67,8 @@ impl Model for Inside {
       link = i.link;
       lengths = i.lengths;
       align = i.align;
-      state = i.state;
+      state = i.state.state;
+      outage = i.state.out;
       flow = i.flow;
       aerm = i.aerm;
       suerm = i.suerm;
@@ -147,6 +149,32 @@ impl Inside {
         }
     }
 
+    /// Whether this end has a processor outage (Q.703 8.1).
+    #[inline(always)]
+    pub fn is_out(&self) -> bool
+        ensures { result ≡ self.now.outage }
+    {
+        self.state.is_out()
+    }
+
+    /// Whether an end has a processor outage, so that no acknowledgement passes (Q.703 8).
+    #[inline(always)]
+    pub fn is_held(&self) -> bool
+        ensures { result ≡ is_held self.now }
+    {
+        self.is_out() || self.is_paused()
+    }
+
+    /// Whether this end has a processor outage on a link that is aligned, so that it hears no SIB (Q.703 8.1, own).
+    pub fn is_deaf(&self) -> bool
+        ensures { result ≡ is_deaf self.now.state self.now.outage }
+    {
+        match self.state.state() {
+            State::OutOfService | State::Aligning => false,
+            State::Ready | State::InService { .. } => self.is_out(),
+        }
+    }
+
     /// Where initial alignment stands (Q.703 7.3).
     pub fn alignment(&self) -> AlignState
         ensures { result ≡ self.now.align.state }
@@ -210,10 +238,13 @@ impl Inside {
     {
         match command {
             Command::Emergency => self.commands.emergency = true,
+            Command::Calm => self.commands.calm = true,
             Command::Start => self.commands.start = true,
             Command::Busy => self.commands.busy = true,
             Command::Ease => self.commands.ease = true,
             Command::Blind => self.commands.blind = true,
+            Command::Outage => self.commands.outage = true,
+            Command::Recover => self.commands.recover = true,
             Command::Stop => self.commands.stop = true,
         }
     }

@@ -19,8 +19,8 @@
 //!                                    +------------------------------------------------+
 //! ```
 //!
-//! - Readers: `link`, `state_now`, `is_paused`, `alignment`, `status`, `is_up`, `is_blind`, `is_b_due`, `top`,
-//!   `has_unacked`, `cause`, `last_head`, `has_ended`, `is_short`, `octet`.
+//! - Readers: `link`, `state_now`, `is_paused`, `is_out`, `is_held`, `is_deaf`, `alignment`, `status`, `is_up`,
+//!   `is_blind`, `is_b_due`, `top`, `has_unacked`, `cause`, `last_head`, `has_ended`, `is_short`, `octet`.
 //! - Commands wait in it (`command`) until a turn takes them (`take_commands`, `blind`).
 //! - Inputs of the machines: `align`, `control`, `state`; the monitors': `judge`; the timers': `lessen`, `ended`.
 //! - What the set said: `rise`, `acknowledge`, `fall`, `stop_quietly`.

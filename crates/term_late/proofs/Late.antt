@@ -1,19 +1,17 @@
 -- A PROVING PERIOD IS WAITED FOR: each step of a turn keeps `Waits`, and asks nothing. The tables' rows are gone through
 -- once (`align_waits`, `state_waits_row`): alignment is complete only by the end of T4, and each new proving starts it
 -- for 4,096 turns at least. By the shape of a turn, as term_model's TurnStays.antt does it.
-use Rattle.std.proofs.Common.{refl, sym, ap, subst, arith, ◌≡◌, ◌∙◌, ℕ, suc, ◌==◌, ◌≤◌, ◌<◌, ◌+◌, ◌||◌, Bool, true, false, not, nat_lt, length, List, [], ◌∷◌, ◌++◌, Option, Some, None, if◌then◌else◌}
+use Rattle.std.proofs.Common.{refl, sym, ap, subst, arith, ◌≡◌, ◌∙◌, ℕ, suc, ◌==◌, ◌≤◌, ◌+◌, Bool, true, false, nat_lt, length, List, [], ◌∷◌, ◌++◌, Option, Some, None, if◌then◌else◌}
 use Rattle.std.proofs.lemmas.Bool.{eqb-true}
 use Rattle.l2_units.specs.declared.cause.Cause.{Cause}
 use Rattle.l2_units.specs.declared.status.Status.{Status}
-use Rattle.l2_units.specs.declared.timer.TimerOrder.{TimerOrder}
 use Rattle.l2_bits.specs.declared.marks.Mark.{Mark}
 use Rattle.l2_units.specs.declared.unit.Unit.{Unit as SignalUnit}
-use Rattle.l2_monitors.specs.Suerm.{Kept}
 use Rattle.l2_align.specs.Alignment.{Alignment}
 use Rattle.l2_align.specs.declared.align.State.{State as AlignState}
 use Rattle.l2_align.specs.declared.signals.AlignIn.{AlignIn}
 use Rattle.l2_align.specs.declared.signals.Outcome.{Outcome}
-use Rattle.l2_align.specs.Table.{Row as AlignRow, row as align_row, table, silent, proving, counted_abort, aborted, idle, stop_t4, when_idle, when_not_aligned, when_aligned, when_proving, heard_not_aligned, heard_aligned, heard_proving}
+use Rattle.l2_align.specs.Table.{Row as AlignRow, row as align_row, table, calmed, silent, proving, counted_abort, aborted, idle, stop_t4, when_idle, when_not_aligned, when_aligned, when_proving, heard_not_aligned, heard_aligned, heard_proving}
 use Rattle.l2_state.specs.declared.link_state.State.{State}
 use Rattle.l2_state.specs.declared.signals.StateIn.{StateIn}
 use Rattle.l2_state.specs.declared.signals.Switch.{Switch}
@@ -24,17 +22,14 @@ use Rattle.l2_flow.specs.Table.{row_of as flow_row}
 use Rattle.l2_monitors.specs.Aerm.{after_mark as after_aerm_mark}
 use Rattle.set_events.specs.declared.event.Event.{Event}
 use Rattle.set_events.specs.declared.history.Entry.{Entry}
-use Rattle.term_model.specs.declared.command.Command.{Command}
-use Rattle.term_model.specs.declared.timers.Timers.{Timers}
-use Rattle.term_model.specs.Choosing.{Filled, sends, sends_status, chosen, filled}
-use Rattle.term_model.specs.Hearing.{all_hear, waits, unit_in, is_error, aerm_judges, service_judges, judges, judged, flow_hears, machines_hear, set_hears, heard, marked, all_marked}
-use Rattle.l2_state.specs.Table.{is_paused}
+use Rattle.term_model.specs.Choosing.{Filled, chosen, filled}
+use Rattle.term_model.specs.Hearing.{all_hear, is_deaf, is_held, reaches_set, waits, unit_in, is_error, aerm_judges, service_judges, judges, judged, flow_hears, machines_hear, set_hears, heard, marked, all_marked}
 use Rattle.term_model.specs.Machines.{ordered, with_align, aligns, switched, with_state, controls, fallen, asks_down, tells, state_in, ends, align_in, fails, flow_in}
-use Rattle.term_model.specs.Obeying.{obeys_if, blinded, commanded}
+use Rattle.term_model.specs.Obeying.{obeys_if, blinded, changes_outage, commanded}
 use Rattle.term_model.specs.OctetIn.{bits_in}
-use Rattle.term_model.specs.Runs.{Doing, Did, AreTurns, entries_of}
-use Rattle.term_model.specs.Talk.{Talk, done, ask, and_then}
-use Rattle.term_model.specs.Terminal.{Terminal, no_commands, opened, told}
+use Rattle.term_model.specs.Runs.{Doing, AreTurns, entries_of}
+use Rattle.term_model.specs.Talk.{Talk, done, and_then}
+use Rattle.term_model.specs.Terminal.{Terminal, no_commands}
 use Rattle.term_model.specs.Timing.{one_less, lessened, is_over, ends_t1, ends_t2, ends_t3, ends_t4, ends_t5, ends_t6, ends_t7, timed}
 use Rattle.term_model.specs.Turn.{turn_talk, IsTurn}
 use Rattle.term_model.specs.TurnLaws.{AllAsked}
@@ -121,9 +116,14 @@ module _ (n : ℕ) (few : n ≤ 4096) where
     heard_aligned_waits Status.OutOfService = (refl, λ e. false_true e)
     heard_aligned_waits _ = (refl, was)
 
+    calmed_waits : (local short : Bool) → RowWaits clock (calmed short (record a { local = local }))
+    calmed_waits true short = (refl, was)
+    calmed_waits false short = (refl, was)
+
     aligned_waits : (input : AlignIn) → RowWaits clock (when_aligned input a)
     aligned_waits AlignIn.Emergency = (refl, was)
     aligned_waits (AlignIn.Heard status) = heard_aligned_waits status
+    aligned_waits AlignIn.Calm = calmed_waits a.local false
     aligned_waits AlignIn.T3 = (refl, λ e. false_true e)
     aligned_waits AlignIn.Stop = (refl, λ e. false_true e)
     aligned_waits _ = (refl, was)
@@ -140,6 +140,7 @@ module _ (n : ℕ) (few : n ≤ 4096) where
 
     proving_waits : (input : AlignIn) → is_t4 input ≡ false → RowWaits clock (when_proving input a)
     proving_waits AlignIn.Emergency other = asks_short a.short
+    proving_waits AlignIn.Calm other = calmed_waits a.local a.short
     proving_waits (AlignIn.Heard status) other = heard_proving_waits status
     proving_waits AlignIn.Abort other = abort_if a.pending
     proving_waits AlignIn.Good other = good_if a.pending
@@ -227,23 +228,44 @@ module _ (n : ℕ) (few : n ≤ 4096) where
       → (t : Terminal) → Waits n t → Keep (obeys_if is obeys t)
   obeys_waits is obeys each t w = if_keeps Never (Waits n) is (obeys t) (done t) (λ yes. each t w) (λ no. w)
 
+  outage_waits : (was is : Bool) (t : Terminal) → Waits n t → Keep (waits was is t)
+  outage_waits was true t w = flow_waits t FlowIn.Paused w
+  outage_waits true false t w =
+      if_keeps Never (Waits n) t.up (flow_in (FlowIn.Resumed t.unacked) t) (done t) (λ up. flow_waits t (FlowIn.Resumed t.unacked) w) (λ down. w)
+  outage_waits false false t w = w
+
+  changes_waits : (t : Terminal) (input : StateIn) → completes input ≡ false → Waits n t → Keep (changes_outage input t)
+  changes_waits t input other w =
+      then_keeps Never (Waits n) (Waits n) (state_in input t) (λ u. waits (is_held t) (is_held u) u)
+      (state_waits t input other w) (λ u x. outage_waits (is_held t) (is_held u) u x)
+
   commanded_waits : (t : Terminal) → Waits n t → Keep (commanded t)
   commanded_waits t w =
       let c = t.commands in
       in_turn_keeps Never (Waits n)
-      (obeys_if c.emergency (align_in AlignIn.Emergency) ∷ obeys_if c.start (state_in StateIn.Start) ∷ obeys_if c.busy (flow_in FlowIn.Busy) ∷
-      obeys_if c.ease (flow_in FlowIn.Ease) ∷ obeys_if c.blind blinded ∷ obeys_if c.stop (state_in StateIn.Stop) ∷ [])
+      (obeys_if c.emergency (align_in AlignIn.Emergency) ∷ obeys_if c.calm (align_in AlignIn.Calm) ∷ obeys_if c.start (state_in StateIn.Start) ∷
+      obeys_if c.busy (flow_in FlowIn.Busy) ∷ obeys_if c.ease (flow_in FlowIn.Ease) ∷ obeys_if c.blind blinded ∷
+      obeys_if c.outage (changes_outage StateIn.Outage) ∷ obeys_if c.recover (changes_outage StateIn.Recover) ∷ obeys_if c.stop (state_in StateIn.Stop) ∷ [])
       (record t { commands = no_commands }) (
         obeys_waits c.emergency (align_in AlignIn.Emergency) (λ u. align_in_waits u AlignIn.Emergency refl),
         (
-          obeys_waits c.start (state_in StateIn.Start) (λ u. state_waits u StateIn.Start refl),
+          obeys_waits c.calm (align_in AlignIn.Calm) (λ u. align_in_waits u AlignIn.Calm refl),
           (
-            obeys_waits c.busy (flow_in FlowIn.Busy) (λ u. flow_waits u FlowIn.Busy),
+            obeys_waits c.start (state_in StateIn.Start) (λ u. state_waits u StateIn.Start refl),
             (
-              obeys_waits c.ease (flow_in FlowIn.Ease) (λ u. flow_waits u FlowIn.Ease),
+              obeys_waits c.busy (flow_in FlowIn.Busy) (λ u. flow_waits u FlowIn.Busy),
               (
-                obeys_waits c.blind blinded (λ u v. record { before = v.before; down = v.down; left = v.left }),
-                (obeys_waits c.stop (state_in StateIn.Stop) (λ u. state_waits u StateIn.Stop refl), tt),
+                obeys_waits c.ease (flow_in FlowIn.Ease) (λ u. flow_waits u FlowIn.Ease),
+                (
+                  obeys_waits c.blind blinded (λ u v. record { before = v.before; down = v.down; left = v.left }),
+                  (
+                    obeys_waits c.outage (changes_outage StateIn.Outage) (λ u. changes_waits u StateIn.Outage refl),
+                    (
+                      obeys_waits c.recover (changes_outage StateIn.Recover) (λ u. changes_waits u StateIn.Recover refl),
+                      (obeys_waits c.stop (state_in StateIn.Stop) (λ u. state_waits u StateIn.Stop refl), tt),
+                    ),
+                  ),
+                ),
               ),
             ),
           ),
@@ -273,7 +295,8 @@ module _ (n : ℕ) (few : n ≤ 4096) where
   judges_waits AlignState.Proving error t w = aerm_waits t.aerm error t w
 
   flow_hears_waits : (status : Status) (t : Terminal) → Waits n t → Keep (flow_hears status t)
-  flow_hears_waits Status.Busy t w = flow_waits t FlowIn.HeardBusy w
+  flow_hears_waits Status.Busy t w =
+      if_keeps Never (Waits n) (is_deaf t.state t.outage) (done t) (flow_in FlowIn.HeardBusy t) (λ deaf. w) (λ not. flow_waits t FlowIn.HeardBusy w)
   flow_hears_waits _ t w = w
 
   machines_wait : (unit : SignalUnit) (t : Terminal) → Waits n t → Keep (machines_hear unit t)
@@ -288,24 +311,21 @@ module _ (n : ℕ) (few : n ≤ 4096) where
   set_waits : (unit : SignalUnit) (t : Terminal) → Waits n t → Keep (set_hears unit t)
   set_waits unit t w = if_keeps Never (Waits n) t.up _ (done t) (λ up. false_true (sym w.down ∙ up)) (λ down. w)
 
+  reaches_waits : (unit : SignalUnit) (t : Terminal) → Waits n t → Keep (reaches_set unit t)
+  reaches_waits unit t w = if_keeps Never (Waits n) t.outage (done t) (set_hears unit t) (λ out. w) (λ not. set_waits unit t w)
+
   all_hear_waits : (unit : SignalUnit) (t : Terminal) → Waits n t → Keep (all_hear unit t)
   all_hear_waits unit t w =
-      then_keeps Never (Waits n) (Waits n) (align_in AlignIn.Good t) (λ u. and_then (machines_hear unit u) (λ v. set_hears unit v))
+      then_keeps Never (Waits n) (Waits n) (align_in AlignIn.Good t) (λ u. and_then (machines_hear unit u) (λ v. reaches_set unit v))
       (align_in_waits t AlignIn.Good refl w)
-      (λ u x. then_keeps Never (Waits n) (Waits n) (machines_hear unit u) (λ v. set_hears unit v)
-      (machines_wait unit u x) (λ v y. set_waits unit v y))
-
-  outage_waits : (was is : Bool) (t : Terminal) → Waits n t → Keep (waits was is t)
-  outage_waits was true t w = flow_waits t FlowIn.Paused w
-  outage_waits true false t w =
-      if_keeps Never (Waits n) t.up (flow_in (FlowIn.Resumed t.unacked) t) (done t) (λ up. flow_waits t (FlowIn.Resumed t.unacked) w) (λ down. w)
-  outage_waits false false t w = w
+      (λ u x. then_keeps Never (Waits n) (Waits n) (machines_hear unit u) (λ v. reaches_set unit v)
+      (machines_wait unit u x) (λ v y. reaches_waits unit v y))
 
   heard_waits : (unit : Option SignalUnit) (t : Terminal) → Waits n t → Keep (heard unit t)
   heard_waits None t w = w
   heard_waits (Some unit) t w =
-      then_keeps Never (Waits n) (Waits n) (all_hear unit t) (λ after. waits (is_paused t.state) (is_paused after.state) after)
-      (all_hear_waits unit t w) (λ u x. outage_waits (is_paused t.state) (is_paused u.state) u x)
+      then_keeps Never (Waits n) (Waits n) (all_hear unit t) (λ after. waits (is_held t) (is_held after) after)
+      (all_hear_waits unit t w) (λ u x. outage_waits (is_held t) (is_held u) u x)
 
   marked_waits : (mark : Mark) (t : Terminal) → Waits n t → Keep (marked mark t)
   marked_waits mark t w =

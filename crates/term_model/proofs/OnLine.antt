@@ -15,7 +15,7 @@ use Rattle.l2_state.specs.declared.link_state.State.{State}
 use Rattle.set_events.specs.declared.answer.Answer.{Answer}
 use Rattle.set_events.specs.declared.answer.Refusal.{Refusal}
 use Rattle.set_events.specs.declared.event.Event.{Event}
-use Rattle.term_model.specs.Choosing.{Filled, is_narrow, sends, sends_status, sends_fisu, sends_start_fisu, counts_sent, held_back, sent_by, serves, up_first, chosen, filled}
+use Rattle.term_model.specs.Choosing.{Filled, is_narrow, sends, sends_status, sends_fisu, sends_start_fisu, counts_sent, held_back, sent_by, serves, unless_out, up_first, chosen, filled}
 use Rattle.term_model.specs.Hearing.{all_marked}
 use Rattle.term_model.specs.LineLaws.{AreOnLine, CarriesUnits}
 use Rattle.term_model.specs.Obeying.{commanded}
@@ -60,12 +60,16 @@ serves_enough paused t =
     (λ not. (tt, λ answer. sent_enough answer t))))
     (λ down narrow none. absurd cc)
 
+unless_out_enough : (talk : Talk Filled) (t : Terminal) → Keeps Any HasEnough talk → Keeps Any HasEnough (unless_out talk t)
+unless_out_enough talk t enough =
+    if_keeps Any HasEnough t.outage (sends_status Status.ProcessorOutage t) talk (λ out narrow none. absurd cc) (λ not. enough)
+
 chosen_enough : (state : State) (t : Terminal) → Keeps Any HasEnough (chosen state t)
 chosen_enough State.OutOfService t = λ narrow none. absurd cc
 chosen_enough State.Aligning t = λ narrow none. absurd cc
-chosen_enough State.Ready t = λ narrow none. absurd cc
+chosen_enough State.Ready t = unless_out_enough (sends_start_fisu t) t (λ narrow none. absurd cc)
 chosen_enough (State.InService paused) t =
-    then_keeps Any Any HasEnough (up_first t) (λ u. serves paused u) (keeps_any (up_first t)) (λ u any. serves_enough paused u)
+    then_keeps Any Any HasEnough (up_first t) (λ u. unless_out (serves paused u) u) (keeps_any (up_first t)) (λ u any. unless_out_enough (serves paused u) u (serves_enough paused u))
 
 filled_enough : (t : Terminal) → Keeps Any HasEnough (filled t)
 filled_enough t =

@@ -1,7 +1,7 @@
 -- The worked rows where order matters, by computation.
 use Rattle.std.proofs.Common.{refl}
 use Rattle.l2_bits.specs.Flags.{flag}
-use Rattle.term_model.specs.OrderRows.{TimerRows, HeardRows, SentRows}
+use Rattle.term_model.specs.OrderRows.{TimerRows, HeardRows, OutageRows, SentRows}
 
 pub timer_rows : TimerRows
 timer_rows = record {
@@ -20,6 +20,20 @@ heard_rows = record {
   outage_and_last_ack = (_, (refl, (refl, refl)), (refl, refl));
   last_acked = (_, (refl, refl), (refl, refl, refl));
   one_acked = (_, (refl, refl), (refl, refl, refl));
+}
+
+pub outage_rows : OutageRows
+outage_rows = record {
+  begins_in_service = (_, refl, (refl, refl, refl, refl));
+  set_hears_nothing = (_, refl, (refl, refl, refl));
+  no_b_is_heard = (_, refl, (refl, refl));
+  ends = (_, refl, (refl, refl, refl));
+  ends_before_the_other = (_, refl, (refl, refl));
+  ends_behind_the_other = (_, refl, (refl, refl));
+  aligned_not_ready = (_, refl, refl);
+  comes_up_in_it = (_, (refl, refl), (refl, refl, refl));
+  ready_too_long = (_, refl, (refl, refl, refl));
+  stopped_in_it = (_, (refl, refl), (refl, refl, refl));
 }
 
 pub sent_rows : SentRows

@@ -21,6 +21,7 @@ alignment_rows = record {
   starts = (_, refl, (refl, refl, refl, refl));
   hears_sio = (_, refl, (refl, refl, refl, refl));
   in_emergency = (_, refl, (refl, refl));
+  emergency_ceases = (_, refl, (refl, refl, refl));
   hears_sin = (_, refl, (refl, refl, refl, refl));
   hears_sie = (_, refl, (refl, refl, refl));
   four_aborts = (_, refl, (refl, refl, refl));

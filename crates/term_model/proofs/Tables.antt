@@ -7,7 +7,7 @@ use Rattle.l2_align.specs.declared.signals.AlignIn.{AlignIn}
 use Rattle.l2_align.specs.declared.signals.AlignOut.{AlignOut}
 use Rattle.l2_align.specs.declared.signals.Outcome.{Outcome}
 use Rattle.l2_align.specs.Alignment.{Alignment}
-use Rattle.l2_align.specs.Table.{row as align_row, table, silent, proving, counted_abort, aborted, idle, stop_t4, when_idle, when_not_aligned, when_aligned, when_proving, heard_not_aligned, heard_aligned, heard_proving}
+use Rattle.l2_align.specs.Table.{row as align_row, table, calmed, silent, proving, counted_abort, aborted, idle, stop_t4, when_idle, when_not_aligned, when_aligned, when_proving, heard_not_aligned, heard_aligned, heard_proving}
 use Rattle.l2_state.specs.declared.link_state.State.{State}
 use Rattle.l2_state.specs.declared.signals.StateIn.{StateIn}
 use Rattle.l2_state.specs.declared.signals.Indication.{Indication}
@@ -77,8 +77,13 @@ heard_aligned_orders Status.Normal a = (tt, tt, length_of a.short)
 heard_aligned_orders Status.Emergency a = (tt, tt, length_of true)
 heard_aligned_orders _ a = (tt, tt, tt)
 
+calmed_orders : (local short : Bool) (a : Alignment) → AlignOrders (calmed short (record a { local = local })).out
+calmed_orders true short a = (tt, tt, tt)
+calmed_orders false short a = (tt, tt, tt)
+
 aligned_orders : (input : AlignIn) (a : Alignment) → AlignOrders (when_aligned input a).out
 aligned_orders (AlignIn.Heard status) a = heard_aligned_orders status a
+aligned_orders AlignIn.Calm a = calmed_orders a.local false a
 aligned_orders _ a = (tt, tt, tt)
 
 heard_proving_orders : (status : Status) (a : Alignment) → AlignOrders (heard_proving status a).out
@@ -87,6 +92,7 @@ heard_proving_orders _ a = (tt, tt, tt)
 
 proving_orders : (input : AlignIn) (a : Alignment) → AlignOrders (when_proving input a).out
 proving_orders AlignIn.Emergency a = shortened_if a.short (record a { local = true })
+proving_orders AlignIn.Calm a = calmed_orders a.local a.short a
 proving_orders (AlignIn.Heard status) a = heard_proving_orders status a
 proving_orders AlignIn.Abort a = abort_if a.pending a
 proving_orders AlignIn.Good a = good_if a.pending a

@@ -13,7 +13,6 @@ use Rattle.l2_align.specs.declared.align.State.{State as AlignState}
 use Rattle.l2_align.specs.declared.signals.AlignIn.{AlignIn}
 use Rattle.l2_state.specs.declared.link_state.State.{State}
 use Rattle.l2_state.specs.declared.signals.StateIn.{StateIn}
-use Rattle.l2_state.specs.Table.{is_paused}
 use Rattle.l2_flow.specs.declared.input.FlowIn.{FlowIn}
 use Rattle.set_events.specs.declared.answer.Answer.{Answer}
 use Rattle.set_events.specs.declared.answer.Refusal.{Refusal}
@@ -22,12 +21,12 @@ use Rattle.set_events.specs.declared.event.Event.{Event}
 use Rattle.set_events.specs.declared.history.Entry.{Entry}
 use Rattle.term_model.specs.declared.timers.Clocks.{Clocks}
 use Rattle.term_model.specs.declared.timers.Timers.{Timers}
-use Rattle.term_model.specs.Choosing.{Filled, is_narrow, sends, sends_status, sends_fisu, sends_start_fisu, raised_top, counts_sent, held_back, sent_by, serves, up_first, chosen, filled}
-use Rattle.term_model.specs.Hearing.{unit_in, is_error, aerm_judges, suerm_judges, service_judges, judges, judged, flow_hears, machines_hear, acks, faults, acked, reported, set_hears, waits, all_hear, heard, marked, all_marked}
+use Rattle.term_model.specs.Choosing.{Filled, is_narrow, sends, sends_status, sends_fisu, sends_start_fisu, raised_top, counts_sent, held_back, sent_by, serves, unless_out, up_first, chosen, filled}
+use Rattle.term_model.specs.Hearing.{unit_in, is_error, aerm_judges, suerm_judges, service_judges, judges, judged, flow_hears, machines_hear, acks, faults, acked, is_deaf, is_held, reported, reaches_set, set_hears, waits, all_hear, heard, marked, all_marked}
 use Rattle.term_model.specs.Machines.{state_in, align_in, flow_in, asks_up, stops_quietly}
 use Rattle.l2_monitors.specs.Aerm.{after_mark as after_aerm_mark}
 use Rattle.l2_monitors.specs.Suerm.{after_mark}
-use Rattle.term_model.specs.Obeying.{obeys_if, blinded, commanded}
+use Rattle.term_model.specs.Obeying.{obeys_if, blinded, changes_outage, commanded}
 use Rattle.term_model.specs.Talk.{Talk, done, ask, and_then}
 use Rattle.term_model.specs.Terminal.{Terminal, last_head, start_head, no_commands, told}
 use Rattle.term_model.specs.Timing.{one_less, lessened, is_over, ends_t1, ends_t2, ends_t3, ends_t4, ends_t5, ends_t6, ends_t7, timed}
@@ -57,25 +56,44 @@ obeys_kept b commanded obeys each t kept =
 blinded_kept : (b u : Terminal) → IsKept b u → Stays b (blinded u)
 blinded_kept b u kept = same_kept b u (record u { blind = u.blind || u.up }) refl refl refl refl refl refl refl kept
 
+waits_kept : (b t : Terminal) (was now : Bool) → IsKept b t → Stays b (waits was now t)
+waits_kept b t was true kept = flow_kept b t FlowIn.Paused kept
+waits_kept b t true false kept =
+    if_keeps (IsOfLink b.link) (IsKept b) t.up (flow_in (FlowIn.Resumed t.unacked) t) (done t)
+    (λ up. flow_kept b t (FlowIn.Resumed t.unacked) kept) (λ not. kept)
+waits_kept b t false false kept = kept
+
+changes_kept : (b : Terminal) (input : StateIn) (t : Terminal) → IsKept b t → Stays b (changes_outage input t)
+changes_kept b input t kept =
+    then_keeps (IsOfLink b.link) (IsKept b) (IsKept b) (state_in input t) (λ u. waits (is_held t) (is_held u) u)
+    (state_kept b t input kept) (λ u kept. waits_kept b u (is_held t) (is_held u) kept)
+
 commanded_kept : (b t : Terminal) → IsKept b t → Stays b (commanded t)
 commanded_kept b t kept =
     let c = t.commands in
     in_turn_keeps (IsOfLink b.link) (IsKept b)
-    (obeys_if c.emergency (align_in AlignIn.Emergency) ∷ obeys_if c.start (state_in StateIn.Start) ∷ obeys_if c.busy (flow_in FlowIn.Busy) ∷
-    obeys_if c.ease (flow_in FlowIn.Ease) ∷ obeys_if c.blind blinded ∷ obeys_if c.stop (state_in StateIn.Stop) ∷ [])
+    (obeys_if c.emergency (align_in AlignIn.Emergency) ∷ obeys_if c.calm (align_in AlignIn.Calm) ∷ obeys_if c.start (state_in StateIn.Start) ∷
+    obeys_if c.busy (flow_in FlowIn.Busy) ∷ obeys_if c.ease (flow_in FlowIn.Ease) ∷ obeys_if c.blind blinded ∷
+    obeys_if c.outage (changes_outage StateIn.Outage) ∷ obeys_if c.recover (changes_outage StateIn.Recover) ∷ obeys_if c.stop (state_in StateIn.Stop) ∷ [])
     (record t { commands = no_commands }) (
       obeys_kept b c.emergency (align_in AlignIn.Emergency) (λ u. align_kept b u AlignIn.Emergency),
       (
-        obeys_kept b c.start (state_in StateIn.Start) (λ u. state_kept b u StateIn.Start),
+        obeys_kept b c.calm (align_in AlignIn.Calm) (λ u. align_kept b u AlignIn.Calm),
         (
-          obeys_kept b c.busy (flow_in FlowIn.Busy) (λ u. flow_kept b u FlowIn.Busy),
+          obeys_kept b c.start (state_in StateIn.Start) (λ u. state_kept b u StateIn.Start),
           (
-            obeys_kept b c.ease (flow_in FlowIn.Ease) (λ u. flow_kept b u FlowIn.Ease),
+            obeys_kept b c.busy (flow_in FlowIn.Busy) (λ u. flow_kept b u FlowIn.Busy),
             (
-              obeys_kept b c.blind blinded (blinded_kept b),
+              obeys_kept b c.ease (flow_in FlowIn.Ease) (λ u. flow_kept b u FlowIn.Ease),
               (
-                obeys_kept b c.stop (state_in StateIn.Stop) (λ u. state_kept b u StateIn.Stop),
-                tt,
+                obeys_kept b c.blind blinded (blinded_kept b),
+                (
+                  obeys_kept b c.outage (changes_outage StateIn.Outage) (changes_kept b StateIn.Outage),
+                  (
+                    obeys_kept b c.recover (changes_outage StateIn.Recover) (changes_kept b StateIn.Recover),
+                    (obeys_kept b c.stop (state_in StateIn.Stop) (λ u. state_kept b u StateIn.Stop), tt),
+                  ),
+                ),
               ),
             ),
           ),
@@ -111,7 +129,8 @@ judges_kept b t AlignState.Proving error kept = aerm_kept b t t.aerm error kept
 judges_kept b t _ error kept = service_kept b t t.state error kept
 
 flow_hears_kept : (b t : Terminal) (status : Status) → IsKept b t → Stays b (flow_hears status t)
-flow_hears_kept b t Status.Busy kept = flow_kept b t FlowIn.HeardBusy kept
+flow_hears_kept b t Status.Busy kept =
+    if_keeps (IsOfLink b.link) (IsKept b) (is_deaf t.state t.outage) (done t) (flow_in FlowIn.HeardBusy t) (λ deaf. kept) (λ not. flow_kept b t FlowIn.HeardBusy kept)
 flow_hears_kept b t _ kept = kept
 
 machines_kept : (b t : Terminal) (unit : SignalUnit) → IsKept b t → Stays b (machines_hear unit t)
@@ -146,25 +165,22 @@ hears_kept b t unit kept =
     if_keeps (IsOfLink b.link) (IsKept b) t.up (ask (Event.Heard t.link unit) (λ answer. reported answer (head_of unit).bsn t)) (done t)
     (λ up. (kept.timed.link_is, λ answer. reported_kept b t answer (head_of unit).bsn kept)) (λ not. kept)
 
-waits_kept : (b t : Terminal) (was now : Bool) → IsKept b t → Stays b (waits was now t)
-waits_kept b t was true kept = flow_kept b t FlowIn.Paused kept
-waits_kept b t true false kept =
-    if_keeps (IsOfLink b.link) (IsKept b) t.up (flow_in (FlowIn.Resumed t.unacked) t) (done t)
-    (λ up. flow_kept b t (FlowIn.Resumed t.unacked) kept) (λ not. kept)
-waits_kept b t false false kept = kept
+reaches_kept : (b t : Terminal) (unit : SignalUnit) → IsKept b t → Stays b (reaches_set unit t)
+reaches_kept b t unit kept =
+    if_keeps (IsOfLink b.link) (IsKept b) t.outage (done t) (set_hears unit t) (λ out. kept) (λ not. hears_kept b t unit kept)
 
 all_hear_kept : (b t : Terminal) (unit : SignalUnit) → IsKept b t → Stays b (all_hear unit t)
 all_hear_kept b t unit kept =
-    then_keeps (IsOfLink b.link) (IsKept b) (IsKept b) (align_in AlignIn.Good t) (λ u. and_then (machines_hear unit u) (λ v. set_hears unit v))
+    then_keeps (IsOfLink b.link) (IsKept b) (IsKept b) (align_in AlignIn.Good t) (λ u. and_then (machines_hear unit u) (λ v. reaches_set unit v))
     (align_kept b t AlignIn.Good kept)
-    (λ u kept. then_keeps (IsOfLink b.link) (IsKept b) (IsKept b) (machines_hear unit u) (λ v. set_hears unit v)
-    (machines_kept b u unit kept) (λ v kept. hears_kept b v unit kept))
+    (λ u kept. then_keeps (IsOfLink b.link) (IsKept b) (IsKept b) (machines_hear unit u) (λ v. reaches_set unit v)
+    (machines_kept b u unit kept) (λ v kept. reaches_kept b v unit kept))
 
 heard_kept : (b t : Terminal) (unit : Option SignalUnit) → IsKept b t → Stays b (heard unit t)
 heard_kept b t None kept = kept
 heard_kept b t (Some unit) kept =
-    then_keeps (IsOfLink b.link) (IsKept b) (IsKept b) (all_hear unit t) (λ u. waits (is_paused t.state) (is_paused u.state) u)
-    (all_hear_kept b t unit kept) (λ u kept. waits_kept b u (is_paused t.state) (is_paused u.state) kept)
+    then_keeps (IsOfLink b.link) (IsKept b) (IsKept b) (all_hear unit t) (λ u. waits (is_held t) (is_held u) u)
+    (all_hear_kept b t unit kept) (λ u kept. waits_kept b u (is_held t) (is_held u) kept)
 
 marked_kept : (b t : Terminal) (mark : Mark) → IsKept b t → Stays b (marked mark t)
 marked_kept b t mark kept =
@@ -284,16 +300,21 @@ serves_kept b t paused kept =
     (λ not. (kept.timed.link_is, λ answer. sent_kept b t answer kept))))
     (λ down. sends_kept b t (SignalUnit.Fisu start_head) kept)
 
+unless_out_kept : (b t : Terminal) (talk : Talk Filled) → IsKept b t → Chooses b talk → Chooses b (unless_out talk t)
+unless_out_kept b t talk kept chooses =
+    if_keeps (IsOfLink b.link) (λ f. IsKept b f.after) t.outage (sends_status Status.ProcessorOutage t) talk
+    (λ out. sends_kept b t (SignalUnit.Lssu (last_head t) Status.ProcessorOutage) kept) (λ not. chooses)
+
 up_first_kept : (b t : Terminal) → IsInService t.state → IsKept b t → Stays b (up_first t)
 up_first_kept b t is kept = if_keeps (IsOfLink b.link) (IsKept b) t.up (done t) (asks_up t) (λ up. kept) (λ down. asks_up_kept b t kept.timed is)
 
 chosen_kept : (b t : Terminal) (state : State) → state ≡ t.state → IsKept b t → Chooses b (chosen state t)
 chosen_kept b t State.OutOfService at kept = sends_kept b t (SignalUnit.Lssu (last_head t) Status.OutOfService) kept
 chosen_kept b t State.Aligning at kept = sends_kept b t (SignalUnit.Lssu (last_head t) t.status) kept
-chosen_kept b t State.Ready at kept = sends_kept b t (SignalUnit.Fisu start_head) kept
+chosen_kept b t State.Ready at kept = unless_out_kept b t (sends_start_fisu t) kept (sends_kept b t (SignalUnit.Fisu start_head) kept)
 chosen_kept b t (State.InService paused) at kept =
-    then_keeps (IsOfLink b.link) (IsKept b) (λ f. IsKept b f.after) (up_first t) (λ u. serves paused u)
-    (up_first_kept b t (subst IsInService at tt) kept) (λ u kept. serves_kept b u paused kept)
+    then_keeps (IsOfLink b.link) (IsKept b) (λ f. IsKept b f.after) (up_first t) (λ u. unless_out (serves paused u) u)
+    (up_first_kept b t (subst IsInService at tt) kept) (λ u kept. unless_out_kept b u (serves paused u) kept (serves_kept b u paused kept))
 
 filled_kept : (b t : Terminal) → IsKept b t → Chooses b (filled t)
 filled_kept b t kept =

@@ -92,12 +92,16 @@ serves paused t =
 abbrev pub up_first : Terminal → Talk Terminal
 up_first t = if t.up then done t else asks_up t
 
+-- Q.703 8.1: in a processor outage of this end SIPO goes out in place of all that a link sends that is aligned
+abbrev pub unless_out : Talk Filled → Terminal → Talk Filled
+unless_out talk t = if t.outage then sends_status Status.ProcessorOutage t else talk
+
 -- Q.703 7.2, 12.1: SIOS out of service, alignment's status while aligning, FISUs when ready
 abbrev pub chosen : State → Terminal → Talk Filled
 chosen State.OutOfService t = sends_status Status.OutOfService t
 chosen State.Aligning t = sends_status t.status t
-chosen State.Ready t = sends_start_fisu t
-chosen (State.InService paused) t = and_then (up_first t) (λ t. serves paused t)
+chosen State.Ready t = unless_out (sends_start_fisu t) t
+chosen (State.InService paused) t = and_then (up_first t) (λ t. unless_out (serves paused t) t)
 
 abbrev pub filled : Terminal → Talk Filled
 filled t = if nat_lt (length t.bits) 8 then chosen t.state t else done (record { unit = None; narrow = true; after = t })

@@ -71,9 +71,17 @@ judged error t = judges t.align.state error t
 
 -- THE MACHINES.
 
+-- in a processor outage of this end a link that is aligned hears no more than alignment and link state control need:
+-- what it heard it couldn't answer for (Q.703 8.1, own)
+abbrev pub is_deaf : State → Bool → Bool
+is_deaf State.OutOfService outage = false
+is_deaf State.Aligning outage = false
+is_deaf State.Ready outage = outage
+is_deaf (State.InService paused) outage = outage
+
 -- Q.703 9.3: SIB, in every state of the link (own)
 abbrev pub flow_hears : Status → Terminal → Talk Terminal
-flow_hears Status.Busy t = flow_in FlowIn.HeardBusy t
+flow_hears Status.Busy t = if is_deaf t.state t.outage then done t else flow_in FlowIn.HeardBusy t
 flow_hears _ t = done t
 
 -- Q.703 7.3, 8.2, 11.1: a status goes to alignment, then to link state control, then to flow control; what their
@@ -112,10 +120,16 @@ abbrev pub set_hears : SignalUnit → Terminal → Talk Terminal
 set_hears unit t =
     if t.up then ask (Event.Heard t.link unit) (λ answer. reported answer (head_of unit).bsn t) else done t
 
--- THE FAR END'S PROCESSOR OUTAGE (Q.703 8.2): it acknowledges nothing meanwhile, so T7 stands still (own).
+-- but in a processor outage of this end (Q.703 8.1): a link is up at the set in service alone
+abbrev pub reaches_set : SignalUnit → Terminal → Talk Terminal
+reaches_set unit t = if t.outage then done t else set_hears unit t
 
--- whether the link was paused before a unit, and is so behind it: the first unit that the set hears behind the outage
--- starts T7 anew, where messages are unacknowledged
+-- A PROCESSOR OUTAGE OF EITHER END (Q.703 8): no acknowledgement is sent meanwhile, or none is heard, so T7 stands still
+-- (own).
+abbrev pub is_held : Terminal → Bool
+is_held t = t.outage || is_paused t.state
+
+-- whether it was so before an input, and is so behind it: then T7 starts anew, where messages are unacknowledged
 abbrev pub waits : Bool → Bool → Terminal → Talk Terminal
 waits was true t = flow_in FlowIn.Paused t
 waits true false t = if t.up then flow_in (FlowIn.Resumed t.unacked) t else done t
@@ -127,11 +141,11 @@ waits false false t = done t
 abbrev pub all_hear : SignalUnit → Terminal → Talk Terminal
 all_hear unit t =
     and_then (align_in AlignIn.Good t) (λ t.
-    and_then (machines_hear unit t) (λ t. set_hears unit t))
+    and_then (machines_hear unit t) (λ t. reaches_set unit t))
 
 abbrev pub heard : Option SignalUnit → Terminal → Talk Terminal
 heard None t = done t
-heard (Some unit) t = and_then (all_hear unit t) (λ after. waits (is_paused t.state) (is_paused after.state) after)
+heard (Some unit) t = and_then (all_hear unit t) (λ after. waits (is_held t) (is_held after) after)
 
 abbrev pub marked : Mark → Terminal → Talk Terminal
 marked mark t = and_then (judged (is_error (unit_in mark)) t) (λ t. heard (unit_in mark) t)

@@ -16,7 +16,7 @@ use Rattle.l2_align.specs.Table.{Row as AlignRow, row as align_row}
 use Rattle.l2_state.specs.declared.signals.StateIn.{StateIn}
 use Rattle.l2_state.specs.declared.signals.Switch.{Switch}
 use Rattle.l2_state.specs.declared.signals.Indication.{Indication}
-use Rattle.l2_state.specs.Table.{Row as StateRow, row as state_row}
+use Rattle.l2_state.specs.Table.{Row as StateRow, row as state_row, outage_after}
 use Rattle.l2_flow.specs.declared.input.FlowIn.{FlowIn}
 use Rattle.l2_flow.specs.Table.{Effect, row_of as flow_row}
 use Rattle.set_events.specs.declared.answer.Answer.{Answer}
@@ -80,6 +80,7 @@ suerm_after new suerm = if new then Some fresh else suerm
 abbrev pub with_state : StateRow → Terminal → Terminal
 with_state row t = switched row.out.alignment (record t {
   state = row.next;
+  outage = outage_after row.outage t.outage;
   suerm = suerm_after row.out.new_suerm t.suerm;
   clocks = record t.clocks { t1 = ordered row.out.t1 t.lengths.t1 t.clocks.t1 };
 })

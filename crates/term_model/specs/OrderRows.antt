@@ -19,7 +19,7 @@ use Rattle.term_model.specs.Choosing.{filled}
 use Rattle.term_model.specs.Hearing.{all_marked}
 use Rattle.term_model.specs.Obeying.{commanded}
 use Rattle.term_model.specs.Lengths.{above_0}
-use Rattle.term_model.specs.Rows.{Leads, lengths, new, got, nothing_done, lssu, sio, sin, sipo, fisu, begins, serving, the_fisu, the_sipo}
+use Rattle.term_model.specs.Rows.{Leads, lengths, new, got, nothing_done, lssu, sio, sin, sipo, fisu, begins, ready, serving, the_fisu, the_sipo}
 use Rattle.term_model.specs.Talk.{and_then}
 use Rattle.term_model.specs.Terminal.{Terminal, opened, told, no_clocks, start_head}
 use Rattle.term_model.specs.Timing.{timed}
@@ -103,6 +103,51 @@ pub record HeardRows : Type 0 where
   pub one_acked : Leads (all_marked (acking ∷ []) (record awaiting { top = 1 }))
       (got (Event.Heard 0 (SignalUnit.Fisu acks_it)) acked_one ∷ []) (λ t.
       (t.flow.far_busy ≡ false) × (t.clocks.t6 ≡ None) × (t.clocks.t7 ≡ Some 100000))
+
+-- A PROCESSOR OUTAGE OF THIS END.
+
+-- it began while the message wasn't acknowledged, and the far end was busy
+abbrev pub unhearing : Terminal
+unhearing = record serving {
+  outage = true;
+  flow = record { busy = false; far_busy = true; t7_runs = false };
+  clocks = record no_clocks { t6 = Some 50 };
+  top = 0;
+  unacked = true;
+}
+
+pub record OutageRows : Type 0 where
+  -- it begins: T7 stands still, T6 runs on, and SIPO goes out, before a B that is due
+  pub begins_in_service : Leads (and_then (commanded (told Command.Outage (record awaiting { b_due = true }))) (λ t. filled t)) [] (λ f.
+      (f.unit ≡ Some the_sipo) × (f.after.clocks.t6 ≡ Some 50) × (f.after.clocks.t7 ≡ None) × (f.after.b_due ≡ true))
+  -- the set hears nothing in it
+  pub set_hears_nothing : Leads (all_marked (acking ∷ []) unhearing) [] (λ t.
+      (t.state ≡ State.InService false) × (t.unacked ≡ true) × (t.clocks.t6 ≡ Some 50))
+  -- nor is a B heard, whose T6 no acknowledgement could end
+  pub no_b_is_heard : Leads (all_marked (lssu 5 ∷ []) (record serving { outage = true })) [] (λ t.
+      (t.flow.far_busy ≡ false) × (t.clocks.t6 ≡ None))
+  -- it ends: T7 begins anew, since the message is unacknowledged still
+  pub ends : Leads (commanded (told Command.Recover unhearing)) [] (λ t.
+      (t.outage ≡ false) × (t.clocks.t6 ≡ Some 50) × (t.clocks.t7 ≡ Some 100000))
+  -- but not while the far end has one
+  pub ends_before_the_other : Leads
+      (and_then (all_marked (sipo ∷ []) unhearing) (λ t. commanded (told Command.Recover t))) [] (λ t.
+      (t.state ≡ State.InService true) × (t.clocks.t7 ≡ None))
+  -- nor does it where that of the far end is over first
+  pub ends_behind_the_other : Leads (all_marked (sipo ∷ fisu ∷ []) unhearing) [] (λ t.
+      (t.state ≡ State.InService false) × (t.clocks.t7 ≡ None))
+  -- a link that is ready sends SIPO in it
+  pub aligned_not_ready : Leads (filled (record ready { outage = true; bits = [] })) [] (λ f. f.unit ≡ Some the_sipo)
+  -- and comes up by a FISU, which the set doesn't hear
+  pub comes_up_in_it : Leads (all_marked (fisu ∷ []) (record ready { outage = true }))
+      (got (Event.Up 0) Answer.Done ∷ []) (λ t.
+      (t.state ≡ State.InService false) × (t.up ≡ true) × (t.outage ≡ true))
+  -- or fails where T1 is over
+  pub ready_too_long : Leads (timed (record ready { outage = true; clocks = record no_clocks { t1 = Some 1 } })) [] (λ t.
+      (t.state ≡ State.OutOfService) × (t.cause ≡ Some Cause.T1) × (t.outage ≡ false))
+  -- a link that is stopped in it has none any more
+  pub stopped_in_it : Leads (commanded (told Command.Stop unhearing)) (got (Event.Down 0) Answer.Done ∷ []) (λ t.
+      (t.state ≡ State.OutOfService) × (t.cause ≡ Some Cause.Stop) × (t.outage ≡ false))
 
 -- WHAT IS SENT.
 

@@ -108,6 +108,11 @@ pub record AlignmentRows : Type 0 where
   pub in_emergency : Leads
       (and_then (commanded (told Command.Emergency (told Command.Start new))) (λ t. all_marked (sio ∷ []) t)) [] (λ t.
       (t.align.state ≡ AlignState.Aligned) × (t.status ≡ Status.Emergency))
+  -- which ceases in an emergency proving: SIN goes out again, and the proving goes on
+  pub emergency_ceases : Leads
+      (and_then (commanded (told Command.Emergency (told Command.Start new))) (λ t.
+      and_then (all_marked (sio ∷ sin ∷ []) t) (λ t. commanded (told Command.Calm t)))) [] (λ t.
+      (t.align.state ≡ AlignState.Proving) × (t.status ≡ Status.Normal) × (t.clocks.t4 ≡ Some 4096))
   -- SIN: proving, of 2^16 octet times, with Tin = 4
   pub hears_sin : Leads (begins (sio ∷ sin ∷ [])) [] (λ t.
       (t.align.state ≡ AlignState.Proving) × (t.clocks.t3 ≡ None) × (t.clocks.t4 ≡ Some 65536) × (t.aerm ≡ Some 4))

@@ -23,6 +23,8 @@ pub record Terminal : Type 0 where
   pub align : Alignment
   -- link state control (Q.703 12)
   pub state : State
+  -- this end has a processor outage (Q.703 8.1)
+  pub outage : Bool
   -- flow control (Q.703 9)
   pub flow : Values
   -- the alignment error rate monitor of the proving that runs: the errors that trip it yet (Q.703 10.3)
@@ -58,15 +60,28 @@ no_clocks = record { t1 = None; t2 = None; t3 = None; t4 = None; t5 = None; t6 =
 
 -- nothing was commanded
 abbrev pub no_commands : Commands
-no_commands = record { emergency = false; start = false; busy = false; ease = false; blind = false; stop = false }
+no_commands = record {
+  emergency = false;
+  calm = false;
+  start = false;
+  busy = false;
+  ease = false;
+  blind = false;
+  outage = false;
+  recover = false;
+  stop = false;
+}
 
 -- one more command waits for the next turn; it's no matter that it waited before
 abbrev pub and_also : Command → Commands → Commands
 and_also Command.Emergency commands = record commands { emergency = true }
+and_also Command.Calm commands = record commands { calm = true }
 and_also Command.Start commands = record commands { start = true }
 and_also Command.Busy commands = record commands { busy = true }
 and_also Command.Ease commands = record commands { ease = true }
 and_also Command.Blind commands = record commands { blind = true }
+and_also Command.Outage commands = record commands { outage = true }
+and_also Command.Recover commands = record commands { recover = true }
 and_also Command.Stop commands = record commands { stop = true }
 
 abbrev pub told : Command → Terminal → Terminal
@@ -79,6 +94,7 @@ opened link lengths = record {
   lengths = lengths;
   align = initial;
   state = State.OutOfService;
+  outage = false;
   flow = cleared;
   aerm = None;
   suerm = None;

@@ -3,7 +3,7 @@ ghost use Rattle.term_model.specs.TurnLaws.{DamagedIsNotHeard, OneTurn, Terminal
 ghost use Rattle.term_model.specs.Terminal.{Terminal};
 ghost use Rattle.term_model.specs.LineLaws.{TheLineCarriesUnits};
 ghost use Rattle.term_model.specs.MachineLaws.{EachInputAsksAtMostOne, LayersAreWhole};
-ghost use Rattle.term_model.specs.OrderRows.{HeardRows, SentRows, TimerRows};
+ghost use Rattle.term_model.specs.OrderRows.{HeardRows, OutageRows, SentRows, TimerRows};
 ghost use Rattle.term_model.specs.Rows.{AlignmentRows, ServiceRows, SioGoesOut};
 ghost use Rattle.term_model.specs.Runs.{RunsJoin, RunsStaySound};
 ghost use Rattle.term_model.specs.TalkLaws.{AlwaysGoes, BreaksFirst, BreaksLater, EndsTheSame, Joins, OneOutcome, Splits};
@@ -65,6 +65,7 @@ pub fn rows_come_out()
     ensures line { SioGoesOut }
     ensures timers { TimerRows }
     ensures heard { HeardRows }
+    ensures outage { OutageRows }
     ensures sent { SentRows }
 {}
 

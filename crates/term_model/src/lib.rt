@@ -11,11 +11,11 @@
 //!
 //! | step | file | Q.703 |
 //! |---|---|---|
-//! | 1 commands | `Obeying` | 7.2, 9.2, 12.1 |
+//! | 1 commands | `Obeying` | 7.2, 8.1, 9.2, 12.1 |
 //! | 2 one octet in | `OctetIn` | 2.4, 3, 4 |
 //! | 3 marks: the monitors, the machines, the set | `Hearing` | 5 to 10 |
 //! | 4 timers | `Timing` | 12.3 |
-//! | 5 what is sent next | `Choosing` | 11.2, 12.1 |
+//! | 5 what is sent next | `Choosing` | 8.1, 11.2, 12.1 |
 //! | 6 one octet out | `OctetOut` | 2.2, 3, 4.2 |
 //!
 //! The laws stand in `TalkLaws`, `MachineLaws`, `TurnLaws`, `LineLaws` and at the end of `Runs`, worked

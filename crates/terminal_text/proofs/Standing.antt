@@ -13,7 +13,8 @@ word_at (suc (suc (suc zero))) = LinkWord.Proving
 word_at (suc (suc (suc (suc zero)))) = LinkWord.Ready
 word_at (suc (suc (suc (suc (suc zero))))) = LinkWord.Waiting
 word_at (suc (suc (suc (suc (suc (suc zero)))))) = LinkWord.Up
-word_at _ = LinkWord.Paused
+word_at (suc (suc (suc (suc (suc (suc (suc zero))))))) = LinkWord.Paused
+word_at _ = LinkWord.Outage
 
 found : (word : LinkWord) → word_at (word_number word) ≡ word
 found LinkWord.Out = refl
@@ -24,6 +25,7 @@ found LinkWord.Ready = refl
 found LinkWord.Waiting = refl
 found LinkWord.Up = refl
 found LinkWord.Paused = refl
+found LinkWord.Outage = refl
 
 one_word : (a b : LinkWord) → word_number a ≡ word_number b → a ≡ b
 one_word a b same = sym (found a) ∙ ap word_at same ∙ found b

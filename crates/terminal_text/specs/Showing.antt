@@ -20,6 +20,7 @@ word_name LinkWord.Ready = codes "ready"
 word_name LinkWord.Waiting = codes "waiting"
 word_name LinkWord.Up = codes "up"
 word_name LinkWord.Paused = codes "paused"
+word_name LinkWord.Outage = codes "outage"
 
 -- the same list so often
 abbrev pub over : {A : Type 0} → ℕ → List A → List A
@@ -53,6 +54,7 @@ word_number LinkWord.Ready = 4
 word_number LinkWord.Waiting = 5
 word_number LinkWord.Up = 6
 word_number LinkWord.Paused = 7
+word_number LinkWord.Outage = 8
 
 -- the link stands as before
 abbrev pub stays : Turn → Bool

@@ -23,6 +23,7 @@ pub(crate) fn name_of(word: LinkWord) -> &'static str
         LinkWord::Waiting => "waiting",
         LinkWord::Up => "up",
         LinkWord::Paused => "paused",
+        LinkWord::Outage => "outage",
     }
 }
 

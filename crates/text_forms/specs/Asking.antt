@@ -4,7 +4,7 @@ use Rattle.std.specs.Result.{result_ok, result_err}
 use Rattle.std.specs.Str.{bytes_eq}
 use Rattle.set_events.specs.declared.event.Event.TheVariants.{Offer, Take, Find}
 use Rattle.term_model.specs.declared.command.Command.{Command}
-use Rattle.term_model.specs.declared.command.Command.TheVariants.{Start, Stop, Emergency, Busy, Ease, Blind}
+use Rattle.term_model.specs.declared.command.Command.TheVariants.{Start, Stop, Emergency, Calm, Busy, Ease, Blind, Outage, Recover}
 use Rattle.text_forms.specs.declared.asked.Asked.{Asked}
 use Rattle.text_forms.specs.declared.asked.OfLink.{OfLink}
 use Rattle.text_forms.specs.declared.asked.OfLink.TheVariants.{Look as Looking, Command as Commanding, Event as Telling}
@@ -57,7 +57,10 @@ command_of name =
     else (if bytes_eq name (codes "emergency") then Some Emergency
     else (if bytes_eq name (codes "busy") then Some Busy
     else (if bytes_eq name (codes "ease") then Some Ease
-    else (if bytes_eq name (codes "blind") then Some Blind else None)))))
+    else (if bytes_eq name (codes "blind") then Some Blind
+    else (if bytes_eq name (codes "outage") then Some Outage
+    else (if bytes_eq name (codes "recover") then Some Recover
+    else (if bytes_eq name (codes "calm") then Some Calm else None))))))))
 
 abbrev pub event_or_command : List ℕ → Option Command → Option OfLink
 event_or_command name (Some command) = Some (Commanding command)

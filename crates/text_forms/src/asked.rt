@@ -42,7 +42,7 @@ pub struct Repeated {
 pub(crate) enum OfLink {
     /// `look`
     Look,
-    /// `start`, `stop`, `emergency`, `busy`, `ease` or `blind`
+    /// `start`, `stop`, `emergency`, `calm`, `busy`, `ease`, `blind`, `outage` or `recover`
     Command(Command),
     /// `noanswer`, `timed`, `restore` or `backtimeout`
     Event(LinkEvent),
@@ -106,6 +106,12 @@ fn find_command(name: &[u8]) -> Option<Command>
         Some(Command::Ease)
     } else if is_word(name, b"blind") {
         Some(Command::Blind)
+    } else if is_word(name, b"outage") {
+        Some(Command::Outage)
+    } else if is_word(name, b"recover") {
+        Some(Command::Recover)
+    } else if is_word(name, b"calm") {
+        Some(Command::Calm)
     } else {
         None
     }

@@ -446,7 +446,7 @@ fn the_help_shows_each_line_of_a_terminal(rt: HostRuntime) -> Result<(), Fail> {
     let lines = [
         "  set links=L method=W a=X b=Y sio=HH ",
         "  timers t1=N t2=N t3=N t5=N t6=N t7=N ",
-        "  start L, stop L, emergency L, busy L, ease L, blind L\n",
+        "  start L, stop L, emergency L, calm L, busy L, ease L, blind L, outage L, recover L\n",
         "  octets L HEX ",
         "  hear L UNIT [xN] ",
         "  flags L N ",

@@ -10,4 +10,4 @@ returns-in_err-tell_all-clause-talks g c =
 pub returns-clause-talks : goal.returns-clause-talks
 returns-clause-talks g c =
     let first = c.in_ok-tell_all.ensures.talks in
-    heard_then (unit_in c.args.unit.now) c.args.inside.now c.tell_all.new.inside _ _ _ _ _ _ c.is_paused-was_paused.ensures first.0 first.1 c.tell_outage.ensures.talks
+    heard_then (unit_in c.args.unit.now) c.args.inside.now c.tell_all.new.inside _ _ _ _ _ _ c.is_held-was_held.ensures first.0 first.1 c.tell_outage.ensures.talks
