@@ -1,7 +1,8 @@
 """Walks in which links are given up, for `tools/two-ends-walk --given-up`: two ends of a set of 1 to 4 links, either method,
-whose links are lost, left, left blindly, settled by time or without an answer and brought up again, while messages are offered in all
-streams. Then nothing is lost any more: a link that is up at one end alone fails there too, each link comes up, and messages are
-offered in all streams.
+whose links are lost, left, left blindly, settled by time or without an answer and brought up again, while messages
+are offered in all streams, and streams are asked back, asked back again and given up. Then nothing is lost any more: a
+link that is up at one end alone fails there too, each link comes up, streams on their way home are asked back once
+more, and messages are offered in all streams.
 
 Held against what `mtpbank play` shows, for each walk's end:
   arrives  each message that was offered in that end arrives once, and those of a stream in order
@@ -107,8 +108,9 @@ class Walk:
     def step(self):
         rng = self.rng
         end, link = rng.choice("ab"), rng.randrange(self.count)
-        kind = rng.choices(["offer", "emit", "arrive", "lose", "take", "leave", "give up", "rise", "restore", "time out"],
-                           [20, 40, 36, 4, 4, 2, 1, 4, 2, 1])[0]
+        rates = {"offer": 20, "emit": 40, "arrive": 36, "lose": 4, "take": 4, "leave": 2, "give up": 1, "rise": 4,
+                 "restore": 3, "ask again": 4, "time out": 1}
+        kind = rng.choices([*rates], [*rates.values()])[0]
         if kind == "offer":
             self.offer(end, rng.randrange(16))
         elif kind == "emit":
@@ -128,8 +130,14 @@ class Walk:
             self.rise(link)
         elif kind == "restore":
             self.say(f"restore {end} {link}")
+        elif kind == "ask again":
+            for home in range(self.count):
+                self.ask_again(end, home)
         elif kind == "time out":
             self.say(f"backtimeout {end} {link}")
+
+    def ask_again(self, end, link):
+        self.figures["asked back again"] += self.say(f"redeclare {end} {link}") == "done"
 
     def drain(self):
         """Units go and come, and none is lost, until nothing but fill-in units does."""
@@ -168,6 +176,10 @@ class Walk:
             self.rise(link)
             self.drain()
         self.stay()
+        for end in "ab":
+            for link in range(self.count):
+                self.ask_again(end, link)
+        self.drain()
         for end in "ab":
             for link in range(self.count):
                 self.say(f"backtimeout {end} {link}")

@@ -8,8 +8,9 @@ be raises `Finding`.
 What is checked of every script: the line and kind of its fault, the form of every answer, the numbers of accepted
 messages, what is taken (the oldest message heard, octet for octet), the check octets, BSN and FSN of every unit sent,
 that what is sent again is what was sent under that FSN, what becomes of an order, which links can come up, which
-streams can be asked back and how many declarations that makes, that a message stands back just by the code that its
-stream waits for, and that the places on each `end` line add up to the messages accepted there, and how many are back.
+streams can be asked back and how many declarations that makes, which are made once more, that a code is in use while an
+acknowledgement is owed, that a message stands back just by the code that its stream waits for, and that the places on
+each `end` line add up to the messages accepted there, and how many are back.
 
 Of a script in which no unit was heard by `hear` and neither `noanswer` nor `timed` was obeyed also: no unit shows a fault; what a link
 brought is what was sent on it, from the first on, in order; each message that counts as acknowledged was heard; and of
@@ -22,12 +23,13 @@ from collections import Counter, deque
 from functools import lru_cache
 from typing import NamedTuple, Optional
 
+from declarations import Declarations
 from line_bits import NARROW, WIDE, Unit, check_octets, unit_of
 
 NUMBER = rb"(0|[1-9][0-9]*)"
 HEX = rb"((?:[0-9a-fA-F]{2})+)"
 SHAPE = re.compile(rb"(together) N|(take) ([ab])|(offer) ([ab])(?: X)?|(emit|arrive|find|rise|fill) ([ab]) N"
-                   rb"|(down|blind|noanswer|timed|restore|backtimeout) ([ab]) N"
+                   rb"|(down|blind|noanswer|timed|restore|redeclare|backtimeout) ([ab]) N"
                    rb"|(lose) ([ab]) N N|(hear) ([ab]) N X".replace(b"N", NUMBER).replace(b"X", HEX))
 OPENING = re.compile(rb"set links=N method=(?:basic|cyclic:N:N) a=N b=N sio=([0-9a-fA-F]{2})(?: profile=(narrow|wide))?".replace(b"N", NUMBER))
 PLACES = ("waiting", "unacked", "acked", "held", "parked", "back", "discarded")
@@ -124,6 +126,7 @@ class Streams:
         self.used = set()
         self.asked = set()
         self.spent = set()
+        self.owed = Counter()  # acknowledgements, by code
         self.back = Counter()  # how many messages stand back, by code
 
     def home(self, stream):
@@ -154,6 +157,7 @@ class Streams:
             away = [stream for stream in range(16) if self.is_away(stream, home, link)]
             self.code.update((stream, 16 * home + link) for stream in away)
             self.asked.add(16 * home + link)
+            self.owed[16 * home + link] = 1
 
     def leave(self, home):
         """Its streams go no further home, and their codes will only be freed by an acknowledgement."""
@@ -171,11 +175,21 @@ class Streams:
             if on == link:
                 self.on[stream] = target
 
+    def acknowledge(self, code):
+        """The code is acknowledged: it's spent while more is owed under it, and then free. Tells whether it was in use."""
+        owed = self.owed[code] - 1
+        was_used = self.free(code)
+        if owed > 0:
+            self.spent.add(code)
+            self.owed[code] = owed
+        return was_used
+
     def free(self, code):
-        """The code is acknowledged, or given up: its streams run on their home. Tells whether it was in use."""
+        """The code is given up, or no more is owed: its streams run on their home. Tells whether it was in use."""
         was_used = code in self.asked | self.spent
         self.asked.discard(code)
         self.spent.discard(code)
+        del self.owed[code]
         for stream in [it for it, own in self.code.items() if own == code]:
             del self.code[stream]
             self.on[stream] = code // 16
@@ -188,6 +202,7 @@ class End:
 
     def __init__(self, links):
         self.streams = Streams(links)
+        self.declarations = Declarations(links)
         self.rows = 0
         self.offered = {}
         self.bodies = set()
@@ -198,9 +213,30 @@ class End:
     def up(self):
         return [number for number, link in enumerate(self.links) if link.phase == "up"]
 
-    def settle(self, number):
+    def settle(self, number, moves_sent=False, moves_waiting=True):
+        """The link settled: whether what was sent goes on over another link, and what waits, else it's discarded."""
         self.links[number].phase = "settled"
-        self.streams.settle(number, next(iter(self.up()), None))
+        target = next(iter(self.up()), None)
+        self.streams.settle(number, target)
+        self.declarations.settle(number, target, moves_sent, moves_waiting)
+
+    def settle_upto(self, number, fsn, numbers):
+        """The same by the FSN that the far end accepted last: with one that can't be what was sent and waits is discarded."""
+        link = self.links[number]
+        reached = (fsn - link.acked + 1) % numbers
+        is_reasonable = reached <= len(link.sent) - link.acked
+        if is_reasonable:
+            self.declarations.are_acked(number, link.acked + reached)
+        self.settle(number, is_reasonable, is_reasonable)
+
+    def leave(self, number):
+        """The link is left: its codes are spent."""
+        self.streams.leave(number)
+        self.close_codes()
+
+    def close_codes(self):
+        for code in set(self.declarations.last) - self.streams.asked:
+            self.declarations.closes(code)
 
 
 class Trace:
@@ -281,6 +317,7 @@ class Trace:
         link.phase, link.cover = "up", "inside"
         link.rise()
         end.streams.rise(number)
+        end.declarations.rise(number)
 
     def on_rise(self, line, end, answer):
         expect(answer == "up", "a rise isn't answered up")
@@ -348,11 +385,12 @@ class Trace:
         is_plain = self.profile is WIDE or octets[2] < 64
         expect(unit and unit.kind != "lssu" and is_plain, "what is sent is no fill-in unit and no message")
         expect(unit.bsn == (link.accepted - 1) % self.profile.numbers, "the BSN isn't the FSN last accepted")
-        self.check_fsn(unit, link, end)
+        self.check_fsn(unit, line.number, end)
         self.ends[OTHER[line.end]].links[line.number].coming.append(unit)
 
-    def check_fsn(self, unit, link, end):
+    def check_fsn(self, unit, number, end):
         """A message goes first under the next FSN, and again under its own; a fill-in unit has the last one."""
+        link = end.links[number]
         back = (len(link.sent) - unit.fsn) % self.profile.numbers
         if unit.kind == "fisu":
             expect(back == 1, "a fill-in unit hasn't the last FSN")
@@ -360,6 +398,9 @@ class Trace:
             expect(len(link.sent) - link.acked < self.profile.numbers - 1, f"{self.profile.numbers} messages are unacknowledged")
             expect(unit.body in end.bodies or order_of(unit.body, self.profile), "what is sent was never offered")
             link.sent.append(unit.body)
+            if unit.body[0] % 16 == 0 and order_of(unit.body, self.profile)[1] == "cbd":
+                waited = end.declarations.is_sent(number, unit.body[6], len(link.sent) - 1)
+                expect(waited, "a declaration is sent that doesn't wait for the link")
         else:
             expect(back <= len(link.sent) - link.acked, "what is sent again isn't unacknowledged")
             expect(unit.body == link.sent[-back], "what is sent again was another message under that FSN")
@@ -392,6 +433,7 @@ class Trace:
         link = end.links[line.number]
         link.acked += int(match[1])
         expect(link.acked <= len(link.sent), "more is acknowledged than was sent")
+        end.declarations.are_acked(line.number, link.acked)
         expect(not self.is_sound() or match[5] == "0", "a fault is told though nothing was heard by hand")
         if match[2] == "nothing":
             return
@@ -414,7 +456,9 @@ class Trace:
             end.rows += 1
             return "order"
         if name == "cba":
-            return "order" if end.streams.free(body[6]) else "ignored"
+            was_used = end.streams.acknowledge(body[6])
+            end.close_codes()
+            return "order" if was_used else "ignored"
         if number >= len(end.links):
             return "ignored"
         link = end.links[number]
@@ -425,8 +469,10 @@ class Trace:
         if name in ("coo", "eco") and link.phase == "settled" and link.cover == "awaited":
             link.cover = "missed"
         if link.phase == "up":
-            end.streams.leave(number)
-        if link.phase != "settled":
+            end.leave(number)
+        if link.phase != "settled" and name in ("coo", "coa"):
+            end.settle_upto(number, int.from_bytes(body[6:], "little") % self.profile.numbers, self.profile.numbers)
+        elif link.phase != "settled":
             end.settle(number)
         return "order"
 
@@ -436,7 +482,7 @@ class Trace:
         expect(answer == done, "a link that is up can't go down, or one that isn't can")
         if link.phase == "up":
             link.phase = "down"
-            end.streams.leave(line.number)
+            end.leave(line.number)
             end.rows += 1
             self.was_blind = self.was_blind or line.kind == "blind"
 
@@ -447,7 +493,7 @@ class Trace:
         done = "done" if link.phase == "down" else "refused 9"
         expect(answer == done, "noanswer isn't obeyed just where an answer is wanted")
         if link.phase == "down":
-            end.settle(line.number)
+            end.settle(line.number, moves_waiting=False)
             self.gave_up = True
 
     def on_timed(self, line, end, answer):
@@ -464,11 +510,22 @@ class Trace:
         expect(answer == ("done" if links else "refused 9" if is_up else "refused 5"),
                "streams are asked back just where there are some")
         end.streams.ask(line.number, links)
+        for link in links:
+            end.declarations.ask(16 * line.number + link)
         end.rows += len(links)
+
+    def on_redeclare(self, line, end, answer):
+        codes = end.declarations.overdue(line.number)
+        expect(answer == ("done" if codes else "refused 9"), "redeclare isn't obeyed just where a declaration is on its way no more")
+        for code in codes:
+            end.declarations.declare(code, end.links[end.declarations.via[code]].phase == "up")
+            end.streams.owed[code] += 1
+        end.rows += len(codes)
 
     def on_backtimeout(self, line, end, answer):
         codes = [16 * line.number + link for link in range(16)]
         freed = [code for code in codes if end.streams.free(code)]
+        end.close_codes()
         expect(answer == ("done" if freed else "refused 9"), "backtimeout isn't obeyed just where an answer is wanted")
         self.timed_out = self.timed_out or bool(freed)
 

@@ -11,7 +11,7 @@ import re
 
 EVENTS = ("link ", "message ", "sent ")
 STATUSES = ["SIO", "SIN", "SIE", "SIOS", "SIPO", "SIB"]
-COMMANDS = ("start", "stop", "emergency", "busy", "ease", "blind")
+COMMANDS = ("start", "stop", "emergency", "calm", "busy", "ease", "blind", "outage", "recover")
 # the columns of the tester and of the terminal
 WIDE, TERMINAL_WIDE = 44, 64
 

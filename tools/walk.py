@@ -24,7 +24,7 @@ class Walk:
         rates = {"offer": 20, "emit": 30, "arrive": 28, "take": 5, "find": 4, "together": 6, "remark": 1}
         rates.update(lose=rng.choice([0, 2, 8]), down=rng.choice([0, 1, 3]), blind=rng.choice([0, 0, 0, 1]))
         rates.update(noanswer=rng.choice([0, 0, 0, 1]), timed=rng.choice([0, 0, 0, 1]), hear=12 if hostile else 0)
-        rates.update(restore=rng.choice([0, 2, 6]), backtimeout=rng.choice([0, 0, 0, 1]))
+        rates.update(restore=rng.choice([0, 2, 6]), redeclare=rng.choice([0, 2, 6]), backtimeout=rng.choice([0, 0, 0, 1]))
         self.kinds, self.rates = list(rates), list(rates.values())
 
     def say(self, text):
@@ -137,7 +137,7 @@ class Walk:
         wrong_length = unit[:place] + bytes([unit[place] ^ bit]) + unit[place + 1:]
         return self.rng.choice([
             f"emit a {large}", f"hear b {large} {unit.hex()}", f"find a {large}", f"lose a {link} {large}",
-            f"arrive b {large}", f"together {large}", f"noanswer b {large}", f"restore a {large}", f"hear a {link} {unit[:2].hex()}",
+            f"arrive b {large}", f"together {large}", f"noanswer b {large}", f"restore a {large}", f"redeclare b {large}", f"hear a {link} {unit[:2].hex()}",
             f"hear a {link} {wrong_length.hex()}", f"hear b {link} {(unit * 100)[:277].hex()}",
             f"hear a {link} {unit.hex()}0", f"offer c {unit.hex()}", f"down a 0{link}", f"blind a -{link}",
             "set links=2 method=basic a=2 b=1 sio=80"])

@@ -23,7 +23,9 @@ use Rattle.pair_steps.specs.declared.step.End.TheVariants.{A, B}
 use Rattle.history_audit.specs.Auditing.{IsAuditText}
 use Rattle.history_audit.specs.Explaining.{IsExplainedAuditText}
 use Rattle.terminal_text.specs.Explaining.{IsExplainedTerminalText}
+use Rattle.terminal_text.specs.Kept.{IsKeptNamedText, IsKeptTerminalText}
 use Rattle.terminal_text.specs.Text.{IsTerminalText}
+use Rattle.terminal_text.specs.declared.fault.TerminalFault.{TerminalFault}
 use Rattle.mtpbank.specs.declared.running.TextFault.{TextFault}
 use Rattle.mtpbank.specs.declared.running.TextFault.TheVariants.{Units as UnitsFault, Play as PlayFault, Explained as ExplainedPlayFault, Decode as DecodeFault, ExplainedDecode as ExplainedDecodeFault, Audit as AuditedFault, ExplainedAudit as ExplainedAuditedFault, Terminal as TerminalLineFault, ExplainedTerminal as ExplainedTerminalLineFault}
 
@@ -53,6 +55,11 @@ abbrev pub profile_of : Bool → Profile
 profile_of true = Wide
 profile_of false = Narrow
 
+-- an end that goes on behind a line at fault, by numbers alone or in words
+abbrev pub IsKeptOf : Bool → List ℕ → Printed TerminalFault → Type 0
+IsKeptOf false = IsKeptTerminalText
+IsKeptOf true = IsKeptNamedText
+
 abbrev pub IsTextOf : Words → List ℕ → Printed TextFault → Type 0
 IsTextOf Units input text = IsText (IsUnitsText input) UnitsFault text
 IsTextOf (Script told false) input text = IsText (IsToldOf told input) PlayFault text
@@ -62,8 +69,9 @@ IsTextOf (Decode wide true) input text =
     IsText (IsExplainedDecodeText (profile_of wide) input) ExplainedDecodeFault text
 IsTextOf (Audit false) input text = IsText (IsAuditText input) AuditedFault text
 IsTextOf (Audit true) input text = IsText (IsExplainedAuditText input) ExplainedAuditedFault text
-IsTextOf (Terminal false) input text = IsText (IsTerminalText input) TerminalLineFault text
-IsTextOf (Terminal true) input text = IsText (IsExplainedTerminalText input) ExplainedTerminalLineFault text
+IsTextOf (Terminal false false) input text = IsText (IsTerminalText input) TerminalLineFault text
+IsTextOf (Terminal false true) input text = IsText (IsExplainedTerminalText input) ExplainedTerminalLineFault text
+IsTextOf (Terminal true explains) input text = IsText (IsKeptOf explains input) TerminalLineFault text
 IsTextOf (Run run) input text = ⊥
 
 -- all subcommands read an input but `run`, whose text stands in `run_text`

@@ -2,7 +2,7 @@
 ghost use Rattle.std.specs.Prelude.{◌≡◌, ◌≤◌, ◌^◌, length, IfSome, OnOk};
 ghost use Rattle.text_base.specs.Printing.{Prints, FailsByDevices};
 ghost use Rattle.mtpbank_words.specs.declared.words.Words.TheVariants.{Audit, Decode, Script, Terminal};
-ghost use Rattle.mtpbank.specs.Running.{GivesFault, IsExplainedOf, IsTextOf, IsToldOf, ReadsInput, longest_of, profile_of};
+ghost use Rattle.mtpbank.specs.Running.{GivesFault, IsExplainedOf, IsKeptOf, IsTextOf, IsToldOf, ReadsInput, longest_of, profile_of};
 
 use history_audit::{AuditFault, audit, audit_explained};
 use l2_units::Profile;
@@ -13,7 +13,9 @@ use script_accounts::{
 };
 use script_ladder::{ladder, ladder_explained};
 use std::alloc::Global;
-use terminal_text::{TerminalFault, terminal, terminal_explained};
+use terminal_text::{
+    TerminalFault, terminal, terminal_explained, terminal_kept, terminal_kept_explained,
+};
 use text_base::{Fault, Sink, Source};
 use text_units::{UnreadableOctet, UnreadableUnit, decode, decode_explained, units};
 use thiserror::Error;
@@ -70,7 +72,7 @@ pub fn run<S: Source, W: Sink>(
         Words::Script { told, explains } => run_script(alloc, told, explains, source, sink),
         Words::Decode { wide, explains } => run_decode(alloc, wide, explains, source, sink),
         Words::Audit { explains } => run_audit(alloc, explains, source, sink),
-        Words::Terminal { explains } => run_terminal(alloc, explains, source, sink),
+        Words::Terminal { keeps, explains } => run_terminal(alloc, keeps, explains, source, sink),
         Words::Run(_) => unreachable!(),
     }
 }
@@ -152,17 +154,21 @@ fn run_audit<S: Source, W: Sink>(
 /// without.
 fn run_terminal<S: Source, W: Sink>(
     alloc: Global,
+    keeps: bool,
     explains: bool,
     source: &mut S,
     sink: &mut W,
 ) -> Result<(), Fault<TextFault>>
-    ensures text { IfSome (S.left source.old) (λ input. Prints result (IsTextOf (Terminal explains) input)
+    ensures text { IfSome (S.left source.old) (λ input. Prints result (IsTextOf (Terminal keeps explains) input)
         (W.written sink.old) (W.written sink.new)) }
     ensures bounded { IfSome (S.left source.old) (λ input. OnOk result (length input ≤ 2 ^ 60)) }
     ensures devices { IfSome (S.left source.old)
         (FailsByDevices (2 ^ 60) result (S.failures source.old) (S.failures source.new)
         (W.failures sink.old) (W.failures sink.new)) }
 {
+    if keeps {
+        return of_any(run_kept(alloc, explains, source, sink), TextFault::Terminal);
+    }
     if explains {
         return of_any(
             terminal_explained(alloc, source, sink),
@@ -170,6 +176,26 @@ fn run_terminal<S: Source, W: Sink>(
         );
     }
     of_any(terminal(alloc, source, sink), TextFault::Terminal)
+}
+
+/// Drives an end that goes on behind a line at fault, whose answer is the fault, with an explanation or without.
+fn run_kept<S: Source, W: Sink>(
+    alloc: Global,
+    explains: bool,
+    source: &mut S,
+    sink: &mut W,
+) -> Result<(), Fault<TerminalFault>>
+    ensures text { IfSome (S.left source.old)
+        (λ input. Prints result (IsKeptOf explains input) (W.written sink.old) (W.written sink.new)) }
+    ensures bounded { IfSome (S.left source.old) (λ input. OnOk result (length input ≤ 2 ^ 60)) }
+    ensures devices { IfSome (S.left source.old)
+        (FailsByDevices (2 ^ 60) result (S.failures source.old) (S.failures source.new)
+        (W.failures sink.old) (W.failures sink.new)) }
+{
+    if explains {
+        return terminal_kept_explained(alloc, source, sink);
+    }
+    terminal_kept(alloc, source, sink)
 }
 
 /// Carries out the script that the source gives, and writes what is told of it.

@@ -12,9 +12,10 @@
 //! and `NAME.decode_wide_explained`; a table `NAME.told_first` or `NAME.told_second` has four such lines each, of which the
 //! third shows the line that is played, alone or with the opening before it. `NAME.history_explained` beside `NAME.history`
 //! and the tables `NAME.audited_first` and `NAME.audited_second` are so for a history. `NAME.terminal_explained` beside
-//! `NAME.terminal`, and the tables
-//! `NAME.terminal_first`, `NAME.terminal_second` and `NAME.terminal_third`, are so for the lines that drive an end; before
-//! the third line stand the opening and a command. `NAME.run` is the words behind `mtpbank run`, one a line: threads run as
+//! `NAME.terminal`, and the tables `NAME.terminal_first`, `NAME.terminal_second` and `NAME.terminal_third`, are so for the
+//! lines that drive an end; before the third line stand the opening and a command. `NAME.terminal_kept` is the lines that
+//! drive an end which goes on behind a line at fault, and `NAME.terminal_kept_explained` beside it what is printed where
+//! these faults are explained. `NAME.run` is the words behind `mtpbank run`, one a line: threads run as
 //! they ask, and of what they print the time that they took is left out. `NAME.words` is words behind `mtpbank`, one a line,
 //! that ask for help or the version, or that are wrong: beside it stands what is said of them, as what is printed where it
 //! goes to standard output, else as the line of a fault; the launcher has these texts where no program stands. A line is
@@ -37,7 +38,7 @@ use std::sync::Wait;
 use std::thread::Threads;
 use std::time::Clock;
 use std::{fs, io};
-use terminal_text::{terminal, terminal_explained};
+use terminal_text::{terminal, terminal_explained, terminal_kept, terminal_kept_explained};
 use text_base::{Fault, Reader, Writer};
 use text_units::{decode, decode_explained, units};
 
@@ -181,6 +182,8 @@ enum Kind {
     AuditedExplained,
     Driven,
     DrivenExplained,
+    DrivenOn,
+    DrivenOnExplained,
     Ladder,
     LadderExplained,
     Captured,
@@ -204,6 +207,8 @@ fn kind_of(name: &str) -> Kind {
         "history_a_explained" => Kind::HistoryOfAExplained,
         "history_b_explained" => Kind::HistoryOfBExplained,
         "terminal_explained" => Kind::DrivenExplained,
+        "terminal_kept" => Kind::DrivenOn,
+        "terminal_kept_explained" => Kind::DrivenOnExplained,
         "ladder" => Kind::Ladder,
         "ladder_explained" => Kind::LadderExplained,
         "pcap" => Kind::Captured,
@@ -231,8 +236,10 @@ impl Kind {
             | Kind::WideDecoded
             | Kind::Audited
             | Kind::Driven
+            | Kind::DrivenOn
             | Kind::Played => None,
             Kind::DrivenExplained => Some("terminal"),
+            Kind::DrivenOnExplained => Some("terminal_kept"),
             Kind::AuditedExplained => Some("history"),
             Kind::DecodedExplained => Some("decode"),
             Kind::WideDecodedExplained => Some("decode_wide"),
@@ -260,7 +267,11 @@ impl Kind {
     /// `None`: that has the name itself.
     fn printed(self) -> Option<&'static str> {
         match self {
-            Kind::HistoryOfA | Kind::HistoryOfB | Kind::Ladder | Kind::Captured => None,
+            Kind::HistoryOfA
+            | Kind::HistoryOfB
+            | Kind::Ladder
+            | Kind::Captured
+            | Kind::DrivenOnExplained => None,
             Kind::HistoryOfAExplained => Some("history_a"),
             Kind::HistoryOfBExplained => Some("history_b"),
             Kind::LadderExplained => Some("ladder"),
@@ -366,6 +377,8 @@ fn run_on(
         Kind::AuditedExplained => told_of(alloc, audit_explained(alloc, source, sink)),
         Kind::Driven => told_of(alloc, terminal(alloc, source, sink)),
         Kind::DrivenExplained => told_of(alloc, terminal_explained(alloc, source, sink)),
+        Kind::DrivenOn => told_of(alloc, terminal_kept(alloc, source, sink)),
+        Kind::DrivenOnExplained => told_of(alloc, terminal_kept_explained(alloc, source, sink)),
         Kind::Ladder => told_of(alloc, ladder(alloc, source, sink)),
         Kind::LadderExplained => told_of(alloc, ladder_explained(alloc, source, sink)),
         Kind::Captured => told_of(alloc, capture(alloc, source, sink)),

@@ -24,14 +24,14 @@ found_is (Some s) name rows a b =
     ap₂ (λ (n : Text) (r : List Row). Some (n, r)) first second
 
 -- only `run` has options
-pub options : (asked : Words) (name : Text) (end : Option Text) (wide explains : Bool) (rows : List Row) → name ≢ codes "run"
-    → IsWord asked name end wide explains → HasOptions asked rows
-options Units name end wide explains rows other is = tt
-options (Script told by) name end wide explains rows other is = tt
-options (Decode width by) name end wide explains rows other is = tt
-options (Audit by) name end wide explains rows other is = tt
-options (Terminal by) name end wide explains rows other is = tt
-options (Run run) name end wide explains rows other is = absurd (other is.name_is)
+pub options : (asked : Words) (name : Text) (end : Option Text) (wide keeps explains : Bool) (rows : List Row) → name ≢ codes "run"
+    → IsWord asked name end wide keeps explains → HasOptions asked rows
+options Units name end wide keeps explains rows other is = tt
+options (Script told by) name end wide keeps explains rows other is = tt
+options (Decode width by) name end wide keeps explains rows other is = tt
+options (Audit by) name end wide keeps explains rows other is = tt
+options (Terminal kept by) name end wide keeps explains rows other is = tt
+options (Run run) name end wide keeps explains rows other is = absurd (other is.name_is)
 
 -- the first letter tells `run` from the others
 letter : (asked : Words) (name : Text) → name ≡ codes "run" → name ≡ name_of asked → slice_index (name_of asked) 0 ≡ 114
@@ -39,7 +39,7 @@ letter asked name is_run is = ap (λ (text : List ℕ). slice_index text 0) (sym
 
 module _ (name : Text) (rows : List Row) (is_run : name ≡ codes "run") where
   no_word : (asked : Words) → ((run : RunWords) → IsRun run rows → ⊥)
-      → IsWord asked name (first_of (codes "END") rows) (is_set (codes "wide") rows) (is_set (codes "explain") rows)
+      → IsWord asked name (first_of (codes "END") rows) (is_set (codes "wide") rows) (is_set (codes "keep") rows) (is_set (codes "explain") rows)
       × HasOptions asked rows → ⊥
   no_word Units none is = let bad : 117 ≡ 114 = letter Units name is_run is.0.name_is in omega (arith, bad)
   no_word (Script Play by) none is = let bad : 112 ≡ 114 = letter (Script Play by) name is_run is.0.name_is in omega (arith, bad)
@@ -49,7 +49,7 @@ module _ (name : Text) (rows : List Row) (is_run : name ≡ codes "run") where
   no_word (Script HistoryOfB by) none is = let bad : 104 ≡ 114 = letter (Script HistoryOfB by) name is_run is.0.name_is in omega (arith, bad)
   no_word (Decode width by) none is = let bad : 100 ≡ 114 = letter (Decode width by) name is_run is.0.name_is in omega (arith, bad)
   no_word (Audit by) none is = let bad : 97 ≡ 114 = letter (Audit by) name is_run is.0.name_is in omega (arith, bad)
-  no_word (Terminal by) none is = let bad : 116 ≡ 114 = letter (Terminal by) name is_run is.0.name_is in omega (arith, bad)
+  no_word (Terminal kept by) none is = let bad : 116 ≡ 114 = letter (Terminal kept by) name is_run is.0.name_is in omega (arith, bad)
   no_word (Run run) none is = none run is.1
 
   in_range : (fail links : ℕ) → ((run : RunWords) → AreValues run rows → ⊥) → LacksLink fail links rows → ⊥

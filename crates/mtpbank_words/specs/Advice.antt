@@ -41,7 +41,7 @@ usage_of Decode = codes "decode [--wide] [--explain]"
 usage_of Capture = codes "capture [--explain]"
 usage_of Ladder = codes "ladder [--explain]"
 usage_of Audit = codes "audit [--explain]"
-usage_of Terminal = codes "terminal [--explain]"
+usage_of Terminal = codes "terminal [--keep] [--explain]"
 usage_of History = codes "history [--explain] END"
 usage_of input = name_of input
 
@@ -70,7 +70,8 @@ unknown_text input word =
 abbrev pub is_known_flag : List ℕ → Bool
 is_known_flag word =
     if bytes_eq word (codes "--explain") then true
-    else (if bytes_eq word (codes "--wide") then true else bytes_eq word (codes "--"))
+    else (if bytes_eq word (codes "--wide") then true
+    else (if bytes_eq word (codes "--keep") then true else bytes_eq word (codes "--")))
 
 -- a word that a subcommand doesn't take
 abbrev pub unknown_advice : Input → List ℕ → Option (List ℕ)
@@ -82,11 +83,13 @@ input_advice input [] = None
 input_advice input (word ∷ words) =
     if is_operand word then Some (input_text input) else unknown_advice input word
 
--- all but units have a flag, and decode two
+-- all but units have a flag, and decode and terminal two
 abbrev pub is_flag_of : Input → List ℕ → Bool
 is_flag_of Units word = false
 is_flag_of Decode word =
     if bytes_eq word (codes "--wide") then true else bytes_eq word (codes "--explain")
+is_flag_of Terminal word =
+    if bytes_eq word (codes "--keep") then true else bytes_eq word (codes "--explain")
 is_flag_of input word = bytes_eq word (codes "--explain")
 
 abbrev pub without_flag : Input → List (List ℕ) → List (List ℕ)
@@ -257,7 +260,7 @@ told_of_input (Some Decode) words = input_advice Decode (without_flag Decode (wi
 told_of_input (Some Capture) words = input_advice Capture (without_flag Capture words)
 told_of_input (Some Ladder) words = input_advice Ladder (without_flag Ladder words)
 told_of_input (Some Audit) words = input_advice Audit (without_flag Audit words)
-told_of_input (Some Terminal) words = input_advice Terminal (without_flag Terminal words)
+told_of_input (Some Terminal) words = input_advice Terminal (without_flag Terminal (without_flag Terminal words))
 
 abbrev pub advice : List (List ℕ) → Option (List ℕ)
 advice [] = Some missing_text

@@ -28,7 +28,7 @@ program_itself = record (new_shape (codes "mtpbank")) {
 abbrev pub without_subcommands : App
 without_subcommands = record { top = program_itself; subs = [] }
 
--- two subcommands, which take no words, six that take a flag, of which one takes an end, too, and one another flag, and
+-- two subcommands, which take no words, six that take a flag, of which one takes an end, too, and two another flag, and
 -- one that takes options
 abbrev pub explain_rule : Rule
 explain_rule = flag_rule (codes "explain")
@@ -38,6 +38,9 @@ script_shape name = with_rules (new_shape name) (explain_rule ∷ [])
 
 abbrev pub decode_shape : Shape
 decode_shape = with_rules (new_shape (codes "decode")) (flag_rule (codes "wide") ∷ explain_rule ∷ [])
+
+abbrev pub terminal_shape : Shape
+terminal_shape = with_rules (new_shape (codes "terminal")) (flag_rule (codes "keep") ∷ explain_rule ∷ [])
 
 abbrev pub units_and_play : App
 units_and_play =
@@ -64,7 +67,7 @@ abbrev pub without_run : App
 without_run = with_subcommand without_history history_shape
 
 abbrev pub with_terminal : App
-with_terminal = with_subcommand without_run (script_shape (codes "terminal"))
+with_terminal = with_subcommand without_run terminal_shape
 
 abbrev pub program : App
 program = with_subcommand with_terminal run_shape
@@ -82,7 +85,7 @@ name_of Units = codes "units"
 name_of (Script told explains) = told_name told
 name_of (Decode wide explains) = codes "decode"
 name_of (Audit explains) = codes "audit"
-name_of (Terminal explains) = codes "terminal"
+name_of (Terminal keeps explains) = codes "terminal"
 name_of (Run run) = codes "run"
 
 -- the words of a program's arguments, of which the first is its own name
@@ -111,14 +114,14 @@ abbrev pub is_set : List ℕ → List Row → Bool
 is_set flag rows = is_true (first_of flag rows)
 
 -- what stands behind a subcommand: a word, and whether its flags do
-abbrev pub IsBehind : Words → List ℕ → Option (List ℕ) → Bool → Bool → Type 0
-IsBehind Units name end wide explains = Unit {0}
-IsBehind (Script told is_explained) name end wide explains =
+abbrev pub IsBehind : Words → List ℕ → Option (List ℕ) → Bool → Bool → Bool → Type 0
+IsBehind Units name end wide keeps explains = Unit {0}
+IsBehind (Script told is_explained) name end wide keeps explains =
     IsTold told name end × (is_explained ≡ explains)
-IsBehind (Decode is_wide is_explained) name end wide explains = (is_wide ≡ wide) × (is_explained ≡ explains)
-IsBehind (Audit is_explained) name end wide explains = is_explained ≡ explains
-IsBehind (Terminal is_explained) name end wide explains = is_explained ≡ explains
-IsBehind (Run run) name end wide explains = Unit {0}
+IsBehind (Decode is_wide is_explained) name end wide keeps explains = (is_wide ≡ wide) × (is_explained ≡ explains)
+IsBehind (Audit is_explained) name end wide keeps explains = is_explained ≡ explains
+IsBehind (Terminal is_kept is_explained) name end wide keeps explains = (is_kept ≡ keeps) × (is_explained ≡ explains)
+IsBehind (Run run) name end wide keeps explains = Unit {0}
 
 -- what its options tell
 abbrev pub HasOptions : Words → List Row → Type 0
@@ -126,16 +129,16 @@ HasOptions (Run run) rows = IsRun run rows
 HasOptions asked rows = Unit {0}
 
 -- a name of a subcommand, and the word and flags behind it, ask for this
-pub record IsWord (asked : Words) (name : List ℕ) (end : Option (List ℕ)) (wide explains : Bool) : Type 0 where
+pub record IsWord (asked : Words) (name : List ℕ) (end : Option (List ℕ)) (wide keeps explains : Bool) : Type 0 where
   pub name_is : name ≡ name_of asked
-  pub behind : IsBehind asked name end wide explains
+  pub behind : IsBehind asked name end wide keeps explains
 
 -- what the library finds in words asks for this: a subcommand of this name, what it has for END, its flags and options
 abbrev pub IsFound : Words → Option (Text × List Row) → Type 0
 IsFound asked None = ⊥
 IsFound asked (Some found) =
     IsWord asked found.0 (first_of (codes "END") found.1) (is_set (codes "wide") found.1)
-    (is_set (codes "explain") found.1)
+    (is_set (codes "keep") found.1) (is_set (codes "explain") found.1)
     × HasOptions asked found.1
 
 -- a run, but for the link that is to fail, which isn't below the links

@@ -76,6 +76,11 @@ pub(crate) fn advise<S: AsStr>(alloc: Global, words: &[S]) -> Result<Option<Vec<
             Input::Decode,
             skip_flag(Input::Decode, skip_flag(Input::Decode, others)),
         ),
+        Some(Input::Terminal) => advise_input(
+            alloc,
+            Input::Terminal,
+            skip_flag(Input::Terminal, skip_flag(Input::Terminal, others)),
+        ),
         Some(input) => advise_input(alloc, input, skip_flag(input, others)),
         None => Ok(Some(say_command(alloc, name)?)),
     }
@@ -159,7 +164,7 @@ fn usage(input: Input) -> &'static [u8]
         Input::Capture => b"capture [--explain]",
         Input::Ladder => b"ladder [--explain]",
         Input::Audit => b"audit [--explain]",
-        Input::Terminal => b"terminal [--explain]",
+        Input::Terminal => b"terminal [--keep] [--explain]",
         Input::History => b"history [--explain] END",
         _ => title(input),
     }
@@ -182,6 +187,7 @@ fn is_flag_of(input: Input, word: &[u8]) -> bool
     match input {
         Input::Units => false,
         Input::Decode => is_word(word, b"--wide") || is_word(word, b"--explain"),
+        Input::Terminal => is_word(word, b"--keep") || is_word(word, b"--explain"),
         _ => is_word(word, b"--explain"),
     }
 }
@@ -226,7 +232,10 @@ fn advise_unknown(alloc: Global, input: Input, word: &[u8]) -> Result<Option<Vec
 fn is_known_flag(word: &[u8]) -> bool
     ensures { result ≡ is_known_flag word.now }
 {
-    is_word(word, b"--explain") || is_word(word, b"--wide") || is_word(word, b"--")
+    is_word(word, b"--explain")
+        || is_word(word, b"--wide")
+        || is_word(word, b"--keep")
+        || is_word(word, b"--")
 }
 
 /// That the word is no option of this subcommand.

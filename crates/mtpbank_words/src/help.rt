@@ -26,7 +26,8 @@ thing, mostly on link L:
   down, blind             the link fails, and an order tells the other end
   noanswer                nobody answered that order
   timed                   that order never was sent, and is taken back
-  restore, backtimeout    streams are asked back to it, nobody answered that
+  restore, redeclare      streams are asked back to it, and once more
+  backtimeout             nobody answered that
 `mtpbank play --help` says how each line is written, what it prints, and each
 fault. Begin with `mtpbank play < examples/first_message.play`. With --explain
 numbers have words, `refused 5 (not up)`, and a line at fault is explained.";
@@ -72,7 +73,9 @@ line opens the end, and each other asks for one thing, mostly of link L:
   octets                  octets come on the line; as many go out
   hear, flags, bits       units, flags or bits come on the line
   offer, take, find       a user's message is handed over, taken, looked for
-  noanswer, timed, restore, backtimeout       what Q.704's timers tell the set
+  noanswer, timed, restore, redeclare, backtimeout
+                          what Q.704's timers tell the set
+  activate, deactivate    level 3 starts the link, restores it, changes it back
   look                    how the link stands
   checkpoint, history     what the set was asked goes out, or is shown
 An octet in and an octet out is a turn, and a turn is all the time there is.
@@ -83,10 +86,14 @@ pub(crate) const TERMINAL_HELP: &str = "\
 Standard input drives one end of a link set, line by line, and each line is answered before more is read. What the links
 lead to is yours: a timeslot, another terminal, a tester. Words have one space between two, numbers are decimal, octets
 two hexadecimal digits each. Lines that are empty or begin with # are passed over. The first line opens the end; the
-second may tell the lengths of its timers (Q.703 12.3) in octet times, each 1 to 2^32-1; neither prints anything:
+second may tell the lengths of its timers (Q.703 12.3) in octet times, and the second or the third those of level 3
+(Q.704 16.8) in turns of a link, which are octet times too, each 1 to 2^32-1; none of them prints anything:
   set links=L method=W a=X b=Y sio=HH                as in a script (`mtpbank play --help`): a is this end's point code
   timers t1=N t2=N t3=N t5=N t6=N t7=N               without it 360000, 400000, 12000, 800, 32000 and 8000, which are
                       45 s, 50 s, 1.5 s, 0.1 s, 4 s and 1 s at 64 kbit/s
+  level3 t1=N t2=N t4=N t5=N t17=N k1=N k2=N         without it 6400, 11200, 6400, 6400, 8000, 64000 and 480000: T1, T2,
+                      T4, T5 and T17 are 0.8 s, 1.4 s, 0.8 s, 0.8 s and 1 s; k1 and k2 are of link tests (Q.707), which
+                      no set has
 Each further line prints events and then its answer, so whoever drives the end reads until a line that is no event:
   start L, stop L, emergency L, calm L, busy L, ease L, blind L, outage L, recover L
                       a command that is obeyed in the link's next turn: done. start and emergency of a link that the set
@@ -105,13 +112,16 @@ Each further line prints events and then its answer, so whoever drives the end r
   flags L N           N flags stand on the line: turns K
   bits L BITS [xN]    these bits stand on the line, digits 0 and 1, the first one first: turns K
   offer HEX, take, find N                            user 0, answered as `mtpbank play` answers them
-  noanswer L, timed L, restore L, backtimeout L      the terminal of link L, answered so too
+  noanswer L, timed L, restore L, redeclare L, backtimeout L         the terminal of link L, answered so too
                       A refusal has its number. offer: 1 under 5 octets, 2 over 273, 3 service indicator 0, 4 the stream
                       has 1,024 unsent messages. take: 9 nothing to take. find: 8 no such number, 11 the message left
                       with a checkpoint. restore: 5 the link isn't up. The terminal's: 9 nothing to do
+  activate L          level 3 manages link L from now on: the events of what it asks, and done
+  deactivate L        so no more, and the terminal stops. Both: refused 9 where it's so already
   look L              look L WORD phase=P turns=T sent=S good=G bad=B sixteen=X cause=C: how the link stands; its phase
                       at the set (settled, up or left); turns and units from the beginning on; the last cause, or 0
-  checkpoint          what is finished leaves the set: the entries of its history that go, checkpoint, and done
+  checkpoint [quiet]  what is finished leaves the set: the entries of its history that go, checkpoint, and done; with
+                      quiet done alone
   history             the entries of its history since the last checkpoint, and done
 What stands on a line is bits, of each octet the lowest first. A turn is taken for each eight, and fewer than eight wait
 for the next line of this link. The events; T counts the link's turns from 1:
@@ -119,18 +129,31 @@ for the next line of this link. The events; T counts the link's turns from 1:
   link L WORD turn=T  the link stands otherwise: out (of service, with cause=C), unaligned, aligned, proving, ready
                       (aligned, and no FISU heard yet), waiting (in service; the set refuses it, since its last life
                       isn't settled), up, paused (the far end has a processor outage), or outage (this end has one)
+  level3 L WHAT [ANSWER] turn=T
+                      behind this turn level 3 asked so of link L: start, emergency or stop, which its terminal obeys in
+                      the next one, or an event of the set, with the answer, done or refused N
   sent L UNIT [xN]    this unit was appended to what goes out, N times in a row; with hear, flags and bits alone
-In a turn messages come first, then the WORD, then the unit. The causes: 1 error rate, 2 BSN, 3 FIB, 4 T1, 5 T6, 6 T7,
-7 a status that was heard, 8 alignment not possible, 9 stop, or a changeover order about a link that isn't up yet:
-the far end was up there, and has left it. Last comes `end a ..`, as `mtpbank play` prints it.
-The set line and the lines of history and checkpoint one behind another are the history that `mtpbank audit` reads.
+In a turn messages come first, then the WORD, then what level 3 asked, then the unit. The causes: 1 error rate, 2 BSN,
+3 FIB, 4 T1, 5 T6, 6 T7, 7 a status that was heard, 8 alignment not possible, 9 stop, or a changeover order about a
+link that isn't up yet: the far end was up there, and has left it. Last comes `end a ..`, as `mtpbank play` prints it.
+The set line and the lines of history and checkpoint one behind another are the history that `mtpbank audit` reads, where
+no checkpoint was quiet.
 The SLC of an order is the link's number. To close an end so that the far end hears that its links are out of service
 (SIOS) write stop L for each link, then two blocks of octets, then end the input.
 To drive a real line read a block of octets from the timeslot, write it as octets, and write the answer to the timeslot:
 the line's clock keeps the pace. Begin with two blocks of flags; 64 to 160 octets are usual. Signal units go lowest bit
 first and PCM timeslots highest bit first, so a card that gives octets as G.711 has them needs the bits of each octet
 reversed, both ways. Where the line is gone go on with blocks of ones (ff), since the end has no clock but its turns.
-Whoever drives it does this:
+Of a link that is activated level 3 asks this, with its times:
+  link L out          start behind T17, once it's settled; emergency before it, where no other link carries traffic, or
+                      when none does any more
+  phase=left          timed when T2 ends, or T1 where no other link carried traffic as it failed; T1 begins anew while
+                      another link aligns on its first way up. If timed is refused, T2 runs behind T1, and behind T2
+                      it's noanswer
+  link L up           restore; where that is done redeclare behind T4, and backtimeout T5 later, whether or not the
+                      streams are back by then: refused 9 if they are
+  link L paused       stop behind T1, where another link carries traffic
+All commands work beside it. Of a link that isn't activated whoever drives it asks this:
   link L out, and phase=left after T1 of Q.704 (0.5 to 1.2 s)    timed L: where the order to the far end never went out.
                       If it's refused 9, noanswer L after T2 (0.7 to 2 s). T1 and T2 run only while the order can go
                       out: another link is up, or all are out or waiting, so that none comes up without it
@@ -138,8 +161,8 @@ Whoever drives it does this:
                       is up. Then fewer than 3,700 octets may be under way on it, both ways together: units of its last
                       life that come when it has proved again are heard as new ones, and their messages come twice
   link L up           restore L, at its first up too, since streams of which messages went over another link stay
-                      there: refused 9 where there are none; backtimeout L where nobody answers within T4 and T5 of
-                      Q.704 (0.5 to 1.2 s each)
+                      there: refused 9 where there are none. Where nobody answers within T4 of Q.704 (0.5 to 1.2 s)
+                      redeclare L, and within T5, as long, backtimeout L
   memory is short     busy L, and ease L later
 A fault ends it: one line on standard error, with status 1; what was printed before stays:
   fault line N text   line N, from 1 and with those passed over, can't be read; behind it stands where a space, a tab
@@ -148,9 +171,12 @@ A fault ends it: one line on standard error, with status 1; what was printed bef
   fault memory        memory is wanted; or a link took 2^48 turns, or the set was asked 2^48 times
   fault read, fault write
   fault long          standard input has more than 2^60 octets
+With --keep a line that can't be read, or asks for a link that isn't there, is answered fault line N text or fault line
+N step on standard output. Nothing is done then, and the lines behind it are read on: only one of more than 4,096 octets
+ends the input. So a driver waits for fault as for any answer.
 With --explain the numbers of `refused` and `found discarded` have words behind them, as in `refused 5 (not up)`, and
-more lines come behind that of a line's fault on standard error: what is wanted, the line, and a caret under the word at
-fault, or right behind the line where a word is missing:
+more lines come behind that of a line's fault, wherever it's told: what is wanted, the line, and a caret under the word
+at fault, or right behind the line where a word is missing:
   fault line 3 text
   line 3: octets wants a link, and octets of two hexadecimal digits
     octets 0
@@ -185,7 +211,7 @@ lower case with one space between two words:
   .. next L           the next unit to send on link L
   .. hear L HEX       a unit that was heard on link L, without check octets
   .. up L             link L comes up at this end, which is answered done
-  .. down L, blind L, noanswer L, timed L, restore L, backtimeout L
+  .. down L, blind L, noanswer L, timed L, restore L, redeclare L, backtimeout L
   .. -> ANSWER        as `mtpbank play` prints it; the octets that were sent stand with their check octets. Where these
                       are wrong, or a number stands in it that no set answers, the line can't be read
 A line checkpoint between entries says that the set took a checkpoint there: what is finished leaves it, and who looks
@@ -209,7 +235,7 @@ With --explain three more lines come behind that of a line which can't be read: 
 caret under the word at fault, or right behind the line where a word is missing; of a line of more than 16,384 octets
 nothing is said, and nothing of an illegal entry: the line behind legal=no is what a set answers there.
   fault line 3 text
-  line 3: here stands offer, take, find, next, hear, up, down, blind, noanswer, timed, restore or backtimeout
+  line 3: here stands offer, take, find, next, hear, up, down, blind, noanswer, timed, restore, redeclare or backtimeout
     user 0 ofer 8501800030 -> accepted 0
            ^
 The status is 0 for legal=yes, and 1 else.";
@@ -404,6 +430,8 @@ messages are unacknowledged, bodies have 272 octets at most, and a cycle is forc
   timed E L           end E takes back the order about link L, which never was sent: what was sent on the link is
                       discarded, and all that was never sent goes on over another link
   restore E L         end E asks the streams whose home is link L back to it, from each other link that is up (CBD)
+  redeclare E L       end E asks once more (CBD), by each code whose order isn't on its way any more: one answer more is
+                      wanted for it, and the last frees it
   backtimeout E L     end E had no answer to the changeback to link L
 Words are separated by one space, numbers are decimal without leading zeros, and lines end in LF.
 
@@ -425,13 +453,14 @@ Each of these lines prints one:
                       asked=1, the end asks for retransmission; resend=1, it is asked for it; F is 2 for
                       abnormal BSNs, 3 for abnormal FIBs, else 0 (the link stays up until down or blind)
   lost                the unit is lost, by lose or because the link isn't up where it arrives
-  done                the link has failed, or settled without an answer or by time; or streams were asked back, or go
-                      home without an answer
+  done                the link has failed, or settled without an answer or by time; or streams were asked back, once
+                      or again, or go home without an answer
   refused C           1 under 5 octets, 2 over 273 (wide: 272), 3 service indicator 0, 4 the stream has 1,024 unsent
                       messages, 5 the link isn't up, 8 no such message, 9 nothing to take or to do: for hear
                       the unit tells a status (LSSU), for noanswer and timed the link wasn't left or has settled,
                       for timed its order was sent, for restore no stream of link L runs on another link that is up,
-                      but for those whose code is still in use, and for backtimeout no code of link L is in use
+                      but for those whose code is still in use, for redeclare each order of link L that wants an answer
+                      is on its way, and for backtimeout no code of link L is in use
 The last two lines count the users' messages of each end by where they stand.
 
 A label is four octets, the lowest first: DPC + 2^14 OPC + 2^28 SLS. The SLS, the high digit of a message's fifth

@@ -6,7 +6,7 @@ ghost use Rattle.clap.specs.declared.error.ErrorKind.TheVariants.{InvalidSubcomm
 ghost use Rattle.clap.specs.Simple.{new_shape, shape_of};
 ghost use Rattle.clap.specs.declared.builder.command.Command.{out-Command};
 ghost use Rattle.clap.specs.Values.{kind_of};
-ghost use Rattle.mtpbank_words.specs.CommandLine.{program, without_subcommands, decode_shape, explain_rule, history_shape, is_true, script_shape, words_in};
+ghost use Rattle.mtpbank_words.specs.CommandLine.{program, without_subcommands, decode_shape, explain_rule, history_shape, is_true, script_shape, terminal_shape, words_in};
 ghost use Rattle.mtpbank_words.specs.CommandLine.{AreWrong, IsAboutWord, IsAsked, IsFound, IsKind, IsNotFound, IsRefused, IsTold, IsWord, Refuses, SaysAll};
 ghost use Rattle.mtpbank_words.specs.RunOptions.{with_rules};
 
@@ -35,8 +35,9 @@ pub enum Words {
     Decode { wide: bool, explains: bool },
     /// Tell whether the history on standard input is legal.
     Audit { explains: bool },
-    /// Drive one end of a link set, whose lines are elsewhere, by the lines on standard input.
-    Terminal { explains: bool },
+    /// Drive one end of a link set, whose lines are elsewhere, by the lines on standard input; where it `keeps` the end, a line
+    /// at fault is answered.
+    Terminal { keeps: bool, explains: bool },
     /// Run two banks of sets in threads, with traffic between them.
     Run(RunWords),
 }
@@ -174,6 +175,7 @@ fn named(matches: &ArgMatches<'_>) -> Result<Words, Unasked>
             name,
             found.get_str("END"),
             is_set(found.get_str("wide")),
+            is_set(found.get_str("keep")),
             is_set(found.get_str("explain")),
         ) {
             Some(asked) => Ok(asked),
@@ -186,17 +188,17 @@ fn named(matches: &ArgMatches<'_>) -> Result<Words, Unasked>
 const NO_END: &str = "an end is a or b, as in `mtpbank history a`";
 
 /// What a subcommand of this name asks for, with the word behind it, if there is one, and its flags.
-fn word_of(name: &str, end: Option<&str>, wide: bool, explains: bool) -> Option<Words>
+fn word_of(name: &str, end: Option<&str>, wide: bool, keeps: bool, explains: bool) -> Option<Words>
     requires other { name.now ≢ codes "run" }
     ensures { MatchOption result
-        ((asked : Words) → IsWord asked name.now (option_map (λ s. s.now) end.entry) wide explains → ⊥)
-        (λ asked. IsWord asked name.now (option_map (λ s. s.now) end.entry) wide explains) }
+        ((asked : Words) → IsWord asked name.now (option_map (λ s. s.now) end.entry) wide keeps explains → ⊥)
+        (λ asked. IsWord asked name.now (option_map (λ s. s.now) end.entry) wide keeps explains) }
 {
     match name {
         "units" => Some(Words::Units),
         "decode" => Some(Words::Decode { wide, explains }),
         "audit" => Some(Words::Audit { explains }),
-        "terminal" => Some(Words::Terminal { explains }),
+        "terminal" => Some(Words::Terminal { keeps, explains }),
         _ => match told_of(name, end) {
             Some(told) => Some(Words::Script { told, explains }),
             None => None,
@@ -406,16 +408,21 @@ fn audit_command<'a>(alloc: Global) -> Result<Command<'a>, AllocError>
     explaining_input(alloc, audit)
 }
 
-/// The word `terminal`, and a flag.
+/// The word `terminal`, and two flags.
 fn terminal_command<'a>(alloc: Global) -> Result<Command<'a>, AllocError>
-    ensures shape { IfOk result (λ command. shape_of command ≡ script_shape (codes "terminal")) }
+    ensures shape { IfOk result (λ command. shape_of command ≡ terminal_shape) }
     ensures local { IfOk result (λ command. (out-Command command).has_globals ≡ false) }
 {
+    let keep = flag(
+        alloc,
+        "keep",
+        "Answers a line at fault, and goes on behind it",
+    );
     let terminal = Command::new(alloc, "terminal")
         .about("Drives one end of a link set, whose lines are yours, line by line")
         .after_help(TERMINAL_PAGE)
         .after_long_help(TERMINAL_HELP);
-    explaining_input(alloc, terminal)
+    explaining_input(alloc, with_option(terminal, keep)?)
 }
 
 /// The word `history`, an end behind it, and a flag.

@@ -18,15 +18,15 @@ use Rattle.set_events.specs.declared.answer.DiscardCause.TheVariants.{NoAnswer a
 use Rattle.set_events.specs.declared.answer.Fate.{Fate}
 use Rattle.set_events.specs.declared.answer.Fate.TheVariants.{Waiting, Unacked, Acked, Discarded}
 use Rattle.set_events.specs.declared.event.Event.{Event}
-use Rattle.set_events.specs.declared.event.Event.TheVariants.{Offer, Take, Find, Next, Heard, Up as UpEvent, Down as DownEvent, DownBlind, NoAnswer, Timed, Restore, BackTimeout}
+use Rattle.set_events.specs.declared.event.Event.TheVariants.{Offer, Take, Find, Next, Heard, Up as UpEvent, Down as DownEvent, DownBlind, NoAnswer, Timed, Restore, Redeclare, BackTimeout}
 use Rattle.set_model.specs.declared.phase.Phase.{Phase}
 use Rattle.set_model.specs.declared.phase.Phase.TheVariants.{Up, Down, Settled}
 use Rattle.set_model.specs.declared.reached.Reached.{Reached}
-use Rattle.set_model.specs.Changeover.{fate_on, queued, left_by, left_link, out_of_service, declared, released, acknowledged as acknowledged_link, acknowledged_by, answered_link, cleared, moved_over, settled, settled_link, taken_back, withdrawn}
+use Rattle.set_model.specs.Changeover.{fate_on, queued, left_by, left_link, out_of_service, declared, acknowledged_code, redeclared_on, released, acknowledged as acknowledged_link, acknowledged_by, answered_link, cleared, moved_over, settled, settled_link, taken_back, withdrawn}
 use Rattle.set_model.specs.Control.{Choice, again, first, fill, choice_of, part_of}
 use Rattle.set_model.specs.Rows.{orders_changed, Fate, is_users, is_parked, same_fate, waits, Row, all_with, is_waiting, is_unacked, is_on, is_back, is_back_to, is_parked, stands_back, octets_in, stream_of, turned, changed, moved, appended, with_fate, place, unack, wait, IsNumbered, IsInOrder}
 use Rattle.set_model.specs.Sound.{IsSound}
-use Rattle.set_model.specs.State.{FinishedCounts, all_finished, given, LinkState, State, Settings, has_phase_settled, is_settled, is_up, link_is_settled, new_link, opened_with, fate_at, target, window_of, with_link}
+use Rattle.set_model.specs.State.{FinishedCounts, all_finished, given, LinkState, State, Settings, has_phase_settled, is_settled, is_up, link_is_settled, new_link, opened_with, fate_at, On, target, window_of, with_link}
 use Rattle.set_model.specs.Step.{with_known, is_msu, after_control, next, offered, rises, rows_sent, step, takes}
 use Rattle.std.proofs.lemmas.Bool.{cond_both}
 use Rattle.set_model.proofs.Ahead.{put_length, put_out, numbered_put}
@@ -425,6 +425,8 @@ module _ (l : ℕ) (sent : List Message) where
     answers = λ n link s known at a. answers_any n link s at a;
     withdraws = λ count n link s known at g a. withdraws_any count n s a;
     declares = λ may home alternative s up can a. appends s (declared home alternative s) _ (Waiting alternative) refl refl refl refl a;
+    redeclares = λ code via s due a. appends s (redeclared_on code (Some via) s) _ (fate_at (On via) s) refl (offered_out l (On via) s) refl refl a;
+    acknowledges_back = λ code s known a. turns (is_back code) (all_with (Waiting _)) s (acknowledged_code code s) refl refl (code_back code) (λ row. refl) refl refl a;
     releases = λ code s known a. turns (is_back code) (all_with (Waiting _)) s (released code s) refl refl (code_back code) (λ row. refl) refl refl a;
   }
 
@@ -615,6 +617,7 @@ acked_first l s (DownBlind n) sent sound a = other_kept l sent s (DownBlind n) (
 acked_first l s (NoAnswer n) sent sound a = other_kept l sent s (NoAnswer n) (λ m e. absurd cc) (λ m e. absurd cc) a
 acked_first l s (Timed n) sent sound a = other_kept l sent s (Timed n) (λ m e. absurd cc) (λ m e. absurd cc) a
 acked_first l s (Restore n) sent sound a = other_kept l sent s (Restore n) (λ m e. absurd cc) (λ m e. absurd cc) a
+acked_first l s (Redeclare n) sent sound a = other_kept l sent s (Redeclare n) (λ m e. absurd cc) (λ m e. absurd cc) a
 acked_first l s (BackTimeout n) sent sound a = other_kept l sent s (BackTimeout n) (λ m e. absurd cc) (λ m e. absurd cc) a
 
 -- A NEW SET

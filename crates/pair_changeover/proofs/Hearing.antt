@@ -365,8 +365,8 @@ module _ {emergencies : Bool} (mx my : Method) (one : IsOneMethod mx my) (p : Tw
         none_in_use = λ m d f. let same : Some (Cba l code) ≡ Some (Cba m d) = sym is
             ∙ f in let one : code ≡ d = cc in subst (λ (n : ℕ). code_of n mid.routing ≡ Free) one e;
       })
-      cba_obeyed l code is Asked e = releases l code is
-      cba_obeyed l code is Spent e = releases l code is
+      cba_obeyed l code is (Asked via declaration owed) e = releases l code is
+      cba_obeyed l code is (Spent owed) e = releases l code is
 
       order_is_obeyed : (order : Order) → order_of p.near.settings.profile body ≡ Some order → Obeys emergencies k body mid p.far (order_obeyed order mid).state
       order_is_obeyed (Coo l fsn) is = go (slice_get mid.links l) refl

@@ -1,6 +1,6 @@
 -- WHAT EACH EVENT OF AN END KEEPS of the orders under way, but hearing and coming up: it settles nothing and accepts
 -- nothing (`Keeps`). A lemma for each: `offer_kept`, `take_kept`, `find_kept`, `down_kept`, `blind_kept` where there
--- may be emergencies, `restore_kept`, and `next_keeps` where no more was accepted than was sent. The case that matters
+-- may be emergencies, `restore_kept`, `redeclare_kept`, and `next_keeps` where no more was accepted than was sent. The case that matters
 -- is Down, which queues an order: no other stood about that link, because it was up till then (`queues_both`,
 -- Changes.antt). Induction is only on the alternatives of Restore (`declares_keep`). Used by Whole.antt, Ordered.antt
 -- and Counted.antt, and by pair_streams's Acting.antt and Counting.antt.
@@ -16,23 +16,23 @@ use Rattle.set_events.specs.declared.answer.Fate.{Fate}
 use Rattle.set_events.specs.declared.answer.Fate.TheVariants.{Waiting, Unacked, Acked, Held, Parked, Back, Discarded}
 use Rattle.set_events.specs.declared.answer.Refusal.{Refusal as SetRefusal}
 use Rattle.set_events.specs.declared.answer.Refusal.TheVariants.{NotUp, TooShort, TooLong, Reserved, StreamFull}
-use Rattle.set_events.specs.declared.event.Event.TheVariants.{Offer, Take, Find, Down as DownEvent, DownBlind, Restore}
+use Rattle.set_events.specs.declared.event.Event.TheVariants.{Offer, Take, Find, Down as DownEvent, DownBlind, Restore, Redeclare}
 use Rattle.set_route.specs.declared.place.Place.{Place}
 use Rattle.set_route.specs.declared.place.Place.TheVariants.{On, Changing, Nowhere}
-use Rattle.set_route.specs.Routing.{place_of, code_for}
+use Rattle.set_route.specs.Routing.{place_of, code_for, code_of, home_of}
 use Rattle.set_model.specs.declared.phase.Phase.{Phase}
 use Rattle.set_model.specs.declared.phase.Phase.TheVariants.{Up, Down, Settled}
 use Rattle.set_model.specs.Rows.{Row, is_waiting, was_discarded, standing, unack, parked, place, stream_of, service_indicator, unsent, octets_in}
 use Rattle.set_model.specs.Sound.{IsSound}
 use Rattle.set_model.specs.State.{given, LinkState, State, Settings, link_count, is_up, is_settled, link_is_up, link_is_settled, has_phase_up, has_phase_settled, last_accepted, fate_at, target, window_of}
 use Rattle.set_model.specs.Control.{Choice, again, first, fill, choice_of, control_after}
-use Rattle.set_model.specs.Changeover.{fate_on, queued, leaving_order, left_link, left_by, can_declare, declared, declared_from, some_declare}
+use Rattle.set_model.specs.Changeover.{fate_on, queued, leaving_order, left_link, left_by, can_declare, declared, declared_from, some_declare, overdue_via, redeclared_from, redeclared_if, redeclared_on}
 use Rattle.set_model.specs.Step.{Outcome, refused, offer_refusal, offered, taken, found, with_known, in_service, falls, comes_back, next, rows_sent, step}
 use Rattle.set_model.proofs.Ahead.{put_out}
 use Rattle.set_model.proofs.Events.{Untouched, untouched, sent, appended_out}
 use Rattle.set_model.proofs.Rows.{turned_same}
-use Rattle.set_model.proofs.SoundBack.{leaves, declares, alternative_up}
-use Rattle.set_model.proofs.Walk.{IsAt}
+use Rattle.set_model.proofs.SoundBack.{leaves, declares, redeclared_sound, alternative_up}
+use Rattle.set_model.proofs.Walk.{IsAt, redeclared_at}
 use Rattle.pair_changeover.proofs.Changes.{Both, acts, acts_none, stands_still, offers_acts, IsNew, to_wait, to_hold, to_park, to_back, held_none, queues_both, by_link, own_then}
 use Rattle.pair_changeover.proofs.Leaving.{leaves_acts, leaves_discards, place_not_discarded}
 use Rattle.pair_changeover.proofs.Obeying.{below, not_settled, not_discarded}
@@ -244,6 +244,32 @@ comes_keep {emergencies = emergencies} k s f sound up = go (some_declare k 0 (li
 pub restore_kept : {emergencies : Bool} (k : ℕ) (s f : State) → IsSound s → Keeps emergencies s (step s (Restore k)).state f
 unfolding step
 restore_kept k s f sound = in_keeps k s f (λ link. comes_back k s) (λ link at. comes_keep k s f sound (ap link_is_up at.there ∙ ap has_phase_up at.phase_is))
+
+-- REDECLARE: declarations come to wait for links that are up, or to be held for one that was left
+redeclared_keeps : {emergencies : Bool} (code : ℕ) (due : Option ℕ) (s f : State) → IsSound s → Keeps emergencies s (redeclared_on code due s) f
+redeclared_keeps code None s f sound = keeps_still s s f refl refl
+redeclared_keeps code (Some via) s f sound =
+    let body = text s.settings.profile (Cbd (home_of code) code) s.settings.sio s.settings.dpc s.settings.opc in
+    record {
+      both = acts s (redeclared_on code (Some via) s) f (offers_acts s f body (fate_at (On via) s) (redeclared_on code (Some via) s) refl refl
+          (λ link. fate_new s body link sound (On via)) (cbd_plain s.settings (home_of code) code));
+      settled = λ l. refl;
+      acked = λ l g. refl;
+      accepted = λ l. refl;
+      discards = appended_out (given s) s.rows body (fate_at (On via) s) was_discarded (place_not_discarded (On via) s);
+    }
+
+redeclares_keep : {emergencies : Bool} (code n : ℕ) (s f : State) → IsSound s → Keeps emergencies s (redeclared_from code n s) f
+redeclares_keep code zero s f sound = keeps_still s s f refl refl
+redeclares_keep code (suc n) s f sound =
+    keeps_then s (redeclared_if code s) _ f (redeclared_keeps code (overdue_via (code_of code s.routing) s.rows) s f sound)
+    (redeclares_keep (suc code) n (redeclared_if code s) f (redeclared_sound code (overdue_via (code_of code s.routing) s.rows) s refl sound))
+
+pub redeclare_kept : {emergencies : Bool} (k : ℕ) (s f : State) → IsSound s → Keeps emergencies s (step s (Redeclare k)).state f
+unfolding step
+redeclare_kept {emergencies = emergencies} k s f sound =
+    redeclared_at s (λ a b. a ≡ a) (λ t. Keeps emergencies s t f) k (slice_get s.links k) (keeps_still s s f refl refl)
+    (redeclares_keep (code_for k 0) 16 s f sound)
 
 -- NEXT, where no more was accepted than was sent
 record Unmoved (k count : ℕ) (rows new : List Row) : Type 0 where

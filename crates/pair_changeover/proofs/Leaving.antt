@@ -15,7 +15,7 @@ use Rattle.set_model.specs.declared.phase.Phase.TheVariants.{Up}
 use Rattle.set_model.specs.Rows.{Row, stream_of, is_unacked, is_back, is_back_to, was_discarded, stands_back, standing, parked, all_with}
 use Rattle.set_model.specs.Sound.{IsSound}
 use Rattle.set_model.specs.State.{given, LinkState, State, is_up, link_is_up, link_is_settled, fate_at}
-use Rattle.set_model.specs.Changeover.{out_of_service, left_by, left_link, released}
+use Rattle.set_model.specs.Changeover.{out_of_service, left_by, left_link, acknowledged_code}
 use Rattle.set_model.proofs.Rows.{moved_same}
 use Rattle.set_model.proofs.Places.{code_back, home_back}
 use Rattle.set_model.proofs.Staying.{offered_out}
@@ -105,7 +105,7 @@ module _ (code : ℕ) (s f : State) (sound : IsSound s) where
   home = home_of code
 
   abbrev pub gone : State
-  gone = released code s
+  gone = acknowledged_code code s
 
   pub unsent_home : (l : ℕ) (row : Row) → is_unacked l (all_with (Waiting home) row) ≡ false
   unsent_home l row = refl

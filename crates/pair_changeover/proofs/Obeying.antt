@@ -22,7 +22,7 @@ use Rattle.set_model.specs.declared.reached.Reached.TheVariants.{Upto, Unknown}
 use Rattle.set_model.specs.Rows.{Row, is_back_to, is_on, is_unacked, was_discarded, standing, unack, wait, parked, put_ahead, turned, all_with, moved}
 use Rattle.set_model.specs.Sound.{IsSound}
 use Rattle.set_model.specs.State.{has_phase_settled, all_finished, given, LinkState, State, is_up, is_settled, link_is_up, link_is_settled, has_phase_up, last_accepted, target}
-use Rattle.set_model.specs.Changeover.{settled_link, fate_on, queued, left_link, left_by, out_of_service, released, reached_by, is_reasonable, settled}
+use Rattle.set_model.specs.Changeover.{settled_link, fate_on, queued, left_link, left_by, out_of_service, acknowledged_code, reached_by, is_reasonable, settled}
 use Rattle.set_model.proofs.Ahead.{put_out}
 use Rattle.set_model.proofs.Events.{untouched}
 use Rattle.set_model.proofs.Rows.{turned_same, moved_length, moved_same}
@@ -98,7 +98,7 @@ pub data Obeys (emergencies : Bool) (k : ℕ) (body : List ℕ) (s f : State) : 
       → TellsOver body → Obeys emergencies k body s f
       (settled Unknown l (left_link false (given s) link) (left_and_told l link s))
   acknowledges : (l code : ℕ) → order_of s.settings.profile body ≡ Some (Cbd l code) → Obeys emergencies k body s f (queued (Cba l code) s)
-  releases : (l code : ℕ) → order_of s.settings.profile body ≡ Some (Cba l code) → Obeys emergencies k body s f (released code s)
+  releases : (l code : ℕ) → order_of s.settings.profile body ≡ Some (Cba l code) → Obeys emergencies k body s f (acknowledged_code code s)
 
 -- what moves, and what is acknowledged, isn't discarded
 pub not_discarded : (to : Option ℕ) → was_discarded (fate_on to) ≡ false
@@ -349,7 +349,7 @@ module _ {emergencies : Bool} (k : ℕ) (body : List ℕ) (s f : State) (sound :
       (told_at l link s f sound codes at) (told_both l link s f sound codes at o) heard.far_down
       (told_heard l link s f sound codes at heard).none
   obeys_both _ (acknowledges l code is) = acts s (queued (Cba l code) s) f (acknowledges_acts l code s f sound) o
-  obeys_both _ (releases l code is) = acts s (released code s) f (releases_acts code s f sound) o
+  obeys_both _ (releases l code is) = acts s (acknowledged_code code s) f (releases_acts code s f sound) o
 
   -- nothing is accepted by it
   pub obeys_accepted : (t : State) → Obeys emergencies k body s f t → (n : ℕ) → accepted_on n t ≡ accepted_on n s

@@ -55,6 +55,8 @@ small Known May l = record {
   answers = λ m link s known at. set_links l m link _ s.links at.there refl;
   withdraws = λ count m link s known at g. same_links l s.links;
   declares = λ may home alternative s up can. same_links l s.links;
+  redeclares = λ code via s due. same_links l s.links;
+  acknowledges_back = λ code s known. same_links l s.links;
   releases = λ code s known. same_links l s.links;
 }
 

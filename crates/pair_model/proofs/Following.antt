@@ -6,7 +6,7 @@
 -- it; Pairs.antt, Moving.antt and Hearing.antt use the lemmas.
 use Rattle.set_model.specs.Step.{is_heard}
 use Rattle.std.proofs.Common.{refl, ◌≡◌, ◌≢◌, ◌∙◌, ap, sym, subst, ℕ, zero, suc, ◌<◌, ◌==◌, Bool, true, false, List, length, slice_get, slice_set, Option, Some, None, cond, ◌||◌, inl, inr}
-use Rattle.std.proofs.lemmas.Bool.{eqb-true}
+use Rattle.std.proofs.lemmas.Bool.{cond_both, eqb-true}
 use Rattle.l2_units.specs.declared.unit.Unit.{Unit as SignalUnit}
 use Rattle.l2_units.specs.Grammar.{head_of as header_in}
 use Rattle.l3_orders.specs.declared.order.Order.{Order}
@@ -15,8 +15,9 @@ use Rattle.l3_orders.specs.Grammar.{text, order_of, link_of}
 use Rattle.set_events.specs.declared.answer.Fate.{Fate}
 use Rattle.set_events.specs.declared.answer.Fate.TheVariants.{Parked, Waiting}
 use Rattle.set_events.specs.declared.answer.Refusal.{Refusal as SetRefusal}
-use Rattle.set_events.specs.declared.answer.Refusal.TheVariants.{NotUp}
-use Rattle.set_events.specs.declared.event.Event.TheVariants.{Offer, Take, Find, Next, Heard, Up as UpEvent, Down as DownEvent, DownBlind, NoAnswer, Timed, Restore, BackTimeout}
+use Rattle.set_events.specs.declared.answer.Refusal.TheVariants.{NotUp, Nothing}
+use Rattle.set_events.specs.declared.answer.Answer.TheVariants.{Done}
+use Rattle.set_events.specs.declared.event.Event.TheVariants.{Offer, Take, Find, Next, Heard, Up as UpEvent, Down as DownEvent, DownBlind, NoAnswer, Timed, Restore, Redeclare, BackTimeout}
 use Rattle.set_route.specs.declared.place.Place.{Place}
 use Rattle.set_route.specs.declared.place.Code.{Code}
 use Rattle.set_route.specs.declared.place.Code.TheVariants.{Free, Asked, Spent}
@@ -29,8 +30,8 @@ use Rattle.set_model.specs.declared.reached.Reached.TheVariants.{Upto, Unknown, 
 use Rattle.set_model.specs.Rows.{Fate, Waiting, Unacked, Acked, Held, Back, Parked, Discarded, place, waits, is_parked, Row, is_unacked, is_back, is_back_to, stands_back, unack, all_with, appended, moved, service_indicator, stream_of}
 use Rattle.set_model.specs.State.{given, LinkState, State, link_count, link_is_up, has_phase_up, has_phase_settled, is_up, fate_at, target, window_of, with_link}
 use Rattle.set_model.specs.Control.{part_of}
-use Rattle.set_model.specs.Changeover.{Obeyed, fate_on, answered_link, left_link, acknowledged as acknowledged_link, settled_link, moved_over, queued, out_of_service, left_by, leaving_order, declared, some_declare, released, released_from, some_in_use, acknowledged_back, is_reasonable, judged, settled, taken_back, changed_over, answered, at_link, order_obeyed, obeyed, reply_of}
-use Rattle.set_model.specs.Step.{Outcome, refused, offer_refusal, offered, is_msu, brought, takes, after_control, controls, heard, falls, gives_up, over_by_time, timed, times_out, comes_back, runs_out, with_known, in_service, step}
+use Rattle.set_model.specs.Changeover.{Obeyed, fate_on, answered_link, left_link, acknowledged as acknowledged_link, settled_link, moved_over, queued, out_of_service, left_by, leaving_order, declared, some_declare, acknowledged_code, redeclared_from, redeclared_on, some_overdue, released, released_from, some_in_use, acknowledged_back, is_reasonable, judged, settled, taken_back, changed_over, answered, at_link, order_obeyed, obeyed, reply_of}
+use Rattle.set_model.specs.Step.{Outcome, refused, offer_refusal, offered, is_msu, brought, takes, after_control, controls, heard, falls, gives_up, over_by_time, timed, times_out, comes_back, redeclares, runs_out, with_known, in_service, step}
 use Rattle.set_model.specs.Frame.{LeavesAlone}
 use Rattle.set_model.proofs.Events.{Untouched, taken_back_rows, acknowledged, moved_to, left as left_by_rows, appended_out, untouched}
 use Rattle.set_model.proofs.Rows.{moved_same}
@@ -39,7 +40,7 @@ use Rattle.set_model.proofs.Ahead.{put_apart}
 use Rattle.set_model.proofs.Lists.{get_set_same, get_set_other, same_at, within, length_set, target_up}
 use Rattle.set_model.proofs.Places.{false_true, itself, apart, not_on_unacked, back_not_on, code_back, home_back}
 use Rattle.set_model.proofs.Staying.{offered_out}
-use Rattle.set_model.proofs.Walk.{IsAt, KeptBy, Touches, settle_walks, declare_walks, obeys_walks}
+use Rattle.set_model.proofs.Walk.{IsAt, KeptBy, Touches, settle_walks, declare_walks, again_walks, obeys_walks}
 
 -- it wasn't settled before, and its control, its count and its unacknowledged messages are the same
 pub record GoesOn (l : ℕ) (s t : State) (after : LinkState) : Type 0 where
@@ -125,6 +126,12 @@ follows_turned l test fate s t back unsent links rows =
     follows_by l s t (ap (λ (ls : List LinkState). slice_get ls l) links)
     (ap (unack l) rows ∙ moved_same test (is_unacked l) fate s.rows unsent (λ f e. not_on_unacked l f (back_not_on l f (back f e))))
 
+follows_redeclared : (l code via : ℕ) (s : State) → Follows l s (redeclared_on code (Some via) s)
+follows_redeclared l code via s = follows_new l _ (fate_at (On via) s) s (redeclared_on code (Some via) s) (offered_out l (On via) s) refl refl
+
+follows_acknowledged : (l code : ℕ) (s : State) → Follows l s (acknowledged_code code s)
+follows_acknowledged l code s = follows_turned l (is_back code) (all_with (Waiting _)) s (acknowledged_code code s) (code_back code) (λ row. refl) refl refl
+
 follows_released : (l code : ℕ) (s : State) → Follows l s (released code s)
 follows_released l code s = follows_turned l (is_back code) (all_with (Waiting _)) s (released code s) (code_back code) (λ row. refl) refl refl
 
@@ -196,6 +203,8 @@ others l May = record {
   answers = λ m link s d at. follows_set l m (answered_link link) s _ d refl (untouched l s.rows s.rows refl);
   withdraws = λ count m link s d at g. follows_untouched l s _ refl (g.others l d);
   declares = λ may home alternative s up can. follows_new l _ (Waiting alternative) s (declared home alternative s) refl refl refl;
+  redeclares = λ code via s due. follows_redeclared l code via s;
+  acknowledges_back = λ code s d. follows_acknowledged l code s;
   releases = λ code s d. follows_released l code s;
 }
 
@@ -256,8 +265,8 @@ at_own l s f all (Some link) e = all link e
 -- messages that waited for an acknowledgement go home
 back_follows : (l code : ℕ) (c : Code) (s : State) → Follows l s (acknowledged_back code c s).state
 back_follows l code Free s = follows_same l s
-back_follows l code Asked s = follows_released l code s
-back_follows l code Spent s = follows_released l code s
+back_follows l code (Asked via declaration owed) s = follows_acknowledged l code s
+back_follows l code (Spent owed) s = follows_acknowledged l code s
 
 own : (order : Order) (s : State) → Follows (link_of order) s (order_obeyed order s).state
 own (Coo l fsn) s = at_own l s _ (λ link there. over_own (Upto fsn) l link link.phase s there) (slice_get s.links l) refl
@@ -435,6 +444,16 @@ comes_goes l m s up = go (some_declare m 0 (link_count s) s) refl
 pub restore_follows : (l m : ℕ) (s : State) → Follows l s (step s (Restore m)).state
 unfolding step
 restore_follows l m s = in_goes l m s (λ link. comes_back m s) (λ link at. comes_goes l m s (ap link_is_up at.there ∙ ap has_phase_up at.phase_is))
+
+redeclares_goes : (l m : ℕ) (s : State) → Follows l s (redeclares m s).state
+redeclares_goes l m s = cond_both (some_overdue (code_for m 0) 16 s) (record { answer = Done; state = redeclared_from (code_for m 0) 16 s }) (refused s Nothing)
+    (λ (o : Outcome). Follows l s o.state)
+    (λ e. again_walks (λ k. (k == l) ≡ false) ⊥ (Follows l) (others l ⊥) (code_for m 0) 16 s)
+    (λ e. follows_same l s)
+
+pub redeclare_follows : (l m : ℕ) (s : State) → Follows l s (step s (Redeclare m)).state
+unfolding step
+redeclare_follows l m s = on_goes l m s (λ link. redeclares m s) (λ link there. redeclares_goes l m s)
 
 released_follow : (l code n : ℕ) (s : State) → Follows l s (released_from code n s)
 released_follow l code zero s = follows_same l s

@@ -76,8 +76,8 @@ at_took n s f body all (Some link) = all link
 
 back_took : (code : ℕ) (c : Code) (s : State) (body : List ℕ) → taken_by (acknowledged_back code c s).took body ≡ body ∷ []
 back_took code Free s body = refl
-back_took code Asked s body = refl
-back_took code Spent s body = refl
+back_took code (Asked via declaration owed) s body = refl
+back_took code (Spent owed) s body = refl
 
 order_took : (order : Order) (s : State) (body : List ℕ) → taken_by (order_obeyed order s).took body ≡ body ∷ []
 order_took (Coo n fsn) s body = at_took n s _ body (λ link. over_took (Upto fsn) n link link.phase s body) (slice_get s.links n)

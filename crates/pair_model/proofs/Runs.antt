@@ -14,13 +14,13 @@ use Rattle.set_events.specs.declared.answer.Fate.{Fate}
 use Rattle.set_events.specs.declared.config.Method.{Method}
 use Rattle.set_events.specs.declared.config.SetConfig.{SetConfig}
 use Rattle.set_events.specs.declared.event.Event.{Event}
-use Rattle.set_events.specs.declared.event.Event.TheVariants.{Offer, Take, Find, Next, Heard, Up as UpEvent, Down as DownEvent, DownBlind, NoAnswer, Timed, Restore, BackTimeout}
+use Rattle.set_events.specs.declared.event.Event.TheVariants.{Offer, Take, Find, Next, Heard, Up as UpEvent, Down as DownEvent, DownBlind, NoAnswer, Timed, Restore, Redeclare, BackTimeout}
 use Rattle.set_model.specs.declared.phase.Phase.{Phase}
 use Rattle.set_model.specs.declared.phase.Phase.TheVariants.{Up, Down, Settled}
 use Rattle.set_model.specs.Rows.{Fate, place}
 use Rattle.set_model.specs.State.{LinkState, State, has_phase_up, is_up, is_settled, link_is_up, link_count}
-use Rattle.set_model.specs.Step.{Outcome as SetOutcome, refused, offer_refusal, offered, taken, found, with_known, in_service, falls, gives_up, timed, times_out, comes_back, runs_out, step}
-use Rattle.set_model.specs.Changeover.{declared_from, some_declare, released_from, some_in_use}
+use Rattle.set_model.specs.Step.{Outcome as SetOutcome, refused, offer_refusal, offered, taken, found, with_known, in_service, falls, gives_up, timed, times_out, comes_back, redeclares, runs_out, step}
+use Rattle.set_model.specs.Changeover.{declared_from, some_declare, redeclared_from, released_from, some_in_use, some_overdue}
 use Rattle.set_route.specs.Routing.{code_for}
 use Rattle.set_events.specs.declared.answer.Answer.TheVariants.{Done}
 use Rattle.set_events.specs.declared.answer.Refusal.TheVariants.{Nothing}
@@ -108,6 +108,13 @@ comes_tells k s = go (some_declare k 0 (link_count s) s)
     go true = tt
     go false = tt
 
+redeclares_tell : (k : ℕ) (s : State) → TellsNoFault (Answered (redeclares k s).answer)
+redeclares_tell k s = go (some_overdue (code_for k 0) 16 s)
+  where
+    go : (b : Bool) → TellsNoFault (Answered (cond b (record { answer = Done; state = redeclared_from (code_for k 0) 16 s }) (refused s Nothing)).answer)
+    go true = tt
+    go false = tt
+
 runs_tells : (k : ℕ) (s : State) → TellsNoFault (Answered (runs_out k s).answer)
 runs_tells k s = go (some_in_use (code_for k 0) 16 s)
   where
@@ -128,6 +135,7 @@ answer_tells s (DownBlind k) own = in_tells k s (falls true k s) (λ link. tt)
 answer_tells s (NoAnswer k) own = on_tells k s (λ link. gives_up k s link link.phase) (λ link. give_tells k s link link.phase)
 answer_tells s (Timed k) own = on_tells k s (λ link. times_out k s link link.phase) (λ link. times_tell k s link link.phase)
 answer_tells s (Restore k) own = in_tells k s (λ link. comes_back k s) (λ link. comes_tells k s)
+answer_tells s (Redeclare k) own = on_tells k s (λ link. redeclares k s) (λ link. redeclares_tell k s)
 answer_tells s (BackTimeout k) own = on_tells k s (λ link. runs_out k s) (λ link. runs_tells k s)
 
 pub is_at_up : (k : ℕ) (s : State) → is_up k s ≡ true → (link : LinkState) × IsAt k link Up s

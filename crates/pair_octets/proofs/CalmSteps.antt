@@ -12,7 +12,9 @@ use Rattle.term_model.specs.Talk.{Talk, done, ask}
 use Rattle.term_model.specs.Terminal.{Terminal}
 use Rattle.term_model.specs.Turn.{turn_talk}
 use Rattle.set_events.specs.declared.event.Actor.TheVariants.{Terminal as TerminalOf}
-use Rattle.set_model.specs.Changeover.{cleared}
+use Rattle.set_events.specs.declared.answer.Refusal.{Refusal}
+use Rattle.set_route.specs.Routing.{code_for}
+use Rattle.set_model.specs.Changeover.{cleared, redeclared_from, some_overdue}
 use Rattle.set_model.specs.Rows.{Row}
 use Rattle.set_model.specs.State.{LinkState, State, has_phase_up}
 use Rattle.set_model.specs.Step.{NotUp, Outcome as SetOutcome, next, refused, step, unit_of, with_known}
@@ -64,9 +66,17 @@ found_no_status n s (Some link) =
     cond_both (has_phase_up link.phase) (next n (cleared n s) link) (refused s NotUp) (λ (o : SetOutcome). is_status o.answer ≡ false)
     (λ up. given_no_status _ _) (λ down. refl)
 
+redeclared_no_status : (found : Option LinkState) (s changed : State) (overdue : Bool)
+    → is_status (with_known found s (λ link. if overdue then record { answer = Answer.Done; state = changed } else refused s Refusal.Nothing)).answer ≡ false
+redeclared_no_status None s changed overdue = refl
+redeclared_no_status (Some link) s changed true = refl
+redeclared_no_status (Some link) s changed false = refl
+
 pub no_status : (s : State) (event : Event) → is_status (step s event).answer ≡ false
 unfolding step
 no_status s (Event.Next n) = found_no_status n s (slice_get s.links n)
+no_status s (Event.Redeclare n) =
+    redeclared_no_status (slice_get s.links n) s (redeclared_from (code_for n 0) 16 s) (some_overdue (code_for n 0) 16 s)
 no_status s event = grind arith
 
 comes_so : {T : Type 0} (so : T → Type 0) (talk : Talk T) (s : State) → KeepsBy Any IsPlainAnswer so talk → so (outcome_with talk s)

@@ -60,6 +60,7 @@ IsAskedApart (Event.Find number) = Unit {0}
 IsAskedApart (Event.NoAnswer link) = Unit {0}
 IsAskedApart (Event.Timed link) = Unit {0}
 IsAskedApart (Event.Restore link) = Unit {0}
+IsAskedApart (Event.Redeclare link) = Unit {0}
 IsAskedApart (Event.BackTimeout link) = Unit {0}
 IsAskedApart _ = ⊥
 

@@ -122,7 +122,11 @@ module _ (l : ℕ) (s : State) (sound : IsSound s) (e : is_settled l s ≡ true)
     placed = λ stream few. placed (place_of stream s.routing) (sound.placed stream few);
     none_aside = λ n link found up. sound.none_aside n link (was_up n link found up (n == l) refl) up;
     all_run = λ n link found up. sound.all_run n link (was_up n link found up (n == l) refl) up;
-    homes_up = λ code asked. up_same cover refl l s o _ ∙ sound.homes_up code asked;
+    codes = λ code. let c = sound.codes code in record {
+      home_up = λ via e. up_same cover refl l s o _ ∙ c.home_up via e;
+      via_stands = λ via e. placed (On via) (c.via_stands via e);
+      few = c.few;
+    };
     backs = sound.backs;
     back_order = sound.back_order;
   }

@@ -2,11 +2,11 @@
 -- of pair_streams' Risen.antt for an end by itself: the link was settled in a state `u` that has the rows and the
 -- routing of the one (`s`) in which the streams are told. For the first of the two that's the same state; for the second
 -- `s` is `u` under its veil. At the other end nothing moves (`still_flow`).
-use Rattle.std.proofs.Common.{refl, ◌≡◌, ◌∙◌, ap, ap₂, sym, subst, ℕ, ◌<◌, ◌==◌, ◌-◌, ◌%◌, Bool, true, false, List, [], ◌++◌, slice_get, Some, inl}
+use Rattle.std.proofs.Common.{arith, refl, ◌≡◌, ◌∙◌, ap, ap₂, sym, subst, ℕ, ◌<◌, ◌==◌, ◌-◌, ◌%◌, Bool, true, false, List, [], ◌++◌, slice_get, Some}
 use Rattle.std.proofs.lemmas.Bool.{eqb-true}
 use Rattle.set_route.specs.declared.place.Place.{Place}
 use Rattle.set_route.specs.declared.place.Place.TheVariants.{On, Changing, Nowhere}
-use Rattle.set_route.specs.Routing.{place_of, place_raised, code_of, Routing, IsRouting, has_messages, raised}
+use Rattle.set_route.specs.Routing.{place_of, place_raised, code_of, Routing, IsRouting, has_messages, raised, owed_under}
 use Rattle.set_route.proofs.Alone as route
 use Rattle.set_model.specs.Sound.{IsSound, IsPlaced}
 use Rattle.set_model.specs.Rows.{Row, parked, standing, is_back}
@@ -17,7 +17,7 @@ use Rattle.pair_changeover.proofs.Passing.{Rises}
 use Rattle.pair_changeover.proofs.Table.{queue_untouched}
 use Rattle.pair_changeover.proofs.Views.{view, Among, In, stands_on, stands_aside}
 use Rattle.pair_streams.specs.Streams.{those_of}
-use Rattle.pair_streams.proofs.Codes.{Clear, Flows, NewAcknowledges, Kept, carried}
+use Rattle.pair_streams.proofs.Codes.{Clear, Flows, NewAcknowledges, Kept, carried, owes_same}
 use Rattle.pair_streams.proofs.Declared.{NoneDeclares, ClearBehind}
 use Rattle.pair_streams.proofs.Mixed.{Mixed}
 use Rattle.pair_streams.proofs.Flowing.{back_by, queue_at, here, runs_by, runs_nowhere, Stands}
@@ -194,7 +194,7 @@ module _ (k : ℕ) (u s t f g : State) (sound : IsSound u) (a : Rises k u t) (sa
   pub up_flow : (offered got lost : ℕ → List Message) → Flows s f offered got lost → NewAcknowledges (view g t) (view f s) → Flows t g offered got lost
   up_flow offered got lost w acknowledges =
       carried s t f g offered got lost w (λ stream low. risen_kept offered got lost w stream low)
-      (λ c few e. inl (ap (code_of c) (sym routing_then) ∙ e)) (λ c m i d. up_in m i) acknowledges
+      (λ c. let same = ap (λ (r : Routing). owed_under (code_of c r)) routing_then in omega (arith, same)) (λ c m i d. up_in m i) acknowledges
 
 -- THE OTHER END, where no queue changes as it stands
 module _ (s t f g : State) (queues : (l : ℕ) → pending l t g ≡ pending l s f) (aside_same : aside t ≡ aside s)
@@ -233,4 +233,4 @@ module _ (s t f g : State) (queues : (l : ℕ) → pending l t g ≡ pending l s
 
     pub still_flow : NewAcknowledges (view g t) (view f s) → Flows t g offered got lost
     still_flow acknowledges = carried s t f g offered got lost w still_kept
-        (λ c few e. inl (ap (code_of c) (sym routing) ∙ e)) (λ c m i d. still_in m i) acknowledges
+        (owes_same s t routing) (λ c m i d. still_in m i) acknowledges

@@ -19,7 +19,9 @@ use Rattle.set_events.specs.declared.answer.DiscardCause.TheVariants.{Emergency,
 use Rattle.set_route.specs.declared.place.Place.{Place}
 use Rattle.set_route.specs.declared.place.Place.TheVariants.{On, Changing, Nowhere}
 use Rattle.set_route.specs.declared.stream.Stream.{Stream}
-use Rattle.set_route.specs.Routing.{Routing, place_of, place_on, place_settled, via_settled, stream_settled, settled as streams_settled}
+use Rattle.set_route.specs.declared.place.Code.{Code}
+use Rattle.set_route.specs.declared.place.Code.TheVariants.{Free, Asked, Spent}
+use Rattle.set_route.specs.Routing.{Routing, code_of, code_settled, place_of, place_on, place_settled, via_of, via_settled, stream_settled, settled as streams_settled}
 use Rattle.set_route.specs.Target.{target_of}
 use Rattle.set_model.specs.declared.phase.Phase.{Phase}
 use Rattle.set_model.specs.declared.phase.Phase.TheVariants.{Up, Settled}
@@ -189,6 +191,20 @@ module _ (l : ℕ) (to : Option ℕ) where
       via_same (Some target) = at (via == l) target refl
   place_same links link there settled Nowhere placed = refl
 
+  -- nor does a code whose streams come from elsewhere
+  same_codes : (codes : List Code) → ((i : ℕ) → code_settled l to (slice_index_or codes i Free) ≡ slice_index_or codes i Free) → map (code_settled l to) codes ≡ codes
+  same_codes [] same = refl
+  same_codes (c ∷ codes) same = ap₂ (λ (x : Code) (xs : List Code). x ∷ xs) (same 0) (same_codes codes (λ i. same (suc i)))
+
+  code_same : (links : List LinkState) (link : LinkState) → slice_get links l ≡ Some link → has_phase_settled link.phase ≡ true
+      → (was : Code) → ((via : ℕ) → via_of was ≡ Some via → IsPlaced links (On via)) → code_settled l to was ≡ was
+  code_same links link there settled Free placed = refl
+  code_same links link there settled (Spent owed) placed = refl
+  code_same links link there settled (Asked via declaration owed) placed =
+      let same : Changing 0 0 (via_settled l to via) ≡ Changing 0 0 via = place_same links link there settled (Changing 0 0 via) (placed via refl) in
+      let via_is : via_settled l to via ≡ via = cc in
+      ap (λ (v : ℕ). Asked v declaration owed) via_is
+
 -- A LINK THAT IS SETTLED, seen as left in silence, settles by an order as one that counts nothing; nothing moves
 module _ (l : ℕ) (m : State) (sound : IsSound m) (link : LinkState) (at : IsAt l link Settled m) where
   abbrev seen : State
@@ -204,9 +220,10 @@ module _ (l : ℕ) (m : State) (sound : IsSound m) (link : LinkState) (at : IsAt
   sixteen = sym (length-map m.routing.streams (λ s. s.home)) ∙ ap length sound.routing.homes
 
   routing_same : (to : Option ℕ) → streams_settled l to m.routing ≡ m.routing
-  routing_same to = ap (λ (streams : List Stream). record m.routing { streams = streams })
+  routing_same to = ap₂ (λ (streams : List Stream) (codes : List Code). record m.routing { streams = streams; codes = codes })
       (same_streams l to m.routing.streams (λ i few. place_same l to m.links link at.there (ap has_phase_settled at.phase_is)
       (place_of i m.routing) (sound.placed i (omega (arith, few, sixteen)))))
+      (same_codes l to m.routing.codes (λ i. code_same l to m.links link at.there (ap has_phase_settled at.phase_is) (code_of i m.routing) (sound.codes i).via_stands))
 
   built : (links links' : List LinkState) (rows rows' : List Row) (routing routing' : Routing) → links ≡ links' → rows ≡ rows' → routing ≡ routing'
       → ◌≡◌ {A = State} (record m { links = links; rows = rows; routing = routing }) (record m { links = links'; rows = rows'; routing = routing' })

@@ -14,7 +14,7 @@ use Rattle.pair_steps.specs.declared.step.End.{End}
 use Rattle.pair_steps.specs.declared.step.Step.TheVariants.{Act}
 use Rattle.set_events.specs.declared.config.Method.{Method}
 use Rattle.set_events.specs.declared.event.Event.{Event}
-use Rattle.set_events.specs.declared.event.Event.TheVariants.{Offer, Take, Find, Next, Heard as HeardEvent, Up as UpEvent, Down as DownEvent, DownBlind, NoAnswer, Timed, Restore, BackTimeout}
+use Rattle.set_events.specs.declared.event.Event.TheVariants.{Offer, Take, Find, Next, Heard as HeardEvent, Up as UpEvent, Down as DownEvent, DownBlind, NoAnswer, Timed, Restore, Redeclare, BackTimeout}
 use Rattle.set_events.specs.declared.answer.Took.TheVariants.{Message as TookMessage}
 use Rattle.set_route.specs.declared.place.Code.{Code}
 use Rattle.set_route.specs.declared.place.Code.TheVariants.{Free, Asked, Spent}
@@ -34,7 +34,7 @@ use Rattle.pair_model.proofs.Moving.{next_refused}
 use Rattle.pair_model.proofs.Pairs.{Two, HoldsOf, no_other}
 use Rattle.pair_changeover.proofs.Changes.{Both, by_link}
 use Rattle.pair_changeover.proofs.Hearing as hearing
-use Rattle.pair_changeover.proofs.Keeping.{Keeps, offer_kept, take_kept, find_kept, down_kept, blind_kept, restore_kept, next_keeps}
+use Rattle.pair_changeover.proofs.Keeping.{Keeps, offer_kept, take_kept, find_kept, down_kept, blind_kept, restore_kept, redeclare_kept, next_keeps}
 use Rattle.pair_changeover.proofs.Obeying.{Told, Heard, Obeys, keeps, settles, answers, settles_blind, answers_blind, acknowledges, releases, obeys_both, obeys_accepted}
 use Rattle.pair_changeover.proofs.Ordered.{Ordered, sent_enough}
 use Rattle.pair_changeover.proofs.Ordered as orders
@@ -164,6 +164,7 @@ asked_keeps true end s f (NoAnswer k) safe own sound codes = absurd safe
 asked_keeps false end s f (Timed k) safe own sound codes = absurd safe
 asked_keeps true end s f (Timed k) safe own sound codes = absurd safe
 asked_keeps em end s f (Restore k) safe own sound codes = restore_kept k s f sound
+asked_keeps em end s f (Redeclare k) safe own sound codes = redeclare_kept k s f sound
 asked_keeps false end s f (BackTimeout k) safe own sound codes = absurd safe
 asked_keeps true end s f (BackTimeout k) safe own sound codes = absurd safe
 
@@ -228,6 +229,8 @@ module _ (l : ℕ) where
     answers = λ n link s known at. set_apart s.links n (answered_link link) known;
     withdraws = λ count n link s known at g. refl;
     declares = λ may home alternative s up can. refl;
+    redeclares = λ code via s due. refl;
+    acknowledges_back = λ code s known. refl;
     releases = λ code s known. refl;
   }
 
@@ -240,8 +243,8 @@ module _ (l : ℕ) where
 
   back_same : (code : ℕ) (c : Code) (s : State) → SameAt s (acknowledged_back code c s).state
   back_same code Free s = refl
-  back_same code Asked s = refl
-  back_same code Spent s = refl
+  back_same code (Asked via declaration owed) s = refl
+  back_same code (Spent owed) s = refl
 
   order_same : (order : Order) (s : State) → (IsChangeover order → (link_of order == l) ≡ false) → SameAt s (order_obeyed order s).state
   order_same (Coo n fsn) s d = over_same (Coo n fsn) s tt (d tt)

@@ -21,8 +21,9 @@ use Rattle.set_events.specs.declared.answer.Refusal.{Refusal}
 use Rattle.set_events.specs.declared.answer.Refusal.TheVariants.{Nothing, NotUp}
 use Rattle.set_events.specs.declared.answer.Took.TheVariants.{Message as TookMessage}
 use Rattle.set_events.specs.declared.event.Event.{Event}
-use Rattle.set_events.specs.declared.event.Event.TheVariants.{Offer, Take, Find, Next, Heard as HeardEvent, Up as UpEvent, Down as DownEvent, DownBlind, NoAnswer, Timed, Restore, BackTimeout}
-use Rattle.set_route.specs.Routing.{code_of}
+use Rattle.set_events.specs.declared.event.Event.TheVariants.{Offer, Take, Find, Next, Heard as HeardEvent, Up as UpEvent, Down as DownEvent, DownBlind, NoAnswer, Timed, Restore, Redeclare, BackTimeout}
+use Rattle.set_route.specs.Routing.{code_for, code_of}
+use Rattle.set_model.proofs.Walk.{redeclared_at, redeclared_links}
 use Rattle.set_route.specs.declared.place.Code.{Code}
 use Rattle.set_route.specs.declared.place.Code.TheVariants.{Free, Asked, Spent}
 use Rattle.set_model.specs.declared.phase.Phase.{Phase}
@@ -124,8 +125,8 @@ at_older n s f each = go (slice_get s.links n)
 
 back_older : (code : ℕ) (c : Code) (s : State) → Older s.links (acknowledged_back code c s).state.links
 back_older code Free s = older_same s.links
-back_older code Asked s = older_same s.links
-back_older code Spent s = older_same s.links
+back_older code (Asked via declaration owed) s = older_same s.links
+back_older code (Spent owed) s = older_same s.links
 
 order_older : (order : Order) (s : State) → Older s.links (order_obeyed order s).state.links
 order_older (Coo n fsn) s = at_older n s (changed_over (Upto fsn) n) (λ link phase e. changed_older (Upto fsn) refl n link phase s e)
@@ -220,6 +221,9 @@ asked_older em end (Restore k) s plain own = in_older k s (λ link. comes_back k
     go : (b : Bool) → Older s.links (cond b (record { answer = Done; state = declared_from k 0 (link_count s) s }) (refused s Nothing)).state.links
     go true = subst (λ (ls : List LinkState). Older s.links ls) (sym (from_same (link_count s) k 0 s)) (older_same s.links)
     go false = older_same s.links
+asked_older em end (Redeclare k) s plain own =
+    redeclared_at s (λ a b. a ≡ a) (λ t. Older s.links t.links) k (slice_get s.links k) (older_same s.links)
+    (subst (λ (ls : List LinkState). Older s.links ls) (sym (redeclared_links (code_for k 0) 16 s)) (older_same s.links))
 asked_older false end (BackTimeout k) s plain own = absurd plain
 asked_older true end (BackTimeout k) s plain own = absurd plain
 

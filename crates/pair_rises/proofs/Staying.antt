@@ -45,6 +45,8 @@ small Known May l = record {
   answers = λ n link s known at. stays_set l n link _ s.links at.there (λ e. e);
   withdraws = λ count n link s known at g e. e;
   declares = λ may home alternative s up can e. e;
+  redeclares = λ code via s due e. e;
+  acknowledges_back = λ code s known e. e;
   releases = λ code s known e. e;
 }
 

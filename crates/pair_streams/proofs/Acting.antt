@@ -14,8 +14,8 @@ use Rattle.set_events.specs.declared.answer.Refusal.{Refusal as SetRefusal}
 use Rattle.set_events.specs.declared.answer.Refusal.TheVariants.{NotUp}
 use Rattle.set_events.specs.declared.config.Method.{Method}
 use Rattle.set_events.specs.declared.event.Event.{Event}
-use Rattle.set_events.specs.declared.event.Event.TheVariants.{Offer, Take, Find, Next, Heard as HeardEvent, Up as UpEvent, Down as DownEvent, DownBlind, NoAnswer, Timed, Restore, BackTimeout}
-use Rattle.set_route.specs.Routing.{raised}
+use Rattle.set_events.specs.declared.event.Event.TheVariants.{Offer, Take, Find, Next, Heard as HeardEvent, Up as UpEvent, Down as DownEvent, DownBlind, NoAnswer, Timed, Restore, Redeclare, BackTimeout}
+use Rattle.set_route.specs.Routing.{code_for, raised}
 use Rattle.set_model.specs.declared.phase.Phase.{Phase}
 use Rattle.set_model.specs.declared.phase.Phase.TheVariants.{Up, Down, Settled}
 use Rattle.set_model.specs.Changeover.{leaving_order, left_by, left_link}
@@ -27,7 +27,7 @@ use Rattle.set_model.specs.Step.{Outcome, refused, offer_refusal, offered, taken
 use Rattle.set_model.proofs.Rows.{turned_same, moved_same}
 use Rattle.set_model.proofs.Places.{itself, stream_below_16}
 use Rattle.set_model.proofs.SoundBack.{leaves}
-use Rattle.set_model.proofs.Walk.{IsAt}
+use Rattle.set_model.proofs.Walk.{IsAt, redeclared_at}
 use Rattle.pair_steps.specs.declared.step.End.{End}
 use Rattle.pair_steps.specs.declared.step.Shown.TheVariants.{Answered}
 use Rattle.pair_steps.specs.declared.step.Step.{Step}
@@ -43,7 +43,7 @@ use Rattle.pair_changeover.proofs.Overtaken.{sends_next}
 use Rattle.pair_changeover.specs.Pending.{pending, aside, accepted_of, accepted_on}
 use Rattle.pair_changeover.proofs.Changes.{by_link}
 use Rattle.pair_changeover.proofs.Arriving.{rises_at}
-use Rattle.pair_changeover.proofs.Keeping.{Keeps, keeps_still, users_body, offer_kept, take_kept, find_kept, down_kept, blind_kept, restore_kept, next_queues, next_aside}
+use Rattle.pair_changeover.proofs.Keeping.{Keeps, keeps_still, users_body, offer_kept, take_kept, find_kept, down_kept, blind_kept, restore_kept, redeclare_kept, next_queues, next_aside}
 use Rattle.pair_changeover.proofs.Ordered.{Ordered, ordered_back, asked_ordered, sent_enough, sends_keep, rises_both}
 use Rattle.pair_changeover.proofs.Table.{new_message}
 use Rattle.pair_changeover.proofs.Texts.{AreCodes}
@@ -51,6 +51,7 @@ use Rattle.pair_changeover.proofs.Views.{view, Among}
 use Rattle.pair_streams.proofs.Codes.{Flows, NewAcknowledges, far_carried, far_in}
 use Rattle.pair_streams.proofs.Declared.{leaving_declares, leaving_acknowledges}
 use Rattle.pair_streams.proofs.Declaring.{comes_flow, comes_acks}
+use Rattle.pair_streams.proofs.Redeclared.{redeclared_flow, redeclared_acks}
 use Rattle.pair_streams.proofs.Flowing.{back_by, here}
 use Rattle.pair_streams.proofs.Mixed.{Mixed}
 use Rattle.pair_streams.proofs.Flows.{queues_flow, queues_acks, offers_flow, offers_acks}
@@ -214,6 +215,11 @@ module _ (s f : State) (sound : IsSound s) (offered_here got lost : ℕ → List
   event_keeps emergencies (NoAnswer k) end own safe other = absurd (never_unanswered emergencies end k safe)
   event_keeps emergencies (Timed k) end own safe other = absurd (never_by_time emergencies end k safe)
   event_keeps emergencies (Restore k) end own safe other = in_keeps k (λ link. comes_back k s) (λ link at. restore_keeps k link at)
+  event_keeps emergencies (Redeclare k) end own safe other =
+      redeclared_at s (λ a b. a ≡ a) Keeps' k (slice_get s.links k) keeps_self (record {
+        out = redeclared_flow (code_for k 0) 16 s f offered_here got lost sound w;
+        acks = redeclared_acks (code_for k 0) 16 s f sound;
+      })
   event_keeps emergencies (BackTimeout k) end own safe other = absurd (never_timed_out emergencies end k safe)
 
   -- OFFER
@@ -338,6 +344,7 @@ module _ {emergencies : Bool} (p : Two) (sound : IsSound p.near) (w : Streams em
   asked_streams end (NoAnswer k) own safe = absurd (never_unanswered emergencies end k safe)
   asked_streams end (Timed k) own safe = absurd (never_by_time emergencies end k safe)
   asked_streams end (Restore k) own safe = event_streams end (Restore k) refl safe (λ body e. absurd cc) (restore_kept k p.near p.far sound)
+  asked_streams end (Redeclare k) own safe = event_streams end (Redeclare k) refl safe (λ body e. absurd cc) (redeclare_kept k p.near p.far sound)
   asked_streams end (BackTimeout k) own safe = absurd (never_timed_out emergencies end k safe)
 
 -- IT SENDS

@@ -4,8 +4,9 @@
 -- last on the alternative, and nothing of its streams comes behind it, since what is offered from then on waits by the
 -- code (`clear_new`). `comes_acks` says that no acknowledgement comes to stand there. Case by case on the stream's
 -- place; Acting.antt uses it.
-use Rattle.std.proofs.Common.{refl, arith, ◌≡◌, ◌∙◌, ap, sym, subst, ℕ, zero, suc, ◌<◌, ◌==◌, ◌-◌, ◌%◌, Bool, true, false, not, ◌&&◌, List, [], ◌∷◌, ◌++◌, slice_get, Option, Some, None, cond, ◌⊎◌, inl, inr}
+use Rattle.std.proofs.Common.{refl, arith, ◌≡◌, ◌∙◌, ap, sym, subst, ℕ, zero, suc, ◌<◌, ◌==◌, ◌-◌, ◌%◌, Bool, true, false, not, ◌&&◌, List, [], ◌∷◌, ◌++◌, length, slice_get, Option, Some, None, cond, ◌⊎◌, inl, inr}
 use Rattle.std.proofs.lemmas.Bool.{eqb-true}
+use Rattle.std.proofs.lemmas.Option.{none-some}
 use Rattle.l3_orders.specs.declared.order.Order.TheVariants.{Cbd}
 use Rattle.l3_orders.specs.Grammar.{text, label, heading_of, content_with}
 use Rattle.set_events.specs.declared.answer.Fate.TheVariants.{Waiting}
@@ -13,7 +14,8 @@ use Rattle.set_route.specs.declared.place.Place.{Place}
 use Rattle.set_route.specs.declared.place.Place.TheVariants.{On, Changing, Nowhere}
 use Rattle.set_route.specs.declared.place.Code.{Code}
 use Rattle.set_route.specs.declared.place.Code.TheVariants.{Free, Asked, Spent}
-use Rattle.set_route.specs.Routing.{place_of, code_of, code_for, is_free, some_away, runs_on, has_messages}
+use Rattle.set_route.specs.Routing.{place_of, code_of, code_for, is_free, owed_under, some_away, runs_on, has_messages, via_of}
+use Rattle.set_route.proofs.Codes.{set_at}
 use Rattle.set_route.proofs.Alone as route
 use Rattle.set_model.specs.Changeover.{can_declare, declared, declared_from, some_declare}
 use Rattle.set_model.specs.Sound.{IsSound}
@@ -31,9 +33,8 @@ use Rattle.pair_changeover.proofs.Changes.{Grows, grown, ungrown, IsNew, to_wait
 use Rattle.pair_changeover.proofs.Table.{new_message}
 use Rattle.pair_changeover.proofs.Views.{view, Among, In, stands_on, stands_aside}
 use Rattle.pair_streams.specs.Streams.{is_of, those_of}
-use Rattle.pair_streams.proofs.Codes.{Clear, Flows, Kept, NewAcknowledges}
+use Rattle.pair_streams.proofs.Codes.{Clear, Flows, IsNumber, Kept, NewAcknowledges, Owes, free_acked, free_declared, kept_flow}
 use Rattle.pair_streams.proofs.Declared.{Declares, Acknowledges, NoneDeclares, ClearBehind, clear_after, cbd_other, cbd_acknowledges}
-use Rattle.pair_streams.proofs.Mixed.{Mixed}
 use Rattle.pair_streams.proofs.Filtered.{joins_none, both_true}
 use Rattle.pair_streams.proofs.Flowing.{back_by, queue_at, waits_by, Stands, none_back_by}
 use Rattle.pair_streams.proofs.Flows.{no_stream}
@@ -41,8 +42,8 @@ use Rattle.pair_streams.proofs.Moving.{Comes, comes_last, those_stay, grows_on, 
 
 is_free_so : (c : Code) → is_free c ≡ true → c ≡ Free
 is_free_so Free e = refl
-is_free_so Asked e = absurd cc
-is_free_so Spent e = absurd cc
+is_free_so (Asked via declaration owed) e = absurd cc
+is_free_so (Spent owed) e = absurd cc
 
 -- a link that is up is one of the set's
 up_below : (l : ℕ) (s : State) → IsSound s → is_up l s ≡ true → l < 16
@@ -127,23 +128,22 @@ module _ (home alternative : ℕ) (s f : State) (sound : IsSound s) (home_up : i
 
   module _ (offered got lost : ℕ → List Message) (w : Flows s f offered got lost) where
     none_declared : NoneDeclares code (pending alternative s f)
-    none_declared m a d = w.backing.free_declared code few code_free m (stands_on alternative a) d
+    none_declared m a d = free_declared code s.routing (view s f) (view f s) code_free w.backing m (stands_on alternative a) d
 
     module _ (stream : ℕ) (low : stream < 16) where
       place_then : place_of stream then_s.routing
           ≡ cond ((stream % s.routing.links == home) && runs_on alternative (place_of stream s.routing))
           (Changing home code alternative) (place_of stream s.routing)
-      place_then = (route.alone s.routing stream sound.routing low).asked_place home alternative
+      place_then = (route.alone s.routing stream sound.routing low).asked_place home alternative (given s)
 
       used_then : has_messages stream then_s.routing ≡ has_messages stream s.routing
-      used_then = (route.alone s.routing stream sound.routing low).asked_messages home alternative
+      used_then = (route.alone s.routing stream sound.routing low).asked_messages home alternative (given s)
 
       -- one that comes back by another code
       other_code : (to c via : ℕ) → place_of stream s.routing ≡ Changing to c via → Declares c z → ⊥
       other_code to c via is d =
           let coded = coded_at s.routing stream sound.routing to c via is in
-          let never : Asked ≡ Free = sym coded.1 ∙ ap (λ (n : ℕ). code_of n s.routing) (tells c d) ∙ code_free in
-          cc
+          none-some via (sym (ap via_of (ap (λ (n : ℕ). code_of n s.routing) (tells c d) ∙ code_free)) ∙ coded.1)
 
       -- one that comes back by this one
       module _ (is : place_of stream s.routing ≡ On alternative) (then_is : place_of stream then_s.routing ≡ Changing home code alternative) where
@@ -161,8 +161,8 @@ module _ (home alternative : ℕ) (s f : State) (sound : IsSound s) (home_up : i
 
         clear_new : Clear stream code alternative (view then_s f)
         clear_new = record {
-          only = λ l d m a x. w.backing.free_declared code few code_free m (stands_on l (subst (Among m) (same_on l d) a)) x;
-          none_aside = λ m a x. w.backing.free_declared code few code_free m (stands_aside (aside_was m a)) x;
+          only = λ l d m a x. free_declared code s.routing (view s f) (view f s) code_free w.backing m (stands_on l (subst (Among m) (same_on l d) a)) x;
+          none_aside = λ m a x. free_declared code s.routing (view s f) (view f s) code_free w.backing m (stands_aside (aside_was m a)) x;
           behind = subst (ClearBehind stream code) (sym more_on) (clear_after stream code (pending alternative s f) (z ∷ []) none_declared ((λ d. refl), tt));
         }
           where
@@ -190,7 +190,7 @@ module _ (home alternative : ℕ) (s f : State) (sound : IsSound s) (home_up : i
           answered = λ to c via e n i a.
               let same : Changing home code alternative ≡ Changing to c via = sym then_is ∙ e in
               let code_is : code ≡ c = cc in
-              absurd (w.backing.free_acked code few code_free n i (subst (λ (k : ℕ). Acknowledges k n) (sym code_is) a));
+              absurd (free_acked code s.routing (view s f) (view f s) code_free w.backing n i (subst (λ (k : ℕ). Acknowledges k n) (sym code_is) a));
         }
 
       declared_kept : Kept stream s then_s f f
@@ -207,63 +207,71 @@ module _ (home alternative : ℕ) (s f : State) (sound : IsSound s) (home_up : i
               (λ (b : Bool). cond b (Changing home code alternative) (place_of stream s.routing)) e) used_then
               other_code
 
-    -- THE CODE is in use then, and told by this message alone
-    code_then : (c : ℕ) → c < 256 → code_of c then_s.routing ≡ cond (c == code) Asked (code_of c s.routing)
-    code_then c low = (route.codes_alone s.routing c sound.routing low).asked_code home alternative
-        (up_below home s sound home_up) (up_below alternative s sound alternative_is_up)
+    -- THE CODE is in use then, and one acknowledgement is owed
+    abbrev asked_code : Code
+    asked_code = Asked alternative (given s) 1
 
-    still_free : (c : ℕ) → c < 256 → code_of c then_s.routing ≡ Free → ((c == code) ≡ false) × (code_of c s.routing ≡ Free)
-    still_free c low e = go (c == code) refl
+    owed_then : (c : ℕ) (b : Bool) → (c == code) ≡ b → owed_under (code_of c then_s.routing) ≡ cond b 1 (owed_under (code_of c s.routing))
+    owed_then c b e = ap owed_under (set_at s.routing.codes c code asked_code within_codes ∙ ap (λ (d : Bool). cond d asked_code (code_of c s.routing)) e) ∙ go b
       where
-        go : (b : Bool) → (c == code) ≡ b → ((c == code) ≡ false) × (code_of c s.routing ≡ Free)
-        go true d = absurd (let never : Asked ≡ Free = ap (λ (b : Bool). cond b Asked (code_of c s.routing)) (sym d) ∙ sym (code_then c low) ∙ e in cc)
-        go false d = (d, ap (λ (b : Bool). cond b Asked (code_of c s.routing)) (sym d) ∙ sym (code_then c low) ∙ e)
+        within_codes : code < length s.routing.codes
+        within_codes = omega (arith, few, sound.routing.all_codes)
+
+        go : (b : Bool) → owed_under (cond b asked_code (code_of c s.routing)) ≡ cond b 1 (owed_under (code_of c s.routing))
+        go true = refl
+        go false = refl
 
     -- one that declares stood there, or is new and tells this code
     by_code : (c : ℕ) (m : Message) → Declares c m → In m (view s f) ⊎ (m ≡ z) → In m (view s f) ⊎ ((m ≡ z) × (c ≡ code))
     by_code c m d (inl i) = inl i
     by_code c m d (inr same) = inr (same, tells c (subst (Declares c) same d))
 
-    never_declared : (c : ℕ) (m : Message) → c ≡ code → In m (view s f) → Declares c m → ⊥
-    never_declared c m same i d = w.backing.free_declared code few code_free m i (subst (λ (n : ℕ). Declares n m) same d)
-
     few_case : (c : ℕ) (m : Message) → Declares c m → In m (view s f) ⊎ ((m ≡ z) × (c ≡ code)) → c < 256
     few_case c m d (inl i) = w.backing.few_declared c m i d
     few_case c m d (inr p) = subst (λ (n : ℕ). n < 256) (sym p.1) few
 
-    free_case : (c : ℕ) → c < 256 → code_of c then_s.routing ≡ Free → (m : Message) → Declares c m → In m (view s f) ⊎ ((m ≡ z) × (c ≡ code)) → ⊥
-    free_case c low e m d (inl i) = w.backing.free_declared c low (still_free c low e).1 m i d
-    free_case c low e m d (inr p) = false_true (c == code) (still_free c low e).0 (ap (λ (n : ℕ). n == code) p.1 ∙ itself code)
+    own_owes : Owes code 1 (view then_s f) (view f then_s)
+    own_owes = record {
+      declarations = given s ∷ [];
+      acks = [];
+      within = omega arith;
+      declared = λ m i d. own_case m d (was_there m i);
+      acked = λ m i a. free_acked code s.routing (view s f) (view f s) code_free w.backing m i a;
+    }
+      where
+        own_case : (m : Message) → Declares code m → In m (view s f) ⊎ (m ≡ z) → IsNumber m.number (given s ∷ [])
+        own_case m d (inl i) = absurd (free_declared code s.routing (view s f) (view f s) code_free w.backing m i d)
+        own_case m d (inr same) = inl (ap (λ (x : Message). x.number) same)
 
-    one_case : (c : ℕ) (m n : Message) → Declares c m → Declares c n → In m (view s f) ⊎ ((m ≡ z) × (c ≡ code))
-        → In n (view s f) ⊎ ((n ≡ z) × (c ≡ code)) → m.number ≡ n.number
-    one_case c m n a b (inl i) (inl j) = w.backing.one_declared c m n i j a b
-    one_case c m n a b (inr p) (inr q) = ap (λ (x : Message). x.number) (p.0 ∙ sym q.0)
-    one_case c m n a b (inl i) (inr q) = absurd (never_declared c m q.1 i a)
-    one_case c m n a b (inr p) (inl j) = absurd (never_declared c n p.1 j b)
+    other_owes : (c : ℕ) → (c == code) ≡ false → Owes c (owed_under (code_of c s.routing)) (view then_s f) (view f then_s)
+    other_owes c other = let o = w.backing.owes c in record {
+      declarations = o.declarations;
+      acks = o.acks;
+      within = o.within;
+      declared = λ m i d. other_case m d (by_code c m d (was_there m i));
+      acked = o.acked;
+    }
+      where
+        other_case : (m : Message) → Declares c m → In m (view s f) ⊎ ((m ≡ z) × (c ≡ code)) → IsNumber m.number (w.backing.owes c).declarations
+        other_case m d (inl i) = (w.backing.owes c).declared m i d
+        other_case m d (inr p) = absurd (false_true (c == code) other (ap (λ (n : ℕ). n == code) p.1 ∙ itself code))
 
-    either_case : (c : ℕ) (m n : Message) → In n (view f s) → Declares c m → Acknowledges c n → In m (view s f) ⊎ ((m ≡ z) × (c ≡ code)) → ⊥
-    either_case c m n j a b (inl i) = w.backing.either c m n i j a b
-    either_case c m n j a b (inr p) = w.backing.free_acked code few code_free n j (subst (λ (k : ℕ). Acknowledges k n) p.1 b)
+    each_owes : (c : ℕ) → Owes c (owed_under (code_of c then_s.routing)) (view then_s f) (view f then_s)
+    each_owes c = go (c == code) refl
+      where
+        go : (b : Bool) → (c == code) ≡ b → Owes c (owed_under (code_of c then_s.routing)) (view then_s f) (view f then_s)
+        go true e = subst (λ (n : ℕ). Owes c n (view then_s f) (view f then_s)) (sym (owed_then c true e))
+            (subst (λ (k : ℕ). Owes k 1 (view then_s f) (view f then_s)) (sym (eqb-true c code e)) own_owes)
+        go false e = subst (λ (n : ℕ). Owes c n (view then_s f) (view f then_s)) (sym (owed_then c false e)) (other_owes c e)
 
     pub declares_flow : Flows then_s f offered got lost
-    declares_flow = record {
-      flow = λ stream low. subst (λ (x : List Message). Mixed (got stream ++ x) (lost stream) (offered stream))
-          (sym (declared_kept stream low).here_is) (w.flow stream low);
-      stands = λ stream low. (declared_kept stream low).stands;
-      unused = λ stream low e. w.unused stream low (sym (declared_kept stream low).used ∙ e);
-      backing = record {
-        few_declared = λ c m i d. few_case c m d (by_code c m d (was_there m i));
-        few_acked = λ c m i a. w.backing.few_acked c m i a;
-        free_declared = λ c low e m i d. free_case c low e m d (by_code c m d (was_there m i));
-        free_acked = λ c low e m i a. w.backing.free_acked c low (still_free c low e).1 m i a;
-        one_declared = λ c m n i j a b. one_case c m n a b (by_code c m a (was_there m i)) (by_code c n b (was_there n j));
-        one_acked = λ c m n i j a b. w.backing.one_acked c m n i j a b;
-        either = λ c m n i j a b. either_case c m n j a b (by_code c m a (was_there m i));
-        clear = λ stream low. (declared_kept stream low).clear;
-        answered = λ stream low. (declared_kept stream low).answered;
-      };
-    }
+    declares_flow = kept_flow s then_s f f offered got lost w declared_kept (record {
+      few_declared = λ c m i d. few_case c m d (by_code c m d (was_there m i));
+      few_acked = λ c m i a. w.backing.few_acked c m i a;
+      owes = each_owes;
+      clear = λ stream low. (declared_kept stream low).clear;
+      answered = λ stream low. (declared_kept stream low).answered;
+    })
 
 -- FROM ALL LINKS from which it can
 pub declares_from : (home alternative n : ℕ) (s f : State) (offered got lost : ℕ → List Message) → IsSound s

@@ -4,7 +4,7 @@
 -- a link, on its way back or nowhere (`grows_there`), as it's last of what was offered. It stands behind no
 -- declaration, since on the way back it waits by the code. Case by case on the place; Moving.antt has the other
 -- streams. Used by Acting.antt and Hearing.antt; declarations are Declaring.antt's.
-use Rattle.std.proofs.Common.{refl, ◌≡◌, ◌∙◌, ap, ap₂, sym, subst, ℕ, ◌<◌, ◌==◌, ◌-◌, ◌%◌, Bool, true, false, List, [], ◌∷◌, ◌++◌, None, append_assoc, cond, ◌⊎◌, inl, inr}
+use Rattle.std.proofs.Common.{refl, arith, ◌≡◌, ◌∙◌, ap, ap₂, sym, subst, ℕ, ◌<◌, ◌==◌, ◌-◌, ◌%◌, Bool, true, false, List, [], ◌∷◌, ◌++◌, None, append_assoc, cond, ◌⊎◌, inl, inr}
 use Rattle.std.proofs.lemmas.Bool.{eqb-true, eq-eqb}
 use Rattle.l3_orders.specs.declared.order.Order.{Order}
 use Rattle.l3_orders.specs.Grammar.{text, label, link_of, heading_of, content_with}
@@ -59,7 +59,7 @@ module _ (order : Order) (s f : State) (sound : IsSound s) where
   queues_flow none offered got lost w = carried s (queued order s) f f offered got lost w
       (λ stream low. apart_kept s (queued order s) f order_z (fate_on (target s.links)) (comes_ahead order s f) stream
       (of_none stream) offered got lost w low refl refl (λ to code via e. none code))
-      (λ c few e. inl e) (λ c m i d. go c m d (order_in m i)) (λ c m i a. i)
+      (λ c. omega arith) (λ c m i d. go c m d (order_in m i)) (λ c m i a. i)
     where
       go : (c : ℕ) (m : Message) → Declares c m → In m (view s f) ⊎ (m ≡ order_z) → In m (view s f)
       go c m d (inl i) = i
@@ -237,7 +237,7 @@ module _ (s f : State) (sound : IsSound s) (body : List ℕ) (low : stream_of bo
           (subst (λ (q : Place). Stands (stream_of body) q then_s f) (sym (same_place (stream_of body) low)) own_stands)
           (λ stream few d. (apart_so stream few d).stands);
       unused = λ stream few e. unused_case stream few e (stream == stream_of body) refl;
-      backing = backed s then_s f f w.backing clear_then answered_then (λ c few e. inl e) was_there (λ c m i a. i);
+      backing = backed s then_s f f w.backing clear_then answered_then (λ c. omega arith) was_there (λ c m i a. i);
     }
       where
         go : (stream : ℕ) → stream < 16 → (b : Bool) → (stream == stream_of body) ≡ b

@@ -182,7 +182,7 @@ module _ (n : ℕ) (link : LinkState) (s f : State) (sound : IsSound s) (at : Is
         backing = backed s after f f w.backing
             (λ stream low to code via e. clear_then stream code via (w.backing.clear stream low to code via e))
             (λ stream low to code via e m i a. none_left stream via (w.backing.answered stream low to code via e m i a))
-            (λ c few e. inl e) (λ c m i d. was_in m i) acknowledges;
+            (λ c. omega arith) (λ c m i d. was_in m i) acknowledges;
       };
       of = λ stream m a. of_if stream m (nat_lt stream 16) refl a;
     }

@@ -22,12 +22,12 @@ use Rattle.set_route.specs.declared.place.Place.{Place}
 use Rattle.set_route.specs.declared.place.Place.TheVariants.{On, Changing, Nowhere}
 use Rattle.set_route.specs.declared.place.Code.{Code}
 use Rattle.set_route.specs.declared.place.Code.TheVariants.{Free, Asked, Spent}
-use Rattle.set_route.specs.Routing.{place_of, code_of}
+use Rattle.set_route.specs.Routing.{place_of, code_of, owed_under}
 use Rattle.set_model.specs.declared.phase.Phase.{Phase}
 use Rattle.set_model.specs.declared.phase.Phase.TheVariants.{Up, Down, Settled}
 use Rattle.set_model.specs.declared.reached.Reached.{Reached}
 use Rattle.set_model.specs.declared.reached.Reached.TheVariants.{Upto, Unknown}
-use Rattle.set_model.specs.Changeover.{Obeyed, changed_over, answered, at_link, acknowledged_back, order_obeyed, obeyed, left_link, left_by, released, queued, settled}
+use Rattle.set_model.specs.Changeover.{Obeyed, changed_over, answered, at_link, acknowledged_back, order_obeyed, obeyed, left_link, left_by, acknowledged_code, queued, settled}
 use Rattle.set_model.specs.Rows.{is_unacked, is_back, place, stream_of, service_indicator}
 use Rattle.set_model.specs.Sound.{IsSound}
 use Rattle.set_model.specs.State.{given, LinkState, State, last_accepted}
@@ -49,7 +49,7 @@ use Rattle.pair_changeover.proofs.Views.{view, Among, In}
 use Rattle.pair_streams.specs.Streams.{is_of, those_of}
 use Rattle.pair_streams.proofs.Acting.{Streams, Covered, keeps_same, added_none}
 use Rattle.pair_streams.proofs.Blindly.{blind_flow, blind_was_in}
-use Rattle.pair_streams.proofs.Codes.{Clear, Flows, NewAcknowledges, backed, far_in, far_carried, acked_flow}
+use Rattle.pair_streams.proofs.Codes.{Clear, Flows, IsNumber, Owes, NewAcknowledges, backed, far_in, far_carried, acked_flow}
 use Rattle.pair_streams.proofs.Declared.{Declares, Acknowledges, ClearBehind, coa_declares, coa_acknowledges, cba_declares, cba_other}
 use Rattle.pair_streams.proofs.Flowing.{back_by, queue_at, here, runs_by}
 use Rattle.pair_streams.proofs.Flows.{order_in, queues_flow, queues_acks}
@@ -162,9 +162,9 @@ module _ (emergencies : Bool) (k : ℕ) (body : List ℕ) (s f : State) (sound :
         }
 
   -- a declaration is acknowledged
-  module _ (code : ℕ) (few : code < 256) (none_declared : (m : Message) → In m (view f s) → Declares code m → ⊥)
-      (none_acked : (m : Message) → In m (view s f) → Acknowledges code m → ⊥)
-      (in_use : code_of code f.routing ≡ Free → ⊥)
+  module _ (code : ℕ) (few : code < 256) (o : Owes code (owed_under (code_of code f.routing)) (view f s) (view s f))
+      (number : ℕ) (heard : IsNumber number o.declarations)
+      (apart : (m : Message) → In m (view f s) → Declares code m → m.number ≡ number → ⊥)
       (empty : (stream : ℕ) → stream < 16 → (to via : ℕ) → place_of stream f.routing ≡ Changing to code via → those_of stream (pending via f s) ≡ []) where
     acknowledged_so : (l : ℕ) → Both' (queued (Cba l code) s)
     acknowledged_so l = record {
@@ -173,17 +173,17 @@ module _ (emergencies : Bool) (k : ℕ) (body : List ℕ) (s f : State) (sound :
       none = λ e stream. refl;
       out = queues_flow (Cba l code) s f sound (λ c d. cba_declares s.settings l (given s) code c d) offered got lost w;
       back = acked_flow s (queued (Cba l code) s) f (λ n. refl) code _ few far_offered far_got far_lost v
-          (order_in (Cba l code) s f sound) (λ c a. cba_other s.settings l (given s) code c a) none_declared none_acked
-          in_use empty;
+          (order_in (Cba l code) s f sound) (λ c a. cba_other s.settings l (given s) code c a) o number heard apart
+          empty;
     }
 
   -- what waited for an acknowledgement goes home
-  module _ (code : ℕ) (none_declared : (m : Message) → In m (view s f) → Declares code m → ⊥)
-      (none_acked : (m : Message) → In m (view f s) → Acknowledges code m → ⊥)
+  module _ (code : ℕ) (o : Owes code (owed_under (code_of code s.routing)) (view s f) (view f s)) (number : ℕ) (heard : IsNumber number o.acks)
+      (apart : (m : Message) → In m (view f s) → Acknowledges code m → m.number ≡ number → ⊥)
       (empty : (stream : ℕ) → stream < 16 → (to via : ℕ) → place_of stream s.routing ≡ Changing to code via → those_of stream (pending via s f) ≡ []) where
-    released_so : Both' (released code s)
-    released_so = by_acks (released code s) (λ n. refl)
-        (releases_flow code s f sound offered got lost w none_declared none_acked empty)
+    released_so : Both' (acknowledged_code code s)
+    released_so = by_acks (acknowledged_code code s) (λ n. refl)
+        (releases_flow code s f sound offered got lost w o number heard apart empty)
         (λ c m i a. gone_orders code s f sound (Cba a.link c) m i a.is)
 
 -- AN ORDER IS NO USER'S
@@ -229,8 +229,8 @@ module _ (message : Option Message) (body : List ℕ) where
 
   back_got : (code : ℕ) (c : Code) (s : State) → GotNone (acknowledged_back code c s).took
   back_got code Free s = ignored_got
-  back_got code Asked s = order_got
-  back_got code Spent s = order_got
+  back_got code (Asked via declaration owed) s = order_got
+  back_got code (Spent owed) s = order_got
 
   one_got : (order : Order) (s : State) → GotNone (order_obeyed order s).took
   one_got (Coo n fsn) s = at_got n s _ (λ link. over_got (Upto fsn) n link link.phase s) (slice_get s.links n)
@@ -503,7 +503,7 @@ module _ {emergencies : Bool} (mx my : Method) (one : IsOneMethod mx my) (p : Tw
       backing = backed p.far p.far p.near mid v.back.backing
           (λ stream low to code via is. clear_left stream code via (v.back.backing.clear stream low to code via is))
           (λ stream low to code via is n i a. none_left stream via (v.back.backing.answered stream low to code via is n i a))
-          (λ c small free. inl free) (λ c m i d. far_was m i) (λ c m i a. mid_in m i);
+          (λ c. omega arith) (λ c m i d. far_was m i) (λ c m i a. mid_in m i);
     }
 
     -- a declaration is heard: none of its code is left, and nothing of its streams
@@ -511,17 +511,24 @@ module _ {emergencies : Bool} (mx my : Method) (one : IsOneMethod mx my) (p : Tw
       declares_first : Declares code first
       declares_first = record { link = l; is = ap order_any first_body ∙ any_of p.near.settings.profile body _ is }
 
-      none_more : (m : Message) → In m (view p.far mid) → Declares code m → ⊥
-      none_more m i d = far_gone m i (v.back.backing.one_declared code m first (far_was m i) first_in d declares_first)
+      -- what was under way, and of which the first was heard
+      abbrev still_owed_back : Owes code (owed_under (code_of code p.far.routing)) (view p.far mid) (view mid p.far)
+      still_owed_back = let o = v.back.backing.owes code in record {
+        declarations = o.declarations;
+        acks = o.acks;
+        within = o.within;
+        declared = λ m i d. o.declared m (far_was m i) d;
+        acked = λ m i a. o.acked m (mid_in m i) a;
+      }
 
-      none_acked : (m : Message) → In m (view mid p.far) → Acknowledges code m → ⊥
-      none_acked m i a = v.back.backing.either code first m first_in (mid_in m i) declares_first a
+      heard_first : IsNumber first.number (v.back.backing.owes code).declarations
+      heard_first = (v.back.backing.owes code).declared first first_in declares_first
+
+      none_more : (m : Message) → In m (view p.far mid) → Declares code m → m.number ≡ first.number → ⊥
+      none_more m i d same = far_gone m i same
 
       code_few : code < 256
       code_few = v.back.backing.few_declared code first first_in declares_first
-
-      in_use : code_of code p.far.routing ≡ Free → ⊥
-      in_use free = v.back.backing.free_declared code code_few free first first_in declares_first
 
       empty_there : (stream : ℕ) → stream < 16 → (to via : ℕ) → place_of stream p.far.routing ≡ Changing to code via
           → those_of stream (pending via p.far mid) ≡ []
@@ -542,11 +549,20 @@ module _ {emergencies : Bool} (mx my : Method) (one : IsOneMethod mx my) (p : Tw
       acks_first : Acknowledges code first
       acks_first = record { link = l; is = ap order_any first_body ∙ any_of p.near.settings.profile body _ is }
 
-      none_declared : (m : Message) → In m (view mid p.far) → Declares code m → ⊥
-      none_declared m i d = v.out.backing.either code m first (mid_in m i) first_in d acks_first
+      abbrev still_owed_out : Owes code (owed_under (code_of code mid.routing)) (view mid p.far) (view p.far mid)
+      still_owed_out = let o = v.out.backing.owes code in record {
+        declarations = o.declarations;
+        acks = o.acks;
+        within = o.within;
+        declared = λ m i d. o.declared m (mid_in m i) d;
+        acked = λ m i a. o.acked m (far_was m i) a;
+      }
 
-      none_more_acks : (m : Message) → In m (view p.far mid) → Acknowledges code m → ⊥
-      none_more_acks m i a = far_gone m i (v.out.backing.one_acked code m first (far_was m i) first_in a acks_first)
+      acked_first : IsNumber first.number (v.out.backing.owes code).acks
+      acked_first = (v.out.backing.owes code).acked first first_in acks_first
+
+      none_more_acks : (m : Message) → In m (view p.far mid) → Acknowledges code m → m.number ≡ first.number → ⊥
+      none_more_acks m i a same = far_gone m i same
 
       empty_here : (stream : ℕ) → stream < 16 → (to via : ℕ) → place_of stream mid.routing ≡ Changing to code via → those_of stream (pending via mid p.far) ≡ []
       empty_here stream low to via is_there = ap (those_of stream) (queues via)
@@ -578,11 +594,11 @@ module _ {emergencies : Bool} (mx my : Method) (one : IsOneMethod mx my) (p : Tw
     obeyed_then t (acknowledges l code is) =
         pair_of t (acknowledged_so emergencies k body mid p.far sound_mid v.ordered.near_codes p.near_past.offered
         p.far_past.got v.out_lost p.far_past.offered got_then v.back_lost out_mid mid_back code (code_few l code is)
-        (none_more l code is) (none_acked l code is) (in_use l code is) (empty_there l code is) l)
+        (still_owed_back l code is) first.number (heard_first l code is) (none_more l code is) (empty_there l code is) l)
     obeyed_then t (releases l code is) =
         pair_of t (released_so emergencies k body mid p.far sound_mid v.ordered.near_codes p.near_past.offered
         p.far_past.got v.out_lost p.far_past.offered got_then v.back_lost out_mid mid_back code
-        (none_declared l code is) (none_more_acks l code is) (empty_here l code is))
+        (still_owed_out l code is) first.number (acked_first l code is) (none_more_acks l code is) (empty_here l code is))
 
     some_then : Then taken.state
     some_then = obeyed_then taken.state (hearing.some_obeyed mx my one p h v.ordered.both k few unit rest front link at body e)

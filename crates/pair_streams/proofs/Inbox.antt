@@ -18,12 +18,12 @@ use Rattle.set_events.specs.declared.answer.Refusal.{Refusal as SetRefusal}
 use Rattle.set_events.specs.declared.answer.Refusal.TheVariants.{NotUp, Nothing}
 use Rattle.set_events.specs.declared.answer.Took.{Took}
 use Rattle.set_events.specs.declared.event.Event.{Event}
-use Rattle.set_events.specs.declared.event.Event.TheVariants.{Offer, Take, Find, Next, Heard, Up as UpEvent, Down as DownEvent, DownBlind, NoAnswer, Timed, Restore, BackTimeout}
+use Rattle.set_events.specs.declared.event.Event.TheVariants.{Offer, Take, Find, Next, Heard, Up as UpEvent, Down as DownEvent, DownBlind, NoAnswer, Timed, Restore, Redeclare, BackTimeout}
 use Rattle.set_events.specs.declared.history.Entry.{Entry}
 use Rattle.set_route.specs.declared.place.Code.{Code}
 use Rattle.set_route.specs.declared.place.Code.TheVariants.{Free, Asked, Spent}
 use Rattle.set_route.specs.Routing.{code_for, code_of}
-use Rattle.set_model.specs.Changeover.{cleared, Obeyed, left_link, judged, discarded, acknowledged_by, is_reasonable, reached_by, changed_over, answered, at_link, can_declare, declared_if, declared_from, declared, some_declare, released, released_from, some_in_use, acknowledged_back, order_obeyed, obeyed}
+use Rattle.set_model.specs.Changeover.{cleared, Obeyed, left_link, judged, discarded, acknowledged_by, is_reasonable, reached_by, changed_over, answered, at_link, can_declare, declared_if, declared_from, declared, some_declare, overdue_via, redeclared_from, redeclared_if, redeclared_on, released, released_from, some_in_use, some_overdue, acknowledged_back, order_obeyed, obeyed}
 use Rattle.set_model.specs.declared.phase.Phase.{Phase}
 use Rattle.set_model.specs.declared.phase.Phase.TheVariants.{Up, Down, Settled}
 use Rattle.set_model.specs.declared.reached.Reached.{Reached}
@@ -32,7 +32,7 @@ use Rattle.set_model.specs.History.{IsLegal, after}
 use Rattle.set_model.specs.Rows.{Fate, Waiting, Unacked, Acked, Held, Back, Parked, Discarded, place, service_indicator}
 use Rattle.set_model.specs.State.{given, LinkState, State, link_count, has_phase_up, window_of}
 use Rattle.set_model.specs.Control.{part_of}
-use Rattle.set_model.specs.Step.{Outcome, refused, offer_refusal, offered, taken, found, with_known, in_service, next, brought, takes, after_control, heard, rises, falls, gives_up, timed, times_out, comes_back, runs_out, step}
+use Rattle.set_model.specs.Step.{Outcome, refused, offer_refusal, offered, taken, found, with_known, in_service, next, brought, takes, after_control, heard, rises, falls, gives_up, timed, times_out, comes_back, redeclares, runs_out, step}
 use Rattle.pair_streams.specs.Handed.{handed_by, message_of, delivered_by, handed_in, delivered_in, EveryHistoryHandsOutInOrder}
 
 -- SETTLING, ORDERS AND CHANGEBACK leave it alone.
@@ -53,6 +53,14 @@ declared_inbox home alternative (suc n) s = declared_inbox home (suc alternative
     go : (b : Bool) → (cond b (declared home alternative s) s).inbox ≡ s.inbox
     go true = refl
     go false = refl
+
+redeclared_inbox : (code n : ℕ) (s : State) → (redeclared_from code n s).inbox ≡ s.inbox
+redeclared_inbox code zero s = refl
+redeclared_inbox code (suc n) s = redeclared_inbox (suc code) n (redeclared_if code s) ∙ one (overdue_via (code_of code s.routing) s.rows)
+  where
+    one : (due : Option ℕ) → (redeclared_on code due s).inbox ≡ s.inbox
+    one None = refl
+    one (Some via) = refl
 
 released_inbox : (code n : ℕ) (s : State) → (released_from code n s).inbox ≡ s.inbox
 released_inbox code zero s = refl
@@ -80,8 +88,8 @@ at_leaves n s f all (Some link) = all link
 
 back_leaves : (code : ℕ) (c : Code) (s : State) → LeavesAlone s (acknowledged_back code c s)
 back_leaves code Free s = record { inbox = refl; none = λ body. refl }
-back_leaves code Asked s = record { inbox = refl; none = λ body. refl }
-back_leaves code Spent s = record { inbox = refl; none = λ body. refl }
+back_leaves code (Asked via declaration owed) s = record { inbox = refl; none = λ body. refl }
+back_leaves code (Spent owed) s = record { inbox = refl; none = λ body. refl }
 
 order_leaves : (order : Order) (s : State) → LeavesAlone s (order_obeyed order s)
 order_leaves (Coo n fsn) s = at_leaves n s (λ link. changed_over (Upto fsn) n link link.phase s)
@@ -165,6 +173,13 @@ module _ (s : State) (event : Event) where
       go true = done (declared_from n 0 (link_count s) s) (declared_inbox n 0 (link_count s) s)
       go false = append-nil s.inbox
 
+  redeclare_passes : (n : ℕ) → Passes (redeclares n s)
+  redeclare_passes n = go (some_overdue (code_for n 0) 16 s)
+    where
+      go : (b : Bool) → Passes (cond b (record { answer = Done; state = redeclared_from (code_for n 0) 16 s }) (refused s Nothing))
+      go true = done (redeclared_from (code_for n 0) 16 s) (redeclared_inbox (code_for n 0) 16 s)
+      go false = append-nil s.inbox
+
   run_passes : (n : ℕ) → Passes (runs_out n s)
   run_passes n = go (some_in_use (code_for n 0) 16 s)
     where
@@ -222,6 +237,7 @@ event_passes s (DownBlind n) = in_passes s (DownBlind n) n (falls true n s) (λ 
 event_passes s (NoAnswer n) = on_passes s (NoAnswer n) n (λ link. gives_up n s link link.phase) (λ link. give_passes s (NoAnswer n) n link link.phase)
 event_passes s (Timed n) = on_passes s (Timed n) n (λ link. times_out n s link link.phase) (λ link. time_passes s (Timed n) n link link.phase)
 event_passes s (Restore n) = in_passes s (Restore n) n (λ link. comes_back n s) (λ link. come_passes s (Restore n) n)
+event_passes s (Redeclare n) = on_passes s (Redeclare n) n (λ link. redeclares n s) (λ link. redeclare_passes s (Redeclare n) n)
 event_passes s (BackTimeout n) = on_passes s (BackTimeout n) n (λ link. runs_out n s) (λ link. run_passes s (BackTimeout n) n)
 
 -- A WHOLE HISTORY, from any state

@@ -12,15 +12,15 @@ use Rattle.l3_orders.specs.Grammar.{text}
 use Rattle.set_events.specs.declared.answer.Fate.{Fate}
 use Rattle.set_events.specs.declared.answer.Fate.TheVariants.{Waiting, Unacked, Acked, Discarded}
 use Rattle.set_events.specs.declared.answer.DiscardCause.TheVariants.{Emergency, NoAnswer as NoAnswerCame}
-use Rattle.set_route.specs.Routing.{code_for}
+use Rattle.set_route.specs.Routing.{code_for, home_of}
 use Rattle.set_events.specs.declared.event.Event.{Event}
 use Rattle.set_events.specs.declared.event.Event.TheVariants.{Offer}
-use Rattle.set_model.specs.Changeover.{answered_link, queued, fate_on, left_by, moved_over, taken_back, declared, released, withdrawn}
+use Rattle.set_model.specs.Changeover.{answered_link, queued, fate_on, left_by, moved_over, taken_back, acknowledged_code, declared, redeclared_on, released, withdrawn}
 use Rattle.l2_units.specs.Grammar.{head_of}
 use Rattle.set_model.specs.Control.{Choice, again, first, fill, choice_of, part_of}
 use Rattle.set_model.specs.Rows.{orders_changed, is_users, same_fate, waits, Row, is_on, is_back, is_back_to, is_unacked, is_waiting, is_parked, all_with, appended, moved, unack, octets_in, place, body_at, service_indicator, IsNumbered}
 use Rattle.set_model.specs.Sound.{IsManaged}
-use Rattle.set_model.specs.State.{given, LinkState, State, target, window_of, with_link}
+use Rattle.set_model.specs.State.{On, fate_at, given, LinkState, State, target, window_of, with_link}
 use Rattle.set_model.specs.Step.{is_msu, sends, step}
 use Rattle.std.proofs.lemmas.Bool.{cond_both}
 use Rattle.set_model.proofs.Ahead.{numbered_put, put_length, put_row}
@@ -166,6 +166,11 @@ module _ (P : ℕ → List ℕ → Type 0) (Q : ℕ → Type 0) where
         let order = Cbd home (code_for home alternative) in
         covers_appended s (declared home alternative s) (body_of order s) (Waiting alternative) refl refl refl
         (λ users. never_users order s c users) c;
+    redeclares = λ code via s due c.
+        let order = Cbd (home_of code) code in
+        covers_appended s (redeclared_on code (Some via) s) (body_of order s) (fate_at (On via) s) refl refl refl
+        (λ users. never_users order s c users) c;
+    acknowledges_back = λ code s known c. moved_covers (is_back code) _ s (acknowledged_code code s) refl refl refl refl c;
     releases = λ code s known c. moved_covers (is_back code) _ s (released code s) refl refl refl refl c;
   }
 

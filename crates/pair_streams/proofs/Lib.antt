@@ -15,6 +15,7 @@ pub mod Inbox
 pub mod Known
 pub mod Mixed
 pub mod Moving
+pub mod Redeclared
 pub mod Returned
 pub mod Risen
 pub mod Rising

@@ -8,7 +8,7 @@ use Rattle.std.proofs.Common.{refl, ◌≡◌, ◌∙◌, ap, ap₂, sym, subst,
 use Rattle.set_events.specs.declared.answer.Fate.{Fate}
 use Rattle.set_route.specs.declared.place.Place.{Place}
 use Rattle.set_route.specs.declared.place.Place.TheVariants.{On, Changing, Nowhere}
-use Rattle.set_route.specs.Routing.{place_of, code_of, has_messages}
+use Rattle.set_route.specs.Routing.{place_of, has_messages}
 use Rattle.l3_orders.specs.declared.order.Order.{Order}
 use Rattle.l3_orders.specs.Grammar.{text}
 use Rattle.set_events.specs.declared.answer.Fate.TheVariants.{Waiting, Parked}
@@ -23,7 +23,7 @@ use Rattle.pair_changeover.proofs.Changes.{Grows, grown, ungrown, IsNew, grows, 
 use Rattle.pair_changeover.proofs.Table.{joined, new_message, aside_joins, aside_apart}
 use Rattle.pair_changeover.proofs.Views.{view, Among, In, stands_on, stands_aside}
 use Rattle.pair_streams.specs.Streams.{is_of, those_of}
-use Rattle.pair_streams.proofs.Codes.{Clear, Flows, NewAcknowledges, Kept, carried}
+use Rattle.pair_streams.proofs.Codes.{Clear, Flows, NewAcknowledges, Kept, carried, owes_same}
 use Rattle.pair_streams.proofs.Declared.{Declares, NoneDeclares, ClearBehind}
 use Rattle.pair_streams.proofs.Filtered.{those_joined}
 use Rattle.pair_streams.proofs.Flowing.{back_by, queue_at, Stands}
@@ -67,7 +67,7 @@ module _ (s t f : State) (queues : (l : ℕ) → pending l t f ≡ pending l s f
 
       pub same_flow : NewAcknowledges (view f t) (view f s) → Flows t f offered got lost
       same_flow acknowledges = carried s t f f offered got lost w same_kept
-          (λ c few e. inl (ap (code_of c) (sym routing) ∙ e)) (λ c m i d. same_in m i) acknowledges
+          (owes_same s t routing) (λ c m i d. same_in m i) acknowledges
 
 -- A MESSAGE COMES TO STAND in a queue, last or elsewhere
 module _ (z : Message) (stream : ℕ) (other : is_of stream z ≡ false) where

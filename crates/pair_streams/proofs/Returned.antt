@@ -3,7 +3,7 @@
 -- knows it from the acknowledgement that it heard. Of other streams nothing stands back by that code (`none_back_by`),
 -- and where its home isn't up nothing does. Case by case on the stream's place, no induction; the queues are told by
 -- pair_changeover's Leaving.antt. `gone_orders` says that no order comes to stand there. Only Hearing.antt uses it.
-use Rattle.std.proofs.Common.{refl, ◌≡◌, ◌∙◌, ap, ap₂, sym, subst, ℕ, ◌<◌, ◌==◌, ◌&&◌, Bool, true, false, List, [], ◌++◌, filter, Some, None, cond, inl, inr}
+use Rattle.std.proofs.Common.{refl, arith, ◌≡◌, ◌∙◌, ap, ap₂, sym, subst, ℕ, zero, suc, ◌<◌, ◌==◌, ◌-◌, ◌&&◌, Bool, true, false, List, [], ◌++◌, filter, Some, None, cond}
 use Rattle.std.proofs.lemmas.Bool.{eqb-true}
 use Rattle.std.proofs.lemmas.List.{append-nil}
 use Rattle.l3_orders.specs.declared.order.Order.{Order}
@@ -13,13 +13,13 @@ use Rattle.set_events.specs.declared.answer.Fate.{Fate}
 use Rattle.set_events.specs.declared.answer.Fate.TheVariants.{Waiting, Unacked, Acked, Held, Parked, Back, Discarded}
 use Rattle.set_route.specs.declared.place.Place.{Place}
 use Rattle.set_route.specs.declared.place.Place.TheVariants.{On, Changing, Nowhere}
-use Rattle.set_route.specs.declared.place.Code.TheVariants.{Free}
-use Rattle.set_route.specs.Routing.{place_of, place_back, code_of, home_of, has_messages}
+use Rattle.set_route.specs.Routing.{place_of, place_back, code_answered, code_of, home_of, has_messages, owed_under, still_owed}
+use Rattle.set_route.proofs.Places.{answered_at}
 use Rattle.set_route.proofs.Alone as route
 use Rattle.set_model.specs.Rows.{Row, standing, is_waiting, is_held, is_back, is_parked, wait, held, parked, all_with}
 use Rattle.set_model.specs.Sound.{IsSound}
 use Rattle.set_model.specs.State.{State, is_up}
-use Rattle.set_model.specs.Changeover.{released}
+use Rattle.set_model.specs.Changeover.{acknowledged_code}
 use Rattle.set_model.proofs.Order.{coded_at}
 use Rattle.set_model.proofs.Rows.{moved_same}
 use Rattle.set_model.proofs.Places.{apart_back, code_back, false_true, itself}
@@ -31,8 +31,8 @@ use Rattle.pair_changeover.proofs.Table.{joined}
 use Rattle.pair_changeover.proofs.Turning.{turned_rows, turned_users, gained_users}
 use Rattle.pair_changeover.proofs.Views.{view, Among, In}
 use Rattle.pair_streams.specs.Streams.{those_of}
-use Rattle.pair_streams.proofs.Codes.{Flows, Kept, IsFreed, carried}
-use Rattle.pair_streams.proofs.Declared.{Declares, Acknowledges}
+use Rattle.pair_streams.proofs.Codes.{Flows, IsNumber, Kept, Owes, kept_flow, left_of, one_left, still_number}
+use Rattle.pair_streams.proofs.Declared.{Acknowledges}
 use Rattle.pair_streams.proofs.Filtered.{those_joined, joins_none, none_joins, turned_filter, and_so}
 use Rattle.pair_streams.proofs.Flowing.{back_by, queue_at, waits_by, Stands, none_back_by}
 use Rattle.pair_streams.proofs.Moving.{same_in, clear_same}
@@ -40,7 +40,7 @@ use Rattle.pair_streams.proofs.Turned.{added_order, added_clear}
 
 module _ (code : ℕ) (s f : State) (sound : IsSound s) where
   abbrev pub gone : State
-  gone = released code s
+  gone = acknowledged_code code s
 
   abbrev to_home : ℕ
   to_home = home_of code
@@ -49,10 +49,10 @@ module _ (code : ℕ) (s f : State) (sound : IsSound s) where
   rows_turned = turned_rows (is_back code) (all_with (Waiting to_home)) (code_back code) s.rows (unsent_home code s f sound)
 
   place_then : (stream : ℕ) → stream < 16 → place_of stream gone.routing ≡ place_back code (place_of stream s.routing)
-  place_then stream low = (route.alone s.routing stream sound.routing low).back_place code
+  place_then stream low = (route.alone s.routing stream sound.routing low).answered_place code
 
   used_then : (stream : ℕ) → stream < 16 → has_messages stream gone.routing ≡ has_messages stream s.routing
-  used_then stream low = (route.alone s.routing stream sound.routing low).back_messages code
+  used_then stream low = (route.alone s.routing stream sound.routing low).answered_messages code
 
   -- what stands back by another code does then too
   back_stays : (c : ℕ) → (c == code) ≡ false → back_by c gone ≡ back_by c s
@@ -72,7 +72,7 @@ module _ (code : ℕ) (s f : State) (sound : IsSound s) where
   home_up stream to c via is e =
       let coded = coded_at s.routing stream sound.routing to c via is in
       let same : c ≡ code = eqb-true c code e in
-      (ap home_of (sym same) ∙ coded.0, ap (λ (n : ℕ). is_up (home_of n) s) (sym same) ∙ sound.homes_up c coded.1)
+      (ap home_of (sym same) ∙ coded.0, ap (λ (n : ℕ). is_up (home_of n) s) (sym same) ∙ (sound.codes c).home_up via coded.1)
 
   -- WHERE ITS HOME IS UP
   module _ (up : is_up to_home s ≡ true) where
@@ -227,8 +227,8 @@ module _ (code : ℕ) (s f : State) (sound : IsSound s) where
           }
 
     -- EITHER WAY
-    module _ (none_declared : (m : Message) → In m (view s f) → Declares code m → ⊥)
-        (none_acked : (m : Message) → In m (view f s) → Acknowledges code m → ⊥)
+    module _ (o : Owes code (owed_under (code_of code s.routing)) (view s f) (view f s)) (number : ℕ) (heard : IsNumber number o.acks)
+        (apart : (m : Message) → In m (view f s) → Acknowledges code m → m.number ≡ number → ⊥)
         (empty : (stream : ℕ) → stream < 16 → (to via : ℕ) → place_of stream s.routing ≡ Changing to code via
         → those_of stream (pending via s f) ≡ []) where
       each_kept : (b : Bool) → is_up to_home s ≡ b → (stream : ℕ) → stream < 16 → Kept stream s gone f f
@@ -253,17 +253,54 @@ module _ (code : ℕ) (s f : State) (sound : IsSound s) where
           go false down Nowhere is = down_kept down stream low Nowhere is refl
           go b u (Changing to c via) is = back_case b u to c via is (c == code) refl
 
-      gone_freed : (c : ℕ) → c < 256 → code_of c gone.routing ≡ Free → IsFreed c s gone f
-      gone_freed c few e = go (c == code) refl
+      -- one acknowledgement less is under way, and owed
+      owed_then : (c : ℕ) (b : Bool) → (c == code) ≡ b
+          → owed_under (code_of c gone.routing) ≡ cond b (owed_under (code_of c s.routing) - 1) (owed_under (code_of c s.routing))
+      owed_then c b e = ap owed_under (answered_at s.routing.codes c code ∙ ap (λ (d : Bool). cond d (code_answered (code_of c s.routing)) (code_of c s.routing)) e)
+          ∙ go b
         where
-          go : (b : Bool) → (c == code) ≡ b → IsFreed c s gone f
-          go true same = inr (
-            (λ m i d. none_declared m (gone_orders (Cbd d.link c) m i d.is) (subst (λ (n : ℕ). Declares n m) (eqb-true c code same) d)),
-            (λ m i d. none_acked m i (subst (λ (n : ℕ). Acknowledges n m) (eqb-true c code same) d)),
-          )
-          go false other = inl (ap (λ (b : Bool). cond b Free (code_of c s.routing)) (sym other)
-              ∙ sym ((route.codes_alone s.routing c sound.routing few).back_code code) ∙ e)
+          still : (n : ℕ) → owed_under (still_owed n) ≡ n
+          still zero = refl
+          still (suc n) = refl
+
+          go : (b : Bool) → owed_under (cond b (code_answered (code_of c s.routing)) (code_of c s.routing))
+              ≡ cond b (owed_under (code_of c s.routing) - 1) (owed_under (code_of c s.routing))
+          go true = still (owed_under (code_of c s.routing) - 1)
+          go false = refl
+
+      own_owes : Owes code (owed_under (code_of code s.routing) - 1) (view gone f) (view f gone)
+      own_owes = record {
+        declarations = o.declarations;
+        acks = left_of number o.acks;
+        within = omega (arith, o.within, one_left number o.acks heard);
+        declared = λ m i d. o.declared m (gone_orders (Cbd d.link code) m i d.is) d;
+        acked = λ m i a. still_number number m.number o.acks (o.acked m i a) (apart m i a);
+      }
+
+      other_owes : (c : ℕ) → Owes c (owed_under (code_of c s.routing)) (view gone f) (view f gone)
+      other_owes c = let o = w.backing.owes c in record {
+        declarations = o.declarations;
+        acks = o.acks;
+        within = o.within;
+        declared = λ m i d. o.declared m (gone_orders (Cbd d.link c) m i d.is) d;
+        acked = o.acked;
+      }
+
+      each_owes : (c : ℕ) → Owes c (owed_under (code_of c gone.routing)) (view gone f) (view f gone)
+      each_owes c = go (c == code) refl
+        where
+          go : (b : Bool) → (c == code) ≡ b → Owes c (owed_under (code_of c gone.routing)) (view gone f) (view f gone)
+          go true e = subst (λ (n : ℕ). Owes c n (view gone f) (view f gone)) (sym (owed_then c true e))
+              (subst (λ (k : ℕ). Owes k (owed_under (code_of k s.routing) - 1) (view gone f) (view f gone)) (sym (eqb-true c code e)) own_owes)
+          go false e = subst (λ (n : ℕ). Owes c n (view gone f) (view f gone)) (sym (owed_then c false e)) (other_owes c)
 
       pub releases_flow : Flows gone f offered got lost
-      releases_flow = carried s gone f f offered got lost w (each_kept (is_up to_home s) refl) gone_freed
-          (λ c m i d. gone_orders (Cbd d.link c) m i d.is) (λ c m i a. i)
+      releases_flow =
+          let kept = each_kept (is_up to_home s) refl in
+          kept_flow s gone f f offered got lost w kept (record {
+            few_declared = λ c m i d. w.backing.few_declared c m (gone_orders (Cbd d.link c) m i d.is) d;
+            few_acked = w.backing.few_acked;
+            owes = each_owes;
+            clear = λ stream low. (kept stream low).clear;
+            answered = λ stream low. (kept stream low).answered;
+          })

@@ -3,11 +3,11 @@
 -- which nothing stands. Any other stays: it runs on a link or comes from one that isn't settled, so on another than
 -- this one (`not_settled`). That's the whole argument, case by case on the place (`risen_kept`); the queues are those
 -- of `Rises`, pair_changeover's Passing.antt. Acting.antt uses it.
-use Rattle.std.proofs.Common.{refl, ◌≡◌, ◌∙◌, ap, ap₂, sym, subst, ℕ, ◌<◌, ◌==◌, ◌-◌, ◌%◌, Bool, true, false, List, [], ◌∷◌, ◌++◌, slice_get, Some, inl}
+use Rattle.std.proofs.Common.{arith, refl, ◌≡◌, ◌∙◌, ap, ap₂, sym, subst, ℕ, ◌<◌, ◌==◌, ◌-◌, ◌%◌, Bool, true, false, List, [], ◌∷◌, ◌++◌, slice_get, Some}
 use Rattle.std.proofs.lemmas.Bool.{eqb-true}
 use Rattle.set_route.specs.declared.place.Place.{Place}
 use Rattle.set_route.specs.declared.place.Place.TheVariants.{On, Changing, Nowhere}
-use Rattle.set_route.specs.Routing.{place_of, place_raised, code_of, has_messages, raised}
+use Rattle.set_route.specs.Routing.{place_of, place_raised, code_of, has_messages, raised, Routing, owed_under}
 use Rattle.set_route.proofs.Alone as route
 use Rattle.set_model.specs.Sound.{IsSound, IsPlaced}
 use Rattle.set_model.specs.State.{LinkState, State, has_phase_settled, is_settled, link_is_settled}
@@ -180,4 +180,4 @@ module _ (k : ℕ) (s t f g : State) (sound : IsSound s) (a : Rises k s t) (b : 
   pub rises_flow : (offered got lost : ℕ → List Message) → Flows s f offered got lost → NewAcknowledges (view g t) (view f s) → Flows t g offered got lost
   rises_flow offered got lost w acknowledges =
       carried s t f g offered got lost w (λ stream low. risen_kept offered got lost w stream low)
-      (λ c few e. inl (ap (code_of c) (sym routing) ∙ e)) (λ c m i d. risen_in m i) acknowledges
+      (λ c. let same = ap (λ (r : Routing). owed_under (code_of c r)) routing in omega (arith, same)) (λ c m i d. risen_in m i) acknowledges

@@ -13,7 +13,7 @@ use Rattle.set_model.specs.Rows.{orders_changed, Discarded, changed, is_unacked,
 use Rattle.set_model.specs.State.{all_finished, given, State, target, with_link}
 use Rattle.set_model.specs.declared.phase.Phase.TheVariants.{Settled}
 use Rattle.set_model.specs.Step.{controlled, next, offer_refusal, offered, rises, step}
-use Rattle.set_model.specs.Changeover.{acknowledged_by, answered_link, declared, fate_on, left_by, moved_over, released, taken_back, withdrawn}
+use Rattle.set_model.specs.Changeover.{acknowledged_by, acknowledged_code, answered_link, declared, fate_on, left_by, moved_over, redeclared_on, released, taken_back, withdrawn}
 use Rattle.l3_orders.specs.Grammar.{text}
 use Rattle.set_model.proofs.Ahead.{put_length}
 use Rattle.set_model.proofs.Rows.{new_row, moved_length}
@@ -80,6 +80,8 @@ small Known May = record {
   withdraws = λ count n link s known at g. same_many s (withdrawn count n s) refl g.kept.count;
   moves_off = λ told n link s known at. same_many s (moved_over told n link s) refl (moved_length (is_on n) _ s.rows);
   declares = λ may home alternative s up can. more_appended s (declared home alternative s) _ _ refl refl;
+  redeclares = λ code via s due. more_appended s (redeclared_on code (Some via) s) _ _ refl refl;
+  acknowledges_back = λ code s known. same_many s (acknowledged_code code s) refl (moved_length (is_back code) _ s.rows);
   releases = λ code s known. same_many s (released code s) refl (moved_length (is_back code) _ s.rows);
 }
 

@@ -462,11 +462,13 @@ first_flows config other = record {
   backing = record {
     few_declared = λ c m i d. absurd (nothing_in a b m i);
     few_acked = λ c m i d. absurd (nothing_in b a m i);
-    free_declared = λ c few e m i d. nothing_in a b m i;
-    free_acked = λ c few e m i d. nothing_in b a m i;
-    one_declared = λ c m n i j x y. absurd (nothing_in a b m i);
-    one_acked = λ c m n i j x y. absurd (nothing_in b a m i);
-    either = λ c m n i j x y. nothing_in a b m i;
+    owes = λ c. record {
+      declarations = [];
+      acks = [];
+      within = omega arith;
+      declared = λ m i d. absurd (nothing_in a b m i);
+      acked = λ m i x. absurd (nothing_in b a m i);
+    };
     clear = λ stream low to code via e. absurd (never stream to code via e);
     answered = λ stream low to code via e n i x. absurd (nothing_in b a n i);
   };

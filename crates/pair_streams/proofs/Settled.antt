@@ -4,13 +4,16 @@
 -- all there and goes (`on_kept`); one that comes from there takes its declaration along, with nothing behind it
 -- (`via_kept`). Case by case on the place, no induction. `was_in` says that nothing new is pending. Used by
 -- Hearing.antt and Blindly.antt.
-use Rattle.std.proofs.Common.{refl, ◌≡◌, ◌∙◌, ap, ap₂, sym, subst, ℕ, ◌<◌, ◌==◌, ◌-◌, Bool, true, false, List, [], ◌++◌, slice_get, Option, Some, None, cond, ◌⊎◌, inl, inr}
+use Rattle.std.proofs.Common.{refl, arith, ◌≡◌, ◌∙◌, ap, ap₂, sym, subst, ℕ, ◌<◌, ◌==◌, ◌-◌, Bool, true, false, List, [], ◌++◌, slice_get, Option, Some, None, cond, ◌⊎◌, inl, inr}
 use Rattle.std.proofs.lemmas.Bool.{eqb-true}
 use Rattle.set_events.specs.declared.answer.Fate.{Fate}
 use Rattle.set_events.specs.declared.answer.Fate.TheVariants.{Waiting, Unacked, Acked, Held, Parked, Back, Discarded}
 use Rattle.set_route.specs.declared.place.Place.{Place}
 use Rattle.set_route.specs.declared.place.Place.TheVariants.{On, Changing, Nowhere}
-use Rattle.set_route.specs.Routing.{place_of, place_settled, via_settled, code_of, home_of, has_messages, settled as streams_settled}
+use Rattle.set_route.specs.declared.place.Code.{Code}
+use Rattle.set_route.specs.declared.place.Code.TheVariants.{Free, Asked, Spent}
+use Rattle.set_route.proofs.Places.{settled_at}
+use Rattle.set_route.specs.Routing.{Routing, place_of, place_settled, via_settled, code_of, code_settled, owed_under, home_of, has_messages, settled as streams_settled}
 use Rattle.set_route.specs.Target.{target_of}
 use Rattle.set_route.proofs.Alone as route
 use Rattle.set_model.specs.declared.phase.Phase.TheVariants.{Down}
@@ -30,7 +33,7 @@ use Rattle.pair_changeover.specs.Pending.{pending, aside, acked_on, accepted_on}
 use Rattle.pair_changeover.proofs.Passing.{IsReached, gone, rows_then, settles_to, settles_apart, settles_aside, settles_none_aside}
 use Rattle.pair_changeover.proofs.Views.{view, Among, among_joined, In, stands_on, stands_aside}
 use Rattle.pair_streams.specs.Streams.{those_of}
-use Rattle.pair_streams.proofs.Codes.{Clear, Flows, NewAcknowledges, Kept, carried}
+use Rattle.pair_streams.proofs.Codes.{Clear, Flows, NewAcknowledges, Kept, OwesNoLess, carried}
 use Rattle.pair_streams.proofs.Declared.{Declares, Acknowledges, ClearBehind, clear_joined, clear_after, clear_none}
 use Rattle.pair_streams.proofs.Filtered.{those_joined, joins_none, none_joins}
 use Rattle.pair_streams.proofs.Flowing.{back_by, queue_at, runs_by, runs_nowhere, Stands}
@@ -309,7 +312,7 @@ module _ (fsn n : ℕ) (link : LinkState) (s f : State) (sound : IsSound s) (at 
       has_target : (to code via : ℕ) → place_of stream s.routing ≡ Changing to code via → target s.links ≡ None → ⊥
       has_target to code via is e =
           let coded = coded_at s.routing stream sound.routing to code via is in
-          go (slice_get s.links (home_of code)) refl (sound.homes_up code coded.1)
+          go (slice_get s.links (home_of code)) refl ((sound.codes code).home_up via coded.1)
         where
           go : (o : Option LinkState) → slice_get s.links (home_of code) ≡ o → is_up (home_of code) s ≡ true → ⊥
           go None g up = absurd (let never : false ≡ true = ap link_is_up (sym g) ∙ up in cc)
@@ -383,8 +386,20 @@ module _ (fsn n : ℕ) (link : LinkState) (s f : State) (sound : IsSound s) (at 
           go (Changing to code via) is = back_case to code via is (via == n) refl
           go Nowhere is = stays_kept Nowhere is refl refl
 
+  -- as much is owed under each code
+  owes_same_then : OwesNoLess s after
+  owes_same_then c =
+      let then_code = ap (λ (r : Routing). owed_under (code_of c r)) routing_then ∙ ap owed_under (settled_at n (target s.links) s.routing.codes c)
+      ∙ owed_settled (code_of c s.routing) in
+      omega (arith, then_code)
+    where
+      owed_settled : (was : Code) → owed_under (code_settled n (target s.links) was) ≡ owed_under was
+      owed_settled Free = refl
+      owed_settled (Asked via declaration owed) = refl
+      owed_settled (Spent owed) = refl
+
   pub settles_flow : (offered got lost : ℕ → List Message) → Flows s f offered got lost
       → NewAcknowledges (view f after) (view f s) → Flows after f offered got lost
   settles_flow offered got lost w acknowledges =
       carried s after f f offered got lost w (λ stream low. settled_kept stream low offered got lost w)
-      (λ c few e. inl (ap (code_of c) (sym routing_then) ∙ e)) (λ c m i d. was_in m i) acknowledges
+      owes_same_then (λ c m i d. was_in m i) acknowledges

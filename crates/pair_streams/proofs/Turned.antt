@@ -4,18 +4,20 @@
 -- back by its code, and so the rows that turn are picked by stream (Filtered.antt). The code is spent then and not
 -- free, since its declaration may be under way. No induction; the queues are told by pair_changeover's Leaving.antt.
 -- Used by Acting.antt and Hearing.antt; Returned.antt uses `added_order` and `added_clear`.
-use Rattle.std.proofs.Common.{refl, ◌≡◌, ◌∙◌, ap, ap₂, Some, None, sym, subst, ℕ, ◌<◌, ◌==◌, ◌&&◌, Bool, true, false, List, [], ◌++◌, cond, ◌⊎◌, inl, inr}
+use Rattle.std.proofs.Common.{refl, arith, ◌≡◌, ◌∙◌, ap, ap₂, Some, None, sym, subst, ℕ, ◌<◌, ◌==◌, ◌&&◌, Bool, true, false, List, [], ◌++◌, cond, ◌⊎◌, inl, inr}
 use Rattle.std.proofs.lemmas.List.{append-nil}
 use Rattle.l3_orders.specs.declared.order.Order.{Order}
 use Rattle.l3_orders.specs.declared.order.Order.TheVariants.{Cbd}
 use Rattle.l3_orders.specs.Grammar.{order_any}
 use Rattle.set_events.specs.declared.answer.Fate.{Fate}
 use Rattle.set_events.specs.declared.answer.Fate.TheVariants.{Waiting, Unacked, Acked, Held, Parked, Back, Discarded}
+use Rattle.std.proofs.lemmas.Bool.{cond_both}
 use Rattle.set_route.specs.declared.place.Place.{Place}
 use Rattle.set_route.specs.declared.place.Place.TheVariants.{On, Changing, Nowhere}
 use Rattle.set_route.specs.declared.place.Code.{Code}
 use Rattle.set_route.specs.declared.place.Code.TheVariants.{Free, Asked, Spent}
-use Rattle.set_route.specs.Routing.{place_of, place_left, code_of, code_left, home_of}
+use Rattle.set_route.specs.Routing.{place_of, place_left, code_of, code_left, home_of, owed_under}
+use Rattle.set_route.proofs.Codes.{codes_at}
 use Rattle.set_route.proofs.Alone as route
 use Rattle.set_model.specs.declared.phase.Phase.TheVariants.{Up}
 use Rattle.set_model.specs.Rows.{Row, standing, is_waiting, is_held, is_back, is_back_to, is_parked, wait, held, parked}
@@ -33,7 +35,7 @@ use Rattle.pair_changeover.proofs.Table.{joined}
 use Rattle.pair_changeover.proofs.Turning.{turned_rows, turned_users, gained_users}
 use Rattle.pair_changeover.proofs.Views.{view, Among, among_joined, In, stands_on, stands_aside}
 use Rattle.pair_streams.specs.Streams.{is_of, those_of}
-use Rattle.pair_streams.proofs.Codes.{Clear, Flows, Kept, IsFreed, NewAcknowledges, carried}
+use Rattle.pair_streams.proofs.Codes.{Clear, Flows, Kept, NewAcknowledges, OwesNoLess, carried}
 use Rattle.pair_streams.proofs.Declared.{Declares, ClearBehind, clear_joined, clear_none, users_declare}
 use Rattle.pair_streams.proofs.Filtered.{those_joined, joins_none, and_so, turned_filter, picked, never_picked, each_so, of_stream}
 use Rattle.pair_streams.proofs.Flowing.{back_by, queue_at, Stands}
@@ -323,18 +325,17 @@ module _ (blind : Bool) (k : ℕ) (link : LinkState) (s f : State) (sound : IsSo
           go Nowhere is = stays_kept Nowhere is refl refl (aside_same stream low)
           go (Changing to code via) is = back_case to code via is (to == k) refl
 
-    left_freed : (c : ℕ) → c < 256 → code_of c left.routing ≡ Free → IsFreed c s left f
-    left_freed c few e = go (code_of c s.routing) refl
+    -- as much is owed under each code
+    left_owes : OwesNoLess s left
+    left_owes c =
+        let then_code = ap owed_under (codes_at k 0 c c s.routing.codes (omega arith)) ∙ owed_left (code_of c s.routing) in
+        omega (arith, then_code)
       where
-        spent : (b : Bool) → cond b Spent Asked ≡ Free → IsFreed c s left f
-        spent true never = absurd cc
-        spent false never = absurd cc
-
-        go : (was : Code) → code_of c s.routing ≡ was → IsFreed c s left f
-        go Free is = inl is
-        go Asked is = spent (home_of c == k) (sym ((route.codes_alone s.routing c sound.routing few).left_code k ∙ ap (code_left k c) is) ∙ e)
-        go Spent is = absurd (let no : Spent ≡ Free = sym ((route.codes_alone s.routing c sound.routing few).left_code k ∙ ap (code_left k c) is) ∙ e in cc)
+        owed_left : (was : Code) → owed_under (code_left k c was) ≡ owed_under was
+        owed_left Free = refl
+        owed_left (Asked via declaration owed) = cond_both (home_of c == k) (Spent owed) (Asked via declaration owed) (λ (x : Code). owed_under x ≡ owed) (λ e. refl) (λ e. refl)
+        owed_left (Spent owed) = refl
 
     pub leaves_flow : NewAcknowledges (view f left) (view f s) → Flows left f offered got lost
-    leaves_flow acknowledges = carried s left f f offered got lost w left_kept left_freed
+    leaves_flow acknowledges = carried s left f f offered got lost w left_kept left_owes
         (λ c m i d. left_orders (Cbd d.link c) m i d.is) acknowledges

@@ -116,6 +116,7 @@ module _ (past : Past) (history : List Entry) (who : Actor) (stream : ℕ) (kept
   event_kept (Event.NoAnswer link) answer = none_more (Event.NoAnswer link) answer refl
   event_kept (Event.Timed link) answer = none_more (Event.Timed link) answer refl
   event_kept (Event.Restore link) answer = none_more (Event.Restore link) answer refl
+  event_kept (Event.Redeclare link) answer = none_more (Event.Redeclare link) answer refl
   event_kept (Event.BackTimeout link) answer = none_more (Event.BackTimeout link) answer refl
 
 pub offers_kept : OffersAreKept

@@ -295,6 +295,7 @@ impl<G: Allocator + Copy> World<G> {
             | EventRef::NoAnswer { link }
             | EventRef::Timed { link }
             | EventRef::Restore { link }
+            | EventRef::Redeclare { link }
             | EventRef::BackTimeout { link } => self.terminal_of(*link),
         }
     }

@@ -18,6 +18,8 @@ pub(crate) enum Ask {
     Next(u8),
     /// Link 0 hears a message of a user, which has FSN 0 and acknowledges up to FSN 0.
     Message,
+    /// Link 0 hears a fill-in unit that acknowledges up to FSN 2.
+    Acknowledged,
     /// Link 1 hears that link 0 is left, with FSN 0; nothing is acknowledged.
     Left,
     Up(u8),
@@ -25,12 +27,13 @@ pub(crate) enum Ask {
     DownBlind(u8),
     NoAnswer(u8),
     Restore(u8),
+    Redeclare(u8),
     BackTimeout(u8),
 }
 
-/// Of two links link 0 is up first. Stream 3, whose home is link 1, is asked back and isn't acknowledged; each link is left
-/// once, and so is link 0 by an order.
-pub(crate) const SCRIPT: [Ask; 21] = [
+/// Of two links link 0 is up first. Stream 3, whose home is link 1, is asked back; the declaration is acknowledged as a
+/// message, made once more, and isn't answered. Each link is left once, and so is link 0 by an order.
+pub(crate) const SCRIPT: [Ask; 25] = [
     Ask::Offer(2),
     Ask::Up(0),
     Ask::Offer(3),
@@ -41,6 +44,10 @@ pub(crate) const SCRIPT: [Ask; 21] = [
     Ask::Up(1),
     Ask::Restore(1),
     Ask::Offer(3),
+    Ask::Next(0),
+    Ask::Next(0),
+    Ask::Acknowledged,
+    Ask::Redeclare(1),
     Ask::BackTimeout(1),
     Ask::Next(0),
     Ask::Down(0),
@@ -72,7 +79,7 @@ pub(crate) fn who_of(ask: Ask) -> Actor
 {
     match ask {
         Ask::Offer(_) | Ask::Take | Ask::Find(_) => Actor::User(0),
-        Ask::Message => Actor::Terminal(0),
+        Ask::Message | Ask::Acknowledged => Actor::Terminal(0),
         Ask::Left => Actor::Terminal(1),
         Ask::Next(link)
         | Ask::Up(link)
@@ -80,6 +87,7 @@ pub(crate) fn who_of(ask: Ask) -> Actor
         | Ask::DownBlind(link)
         | Ask::NoAnswer(link)
         | Ask::Restore(link)
+        | Ask::Redeclare(link)
         | Ask::BackTimeout(link) => Actor::Terminal(link % 16),
     }
 }
@@ -92,12 +100,14 @@ pub(crate) fn event_of(alloc: Global, ask: Ask) -> Option<Event> {
         Ask::Find(number) => Some(Event::Find { number }),
         Ask::Next(link) => Some(Event::Next { link }),
         Ask::Message => Some(heard(0, 0, body_of(&message_of(2)))),
+        Ask::Acknowledged => Some(acknowledged()),
         Ask::Left => Some(heard(1, 127, order())),
         Ask::Up(link) => Some(Event::Up { link }),
         Ask::Down(link) => Some(Event::Down { link }),
         Ask::DownBlind(link) => Some(Event::DownBlind { link }),
         Ask::NoAnswer(link) => Some(Event::NoAnswer { link }),
         Ask::Restore(link) => Some(Event::Restore { link }),
+        Ask::Redeclare(link) => Some(Event::Redeclare { link }),
         Ask::BackTimeout(link) => Some(Event::BackTimeout { link }),
     }
 }
@@ -114,14 +124,27 @@ fn order() -> ArrayVec<u8, LONGEST_BODY> {
 
 /// The link hears a message of FSN 0 with this BSN.
 fn heard(link: u8, bsn: u16, body: ArrayVec<u8, LONGEST_BODY>) -> Event {
-    let head = Header {
+    let head = head_of(bsn);
+    Event::Heard {
+        link,
+        unit: Unit::Msu { head, body },
+    }
+}
+
+/// Link 0 hears a fill-in unit behind that message, with BSN 2.
+fn acknowledged() -> Event {
+    Event::Heard {
+        link: 0,
+        unit: Unit::Fisu { head: head_of(2) },
+    }
+}
+
+/// A header of FSN 0 with this BSN.
+fn head_of(bsn: u16) -> Header {
+    Header {
         bsn: bsn % 128,
         bib: true,
         fsn: 0,
         fib: true,
-    };
-    Event::Heard {
-        link,
-        unit: Unit::Msu { head, body },
     }
 }

@@ -209,6 +209,7 @@ fn is_own(who: Actor, event: &Event) -> bool
             | Event::DownBlind { link }
             | Event::NoAnswer { link }
             | Event::Restore { link }
+            | Event::Redeclare { link }
             | Event::BackTimeout { link },
         ) => *link == number,
         _ => false,

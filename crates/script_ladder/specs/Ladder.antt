@@ -11,7 +11,7 @@ use Rattle.l2_units.specs.Profile.{fsn_count}
 use Rattle.l3_orders.specs.Grammar.{order_of}
 use Rattle.text_units.specs.Decoding.{order_words}
 use Rattle.set_events.specs.declared.event.Event.{Event}
-use Rattle.set_events.specs.declared.event.Event.TheVariants.{Offer, Take, Find, Next, Heard as HeardEvent, Up as UpEvent, Down, DownBlind, NoAnswer, Timed, Restore, BackTimeout}
+use Rattle.set_events.specs.declared.event.Event.TheVariants.{Offer, Take, Find, Next, Heard as HeardEvent, Up as UpEvent, Down, DownBlind, NoAnswer, Timed, Restore, Redeclare, BackTimeout}
 use Rattle.set_events.specs.declared.answer.Answer.TheVariants.{Accepted, Taken, Found, Sent, Heard, Done, Refused}
 use Rattle.set_events.specs.declared.answer.Counts.{Counts}
 use Rattle.set_events.specs.declared.answer.Report.{Report}
@@ -299,6 +299,7 @@ done_words (DownBlind link) = link_words [] link (codes " left blindly")
 done_words (NoAnswer link) = link_words [] link (codes " settled: no answer")
 done_words (Timed link) = link_words [] link (codes " settled: order not sent")
 done_words (Restore link) = link_words (codes "streams asked back to ") link []
+done_words (Redeclare link) = link_words (codes "asked back again to ") link []
 done_words (BackTimeout link) = link_words (codes "no answer about ") link []
 done_words (Offer body) = codes "done"
 done_words Take = codes "done"
@@ -331,6 +332,7 @@ answer_words p (DownBlind link) shown = plain p shown
 answer_words p (NoAnswer link) shown = plain p shown
 answer_words p (Timed link) shown = plain p shown
 answer_words p (Restore link) shown = plain p shown
+answer_words p (Redeclare link) shown = plain p shown
 answer_words p (BackTimeout link) shown = plain p shown
 answer_words p Take shown = plain p shown
 answer_words p (Find number) shown = plain p shown
@@ -452,6 +454,7 @@ given_up (Down link) = None
 given_up (DownBlind link) = None
 given_up (Timed link) = Some link
 given_up (Restore link) = None
+given_up (Redeclare link) = None
 given_up (BackTimeout link) = None
 given_up (Offer body) = None
 given_up Take = None

@@ -153,6 +153,7 @@ fn write_done(alloc: Global, event: &Event) -> Result<Vec<u8>, AllocError>
         Event::NoAnswer { link } => write_link(alloc, "", *link, " settled: no answer"),
         Event::Timed { link } => write_link(alloc, "", *link, " settled: order not sent"),
         Event::Restore { link } => write_link(alloc, "streams asked back to ", *link, ""),
+        Event::Redeclare { link } => write_link(alloc, "asked back again to ", *link, ""),
         Event::BackTimeout { link } => write_link(alloc, "no answer about ", *link, ""),
         _ => Vec::from_slice(alloc, b"done"),
     }

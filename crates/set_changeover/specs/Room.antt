@@ -47,6 +47,12 @@ pub record HasRoomFrom {A : Type 0} (first : ℕ) (parts : Parts A) : Type 0 whe
   pub each : (link : ℕ) → first ≤ link → link < length parts.links.items
       → 0 < room_at (Waiting link) parts.queues.rooms
 
+-- for so many declarations once more, on whatever links
+pub record HasRoomAgain {A : Type 0} (more : ℕ) (parts : Parts A) : Type 0 where
+  pub message : more ≤ parts.queues.room
+  pub body : CanHold more parts.bodies
+  pub each : HaveRoom (length parts.links.items) more parts.queues.rooms
+
 -- for all that stand on the link where they go once it's out of service, and for so many orders
 pub record IsReady {A : Type 0} (number orders : ℕ) (parts : Parts A) : Type 0 where
   pub message : orders ≤ parts.queues.room

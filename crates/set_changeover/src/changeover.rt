@@ -12,7 +12,7 @@ ghost use Rattle.set_changeover.specs.Parts.{Up, Down, IsWhole, AreCounted, AtLi
 ghost use Rattle.set_changeover.specs.Room.{HasRoom, IsReady, IsSpaciousFor, CanTurnBack, order_fate};
 ghost use Rattle.set_changeover.specs.Turning.{TakesTurns};
 
-use super::changeback::release;
+use super::changeback::acknowledge;
 use super::parts::{Parts, phase_of, stand_ahead, target_of};
 use super::settling::settle;
 use super::turning::turn_back;
@@ -22,7 +22,6 @@ use l3_orders::{Order, write_order, write_order_wide};
 use set_events::{SetConfig, Took};
 use set_model::{Phase, Reached};
 use set_queues::fate_on;
-use set_route::Code;
 use std::alloc::Allocator;
 
 /// The body of an order, as this set writes it.
@@ -108,10 +107,10 @@ pub fn obey<A: Allocator + Copy>(parts: &mut Parts<A>, order: Order) -> Took
         // of a code in no use it's ignored (Q.704 6.3)
         Order::Cba { code, .. } => {
             parts.routes.is_sound();
-            if parts.routes.code(code) == Code::Free {
+            if parts.routes.code(code).is_free() {
                 return Took::Ignored;
             }
-            release(parts, code);
+            acknowledge(parts, code);
             Took::Order
         }
     }

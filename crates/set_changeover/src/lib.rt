@@ -15,7 +15,7 @@
 //! other order stands ahead of the users' messages there (own), behind the orders that stand foremost ([`queue`]).
 //!
 //! A move wants no memory: whoever makes it takes the room before ([`make_room`], [`make_room_beside`],
-//! [`make_room_parked`]), and [`restore`] and [`time_out`], which are whole events, take their own.
+//! [`make_room_parked`]), and [`restore`], [`redeclare`] and [`time_out`], which are whole events, take their own.
 //!
 //! The files: `parts` what a set keeps, and what is common to all moves; `link` and `control` one link; `inbox` what
 //! was heard for users; `changeover` how a link is left and orders are obeyed; `settling` what becomes of its
@@ -34,7 +34,7 @@ mod parts;
 mod settling;
 mod turning;
 
-pub use changeback::{restore, time_out};
+pub use changeback::{redeclare, restore, time_out};
 pub use changeover::{leave, obey, queue};
 pub use control::Control;
 pub use inbox::{HeardBody, Inbox};

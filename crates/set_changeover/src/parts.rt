@@ -5,7 +5,7 @@ ghost use Rattle.set_queues.specs.Bodies.{CanHold};
 ghost use Rattle.set_queues.specs.Queues.{behind_orders};
 ghost use Rattle.set_queues.specs.Messages.{IsFit};
 ghost use Rattle.set_model.specs.Rows.{appended, put_ahead};
-ghost use Rattle.set_route.specs.Routing.{place_of};
+ghost use Rattle.set_route.specs.Routing.{IsPlaceOf, place_of};
 ghost use Rattle.set_model.specs.State.{State, LinkState, given, fate_at, target, has_phase_up};
 ghost use Rattle.set_model.specs.Step.{Outcome, in_service};
 ghost use Rattle.set_changeover.specs.Agreement.{StandsFor, Agrees, kind_of};
@@ -222,7 +222,19 @@ pub fn fate_of_new<A: Allocator + Copy>(parts: &Parts<A>, stream: u8) -> Fate
     ensures queued { IsQueued result }
 {
     parts.queues.is_sound();
-    match parts.routes.place(stream) {
+    fate_where(parts, parts.routes.place(stream))
+}
+
+/// Where a new message stands whose stream runs there.
+pub(crate) fn fate_where<A: Allocator + Copy>(parts: &Parts<A>, place: Place) -> Fate
+    requires whole { IsWhole parts.now }
+    requires there { IsPlaceOf (length parts.now.links.items) place }
+    ensures value { (s : State) → StandsFor (kept_of parts.now) s → result ≡ fate_at place s }
+    ensures known { IsKnown result parts.now.queues.lists }
+    ensures queued { IsQueued result }
+{
+    parts.queues.is_sound();
+    match place {
         Place::On { link } if phase_of(parts, link) == Some(Phase::Up) => { Fate::Waiting { link } }
         Place::On { link } => Fate::Held { link },
         Place::Changing { code, .. } => Fate::Back { code },

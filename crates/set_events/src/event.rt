@@ -48,6 +48,8 @@ pub enum Event {
     Timed { link: u8 },
     /// The streams whose home this link is are to come back to it (Q.704 6).
     Restore { link: u8 },
+    /// The declarations of this home that are on their way no more are made once more (Q.704 6.3).
+    Redeclare { link: u8 },
     /// The far end didn't acknowledge the changeback to this link (own).
     BackTimeout { link: u8 },
 }
@@ -74,6 +76,7 @@ impl Event {
             Event::NoAnswer { link } => Ok(Event::NoAnswer { link: *link }),
             Event::Timed { link } => Ok(Event::Timed { link: *link }),
             Event::Restore { link } => Ok(Event::Restore { link: *link }),
+            Event::Redeclare { link } => Ok(Event::Redeclare { link: *link }),
             Event::BackTimeout { link } => Ok(Event::BackTimeout { link: *link }),
         }
     }
@@ -96,6 +99,7 @@ impl Event {
             (Event::NoAnswer { link: a }, Event::NoAnswer { link: b }) => *a == *b,
             (Event::Timed { link: a }, Event::Timed { link: b }) => *a == *b,
             (Event::Restore { link: a }, Event::Restore { link: b }) => *a == *b,
+            (Event::Redeclare { link: a }, Event::Redeclare { link: b }) => *a == *b,
             (Event::BackTimeout { link: a }, Event::BackTimeout { link: b }) => *a == *b,
             _ => false,
         }

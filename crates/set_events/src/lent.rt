@@ -24,6 +24,7 @@ pub enum EventRef<'a> {
     NoAnswer { link: u8 },
     Timed { link: u8 },
     Restore { link: u8 },
+    Redeclare { link: u8 },
     BackTimeout { link: u8 },
 }
 
@@ -50,6 +51,7 @@ impl<'a> EventRef<'a> {
             Event::NoAnswer { link } => EventRef::NoAnswer { link: *link },
             Event::Timed { link } => EventRef::Timed { link: *link },
             Event::Restore { link } => EventRef::Restore { link: *link },
+            Event::Redeclare { link } => EventRef::Redeclare { link: *link },
             Event::BackTimeout { link } => EventRef::BackTimeout { link: *link },
         }
     }
@@ -77,6 +79,7 @@ impl<'a> EventRef<'a> {
             EventRef::NoAnswer { link } => Ok(Event::NoAnswer { link: *link }),
             EventRef::Timed { link } => Ok(Event::Timed { link: *link }),
             EventRef::Restore { link } => Ok(Event::Restore { link: *link }),
+            EventRef::Redeclare { link } => Ok(Event::Redeclare { link: *link }),
             EventRef::BackTimeout { link } => Ok(Event::BackTimeout { link: *link }),
         }
     }
@@ -110,6 +113,7 @@ impl<'a> EventRef<'a> {
             (EventRef::NoAnswer { link: a }, EventRef::NoAnswer { link: b }) => *a == *b,
             (EventRef::Timed { link: a }, EventRef::Timed { link: b }) => *a == *b,
             (EventRef::Restore { link: a }, EventRef::Restore { link: b }) => *a == *b,
+            (EventRef::Redeclare { link: a }, EventRef::Redeclare { link: b }) => *a == *b,
             (EventRef::BackTimeout { link: a }, EventRef::BackTimeout { link: b }) => *a == *b,
             _ => false,
         }

@@ -18,7 +18,7 @@ use Rattle.set_events.specs.declared.answer.Report.{Report}
 use Rattle.set_events.specs.declared.event.Actor.{Actor}
 use Rattle.set_events.specs.declared.event.Actor.TheVariants.{User, Terminal}
 use Rattle.set_events.specs.declared.event.Event.{Event}
-use Rattle.set_events.specs.declared.event.Event.TheVariants.{Offer, Take, Find, Next, Heard, Up, Down, DownBlind, NoAnswer, Timed, Restore, BackTimeout}
+use Rattle.set_events.specs.declared.event.Event.TheVariants.{Offer, Take, Find, Next, Heard, Up, Down, DownBlind, NoAnswer, Timed, Restore, Redeclare, BackTimeout}
 use Rattle.set_events.specs.declared.history.Entry.{Entry}
 use Rattle.set_history.specs.Forms.{event_form, answer_form, actor_form, form_octet, unit_form, fate_number, fate_told, report_number, report_told}
 use Rattle.set_history.specs.Told.{word, unit_as, behind_unit_as, unit, behind_unit, who_at, behind_who_at, event_told, behind_event, answer_told, behind_answer, entry_as, behind_entry_as, entry_told, behind_entry}
@@ -110,6 +110,7 @@ event_back (DownBlind link) rest h = refl
 event_back (NoAnswer link) rest h = refl
 event_back (Timed link) rest h = refl
 event_back (Restore link) rest h = refl
+event_back (Redeclare link) rest h = refl
 event_back (BackTimeout link) rest h = refl
 
 behind_event_back : (event : Event) (rest : List ℕ) → IsEventKept event → behind_event (event_form event) (event_text event ++ rest) ≡ rest
@@ -124,6 +125,7 @@ behind_event_back (DownBlind link) rest h = refl
 behind_event_back (NoAnswer link) rest h = refl
 behind_event_back (Timed link) rest h = refl
 behind_event_back (Restore link) rest h = refl
+behind_event_back (Redeclare link) rest h = refl
 behind_event_back (BackTimeout link) rest h = refl
 
 -- what was answered
@@ -162,6 +164,7 @@ event_few (DownBlind link) = omega arith
 event_few (NoAnswer link) = omega arith
 event_few (Timed link) = omega arith
 event_few (Restore link) = omega arith
+event_few (Redeclare link) = omega arith
 event_few (BackTimeout link) = omega arith
 
 answer_few : (answer : Answer) → answer_form answer < 8

@@ -9,10 +9,10 @@ ghost use Rattle.set_history.specs.Forms.{fate_told, cause_told, report_told, to
 use l2_units::ControlFault;
 use set_events::{AnswerRef, DiscardCause, EventRef, Fate, Refusal, Report, Took};
 
-/// The number of what was asked, 0 to 11.
+/// The number of what was asked, 0 to 12.
 pub(crate) fn event_form(event: &EventRef<'_>) -> u8
     ensures value { result ≡ form_of_event (event_in event.now) }
-    ensures few { result < 12 }
+    ensures few { result < 13 }
 {
     match event {
         EventRef::Offer { .. } => 0,
@@ -27,6 +27,7 @@ pub(crate) fn event_form(event: &EventRef<'_>) -> u8
         EventRef::Restore { .. } => 9,
         EventRef::BackTimeout { .. } => 10,
         EventRef::Timed { .. } => 11,
+        EventRef::Redeclare { .. } => 12,
     }
 }
 

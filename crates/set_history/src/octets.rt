@@ -79,7 +79,8 @@ impl<'a> Octets<'a> {
             8 => EventRef::NoAnswer { link: self.octet() },
             9 => EventRef::Restore { link: self.octet() },
             10 => EventRef::BackTimeout { link: self.octet() },
-            _ => EventRef::Timed { link: self.octet() },
+            11 => EventRef::Timed { link: self.octet() },
+            _ => EventRef::Redeclare { link: self.octet() },
         }
     }
 

@@ -81,6 +81,7 @@ fn put_event<A: Allocator>(octets: &mut Vec<u8, A>, event: &EventRef<'_>)
         | EventRef::NoAnswer { link }
         | EventRef::Timed { link }
         | EventRef::Restore { link }
+        | EventRef::Redeclare { link }
         | EventRef::BackTimeout { link } => octets.push_reserved(*link),
     }
 }

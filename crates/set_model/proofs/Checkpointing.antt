@@ -8,8 +8,9 @@ use Rattle.l2_units.specs.Profile.{longest_body}
 use Rattle.std.proofs.Common.{refl, arith, ◌≡◌, ◌≤◌, ℕ, ◌+◌, ◌==◌, ◌&&◌, ◌||◌, not, Bool, true, false, List, [], ◌∷◌, length, filter, None, Some, slice_get, suc, ◌∙◌, ap, subst, sym}
 use Rattle.set_model.specs.Checkpoint.{Checkpoints, checkpointed, counts_in, rebuilt, stays, unfinished, was_discarded_by}
 use Rattle.set_model.specs.Rows.{Emergency, NoAnswer, Unreasonable, Fate, IsNumbered, Row, is_users, row_of, standing, users, was_acked, was_discarded}
-use Rattle.set_model.specs.Sound.{IsBackOf, IsSound, is_unfinished}
+use Rattle.set_model.specs.Sound.{IsBackOf, IsSound, IsSoundCode, is_unfinished}
 use Rattle.set_model.specs.State.{State, given}
+use Rattle.set_route.specs.Routing.{code_of}
 use Rattle.set_model.proofs.Order.{before_filter}
 use Rattle.set_model.proofs.Rows.{at_most_one, each_filter, fewer_filter, filter_comm, filter_within, no_rows, row_in_filter, with_number}
 use Rattle.set_model.specs.Rows.{place, body_at, stands_back, numbers, waits, was_sent, was_held, is_on, is_held, is_unacked, is_waiting, is_parked}
@@ -97,7 +98,7 @@ checkpoint_sound s t =
       placed = t.placed;
       none_aside = λ n link at up. aside ∙ t.none_aside n link at up;
       all_run = t.all_run;
-      homes_up = t.homes_up;
+      codes = λ code. subst (λ (n : ℕ). IsSoundCode s.links n code (code_of code s.routing)) (sym (given_stays s)) (t.codes code);
       backs = each_filter (λ row. IsBackOf s.routing row row.fate) (λ row. IsBackOf s.routing row row.fate)
           (λ row. is_unfinished row.fate) (λ x e b. b) s.rows t.backs;
       back_order = rw backs t.back_order;

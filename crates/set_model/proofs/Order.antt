@@ -10,8 +10,8 @@ use Rattle.std.proofs.lemmas.List.Elements.{filter-append}
 use Rattle.set_model.specs.Rows.{Fate, AreBefore, Each, IsNumbered, Row, appended, fated, numbers, standing, Back, back, Unacked, IsHeldLast, IsInOrder, held, is_waiting, on, turned, unack, wait, with_fate}
 use Rattle.set_model.specs.Sound.{AreAbove, IsAscending, AreBack, IsBackOf}
 use Rattle.set_model.proofs.Rows.{each_append, found_by_number, filter_comm, filter_within, none_within}
-use Rattle.set_route.specs.Routing.{IsCoded, IsRouting, Routing, code_of, home_of, place_of}
-use Rattle.set_model.specs.State.{Asked, Changing}
+use Rattle.set_route.specs.Routing.{IsCoded, IsRouting, Routing, code_of, home_of, place_of, via_of}
+use Rattle.set_model.specs.State.{Changing}
 use Rattle.set_route.proofs.Quiet.{at_place}
 
 -- ROWS THAT MOVE: none that goes comes to stand there.
@@ -50,9 +50,9 @@ ascends_appended given p rows body fate numbered a =
     grind (arith, filter-append, map-append, append-nil, last)
 
 -- WHAT STANDS BACK, as streams move.
--- a stream on its way back goes to the home of its code, which is open
+-- a stream on its way back goes to the home of its code, which is open, and comes from the link of that code
 pub coded_at : (r : Routing) (stream : ℕ) → IsRouting r → (to code via : ℕ) → place_of stream r ≡ Changing to code via
-    → (home_of code ≡ to) × (code_of code r ≡ Asked)
+    → (home_of code ≡ to) × (via_of (code_of code r) ≡ Some via)
 coded_at r stream sound to code via e = subst (IsCoded r) e (at_place (IsCoded r) tt r.streams stream sound.coded)
 
 -- where a stream on its way back by a code of which nothing moves stays on it

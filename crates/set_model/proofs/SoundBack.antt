@@ -5,17 +5,19 @@
 -- and Places.antt; rows are Rows.antt's and Events.antt's. No induction. Soundness.antt uses it; `none_back`,
 -- `up_not_held` and `down_not_waiting` serve pair_changeover's Leaving.antt too.
 use Rattle.std.proofs.lemmas.Bool.Decides.{nat_tests}
-use Rattle.std.proofs.Common.{length, refl, arith, ◌≡◌, ◌∙◌, ap, ◌<◌, ℕ, ◌==◌, true, false, List, [], map, slice_get, None, Some, IfSome, Bool, not}
-use Rattle.std.proofs.lemmas.Bool.{and_parts}
+use Rattle.std.proofs.Common.{length, refl, arith, ◌≡◌, ◌∙◌, ap, ◌<◌, ◌≤◌, ◌+◌, ◌-◌, ℕ, zero, suc, ◌==◌, true, false, List, [], map, slice_get, slice_set, subst, Option, None, Some, IfSome, Bool, not}
+use Rattle.std.proofs.lemmas.Bool.{and_parts, cond_both}
+use Rattle.std.proofs.lemmas.Option.{same_Some}
 use Rattle.std.proofs.lemmas.List.{length-set}
-use Rattle.set_route.specs.Routing.{settled, IsRouting, Routing, asked, code_of, given_back, home_of, place_of, raised}
-use Rattle.set_model.specs.Changeover.{can_declare, declared, fate_on, left_by, left_link, moved_over, out_of_service, released, settled_link}
+use Rattle.set_route.specs.Routing.{settled, IsRouting, Routing, answered, asked, asked_again, code_again, code_answered, code_for, code_left, code_of, code_settled, given_back, home_of, owed_under, place_back, place_of, raised, still_owed, via_of, via_settled}
+use Rattle.set_model.specs.Changeover.{acknowledged_code, can_declare, comes_home, declared, fate_on, left_by, left_link, moved_over, out_of_service, overdue_via, redeclared_from, redeclared_if, redeclared_on, released, settled_link}
 use Rattle.set_model.specs.Rows.{Fate, Waiting, Row, all_with, back, fated, is_back, is_back_to, is_held, is_on, is_parked, is_waiting, moved, numbers, parked, standing, stands_back, stream_of}
-use Rattle.set_model.specs.Sound.{AreBack, IsAscending, IsBackOf, IsPlaced, IsSound, IsSoundLink}
-use Rattle.set_model.specs.State.{Asked, Place, On, Changing, Down, Settled, Up, LinkState, State, all_finished, given, fate_at, has_phase_up, is_up, late_at, link_is_up, target}
+use Rattle.set_model.specs.Sound.{AreBack, IsAscending, IsBackOf, IsPlaced, IsSound, IsSoundCode, IsSoundLink}
+use Rattle.set_model.specs.State.{Asked, Code, Free, Spent, Place, On, Changing, Down, Settled, Up, LinkState, State, all_finished, given, fate_at, has_phase_up, is_up, late_at, link_is_up, target}
 use Rattle.set_model.specs.Step.{risen_link, rises}
-use Rattle.set_route.proofs.Alone.{alone, codes_alone}
-use Rattle.set_route.proofs.Places.{raised_sound, settled_sound, left_sound, asked_sound, back_sound}
+use Rattle.set_route.proofs.Alone.{alone}
+use Rattle.set_route.proofs.Codes.{codes_at, freed_at, set_at}
+use Rattle.set_route.proofs.Places.{again_at, again_sound, answered_at, answered_sound, raised_sound, settled_at, settled_sound, left_sound, asked_sound, back_sound}
 use Rattle.set_model.proofs.Order.{ascends_filter, backs_of, before_none, coded_at, gone_none, none_standing, stood}
 use Rattle.set_model.proofs.Events.{left, unparked, untouched}
 use Rattle.set_model.proofs.Lists.{get_set_same, get_set_other, within, each_set, target_up, target_off, none_up}
@@ -23,7 +25,7 @@ use Rattle.set_model.proofs.Rows.{each_filter, moved_off, moved_length, moved_nu
 use Rattle.set_model.proofs.Places.{false_true, apart_back, on_other, not_on_waiting, back_not_on, back_not_parked, code_back, home_back}
 use Rattle.set_model.proofs.Staying.{not_sent, offered_out}
 use Rattle.set_model.proofs.Walk.{IsAt}
-use Rattle.set_model.proofs.SoundLink.{link_moved, links_set, placed_set, up_before, up_after, Follows, appended_sound}
+use Rattle.set_model.proofs.SoundLink.{code_closed, code_kept, link_moved, links_set, placed_set, up_before, up_after, Follows, appended_sound}
 use Rattle.set_model.proofs.Settling.{settled_empty}
 
 -- ROWS THAT MOVE, as links and streams change, where none of them comes to stand back.
@@ -31,13 +33,13 @@ moved_sound : (s : State) (links : List LinkState) (routing : Routing) (test : F
     → IsSound s → length links ≡ length s.links → IsRouting routing → routing.links ≡ s.routing.links
     → back (map (fated fate) (standing test s.rows)) ≡ []
     → ((k : ℕ) → k < 16 → Follows links test (place_of k s.routing) (place_of k routing))
-    → ((code : ℕ) → code_of code routing ≡ Asked → link_is_up (slice_get links (home_of code)) ≡ true)
+    → ((code : ℕ) → IsSoundCode links (given s) code (code_of code routing))
     → ((k : ℕ) (other : LinkState) → slice_get links k ≡ Some other → has_phase_up other.phase ≡ true
     → parked (moved test fate s.rows) ≡ [])
     → ((k : ℕ) (other : LinkState) → slice_get links k ≡ Some other
     → IsSoundLink s.settings k other (moved test fate s.rows))
     → IsSound (record s { links = links; routing = routing; rows = moved test fate s.rows })
-moved_sound s links routing test fate t long sound same gone follows homes aside each =
+moved_sound s links routing test fate t long sound same gone follows codes aside each =
     let kept = each_filter (λ row. IsBackOf s.routing row row.fate) (λ row. IsBackOf routing row row.fate)
     (λ row. not (test row.fate)) (λ x. stood test s.routing routing (λ k few. (follows k few).stays) x x.fate)
     (back s.rows) (each_filter (λ row. IsBackOf s.routing row row.fate) (λ row. IsBackOf s.routing row row.fate)
@@ -51,7 +53,9 @@ moved_sound s links routing test fate t long sound same gone follows homes aside
     (up : has_phase_up link.phase ≡ true) (k : ℕ) (few : k < 16). (follows k few).runs n link there up in
     let numbered = numbered_on (all_finished s.finished) s.rows (moved test fate s.rows) (moved_length test fate s.rows)
     (moved_numbered test fate (given s) s.rows t.numbered) in
-    search (numbered, moved_fit)
+    let coded = λ (code : ℕ). code_kept links links (given s) (all_finished s.finished + length (moved test fate s.rows)) code (code_of code routing)
+    (λ e. e) (λ via p. p) (omega (arith, moved_length test fate s.rows)) (codes code) in
+    search (numbered, moved_fit, coded)
 
 -- A LINK COMES UP.
 pub rises_sound : (n : ℕ) (link : LinkState) (s : State) → IsAt n link Settled s → IsSound s → IsSound (rises n s Settled).state
@@ -71,11 +75,45 @@ rises_sound n link s at t =
       runs = λ j other there up. rw a (grind arith);
       stays = λ code via of e. grind (arith, a);
     })
-    (λ code asked. up_after s.links n link risen at.there (λ up. refl) (home_of code) (t.homes_up code asked))
+    (λ code. code_kept s.links (slice_set s.links n risen) (given s) (given s) code (code_of code s.routing)
+    (up_after s.links n link risen at.there (λ up. refl) (home_of code)) (λ via. placed_set s.links n link risen (On via) at.there refl) (omega arith) (t.codes code))
     (λ k other there up. u.parked_none) (links_set s.settings s.links n risen s.rows new one u.others t.links)
 
 -- A LINK IS LEFT BY ITS MESSAGES.
 module _ (told : Bool) (n : ℕ) (link : LinkState) (s : State) (at : IsAt n link Down s) (t : IsSound s) where
+  abbrev Stands : ℕ → Type 0
+  Stands via = IsPlaced (slice_set s.links n (settled_link told link)) (On via)
+
+  -- another link is where it was, and the target is up
+  other_stands : (via : ℕ) → (via == n) ≡ false → IsPlaced s.links (On via) → Stands via
+  other_stands via d p = (p.0, get_set_other s.links n via (settled_link told link) (λ same. grind (arith, nat_tests, same, d)) ∙ p.1, p.2)
+
+  target_stands : (to : ℕ) → target s.links ≡ Some to → Stands to
+  target_stands to e =
+      let u = target_up s.links to e in
+      other_stands to (grind (arith, nat_tests, u, at.there, at.phase_is)) (u.0, u.1, grind (arith, u.2))
+
+  settles_via : (via : ℕ) → IsPlaced s.links (On via) → (to : Option ℕ) → target s.links ≡ to → (target s.links ≡ None → ⊥)
+      → Stands (via_settled n to via)
+  settles_via via p None e away = absurd (away e)
+  settles_via via p (Some to) e away = cond_both (via == n) to via Stands (λ same. target_stands to e) (λ d. other_stands via d p)
+
+  -- an open code has a home that is up, so there is a target: it stands where its streams come from then
+  settles_code : (has_phase_up link.phase ≡ true → has_phase_up (settled_link told link).phase ≡ true) → (code : ℕ) (was : Code)
+      → IsSoundCode s.links (given s) code was
+      → IsSoundCode (slice_set s.links n (settled_link told link)) (given s) code (code_settled n (target s.links) was)
+  settles_code stays code Free c = code_closed _ _ code _ refl c.few
+  settles_code stays code (Spent owed) c = code_closed _ _ code _ refl c.few
+  settles_code stays code (Asked via declaration owed) c =
+      let up = c.home_up via refl in
+      let stood = c.via_stands via refl in
+      let away : target s.links ≡ None → ⊥ = λ none. grind (arith, nat_tests, none_up, up) in
+      record {
+        home_up = λ v e. up_after s.links n link (settled_link told link) at.there stays (home_of code) up;
+        via_stands = λ v e. subst Stands (same_Some _ v e) (settles_via via stood (target s.links) refl away);
+        few = c.few;
+      }
+
   pub moves_off_sound : IsSound (moved_over told n link s)
   moves_off_sound =
       -- it is empty, since the target is another link
@@ -93,13 +131,14 @@ module _ (told : Bool) (n : ℕ) (link : LinkState) (s : State) (at : IsAt n lin
       (λ k few. let a = (alone s.routing k t.routing few).settled_place n (target s.links) in let stood =
       t.placed k few in let away : (home code via : ℕ) → place_of k s.routing ≡ Changing home code via
       → (target s.links) ≡ None → ⊥ =
-      λ home code via e none. grind (arith, nat_tests, coded_at, none_up) in record {
+      λ home code via e none. let coded = coded_at s.routing k t.routing home code via e in
+      let up = (t.codes code).home_up via coded.1 in grind (arith, nat_tests, none_up, up) in record {
         placed = rw a (grind (arith, nat_tests, target_up, get_set_other, stood, away));
         runs = up_before s.links n link (settled_link told link) at.there (λ e. absurd cc)
             (λ j old here up. let runs = t.all_run j old here up k few in rw a (grind (arith, none_up, runs)));
         stays = λ code via out was. grind (arith, a);
       })
-      (λ code asked. up_after s.links n link (settled_link told link) at.there stays (home_of code) (t.homes_up code asked))
+      (λ code. rw (settled_at n (target s.links) s.routing.codes code) (settles_code stays code (code_of code s.routing) (t.codes code)))
       (up_before s.links n link (settled_link told link) at.there (λ e. absurd cc)
       (λ k old here up. moved_same (is_on n) is_parked (all_with (fate_on (target s.links))) s.rows
       (λ x. grind (arith, none_up)) (λ f e. grind arith) ∙ t.none_aside k old here up))
@@ -141,6 +180,16 @@ module _ (blind : Bool) (n : ℕ) (link : LinkState) (s : State) (at : IsAt n li
   gone other h = gone_none (is_back_to n) fate (λ row. IsBackOf s.routing row row.fate) other
       (λ x e b. let g = goes x e b in ap (λ (p : Place). other (fate_at p mid)) g.1 ∙ h g.0 g.2) s.rows t.backs
 
+  -- a code whose home is left is spent
+  leaves_code : (code : ℕ) (was : Code) → IsSoundCode s.links (given s) code was → IsSoundCode mid.links (given s) code (code_left n code was)
+  leaves_code code Free c = code_closed _ _ code _ refl c.few
+  leaves_code code (Spent owed) c = code_closed _ _ code _ refl c.few
+  leaves_code code (Asked via declaration owed) c = cond_both (home_of code == n) (Spent owed) (Asked via declaration owed)
+      (λ (was : Code). IsSoundCode mid.links (given s) code was)
+      (λ e. code_closed _ _ code _ refl c.few)
+      (λ e. code_kept s.links mid.links (given s) (given s) code (Asked via declaration owed)
+      (λ up. grind (arith, nat_tests, get_set_other, up, e)) (λ v. placed_set s.links n link (left_link blind (given s) link) (On v) at.there refl) (omega arith) c)
+
   pub leaves : IsSound (left_by blind n link s)
   leaves =
       let mid_links = links_set s.settings s.links n (left_link blind (given s) link) s.rows s.rows
@@ -152,7 +201,7 @@ module _ (blind : Bool) (n : ℕ) (link : LinkState) (s : State) (at : IsAt n li
       (t.placed k few) in let a = (alone s.routing k t.routing few).left_place n in
       let runs = up_before s.links n link (left_link blind (given s) link) at.there (λ e. absurd cc)
       (λ j old here up. t.all_run j old here up k few) in grind (arith, stays, a, runs))
-      (λ code e. grind (arith, nat_tests, (codes_alone s.routing code t.routing (grind arith)).left_code n, t.homes_up code, get_set_other))
+      (λ code. rw (codes_at n 0 code code s.routing.codes (omega arith)) (leaves_code code (code_of code s.routing) (t.codes code)))
       (up_before s.links n link (left_link blind (given s) link) at.there (λ e. absurd cc)
       (λ k old here up. grind (arith, nat_tests, moved_more, gone, t.none_aside k old here up)))
       (λ k other there. link_moved s.settings k other (is_back_to n) fate s.routing s.rows t.backs
@@ -169,54 +218,109 @@ alternative_up home alternative s may = (and_parts (is_up alternative s) _ (and_
 pub declares : (home alternative : ℕ) (s : State) → is_up home s ≡ true → can_declare home alternative s ≡ true
     → IsSound s → IsSound (declared home alternative s)
 declares home alternative s up may t =
-    let runs = asked home alternative s.routing in
+    let runs = asked home alternative (given s) s.routing in
     let out = alternative_up home alternative s may in
     let below : (n : ℕ) → is_up n s ≡ true → n < s.routing.links = λ n e. grind (arith, within) in
-    let sound = asked_sound home alternative s.routing (below home up) (below alternative out) t.routing in
+    let free = (and_parts _ _ (and_parts (is_up alternative s) _ (and_parts (not (alternative == home)) _ may).1).1).0 in
+    let sound = asked_sound home alternative (given s) s.routing (below home up) (below alternative out) free t.routing in
     appended_sound s runs t sound refl _ (Waiting alternative) (grind arith) (λ k link there. grind (arith, nat_tests, out)) tt
     (λ k few. let p = t.placed k few in let a =
-    (alone s.routing k t.routing few).asked_place home alternative
+    (alone s.routing k t.routing few).asked_place home alternative (given s)
     in record {
       placed = rw a (grind (arith, p, out));
       runs = λ n link at rising. let runs = t.all_run n link at rising k few in rw a (grind (arith, runs));
       stays = λ code via of e. grind (arith, nat_tests, a);
     })
-    (λ code e. grind (
-      arith,
-      nat_tests,
-      (codes_alone s.routing code t.routing (grind arith)).asked_code home alternative,
-      up,
-      t.routing.at_most_16,
-      below home up,
-      below alternative out,
-      t.homes_up code,
-    ))
+    (λ code. rw (set_at s.routing.codes code (code_for home alternative) (Asked alternative (given s) 1) (omega (arith, below home up, below alternative out, t.routing.at_most_16, t.routing.all_codes)))
+    (cond_both (code == code_for home alternative) (Asked alternative (given s) 1) (code_of code s.routing) (λ (was : Code). IsSoundCode s.links (given s + 1) code was)
+    (λ e. let same : home_of code ≡ home = grind (arith, nat_tests, below alternative out, t.routing.at_most_16, e) in record {
+      home_up = λ via is. rw same up;
+      via_stands = λ via is. subst (λ (x : ℕ). IsPlaced s.links (On x)) (same_Some _ via is) (grind (arith, out));
+      few = omega arith;
+    })
+    (λ e. code_kept s.links s.links (given s) (given s + 1) code (code_of code s.routing) (λ u. u) (λ via q. q) (omega arith) (t.codes code))))
+
+-- IT'S MADE ONCE MORE, on the link from which the streams come, which is up or was left.
+pub overdue_open : (was : Code) (rows : List Row) (via : ℕ) → overdue_via was rows ≡ Some via → via_of was ≡ Some via
+overdue_open Free rows via e = absurd cc
+overdue_open (Spent owed) rows via e = absurd cc
+overdue_open (Asked v declaration owed) rows via e = grind (arith, e)
+
+pub redeclares : (code via : ℕ) (s : State) → overdue_via (code_of code s.routing) s.rows ≡ Some via → IsSound s → IsSound (redeclared_on code (Some via) s)
+redeclares code via s due t =
+    let stands = (t.codes code).via_stands via (overdue_open (code_of code s.routing) s.rows via due) in
+    appended_sound s (asked_again code (given s) s.routing) t (again_sound code (given s) s.routing t.routing) refl _ (fate_at (On via) s) (grind arith)
+    (λ k link there. grind (arith, nat_tests, stands)) (grind arith)
+    (λ k few. record {
+      placed = t.placed k few;
+      runs = λ n link at rising. t.all_run n link at rising k few;
+      stays = λ c v of e. (v, e);
+    })
+    (λ c. rw (again_at s.routing.codes c code (given s))
+    (cond_both (c == code) (code_again (given s) (code_of c s.routing)) (code_of c s.routing) (λ (was : Code). IsSoundCode s.links (given s + 1) c was)
+    (λ e. again_code c (code_of c s.routing) (t.codes c))
+    (λ e. code_kept s.links s.links (given s) (given s + 1) c (code_of c s.routing) (λ u. u) (λ v q. q) (omega arith) (t.codes c))))
+  where
+    again_code : (c : ℕ) (was : Code) → IsSoundCode s.links (given s) c was → IsSoundCode s.links (given s + 1) c (code_again (given s) was)
+    again_code c Free k = code_closed _ _ c _ refl (omega (arith, k.few))
+    again_code c (Spent owed) k = code_closed _ _ c _ refl (omega (arith, k.few))
+    again_code c (Asked v d owed) k = record { home_up = λ x e. k.home_up x e; via_stands = λ x e. k.via_stands x e; few = omega (arith, k.few) }
+
+pub redeclared_sound : (code : ℕ) (o : Option ℕ) (s : State) → overdue_via (code_of code s.routing) s.rows ≡ o → IsSound s → IsSound (redeclared_on code o s)
+redeclared_sound code None s e t = t
+redeclared_sound code (Some via) s e t = redeclares code via s e t
+
+pub all_redeclared : (code n : ℕ) (s : State) → IsSound s → IsSound (redeclared_from code n s)
+all_redeclared code zero s t = t
+all_redeclared code (suc n) s t =
+    all_redeclared (suc code) n (redeclared_if code s) (redeclared_sound code (overdue_via (code_of code s.routing) s.rows) s refl t)
 
 -- WHAT STOOD BACK WAITS FOR ITS HOME.
 module _ (code : ℕ) (s : State) (t : IsSound s) where
+  -- a stream on its way back by a code has a home that is up
+  pub home_up : (stream : ℕ) (to c via : ℕ) → place_of stream s.routing ≡ Changing to c via → (home_of c ≡ to) × (is_up (home_of c) s ≡ true)
+  home_up stream to c via e = let coded = coded_at s.routing stream t.routing to c via e in (coded.0, (t.codes c).home_up via coded.1)
+
   -- where its home isn't up nothing stands back by the code
-  pub none_back : is_up (home_of code) s ≡ false → moved (is_back code) (all_with (Waiting (home_of code))) s.rows ≡ s.rows
+  pub none_back : is_up (home_of code) s ≡ false → comes_home code s.rows ≡ s.rows
   none_back down = moved_nothing (is_back code) (all_with (Waiting (home_of code))) s.rows
       (none_standing (λ row. IsBackOf s.routing row row.fate) (is_back code)
-      (λ x e b. grind (arith, nat_tests, coded_at, t.homes_up)) s.rows t.backs)
+      (λ x e b. grind (arith, nat_tests, home_up)) s.rows t.backs)
 
   -- and none comes to a link that isn't up
-  pub releases : IsSound (released code s)
-  releases =
-      let sound = back_sound code s.routing t.routing in
-      moved_sound s s.links (given_back code s.routing) (is_back code) (all_with (Waiting (home_of code))) t refl sound
-      refl (fated_none stands_back (all_with (Waiting (home_of code))) (λ x. refl) (standing (is_back code) s.rows))
-      (λ k few. let there = t.placed k few in let a =
-      (alone s.routing k t.routing few).back_place code
-      in record {
-        placed = rw a (grind (arith, nat_tests, there, coded_at, t.homes_up));
+  goes_home : (routing : Routing) → IsRouting routing → routing.links ≡ s.routing.links
+      → ((k : ℕ) → k < 16 → place_of k routing ≡ place_back code (place_of k s.routing))
+      → ((c : ℕ) → IsSoundCode s.links (given s) c (code_of c routing))
+      → IsSound (record s { rows = comes_home code s.rows; routing = routing })
+  goes_home routing sound same places codes =
+      moved_sound s s.links routing (is_back code) (all_with (Waiting (home_of code))) t refl sound
+      same (fated_none stands_back (all_with (Waiting (home_of code))) (λ x. refl) (standing (is_back code) s.rows))
+      (λ k few. let there = t.placed k few in let a = places k few in record {
+        placed = rw a (grind (arith, nat_tests, there, home_up));
         runs = λ n link at up. let runs = t.all_run n link at up k few in rw a (grind (arith, runs));
         stays = λ c via of f. grind (arith, a);
       })
-      (λ c e. grind (arith, nat_tests, (codes_alone s.routing c t.routing (grind arith)).back_code code, t.homes_up c))
+      codes
       (λ k other there up. moved_same (is_back code) is_parked (all_with (Waiting (home_of code))) s.rows (λ x. refl)
       (λ f e. back_not_parked f (code_back code f e)) ∙ t.none_aside k other there up)
       (λ k other there. link_moved s.settings k other (is_back code) (all_with (Waiting (home_of code))) s.routing
       s.rows t.backs (λ f e. back_not_on k f (code_back code f e)) (λ x. refl) (λ u x. refl)
-      (λ d x e b. grind (arith, nat_tests, coded_at, t.homes_up))
-      (λ d x e b. grind (arith, nat_tests, coded_at, t.homes_up)) (t.links k other there))
+      (λ d x e b. grind (arith, nat_tests, home_up))
+      (λ d x e b. grind (arith, nat_tests, home_up)) (t.links k other there))
+
+  pub releases : IsSound (released code s)
+  releases = goes_home (given_back code s.routing) (back_sound code s.routing t.routing) refl
+      (λ k few. (alone s.routing k t.routing few).back_place code)
+      (λ c. rw (freed_at s.routing.codes c code) (cond_both (c == code) Free (code_of c s.routing) (λ (was : Code). IsSoundCode s.links (given s) c was)
+      (λ e. code_closed _ _ c Free refl (omega arith)) (λ e. t.codes c)))
+
+  -- one acknowledgement less is owed
+  pub acknowledges_back : IsSound (acknowledged_code code s)
+  acknowledges_back = goes_home (answered code s.routing) (answered_sound code s.routing t.routing) refl
+      (λ k few. (alone s.routing k t.routing few).answered_place code)
+      (λ c. rw (answered_at s.routing.codes c code) (cond_both (c == code) (code_answered (code_of c s.routing)) (code_of c s.routing) (λ (was : Code). IsSoundCode s.links (given s) c was)
+      (λ e. let few = (t.codes c).few in owed_code c (owed_under (code_of c s.routing) - 1) (omega (arith, few))) (λ e. t.codes c)))
+    where
+      owed_code : (c n : ℕ) → n ≤ given s → IsSoundCode s.links (given s) c (still_owed n)
+      owed_code c zero few = code_closed _ _ c Free refl (omega arith)
+      owed_code c (suc n) few = code_closed _ _ c (Spent (suc n)) refl few

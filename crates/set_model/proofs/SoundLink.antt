@@ -7,16 +7,17 @@
 use Rattle.std.proofs.Common.{arith, ◌||◌, ◌≡◌, ◌≢◌, ◌<◌, ◌≤◌, ℕ, ◌+◌, ◌%◌, Bool, length, drop, refl, ◌∙◌, ap, sym, subst, ◌==◌, true, false, List, [], ◌++◌, map, slice_get, slice_set, Some, cond, ◌∷◌, None, Option}
 use Rattle.std.proofs.lemmas.List.{length-drop, append-nil, length-map, length-append, length-set, length-take}
 use Rattle.std.proofs.lemmas.Bool.Decides.{nat_tests}
+use Rattle.std.proofs.lemmas.Option.{none-some}
 use Rattle.l2_window.specs.Window.{WindowState, fsn_count, most_unacked}
 use Rattle.l2_units.specs.Profile.{longest_body}
 use Rattle.set_model.specs.Control.{Header, Choice, Control, acked_by, choice_of, control_heard, first, expected_of, part_of, Basic, Cyclic}
-use Rattle.set_model.specs.Sound.{IsInRange, IsOf, IsPlaced, IsSound, IsSoundLink, AreBack, IsBackOf}
+use Rattle.set_model.specs.Sound.{IsInRange, IsOf, IsPlaced, IsSound, IsSoundCode, IsSoundLink, AreBack, IsBackOf}
 use Rattle.std.proofs.lemmas.List.Elements.{filter-append}
 use Rattle.l2_units.specs.Grammar.{head_of as header_in}
-use Rattle.set_route.specs.Routing.{IsRouting, Routing, accepted, code_of, home_of, place_of}
+use Rattle.set_route.specs.Routing.{IsRouting, Routing, accepted, code_of, home_of, owed_under, place_of, via_of}
 use Rattle.set_model.specs.Changeover.{acknowledged_by, answered_link, Order, fate_on, queued, taken_back, withdrawn}
 use Rattle.set_model.specs.Rows.{IsNumbered, AreFit, DiscardCause, Fate, Discarded, Row, changed, fated, held, is_held, is_on, is_parked, is_unacked, is_waiting, moved, octets_in, on, orders_changed, standing, stands_back, unack, wait, Back, back, appended, put_ahead, parked, same_fate, service_indicator, stream_of, IsInOrder, IsHeldLast}
-use Rattle.set_model.specs.State.{Asked, all_finished, given, is_up, Place, Changing, Nowhere, On, Down, Up, Settled, LinkState, State, Settings, with_link, has_phase_settled, has_phase_up, link_is_up, window_of, fate_at, target}
+use Rattle.set_model.specs.State.{Code, all_finished, given, Place, Changing, Nowhere, On, Down, Up, Settled, LinkState, State, Settings, with_link, has_phase_settled, has_phase_up, link_is_up, window_of, fate_at, target}
 use Rattle.set_model.specs.Step.{Event, Offer, SignalUnit, choice_in, controlled, is_msu, one_if, part_in, next, rows_sent, offer_refusal, offered}
 use Rattle.set_model.proofs.Order.{backs_of, stood, before_append, before_none, neither, gone_none, coded_at, ascends_appended}
 use Rattle.set_model.proofs.Events.{TakenBack, orders_given_up_unack, Untouched, sent, acknowledged, ChangesOn, sent_by, untouched, appended_out, withdrawn_unack}
@@ -98,6 +99,25 @@ pub up_after : (links : List LinkState) (n : ℕ) (link link' : LinkState) → s
     → link_is_up (slice_get links k) ≡ true → link_is_up (slice_get (slice_set links n link') k) ≡ true
 up_after links n link link' there stays k up = grind (arith, nat_tests, get_set_same, within, get_set_other)
 
+-- A CODE stands where its links do, and a message more or less was given out
+pub code_kept : (links new : List LinkState) (given more code : ℕ) (was : Code)
+    → (link_is_up (slice_get links (home_of code)) ≡ true → link_is_up (slice_get new (home_of code)) ≡ true)
+    → ((via : ℕ) → IsPlaced links (On via) → IsPlaced new (On via)) → given ≤ more
+    → IsSoundCode links given code was → IsSoundCode new more code was
+code_kept links new given more code was up placed grows c = record {
+  home_up = λ via e. up (c.home_up via e);
+  via_stands = λ via e. placed via (c.via_stands via e);
+  few = omega (arith, c.few, grows);
+}
+
+-- one that isn't open says nothing of links
+pub code_closed : (links : List LinkState) (given code : ℕ) (was : Code) → via_of was ≡ None → owed_under was ≤ given → IsSoundCode links given code was
+code_closed links given code was closed few = record {
+  home_up = λ via e. absurd (none-some via (sym closed ∙ e));
+  via_stands = λ via e. absurd (none-some via (sym closed ∙ e));
+  few = few;
+}
+
 -- A CHANGE OF ONE LINK, with rows that change in their places, none of them parked, nor back.
 changes : (n : ℕ) (link link' : LinkState) (s : State) (new : List Row) → IsSound s → slice_get s.links n ≡ Some link
     → link'.phase ≡ link.phase → has_phase_settled link.phase ≡ false → ChangesOn n s.rows new
@@ -118,7 +138,10 @@ changes n link link' s new t there same unsettled g profile few counted method r
     (each_filter (λ row. IsBackOf s.routing row row.fate) (λ row. IsBackOf s.routing row row.fate)
     (λ row. stands_back row.fate) (λ x e b. b) s.rows t.backs)) in
     let numbered = numbered_on (all_finished s.finished) s.rows new g.kept.count (g.kept.numbered (given s) t.numbered) in
-    search (length-set, numbered, g.kept.fit s.settings.profile, placed_set, t.placed, t.homes_up, backs, g.back_same)
+    let more : given s ≤ all_finished s.finished + length new = omega (arith, g.kept.count) in
+    let codes = λ (code : ℕ). code_kept s.links (slice_set s.links n link') (given s) (all_finished s.finished + length new) code (code_of code s.routing)
+    (stays (home_of code)) (λ via. placed_set s.links n link link' (On via) there settled) more (t.codes code) in
+    search (length-set, numbered, g.kept.fit s.settings.profile, placed_set, t.placed, codes, backs, g.back_same)
 
 -- the inbox is no part of it
 pub with_inbox : (s : State) (inbox : List (List ℕ)) → IsSound s → IsSound (record s { inbox = inbox })
@@ -241,7 +264,7 @@ takes_back order from s g t =
       placed = t.placed;
       none_aside = λ n link there up. g.none_parked (t.none_aside n link there up);
       all_run = t.all_run;
-      homes_up = t.homes_up;
+      codes = λ code. code_kept s.links s.links (given s) (all_finished s.finished + length new) code (code_of code s.routing) (λ e. e) (λ via p. p) (omega (arith, g.kept.count)) (t.codes code);
       backs = backs_of s.routing new
           (subst (AreBack s.routing) (sym g.back_same)
           (each_filter (λ row. IsBackOf s.routing row row.fate) (λ row. IsBackOf s.routing row row.fate)
@@ -301,7 +324,8 @@ answers n link s at t =
       placed = λ stream low. placed_same s.links n link new (place_of stream s.routing) at.there refl (t.placed stream low);
       none_aside = up_before s.links n link new at.there (λ e. e) t.none_aside;
       all_run = up_before s.links n link new at.there (λ e. e) t.all_run;
-      homes_up = λ code asked. up_after s.links n link new at.there (λ e. e) (home_of code) (t.homes_up code asked);
+      codes = λ code. code_kept s.links (slice_set s.links n new) (given s) (given s) code (code_of code s.routing)
+          (up_after s.links n link new at.there (λ e. e) (home_of code)) (λ via. placed_same s.links n link new (On via) at.there refl) (omega arith) (t.codes code);
       backs = t.backs;
       back_order = t.back_order;
     }
@@ -361,9 +385,9 @@ module _ (s : State) (routing : Routing) (t : IsSound s) (sound : IsRouting rout
       × (has_phase_settled link.phase ≡ true → is_on k fate ≡ false))
       → IsBackOf s.routing (new_row (length s.rows) body fate) fate
       → ((k : ℕ) → k < 16 → Follows s.links (λ f. false) (place_of k s.routing) (place_of k routing))
-      → ((code : ℕ) → code_of code routing ≡ Asked → is_up (home_of code) s ≡ true)
+      → ((code : ℕ) → IsSoundCode s.links (given s + 1) code (code_of code routing))
       → IsSound (record s { rows = appended (given s) s.rows body fate; routing = routing })
-  appended_sound body fate fits opened is_back follows homes =
+  appended_sound body fate fits opened is_back follows codes =
       let links = λ (k : ℕ) (other : LinkState) (there : slice_get s.links k ≡ Some other). link_more s.settings k other
       s.rows (new_row (given s) body fate ∷ []) (let o = opened k other there in grind arith)
       (λ u. let o = opened k other there in grind arith) (λ d. let o = opened k other there in grind arith)
@@ -382,7 +406,8 @@ module _ (s : State) (routing : Routing) (t : IsSound s) (sound : IsRouting rout
       let numbered : IsNumbered (given (record s { rows = appended (given s) s.rows body fate; routing = routing }))
       (appended (given s) s.rows body fate) = rw more (numbered_appended (given s) s.rows body fate t.numbered) in
       let back_order = ascends_appended (given s) (λ row. stands_back row.fate) s.rows body fate t.numbered t.back_order in
-      search (numbered, back_order)
+      let coded = λ (code : ℕ). subst (λ (n : ℕ). IsSoundCode s.links n code (code_of code routing)) (sym more) (codes code) in
+      search (numbered, back_order, coded)
 
 -- AN ORDER goes to the target, and is of no stream.
 pub on_same : (to : Option ℕ) (f : Fate) → same_fate f (fate_on to) ≡ true → f ≡ fate_on to
@@ -412,7 +437,7 @@ queues order s t =
       placed = t.placed;
       none_aside = aside;
       all_run = t.all_run;
-      homes_up = t.homes_up;
+      codes = λ code. code_kept s.links s.links (given s) (given (queued order s)) code (code_of code s.routing) (λ e. e) (λ via p. p) (omega (arith, more)) (t.codes code);
       backs = each_put _ (given s) s.rows body fate t.backs (grind arith);
       back_order = rw back_same t.back_order;
     }
@@ -433,4 +458,5 @@ offers s event body e free t =
       placed = t.placed k few;
       runs = λ n link there up. t.all_run n link there up k few;
       stays = λ code via e is. (via, is);
-    })) t.homes_up
+    }))
+    (λ code. code_kept s.links s.links (given s) (given s + 1) code (code_of code s.routing) (λ e. e) (λ via p. p) (omega arith) (t.codes code))

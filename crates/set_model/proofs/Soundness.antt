@@ -6,15 +6,15 @@
 -- Kept.antt and by set_core's Keeping.antt.
 use Rattle.std.proofs.Common.{refl, arith, ◌≡◌, ◌∙◌, sym, subst, ℕ, ◌<◌, ◌%◌, List, [], ◌∷◌, map, slice_get, Some, replicate, slice_index_or, ap, Bool, true, false, not, ◌&&◌, length, cond, ◌==◌, ◌||◌, None}
 use Rattle.std.proofs.lemmas.List.{get_or-replicate, length-replicate, append-nil, map-append, length-map}
-use Rattle.std.proofs.lemmas.Option.{slice_get_cases}
+use Rattle.std.proofs.lemmas.Option.{none-some, slice_get_cases}
 use Rattle.std.proofs.lemmas.Bool.Decides.{nat_tests}
-use Rattle.set_route.specs.Routing.{new_stream, stream_numbers, settled, runs_on, NoneOpen, has_messages, place_of, place_raised, place_settled, raised, home_of}
+use Rattle.set_route.specs.Routing.{new_stream, stream_numbers, settled, runs_on, NoneOpen, has_messages, place_of, place_raised, place_settled, raised, home_of, code_of, via_of}
 use Rattle.set_route.specs.declared.stream.Stream.{Stream}
 use Rattle.set_model.specs.Step.{Event, Gains, choice_in, next, step, stepped, offered, rows_sent}
 use Rattle.set_model.specs.Laws.{IsNew, KeepsMessages, RunsStraight}
 use Rattle.set_model.specs.Rows.{numbers, stream_of, Fate, Unacked, Waiting, IsNumbered, Row, all_with, appended, put_ahead, fated, is_back, is_back_to, is_on, is_parked, is_waiting, moved, picked_changed, standing, stands_back, turned, with_fate}
 use Rattle.set_model.specs.Sound.{IsManaged, IsPlaced, IsSettings, IsSound, AreAbove, AreTogether, BeginsNone, IsAscending, IsBackOf, IsSoundStream, astray, is_astray, is_live, is_unfinished, live, stands_at}
-use Rattle.set_model.specs.State.{Asked, Free, Nowhere, Up, LinkState, Settings, State, given, new_link, opened_with, Place, Changing, On, fate_at, target}
+use Rattle.set_model.specs.State.{Code, Nowhere, Up, LinkState, Settings, State, given, new_link, opened_with, Place, Changing, On, fate_at, target}
 use Rattle.set_route.proofs.Places.{new_sound}
 use Rattle.set_route.proofs.Codes.{all_free}
 use Rattle.set_model.proofs.Walk.{IsAt, KeptBy, step_is, step_walks}
@@ -22,14 +22,14 @@ use Rattle.set_model.proofs.Framing.{leaves_alone}
 use Rattle.set_model.proofs.Settling.{settled_empty, diverts_the_rest}
 use Rattle.set_model.proofs.Staying.{keeps_messages, step_gains}
 use Rattle.set_model.specs.Frame.{Concerns, LeavesAlone}
-use Rattle.set_model.proofs.SoundBack.{leaves, declares, releases, rises_sound, moves_off_sound}
-use Rattle.set_model.proofs.SoundLink.{with_inbox, acknowledges, gives_up, gives_up_orders, takes_back, answers, withdraws, sends_sound, hears_sound, queues, offers}
+use Rattle.set_model.proofs.SoundBack.{leaves, declares, redeclares, acknowledges_back, releases, rises_sound, moves_off_sound}
+use Rattle.set_model.proofs.SoundLink.{code_closed, with_inbox, acknowledges, gives_up, gives_up_orders, takes_back, answers, withdraws, sends_sound, hears_sound, queues, offers}
 use Rattle.std.proofs.lemmas.List.Elements.{filter-append}
 use Rattle.std.proofs.lemmas.Bool.{cond_both}
-use Rattle.set_model.specs.Changeover.{Order, fate_on, left_by, queued, released}
+use Rattle.set_model.specs.Changeover.{Order, acknowledged_code, fate_on, left_by, overdue_via, queued, redeclared_on, released}
 use Rattle.set_model.specs.Control.{Choice}
 use Rattle.set_route.proofs.Alone.{alone}
-use Rattle.set_route.proofs.Quiet.{left_quiet, back_quiet, never_changing}
+use Rattle.set_route.proofs.Quiet.{left_quiet, back_quiet, answered_quiet, settled_quiet, never_changing}
 use Rattle.set_model.proofs.Rows.{filter_within, none_within, new_row, where_turned, where_picked, moved_nothing, no_rows}
 use Rattle.set_model.proofs.Order.{ascends_appended, none_standing}
 use Rattle.set_model.proofs.Ahead.{put_out}
@@ -48,6 +48,8 @@ pub ruleset sounds = (
   answers,
   withdraws,
   declares,
+  redeclares,
+  acknowledges_back,
   releases,
   offers,
   sends_sound,
@@ -86,7 +88,7 @@ module _ (settings : Settings) (is : IsSettings settings) where
     placed = λ stream low. subst (IsPlaced _) (sym (new_place settings.links stream_numbers stream)) tt;
     none_aside = λ n link there rising. refl;
     all_run = λ n link there rising. grind (arith, new_there);
-    homes_up = λ code e. let no : Free ≡ Asked = sym (all_free 256 code) ∙ e in absurd cc;
+    codes = λ code. code_closed _ _ code _ (ap via_of (all_free 256 code)) (rw (all_free 256 code) (omega arith));
     backs = tt;
     back_order = tt;
   }
@@ -260,6 +262,13 @@ step_straight s event begins t r =
     let releases_straight = λ (code : ℕ) (s : State) (t : IsSound s) (r : RunsStraight s). none_turns (is_back code)
     (all_with (Waiting (home_of code))) s (released code s) (code_back code) refl
     (back_quiet code s.routing t.routing r.none_open) t r in
+    let acknowledges_straight = λ (code : ℕ) (s : State) (t : IsSound s) (r : RunsStraight s). none_turns (is_back code)
+    (all_with (Waiting (home_of code))) s (acknowledged_code code s) (code_back code) refl
+    (answered_quiet code s.routing t.routing r.none_open) t r in
+    -- no declaration is made once more
+    let redeclares_none : (code via : ℕ) (u : State) → overdue_via (code_of code u.routing) u.rows ≡ Some via
+    → StaysStraight u (redeclared_on code (Some via) u) =
+    λ code via u e sound none together. absurd (none-some via (ap (λ (c : Code). overdue_via c u.rows) (sym (none code)) ∙ e)) in
     -- an order is of no stream
     let queues_straight : (order : Order) (s : State) → IsSound s → AreTogether s
     → AreTogether (queued order s) =
@@ -289,12 +298,14 @@ step_straight s event begins t r =
       sounds,
       leaves_straight,
       releases_straight,
+      acknowledges_straight,
+      settled_quiet,
+      redeclares_none,
       queues_straight,
       stream_finishes,
       picked_finish,
       moves_off_straight,
       offers_straight,
-      sends_straight,
       rises_straight,
       then_straight,
       rests,

@@ -4,10 +4,11 @@
 -- changes (Walk.antt): `step_grows` of messages, whose rows turn, move, or are joined by an order, and `step_counts` of
 -- the links' numbers; only `few_turned` is an induction, on the rows. Used by Soundness.antt, SoundBack.antt and
 -- Framing.antt, by set_core's Keeping.antt and by pair_model's Pairs.antt.
-use Rattle.std.proofs.Common.{arith, ℕ, Bool, List, Option, ◌≡◌, ◌∙◌, ap, sym, ◌≤◌, ◌==◌, true, false, refl, zero-le, zero, suc, ◌+◌, [], ◌∷◌, length, slice_get, slice_set, Some}
+use Rattle.std.proofs.Common.{arith, ℕ, Bool, List, Option, ◌≡◌, ◌∙◌, ap, sym, ◌≤◌, ◌==◌, true, false, refl, zero-le, zero, suc, ◌+◌, [], ◌∷◌, length, slice_get, slice_set, None, Some}
 use Rattle.std.proofs.lemmas.List.{drop_at, length_push, length-append, append-nil, length-map, length-drop}
 use Rattle.std.proofs.lemmas.List.Filters.{length-filter_both}
 use Rattle.std.proofs.lemmas.List.Folds.{find-append}
+use Rattle.std.proofs.lemmas.Bool.{cond_both}
 use Rattle.std.proofs.lemmas.Bool.Decides.{nat_tests}
 use Rattle.set_model.specs.Laws.{MessagesStay, MovesTheLinksRows, KeepsMessages}
 use Rattle.set_model.specs.Rows.{Fate, IsNumbered, Row, appended, put_ahead, counts_of, service_indicator, total_of, was_acked, Acked, Unacked, is_on, is_unacked, is_waiting, moved, standing, turned, unack}
@@ -15,9 +16,9 @@ use Rattle.set_model.proofs.Rows.{turned_there, picked_there, moved_length, move
 use Rattle.set_model.proofs.Events.{ChangesOn, TakenBack, numbers_fated, Kept, moved_kept, acknowledged, appended_out}
 use Rattle.std.proofs.lemmas.List.Elements.{filter-append}
 use Rattle.l3_orders.specs.Grammar.{text}
-use Rattle.set_model.specs.Changeover.{Order, fate_on}
-use Rattle.set_route.specs.Routing.{Routing}
-use Rattle.set_model.specs.Step.{Event, Offer, step, Answer, Gains, messages_in, octets_of, one_if, rows_sent}
+use Rattle.set_model.specs.Changeover.{Order, fate_on, redeclared_from, some_overdue}
+use Rattle.set_route.specs.Routing.{Routing, code_for}
+use Rattle.set_model.specs.Step.{Event, Offer, Redeclare, Nothing, Done, Outcome, with_known, redeclares, refused, step, Answer, Gains, messages_in, octets_of, one_if, rows_sent}
 use Rattle.set_model.specs.Control.{Choice, Header, part_of}
 use Rattle.set_model.specs.Sound.{IsManaged, AreAtMost, WholeNumbers, one_more}
 use Rattle.set_model.specs.State.{Place, Settings, State, given, fate_at, Phase, LinkState, window_of}
@@ -115,6 +116,12 @@ AcceptsNone event answer = (messages_in answer ≡ 0) × (octets_of event answer
 
 pub accepts_none : (s : State) (event : Event) → is_offer event ≡ false → AcceptsNone event (step s event).answer
 unfolding step
+accepts_none s (Redeclare n) e = go (slice_get s.links n)
+  where
+    go : (o : Option LinkState) → AcceptsNone (Redeclare n) (with_known o s (λ link. redeclares n s)).answer
+    go None = (refl, refl)
+    go (Some link) = cond_both (some_overdue (code_for n 0) 16 s) (record { answer = Done; state = redeclared_from (code_for n 0) 16 s }) (refused s Nothing)
+        (λ (o : Outcome). AcceptsNone (Redeclare n) o.answer) (λ is. (refl, refl)) (λ is. (refl, refl))
 accepts_none s event e = grind arith
 
 pub step_gains : (s : State) (event : Event) → IsManaged s.settings → Gains s event (step s event).answer (step s event).state

@@ -8,9 +8,9 @@ use Rattle.std.proofs.Common.{refl, arith, ap, ◌≡◌, ◌∙◌, ◌<◌, �
 use Rattle.std.proofs.lemmas.Bool.{cond_both}
 use Rattle.std.proofs.lemmas.Bool.Decides.{nat_tests}
 use Rattle.l3_orders.specs.Grammar.{link_of, order_of}
-use Rattle.set_route.specs.Routing.{code_for, home_of}
-use Rattle.set_model.specs.Step.{SignalUnit, Event, BackTimeout, DownEvent, DownBlind, Heard, Next, NoAnswer, Timed, timed, times_out, Offer, Take, UpEvent, step, Outcome, brought, controlled, controls, falls, in_service, next, offer_refusal, offered, part_in, rises, taken, takes, stepped, is_heard}
-use Rattle.set_model.specs.Changeover.{Order, Cba, Cbd, Coa, Reached, Unanswered, Unasked, order_at, taken_back, Unknown, Upto, acknowledged_by, answered, answered_link, can_declare, changed_over, cleared, declared, declared_from, is_overtaken, leading, leaving_order, left_by, left_link, moved_over, obeyed, order_obeyed, queued, reached_by, released, released_from, reply_of, settled, withdrawn}
+use Rattle.set_route.specs.Routing.{code_for, code_of, home_of}
+use Rattle.set_model.specs.Step.{SignalUnit, Event, BackTimeout, Redeclare, DownEvent, DownBlind, Heard, Next, NoAnswer, Timed, timed, times_out, Offer, Take, UpEvent, step, Outcome, brought, controlled, controls, falls, in_service, next, offer_refusal, offered, part_in, rises, taken, takes, stepped, is_heard, with_known, redeclares, refused, Done, Nothing}
+use Rattle.set_model.specs.Changeover.{Order, Cba, Cbd, Coa, Reached, Unanswered, Unasked, order_at, taken_back, Unknown, Upto, acknowledged_by, answered, answered_link, can_declare, changed_over, cleared, acknowledged as acknowledged_link, acknowledged_code, declared, declared_from, discarded, is_reasonable, overdue_via, redeclared_from, redeclared_if, redeclared_on, is_overtaken, leading, leaving_order, left_by, left_link, moved_over, obeyed, order_obeyed, queued, reached_by, released, released_from, reply_of, settled, some_overdue, withdrawn}
 use Rattle.set_model.specs.Frame.{BringsAbout, BringsBackTo, Concerns}
 use Rattle.set_model.specs.Rows.{DiscardCause, Emergency, NoAnswer as NoAnswerCame, Unreasonable, Discarded, changed, orders_changed, is_unacked, is_waiting, unack, wait, waits, is_parked, Fate, Waiting, Parked, place}
 use Rattle.set_model.specs.Sound.{BeginsNone}
@@ -50,6 +50,8 @@ pub record KeptBy (Known : ℕ → Type 0) (May : Type 0) (R : State → State �
   pub withdraws : (count n : ℕ) (link : LinkState) (s : State) → Known n → IsAt n link Up s
       → ChangesOn n s.rows (withdrawn count n s).rows → R s (withdrawn count n s)
   pub declares : May → (home alternative : ℕ) (s : State) → is_up home s ≡ true → can_declare home alternative s ≡ true → R s (declared home alternative s)
+  pub redeclares : (code via : ℕ) (s : State) → overdue_via (code_of code s.routing) s.rows ≡ Some via → R s (redeclared_on code (Some via) s)
+  pub acknowledges_back : (code : ℕ) (s : State) → Known (home_of code) → R s (acknowledged_code code s)
   pub releases : (code : ℕ) (s : State) → Known (home_of code) → R s (released code s)
 
 -- the link of an order, or the home of the code that it acknowledges
@@ -88,11 +90,17 @@ module _ (Known : ℕ → Type 0) (May : Type 0) (R : State → State → Type 0
   settle_walks Unasked n link s known at =
       off false n link s _ known (k.gives_up true NoAnswerCame n link s known at (given_up n true NoAnswerCame s.rows))
       (record { there = at.there; phase_is = at.phase_is })
-  settle_walks (Upto fsn) n link s known at =
-      let refused = off true n link s _ known (both_given_up Unreasonable n link s known at) (record { there = at.there; phase_is = at.phase_is }) in
-      let count = reached_by fsn n link s.rows in
-      let arrived = λ (few : count ≤ length (unack n s.rows)). k.acknowledges count n link s known at few (acknowledged n count s.rows).in_place in
-      grind (arith, get_set_same, within, refused, arrived)
+  settle_walks (Upto fsn) n link s known at = go (is_reasonable fsn n link s.rows) refl
+    where
+      count : ℕ
+      count = reached_by fsn n link s.rows
+
+      go : (b : Bool) → is_reasonable fsn n link s.rows ≡ b
+          → R s (moved_over true n (cond b (acknowledged_link count link) link) (cond b (acknowledged_by count n link s) (discarded Unreasonable n s)))
+      go true e = off true n (acknowledged_link count link) s (acknowledged_by count n link s) known
+          (k.acknowledges count n link s known at (grind (arith, nat_tests, e)) (acknowledged n count s.rows).in_place)
+          (record { there = get_set_same s.links n (acknowledged_link count link) (within s.links n link at.there); phase_is = at.phase_is })
+      go false e = off true n link s _ known (both_given_up Unreasonable n link s known at) (record { there = at.there; phase_is = at.phase_is })
 
   -- orders
   over_walks : (reached : Reached) (n : ℕ) (link : LinkState) (phase : Phase) (s : State) → Known n
@@ -124,6 +132,17 @@ module _ (Known : ℕ → Type 0) (May : Type 0) (R : State → State → Type 0
       (λ e. k.after s (declared home alternative s) _ (k.declares may home alternative s up e)
       (declare_walks may home (suc alternative) n (declared home alternative s) up))
       (λ e. declare_walks may home (suc alternative) n s up)
+
+  redeclare_walks : (code : ℕ) (o : Option ℕ) (s : State) → overdue_via (code_of code s.routing) s.rows ≡ o
+      → R s (redeclared_on code o s)
+  redeclare_walks code None s e = k.same s
+  redeclare_walks code (Some via) s e = k.redeclares code via s e
+
+  pub again_walks : (code n : ℕ) (s : State) → R s (redeclared_from code n s)
+  again_walks code zero s = k.same s
+  again_walks code (suc n) s =
+      k.after s (redeclared_if code s) _ (redeclare_walks code (overdue_via (code_of code s.routing) s.rows) s refl)
+      (again_walks (suc code) n (redeclared_if code s))
 
   pub release_walks : (code n : ℕ) (s : State) → ((c : ℕ) → code ≤ c → c < code + n → Known (home_of c)) → R s (released_from code n s)
   release_walks code zero s known = k.same s
@@ -213,6 +232,12 @@ module _ (s : State) (R : State → State → Type 0) (S : State → Type 0) whe
       let over = λ (at : IsAt n link Down s). timed_walks n link (place link.order s.rows) w at refl in
       let still = w.unmoved in grind arith
 
+  pub redeclared_at : (n : ℕ) (o : Option LinkState) → S s → S (redeclared_from (code_for n 0) 16 s) → S (with_known o s (λ link. redeclares n s)).state
+  redeclared_at n None unmoved done = unmoved
+  redeclared_at n (Some link) unmoved done =
+      cond_both (some_overdue (code_for n 0) 16 s) (record { answer = Done; state = redeclared_from (code_for n 0) 16 s }) (refused s Nothing)
+      (λ (o : Outcome). S o.state) (λ e. done) (λ e. unmoved)
+
   pub step_walks : (event : Event) → WalkedBy s event R S → S (step s event).state
   unfolding step
   step_walks Take w = take_walks w s.inbox refl
@@ -222,6 +247,9 @@ module _ (s : State) (R : State → State → Type 0) (S : State → Type 0) whe
       refl at) in
       grind (arith, settle)
   step_walks (Timed n) w = grind (arith, time_walks)
+  step_walks (Redeclare n) w =
+      redeclared_at n (slice_get s.links n) w.unmoved
+      (w.rests s _ w.unmoved (again_walks (λ m. Concerns (Redeclare n) m s) (BeginsNone (Redeclare n) → ⊥) R w.small (code_for n 0) 16 s))
   step_walks (BackTimeout n) w =
       let release = w.rests s _ w.unmoved
       (release_walks (λ m. Concerns (BackTimeout n) m s) (BeginsNone (BackTimeout n) → ⊥) R w.small (code_for n 0)
@@ -239,6 +267,19 @@ module _ (s : State) (R : State → State → Type 0) (S : State → Type 0) whe
 pub step_is : (s : State) (event : Event) → step s event ≡ stepped s event
 unfolding step
 step_is s event = refl
+
+-- What is declared once more changes no link.
+pub redeclared_links : (code n : ℕ) (s : State) → (redeclared_from code n s).links ≡ s.links
+redeclared_links code zero s = refl
+redeclared_links code (suc n) s = redeclared_links (suc code) n (redeclared_if code s) ∙ one (overdue_via (code_of code s.routing) s.rows)
+  where
+    one : (o : Option ℕ) → (redeclared_on code o s).links ≡ s.links
+    one None = refl
+    one (Some via) = refl
+
+pub redeclares_links : (n : ℕ) (s : State) → (step s (Redeclare n)).state.links ≡ s.links
+unfolding step
+redeclares_links n s = redeclared_at s (λ a b. a ≡ a) (λ t. t.links ≡ s.links) n (slice_get s.links n) refl (redeclared_links (code_for n 0) 16 s)
 
 pub link_count_stays : (s : State) (event : Event) → length (step s event).state.links ≡ length s.links
 link_count_stays s event = step_walks s (λ t u. length u.links ≡ length t.links) (λ t. length t.links ≡ length s.links) event (grind (arith, length-set))

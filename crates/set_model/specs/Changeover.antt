@@ -1,6 +1,6 @@
 -- CHANGEOVER AND CHANGEBACK (Q.704 5, 6). A link is left, orders tell the far end, and once it's known how far the far
 -- end got, the rest is moved to another link; and when it's back, its streams come back to it.
-use Rattle.std.specs.Prelude.{ℕ, zero, suc, Bool, true, false, not, ◌&&◌, ◌||◌, ◌+◌, ◌==◌, nat_le, ◌%◌, ◌^◌, List, [], ◌∷◌, length, slice_get, slice_set, Option, None, Some, if◌then◌else◌}
+use Rattle.std.specs.Prelude.{ℕ, zero, suc, Bool, true, false, not, ◌&&◌, ◌||◌, ◌+◌, ◌==◌, nat_le, ◌%◌, ◌^◌, List, [], ◌∷◌, length, slice_get, slice_set, Option, None, Some, is_some, if◌then◌else◌}
 use Rattle.l2_window.specs.Window.{distance_to, fsn_before_first}
 pub use Rattle.l3_orders.specs.declared.order.Order.{Order}
 pub use Rattle.l3_orders.specs.declared.order.Order.TheVariants.{Coo, Coa, Cbd, Cba, Eco, Eca}
@@ -8,11 +8,11 @@ use Rattle.l3_orders.specs.Grammar.{text, order_of}
 pub use Rattle.set_events.specs.Places.{fate_on}
 use Rattle.set_events.specs.declared.answer.Took.{Took}
 use Rattle.set_events.specs.declared.answer.Took.TheVariants.{Order as TookOrder, Ignored}
-use Rattle.set_model.specs.Rows.{Waiting, Acked, Discarded, DiscardCause, Emergency, Unreasonable, NoAnswer, Row, all_with, unack, wait, stream_of, is_unacked, is_waiting, is_on, is_back, is_back_to, turned, changed, orders_changed, one_changed, same_fate, place, Fate, moved, appended, put_ahead}
-use Rattle.set_route.specs.Routing.{place_of, code_for, home_of, code_of, is_free, can_ask, asked, given_back, left, settled as streams_settled}
+use Rattle.set_model.specs.Rows.{Waiting, Acked, Discarded, DiscardCause, Emergency, Unreasonable, NoAnswer, Row, all_with, unack, wait, stream_of, was_acked, was_discarded, is_unacked, is_waiting, is_on, is_back, is_back_to, turned, changed, orders_changed, one_changed, same_fate, place, Fate, moved, appended, put_ahead}
+use Rattle.set_route.specs.Routing.{place_of, code_for, home_of, code_of, is_free, can_ask, asked, asked_again, answered as answered_code, given_back, left, settled as streams_settled}
 pub use Rattle.set_model.specs.declared.reached.Reached.{Reached}
 pub use Rattle.set_model.specs.declared.reached.Reached.TheVariants.{Upto, Unknown, Unanswered, Unasked}
-use Rattle.set_model.specs.State.{Phase, Up, Down, Settled, Code, Free, LinkState, State, given, with_link, is_up, fate_at, target, window_of, last_accepted}
+use Rattle.set_model.specs.State.{Phase, Up, Down, Settled, Code, Free, Asked, Spent, On, LinkState, State, given, with_link, is_up, fate_at, target, window_of, last_accepted}
 
 -- QUEUE: an order stands as a row of its own for the target, ahead of the users' messages that wait for it (own), in the
 -- octets that this set writes
@@ -156,7 +156,7 @@ abbrev pub declared : ℕ → ℕ → State → State
 declared home alternative s = record s {
   rows = appended (given s) s.rows
       (text s.settings.profile (Cbd home (code_for home alternative)) s.settings.sio s.settings.dpc s.settings.opc) (Waiting alternative);
-  routing = asked home alternative s.routing;
+  routing = asked home alternative (given s) s.routing;
 }
 
 -- from another link that is up, if its code is free and streams of the home run there
@@ -176,13 +176,51 @@ abbrev pub some_declare : ℕ → ℕ → ℕ → State → Bool
 some_declare home alternative zero s = false
 some_declare home alternative (suc n) s = can_declare home alternative s || some_declare home (suc alternative) n s
 
+-- REDECLARE (Q.704 6.3). The declaration of an open code is overdue once it's on its way no more: it was acknowledged as a
+-- message, or discarded. It's made once more, behind all that stands on the link from which the streams come (own).
+abbrev pub is_standing : Option Fate → Bool
+is_standing None = false
+is_standing (Some fate) = not (was_acked fate || was_discarded fate)
+
+-- the link from which the streams of an overdue one come
+abbrev pub overdue_via : Code → List Row → Option ℕ
+overdue_via Free rows = None
+overdue_via (Asked via declaration owed) rows = if is_standing (place declaration rows) then None else Some via
+overdue_via (Spent owed) rows = None
+
+abbrev pub redeclared_on : ℕ → Option ℕ → State → State
+redeclared_on code None s = s
+redeclared_on code (Some via) s = record s {
+  rows = appended (given s) s.rows
+      (text s.settings.profile (Cbd (home_of code) code) s.settings.sio s.settings.dpc s.settings.opc) (fate_at (On via) s);
+  routing = asked_again code (given s) s.routing;
+}
+
+abbrev pub redeclared_if : ℕ → State → State
+redeclared_if code s = redeclared_on code (overdue_via (code_of code s.routing) s.rows) s
+
+-- so many codes, this one and those after it
+abbrev pub redeclared_from : ℕ → ℕ → State → State
+redeclared_from code zero s = s
+redeclared_from code (suc n) s = redeclared_from (suc code) n (redeclared_if code s)
+
+-- whether one of them is overdue
+abbrev pub some_overdue : ℕ → ℕ → State → Bool
+some_overdue code zero s = false
+some_overdue code (suc n) s = is_some (overdue_via (code_of code s.routing) s.rows) || some_overdue (suc code) n s
+
 -- what waits for the code's acknowledgement waits for its home now, and so its streams run there. (Of a code that is
 -- spent nothing stands back, and no stream is on its way.)
+abbrev pub comes_home : ℕ → List Row → List Row
+comes_home code rows = moved (is_back code) (all_with (Waiting (home_of code))) rows
+
+-- one acknowledgement came: more may be owed under the code
+abbrev pub acknowledged_code : ℕ → State → State
+acknowledged_code code s = record s { rows = comes_home code s.rows; routing = answered_code code s.routing }
+
+-- none came, and the code is free
 abbrev pub released : ℕ → State → State
-released code s = record s {
-  rows = moved (is_back code) (all_with (Waiting (home_of code))) s.rows;
-  routing = given_back code s.routing;
-}
+released code s = record s { rows = comes_home code s.rows; routing = given_back code s.routing }
 
 -- so many codes, this one and those after it
 abbrev pub released_from : ℕ → ℕ → State → State
@@ -244,10 +282,10 @@ at_link number s obeyed (Some link) = obeyed link
 abbrev pub obeyed_at : ℕ → (LinkState → Phase → State → Obeyed) → State → Obeyed
 obeyed_at number obeyed s = at_link number s (λ link. obeyed link link.phase s) (slice_get s.links number)
 
--- (Q.704 6.3) an acknowledgement of a code in no use is ignored
+-- (Q.704 6.3) an acknowledgement of a code in no use is ignored; of another, one less is owed
 abbrev pub acknowledged_back : ℕ → Code → State → Obeyed
 acknowledged_back code Free s = ignored s
-acknowledged_back code _ s = record { took = TookOrder; state = released code s }
+acknowledged_back code _ s = record { took = TookOrder; state = acknowledged_code code s }
 
 -- the link of the order need not be the one that it was heard on; a declaration is acknowledged, whatever its code
 -- (Q.704 6.3)

@@ -2,10 +2,10 @@
 use Rattle.std.specs.Prelude.{◌≡◌, ◌≢◌, ℕ, Bool, true, false, not, ◌==◌, ◌&&◌, ◌||◌, ◌+◌, ◌%◌, ◌≤◌, ◌<◌, List, [], ◌∷◌, length, filter, slice_get, Some}
 use Rattle.set_events.specs.declared.event.Event.{Event}
 use Rattle.set_events.specs.declared.event.Event.TheVariants.{Restore}
-use Rattle.set_route.specs.Routing.{Routing, IsRouting, home_of, code_of, place_of, has_messages, most_links}
+use Rattle.set_route.specs.Routing.{Routing, IsRouting, home_of, code_of, via_of, owed_under, place_of, has_messages, most_links}
 use Rattle.set_model.specs.Rows.{Fate, Back, Row, was_acked, was_discarded, is_on, is_back, is_parked, is_users, stream_of, unack, held, on, back, parked, numbers, Each, IsNumbered, AreFit, IsInOrder, IsHeldLast}
 use Rattle.set_model.specs.Control.{Method, BasicMethod, CyclicMethod, Control, Basic, Cyclic, expected_of}
-use Rattle.set_model.specs.State.{Place, On, Changing, Nowhere, Asked, LinkState, State, Settings, given, is_up, has_phase_up, has_phase_settled}
+use Rattle.set_model.specs.State.{Place, On, Changing, Nowhere, Code, LinkState, State, Settings, given, link_is_up, has_phase_up, has_phase_settled}
 use Rattle.l2_window.specs.Window.{fsn_count, most_unacked}
 
 -- A LINK.
@@ -96,6 +96,13 @@ IsBackOf routing row _ = Unit {0}
 abbrev pub AreBack : Routing → List Row → Type 0
 AreBack routing rows = Each (λ row. IsBackOf routing row row.fate) rows
 
+-- the home of an open code is up, and the link from which its streams come isn't settled; each acknowledgement that is owed
+-- is that of a message
+pub record IsSoundCode (links : List LinkState) (given code : ℕ) (was : Code) : Type 0 where
+  pub home_up : (via : ℕ) → via_of was ≡ Some via → link_is_up (slice_get links (home_of code)) ≡ true
+  pub via_stands : (via : ℕ) → via_of was ≡ Some via → IsPlaced links (On via)
+  pub few : owed_under was ≤ given
+
 -- THE SET.
 
 -- its orders are the management's (Q.704 14.2.1)
@@ -124,8 +131,8 @@ pub record IsSound (s : State) : Type 0 where
       → has_phase_up link.phase ≡ true → parked s.rows ≡ []
   pub all_run : (number : ℕ) (link : LinkState) → slice_get s.links number ≡ Some link
       → has_phase_up link.phase ≡ true → (stream : ℕ) → stream < 16 → place_of stream s.routing ≢ Nowhere
-  -- the home of an open code is up; and what stands back does so in the order of its numbers
-  pub homes_up : (code : ℕ) → code_of code s.routing ≡ Asked → is_up (home_of code) s ≡ true
+  pub codes : (code : ℕ) → IsSoundCode s.links (given s) code (code_of code s.routing)
+  -- what stands back does so in the order of its numbers
   pub backs : AreBack s.routing s.rows
   pub back_order : IsAscending (numbers (back s.rows))
 

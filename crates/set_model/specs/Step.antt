@@ -15,12 +15,12 @@ pub use Rattle.set_events.specs.declared.answer.Refusal.TheVariants.{TooShort, T
 pub use Rattle.set_events.specs.declared.answer.Answer.{Answer}
 pub use Rattle.set_events.specs.declared.answer.Answer.TheVariants.{Accepted, Taken, Found, Sent, Heard as HeardBack, Done, Refused}
 pub use Rattle.set_events.specs.declared.event.Event.{Event}
-pub use Rattle.set_events.specs.declared.event.Event.TheVariants.{Offer, Take, Find, Next, Heard, Up as UpEvent, Down as DownEvent, DownBlind, NoAnswer, Timed, Restore, BackTimeout}
+pub use Rattle.set_events.specs.declared.event.Event.TheVariants.{Offer, Take, Find, Next, Heard, Up as UpEvent, Down as DownEvent, DownBlind, NoAnswer, Timed, Restore, Redeclare, BackTimeout}
 use Rattle.set_route.specs.Routing.{place_of, code_for, accepted, raised}
 use Rattle.set_model.specs.Rows.{Fate, Waiting, Parked, Unacked, Acked, Row, all_with, unack, wait, is_unacked, is_waiting, is_parked, octets_in, unsent, stream_of, service_indicator, turned, moved, appended, place, counts_of, total_of}
 use Rattle.set_model.specs.State.{Phase, Up, Down, Settled, LinkState, State, given, with_link, link_count, late_at, has_phase_up, fate_at, window_of}
 use Rattle.set_model.specs.Control.{Header, Method, HeardPart, Choice, again, first, fill, start_of, choice_of, fsn_of, head_of, control_after, part_of, control_heard}
-use Rattle.set_model.specs.Changeover.{Unanswered, Unasked, taken_back, Obeyed, cleared, left_by, leaving_order, queued, settled, declared_from, some_declare, released_from, some_in_use, obeyed}
+use Rattle.set_model.specs.Changeover.{Unanswered, Unasked, taken_back, Obeyed, cleared, left_by, leaving_order, queued, settled, declared_from, some_declare, redeclared_from, some_overdue, released_from, some_in_use, obeyed}
 
 -- what is answered, and what the set holds then
 pub record Outcome : Type 0 where
@@ -226,6 +226,14 @@ comes_back number s =
     then record { answer = Done; state = declared_from number 0 (link_count s) s }
     else refused s Nothing
 
+-- NO ACKNOWLEDGEMENT of a changeback came in time (Q.704 6.3): each overdue declaration of this home is made once more, the
+-- lowest code first.
+abbrev pub redeclares : ℕ → State → Outcome
+redeclares number s =
+    if some_overdue (code_for number 0) 16 s
+    then record { answer = Done; state = redeclared_from (code_for number 0) 16 s }
+    else refused s Nothing
+
 -- NO ACKNOWLEDGEMENT of a changeback came (Q.704 6.3): messages go home as if each code of this home were acknowledged,
 -- the lowest first, and all of them are free (own).
 abbrev pub runs_out : ℕ → State → Outcome
@@ -247,6 +255,7 @@ stepped s (DownBlind link) = in_service link s (falls true link s)
 stepped s (NoAnswer link) = on_link link s (λ state. gives_up link s state state.phase)
 stepped s (Timed link) = on_link link s (λ state. times_out link s state state.phase)
 stepped s (Restore link) = in_service link s (λ state. comes_back link s)
+stepped s (Redeclare link) = on_link link s (λ state. redeclares link s)
 stepped s (BackTimeout link) = on_link link s (λ state. runs_out link s)
 
 -- THE STEP. Its name is sealed, since a goal that names an event would compute all that the event does.

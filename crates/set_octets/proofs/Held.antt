@@ -10,16 +10,16 @@ use Rattle.l2_units.specs.Grammar.{IsHeadOf}
 use Rattle.l2_window.specs.Window.{fsn_before_first}
 use Rattle.l3_orders.specs.Grammar.{IsOrder}
 use Rattle.l3_orders.proofs.Texts.{one_grammar}
-use Rattle.set_route.specs.Routing.{code_for, code_of}
+use Rattle.set_route.specs.Routing.{code_for, code_of, home_of}
 use Rattle.set_model.specs.declared.reached.Reached.{Reached}
 use Rattle.set_model.specs.declared.reached.Reached.TheVariants.{Upto, Unknown, Unanswered, Unasked}
 use Rattle.set_model.specs.declared.phase.Phase.{Phase}
 use Rattle.set_model.specs.declared.phase.Phase.TheVariants.{Up, Down, Settled}
-use Rattle.set_model.specs.Changeover.{Obeyed, acknowledged_back, acknowledged_by, answered, at_link, can_declare, changed_over, cleared, declared, declared_from, discarded, fate_on, is_reasonable, judged, leaving_order, left_by, left_link, obeyed, order_obeyed, queued, reached_by, released, released_from, reply_of, settled, taken_back, some_declare, some_in_use}
+use Rattle.set_model.specs.Changeover.{Obeyed, acknowledged_back, acknowledged_code, acknowledged_by, answered, at_link, can_declare, changed_over, cleared, declared, declared_from, discarded, fate_on, is_reasonable, judged, leaving_order, left_by, left_link, obeyed, order_obeyed, overdue_via, queued, reached_by, redeclared_from, redeclared_if, redeclared_on, released, released_from, reply_of, settled, taken_back, some_declare, some_in_use, some_overdue}
 use Rattle.set_model.specs.Control.{Choice, again, first, fill, fsn_of, head_of}
 use Rattle.set_model.specs.Rows.{AreFit, Parked, same_fate, Acked, Discarded, Emergency, NoAnswer, Unacked, Unreasonable, Waiting, is_back, is_back_to, is_on, is_parked, is_unacked, is_waiting, place, service_indicator}
-use Rattle.set_model.specs.State.{Asked, Code, Free, Spent, has_phase_up, link_count, target, window_of}
-use Rattle.set_model.specs.Step.{Done, Message, Nothing, NotUp, Outcome, SetRefusal, brought, choice_in, chosen, comes_back, controlled, controls, falls, found as found_at, gives_up, over_by_time, timed, times_out, heard, in_service, is_heard, next, offer_refusal, offered, on_link, part_in, refused, rises, rows_sent, runs_out, step, taken, takes, unit_of, with_known}
+use Rattle.set_model.specs.State.{Asked, Code, Free, Spent, On, fate_at, has_phase_up, link_count, target, window_of}
+use Rattle.set_model.specs.Step.{Done, Message, Nothing, NotUp, Outcome, SetRefusal, brought, choice_in, chosen, comes_back, controlled, controls, falls, found as found_at, gives_up, over_by_time, timed, times_out, heard, in_service, is_heard, next, offer_refusal, offered, on_link, part_in, redeclares, refused, rises, rows_sent, runs_out, step, taken, takes, unit_of, with_known}
 use Rattle.set_model.proofs.Ahead.{each_put}
 use Rattle.set_model.proofs.Lists.{each_set, within}
 use Rattle.l2_units.specs.declared.profile.Profile.{Profile}
@@ -197,10 +197,13 @@ at_holds n s f (Some link) h each = each link refl
 released_holds : (code : ℕ) (s : State) → HoldsOctets s → HoldsOctets (released code s)
 released_holds code s h = record { narrow = h.narrow; sio = h.sio; rows = rows_moved (is_back code) _ s.rows h.rows }
 
+acknowledged_holds : (code : ℕ) (s : State) → HoldsOctets s → HoldsOctets (acknowledged_code code s)
+acknowledged_holds code s h = record { narrow = h.narrow; sio = h.sio; rows = rows_moved (is_back code) _ s.rows h.rows }
+
 back_holds : (code : ℕ) (is : Code) (s : State) → HoldsOctets s → HoldsOctets (acknowledged_back code is s).state
 back_holds code Free s h = h
-back_holds code Asked s h = released_holds code s h
-back_holds code Spent s h = released_holds code s h
+back_holds code (Asked via declaration owed) s h = acknowledged_holds code s h
+back_holds code (Spent owed) s h = acknowledged_holds code s h
 
 order_holds : (order : Order) (s : State) → AreNarrow s.links → IsSmall order → HoldsOctets s → HoldsOctets (order_obeyed order s).state
 order_holds (Coo n fsn) s narrow small h =
@@ -343,6 +346,26 @@ runs_out_holds n s h =
     cond_both (some_in_use (code_for n 0) 16 s) (record { answer = Done; state = released_from (code_for n 0) 16 s }) (refused s Nothing)
     (λ (o : Outcome). HoldsOctets o.state) (λ e. releases_hold (code_for n 0) 16 s h) (λ e. h)
 
+again_holds : (code : ℕ) (due : Option ℕ) (s : State) → code < 256 → HoldsOctets s → HoldsOctets (redeclared_on code due s)
+again_holds code None s few h = h
+again_holds code (Some via) s few h = record {
+  narrow = h.narrow;
+  sio = h.sio;
+  rows = rows_appended (given s) s.rows _ (fate_at (On via) s) h.rows
+      (subst (λ (p : Profile). IsBody (text p (Cbd (home_of code) code) s.settings.sio s.settings.dpc s.settings.opc)) (sym h.narrow)
+      (text_is_body (Cbd (home_of code) code) s.settings.sio s.settings.dpc s.settings.opc (omega (arith, few)) h.sio));
+}
+
+redeclared_hold : (code n : ℕ) (s : State) → code + n ≤ 256 → HoldsOctets s → HoldsOctets (redeclared_from code n s)
+redeclared_hold code zero s few h = h
+redeclared_hold code (suc n) s few h =
+    redeclared_hold (suc code) n (redeclared_if code s) (omega (arith, few)) (again_holds code (overdue_via (code_of code s.routing) s.rows) s (omega (arith, few)) h)
+
+redeclares_hold : (n : ℕ) (s : State) → n < 16 → HoldsOctets s → HoldsOctets (redeclares n s).state
+redeclares_hold n s few h =
+    cond_both (some_overdue (code_for n 0) 16 s) (record { answer = Done; state = redeclared_from (code_for n 0) 16 s }) (refused s Nothing)
+    (λ (o : Outcome). HoldsOctets o.state) (λ e. redeclared_hold (code_for n 0) 16 s (omega (arith, few)) h) (λ e. h)
+
 by_time_holds : (from : Fate) (n : ℕ) (s : State) (link : LinkState) → HoldsOctets s → HoldsOctets (over_by_time from n s link).state
 by_time_holds from n s link h = settled_holds Unasked n link (taken_back link.order from s)
     (record { narrow = h.narrow; sio = h.sio; rows = rows_picked (λ row. row.number == link.order) (λ f. same_fate f from) (Discarded NoAnswer) s.rows h.rows })
@@ -377,6 +400,7 @@ module _ (s : State) (sound : IsSound s) (settings : IsSettings s.settings) (h :
   step_holds (Event.NoAnswer n) asked = on_holds n s (λ link. gives_up n s link link.phase) h (λ link there. gives_up_holds n s link link.phase h)
   step_holds (Event.Timed n) asked = on_holds n s (λ link. times_out n s link link.phase) h (λ link there. times_out_holds n s link link.phase h)
   step_holds (Event.Restore n) asked = in_holds n s (λ link. comes_back n s) h (λ link there. restores_hold n s (omega (arith, within s.links n link there, few)) few h)
+  step_holds (Event.Redeclare n) asked = on_holds n s (λ link. redeclares n s) h (λ link there. redeclares_hold n s (omega (arith, within s.links n link there, few)) h)
   step_holds (Event.BackTimeout n) asked = on_holds n s (λ link. runs_out n s) h (λ link there. runs_out_holds n s h)
 
 -- THE UNIT THAT IS GIVEN.
@@ -438,6 +462,12 @@ is_next _ = false
 others_silent : (s : State) (event : Event) → is_next event ≡ false → is_sent (step s event).answer ≡ false
 unfolding step
 others_silent s (Event.Next n) not = absurd cc
+others_silent s (Event.Redeclare n) not = go (slice_get s.links n)
+  where
+    go : (o : Option LinkState) → is_sent (with_known o s (λ link. redeclares n s)).answer ≡ false
+    go None = refl
+    go (Some link) = cond_both (some_overdue (code_for n 0) 16 s) (record { answer = Done; state = redeclared_from (code_for n 0) 16 s }) (refused s Nothing)
+        (λ (o : Outcome). is_sent o.answer ≡ false) (λ e. refl) (λ e. refl)
 others_silent s event not = grind arith
 
 cleared_fits : (n : ℕ) (s : State) → AreFit Narrow s.rows → AreFit Narrow (cleared n s).rows

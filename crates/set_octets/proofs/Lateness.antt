@@ -1,12 +1,12 @@
 -- LATE ORDERS ARE COUNTED ONCE: of all that a step does, only an order about a link that is settled changes its count,
 -- and a step hears one order at most. Case by case on the event, and on a heard unit's order. `where_set`, where one
 -- link changes, is an induction on the links, and so are `declared_links` and `released_links` on what is left.
-use Rattle.std.proofs.Common.{refl, subst, arith, ◌≡◌, ◌∙◌, ◌⊎◌, inl, inr, ℕ, zero, suc, Bool, true, false, List, [], ◌∷◌, Option, Some, None, slice_get, slice_set, if◌then◌else◌}
+use Rattle.std.proofs.Common.{refl, subst, arith, ap, ◌≡◌, ◌∙◌, ◌⊎◌, inl, inr, ℕ, zero, suc, Bool, true, false, List, [], ◌∷◌, Option, Some, None, slice_get, slice_set, if◌then◌else◌}
 use Rattle.l3_orders.specs.declared.order.Order.{Order}
 use Rattle.l3_orders.specs.Grammar.{order_of}
 use Rattle.l2_units.specs.declared.unit.Unit.{Unit as SignalUnit}
 use Rattle.set_events.specs.declared.event.Event.{Event}
-use Rattle.set_events.specs.declared.event.Event.TheVariants.{Next, Heard, Up as UpEvent, Down as DownEvent, DownBlind, NoAnswer, Timed}
+use Rattle.set_events.specs.declared.event.Event.TheVariants.{Next, Heard, Up as UpEvent, Down as DownEvent, DownBlind, NoAnswer, Timed, Redeclare}
 use Rattle.set_model.specs.declared.phase.Phase.{Phase}
 use Rattle.set_model.specs.declared.phase.Phase.TheVariants.{Up, Down, Settled}
 use Rattle.set_model.specs.declared.reached.Reached.{Reached}
@@ -16,6 +16,7 @@ use Rattle.set_model.specs.Changeover.{acknowledged, acknowledged_by, answered, 
 use Rattle.set_model.specs.Rows.{Fate, Waiting, Parked, Unreasonable, place}
 use Rattle.set_model.specs.Step.{Outcome, timed, times_out, brought, controlled, controls, falls, heard, in_service, is_heard, next, Nothing, part_in, refused, step, takes}
 use Rattle.set_model.proofs.Lists.{get_set_same, within}
+use Rattle.set_model.proofs.Walk.{redeclares_links}
 use Rattle.set_octets.specs.Lives.{IsLateOnce, LateOrdersAreCounted}
 
 -- what holds of the count of the link that is set, and of each that stays, holds of every link's
@@ -153,6 +154,7 @@ module _ (n : ℕ) where
       let settle = λ (link : LinkState) (there : slice_get s.links k ≡ Some link). settled_late Unanswered k link s there in
       grind (arith, settle)
   late_counts s (Timed k) = grind (arith, times_count)
+  late_counts s (Redeclare k) = inl (ap (λ (ls : List LinkState). late_in (slice_get ls n)) (redeclares_links k s))
   late_counts s (UpEvent k) = grind (arith, set_late)
   late_counts s (Next k) = in_counts k s (next k (cleared k s)) (λ link there. same_counts k s link _ there refl)
   late_counts s (DownEvent k) = in_counts k s (falls false k s) (λ link there. same_counts k s link _ there refl)

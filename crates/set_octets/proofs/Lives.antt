@@ -64,6 +64,8 @@ module _ (n : ℕ) where
     answers = λ m link s known at. goes_set m link _ s _ at.there refl (λ e. e) (λ e. e);
     withdraws = λ count m link s known at changes. goes_links s _ refl;
     declares = λ may home alternative s up can. goes_links s _ refl;
+    redeclares = λ code via s due. goes_links s _ refl;
+    acknowledges_back = λ code s known. goes_links s _ refl;
     releases = λ code s known. goes_links s _ refl;
   }
 

@@ -20,7 +20,7 @@ use Rattle.set_model.specs.Changeover.{fate_on, out_of_service}
 use Rattle.set_model.specs.Control.{Choice, Control, Basic, Cyclic, again, first, fill, control_after, control_heard, part_of, start_of}
 use Rattle.set_model.specs.Rows.{Fate, Row, Discarded, NoAnswer, Unacked, Waiting, is_back, is_back_to, is_on, is_unacked, is_waiting, moved, numbers, octets_in, stream_of, unack}
 use Rattle.set_model.specs.Sound.{IsInRange, IsSound}
-use Rattle.set_model.specs.State.{LinkState, State, fate_at, given, has_phase_up, late_at, link_is_up, target, window_of}
+use Rattle.set_model.specs.State.{LinkState, State, fate_at, given, has_phase_up, late_at, link_is_up, target, window_of, On}
 use Rattle.set_model.specs.Step.{HeardBack, NotUp, Outcome, choice_in, controlled, controls, has_numbers, heard, is_msu, next, offered, one_if, part_in, refused, risen_link, rises, rows_sent, step, with_known}
 use Rattle.set_route.specs.Routing.{place_of}
 use Rattle.set_model.proofs.Ahead.{put_apart}
@@ -98,6 +98,8 @@ module _ (n : ℕ) where
     withdraws = λ count m link s known at changes. stays_links s _ refl
         (turned_same (is_waiting m) (is_unacked n) (Discarded NoAnswer) refl (λ f e. grind arith) count s.rows);
     declares = λ may home alternative s up can. stays_links s _ refl (appended_out (given s) s.rows _ (Waiting alternative) (is_unacked n) refl);
+    redeclares = λ code via s due. stays_links s _ refl (appended_out (given s) s.rows _ (fate_at (On via) s) (is_unacked n) (offered_out n (On via) s));
+    acknowledges_back = λ code s known. stays_links s _ refl (unsent_moved (is_back code) _ s.rows (λ x. refl) (λ f e. grind arith));
     releases = λ code s known. stays_links s _ refl (unsent_moved (is_back code) _ s.rows (λ x. refl) (λ f e. grind arith));
   }
 

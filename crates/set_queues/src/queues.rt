@@ -142,7 +142,7 @@ impl<A: Allocator + Copy> Queues<A> {
     }
 
     /// Whether there is a message of this number, and its fate isn't final.
-    pub(crate) fn is_unfinished(&self, number: u64) -> bool
+    pub fn is_unfinished(&self, number: u64) -> bool
         ensures { result ≡ is_unfinished (slot_at number self.now.messages) }
     {
         self.fate_of(number).is_some_and(is_standing)

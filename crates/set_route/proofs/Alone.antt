@@ -9,7 +9,7 @@ use Rattle.set_route.specs.declared.stream.Stream.{Stream}
 use Rattle.set_route.specs.declared.place.Code.TheVariants.{Asked}
 use Rattle.set_route.specs.Routing.{Routing, IsRouting, MovesAlone, CodesMoveAlone, place_of, has_messages, new_stream, used_at, place_raised, stream_raised, stream_settled, place_settled, place_left, stream_left, code_for, runs_on, is_away, stream_asked, place_back, stream_back}
 use Rattle.set_route.proofs.Codes.{codes_at, set_at, freed_at}
-use Rattle.set_route.proofs.Places.{sixteen}
+use Rattle.set_route.proofs.Places.{sixteen, settled_at, again_at, answered_at}
 
 -- the stream at a place of the list
 abbrev the_stream : List Stream → ℕ → Stream
@@ -96,20 +96,25 @@ alone r n sound below =
       settled_messages = λ link target. used_changed (stream_settled link target) r.streams n inside ∙ sym used;
       accepted_place = λ other. ap (λ ps. get_or ps n Nowhere) (place_kept r.streams other);
       accepted_messages = λ other. used_then r.streams other n inside;
-      asked_place = λ home alternative.
+      asked_place = λ home alternative declaration.
           place_changed (stream_asked home alternative) r.streams n inside
           ∙ asked_then home alternative (n % r.links) (the_stream r.streams n) (place_of n r) (home_at r n sound below) place;
-      asked_messages = λ home alternative.
+      asked_messages = λ home alternative declaration.
           used_changed (stream_asked home alternative) r.streams n inside
           ∙ asked_used (is_away home alternative (the_stream r.streams n)) (the_stream r.streams n) (Changing home (code_for home alternative) alternative)
           ∙ sym used;
       back_place = λ code. place_changed (stream_back code) r.streams n inside ∙ ap (place_back code) (sym place);
       back_messages = λ code. used_changed (stream_back code) r.streams n inside ∙ sym used;
+      answered_place = λ code. place_changed (stream_back code) r.streams n inside ∙ ap (place_back code) (sym place);
+      answered_messages = λ code. used_changed (stream_back code) r.streams n inside ∙ sym used;
     }
 
 pub codes_alone : (r : Routing) (code : ℕ) → IsRouting r → code < 256 → CodesMoveAlone r code
 codes_alone r code sound below = record {
   left_code = λ link. codes_at link 0 code code r.codes (omega arith);
-  asked_code = λ home alternative few_homes few. set_at r.codes code (code_for home alternative) Asked (omega (arith, few_homes, few, sound.all_codes));
+  settled_code = λ link target. settled_at link target r.codes code;
+  asked_code = λ home alternative declaration few_homes few. set_at r.codes code (code_for home alternative) (Asked alternative declaration 1) (omega (arith, few_homes, few, sound.all_codes));
+  again_code = λ other declaration. again_at r.codes code other declaration;
   back_code = λ other. freed_at r.codes code other;
+  answered_code = λ other. answered_at r.codes code other;
 }

@@ -1,10 +1,10 @@
 -- Lists of codes, by their places.
-use Rattle.std.proofs.Common.{refl, arith, ◌≡◌, ◌∙◌, ap, sym, ◌<◌, ◌+◌, ℕ, zero, suc, ◌==◌, Bool, true, false, cond, nat_lt, List, [], ◌∷◌, ◌++◌, take, drop, length, get_or, set, replicate}
+use Rattle.std.proofs.Common.{refl, arith, ◌≡◌, ◌∙◌, ap, sym, ◌<◌, ◌+◌, ℕ, zero, suc, ◌==◌, Bool, true, false, cond, nat_lt, List, [], ◌∷◌, ◌++◌, take, drop, length, get_or, set, replicate, None}
 use Rattle.std.proofs.lemmas.Bool.Decides.{nat_tests}
 use Rattle.std.proofs.lemmas.List.{get_or-replicate, get_or_past, length-replicate}
 use Rattle.set_route.specs.declared.place.Code.{Code}
-use Rattle.set_route.specs.declared.place.Code.TheVariants.{Free}
-use Rattle.set_route.specs.Routing.{code_left, codes_left}
+use Rattle.set_route.specs.declared.place.Code.TheVariants.{Free, Asked, Spent}
+use Rattle.set_route.specs.Routing.{code_left, codes_left, is_free, via_of}
 
 pub by_test : (P : Type 0) (b : Bool) → (b ≡ true → P) → (b ≡ false → P) → P
 by_test P true is not_so = is refl
@@ -58,6 +58,24 @@ set_at (c ∷ cs) zero zero new below = refl
 set_at (c ∷ cs) (suc n) zero new below = first_is_not n new (get_or cs n Free)
 set_at (c ∷ cs) zero (suc m) new below = not_first m new c
 set_at (c ∷ cs) (suc n) (suc m) new below = set_at cs n m new (omega (arith, below)) ∙ one_lower m n new (get_or cs n Free)
+
+-- one is changed by what it was; past the last code all are free, and stay so
+pub changed_at : (f : Code → Code) → f Free ≡ Free → (codes : List Code) (n place : ℕ) → get_or (set codes place (f (get_or codes place Free))) n Free ≡ cond (n == place) (f (get_or codes n Free)) (get_or codes n Free)
+changed_at f free [] n place = go (n == place)
+  where
+    go : (b : Bool) → Free ≡ cond b (f Free) Free
+    go true = sym free
+    go false = refl
+changed_at f free (c ∷ cs) zero zero = refl
+changed_at f free (c ∷ cs) (suc n) zero = first_is_not n (f (get_or cs n Free)) (get_or cs n Free)
+changed_at f free (c ∷ cs) zero (suc m) = not_first m (f c) c
+changed_at f free (c ∷ cs) (suc n) (suc m) = changed_at f free cs n m ∙ one_lower m n (f (get_or cs n Free)) (get_or cs n Free)
+
+-- a free code has no link from which streams come
+pub no_via : (code : Code) → is_free code ≡ true → via_of code ≡ None
+no_via Free e = refl
+no_via (Asked via declaration owed) e = absurd cc
+no_via (Spent owed) e = absurd cc
 
 pub free_freed : (b : Bool) (was : Code) → was ≡ Free → cond b Free was ≡ Free
 free_freed true was is = refl

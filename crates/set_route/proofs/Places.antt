@@ -1,6 +1,7 @@
 -- What holds of every set is kept by each call.
 use Rattle.std.proofs.Common.{refl, arith, ◌≡◌, ◌≢◌, ◌∙◌, ap, sym, ◌<◌, ◌≤◌, ℕ, zero, suc, ◌%◌, ◌==◌, Bool, true, false, not, ◌&&◌, cond, Option, Some, None, IfSome, List, [], ◌∷◌, map, length, get_or, set, All, ◌+◌, ◌++◌, take, drop, length-append, length-drop, subst, below_more, get_or-set_other, get_or-set_same}
 use Rattle.std.proofs.lemmas.Bool.Decides.{nat_tests}
+use Rattle.std.proofs.lemmas.Option.{none-some, same_Some}
 use Rattle.std.proofs.lemmas.List.{length-map, length-set, length-take, get_or_default, take_all, drop_all, append-nil}
 use Rattle.std.proofs.lemmas.List.Edits.{map_over_more}
 use Rattle.std.proofs.lemmas.List.Elements.{All-map, All-cons}
@@ -10,8 +11,8 @@ use Rattle.set_route.specs.declared.place.Place.TheVariants.{On, Changing, Nowhe
 use Rattle.set_route.specs.declared.place.Code.{Code}
 use Rattle.set_route.specs.declared.place.Code.TheVariants.{Free, Asked, Spent}
 use Rattle.set_route.specs.declared.stream.Stream.{Stream}
-use Rattle.set_route.specs.Routing.{Routing, IsRouting, IsPlaceOf, IsCoded, stream_numbers, new_stream, new_routing, used_at, accepted, place_raised, stream_raised, raised, place_on, via_settled, place_settled, stream_settled, settled, code_for, home_of, code_of, place_left, stream_left, code_left, codes_left, left, is_away, stream_asked, asked, place_back, stream_back, given_back}
-use Rattle.set_route.proofs.Codes.{by_test, codes_at, length-codes_left, set_at, freed_at, all_free, free_left, free_freed}
+use Rattle.set_route.specs.Routing.{Routing, IsRouting, IsPlaceOf, IsCoded, stream_numbers, new_stream, new_routing, used_at, accepted, place_raised, stream_raised, raised, place_on, via_settled, place_settled, stream_settled, code_settled, settled, code_for, home_of, code_of, via_of, is_free, place_left, stream_left, code_left, codes_left, left, is_away, stream_asked, asked, code_again, asked_again, place_back, stream_back, given_back, code_answered, answered}
+use Rattle.set_route.proofs.Codes.{by_test, codes_at, length-codes_left, set_at, changed_at, freed_at, no_via, all_free, free_left, free_freed}
 
 -- a stream runs on a link of the set
 abbrev pub IsThere : ℕ → Stream → Type 0
@@ -52,19 +53,18 @@ pub routing_kept : (f : Stream → Stream) (r : Routing)
 routing_kept f r homes places opens sound = routing_changed f r.codes r homes places opens sound.all_codes sound.known sound
 
 -- an open code that stays open
-open_kept : (r new : Routing) (place : Place) → ((code : ℕ) → code_of code r ≡ Asked → code_of code new ≡ Asked) → IsCoded r place → IsCoded new place
+open_kept : (r new : Routing) (place : Place) → ((code via : ℕ) → via_of (code_of code r) ≡ Some via → via_of (code_of code new) ≡ Some via) → IsCoded r place → IsCoded new place
 open_kept r new (On l) keeps is = tt
-open_kept r new (Changing to code via) keeps is = (is.0, keeps code is.1)
+open_kept r new (Changing to code via) keeps is = (is.0, keeps code via is.1)
 open_kept r new Nowhere keeps is = tt
 
 -- there are 16 streams
 pub sixteen : (r : Routing) → IsRouting r → length r.streams ≡ 16
 sixteen r sound = sym (length-map r.streams (λ s. s.home)) ∙ ap length sound.homes
 
--- A loop that changes one stream after another.
-pub one_more : (f : Stream → Stream) (xs ys : List Stream) (i : ℕ) (d new : Stream) → length xs ≡ 16 → i < 16 → ys ≡ map f (take i xs) ++ drop i xs → new ≡ f (get_or ys i d) → set ys i new ≡ map f (take (i + 1) xs) ++ drop (i + 1) xs
-one_more f xs ys i d new long below so_far is =
-    let inside : i < length xs = omega (arith, long) in
+-- A loop that changes one stream after another, or one code.
+pub one_more : {X : Type 0} (f : X → X) (xs ys : List X) (i : ℕ) (d new : X) → i < length xs → ys ≡ map f (take i xs) ++ drop i xs → new ≡ f (get_or ys i d) → set ys i new ≡ map f (take (i + 1) xs) ++ drop (i + 1) xs
+one_more f xs ys i d new inside so_far is =
     let same : length ys ≡ length xs = ap length so_far ∙ length-append (map f (take i xs)) (drop i xs) ∙ (omega (arith, length-map (take i xs) f, length-take i xs, length-drop i xs)) in
     ap (set ys i) is ∙ map_over_more f xs ys i (get_or ys i d) inside so_far (get_or_default ys i d (get_or ys i d) (omega (arith, same, inside)))
 
@@ -89,7 +89,7 @@ raised_to links link home used Nowhere below there = below
 
 raised_coded : (r new : Routing) (link home : ℕ) (used : Bool) (place : Place) → r.codes ≡ new.codes → IsCoded r place → IsCoded new (place_raised link home used place)
 raised_coded r new link home used (On l) same is = chosen_coded ((home == link) && not used) new (On link) (On l) tt (λ no. tt)
-raised_coded r new link home used (Changing to code via) same is = (is.0, ap (λ cs. get_or cs code Free) (sym same) ∙ is.1)
+raised_coded r new link home used (Changing to code via) same is = (is.0, ap (λ cs. via_of (get_or cs code Free)) (sym same) ∙ is.1)
 raised_coded r new link home used Nowhere same is = tt
 
 pub raised_sound : (link : ℕ) (r : Routing) → link < r.links → IsRouting r → IsRouting (raised link r)
@@ -106,15 +106,16 @@ left_to links link (Changing to code via) there = chosen (to == link) links (On 
 left_to links link Nowhere there = tt
 
 -- an open code of another link
-still_open : (link code to : ℕ) (was : Code) → home_of code ≡ to → (to == link) ≡ false → was ≡ Asked → code_left link code was ≡ Asked
-still_open link code to was home other is =
-    ap (code_left link code) is ∙ ap (λ h. cond (h == link) Spent Asked) home ∙ ap (λ b. cond b Spent Asked) other
+still_open : (link code to via : ℕ) (was : Code) → home_of code ≡ to → (to == link) ≡ false → via_of was ≡ Some via → via_of (code_left link code was) ≡ Some via
+still_open link code to via Free home other is = is
+still_open link code to via (Asked v d n) home other is = ap (λ h. via_of (cond (h == link) (Spent n) (Asked v d n))) home ∙ ap (λ b. via_of (cond b (Spent n) (Asked v d n))) other ∙ is
+still_open link code to via (Spent n) home other is = is
 
 left_coded : (r new : Routing) (link : ℕ) (place : Place) → new.codes ≡ codes_left link 0 r.codes → IsCoded r place → IsCoded new (place_left link place)
 left_coded r new link (On l) same is = tt
 left_coded r new link (Changing to code via) same is =
     chosen_coded (to == link) new (On via) (Changing to code via) tt
-    (λ no. (is.0, ap (λ cs. get_or cs code Free) same ∙ codes_at link 0 code code r.codes (omega arith) ∙ still_open link code to (code_of code r) is.0 no is.1))
+    (λ no. (is.0, ap (λ cs. via_of (get_or cs code Free)) same ∙ ap via_of (codes_at link 0 code code r.codes (omega arith)) ∙ still_open link code to via (code_of code r) is.0 no is.1))
 left_coded r new link Nowhere same is = tt
 
 pub left_sound : (link : ℕ) (r : Routing) → IsRouting r → IsRouting (left link r)
@@ -148,16 +149,30 @@ on_coded : (r : Routing) (target : Option ℕ) → IsCoded r (place_on target)
 on_coded r (Some link) = tt
 on_coded r None = tt
 
-settled_coded : (r new : Routing) (link : ℕ) (target : Option ℕ) (place : Place) → r.codes ≡ new.codes → IsCoded r place → IsCoded new (place_settled link target place)
+via_then : (link via : ℕ) (target : Option ℕ) (was : Code) → via_of was ≡ Some via → via_of (code_settled link target was) ≡ Some (via_settled link target via)
+via_then link via target Free e = absurd cc
+via_then link via target (Asked v d n) e = ap Some (ap (via_settled link target) (same_Some v via e))
+via_then link via target (Spent n) e = absurd cc
+
+pub settled_at : (link : ℕ) (target : Option ℕ) (codes : List Code) (n : ℕ) → get_or (map (code_settled link target) codes) n Free ≡ code_settled link target (get_or codes n Free)
+settled_at link target [] n = refl
+settled_at link target (c ∷ cs) zero = refl
+settled_at link target (c ∷ cs) (suc n) = settled_at link target cs n
+
+settled_coded : (r new : Routing) (link : ℕ) (target : Option ℕ) (place : Place) → new.codes ≡ map (code_settled link target) r.codes → IsCoded r place → IsCoded new (place_settled link target place)
 settled_coded r new link target (On l) same is = chosen_coded (l == link) new (place_on target) (On l) (on_coded new target) (λ no. tt)
-settled_coded r new link target (Changing to code via) same is = (is.0, ap (λ cs. get_or cs code Free) (sym same) ∙ is.1)
+settled_coded r new link target (Changing to code via) same is =
+    (is.0, ap (λ cs. via_of (get_or cs code Free)) same ∙ ap via_of (settled_at link target r.codes code) ∙ via_then link via target (code_of code r) is.1)
 settled_coded r new link target Nowhere same is = tt
 
 pub settled_sound : (link : ℕ) (target : Option ℕ) (r : Routing) → IfSome target (λ to. to < r.links) → IsRouting r → IsRouting (settled link target r)
 settled_sound link target r below sound =
-    routing_kept (stream_settled link target) r (λ s. refl)
+    let codes = map (code_settled link target) r.codes in
+    routing_changed (stream_settled link target) codes r (λ s. refl)
     (λ s there. settled_to r.links link target s.place below there)
-    (λ s is. settled_coded r (with_codes (stream_settled link target) r.codes r) link target s.place refl is)
+    (λ s is. settled_coded r (with_codes (stream_settled link target) codes r) link target s.place refl is)
+    (length-map r.codes (code_settled link target) ∙ sound.all_codes)
+    (λ n used. sound.known n (λ free. used (settled_at link target r.codes n ∙ ap (code_settled link target) free)))
     sound
 
 -- Restore.
@@ -176,32 +191,62 @@ asked_coded false r s to new is = is
 home_is : (home alternative : ℕ) → alternative < 16 → home_of (code_for home alternative) ≡ home
 home_is home alternative few = omega (arith, few)
 
-still_asked : (b : Bool) (was : Code) → was ≡ Asked → cond b Asked was ≡ Asked
-still_asked true was is = refl
-still_asked false was is = is
+still_asked : (b : Bool) (was new : Code) (via : ℕ) → (b ≡ true → via_of was ≡ None) → via_of was ≡ Some via → via_of (cond b new was) ≡ Some via
+still_asked true was new via none is = absurd (none-some via (sym (none refl) ∙ is))
+still_asked false was new via none is = is
 
-asked_known : (home alternative code links : ℕ) (was : Code) → alternative < 16 → home < links → (was ≢ Free → home_of code < links) → cond (code == code_for home alternative) Asked was ≢ Free → home_of code < links
-asked_known home alternative code links was few below known used =
+asked_known : (home alternative code links : ℕ) (was new : Code) → alternative < 16 → home < links → (was ≢ Free → home_of code < links) → cond (code == code_for home alternative) new was ≢ Free → home_of code < links
+asked_known home alternative code links was new few below known used =
     by_test (home_of code < links) (code == code_for home alternative)
     (λ is. let same : code ≡ code_for home alternative = grind (arith, nat_tests, is) in omega (arith, same, few, below))
-    (λ no. known (λ free. used (ap (λ b. cond b Asked was) no ∙ free)))
+    (λ no. known (λ free. used (ap (λ b. cond b new was) no ∙ free)))
 
-pub asked_sound : (home alternative : ℕ) (r : Routing) → home < r.links → alternative < r.links → IsRouting r → IsRouting (asked home alternative r)
-asked_sound home alternative r below there sound =
+pub asked_sound : (home alternative declaration : ℕ) (r : Routing) → home < r.links → alternative < r.links → is_free (code_of (code_for home alternative) r) ≡ true → IsRouting r → IsRouting (asked home alternative declaration r)
+asked_sound home alternative declaration r below there free sound =
     let few : alternative < 16 = omega (arith, there, sound.at_most_16) in
     let code : ℕ = code_for home alternative in
+    let opened : Code = Asked alternative declaration 1 in
     let within : code < length r.codes = omega (arith, below, few, sound.at_most_16, sound.all_codes) in
-    let new : Routing = with_codes (stream_asked home alternative) (set r.codes code Asked) r in
-    let at = λ (n : ℕ). set_at r.codes n code Asked within in
-    routing_changed (stream_asked home alternative) (set r.codes code Asked) r
+    let new : Routing = with_codes (stream_asked home alternative) (set r.codes code opened) r in
+    let at = λ (n : ℕ). set_at r.codes n code opened within in
+    routing_changed (stream_asked home alternative) (set r.codes code opened) r
     (λ s. asked_home (is_away home alternative s) s (Changing home code alternative))
     (λ s is. asked_to (is_away home alternative s) r.links s (Changing home code alternative) (below, there) is)
     (λ s is. asked_coded (is_away home alternative s) new s (Changing home code alternative)
-    (home_is home alternative few, get_or-set_same r.codes code Asked Free within)
-    (open_kept r new s.place (λ n e. at n ∙ still_asked (n == code) (code_of n r) e) is))
-    (length-set r.codes code Asked ∙ sound.all_codes)
-    (λ n used. asked_known home alternative n r.links (code_of n r) few below (sound.known n) (λ free. used (at n ∙ free)))
+    (home_is home alternative few, ap via_of (get_or-set_same r.codes code opened Free within))
+    (open_kept r new s.place (λ n via e. ap via_of (at n) ∙ still_asked (n == code) (code_of n r) opened via (λ same. let is : n ≡ code = grind (arith, nat_tests, same) in no_via (code_of n r) (ap (λ k. is_free (code_of k r)) is ∙ free)) e) is))
+    (length-set r.codes code opened ∙ sound.all_codes)
+    (λ n used. asked_known home alternative n r.links (code_of n r) opened few below (sound.known n) (λ none. used (at n ∙ none)))
     sound
+
+-- Redeclare.
+again_same : (declaration : ℕ) (was : Code) → via_of (code_again declaration was) ≡ via_of was
+again_same declaration Free = refl
+again_same declaration (Asked via before owed) = refl
+again_same declaration (Spent owed) = refl
+
+pub again_at : (codes : List Code) (n place declaration : ℕ) → get_or (set codes place (code_again declaration (get_or codes place Free))) n Free ≡ cond (n == place) (code_again declaration (get_or codes n Free)) (get_or codes n Free)
+again_at codes n place declaration = changed_at (code_again declaration) refl codes n place
+
+pub again_sound : (code declaration : ℕ) (r : Routing) → IsRouting r → IsRouting (asked_again code declaration r)
+again_sound code declaration r sound = record {
+  some_link = sound.some_link;
+  at_most_16 = sound.at_most_16;
+  homes = sound.homes;
+  there = sound.there;
+  coded = λ k d below. open_kept r (asked_again code declaration r) (get_or r.streams k d).place
+      (λ n via e. ap via_of (again_at r.codes n code declaration) ∙ go (n == code) (code_of n r) via e) (sound.coded k d below);
+  all_codes = length-set r.codes code _ ∙ sound.all_codes;
+  known = λ n used. sound.known n (λ free. used (again_at r.codes n code declaration ∙ none (n == code) (code_of n r) free));
+}
+  where
+    go : (b : Bool) (was : Code) (via : ℕ) → via_of was ≡ Some via → via_of (cond b (code_again declaration was) was) ≡ Some via
+    go true was via e = again_same declaration was ∙ e
+    go false was via e = e
+
+    none : (b : Bool) (was : Code) → was ≡ Free → cond b (code_again declaration was) was ≡ Free
+    none true was e = ap (code_again declaration) e
+    none false was e = e
 
 -- A code is given back.
 back_to : (links code : ℕ) (place : Place) → IsPlaceOf links place → IsPlaceOf links (place_back code place)
@@ -209,21 +254,39 @@ back_to links code (On l) there = there
 back_to links code (Changing to c via) there = chosen (c == code) links (On to) (Changing to c via) there.0 there
 back_to links code Nowhere there = tt
 
-back_coded : (r new : Routing) (code : ℕ) (place : Place) → new.codes ≡ set r.codes code Free → IsCoded r place → IsCoded new (place_back code place)
-back_coded r new code (On l) same is = tt
-back_coded r new code (Changing to c via) same is =
+back_coded : (r new : Routing) (code : ℕ) (f : Code → Code) (place : Place) → ((n : ℕ) → code_of n new ≡ cond (n == code) (f (code_of n r)) (code_of n r)) → IsCoded r place → IsCoded new (place_back code place)
+back_coded r new code f (On l) same is = tt
+back_coded r new code f (Changing to c via) same is =
     chosen_coded (c == code) new (On to) (Changing to c via) tt
-    (λ no. (is.0, ap (λ cs. get_or cs c Free) same ∙ freed_at r.codes c code ∙ ap (λ b. cond b Free (code_of c r)) no ∙ is.1))
-back_coded r new code Nowhere same is = tt
+    (λ no. (is.0, ap via_of (same c) ∙ ap (λ b. via_of (cond b (f (code_of c r)) (code_of c r))) no ∙ is.1))
+back_coded r new code f Nowhere same is = tt
 
 pub back_sound : (code : ℕ) (r : Routing) → IsRouting r → IsRouting (given_back code r)
 back_sound code r sound =
     routing_changed (stream_back code) (set r.codes code Free) r (λ s. refl)
     (λ s there. back_to r.links code s.place there)
-    (λ s is. back_coded r (with_codes (stream_back code) (set r.codes code Free) r) code s.place refl is)
+    (λ s is. back_coded r (with_codes (stream_back code) (set r.codes code Free) r) code (λ c. Free) s.place (λ n. freed_at r.codes n code) is)
     (length-set r.codes code Free ∙ sound.all_codes)
     (λ n used. sound.known n (λ free. used (freed_at r.codes n code ∙ free_freed (n == code) (code_of n r) free)))
     sound
+
+-- It's acknowledged.
+pub answered_at : (codes : List Code) (n place : ℕ) → get_or (set codes place (code_answered (get_or codes place Free))) n Free ≡ cond (n == place) (code_answered (get_or codes n Free)) (get_or codes n Free)
+answered_at codes n place = changed_at code_answered refl codes n place
+
+pub answered_sound : (code : ℕ) (r : Routing) → IsRouting r → IsRouting (answered code r)
+answered_sound code r sound =
+    let codes = set r.codes code (code_answered (code_of code r)) in
+    routing_changed (stream_back code) codes r (λ s. refl)
+    (λ s there. back_to r.links code s.place there)
+    (λ s is. back_coded r (with_codes (stream_back code) codes r) code code_answered s.place (λ n. answered_at r.codes n code) is)
+    (length-set r.codes code _ ∙ sound.all_codes)
+    (λ n used. sound.known n (λ free. used (answered_at r.codes n code ∙ none (n == code) (code_of n r) free)))
+    sound
+  where
+    none : (b : Bool) (was : Code) → was ≡ Free → cond b (code_answered was) was ≡ Free
+    none true was e = ap code_answered e
+    none false was e = e
 
 -- Offer.
 pub used_is : (streams : List Stream) (stream : ℕ) (d : Stream) → stream < length streams → set streams stream (record (get_or streams stream d) { used = true }) ≡ used_at stream streams
@@ -248,7 +311,7 @@ accepted_sound stream r sound = record {
   homes = used_homes r.streams stream ∙ sound.homes;
   there = used_there (IsPlaceOf r.links) r.streams stream sound.there;
   coded = used_there (IsCoded (accepted stream r)) r.streams stream
-      (λ k d below. open_kept r (accepted stream r) (get_or r.streams k d).place (λ code e. e) (sound.coded k d below));
+      (λ k d below. open_kept r (accepted stream r) (get_or r.streams k d).place (λ code via e. e) (sound.coded k d below));
   all_codes = sound.all_codes;
   known = sound.known;
 }
@@ -288,12 +351,6 @@ pub raised_kept : (old link : ℕ) (r : Routing) (now : List Stream) (i : ℕ) �
 raised_kept old link r now i sound below same past so_far =
     subst (λ (xs : List Stream). IsRouting (record r { streams = xs })) (sym (all_done (stream_raised link) r.streams now i (sixteen r sound) past so_far))
     (raised_sound link r (omega (arith, below, same)) sound)
-
-pub settled_kept : (old link : ℕ) (target : Option ℕ) (r : Routing) (now : List Stream) (i : ℕ) → IsRouting r → IfSome target (λ to. to < old) → r.links ≡ old → 16 ≤ i → now ≡ map (stream_settled link target) (take i r.streams) ++ drop i r.streams → IsRouting (record r { streams = now })
-settled_kept old link target r now i sound below same past so_far =
-    let there : IfSome target (λ to. to < r.links) = subst (λ (n : ℕ). IfSome target (λ to. to < n)) (sym same) below in
-    subst (λ (xs : List Stream). IsRouting (record r { streams = xs })) (sym (all_done (stream_settled link target) r.streams now i (sixteen r sound) past so_far))
-    (settled_sound link target r there sound)
 
 -- a loop over the streams, beside a change of the codes
 pub changed_kept : (f : Stream → Stream) (codes : List Code) (r : Routing) (now : List Stream) (new : List Code) (i : ℕ) → IsRouting r → IsRouting (with_codes f codes r) → 16 ≤ i → now ≡ map f (take i r.streams) ++ drop i r.streams → new ≡ codes → IsRouting (record { links = r.links; streams = now; codes = new })

@@ -1,5 +1,5 @@
 -- THE MODEL OF PLACES: where the streams of a set run, and what became of its changeback codes.
-use Rattle.std.specs.Prelude.{◌≡◌, ◌≢◌, ℕ, suc, zero, ◌+◌, ◌*◌, ◌/◌, ◌%◌, ◌==◌, ◌<◌, ◌≤◌, Bool, true, false, not, ◌&&◌, ◌||◌, Option, Some, None, List, [], ◌∷◌, length, map, slice_index_or, slice_set, replicate, All, if◌then◌else◌}
+use Rattle.std.specs.Prelude.{◌≡◌, ◌≢◌, ℕ, suc, zero, ◌+◌, ◌-◌, ◌*◌, ◌/◌, ◌%◌, ◌==◌, ◌<◌, ◌≤◌, Bool, true, false, not, ◌&&◌, ◌||◌, Option, Some, None, is_some, List, [], ◌∷◌, length, map, slice_index_or, slice_set, replicate, All, if◌then◌else◌}
 use Rattle.std.specs.List.{range_with_len}
 use Rattle.set_route.specs.declared.place.Place.{Place}
 use Rattle.set_route.specs.declared.place.Place.TheVariants.{On, Changing, Nowhere}
@@ -59,8 +59,28 @@ code_of code routing = slice_index_or routing.codes code Free
 
 abbrev pub is_free : Code → Bool
 is_free Free = true
-is_free Asked = false
-is_free Spent = false
+is_free (Asked via declaration owed) = false
+is_free (Spent owed) = false
+
+-- it was declared, and streams wait for its acknowledgement: the link from which they come
+abbrev pub via_of : Code → Option ℕ
+via_of Free = None
+via_of (Asked via declaration owed) = Some via
+via_of (Spent owed) = None
+
+abbrev pub is_open : Code → Bool
+is_open code = is_some (via_of code)
+
+-- how many acknowledgements are owed under it: one for each declaration
+abbrev pub owed_under : Code → ℕ
+owed_under Free = 0
+owed_under (Asked via declaration owed) = owed
+owed_under (Spent owed) = owed
+
+-- while acknowledgements are owed it's spent, and then free
+abbrev pub still_owed : ℕ → Code
+still_owed zero = Free
+still_owed (suc n) = Spent (suc n)
 
 -- Offer: a message of the stream was accepted.
 abbrev pub used_at : ℕ → List Stream → List Stream
@@ -95,8 +115,8 @@ stream_left link s = record s { place = place_left link s.place }
 
 abbrev pub code_left : ℕ → ℕ → Code → Code
 code_left link number Free = Free
-code_left link number Asked = if home_of number == link then Spent else Asked
-code_left link number Spent = Spent
+code_left link number (Asked via declaration owed) = if home_of number == link then Spent owed else Asked via declaration owed
+code_left link number (Spent owed) = Spent owed
 
 -- these have the numbers from this one on
 abbrev pub codes_left : ℕ → ℕ → List Code → List Code
@@ -126,8 +146,16 @@ place_settled link target Nowhere = Nowhere
 abbrev pub stream_settled : ℕ → Option ℕ → Stream → Stream
 stream_settled link target s = record s { place = place_settled link target s.place }
 
+abbrev pub code_settled : ℕ → Option ℕ → Code → Code
+code_settled link target Free = Free
+code_settled link target (Asked via declaration owed) = Asked (via_settled link target via) declaration owed
+code_settled link target (Spent owed) = Spent owed
+
 abbrev pub settled : ℕ → Option ℕ → Routing → Routing
-settled link target routing = record routing { streams = map (stream_settled link target) routing.streams }
+settled link target routing = record routing {
+  streams = map (stream_settled link target) routing.streams;
+  codes = map (code_settled link target) routing.codes;
+}
 
 -- Restore (Q.704 6): the streams of this home that run on the alternative are to come back.
 abbrev pub runs_on : ℕ → Place → Bool
@@ -153,13 +181,26 @@ stream_asked home alternative s =
     then record s { place = Changing home (code_for home alternative) alternative }
     else s
 
-abbrev pub asked : ℕ → ℕ → Routing → Routing
-asked home alternative routing = record routing {
+-- their declaration is the message of this number
+abbrev pub asked : ℕ → ℕ → ℕ → Routing → Routing
+asked home alternative declaration routing = record routing {
   streams = map (stream_asked home alternative) routing.streams;
-  codes = slice_set routing.codes (code_for home alternative) Asked;
+  codes = slice_set routing.codes (code_for home alternative) (Asked alternative declaration 1);
 }
 
--- An acknowledgement: the code's streams run on their home, and the code is free.
+-- Redeclare (Q.704 6.3): the code is declared once more, by the message of this number.
+abbrev pub code_again : ℕ → Code → Code
+code_again declaration Free = Free
+code_again declaration (Asked via before owed) = Asked via declaration (owed + 1)
+code_again declaration (Spent owed) = Spent owed
+
+abbrev pub asked_again : ℕ → ℕ → Routing → Routing
+asked_again code declaration routing = record routing {
+  codes = slice_set routing.codes code (code_again declaration (code_of code routing));
+}
+
+-- An acknowledgement: the code's streams run on their home, and one less is owed under it. And none came: they run there
+-- all the same, and it's free.
 abbrev pub place_back : ℕ → Place → Place
 place_back code (On l) = On l
 place_back code (Changing to c via) = if c == code then On to else Changing to c via
@@ -172,6 +213,15 @@ abbrev pub given_back : ℕ → Routing → Routing
 given_back code routing = record routing {
   streams = map (stream_back code) routing.streams;
   codes = slice_set routing.codes code Free;
+}
+
+abbrev pub code_answered : Code → Code
+code_answered code = still_owed (owed_under code - 1)
+
+abbrev pub answered : ℕ → Routing → Routing
+answered code routing = record routing {
+  streams = map (stream_back code) routing.streams;
+  codes = slice_set routing.codes code (code_answered (code_of code routing));
 }
 
 -- No acknowledgement came: so many codes from this one on are given back, or all of a home.
@@ -190,10 +240,10 @@ IsPlaceOf links (On link) = link < links
 IsPlaceOf links (Changing to code via) = (to < links) × (via < links)
 IsPlaceOf links Nowhere = Unit {0}
 
--- a stream on its way back goes to the home of its code, which is open
+-- a stream on its way back goes to the home of its code, which is open, and comes from the link of that code
 abbrev pub IsCoded : Routing → Place → Type 0
 IsCoded routing (On link) = Unit {0}
-IsCoded routing (Changing to code via) = (home_of code ≡ to) × (code_of code routing ≡ Asked)
+IsCoded routing (Changing to code via) = (home_of code ≡ to) × (via_of (code_of code routing) ≡ Some via)
 IsCoded routing Nowhere = Unit {0}
 
 pub record IsRouting (routing : Routing) : Type 0 where
@@ -220,13 +270,15 @@ pub record MovesAlone (routing : Routing) (stream : ℕ) : Type 0 where
   pub accepted_place : (other : ℕ) → place_of stream (accepted other routing) ≡ place_of stream routing
   pub accepted_messages : (other : ℕ) → has_messages stream (accepted other routing)
       ≡ ((stream == other) || has_messages stream routing)
-  pub asked_place : (home alternative : ℕ) → place_of stream (asked home alternative routing)
+  pub asked_place : (home alternative declaration : ℕ) → place_of stream (asked home alternative declaration routing)
       ≡ (if (stream % routing.links == home) && runs_on alternative (place_of stream routing)
       then Changing home (code_for home alternative) alternative else place_of stream routing)
-  pub asked_messages : (home alternative : ℕ) → has_messages stream (asked home alternative routing)
+  pub asked_messages : (home alternative declaration : ℕ) → has_messages stream (asked home alternative declaration routing)
       ≡ has_messages stream routing
   pub back_place : (code : ℕ) → place_of stream (given_back code routing) ≡ place_back code (place_of stream routing)
   pub back_messages : (code : ℕ) → has_messages stream (given_back code routing) ≡ has_messages stream routing
+  pub answered_place : (code : ℕ) → place_of stream (answered code routing) ≡ place_back code (place_of stream routing)
+  pub answered_messages : (code : ℕ) → has_messages stream (answered code routing) ≡ has_messages stream routing
 
 abbrev pub StreamsMoveAlone : Type 0
 StreamsMoveAlone =
@@ -235,11 +287,17 @@ StreamsMoveAlone =
 -- LAW: what each call does to each code.
 pub record CodesMoveAlone (routing : Routing) (code : ℕ) : Type 0 where
   pub left_code : (link : ℕ) → code_of code (left link routing) ≡ code_left link code (code_of code routing)
-  pub asked_code : (home alternative : ℕ) → home < most_links → alternative < most_links
-      → code_of code (asked home alternative routing)
-      ≡ (if code == code_for home alternative then Asked else code_of code routing)
+  pub settled_code : (link : ℕ) (target : Option ℕ)
+      → code_of code (settled link target routing) ≡ code_settled link target (code_of code routing)
+  pub asked_code : (home alternative declaration : ℕ) → home < most_links → alternative < most_links
+      → code_of code (asked home alternative declaration routing)
+      ≡ (if code == code_for home alternative then Asked alternative declaration 1 else code_of code routing)
+  pub again_code : (other declaration : ℕ) → code_of code (asked_again other declaration routing)
+      ≡ (if code == other then code_again declaration (code_of code routing) else code_of code routing)
   pub back_code : (other : ℕ) → code_of code (given_back other routing)
       ≡ (if code == other then Free else code_of code routing)
+  pub answered_code : (other : ℕ) → code_of code (answered other routing)
+      ≡ (if code == other then code_answered (code_of code routing) else code_of code routing)
 
 abbrev pub EachCodeMovesAlone : Type 0
 EachCodeMovesAlone = (routing : Routing) (code : ℕ) → IsRouting routing → code < 256 → CodesMoveAlone routing code

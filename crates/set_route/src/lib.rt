@@ -13,7 +13,8 @@
 //! | [`Routes::divert`], a link is left | its streams stay until it settles; those on their way to it don't go there |
 //! | [`Routes::settle`], a link that was left settles | its streams run on the target, or nowhere |
 //! | [`Routes::ask`], a home asks an alternative | its streams that run there are on their way back, under a code |
-//! | [`Routes::give_back`], a code is acknowledged | its streams run on their home |
+//! | [`Routes::ask_again`], it's asked once more | one acknowledgement more is owed |
+//! | [`Routes::acknowledge`], a code is acknowledged | its streams run on their home |
 //! | [`Routes::clear`], no acknowledgement came | the streams of all codes of a home run on it |
 //!
 //! A changeback code stands for one home and one alternative (own), so that an acknowledgement, which names
@@ -23,8 +24,10 @@
 //! | state | meaning | what changes it |
 //! |---|---|---|
 //! | [`Code::Free`] | in no use | `ask` opens it, if streams are away |
-//! | [`Code::Asked`] | open: streams are `Changing` | `divert` of its home spends it; `give_back`, `clear` free it |
-//! | [`Code::Spent`] | its home was left before it was acknowledged: no streams | `give_back`, `clear` free it |
+//! | [`Code::Asked`] | open: streams are `Changing` | `divert` of its home spends it, and so does `acknowledge` where more is owed |
+//! | [`Code::Spent`] | no streams wait for it, and acknowledgements are owed | each `acknowledge` counts, and the last frees it |
+//!
+//! `give_back` and `clear` free each code.
 //!
 //! The target of every move is the lowest-numbered link that is up (own), [`target`]. The readers:
 //! [`Routes::place`], [`Routes::code`], [`Routes::can_ask`].

@@ -1,6 +1,6 @@
 //! Where a stream runs, and the changeback codes.
 ghost use Rattle.std.specs.Prelude.{◌≡◌, ◌<◌};
-ghost use Rattle.set_route.specs.Routing.{code_for, code_left, home_of};
+ghost use Rattle.set_route.specs.Routing.{code_answered, code_for, code_left, code_settled, home_of, is_free, owed_under};
 
 /// Where a stream runs, and so where its next message goes.
 #[derive(Clone, Copy, Debug, Drop, PartialEq, Eq)]
@@ -14,15 +14,22 @@ pub enum Place {
     Nowhere,
 }
 
-/// What became of a changeback code (Q.704 6.3).
+/// What became of a changeback code (Q.704 6.3). One acknowledgement is owed under it for each declaration.
 #[derive(Clone, Copy, Debug, Drop, PartialEq, Eq)]
 pub enum Code {
     /// In no use.
     Free,
-    /// Open: it was declared and isn't acknowledged.
-    Asked,
-    /// Its home was left before it was acknowledged: the acknowledgement will only free it.
-    Spent,
+    /// Open: its streams come from the link `via`, and none of so many acknowledgements has come. It was declared last
+    /// by the message of this number.
+    Asked {
+        via: u8,
+        declaration: u64,
+        owed: u64,
+    },
+    /// No stream waits for it, and so many acknowledgements are owed: they only count.
+    Spent {
+        owed: u64,
+    },
 }
 
 impl Code {
@@ -30,8 +37,54 @@ impl Code {
     pub(crate) fn leave(&mut self, number: u8, link: u8)
         ensures { self.new ≡ code_left link number self.old }
     {
-        if *self == Code::Asked && home_of_code(number) == link {
-            *self = Code::Spent;
+        *self = match *self {
+            Code::Asked { owed, .. } if home_of_code(number) == link => Code::Spent { owed },
+            code => code,
+        };
+    }
+
+    /// The link settled, and its streams run on the target: those that came from it come from the target.
+    pub(crate) fn settle(&mut self, link: u8, target: Option<u8>)
+        ensures { self.new ≡ code_settled link target self.old }
+    {
+        *self = match *self {
+            Code::Asked {
+                via,
+                declaration,
+                owed,
+            } if via == link => Code::Asked {
+                via: target.unwrap_or(via),
+                declaration,
+                owed,
+            },
+            code => code,
+        };
+    }
+
+    /// Whether it's in no use.
+    pub fn is_free(self) -> bool
+        ensures { result ≡ is_free self }
+    {
+        matches!(self, Code::Free)
+    }
+
+    /// How many acknowledgements are owed under it.
+    pub fn owed(self) -> u64
+        ensures { result ≡ owed_under self }
+    {
+        match self {
+            Code::Free => 0,
+            Code::Asked { owed, .. } | Code::Spent { owed } => owed,
+        }
+    }
+
+    /// What becomes of it once it's acknowledged: it's spent while more acknowledgements are owed, and then free.
+    pub(crate) fn answered(self) -> Code
+        ensures { result ≡ code_answered self }
+    {
+        match self.owed() {
+            0 | 1 => Code::Free,
+            owed => Code::Spent { owed: owed - 1 },
         }
     }
 }

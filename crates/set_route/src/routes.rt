@@ -1,6 +1,6 @@
 //! The streams of a set, and its changeback codes.
-ghost use Rattle.std.specs.Prelude.{◌≡◌};
-ghost use Rattle.set_route.specs.Routing.{codes_left, some_away};
+ghost use Rattle.std.specs.Prelude.{◌≡◌, map};
+ghost use Rattle.set_route.specs.Routing.{code_settled, codes_left, some_away, stream_back};
 
 use super::place::{Code, Place, changeback_code};
 use super::stream::Stream;
@@ -18,7 +18,7 @@ const CODES: usize = 256;
 /// Where each of a set's 16 streams runs, and what became of its 256 changeback codes.
 ///
 /// Contracts see how many links the set has, for each stream its home, whether a message of it was
-/// ever accepted and where it runs, and each code's state. It's a few octets a stream and one a code,
+/// ever accepted and where it runs, and each code's state. It's a few octets a stream and 24 a code,
 /// and takes no memory.
 #[derive(Debug, Drop)]
 pub struct Routes {
@@ -39,9 +39,9 @@ impl Model for Routes {
 }
 
 impl Routes {
-    ghost use Rattle.std.specs.Prelude.{◌≡◌, ◌<◌, ◌≤◌, IfSome, if◌then◌else◌};
+    ghost use Rattle.std.specs.Prelude.{◌≡◌, ◌<◌, ◌≤◌, ◌^◌, IfSome, if◌then◌else◌};
     ghost use Rattle.set_route.specs.Routing.{IsRouting, IsPlaceOf, new_routing, place_of, code_of, can_ask};
-    ghost use Rattle.set_route.specs.Routing.{accepted, raised, left, settled, asked, given_back, cleared};
+    ghost use Rattle.set_route.specs.Routing.{accepted, raised, left, settled, asked, asked_again, given_back, answered, cleared, owed_under};
 
     /// The streams of a set of so many links. No link was up yet, so they run nowhere, and no code is in use.
     ///
@@ -100,7 +100,7 @@ impl Routes {
         requires alternative { alternative < 16 }
         ensures { result ≡ can_ask home alternative self.now }
     {
-        self.code(changeback_code(home, alternative)) == Code::Free
+        self.code(changeback_code(home, alternative)).is_free()
             && has_away(&self.streams, home, alternative)
     }
 
@@ -152,41 +152,72 @@ impl Routes {
         requires target { IfSome target (λ to. to < self.old.links) }
         ensures { self.new ≡ settled link target self.old }
     {
+        settle_codes(&mut self.codes, link, target);
         for stream in self.streams.iter_mut() {
             stream.settle(link, target);
         }
     }
 
     /// Changeback is asked for (Q.704 6.3): the streams of this home that run on the alternative are on their way
-    /// back, and their code is open. Answers whether there was anything to ask for: if the code isn't free, or no
-    /// stream is away, it's false and nothing changes.
+    /// back, and their code is open: it was declared by the message of this number, and one acknowledgement is owed.
+    /// Answers whether there was anything to ask for: if the code isn't free, or no stream is away, it's false and
+    /// nothing changes.
     ///
     /// Condition: both are links of the set.
-    pub fn ask(&mut self, home: u8, alternative: u8) -> bool
+    pub fn ask(&mut self, home: u8, alternative: u8, declaration: u64) -> bool
         requires home { home < self.old.links }
         requires alternative { alternative < self.old.links }
         ensures answer { result ≡ can_ask home alternative self.old }
-        ensures change { self.new ≡ (if result then asked home alternative self.old else self.old) }
+        ensures change { self.new ≡ (if result then asked home alternative declaration self.old else self.old) }
     {
         if !self.can_ask(home, alternative) {
             return false;
         }
-        self.codes[usize::from(changeback_code(home, alternative))] = Code::Asked;
+        self.codes[usize::from(changeback_code(home, alternative))] = Code::Asked {
+            via: alternative,
+            declaration,
+            owed: 1,
+        };
         for stream in self.streams.iter_mut() {
             stream.ask(home, alternative);
         }
         true
     }
 
-    /// The code is acknowledged (Q.704 6.3): its streams run on their home, and it's free. A spent code has no
-    /// streams, and a free one stays free.
+    /// An open code was declared once more, by the message of this number: one acknowledgement more is owed (Q.704
+    /// 6.3). Any other stays as it is.
+    ///
+    /// Condition: fewer acknowledgements are owed under it than a number can count.
+    pub fn ask_again(&mut self, code: u8, declaration: u64)
+        requires { owed_under (code_of code self.old) < 2 ^ 63 }
+        ensures { self.new ≡ asked_again code declaration self.old }
+    {
+        let at = usize::from(code);
+        if let Code::Asked { via, owed, .. } = self.codes[at] {
+            self.codes[at] = Code::Asked {
+                via,
+                declaration,
+                owed: owed + 1,
+            };
+        }
+    }
+
+    /// The code is acknowledged (Q.704 6.3): its streams run on their home; it's spent while more acknowledgements are
+    /// owed, and then free. A spent code has no streams, and a free one stays free.
+    pub fn acknowledge(&mut self, code: u8)
+        ensures { self.new ≡ answered code self.old }
+    {
+        let at = usize::from(code);
+        self.codes[at] = self.codes[at].answered();
+        run_home(&mut self.streams, code);
+    }
+
+    /// No acknowledgement came (own): the code's streams run on their home, and it's free.
     pub fn give_back(&mut self, code: u8)
         ensures { self.new ≡ given_back code self.old }
     {
         self.codes[usize::from(code)] = Code::Free;
-        for stream in self.streams.iter_mut() {
-            stream.give_back(code);
-        }
+        run_home(&mut self.streams, code);
     }
 
     /// No acknowledgement came in time (own): all codes of this home are given back, ascending.
@@ -226,5 +257,23 @@ fn leave_codes(codes: &mut [Code; CODES], link: u8)
 {
     for (number, code) in codes.iter_mut().enumerate() {
         code.leave(number as u8, link);
+    }
+}
+
+/// The link settled: open codes whose streams came from it come from the target.
+fn settle_codes(codes: &mut [Code; CODES], link: u8, target: Option<u8>)
+    ensures { codes.new ≡ map (code_settled link target) codes.old }
+{
+    for code in codes.iter_mut() {
+        code.settle(link, target);
+    }
+}
+
+/// The streams that wait for the code run on their home.
+fn run_home(streams: &mut [Stream; STREAMS], code: u8)
+    ensures { streams.new ≡ map (stream_back code) streams.old }
+{
+    for stream in streams.iter_mut() {
+        stream.give_back(code);
     }
 }

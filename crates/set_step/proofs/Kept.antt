@@ -21,7 +21,7 @@ use Rattle.set_model.proofs.Lists.{present}
 use Rattle.std.proofs.lemmas.List.{length-replicate}
 use Rattle.set_events.specs.declared.config.SetConfig.{SetConfig}
 use Rattle.set_queues.specs.Queues.{AreGiven, AreSound}
-use Rattle.set_route.specs.Routing.{new_routing}
+use Rattle.set_route.specs.Routing.{Routing, new_routing}
 use Rattle.set_model.specs.Step.{Event, Answer, step, stepped}
 use Rattle.set_model.proofs.Soundness.{opened_sound, step_sound}
 use Rattle.set_model.proofs.Walk.{step_is}
@@ -75,9 +75,16 @@ none_stands : (q : Lists) → AreSound q [] → (fate : Fate) → is_standing fa
 none_stands q sound fate stood = none_given (queue_at fate q) (given_queue q [] fate sound.tied stood)
 
 -- links that stand for new ones, sound queues with nothing, and nothing else
+stands_new : {A : Type 0} (config : SetConfig) (parts : Parts A) (routing : Routing) → parts.config ≡ config → parts.links.items ≡ replicate config.links (new_link config.profile config.method) → parts.queues.lists.links ≡ replicate config.links (no_lists config.profile) → AreSound parts.queues.lists parts.queues.messages → parts.queues.messages ≡ [] → parts.bodies.items ≡ [] → parts.finished ≡ none_finished → parts.routes ≡ routing → parts.inbox.items ≡ []
+    → StandsFor (kept_of parts) (record (new_state config) { routing = routing })
+stands_new config parts routing c links lists sound messages bodies finished routes inbox = grind (arith, nat_tests, none_stands parts.queues.lists (rw messages at sound), length-replicate, replicated, from_zero config.profile)
+
 pub opened : {A : Type 0} (config : SetConfig) (parts : Parts A) → parts.config ≡ config → parts.links.items ≡ replicate config.links (new_link config.profile config.method) → parts.queues.lists.links ≡ replicate config.links (no_lists config.profile) → AreSound parts.queues.lists parts.queues.messages → parts.queues.messages ≡ [] → parts.bodies.items ≡ [] → parts.finished ≡ none_finished → parts.routes ≡ new_routing config.links → parts.inbox.items ≡ []
     → Agrees (kept_of parts) (new_state config)
-opened config parts c links lists sound messages bodies finished routes inbox = grind (arith, nat_tests, none_stands parts.queues.lists (rw messages at sound), length-replicate, replicated, from_zero config.profile, opened_sound (settings_of config))
+opened config parts c links lists sound messages bodies finished routes inbox = record {
+  stands = stands_new config parts (new_routing config.links) c links lists sound messages bodies finished routes inbox;
+  sound = opened_sound (settings_of config) (record { some_link = config.has_links; at_most_16 = config.links_in_range; managed = config.management });
+}
 
 -- A LINK THAT COMES UP
 -- a settled link is there, and nothing stands on it, once room was taken

@@ -8,8 +8,8 @@ ghost use Rattle.set_changeover.specs.Parts.{Answers, AreCounted, kept_of};
 
 use l3_orders::Order;
 use set_changeover::{
-    Parts, leave, make_room_beside, make_room_parked, phase_of, queue, restore, settle, take_back,
-    time_out, unsent_order, unserved,
+    Parts, leave, make_room_beside, make_room_parked, phase_of, queue, redeclare, restore, settle,
+    take_back, time_out, unsent_order, unserved,
 };
 use set_events::{EventRef, Fate, Refusal, Reply};
 use set_model::{Phase, Reached};
@@ -57,6 +57,7 @@ pub(crate) fn take_step<A: Allocator + Copy>(
         EventRef::NoAnswer { link } => give_up(parts, *link, reply),
         EventRef::Timed { link } => settle_by_time(parts, *link, reply),
         EventRef::Restore { link } => restore(parts, *link, reply),
+        EventRef::Redeclare { link } => redeclare(parts, *link, reply),
         EventRef::BackTimeout { link } => time_out(parts, *link, reply),
     }
 }

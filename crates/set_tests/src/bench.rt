@@ -98,6 +98,7 @@ pub(crate) enum Call {
     NoAnswer(u8),
     Timed(u8),
     Restore(u8),
+    Redeclare(u8),
     BackTimeout(u8),
 }
 
@@ -109,6 +110,7 @@ fn event_of(call: Call) -> Event {
         Call::NoAnswer(link) => Event::NoAnswer { link },
         Call::Timed(link) => Event::Timed { link },
         Call::Restore(link) => Event::Restore { link },
+        Call::Redeclare(link) => Event::Redeclare { link },
         Call::BackTimeout(link) => Event::BackTimeout { link },
     }
 }

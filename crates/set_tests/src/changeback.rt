@@ -8,7 +8,7 @@ use std::test::Fail;
 
 /// Of two links link 0 is up first, so stream 3, whose home is link 1, runs there; then it's asked back. Number 0 is a
 /// message and 1 the declaration on link 0; message 2 waits for the acknowledgement.
-fn asks_back(alloc: Global, set: &mut SetCore) -> bool {
+pub(crate) fn asks_back(alloc: Global, set: &mut SetCore) -> bool {
     does(set, Call::Up(0))
         && accepts(alloc, set, 3, 0, Fate::Waiting { link: 0 })
         && does_all(set, &[Call::Up(1), Call::Restore(1)])
@@ -95,7 +95,7 @@ fn spent_code_times_out(alloc: Global, set: &mut SetCore) -> bool {
 /// since that was up first. Both are asked back: numbers 3 and 4 are the declarations on links 0 and 1, and messages 5
 /// to 8 wait in turn for the acknowledgements of codes 33 and 32. Message 1, which was never sent, waits on link 0 behind
 /// order 2.
-fn asks_two_back(alloc: Global, set: &mut SetCore) -> bool {
+pub(crate) fn asks_two_back(alloc: Global, set: &mut SetCore) -> bool {
     does(set, Call::Up(1))
         && accepts(alloc, set, 5, 0, Fate::Waiting { link: 1 })
         && does(set, Call::Up(2))

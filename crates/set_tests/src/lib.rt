@@ -30,6 +30,8 @@ mod orders;
 #[cfg(test)]
 mod queues;
 #[cfg(test)]
+mod redeclared;
+#[cfg(test)]
 mod routes;
 #[cfg(test)]
 mod sets;

@@ -12,6 +12,15 @@ fn is_on(routes: &Routes, stream: u8, link: u8) -> bool
     routes.place(stream) == Place::On { link }
 }
 
+/// Code 16 as message 7 declared it, with one acknowledgement owed.
+fn asked_from(via: u8) -> Code {
+    Code::Asked {
+        via,
+        declaration: 7,
+        owed: 1,
+    }
+}
+
 /// Whether stream 5 is on its way to link 1 from this link, and was asked back by code 16.
 fn comes_via(routes: &Routes, via: u8) -> bool {
     let there = Place::Changing {
@@ -19,7 +28,7 @@ fn comes_via(routes: &Routes, via: u8) -> bool {
         code: 16,
         via,
     };
-    routes.place(5) == there && routes.code(16) == Code::Asked
+    routes.place(5) == there && routes.code(16) == asked_from(via)
 }
 
 /// Two links: stream 3 has home 1, stream 4 has home 0. While link 1 alone is up both run on it.
@@ -68,7 +77,7 @@ fn asks_back() -> Routes
     routes.divert(1);
     routes.settle(1, Some(0));
     routes.raise(1);
-    routes.ask(1, 0);
+    routes.ask(1, 0, 7);
     routes
 }
 
@@ -77,10 +86,10 @@ fn asks_back() -> Routes
 fn a_stream_with_messages_comes_back_by_its_code() -> Result<(), Fail> {
     let mut routes = asks_back();
     let on_its_way = comes_via(&routes, 0) && is_on(&routes, 3, 1);
-    let again = routes.ask(1, 0);
-    routes.give_back(16);
+    let again = routes.ask(1, 0, 8);
+    routes.acknowledge(16);
     let back = is_on(&routes, 5, 1) && routes.code(16) == Code::Free;
-    let once_more = routes.ask(1, 0);
+    let once_more = routes.ask(1, 0, 9);
     holds(on_its_way && !again && back && !once_more)
 }
 
@@ -89,14 +98,43 @@ fn a_stream_with_messages_comes_back_by_its_code() -> Result<(), Fail> {
 fn a_code_is_spent_where_its_home_is_left() -> Result<(), Fail> {
     let mut routes = asks_back();
     routes.divert(1);
-    let spent = is_on(&routes, 5, 0) && routes.code(16) == Code::Spent;
+    let spent = is_on(&routes, 5, 0) && routes.code(16) == Code::Spent { owed: 1 };
     routes.settle(1, Some(0));
     routes.raise(1);
-    let early = routes.ask(1, 0);
+    let early = routes.ask(1, 0, 8);
     routes.give_back(16);
     let stays = is_on(&routes, 5, 0);
-    let asked = routes.ask(1, 0) && routes.code(16) == Code::Asked;
+    let asked = routes.ask(1, 0, 7) && routes.code(16) == asked_from(0);
     holds(spent && !early && stays && asked)
+}
+
+/// Declared once more by message 9, the code is open from where it was. The first acknowledgement brings the stream
+/// home, and the second frees the code, which isn't declared again meanwhile.
+#[test]
+fn a_code_is_free_after_as_many_answers_as_declarations() -> Result<(), Fail> {
+    let mut routes = asks_back();
+    declare_again(&mut routes, 9);
+    let open = routes.code(16)
+        == Code::Asked {
+            via: 0,
+            declaration: 9,
+            owed: 2,
+        };
+    routes.acknowledge(16);
+    let home = is_on(&routes, 5, 1);
+    declare_again(&mut routes, 11);
+    let spent = routes.code(16) == Code::Spent { owed: 1 };
+    routes.acknowledge(16);
+    let free = routes.code(16) == Code::Free;
+    declare_again(&mut routes, 12);
+    holds(open && home && spent && free && routes.code(16) == Code::Free)
+}
+
+/// Code 16 is declared once more by this message, where few acknowledgements are owed under it.
+fn declare_again(routes: &mut Routes, declaration: u64) {
+    if routes.code(16).owed() < 100 {
+        routes.ask_again(16, declaration);
+    }
 }
 
 /// The link that the stream comes from settles: it comes from the target then, and its code stays.

@@ -1,6 +1,6 @@
 -- EACH STEP DOES THE SAME under a veil: change by change. What asks for a link asks whether it's up, which a settled one isn't
 -- and a left one isn't; and the target is among those that are up.
-use Rattle.std.proofs.Common.{refl, arith, ◌≡◌, ◌≢◌, ◌∙◌, ap, sym, subst, ℕ, zero, suc, ◌==◌, ◌<◌, ◌+◌, Bool, true, false, not, ◌&&◌, ◌||◌, List, [], ◌∷◌, ◌++◌, length, map, slice_get, slice_set, Option, Some, None, cond}
+use Rattle.std.proofs.Common.{refl, arith, ◌≡◌, ◌≢◌, ◌∙◌, ap, sym, subst, ℕ, zero, suc, ◌==◌, ◌<◌, ◌+◌, Bool, true, false, not, ◌&&◌, ◌||◌, List, [], ◌∷◌, ◌++◌, length, map, slice_get, slice_set, Option, Some, None, is_some, cond}
 use Rattle.std.proofs.lemmas.Bool.{eqb-true}
 use Rattle.std.proofs.lemmas.Bool.Decides.{nat_tests}
 use Rattle.l2_units.specs.declared.unit.Unit.{Unit as SignalUnit}
@@ -13,8 +13,8 @@ use Rattle.set_events.specs.declared.answer.Fate.{Fate}
 use Rattle.set_events.specs.declared.answer.Refusal.{Refusal as SetRefusal}
 use Rattle.set_events.specs.declared.answer.Took.{Took}
 use Rattle.set_events.specs.declared.event.Event.{Event}
-use Rattle.set_events.specs.declared.event.Event.TheVariants.{Offer, Take, Find, Next, Heard, Up as UpEvent, Down as DownEvent, DownBlind, NoAnswer, Timed, Restore, BackTimeout}
-use Rattle.set_route.specs.Routing.{place_of, code_for, code_of, can_ask}
+use Rattle.set_events.specs.declared.event.Event.TheVariants.{Offer, Take, Find, Next, Heard, Up as UpEvent, Down as DownEvent, DownBlind, NoAnswer, Timed, Restore, Redeclare, BackTimeout}
+use Rattle.set_route.specs.Routing.{place_of, code_for, code_of, home_of, can_ask, asked_again}
 use Rattle.set_route.specs.declared.place.Place.{Place}
 use Rattle.set_route.specs.declared.place.Place.TheVariants.{On, Changing, Nowhere}
 use Rattle.set_route.specs.declared.place.Code.{Code}
@@ -28,8 +28,8 @@ use Rattle.set_model.specs.declared.reached.Reached.TheVariants.{Upto, Unknown, 
 use Rattle.set_model.specs.Control.{Choice, HeardPart}
 use Rattle.set_model.specs.Rows.{Fate, Waiting, Unacked, Acked, Held, Back, Parked, Discarded, Row, service_indicator, with_fate, fated, standing, moved, appended, put_ahead, all_with, is_on, is_back_to, place, stream_of, wait}
 use Rattle.set_model.specs.State.{late_in, LinkState, State, given, with_link, has_phase_up, has_phase_settled, link_is_up, link_is_settled, is_up, is_settled, fate_at, target, link_count}
-use Rattle.set_model.specs.Changeover.{queued, out_of_service, turned_back, left_by, left_link, leaving_order, overtakes, is_overtaken, leading, withdrawn, cleared, reached_by, is_reasonable, discarded, acknowledged_by, judged, judged_link, taken_back, is_told, moved_over, settled_link, settled, declared, can_declare, declared_if, declared_from, some_declare, released, released_from, some_in_use, Obeyed, ignored, reply_of, answered_link, changed_over, answered, at_link, obeyed_at, acknowledged_back, order_obeyed, obeyed}
-use Rattle.set_model.specs.Step.{Outcome, refused, offer_refusal, offered, taken, found, with_known, on_link, in_service, next, heard, controls, part_in, brought, takes, controlled, is_heard, rises, risen_link, falls, gives_up, over_by_time, timed, times_out, comes_back, runs_out, step}
+use Rattle.set_model.specs.Changeover.{queued, out_of_service, turned_back, left_by, left_link, leaving_order, overtakes, is_overtaken, leading, withdrawn, cleared, reached_by, is_reasonable, discarded, acknowledged_by, judged, judged_link, taken_back, is_told, moved_over, settled_link, settled, declared, can_declare, declared_if, declared_from, some_declare, overdue_via, redeclared_on, redeclared_from, some_overdue, released, released_from, some_in_use, Obeyed, ignored, reply_of, answered_link, changed_over, answered, at_link, obeyed_at, acknowledged_back, order_obeyed, obeyed}
+use Rattle.set_model.specs.Step.{Outcome, refused, offer_refusal, offered, taken, found, with_known, on_link, in_service, next, heard, controls, part_in, brought, takes, controlled, is_heard, rises, risen_link, falls, gives_up, over_by_time, timed, times_out, comes_back, redeclares, runs_out, step}
 use Rattle.set_model.proofs.Lists.{get_set_same, get_set_other, within, length_set, map_set_same, present}
 use Rattle.set_model.proofs.Places.{false_true, itself}
 use Rattle.set_veiled.specs.Veil.{veil, IsOfOther, IsNoOrderOf, IsElsewhere, IsAlike, VeilsKeepSteps}
@@ -216,8 +216,8 @@ module _ (cover : LinkState) (not_up : has_phase_up cover.phase ≡ false) (l : 
 
   back_alike : (code : ℕ) (c : Code) (s : State) → Alike (acknowledged_back code c (veil cover l s)) (acknowledged_back code c s)
   back_alike code Free s = record { took = refl; state = refl }
-  back_alike code Asked s = record { took = refl; state = refl }
-  back_alike code Spent s = record { took = refl; state = refl }
+  back_alike code (Asked via declaration owed) s = record { took = refl; state = refl }
+  back_alike code (Spent owed) s = record { took = refl; state = refl }
 
   obeyed_alike : (order : Option Order) (s : State) → IsOfOther l order → IsOut s → Alike (obeyed order (veil cover l s)) (obeyed order s)
   obeyed_alike None s other o = record { took = refl; state = refl }
@@ -420,22 +420,58 @@ module _ (cover : LinkState) (not_up : has_phase_up cover.phase ≡ false) (l : 
       go true false f = absurd cc
       go false true f = absurd cc
 
-  timeout_alike : (n : ℕ) (s : State) → IsOut s → IsAlike cover l (on_link n (veil cover l s) (λ state. runs_out n (veil cover l s))) (on_link n s (λ state. runs_out n s))
-  timeout_alike n s o = go (n == l) refl
+  -- what is done whatever the link's state is
+  known_alike : (f : State → Outcome) (n : ℕ) (s : State) → IsOut s → IsAlike cover l (f (veil cover l s)) (f s)
+      → IsAlike cover l (on_link n (veil cover l s) (λ state. f (veil cover l s))) (on_link n s (λ state. f s))
+  known_alike f n s o both = go (n == l) refl
     where
-      both : (k m : LinkState) → IsAlike cover l (with_known (Some k) (veil cover l s) (λ state. runs_out n (veil cover l s))) (with_known (Some m) s (λ state. runs_out n s))
-      both k m = runs_alike n s
+      at : Option LinkState → Option LinkState → Type 0
+      at k m = IsAlike cover l (with_known k (veil cover l s) (λ state. f (veil cover l s))) (with_known m s (λ state. f s))
 
-      go : (b : Bool) → (n == l) ≡ b → IsAlike cover l (on_link n (veil cover l s) (λ state. runs_out n (veil cover l s))) (on_link n s (λ state. runs_out n s))
+      go : (b : Bool) → (n == l) ≡ b → at (slice_get (veil cover l s).links n) (slice_get s.links n)
       go true e =
           let same = eqb-true n l e in
           let p = present s.links l o.few in
           let one : slice_get (veil cover l s).links n ≡ Some cover = ap (slice_get (veil cover l s).links) same ∙ this_link s o in
           let two : slice_get s.links n ≡ Some p.0 = ap (slice_get s.links) same ∙ p.1 in
-          subst (λ (m : Option LinkState). IsAlike cover l (with_known m (veil cover l s) (λ state. runs_out n (veil cover l s))) (on_link n s (λ state. runs_out n s))) (sym one)
-          (subst (λ (m : Option LinkState). IsAlike cover l (with_known (Some cover) (veil cover l s) (λ state. runs_out n (veil cover l s))) (with_known m s (λ state. runs_out n s))) (sym two)
-          (both cover p.0))
-      go false d = there_alike n s (λ t state. runs_out n t) d (λ link. runs_alike n s)
+          subst (λ (m : Option LinkState). at m (slice_get s.links n)) (sym one) (subst (at (Some cover)) (sym two) both)
+      go false d = there_alike n s (λ t state. f t) d (λ link. both)
+
+  timeout_alike : (n : ℕ) (s : State) → IsOut s → IsAlike cover l (on_link n (veil cover l s) (λ state. runs_out n (veil cover l s))) (on_link n s (λ state. runs_out n s))
+  timeout_alike n s o = known_alike (runs_out n) n s o (runs_alike n s)
+
+  -- NO ACKNOWLEDGEMENT CAME IN TIME
+  again_same : (code : ℕ) (due : Option ℕ) (s : State) → IsOut s → redeclared_on code due (veil cover l s) ≡ veil cover l (redeclared_on code due s)
+  again_same code None s o = refl
+  again_same code (Some via) s o = ap (λ (fate : Fate). record (veil cover l s) {
+    rows = appended (given s) s.rows (text s.settings.profile (Cbd (home_of code) code) s.settings.sio s.settings.dpc s.settings.opc) fate;
+    routing = asked_again code (given s) s.routing;
+  }) (fate_same s o (On via))
+
+  again_out : (code : ℕ) (due : Option ℕ) (s : State) → IsOut s → IsOut (redeclared_on code due s)
+  again_out code None s o = o
+  again_out code (Some via) s o = record { few = o.few; out = o.out }
+
+  redeclared_same : (code n : ℕ) (s : State) → IsOut s → redeclared_from code n (veil cover l s) ≡ veil cover l (redeclared_from code n s)
+  redeclared_same code zero s o = refl
+  redeclared_same code (suc n) s o =
+      let due = overdue_via (code_of code s.routing) s.rows in
+      ap (redeclared_from (suc code) n) (again_same code due s o) ∙ redeclared_same (suc code) n (redeclared_on code due s) (again_out code due s o)
+
+  overdue_same : (code n : ℕ) (s : State) → some_overdue code n (veil cover l s) ≡ some_overdue code n s
+  overdue_same code zero s = refl
+  overdue_same code (suc n) s = ap (λ (b : Bool). is_some (overdue_via (code_of code s.routing) s.rows) || b) (overdue_same (suc code) n s)
+
+  redeclares_alike : (n : ℕ) (s : State) → IsOut s → IsAlike cover l (redeclares n (veil cover l s)) (redeclares n s)
+  redeclares_alike n s o = go (some_overdue (code_for n 0) 16 (veil cover l s)) (some_overdue (code_for n 0) 16 s) (overdue_same (code_for n 0) 16 s)
+    where
+      go : (b c : Bool) → b ≡ c → IsAlike cover l
+          (cond b (record { answer = Rattle.set_events.specs.declared.answer.Answer.TheVariants.Done; state = redeclared_from (code_for n 0) 16 (veil cover l s) }) (refused (veil cover l s) SetRefusal.Nothing))
+          (cond c (record { answer = Rattle.set_events.specs.declared.answer.Answer.TheVariants.Done; state = redeclared_from (code_for n 0) 16 s }) (refused s SetRefusal.Nothing))
+      go true true f = record { answer = refl; state = redeclared_same (code_for n 0) 16 s o }
+      go false false f = refused_alike s SetRefusal.Nothing
+      go true false f = absurd cc
+      go false true f = absurd cc
 
   -- OFFER, TAKE, FIND, and a link of another number
   offer_alike : (why : Option SetRefusal) (s : State) (body : List ℕ) → IsOut s → IsAlike cover l (offered why (veil cover l s) body) (offered why s body)
@@ -521,6 +557,7 @@ module _ (cover : LinkState) (not_up : has_phase_up cover.phase ≡ false) (l : 
   all_alike s (NoAnswer n) o other = there_alike n s (λ t link. gives_up n t link link.phase) other (λ link. gives_alike n s link link.phase other o)
   all_alike s (Timed n) o other = there_alike n s (λ t link. times_out n t link link.phase) other (λ link. times_alike n s link link.phase other o)
   all_alike s (Restore n) o other = service_alike n s (λ t link. comes_back n t) o (λ link d. comes_alike n s o)
+  all_alike s (Redeclare n) o other = known_alike (redeclares n) n s o (redeclares_alike n s o)
   all_alike s (BackTimeout n) o other = timeout_alike n s o
 
   pub settled_out : (s : State) → is_settled l s ≡ true → IsOut s

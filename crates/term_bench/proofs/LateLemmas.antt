@@ -10,7 +10,7 @@ use Rattle.set_events.specs.declared.answer.Answer.{Answer}
 use Rattle.set_events.specs.declared.answer.Fate.{Fate}
 use Rattle.set_events.specs.declared.answer.Refusal.{Refusal as SetRefusal}
 use Rattle.set_events.specs.declared.event.Event.{Event}
-use Rattle.set_events.specs.declared.event.Event.TheVariants.{Offer, Take, Find, Next, Heard, Up as UpEvent, Down as DownEvent, DownBlind, NoAnswer, Timed, Restore, BackTimeout}
+use Rattle.set_events.specs.declared.event.Event.TheVariants.{Offer, Take, Find, Next, Heard, Up as UpEvent, Down as DownEvent, DownBlind, NoAnswer, Timed, Restore, Redeclare, BackTimeout}
 use Rattle.set_route.specs.Routing.{code_for, code_of}
 use Rattle.set_route.specs.declared.place.Code.{Code}
 use Rattle.set_route.specs.declared.place.Code.TheVariants.{Free}
@@ -20,8 +20,9 @@ use Rattle.set_model.specs.declared.reached.Reached.{Reached}
 use Rattle.set_model.specs.declared.reached.Reached.TheVariants.{Upto, Unknown}
 use Rattle.set_model.specs.Rows.{Fate, Waiting, Unacked, Acked, Held, Back, Parked, Discarded, place}
 use Rattle.set_model.specs.State.{LinkState, State, has_phase_up, late_at, late_in, link_count}
-use Rattle.set_model.specs.Changeover.{acknowledged_back, answered, at_link, can_declare, changed_over, cleared, declared, declared_from, declared_if, obeyed, order_obeyed, released, released_from, some_declare, some_in_use}
-use Rattle.set_model.specs.Step.{Outcome, brought, comes_back, controls, controlled, falls, found, gives_up, heard, in_service, is_heard, next, offer_refusal, offered, on_link, part_in, refused, rises, runs_out, step, timed, times_out, taken, takes, with_known}
+use Rattle.set_model.proofs.Walk.{redeclared_links}
+use Rattle.set_model.specs.Changeover.{acknowledged_back, answered, at_link, can_declare, changed_over, cleared, declared, declared_from, declared_if, obeyed, order_obeyed, released, released_from, some_declare, some_in_use, some_overdue}
+use Rattle.set_model.specs.Step.{Outcome, brought, comes_back, controls, controlled, falls, found, gives_up, heard, in_service, is_heard, next, offer_refusal, offered, on_link, part_in, redeclares, refused, rises, runs_out, step, timed, times_out, taken, takes, with_known}
 use Rattle.term_bench.specs.Ends.{AtLink}
 use Rattle.term_bench.specs.Late.{AreLate, brings_order, ended_from, is_order}
 use Rattle.term_bench.proofs.BenchLemmas.{not_late}
@@ -115,6 +116,10 @@ module _ (n : ℕ) where
   comes_keeps k s = if_keeps (some_declare k 0 (link_count s) s) s _ SetRefusal.Nothing
       (λ none. ap (λ (ls : List LinkState). late_in (slice_get ls n)) (declared_links k 0 (link_count s) s))
 
+  redeclares_keep : (k : ℕ) (s : State) → Keeps s (redeclares k s)
+  redeclares_keep k s = if_keeps (some_overdue (code_for k 0) 16 s) s _ SetRefusal.Nothing
+      (λ none. ap (λ (ls : List LinkState). late_in (slice_get ls n)) (redeclared_links (code_for k 0) 16 s))
+
   runs_keeps : (k : ℕ) (s : State) → Keeps s (runs_out k s)
   runs_keeps k s = if_keeps (some_in_use (code_for k 0) 16 s) s _ SetRefusal.Nothing
       (λ none. ap (λ (ls : List LinkState). late_in (slice_get ls n)) (released_links (code_for k 0) 16 s))
@@ -185,6 +190,7 @@ module _ (n : ℕ) where
   late_stays s (NoAnswer k) = known_keeps k s _ (λ link e. gives_keeps k s link link.phase e)
   late_stays s (Timed k) = known_keeps k s _ (λ link e. times_keep k s link link.phase e)
   late_stays s (Restore k) = service_keeps k s _ (λ link e. comes_keeps k s)
+  late_stays s (Redeclare k) = known_keeps k s _ (λ link e. redeclares_keep k s)
   late_stays s (BackTimeout k) = known_keeps k s _ (λ link e. runs_keeps k s)
 
 -- so what was counted stands

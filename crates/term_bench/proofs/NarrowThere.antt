@@ -14,7 +14,8 @@ use Rattle.set_events.specs.declared.event.Event.{Event}
 use Rattle.set_model.specs.Sound.{IsSettings}
 use Rattle.set_model.specs.State.{LinkState, State, has_phase_up}
 use Rattle.set_model.specs.Step.{NotUp, next, refused, step, with_known}
-use Rattle.set_model.specs.Changeover.{cleared}
+use Rattle.set_model.specs.Changeover.{cleared, redeclared_from, some_overdue}
+use Rattle.set_route.specs.Routing.{code_for}
 use Rattle.set_model.proofs.Soundness.{step_sound}
 use Rattle.set_model.proofs.Staying.{step_grows}
 use Rattle.term_bench.specs.Ready.{GivesNarrow}
@@ -120,10 +121,18 @@ found_narrow number s (Some link) narrow = go (has_phase_up link.phase)
     go true = next_narrow number (cleared number s) link (narrow link refl)
     go false = refl
 
+redeclared_narrow : (found : Option LinkState) (s changed : State) (overdue : Bool)
+    → IsNarrowAnswer (with_known found s (λ link. if overdue then record { answer = Answer.Done; state = changed } else refused s Refusal.Nothing)).answer
+redeclared_narrow None s changed overdue = refl
+redeclared_narrow (Some link) s changed true = refl
+redeclared_narrow (Some link) s changed false = refl
+
 answer_narrow : (s : State) (event : Event) → GivesNarrow s → IsNarrowAnswer (step s event).answer
 unfolding step
 answer_narrow s (Event.Next number) gives =
     found_narrow number s (slice_get s.links number) (λ link there. (gives.sound.links number link there).profile ∙ gives.narrow)
+answer_narrow s (Event.Redeclare number) gives =
+    redeclared_narrow (slice_get s.links number) s (redeclared_from (code_for number 0) 16 s) (some_overdue (code_for number 0) 16 s)
 answer_narrow s event gives = grind arith
 
 pub step_gives : (s : State) (event : Event) → GivesNarrow s → IsNarrowAnswer (step s event).answer × GivesNarrow (step s event).state

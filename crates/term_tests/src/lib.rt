@@ -23,6 +23,8 @@ mod lent;
 #[cfg(test)]
 mod lines;
 #[cfg(test)]
+mod managed;
+#[cfg(test)]
 mod test_lines;
 #[cfg(test)]
 mod two_threads;

@@ -12,13 +12,12 @@ use Rattle.l2_bits.specs.Stuffing.{AppendsText, text_after}
 use Rattle.link_term.specs.Filling.{Taps}
 use Rattle.link_term.specs.declared.tap.LastUnit.{LastUnit}
 use Rattle.std.specs.Option.{option_to_list}
-use Rattle.term_bench.specs.Ends.{BenchState}
-use Rattle.term_bench.specs.Waiting.{Hears as HearsTurn, HearsBit, HearsPiece, HearsPieces, TurnAndUnit, Waits}
-use Rattle.term_bench.specs.declared.turn.Turn.{Turn}
+use Rattle.term_managed.specs.Ends.{ManagedState}
+use Rattle.term_managed.specs.Turns.{HeardTurn, Hears as HearsTurn, HearsBit, HearsPiece, HearsPieces, TurnAndDeeds, Waits}
 use Rattle.text_base.specs.Figures.{hex_text}
 use Rattle.l2_bits.specs.LineBits.{bits_of, line_bits}
 use Rattle.l2_units.specs.declared.unit.Unit.{Unit as SignalUnit}
-use Rattle.terminal_text.proofs.RowLemmas.{left_at_end, shows_more, shows_nothing}
+use Rattle.terminal_text.proofs.RowLemmas.{shows_more, shows_nothing}
 use Rattle.terminal_text.specs.Answers.{AsManyGoOut, Exchanges, HearsLine, one_by_one, unit_bits}
 use Rattle.terminal_text.specs.Hearing.{Exchanging, Hears}
 use Rattle.terminal_text.specs.Rows.{Shows, left_of}
@@ -29,23 +28,23 @@ use Rattle.std.specs.Prelude.{codes, decimal}
 
 -- Pieces behind pieces.
 
-pub pieces_more : (link : ℕ) (xs ys : List (List Bool)) (old mid new : BenchState) (a b : List TurnAndUnit)
+pub pieces_more : (link : ℕ) (xs ys : List (List Bool)) (old mid new : ManagedState) (a b : List HeardTurn)
     → HearsPieces link xs old a mid → HearsPieces link ys mid b new → HearsPieces link (xs ++ ys) old (a ++ b) new
 pieces_more link [] ys old mid new a b f g =
-    subst (λ (ts : List TurnAndUnit). HearsPieces link ys old (ts ++ b) new) (sym f.0)
-    (subst (λ (s : BenchState). HearsPieces link ys s b new) f.1 g)
+    subst (λ (ts : List HeardTurn). HearsPieces link ys old (ts ++ b) new) (sym f.0)
+    (subst (λ (s : ManagedState). HearsPieces link ys s b new) f.1 g)
 pieces_more link (bits ∷ xs) ys old mid new a b f g = (
   f.0,
   f.1,
   f.2 ++ b,
   f.3,
   pieces_more link xs ys f.0 mid new f.2 b f.4 g,
-  ap (λ (ts : List TurnAndUnit). ts ++ b) f.5 ∙ append_assoc (option_to_list f.1) f.2 b,
+  ap (λ (ts : List HeardTurn). ts ++ b) f.5 ∙ append_assoc (option_to_list f.1) f.2 b,
 )
 
 -- Octets.
 
-pub exchanging_none : (link : ℕ) (bench : BenchState) (rows : Rows) (put : List ℕ) → Exchanging link [] bench bench rows rows put put
+pub exchanging_none : (link : ℕ) (bench : ManagedState) (rows : Rows) (put : List ℕ) → Exchanging link [] bench bench rows rows put put
 exchanging_none link bench rows put = record {
   heard = [];
   hears = (refl, refl);
@@ -54,22 +53,22 @@ exchanging_none link bench rows put = record {
   links = refl;
 }
 
-pub exchanging_more : (link : ℕ) (xs ys : List (List Bool)) (old mid new : BenchState) (a b c : Rows) (p q r : List ℕ)
+pub exchanging_more : (link : ℕ) (xs ys : List (List Bool)) (old mid new : ManagedState) (a b c : Rows) (p q r : List ℕ)
     → Exchanging link xs old mid a b p q → Exchanging link ys mid new b c q r → Exchanging link (xs ++ ys) old new a c p r
 exchanging_more link xs ys old mid new a b c p q r f g = record {
   heard = f.heard ++ g.heard;
   hears = pieces_more link xs ys old mid new f.heard g.heard f.hears g.hears;
-  shows = subst (λ (hs : List TurnAndUnit). Shows a hs c) (sym (map-append without_unit f.heard g.heard))
+  shows = subst (λ (hs : List HeardTurn). Shows a hs c) (sym (map-append without_unit f.heard g.heard))
       (shows_more a b c (map without_unit f.heard) (map without_unit g.heard) f.shows g.shows);
-  put_is = g.put_is ∙ ap (λ (xs : List ℕ). xs ++ map (λ h. h.turn.put) g.heard) f.put_is
-      ∙ append_assoc p (map (λ h. h.turn.put) f.heard) (map (λ h. h.turn.put) g.heard)
-      ∙ ap (λ (xs : List ℕ). p ++ xs) (sym (map-append (λ (h : TurnAndUnit). h.turn.put) f.heard g.heard));
+  put_is = g.put_is ∙ ap (λ (xs : List ℕ). xs ++ map (λ h. h.turn.turn.put) g.heard) f.put_is
+      ∙ append_assoc p (map (λ h. h.turn.turn.put) f.heard) (map (λ h. h.turn.turn.put) g.heard)
+      ∙ ap (λ (xs : List ℕ). p ++ xs) (sym (map-append (λ (h : HeardTurn). h.turn.turn.put) f.heard g.heard));
   links = g.links ∙ f.links;
 }
 
-pub octet_exchanged : (link octet : ℕ) (old new : BenchState) (rows rows' : Rows) (put put' : List ℕ) (turn : Turn) (unit : Option SignalUnit)
+pub octet_exchanged : (link octet : ℕ) (old new : ManagedState) (rows rows' : Rows) (put put' : List ℕ) (turn : TurnAndDeeds) (unit : Option SignalUnit)
     → HearsTurn link (bits_of 8 octet) old turn unit new → Shows rows (record { turn = turn; unit = None } ∷ []) rows'
-    → put' ≡ put ++ turn.put ∷ [] → length new.links ≡ length old.links
+    → put' ≡ put ++ turn.turn.put ∷ [] → length new.bench.links ≡ length old.bench.links
     → Exchanging link (bits_of 8 octet ∷ []) old new rows rows' put put'
 octet_exchanged link octet old new rows rows' put put' turn unit hears shows is links = record {
   heard = record { turn = turn; unit = unit } ∷ [];
@@ -81,7 +80,7 @@ octet_exchanged link octet old new rows rows' put put' turn unit hears shows is 
 
 -- Bits.
 
-pub hears_none : (link : ℕ) (bench : BenchState) (hearing : Hearing) → Hears link [] bench bench hearing hearing
+pub hears_none : (link : ℕ) (bench : ManagedState) (hearing : Hearing) → Hears link [] bench bench hearing hearing
 hears_none link bench hearing = record {
   heard = [];
   hears = (refl, refl);
@@ -90,7 +89,7 @@ hears_none link bench hearing = record {
   links = refl;
 }
 
-pub hears_more : (link : ℕ) (xs ys : List (List Bool)) (old mid new : BenchState) (a b c : Hearing)
+pub hears_more : (link : ℕ) (xs ys : List (List Bool)) (old mid new : ManagedState) (a b c : Hearing)
     → Hears link xs old mid a b → Hears link ys mid new b c → Hears link (xs ++ ys) old new a c
 hears_more link xs ys old mid new a b c f g = record {
   heard = f.heard ++ g.heard;
@@ -100,8 +99,8 @@ hears_more link xs ys old mid new a b c f g = record {
   links = g.links ∙ f.links;
 }
 
-pub bit_waits : (link : ℕ) (bit : Bool) (old new : BenchState) (was now : Hearing) → Waits link (bit ∷ []) old new
-    → now.rows ≡ was.rows → now.turns ≡ was.turns → length new.links ≡ length old.links
+pub bit_waits : (link : ℕ) (bit : Bool) (old new : ManagedState) (was now : Hearing) → Waits link (bit ∷ []) old new
+    → now.rows ≡ was.rows → now.turns ≡ was.turns → length new.bench.links ≡ length old.bench.links
     → Hears link ((bit ∷ []) ∷ []) old new was now
 bit_waits link bit old new was now waits rows turns links = record {
   heard = [];
@@ -111,9 +110,9 @@ bit_waits link bit old new was now waits rows turns links = record {
   links = links;
 }
 
-pub bit_turns : (link : ℕ) (bit : Bool) (old new : BenchState) (was now : Hearing) (turn : Turn) (unit : Option SignalUnit)
+pub bit_turns : (link : ℕ) (bit : Bool) (old new : ManagedState) (was now : Hearing) (turn : TurnAndDeeds) (unit : Option SignalUnit)
     → HearsTurn link (bit ∷ []) old turn unit new → Shows was.rows (record { turn = turn; unit = unit } ∷ []) now.rows
-    → now.turns ≡ was.turns + 1 → length new.links ≡ length old.links → Hears link ((bit ∷ []) ∷ []) old new was now
+    → now.turns ≡ was.turns + 1 → length new.bench.links ≡ length old.bench.links → Hears link ((bit ∷ []) ∷ []) old new was now
 bit_turns link bit old new was now turn unit hears shows turns links = record {
   heard = record { turn = turn; unit = unit } ∷ [];
   hears = (new, Some (record { turn = turn; unit = unit }), [], hears, (refl, refl), refl);
@@ -130,17 +129,17 @@ none_sent sent (Some unit) is zero_is = absurd (omega (arith, is, zero_is))
 -- The end of a line.
 
 -- what is printed at last is what all turns show
-pub shown_whole : (link : ℕ) (first last : Rows) (heard : List TurnAndUnit) → first.link ≡ link → first.row ≡ None → first.text.items ≡ []
+pub shown_whole : (link : ℕ) (first last : Rows) (heard : List HeardTurn) → first.link ≡ link → first.row ≡ None → first.text.items ≡ []
     → Shows first heard last → last.text.items ++ left_of last.link last.row [] ≡ shown link heard
 shown_whole link first last heard at none empty shows =
     ap (λ (xs : List ℕ). xs ++ left_of last.link last.row []) (shows.text_is ∙ ap (λ (xs : List ℕ). xs ++ shows.added) empty)
     ∙ ap (λ n. shows.added ++ left_of n last.row []) shows.link_is
     ∙ sym (shows.goes_on [])
-    ∙ ap (λ (hs : List TurnAndUnit). left_of first.link first.row hs) (append-nil heard)
+    ∙ ap (λ (hs : List HeardTurn). left_of first.link first.row hs) (append-nil heard)
     ∙ ap (λ n. left_of n first.row heard) at
     ∙ ap (λ r. left_of link r heard) none
 
-pub exchanged : (link : ℕ) (octets : List ℕ) (old new : BenchState) (first last : Rows) (none put text : List ℕ) → first.link ≡ link
+pub exchanged : (link : ℕ) (octets : List ℕ) (old new : ManagedState) (first last : Rows) (none put text : List ℕ) → first.link ≡ link
     → first.row ≡ None → first.text.items ≡ [] → none ≡ []
     → Exchanging link (map (bits_of 8) octets) old new first last none put
     → text ≡ (last.text.items ++ left_of last.link last.row [])
@@ -153,10 +152,10 @@ exchanged link octets old new first last none put text at row empty nothing e is
       ∙ ap (λ (xs : List ℕ). xs ++ (codes "octets " ++ (decimal link ++ (codes " " ++ (hex_text put ++ codes "\n")))))
       (shown_whole link first last (map without_unit e.heard) at row empty e.shows)
       ∙ ap (λ (xs : List ℕ). shown link (map without_unit e.heard) ++ (codes "octets " ++ (decimal link ++ (codes " " ++ (hex_text xs ++ codes "\n")))))
-      (e.put_is ∙ ap (λ (xs : List ℕ). xs ++ map (λ h. h.turn.put) e.heard) nothing);
+      (e.put_is ∙ ap (λ (xs : List ℕ). xs ++ map (λ h. h.turn.turn.put) e.heard) nothing);
 }
 
-pub line_heard : (link : ℕ) (bits : List Bool) (old new : BenchState) (first last : Hearing) (turns : ℕ) (text : List ℕ)
+pub line_heard : (link : ℕ) (bits : List Bool) (old new : ManagedState) (first last : Hearing) (turns : ℕ) (text : List ℕ)
     → first.rows.link ≡ link → first.rows.row ≡ None → first.rows.text.items ≡ [] → first.turns ≡ 0
     → Hears link (one_by_one bits) old new first last → turns ≡ last.turns
     → text ≡ (last.rows.text.items ++ left_of last.rows.link last.rows.row []) ++ (codes "turns " ++ (decimal turns ++ codes "\n"))
@@ -194,13 +193,13 @@ pub ok_so : {E P Q : Type 0} (result : Result (Unit {0}) E) → (P → Q) → On
 ok_so (Ok done) follows holds = follows holds
 ok_so (Err fault) follows holds = holds
 
-pub bit_none : (found : Option Turn) (link : ℕ) (bit : Bool) (old new : BenchState) (tap tap' : LastUnit) → found ≡ None
+pub bit_none : (found : Option TurnAndDeeds) (link : ℕ) (bit : Bool) (old new : ManagedState) (tap tap' : LastUnit) → found ≡ None
     → HearsBit (λ (before : LastUnit) (unit : SignalUnit) (after : LastUnit). after.unit ≡ Some unit) found link bit old new tap tap'
     → Waits link (bit ∷ []) old new
 bit_none found link bit old new tap tap' is hears =
-    (subst (λ (f : Option Turn). HearsBit (λ (before : LastUnit) (unit : SignalUnit) (after : LastUnit). after.unit ≡ Some unit) f link bit old new tap tap') is hears).0
+    (subst (λ (f : Option TurnAndDeeds). HearsBit (λ (before : LastUnit) (unit : SignalUnit) (after : LastUnit). after.unit ≡ Some unit) f link bit old new tap tap') is hears).0
 
-pub record BringsTurn (link : ℕ) (bit : Bool) (old new : BenchState) (turn : Turn) (tap' : LastUnit) : Type 0 where
+pub record BringsTurn (link : ℕ) (bit : Bool) (old new : ManagedState) (turn : TurnAndDeeds) (tap' : LastUnit) : Type 0 where
   pub unit : Option SignalUnit
   pub hears : HearsTurn link (bit ∷ []) old turn unit new
   pub told : (u : SignalUnit) → unit ≡ Some u → tap'.unit ≡ Some u
@@ -210,24 +209,24 @@ told_by : (unit : Option SignalUnit) (tap tap' : LastUnit) → Taps (λ (before 
 told_by None tap tap' taps u is = absurd cc
 told_by (Some unit) tap tap' taps u is = taps ∙ is
 
-pub bit_some : (found : Option Turn) (link : ℕ) (bit : Bool) (old new : BenchState) (turn : Turn) (tap tap' : LastUnit) → found ≡ Some turn
+pub bit_some : (found : Option TurnAndDeeds) (link : ℕ) (bit : Bool) (old new : ManagedState) (turn : TurnAndDeeds) (tap tap' : LastUnit) → found ≡ Some turn
     → HearsBit (λ (before : LastUnit) (unit : SignalUnit) (after : LastUnit). after.unit ≡ Some unit) found link bit old new tap tap'
     → BringsTurn link bit old new turn tap'
 bit_some found link bit old new turn tap tap' is hears =
-    let so = subst (λ (f : Option Turn). HearsBit (λ (before : LastUnit) (unit : SignalUnit) (after : LastUnit). after.unit ≡ Some unit) f link bit old new tap tap') is hears in record {
+    let so = subst (λ (f : Option TurnAndDeeds). HearsBit (λ (before : LastUnit) (unit : SignalUnit) (after : LastUnit). after.unit ≡ Some unit) f link bit old new tap tap') is hears in record {
       unit = so.0;
       hears = so.1;
       told = told_by so.0 tap tap' so.2;
     }
 
 -- a turn without a unit, and with one
-pub bit_quiet : (link : ℕ) (bit : Bool) (old new : BenchState) (was now : Hearing) (turn : Turn) (tap' : LastUnit)
-    → BringsTurn link bit old new turn tap' → turn.sent ≡ 0 → Shows was.rows (record { turn = turn; unit = None } ∷ []) now.rows
-    → now.turns ≡ was.turns + 1 → length new.links ≡ length old.links → Hears link ((bit ∷ []) ∷ []) old new was now
+pub bit_quiet : (link : ℕ) (bit : Bool) (old new : ManagedState) (was now : Hearing) (turn : TurnAndDeeds) (tap' : LastUnit)
+    → BringsTurn link bit old new turn tap' → turn.turn.sent ≡ 0 → Shows was.rows (record { turn = turn; unit = None } ∷ []) now.rows
+    → now.turns ≡ was.turns + 1 → length new.bench.links ≡ length old.bench.links → Hears link ((bit ∷ []) ∷ []) old new was now
 bit_quiet link bit old new was now turn tap' brings none shows turns links =
     bit_turns link bit old new was now turn brings.unit brings.hears
     (subst (λ (u : Option SignalUnit). Shows was.rows (record { turn = turn; unit = u } ∷ []) now.rows)
-    (sym (none_sent turn.sent brings.unit brings.hears.turns.takes.sent_is none)) shows)
+    (sym (none_sent turn.turn.sent brings.unit brings.hears.hears.turns.takes.sent_is none)) shows)
     turns links
 
 same_as_told : (unit shown : Option SignalUnit) (sent : ℕ) → sent ≡ length (option_to_list unit) → 0 < sent
@@ -235,25 +234,25 @@ same_as_told : (unit shown : Option SignalUnit) (sent : ℕ) → sent ≡ length
 same_as_told None shown sent is some told = absurd (omega (arith, is, some))
 same_as_told (Some unit) shown sent is some told = told unit refl
 
-pub bit_sent : (link : ℕ) (bit : Bool) (old new : BenchState) (was now : Hearing) (turn : Turn) (tap' : LastUnit) (unit : Option SignalUnit)
-    → BringsTurn link bit old new turn tap' → 0 < turn.sent → unit ≡ tap'.unit
+pub bit_sent : (link : ℕ) (bit : Bool) (old new : ManagedState) (was now : Hearing) (turn : TurnAndDeeds) (tap' : LastUnit) (unit : Option SignalUnit)
+    → BringsTurn link bit old new turn tap' → 0 < turn.turn.sent → unit ≡ tap'.unit
     → Shows was.rows (record { turn = turn; unit = unit } ∷ []) now.rows
-    → now.turns ≡ was.turns + 1 → length new.links ≡ length old.links → Hears link ((bit ∷ []) ∷ []) old new was now
+    → now.turns ≡ was.turns + 1 → length new.bench.links ≡ length old.bench.links → Hears link ((bit ∷ []) ∷ []) old new was now
 bit_sent link bit old new was now turn tap' unit brings some is shows turns links =
     bit_turns link bit old new was now turn brings.unit brings.hears
     (subst (λ (u : Option SignalUnit). Shows was.rows (record { turn = turn; unit = u } ∷ []) now.rows)
-    (same_as_told brings.unit unit turn.sent brings.hears.turns.takes.sent_is some (λ u h. is ∙ brings.told u h)) shows)
+    (same_as_told brings.unit unit turn.turn.sent brings.hears.hears.turns.takes.sent_is some (λ u h. is ∙ brings.told u h)) shows)
     turns links
 
 -- As many octets go out as came.
 
-one_turn : (link octet : ℕ) (old new : BenchState) (turn : Option TurnAndUnit) → HearsPiece link (bits_of 8 octet) old turn new
+one_turn : (link octet : ℕ) (old new : ManagedState) (turn : Option HeardTurn) → HearsPiece link (bits_of 8 octet) old turn new
     → length (option_to_list turn) ≡ 1
 one_turn link octet old new None waits =
-    absurd (omega (arith, waits.few, length-append waits.was.waiting (bits_of 8 octet), length-bits_of 8 octet))
+    absurd (omega (arith, waits.waits.few, length-append waits.waits.was.waiting (bits_of 8 octet), length-bits_of 8 octet))
 one_turn link octet old new (Some heard) hears = refl
 
-turn_each : (link : ℕ) (octets : List ℕ) (old new : BenchState) (heard : List TurnAndUnit) → HearsPieces link (map (bits_of 8) octets) old heard new
+turn_each : (link : ℕ) (octets : List ℕ) (old new : ManagedState) (heard : List HeardTurn) → HearsPieces link (map (bits_of 8) octets) old heard new
     → length heard ≡ length octets
 turn_each link [] old new heard hears = ap length hears.0
 turn_each link (octet ∷ octets) old new heard hears =
@@ -263,4 +262,4 @@ turn_each link (octet ∷ octets) old new heard hears =
 
 pub as_many : AsManyGoOut
 as_many link octets old printed new exchanges =
-    length-map exchanges.heard (λ (h : TurnAndUnit). h.turn.put) ∙ turn_each link octets old new exchanges.heard exchanges.hears
+    length-map exchanges.heard (λ (h : HeardTurn). h.turn.turn.put) ∙ turn_each link octets old new exchanges.heard exchanges.hears

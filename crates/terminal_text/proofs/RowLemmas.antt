@@ -1,13 +1,13 @@
 -- Rows of units that read the same, while they may go on.
-use Rattle.std.proofs.Common.{refl, sym, ap, subst, arith, ◌≡◌, ◌∙◌, ℕ, zero, suc, ◌+◌, ◌==◌, ◌&&◌, Bool, true, false, List, [], ◌∷◌, ◌++◌, append_assoc, append-nil, Option, None, Some, if◌then◌else◌}
+use Rattle.std.proofs.Common.{refl, sym, ap, subst, arith, ◌≡◌, ◌∙◌, ℕ, zero, suc, ◌+◌, ◌==◌, ◌&&◌, Bool, true, false, List, [], ◌∷◌, ◌++◌, length, append_assoc, append-nil, Option, None, Some, if◌then◌else◌}
 use Rattle.std.proofs.lemmas.Bool.Decides.{nat_tests}
 use Rattle.std.specs.Str.{bytes_eq}
-use Rattle.term_bench.specs.Waiting.{TurnAndUnit}
-use Rattle.term_bench.specs.declared.turn.Turn.{Turn}
+use Rattle.term_managed.specs.Turns.{HeardTurn, TurnAndDeeds}
+use Rattle.term_managed.specs.declared.turn.Deed.{Deed}
 use Rattle.l2_units.specs.declared.unit.Unit.{Unit as SignalUnit}
 use Rattle.text_units.specs.UnitsText.{unit_words}
 use Rattle.terminal_text.specs.Rows.{AddsUnit, EndsRow, Shows, ShowsLines, ShowsTurn, left_behind, left_of, row_text}
-use Rattle.terminal_text.specs.Showing.{is_silent, leading, leading_at, over, row_line, shown_behind, stays, turn_lines, unit_line, words_or}
+use Rattle.terminal_text.specs.Showing.{deeds_lines, is_quiet, is_silent, leading, leading_at, over, row_line, shown_behind, stays, turn_lines, unit_line, words_or}
 use Rattle.terminal_text.specs.declared.rows.Row.{Row}
 use Rattle.terminal_text.specs.declared.rows.Rows.{Rows}
 
@@ -18,26 +18,38 @@ no_lines zero true xs ys h = refl
 no_lines zero false xs ys h = absurd (grind (arith, nat_tests, h))
 no_lines (suc n) stay xs ys h = absurd (grind (arith, nat_tests, h))
 
-silent_lines : (link : ℕ) (turn : Turn) → is_silent turn ≡ true → turn_lines link turn ≡ []
-silent_lines link turn h = no_lines turn.messages (stays turn) _ _ h
+no_deeds : (link turn : ℕ) (deeds : List Deed) → (length deeds == 0) ≡ true → deeds_lines link turn deeds ≡ []
+no_deeds link turn [] h = refl
+no_deeds link turn (deed ∷ deeds) h = absurd (grind (arith, nat_tests, h))
 
-behind_turn : ℕ → Bool → Option (List ℕ) → List ℕ → Option SignalUnit → List TurnAndUnit → List ℕ
+both_true : (a b : Bool) → a && b ≡ true → (a ≡ true) × (b ≡ true)
+both_true true true h = (refl, refl)
+both_true true false h = absurd (cc h)
+both_true false b h = absurd (cc h)
+
+silent_lines : (link : ℕ) (turn : TurnAndDeeds) → is_silent turn ≡ true → turn_lines link turn ≡ []
+silent_lines link turn h =
+    let both = both_true (is_quiet turn.turn) (length turn.deeds == 0) h in
+    ap (λ (xs : List ℕ). xs ++ deeds_lines link turn.turn.number turn.deeds) (no_lines turn.turn.messages (stays turn.turn) _ _ both.0)
+    ∙ no_deeds link turn.turn.number turn.deeds both.1
+
+behind_turn : ℕ → Bool → Option (List ℕ) → List ℕ → Option SignalUnit → List HeardTurn → List ℕ
 behind_turn link silent before lines unit more =
     lines ++ (unit_line link (if silent then before else None) unit more ++ shown_behind link (words_or unit (if silent then before else None)) more)
 
-left_by : ℕ → Bool → Option Row → List ℕ → Option SignalUnit → List TurnAndUnit → List ℕ
+left_by : ℕ → Bool → Option Row → List ℕ → Option SignalUnit → List HeardTurn → List ℕ
 left_by link silent None lines unit more = behind_turn link silent None lines unit more
 left_by link silent (Some row) lines unit more =
     row_line link row.words.items (row.times + (if silent then leading_at row.words.items unit (leading row.words.items more) else 0))
     ++ behind_turn link silent (Some row.words.items) lines unit more
 
-by_turn : (link : ℕ) (row : Option Row) (heard : TurnAndUnit) (more : List TurnAndUnit)
+by_turn : (link : ℕ) (row : Option Row) (heard : HeardTurn) (more : List HeardTurn)
     → left_of link row (heard ∷ more) ≡ left_by link (is_silent heard.turn) row (turn_lines link heard.turn) heard.unit more
 unfolding left_by behind_turn
 by_turn link None heard more = refl
 by_turn link (Some row) heard more = refl
 
-by_silent : (link : ℕ) (silent : Bool) (row : Option Row) (lines : List ℕ) (unit : Option SignalUnit) (more : List TurnAndUnit)
+by_silent : (link : ℕ) (silent : Bool) (row : Option Row) (lines : List ℕ) (unit : Option SignalUnit) (more : List HeardTurn)
     → silent ≡ true → lines ≡ [] → left_by link silent row lines unit more ≡ left_behind link row unit more
 unfolding left_by behind_turn
 by_silent link true None lines unit more h e = ap (λ (xs : List ℕ). xs ++ (unit_line link None unit more ++ shown_behind link (words_or unit None) more)) e
@@ -46,7 +58,7 @@ by_silent link true (Some row) lines unit more h e =
     ++ (xs ++ (unit_line link (Some row.words.items) unit more ++ shown_behind link (words_or unit (Some row.words.items)) more))) e
 by_silent link false row lines unit more h e = absurd cc
 
-by_loud : (link : ℕ) (silent : Bool) (row : Option Row) (lines : List ℕ) (unit : Option SignalUnit) (more : List TurnAndUnit)
+by_loud : (link : ℕ) (silent : Bool) (row : Option Row) (lines : List ℕ) (unit : Option SignalUnit) (more : List HeardTurn)
     → silent ≡ false → left_by link silent row lines unit more ≡ row_text link row ++ (lines ++ left_behind link None unit more)
 unfolding left_by behind_turn
 by_loud link true row lines unit more h = absurd cc
@@ -55,7 +67,7 @@ by_loud link false (Some row) lines unit more h =
     ap (λ n. row_line link row.words.items n ++ (lines ++ left_behind link None unit more)) (omega arith)
 
 -- a silent turn with its unit, and without one
-shows_unit : (old new : Rows) (turn : Turn) (unit : SignalUnit) → is_silent turn ≡ true → AddsUnit old unit new
+shows_unit : (old new : Rows) (turn : TurnAndDeeds) (unit : SignalUnit) → is_silent turn ≡ true → AddsUnit old unit new
     → Shows old (record { turn = turn; unit = Some unit } ∷ []) new
 shows_unit old new turn unit h a = record {
   added = a.added;
@@ -67,11 +79,11 @@ shows_unit old new turn unit h a = record {
       ∙ a.goes_on more;
 }
 
-left_alone : (link : ℕ) (row : Option Row) (more : List TurnAndUnit) → left_behind link row None more ≡ left_of link row more
+left_alone : (link : ℕ) (row : Option Row) (more : List HeardTurn) → left_behind link row None more ≡ left_of link row more
 left_alone link None more = refl
 left_alone link (Some row) more = refl
 
-shows_none : (old : Rows) (turn : Turn) → is_silent turn ≡ true → Shows old (record { turn = turn; unit = None } ∷ []) old
+shows_none : (old : Rows) (turn : TurnAndDeeds) → is_silent turn ≡ true → Shows old (record { turn = turn; unit = None } ∷ []) old
 shows_none old turn h = record {
   added = [];
   text_is = sym (append-nil old.text.items);
@@ -82,7 +94,7 @@ shows_none old turn h = record {
       ∙ left_alone old.link old.row more;
 }
 
-shows_loud_unit : (old mid new : Rows) (turn : Turn) (unit : SignalUnit) → is_silent turn ≡ false → ShowsLines old turn mid
+shows_loud_unit : (old mid new : Rows) (turn : TurnAndDeeds) (unit : SignalUnit) → is_silent turn ≡ false → ShowsLines old turn mid
     → AddsUnit mid unit new → Shows old (record { turn = turn; unit = Some unit } ∷ []) new
 shows_loud_unit old mid new turn unit h lines a = record {
   added = (row_text old.link old.row ++ turn_lines old.link turn) ++ a.added;
@@ -100,7 +112,7 @@ shows_loud_unit old mid new turn unit h lines a = record {
       ∙ sym (append_assoc (row_text old.link old.row ++ turn_lines old.link turn) a.added (left_of old.link new.row more));
 }
 
-shows_loud : (old new : Rows) (turn : Turn) → is_silent turn ≡ false → ShowsLines old turn new
+shows_loud : (old new : Rows) (turn : TurnAndDeeds) → is_silent turn ≡ false → ShowsLines old turn new
     → Shows old (record { turn = turn; unit = None } ∷ []) new
 shows_loud old new turn h lines = record {
   added = row_text old.link old.row ++ turn_lines old.link turn;
@@ -114,34 +126,34 @@ shows_loud old new turn h lines = record {
 }
 
 -- a turn, silent or not
-with_unit : (silent : Bool) (old mid new : Rows) (turn : Turn) (unit : SignalUnit) → is_silent turn ≡ silent → ShowsTurn old turn mid
+with_unit : (silent : Bool) (old mid new : Rows) (turn : TurnAndDeeds) (unit : SignalUnit) → is_silent turn ≡ silent → ShowsTurn old turn mid
     → AddsUnit mid unit new → Shows old (record { turn = turn; unit = Some unit } ∷ []) new
 with_unit true old mid new turn unit h shows adds =
     shows_unit old new turn unit h (subst (λ (r : Rows). AddsUnit r unit new) (shows.silent h) adds)
 with_unit false old mid new turn unit h shows adds = shows_loud_unit old mid new turn unit h (shows.loud h) adds
 
-pub shows_with_unit : (old mid new : Rows) (turn : Turn) (unit : SignalUnit) → ShowsTurn old turn mid → AddsUnit mid unit new
+pub shows_with_unit : (old mid new : Rows) (turn : TurnAndDeeds) (unit : SignalUnit) → ShowsTurn old turn mid → AddsUnit mid unit new
     → Shows old (record { turn = turn; unit = Some unit } ∷ []) new
 shows_with_unit old mid new turn unit shows adds = with_unit (is_silent turn) old mid new turn unit refl shows adds
 
-alone : (silent : Bool) (old new : Rows) (turn : Turn) → is_silent turn ≡ silent → ShowsTurn old turn new
+alone : (silent : Bool) (old new : Rows) (turn : TurnAndDeeds) → is_silent turn ≡ silent → ShowsTurn old turn new
     → Shows old (record { turn = turn; unit = None } ∷ []) new
 alone true old new turn h shows =
     subst (λ (r : Rows). Shows old (record { turn = turn; unit = None } ∷ []) r) (sym (shows.silent h)) (shows_none old turn h)
 alone false old new turn h shows = shows_loud old new turn h (shows.loud h)
 
-pub shows_alone : (old new : Rows) (turn : Turn) → ShowsTurn old turn new → Shows old (record { turn = turn; unit = None } ∷ []) new
+pub shows_alone : (old new : Rows) (turn : TurnAndDeeds) → ShowsTurn old turn new → Shows old (record { turn = turn; unit = None } ∷ []) new
 shows_alone old new turn shows = alone (is_silent turn) old new turn refl shows
 
-pub silent_turn : (rows : Rows) (turn : Turn) → is_silent turn ≡ true → ShowsTurn rows turn rows
+pub silent_turn : (rows : Rows) (turn : TurnAndDeeds) → is_silent turn ≡ true → ShowsTurn rows turn rows
 silent_turn rows turn h = record { silent = λ s. refl; loud = λ l. let no : true ≡ false = sym h ∙ l in absurd cc }
 
-pub loud_turn : (old new : Rows) (turn : Turn) → is_silent turn ≡ false → ShowsLines old turn new → ShowsTurn old turn new
+pub loud_turn : (old new : Rows) (turn : TurnAndDeeds) → is_silent turn ≡ false → ShowsLines old turn new → ShowsTurn old turn new
 loud_turn old new turn h lines = record { silent = λ s. let no : true ≡ false = sym s ∙ h in absurd cc; loud = λ l. lines }
 
 -- A unit.
 
-module _ (link : ℕ) (unit : SignalUnit) (more : List TurnAndUnit) where
+module _ (link : ℕ) (unit : SignalUnit) (more : List HeardTurn) where
   -- in the row
   same_row : (same : Bool) (words : List ℕ) (times : ℕ) → same ≡ true → words ≡ unit_words unit
       → row_line link words (times + (if same then 1 + leading words more else 0))
@@ -178,7 +190,7 @@ unit_in_row old new unit row next was now same is words times text link = record
 }
 
 -- a row that has begun
-begun : (link : ℕ) (unit : SignalUnit) (new : Option Row) (next : Row) (more : List TurnAndUnit) → new ≡ Some next
+begun : (link : ℕ) (unit : SignalUnit) (new : Option Row) (next : Row) (more : List HeardTurn) → new ≡ Some next
     → next.words.items ≡ unit_words unit → next.times ≡ 1
     → left_of link new more ≡ row_line link (unit_words unit) (1 + leading (unit_words unit) more) ++ shown_behind link (Some (unit_words unit)) more
 begun link unit new next more now words times =
@@ -222,13 +234,13 @@ left_at_end link (Some row) =
 pub shows_nothing : (rows : Rows) → Shows rows [] rows
 shows_nothing rows = record { added = []; text_is = sym (append-nil rows.text.items); link_is = refl; goes_on = λ more. refl }
 
-pub shows_more : (a b c : Rows) (xs ys : List TurnAndUnit) → Shows a xs b → Shows b ys c → Shows a (xs ++ ys) c
+pub shows_more : (a b c : Rows) (xs ys : List HeardTurn) → Shows a xs b → Shows b ys c → Shows a (xs ++ ys) c
 shows_more a b c xs ys f g = record {
   added = f.added ++ g.added;
   text_is = g.text_is ∙ ap (λ (t : List ℕ). t ++ g.added) f.text_is ∙ append_assoc a.text.items f.added g.added;
   link_is = g.link_is ∙ f.link_is;
   goes_on = λ more.
-      ap (λ (all : List TurnAndUnit). left_of a.link a.row all) (append_assoc xs ys more)
+      ap (λ (all : List HeardTurn). left_of a.link a.row all) (append_assoc xs ys more)
       ∙ f.goes_on (ys ++ more)
       ∙ ap (λ (t : List ℕ). f.added ++ t)
       (ap (λ n. left_of n b.row (ys ++ more)) (sym f.link_is) ∙ g.goes_on more ∙ ap (λ n. g.added ++ left_of n c.row more) f.link_is)

@@ -1,11 +1,10 @@
 -- EACH INPUT OF `terminal` HAS A TEXT (`text_there`): an induction over its lines, each of which has an outcome (`line_there`) from
--- every bench that lines before it may leave (`IsReady`, TurnsThere of term_bench). With `one_outcome` (specs/One) it's the only one.
-use Rattle.std.proofs.Common.{refl, sym, subst, arith, ◌≡◌, ◌∙◌, ◌<◌, ◌≤◌, ◌%◌, ◌&&◌, nat_lt, is_none, ℕ, zero, suc, Bool, true, false, List, [], ◌∷◌, ◌++◌, length, map, Option, None, Some, slice_set, if◌then◌else◌, codes, Ok, Err}
+-- every end that lines before it may leave (`IsReadyEnd` of term_managed). With `one_outcome` (specs/One) it's the only one.
+use Rattle.std.proofs.Common.{refl, sym, subst, arith, ◌≡◌, ◌∙◌, ◌<◌, ◌≤◌, ◌%◌, ◌&&◌, not, nat_lt, is_none, ℕ, zero, suc, Bool, true, false, List, [], ◌∷◌, ◌++◌, length, map, Option, None, Some, slice_get, slice_set, if◌then◌else◌, codes, Ok, Err}
 use Rattle.std.specs.Result.{result_ok}
 use Rattle.std.proofs.lemmas.Bool.Decides.{nat_tests}
 use Rattle.std.proofs.lemmas.List.{length_push}
 use Rattle.std.specs.Option.{ForSome}
-use Rattle.std.specs.Str.{bytes_eq}
 use Rattle.l2_bits.specs.Flags.{flag}
 use Rattle.l2_bits.specs.LineBits.{bits_of}
 use Rattle.l2_bits.proofs.BitLemmas.{length-bits_of}
@@ -15,6 +14,7 @@ use Rattle.text_forms.specs.Opening.{first_line, fitting, is_end_of, opening_rea
 use Rattle.text_forms.specs.Words.{Read}
 use Rattle.text_forms.proofs.Fitting.{values_fit}
 use Rattle.text_forms.proofs.Lengths.{Run, timers_run}
+use Rattle.text_forms.proofs.LinkTimes.{AreSet, link_times_set}
 use Rattle.text_forms.specs.declared.opened.Values.{Values}
 use Rattle.set_events.specs.Config.{fault_of}
 use Rattle.set_events.specs.declared.config.Method.{Method}
@@ -26,19 +26,28 @@ use Rattle.set_model.specs.State.{Settings}
 use Rattle.set_model.specs.Step.{step}
 use Rattle.set_model.proofs.Checkpointing.{checkpoints}
 use Rattle.set_model.proofs.Soundness.{opened_sound}
-use Rattle.term_bench.specs.Ends.{AtLink, BenchState, new_link, new_links, told_at}
-use Rattle.term_bench.specs.Ready.{AreShort, FewWait, IsReady}
+use Rattle.l3_link.specs.declared.times.Times.{Times}
+use Rattle.term_bench.specs.Ends.{AtLink, new_link, new_links, told_at}
+use Rattle.term_bench.specs.Ready.{AreShort, FewWait}
 use Rattle.term_bench.proofs.BenchLemmas.{there_is}
 use Rattle.term_bench.proofs.NarrowThere.{step_gives}
-use Rattle.term_bench.proofs.TurnsThere.{few_set, length_set, pieces_there}
+use Rattle.term_bench.proofs.TurnsThere.{few_set, length_set}
+use Rattle.l3_link.specs.Table.{activated, deactivated}
+use Rattle.term_managed.proofs.HearingLemmas.{carries_there, pieces_there}
+use Rattle.term_managed.proofs.KeptLemmas.{so_many_fresh}
+use Rattle.term_managed.specs.Ends.{ManagedState, is_on, seen_at}
+use Rattle.term_managed.specs.Laws.{IsReadyEnd}
+use Rattle.term_managed.specs.Turns.{Activates, Deactivates}
 use Rattle.term_model.specs.declared.command.Command.{Command}
 use Rattle.term_model.specs.declared.timers.Timers.{Timers}
 use Rattle.text_forms.specs.Asking.{asked_of}
 use Rattle.text_forms.specs.Timers.{Lengths, lengths_of, timers_of, timers_read}
+use Rattle.text_forms.specs.Times.{LinkTimes, link_times_of, times_of, times_read}
+use Rattle.text_forms.specs.declared.early.Early.{Early}
 use Rattle.text_forms.specs.declared.asked.Asked.{Asked}
-use Rattle.terminal_text.specs.Answers.{CommandsBy, Does, Exchanges, HearsLine, asker, bits_in, done_text, is_below, is_refused, link_in, one_by_one, unit_bits}
+use Rattle.terminal_text.specs.Answers.{CommandsBy, Does, Exchanges, HearsLine, ManagesBy, asker, bits_in, done_text, is_below, is_refused, link_in, one_by_one, unit_bits}
 use Rattle.terminal_text.specs.Showing.{over}
-use Rattle.terminal_text.specs.Text.{HasText, MayDo, MayDoAt, MayFollow, MayOpen, MayOpenAs, MayRead, Opens, TerminalOutcome, opened_bench, settings_of, terminal_rules, told_lengths, usual}
+use Rattle.terminal_text.specs.Text.{HasText, MayDo, MayDoAt, MayFollow, MayOpen, MayOpenAs, MayRead, MayTime, Opens, SetsTimes, TerminalOutcome, opened_bench, opened_end, settings_of, terminal_rules, told_lengths, told_times, usual, usual_times}
 use Rattle.terminal_text.specs.declared.fault.TerminalFault.{TerminalFault}
 use Rattle.terminal_text.specs.declared.fault.TerminalFault.TheVariants.{Step, Text}
 use Rattle.terminal_text.specs.declared.open_end.End.{End as EndState}
@@ -65,14 +74,17 @@ so_many_new lengths zero = refl
 so_many_new lengths (suc links) =
     omega (arith, length_push (new_links lengths links) (new_link lengths links), so_many_new lengths links)
 
-opened_ready : (settings : Settings) (lengths : Timers) → IsSettings settings → settings.profile ≡ Narrow
-    → IsReady settings.links (opened_bench settings lengths)
-opened_ready settings lengths is narrow = record {
-  gives = record { sound = opened_sound settings is; settings = is; narrow = narrow };
-  settings = is;
-  narrow = narrow;
-  count = so_many_new lengths settings.links;
-  few = few_new lengths settings.links;
+opened_ready : (settings : Settings) (lengths : Timers) (times : Times) → IsSettings settings → settings.profile ≡ Narrow
+    → IsReadyEnd settings.links (opened_end (opened_bench settings lengths) settings.links times)
+opened_ready settings lengths times is narrow = record {
+  bench = record {
+    gives = record { sound = opened_sound settings is; settings = is; narrow = narrow };
+    settings = is;
+    narrow = narrow;
+    count = so_many_new lengths settings.links;
+    few = few_new lengths settings.links;
+  };
+  kept = so_many_fresh times settings.links;
 }
 
 -- TIMERS of lengths that are told.
@@ -95,6 +107,30 @@ timers_there l run = (
   refl,
 )
 
+times_there : (l : LinkTimes) → AreSet l → (times : Times) × (times_of times ≡ l)
+times_there l set = (
+  record {
+    t1 = l.t1;
+    t2 = l.t2;
+    t4 = l.t4;
+    t5 = l.t5;
+    t17 = l.t17;
+    k1 = l.k1;
+    k2 = l.k2;
+    t1_set = set.0;
+    t2_set = set.1;
+    t4_set = set.2;
+    t5_set = set.3;
+    t17_set = set.4;
+    k1_set = set.5;
+    k2_set = set.6;
+  },
+  refl,
+)
+
+usual_set : AreSet usual_times
+usual_set = (omega arith, omega arith, omega arith, omega arith, omega arith, omega arith, omega arith)
+
 usual_run : Run usual
 usual_run = (omega arith, omega arith, omega arith, omega arith, omega arith, omega arith)
 
@@ -109,9 +145,18 @@ read_ok (Err blame) a e = absurd cc
 lengths_for : (line : List ℕ) → ForSome (lengths_of line) Run
 lengths_for line = λ l there. timers_run line l (read_ok (timers_read line) l there)
 
-told_for : (is_new : Bool) (line : List ℕ) → ForSome (told_lengths is_new line) Run
-told_for true line = lengths_for line
-told_for false line = λ l there. absurd (cc there)
+told_for : (early : Early) (line : List ℕ) → ForSome (told_lengths early line) Run
+told_for Early.Both line = lengths_for line
+told_for Early.Times line = λ l there. absurd (cc there)
+told_for Early.Over line = λ l there. absurd (cc there)
+
+link_times_for : (line : List ℕ) → ForSome (link_times_of line) AreSet
+link_times_for line = λ l there. link_times_set line l (read_ok (times_read line) l there)
+
+times_for : (early : Early) (line : List ℕ) → ForSome (told_times early line) AreSet
+times_for Early.Both line = link_times_for line
+times_for Early.Times line = link_times_for line
+times_for Early.Over line = λ l there. absurd (cc there)
 
 -- THE FIRST LINE.
 end_fits : (profile : Profile) (links opc dpc sio : ℕ) (method : Method) → is_none (fault_of profile links opc dpc sio method) ≡ true
@@ -135,7 +180,7 @@ first_for line = λ v there. fit_for v v (values_fit line v (read_ok (opening_re
 -- AN OUTCOME THERE IS, and the end goes on from a bench that is ready
 abbrev IsGoing : Option EndState → Type 0
 IsGoing None = Unit {0}
-IsGoing (Some end) = (links : ℕ) × IsReady links end.bench
+IsGoing (Some end) = (links : ℕ) × IsReadyEnd links end.bench
 
 abbrev GoesWell : TerminalOutcome → Type 0
 GoesWell (prints printed next) = IsGoing next
@@ -144,17 +189,27 @@ GoesWell (stops fault) = Unit {0}
 abbrev Has : (TerminalOutcome → Type 0) → Type 0
 Has May = (outcome : TerminalOutcome) × May outcome × GoesWell outcome
 
-opens_there : (settings : Settings) (told : Lengths) (is_new : Bool) → IsSettings settings → settings.profile ≡ Narrow → Run told
-    → Has (Opens settings told is_new)
-opens_there settings told is_new is narrow run =
-    let timers = timers_there told run in (
-      prints [] (Some (record { bench = opened_bench settings timers.0; is_new = is_new })),
-      record { lengths = timers.0; lengths_are = timers.1; outcome_is = refl },
-      (settings.links, opened_ready settings timers.0 is narrow),
+opens_there : (settings : Settings) (told : Lengths) (early : Early) → IsSettings settings → settings.profile ≡ Narrow → Run told
+    → Has (Opens settings told early)
+opens_there settings told early is narrow run =
+    let timers = timers_there told run in
+    let times = times_there usual_times usual_set in (
+      prints [] (Some (record { bench = opened_end (opened_bench settings timers.0) settings.links times.0; early = early })),
+      record { lengths = timers.0; times = times.0; lengths_are = timers.1; times_are = times.1; outcome_is = refl },
+      (settings.links, opened_ready settings timers.0 times.0 is narrow),
+    )
+
+sets_there : (links : ℕ) (told : LinkTimes) (old : ManagedState) → IsReadyEnd links old → AreSet told → Has (SetsTimes told old)
+sets_there links told old ready set =
+    let times = times_there told set in
+    let end : ManagedState = opened_end old.bench (length old.bench.links) times.0 in (
+      prints [] (Some (record { bench = end; early = Early.Over })),
+      record { times = times.0; times_are = times.1; outcome_is = refl },
+      (links, record { bench = ready.bench; kept = so_many_fresh times.0 (length old.bench.links) ∙ ready.bench.count }),
     )
 
 open_as_there : (profile : Profile) (n : ℕ) (line : List ℕ) (v : Values) → IsSettings (settings_of v) → Has (MayOpenAs profile n line v)
-open_as_there Narrow n line v is = opens_there (settings_of v) usual true is refl usual_run
+open_as_there Narrow n line v is = opens_there (settings_of v) usual Early.Both is refl usual_run
 open_as_there Wide n line v is = (stops (Text n (flaw_of line)), refl, tt)
 
 open_there : (n : ℕ) (line : List ℕ) (found : Option Values) → ForSome found (λ v. IsSettings (settings_of v)) → Has (MayOpen n line found)
@@ -162,27 +217,31 @@ open_there n line None is = (stops (Text n (flaw_of line)), refl, tt)
 open_there n line (Some v) is = open_as_there v.profile n line v (is v refl)
 
 -- WHAT A LATER LINE ASKS FOR is done.
-abbrev IsDoneThere : ℕ → Asked → BenchState → Type 0
-IsDoneThere links asked old = (printed : List ℕ) × (new : BenchState) × Does asked old printed new × IsReady links new
+abbrev IsDoneThere : ℕ → Asked → ManagedState → Type 0
+IsDoneThere links asked old = (printed : List ℕ) × (new : ManagedState) × Does asked old printed new × IsReadyEnd links new
 
 below : (link links : ℕ) → nat_lt link links ≡ true → link < links
 below link links is = grind (arith, nat_tests, is)
 
-command_there : (links link : ℕ) (command : Command) (refused : Bool) (old : BenchState) → IsReady links old → link < links
-    → (printed : List ℕ) × (new : BenchState) × CommandsBy refused link command old printed new × IsReady links new
+command_there : (links link : ℕ) (command : Command) (refused : Bool) (old : ManagedState) → IsReadyEnd links old → link < links
+    → (printed : List ℕ) × (new : ManagedState) × CommandsBy refused link command old printed new × IsReadyEnd links new
 command_there links link command true old ready is = (codes "refused 7\n", old, (refl, refl), ready)
 command_there links link command false old ready is =
-    let there = there_is old.links link (subst (λ n. link < n) (sym ready.count) is) in
+    let links_were = old.bench.links in
+    let there = there_is links_were link (subst (λ n. link < n) (sym ready.bench.count) is) in
     let now : AtLink = told_at command there.0 in (
       done_text,
-      record { set = old.set; links = slice_set old.links link now },
-      (refl, record { was = there.0; is_at = there.1; links_are = refl; set_is = refl }),
+      record { bench = record { set = old.bench.set; links = slice_set links_were link now }; kept = old.kept },
+      (refl, record { was = there.0; is_at = there.1; links_are = refl; set_is = refl }, refl),
       record {
-        gives = ready.gives;
-        settings = ready.settings;
-        narrow = ready.narrow;
-        count = length_set old.links link now ∙ ready.count;
-        few = few_set old.links link now ready.few (ready.few link there.0 there.1);
+        bench = record {
+          gives = ready.bench.gives;
+          settings = ready.bench.settings;
+          narrow = ready.bench.narrow;
+          count = length_set links_were link now ∙ ready.bench.count;
+          few = few_set links_were link now ready.bench.few (ready.bench.few link there.0 there.1);
+        };
+        kept = ready.kept;
       },
     )
 
@@ -194,64 +253,89 @@ bits_short : (bits : List Bool) → AreShort (one_by_one bits)
 bits_short [] = tt
 bits_short (bit ∷ bits) = (omega arith, bits_short bits)
 
-hears_there : (links link : ℕ) (bits : List Bool) (old : BenchState) → IsReady links old → link < links
-    → (printed : List ℕ) × (new : BenchState) × HearsLine link bits old printed new × IsReady links new
+hears_there : (links link : ℕ) (bits : List Bool) (old : ManagedState) → IsReadyEnd links old → link < links
+    → (printed : List ℕ) × (new : ManagedState) × HearsLine link bits old printed new × IsReadyEnd links new
 hears_there links link bits old ready is =
     let all = pieces_there links link (one_by_one bits) old ready is (bits_short bits) in
     (_, all.1, record { heard = all.0; hears = all.2; printed_is = refl }, all.3)
 
-exchanges_there : (links link : ℕ) (octets : List ℕ) (old : BenchState) → IsReady links old → link < links
-    → (printed : List ℕ) × (new : BenchState) × Exchanges link octets old printed new × IsReady links new
+exchanges_there : (links link : ℕ) (octets : List ℕ) (old : ManagedState) → IsReadyEnd links old → link < links
+    → (printed : List ℕ) × (new : ManagedState) × Exchanges link octets old printed new × IsReadyEnd links new
 exchanges_there links link octets old ready is =
     let all = pieces_there links link (map (bits_of 8) octets) old ready is (octets_short octets) in
     (_, all.1, record { heard = all.0; hears = all.2; printed_is = refl }, all.3)
 
-event_there : (links : ℕ) (event : Event) (old : BenchState) → IsReady links old → IsDoneThere links (Asked.Event event) old
+event_there : (links : ℕ) (event : Event) (old : ManagedState) → IsReadyEnd links old → IsDoneThere links (Asked.Event event) old
 event_there links event old ready =
-    let answer = (step old.set.state event).answer in
+    let set = old.bench.set in
+    let answer = (step set.state event).answer in
     let entry : Entry = record { who = asker event; event = event; answer = answer } in (
       _,
       record {
-        set = record { base = old.set.base; state = (step old.set.state event).state; history = old.set.history ++ entry ∷ [] };
-        links = old.links;
+        bench = record {
+          set = record { base = set.base; state = (step set.state event).state; history = set.history ++ entry ∷ [] };
+          links = old.bench.links;
+        };
+        kept = old.kept;
       },
       record {
         answer = answer;
         step = record { base_is = refl; answer_is = refl; state_is = refl; history_is = refl };
         links_are = refl;
+        kept_are = refl;
         printed_is = refl;
       },
       record {
-        gives = (step_gives old.set.state event ready.gives).1;
-        settings = ready.settings;
-        narrow = ready.narrow;
-        count = ready.count;
-        few = ready.few;
+        bench = record {
+          gives = (step_gives set.state event ready.bench.gives).1;
+          settings = ready.bench.settings;
+          narrow = ready.bench.narrow;
+          count = ready.bench.count;
+          few = ready.bench.few;
+        };
+        kept = ready.kept;
       },
     )
 
-checkpoint_there : (links : ℕ) (old : BenchState) → IsReady links old → IsDoneThere links Asked.Checkpoint old
-checkpoint_there links old ready = (
+checkpoint_there : (quiet : Bool) (links : ℕ) (old : ManagedState) → IsReadyEnd links old → IsDoneThere links (Asked.Checkpoint quiet) old
+checkpoint_there quiet links old ready = (
   _,
-  record { set = based old.set; links = old.links },
+  record { bench = record { set = based old.bench.set; links = old.bench.links }; kept = old.kept },
   (refl, refl),
   record {
-    gives = record {
-      sound = (checkpoints old.set.state).sound ready.gives.sound;
-      settings = ready.gives.settings;
-      narrow = ready.gives.narrow;
+    bench = record {
+      gives = record {
+        sound = (checkpoints old.bench.set.state).sound ready.bench.gives.sound;
+        settings = ready.bench.gives.settings;
+        narrow = ready.bench.gives.narrow;
+      };
+      settings = ready.bench.gives.settings;
+      narrow = ready.bench.gives.narrow;
+      count = ready.bench.count;
+      few = ready.bench.few;
     };
-    settings = ready.gives.settings;
-    narrow = ready.gives.narrow;
-    count = ready.count;
-    few = ready.few;
+    kept = ready.kept;
   },
 )
 
-does_there : (links : ℕ) (asked : Asked) (old : BenchState) → IsReady links old → is_below links (link_in asked) ≡ true
+activates_there : (links link : ℕ) (on : Bool) (old : ManagedState) → IsReadyEnd links old → link < links
+    → (printed : List ℕ) × (new : ManagedState) × ManagesBy on (Activates link) link old printed new × IsReadyEnd links new
+activates_there links link true old ready is = (codes "refused 9\n", old, (refl, refl), ready)
+activates_there links link false old ready is =
+    let all = carries_there links link (activated (seen_at link old)) old ready is in
+    (_, all.1, (all.0, all.2, refl), all.3)
+
+deactivates_there : (links link : ℕ) (off : Bool) (old : ManagedState) → IsReadyEnd links old → link < links
+    → (printed : List ℕ) × (new : ManagedState) × ManagesBy off (Deactivates link) link old printed new × IsReadyEnd links new
+deactivates_there links link true old ready is = (codes "refused 9\n", old, (refl, refl), ready)
+deactivates_there links link false old ready is =
+    let all = carries_there links link deactivated old ready is in
+    (_, all.1, (all.0, all.2, refl), all.3)
+
+does_there : (links : ℕ) (asked : Asked) (old : ManagedState) → IsReadyEnd links old → is_below links (link_in asked) ≡ true
     → IsDoneThere links asked old
 does_there links (Asked.Command link command) old ready is =
-    command_there links link command (is_refused command link old) old ready (below link links is)
+    command_there links link command (is_refused command link old.bench) old ready (below link links is)
 does_there links (Asked.Octets link octets) old ready is = exchanges_there links link octets old ready (below link links is)
 does_there links (Asked.Hear link unit) old ready is =
     hears_there links link (over unit.times (unit_bits unit.octets)) old ready (below link links is)
@@ -260,37 +344,47 @@ does_there links (Asked.Bits link bits) old ready is =
     hears_there links link (over bits.times (bits_in bits.octets)) old ready (below link links is)
 does_there links (Asked.Event event) old ready is = event_there links event old ready
 does_there links (Asked.Look link) old ready is =
-    let there = there_is old.links link (subst (λ n. link < n) (sym ready.count) (below link links is)) in
+    let there = there_is old.bench.links link (subst (λ n. link < n) (sym ready.bench.count) (below link links is)) in
     (_, old, record { at = there.0; is_at = there.1; printed_is = refl; new_is = refl }, ready)
-does_there links Asked.Checkpoint old ready is = checkpoint_there links old ready
+does_there links (Asked.Activate link) old ready is =
+    activates_there links link (is_on (slice_get old.kept link)) old ready (below link links is)
+does_there links (Asked.Deactivate link) old ready is =
+    deactivates_there links link (not (is_on (slice_get old.kept link))) old ready (below link links is)
+does_there links (Asked.Checkpoint quiet) old ready is = checkpoint_there quiet links old ready
 does_there links Asked.History old ready is = (_, old, (refl, refl), ready)
 
-do_at_there : (there : Bool) (links n : ℕ) (asked : Asked) (old : BenchState) → IsReady links old
+do_at_there : (there : Bool) (links n : ℕ) (asked : Asked) (old : ManagedState) → IsReadyEnd links old
     → (there ≡ true → is_below links (link_in asked) ≡ true) → Has (MayDoAt there n asked old)
 do_at_there false links n asked old ready is = (stops (Step n), refl, tt)
 do_at_there true links n asked old ready is =
     let all = does_there links asked old ready (is refl) in (
-      prints all.0 (Some (record { bench = all.1; is_new = false })),
+      prints all.0 (Some (record { bench = all.1; early = Early.Over })),
       record { printed = all.0; new = all.1; does = all.2; outcome_is = refl },
       (links, all.3),
     )
 
-do_there : (links n : ℕ) (line : List ℕ) (found : Option Asked) (old : BenchState) → IsReady links old → Has (MayDo n line found old)
+do_there : (links n : ℕ) (line : List ℕ) (found : Option Asked) (old : ManagedState) → IsReadyEnd links old → Has (MayDo n line found old)
 do_there links n line None old ready = (stops (Text n (flaw_of line)), refl, tt)
 do_there links n line (Some asked) old ready =
-    do_at_there (is_below (length old.links) (link_in asked)) links n asked old ready
-    (λ is. subst (λ k. is_below k (link_in asked) ≡ true) ready.count is)
+    do_at_there (is_below (length old.bench.links) (link_in asked)) links n asked old ready
+    (λ is. subst (λ k. is_below k (link_in asked) ≡ true) ready.bench.count is)
 
-follow_there : (links n : ℕ) (line : List ℕ) (told : Option Lengths) (old : BenchState) → IsReady links old → ForSome told Run
-    → Has (MayFollow n line told old)
-follow_there links n line None old ready run = do_there links n line (asked_of line) old ready
-follow_there links n line (Some told) old ready run =
-    opens_there old.set.base.state.settings told false ready.settings ready.narrow (run told refl)
+time_there : (links n : ℕ) (line : List ℕ) (told : Option LinkTimes) (old : ManagedState) → IsReadyEnd links old → ForSome told AreSet
+    → Has (MayTime n line told old)
+time_there links n line None old ready set = do_there links n line (asked_of line) old ready
+time_there links n line (Some told) old ready set = sets_there links told old ready (set told refl)
+
+follow_there : (links n : ℕ) (line : List ℕ) (told : Option Lengths) (times : Option LinkTimes) (old : ManagedState)
+    → IsReadyEnd links old → ForSome told Run → ForSome times AreSet → Has (MayFollow n line told times old)
+follow_there links n line None times old ready run set = time_there links n line times old ready set
+follow_there links n line (Some told) times old ready run set =
+    opens_there old.bench.set.base.state.settings told Early.Times ready.bench.settings ready.bench.narrow (run told refl)
 
 line_there : (n : ℕ) (state : Option EndState) (line : List ℕ) → IsGoing state → Has (MayRead n state line)
 line_there n None line going = open_there n line (first_line line) (first_for line)
 line_there n (Some end) line going =
-    follow_there going.0 n line (told_lengths end.is_new line) end.bench going.1 (told_for end.is_new line)
+    follow_there going.0 n line (told_lengths end.early line) (told_times end.early line) end.bench going.1 (told_for end.early line)
+    (times_for end.early line)
 
 -- THE LINES, one after another.
 may_be_there : (long remark : Bool) (n : ℕ) (state : Option EndState) (line : List ℕ) → IsGoing state

@@ -1,8 +1,10 @@
 -- WHAT A LINE OF `terminal` PRINTS, and what it leaves of a bench.
-use Rattle.std.specs.Prelude.{◌≡◌, ◌<◌, ℕ, Bool, true, false, ◌==◌, ◌&&◌, nat_lt, List, [], ◌∷◌, ◌++◌, length, map, Option, Some, None, slice_get, codes, decimal, if◌then◌else◌}
+use Rattle.std.specs.Prelude.{◌≡◌, ℕ, Bool, true, false, not, ◌==◌, ◌&&◌, nat_lt, List, [], ◌∷◌, ◌++◌, length, map, Option, Some, None, slice_get, codes, decimal}
 use Rattle.text_entries.specs.Texts.{answer_text}
-use Rattle.term_bench.specs.Ends.{AtLink, BenchState, Commands, IsAt, is_start, new_links, phase_of, word_of}
-use Rattle.term_bench.specs.Waiting.{HearsPieces, TurnAndUnit}
+use Rattle.term_bench.specs.Ends.{AtLink, BenchState, Commands, is_start, phase_of, word_of}
+use Rattle.term_managed.specs.Ends.{ManagedState, is_on}
+use Rattle.term_managed.specs.Turns.{Activates, Deactivates, HeardTurn, HearsPieces}
+use Rattle.term_managed.specs.declared.turn.Deed.{Deed}
 use Rattle.term_bench.specs.declared.counts.TurnCounts.{TurnCounts}
 use Rattle.term_bench.specs.declared.word.LinkWord.{LinkWord}
 use Rattle.term_bench.specs.declared.word.Phase.{Phase}
@@ -21,10 +23,11 @@ use Rattle.set_events.specs.declared.answer.Answer.{Answer}
 use Rattle.set_events.specs.declared.event.Actor.{Actor}
 use Rattle.set_events.specs.declared.event.Actor.TheVariants.{User, Terminal as TerminalOf}
 use Rattle.set_events.specs.declared.event.Event.{Event}
+use Rattle.set_events.specs.declared.history.Entry.{Entry}
 use Rattle.set_model.specs.History.{IsStep, based}
 use Rattle.term_model.specs.declared.command.Command.{Command}
 use Rattle.text_forms.specs.declared.asked.Asked.{Asked}
-use Rattle.terminal_text.specs.Showing.{over, shown, without_unit, word_name}
+use Rattle.terminal_text.specs.Showing.{deeds_lines, over, shown, without_unit, word_name}
 
 abbrev pub done_text : List ℕ
 done_text = codes "done\n"
@@ -37,29 +40,30 @@ is_left _ = false
 abbrev pub is_refused : Command → ℕ → BenchState → Bool
 is_refused command link old = is_start command && is_left (phase_of link old.set.state)
 
-abbrev pub CommandsBy : Bool → ℕ → Command → BenchState → List ℕ → BenchState → Type 0
+abbrev pub CommandsBy : Bool → ℕ → Command → ManagedState → List ℕ → ManagedState → Type 0
 CommandsBy true link command old printed new = (printed ≡ codes "refused 7\n") × (new ≡ old)
-CommandsBy false link command old printed new = (printed ≡ done_text) × Commands link command old new
+CommandsBy false link command old printed new =
+    (printed ≡ done_text) × Commands link command old.bench new.bench × (new.kept ≡ old.kept)
 
 -- OCTETS: what their turns show, and the octets that these put, as many
-pub record Exchanges (link : ℕ) (octets : List ℕ) (old : BenchState) (printed : List ℕ) (new : BenchState) : Type 0 where
-  pub heard : List TurnAndUnit
+pub record Exchanges (link : ℕ) (octets : List ℕ) (old : ManagedState) (printed : List ℕ) (new : ManagedState) : Type 0 where
+  pub heard : List HeardTurn
   pub hears : HearsPieces link (map (bits_of 8) octets) old heard new
   pub printed_is : printed ≡ shown link (map without_unit heard)
-      ++ (codes "octets " ++ (decimal link ++ (codes " " ++ (hex_text (map (λ h. h.turn.put) heard) ++ codes "\n"))))
+      ++ (codes "octets " ++ (decimal link ++ (codes " " ++ (hex_text (map (λ h. h.turn.turn.put) heard) ++ codes "\n"))))
 
 -- LAW: as many octets go out as came
 abbrev pub AsManyGoOut : Type 0
 AsManyGoOut =
-    (link : ℕ) (octets : List ℕ) (old : BenchState) (printed : List ℕ) (new : BenchState) → (e : Exchanges link octets old printed new)
-    → length (map (λ h. h.turn.put) e.heard) ≡ length octets
+    (link : ℕ) (octets : List ℕ) (old : ManagedState) (printed : List ℕ) (new : ManagedState) → (e : Exchanges link octets old printed new)
+    → length (map (λ h. h.turn.turn.put) e.heard) ≡ length octets
 
 -- BITS: what the turns show that are taken by them, and how many these are
 abbrev pub one_by_one : List Bool → List (List Bool)
 one_by_one bits = map (λ bit. bit ∷ []) bits
 
-pub record HearsLine (link : ℕ) (bits : List Bool) (old : BenchState) (printed : List ℕ) (new : BenchState) : Type 0 where
-  pub heard : List TurnAndUnit
+pub record HearsLine (link : ℕ) (bits : List Bool) (old : ManagedState) (printed : List ℕ) (new : ManagedState) : Type 0 where
+  pub heard : List HeardTurn
   pub hears : HearsPieces link (one_by_one bits) old heard new
   pub printed_is : printed ≡ shown link heard ++ (codes "turns " ++ (decimal (length heard) ++ codes "\n"))
 
@@ -80,13 +84,15 @@ asker (Event.DownBlind link) = TerminalOf link
 asker (Event.NoAnswer link) = TerminalOf link
 asker (Event.Timed link) = TerminalOf link
 asker (Event.Restore link) = TerminalOf link
+asker (Event.Redeclare link) = TerminalOf link
 asker (Event.BackTimeout link) = TerminalOf link
 asker _ = User 0
 
-pub record Asks (event : Event) (old : BenchState) (printed : List ℕ) (new : BenchState) : Type 0 where
+pub record Asks (event : Event) (old : ManagedState) (printed : List ℕ) (new : ManagedState) : Type 0 where
   pub answer : Answer
-  pub step : IsStep old.set (asker event) event answer new.set
-  pub links_are : new.links ≡ old.links
+  pub step : IsStep old.bench.set (asker event) event answer new.bench.set
+  pub links_are : new.bench.links ≡ old.bench.links
+  pub kept_are : new.kept ≡ old.kept
   pub printed_is : printed ≡ answer_text Narrow answer
 
 -- HOW A LINK STANDS
@@ -114,25 +120,49 @@ look_text link phase at =
     standing_words link (word_of at.terminal) phase
     ++ (counts_words at.counts ++ (codes " cause=" ++ (decimal (cause_or_0 at.terminal.cause) ++ codes "\n")))
 
-pub record Looks (link : ℕ) (old : BenchState) (printed : List ℕ) (new : BenchState) : Type 0 where
+pub record Looks (link : ℕ) (old : ManagedState) (printed : List ℕ) (new : ManagedState) : Type 0 where
   pub at : AtLink
-  pub is_at : slice_get old.links link ≡ Some at
-  pub printed_is : printed ≡ look_text link (phase_of link old.set.state) at
+  pub is_at : slice_get old.bench.links link ≡ Some at
+  pub printed_is : printed ≡ look_text link (phase_of link old.bench.set.state) at
   pub new_is : new ≡ old
 
+-- LEVEL 3 MANAGES A LINK from now on, or no more: what it asks is told before the answer, with the turns that the link took.
+-- It's refused where it's so already, with the number of Nothing.
+abbrev pub turns_in : Option AtLink → ℕ
+turns_in None = 0
+turns_in (Some at) = at.counts.turns
+
+abbrev pub managed_text : ℕ → ManagedState → List Deed → List ℕ
+managed_text link old deeds = deeds_lines link (turns_in (slice_get old.bench.links link)) deeds ++ done_text
+
+abbrev pub ManagesBy : Bool → (ManagedState → List Deed → ManagedState → Type 0) → ℕ → ManagedState → List ℕ → ManagedState → Type 0
+ManagesBy true carries link old printed new = (printed ≡ codes "refused 9\n") × (new ≡ old)
+ManagesBy false carries link old printed new =
+    (deeds : List Deed) × carries old deeds new × (printed ≡ managed_text link old deeds)
+
+-- the entries that go at a checkpoint, which a quiet one doesn't tell
+abbrev pub gone_text : Bool → List Entry → List ℕ
+gone_text false history = items_text Narrow (piece history)
+gone_text true history = []
+
 -- WHAT IS ASKED FOR is done: this is printed, and this is left
-abbrev pub Does : Asked → BenchState → List ℕ → BenchState → Type 0
-Does (Asked.Command link command) old printed new = CommandsBy (is_refused command link old) link command old printed new
+abbrev pub Does : Asked → ManagedState → List ℕ → ManagedState → Type 0
+Does (Asked.Command link command) old printed new =
+    CommandsBy (is_refused command link old.bench) link command old printed new
+Does (Asked.Activate link) old printed new =
+    ManagesBy (is_on (slice_get old.kept link)) (Activates link) link old printed new
+Does (Asked.Deactivate link) old printed new =
+    ManagesBy (not (is_on (slice_get old.kept link))) (Deactivates link) link old printed new
 Does (Asked.Octets link octets) old printed new = Exchanges link octets old printed new
 Does (Asked.Hear link unit) old printed new = HearsLine link (over unit.times (unit_bits unit.octets)) old printed new
 Does (Asked.Flags link times) old printed new = HearsLine link (over times flag) old printed new
 Does (Asked.Bits link bits) old printed new = HearsLine link (over bits.times (bits_in bits.octets)) old printed new
 Does (Asked.Event event) old printed new = Asks event old printed new
 Does (Asked.Look link) old printed new = Looks link old printed new
-Does Asked.Checkpoint old printed new =
-    (printed ≡ items_text Narrow (piece old.set.history) ++ done_text)
-    × (new ≡ record { set = based old.set; links = old.links })
-Does Asked.History old printed new = (printed ≡ entries_text Narrow old.set.history ++ done_text) × (new ≡ old)
+Does (Asked.Checkpoint quiet) old printed new =
+    (printed ≡ gone_text quiet old.bench.set.history ++ done_text)
+    × (new ≡ record old { bench = record { set = based old.bench.set; links = old.bench.links } })
+Does Asked.History old printed new = (printed ≡ entries_text Narrow old.bench.set.history ++ done_text) × (new ≡ old)
 
 -- the link that is asked for, if one is
 abbrev pub link_of_event : Event → Option ℕ
@@ -144,6 +174,7 @@ link_of_event (Event.DownBlind link) = Some link
 link_of_event (Event.NoAnswer link) = Some link
 link_of_event (Event.Timed link) = Some link
 link_of_event (Event.Restore link) = Some link
+link_of_event (Event.Redeclare link) = Some link
 link_of_event (Event.BackTimeout link) = Some link
 link_of_event _ = None
 
@@ -155,6 +186,8 @@ link_in (Asked.Flags link times) = Some link
 link_in (Asked.Bits link bits) = Some link
 link_in (Asked.Event event) = link_of_event event
 link_in (Asked.Look link) = Some link
+link_in (Asked.Activate link) = Some link
+link_in (Asked.Deactivate link) = Some link
 link_in _ = None
 
 abbrev pub is_below : ℕ → Option ℕ → Bool

@@ -1,5 +1,5 @@
 -- THE TEXT OF `terminal` with explanations: what is said of a line that ends it with a fault.
-use Rattle.std.specs.Prelude.{ℕ, Bool, List, Option, Some, None, unwrap_or}
+use Rattle.std.specs.Prelude.{ℕ, List, Option, Some, None, unwrap_or}
 use Rattle.std.specs.Option.{option_map}
 use Rattle.std.specs.Result.{result_err}
 use Rattle.text_forms.specs.Asking.{blamed_line}
@@ -13,18 +13,19 @@ use Rattle.text_base.specs.Printing.{Printed}
 use Rattle.terminal_text.specs.declared.fault.TerminalFault.{TerminalFault}
 use Rattle.terminal_text.specs.declared.fault.TerminalFault.TheVariants.{Text, Step}
 use Rattle.terminal_text.specs.Named.{named_rules}
-use Rattle.terminal_text.specs.Text.{second_in}
+use Rattle.terminal_text.specs.Text.{early_in}
+use Rattle.text_forms.specs.declared.early.Early.{Early}
 
 -- the word at fault of a line that can't be read: a first line is refused as a script's is, or since it's wide
-abbrev pub unread : Option Bool → List ℕ → Option Blame
+abbrev pub unread : Option Early → List ℕ → Option Blame
 unread None text = Some (unwrap_or (result_err (opening_read text)) (blamed_profile text))
-unread (Some is_second) text = blamed_line is_second text
+unread (Some early) text = blamed_line early text
 
 -- the lines that explain a fault on this line
-abbrev pub said : Option Bool → List ℕ → TerminalFault → Option (List ℕ)
-said is_second text (Text n flaw) = option_map (λ blame. explanation n blame text) (unread is_second text)
-said is_second text (Step n) = Some (explanation n (blamed_link text) text)
+abbrev pub said : Option Early → List ℕ → TerminalFault → Option (List ℕ)
+said early text (Text n flaw) = option_map (λ blame. explanation n blame text) (unread early text)
+said early text (Step n) = Some (explanation n (blamed_link text) text)
 
 -- THE TEXT: that of `terminal` in words, with an explanation of the fault
 abbrev pub IsExplainedTerminalText : List ℕ → Printed (Explained TerminalFault) → Type 0
-IsExplainedTerminalText = IsTalkText (explained_rules named_rules (λ end. said (second_in end)))
+IsExplainedTerminalText = IsTalkText (explained_rules named_rules (λ end. said (early_in end)))

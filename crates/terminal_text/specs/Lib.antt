@@ -8,4 +8,5 @@ pub mod Looking
 pub mod Faults
 pub mod Named
 pub mod Explaining
+pub mod Kept
 pub mod Reasons

@@ -1,11 +1,16 @@
 -- LAW: a line of `terminal` has one outcome, since what comes on a line decides what the turns do (term_bench).
-use Rattle.std.specs.Prelude.{◌≡◌, ◌<◌, ℕ, Bool, true, false, List, [], ◌∷◌, ◌++◌, length, map, Option, Some, None, codes, decimal, slice_set}
-use Rattle.std.proofs.Common.{ap, refl, sym, subst, ◌∙◌}
+use Rattle.std.specs.Prelude.{◌≡◌, ◌<◌, ℕ, Bool, true, false, not, List, [], ◌∷◌, ◌++◌, length, map, Option, Some, None, codes, decimal, slice_get, slice_set}
+use Rattle.std.proofs.Common.{ap, sym, subst, ◌∙◌}
 use Rattle.std.proofs.Props.{props}
 use Rattle.text_entries.specs.Texts.{answer_text}
-use Rattle.term_bench.proofs.OneLemmas.{one_hearing, one_there, same_bench, same_set}
-use Rattle.term_bench.specs.Ends.{AtLink, BenchState, phase_of, told_at}
-use Rattle.term_bench.specs.Waiting.{HearsPieces, TurnAndUnit}
+use Rattle.l3_link.specs.declared.times.Times.{Times}
+use Rattle.term_bench.proofs.OneLemmas.{one_there, same_bench, same_set}
+use Rattle.term_managed.proofs.HearingLemmas.{carries_one, one_hearing, same_end}
+use Rattle.term_managed.specs.Ends.{ManagedState, is_on, seen_at}
+use Rattle.term_managed.specs.Turns.{Activates, Deactivates, HeardTurn}
+use Rattle.term_managed.specs.declared.turn.Deed.{Deed}
+use Rattle.l3_link.specs.Table.{activated, deactivated}
+use Rattle.term_bench.specs.Ends.{AtLink, phase_of, told_at}
 use Rattle.text_base.specs.Figures.{hex_text}
 use Rattle.l2_bits.specs.Flags.{flag}
 use Rattle.l2_bits.specs.LineBits.{bits_of}
@@ -19,13 +24,14 @@ use Rattle.set_events.specs.declared.history.Entry.{Entry}
 use Rattle.set_model.specs.State.{Settings}
 use Rattle.term_model.specs.declared.command.Command.{Command}
 use Rattle.term_model.specs.declared.timers.Timers.{Timers}
+use Rattle.text_forms.specs.Times.{LinkTimes, times_of}
+use Rattle.text_forms.specs.declared.early.Early.{Early}
 use Rattle.text_forms.specs.Asking.{asked_of}
 use Rattle.text_forms.specs.Timers.{Lengths, timers_of}
 use Rattle.text_forms.specs.declared.asked.Asked.{Asked}
-use Rattle.terminal_text.specs.Answers.{Asks, CommandsBy, Does, Exchanges, HearsLine, Looks, asker, bits_in, is_below, is_refused, link_in, look_text, one_by_one, unit_bits}
+use Rattle.terminal_text.specs.Answers.{Asks, CommandsBy, Does, Exchanges, HearsLine, Looks, ManagesBy, asker, bits_in, is_below, is_refused, link_in, look_text, managed_text, one_by_one, unit_bits}
 use Rattle.terminal_text.specs.Showing.{over, shown, without_unit}
-use Rattle.terminal_text.specs.Text.{IsDone, MayDo, MayDoAt, MayFollow, MayOpen, MayOpenAs, MayRead, Opens, TerminalOutcome, opened_bench, settings_of, told_lengths, terminal_rules, usual}
-use Rattle.terminal_text.specs.declared.open_end.End.{End as EndState}
+use Rattle.terminal_text.specs.Text.{IsDone, MayDo, MayDoAt, MayFollow, MayOpen, MayOpenAs, MayTime, Opens, SetsTimes, TerminalOutcome, opened_bench, opened_end, settings_of, told_lengths, told_times, terminal_rules, usual}
 use Rattle.text_lines.specs.Lines.{prints}
 use Rattle.text_lines.specs.Talks.{HaveOneOutcome}
 
@@ -71,84 +77,159 @@ one_timers a b e =
     are_alike (timers_of a) (timers_of b) e a.t1_set b.t1_set a.t2_set b.t2_set a.t3_set b.t3_set a.t5_set b.t5_set a.t6_set b.t6_set
     a.t7_set b.t7_set
 
+-- The times of level 3 of some lengths are one.
+
+of_times : (l : LinkTimes) → 0 < l.t1 → 0 < l.t2 → 0 < l.t4 → 0 < l.t5 → 0 < l.t17 → 0 < l.k1 → 0 < l.k2 → Times
+of_times l p1 p2 p4 p5 p17 q1 q2 = record {
+  t1 = l.t1;
+  t2 = l.t2;
+  t4 = l.t4;
+  t5 = l.t5;
+  t17 = l.t17;
+  k1 = l.k1;
+  k2 = l.k2;
+  t1_set = p1;
+  t2_set = p2;
+  t4_set = p4;
+  t5_set = p5;
+  t17_set = p17;
+  k1_set = q1;
+  k2_set = q2;
+}
+
+same_times : (l : LinkTimes) (p1 q1 : 0 < l.t1) (p2 q2 : 0 < l.t2) (p4 q4 : 0 < l.t4) (p5 q5 : 0 < l.t5) (p17 q17 : 0 < l.t17)
+    (r1 s1 : 0 < l.k1) (r2 s2 : 0 < l.k2) → of_times l p1 p2 p4 p5 p17 r1 r2 ≡ of_times l q1 q2 q4 q5 q17 s1 s2
+same_times l p1 q1 p2 q2 p4 q4 p5 q5 p17 q17 r1 s1 r2 s2 =
+    ap (λ x. of_times l x p2 p4 p5 p17 r1 r2) (set_once l.t1 p1 q1) ∙ ap (λ x. of_times l q1 x p4 p5 p17 r1 r2) (set_once l.t2 p2 q2)
+    ∙ ap (λ x. of_times l q1 q2 x p5 p17 r1 r2) (set_once l.t4 p4 q4) ∙ ap (λ x. of_times l q1 q2 q4 x p17 r1 r2) (set_once l.t5 p5 q5)
+    ∙ ap (λ x. of_times l q1 q2 q4 q5 x r1 r2) (set_once l.t17 p17 q17) ∙ ap (λ x. of_times l q1 q2 q4 q5 q17 x r2) (set_once l.k1 r1 s1)
+    ∙ ap (λ x. of_times l q1 q2 q4 q5 q17 s1 x) (set_once l.k2 r2 s2)
+
+abbrev AreAlikeTimes : LinkTimes → LinkTimes → Type 0
+AreAlikeTimes l m =
+    (p1 : 0 < l.t1) (q1 : 0 < m.t1) (p2 : 0 < l.t2) (q2 : 0 < m.t2) (p4 : 0 < l.t4) (q4 : 0 < m.t4) (p5 : 0 < l.t5) (q5 : 0 < m.t5)
+    (p17 : 0 < l.t17) (q17 : 0 < m.t17) (r1 : 0 < l.k1) (s1 : 0 < m.k1) (r2 : 0 < l.k2) (s2 : 0 < m.k2)
+    → of_times l p1 p2 p4 p5 p17 r1 r2 ≡ of_times m q1 q2 q4 q5 q17 s1 s2
+
+are_alike_times : (l m : LinkTimes) → l ≡ m → AreAlikeTimes l m
+are_alike_times l m e = subst (λ (n : LinkTimes). AreAlikeTimes l n) e (same_times l)
+
+pub one_times : (a b : Times) → times_of a ≡ times_of b → a ≡ b
+unfolding of_times
+one_times a b e =
+    are_alike_times (times_of a) (times_of b) e a.t1_set b.t1_set a.t2_set b.t2_set a.t4_set b.t4_set a.t5_set b.t5_set a.t17_set b.t17_set
+    a.k1_set b.k1_set a.k2_set b.k2_set
+
 -- What is asked for.
 
-commands_one : (refused : Bool) (link : ℕ) (command : Command) (old : BenchState) (p q : List ℕ) (x y : BenchState)
+commands_one : (refused : Bool) (link : ℕ) (command : Command) (old : ManagedState) (p q : List ℕ) (x y : ManagedState)
     → CommandsBy refused link command old p x → CommandsBy refused link command old q y → (p ≡ q) × (x ≡ y)
 commands_one true link command old p q x y a b = (a.0 ∙ sym b.0, a.1 ∙ sym b.1)
 commands_one false link command old p q x y a b =
-    let was = one_there old.links link a.1.was b.1.was a.1.is_at b.1.is_at in (
+    let was = one_there old.bench.links link a.1.was b.1.was a.1.is_at b.1.is_at in (
       a.0 ∙ sym b.0,
-      same_bench x y (a.1.set_is ∙ sym b.1.set_is)
-          (a.1.links_are ∙ ap (λ (at : AtLink). slice_set old.links link (told_at command at)) was ∙ sym b.1.links_are),
+      same_end x y
+          (same_bench x.bench y.bench (a.1.set_is ∙ sym b.1.set_is)
+          (a.1.links_are ∙ ap (λ (at : AtLink). slice_set old.bench.links link (told_at command at)) was ∙ sym b.1.links_are))
+          (a.2 ∙ sym b.2),
     )
 
-exchanges_one : (link : ℕ) (octets : List ℕ) (old : BenchState) (p q : List ℕ) (x y : BenchState)
+exchanges_one : (link : ℕ) (octets : List ℕ) (old : ManagedState) (p q : List ℕ) (x y : ManagedState)
     → Exchanges link octets old p x → Exchanges link octets old q y → (p ≡ q) × (x ≡ y)
 exchanges_one link octets old p q x y a b =
     let one = one_hearing link (map (bits_of 8) octets) old a.heard b.heard x y a.hears b.hears in
-    (a.printed_is ∙ ap (λ (heard : List TurnAndUnit). printed heard) one.0 ∙ sym b.printed_is, one.1)
+    (a.printed_is ∙ ap (λ (heard : List HeardTurn). printed heard) one.0 ∙ sym b.printed_is, one.1)
   where
-    printed : List TurnAndUnit → List ℕ
+    printed : List HeardTurn → List ℕ
     printed heard = shown link (map without_unit heard)
-        ++ (codes "octets " ++ (decimal link ++ (codes " " ++ (hex_text (map (λ h. h.turn.put) heard) ++ codes "\n"))))
+        ++ (codes "octets " ++ (decimal link ++ (codes " " ++ (hex_text (map (λ h. h.turn.turn.put) heard) ++ codes "\n"))))
 
-hears_one : (link : ℕ) (bits : List Bool) (old : BenchState) (p q : List ℕ) (x y : BenchState)
+hears_one : (link : ℕ) (bits : List Bool) (old : ManagedState) (p q : List ℕ) (x y : ManagedState)
     → HearsLine link bits old p x → HearsLine link bits old q y → (p ≡ q) × (x ≡ y)
 hears_one link bits old p q x y a b =
     let one = one_hearing link (one_by_one bits) old a.heard b.heard x y a.hears b.hears in
-    (a.printed_is ∙ ap (λ (heard : List TurnAndUnit). printed heard) one.0 ∙ sym b.printed_is, one.1)
+    (a.printed_is ∙ ap (λ (heard : List HeardTurn). printed heard) one.0 ∙ sym b.printed_is, one.1)
   where
-    printed : List TurnAndUnit → List ℕ
+    printed : List HeardTurn → List ℕ
     printed heard = shown link heard ++ (codes "turns " ++ (decimal (length heard) ++ codes "\n"))
 
-asks_one : (event : Event) (old : BenchState) (p q : List ℕ) (x y : BenchState) → Asks event old p x → Asks event old q y
+asks_one : (event : Event) (old : ManagedState) (p q : List ℕ) (x y : ManagedState) → Asks event old p x → Asks event old q y
     → (p ≡ q) × (x ≡ y)
 asks_one event old p q x y a b =
     let answers : a.answer ≡ b.answer = a.step.answer_is ∙ sym b.step.answer_is in (
       a.printed_is ∙ ap (λ (answer : Answer). answer_text Narrow answer) answers ∙ sym b.printed_is,
-      same_bench x y
-          (same_set x.set y.set (a.step.base_is ∙ sym b.step.base_is) (a.step.state_is ∙ sym b.step.state_is)
-          (a.step.history_is ∙ ap (λ (answer : Answer). old.set.history ++ entry answer ∷ []) answers ∙ sym b.step.history_is))
-          (a.links_are ∙ sym b.links_are),
+      same_end x y
+          (same_bench x.bench y.bench
+          (same_set x.bench.set y.bench.set (a.step.base_is ∙ sym b.step.base_is) (a.step.state_is ∙ sym b.step.state_is)
+          (a.step.history_is ∙ ap (λ (answer : Answer). old.bench.set.history ++ entry answer ∷ []) answers ∙ sym b.step.history_is))
+          (a.links_are ∙ sym b.links_are))
+          (a.kept_are ∙ sym b.kept_are),
     )
   where
     entry : Answer → Entry
     entry answer = record { who = asker event; event = event; answer = answer }
 
-looks_one : (link : ℕ) (old : BenchState) (p q : List ℕ) (x y : BenchState) → Looks link old p x → Looks link old q y
+looks_one : (link : ℕ) (old : ManagedState) (p q : List ℕ) (x y : ManagedState) → Looks link old p x → Looks link old q y
     → (p ≡ q) × (x ≡ y)
 looks_one link old p q x y a b = (
-  a.printed_is ∙ ap (λ (at : AtLink). look_text link (phase_of link old.set.state) at) (one_there old.links link a.at b.at a.is_at b.is_at)
+  a.printed_is ∙ ap (λ (at : AtLink). look_text link (phase_of link old.bench.set.state) at)
+      (one_there old.bench.links link a.at b.at a.is_at b.is_at)
       ∙ sym b.printed_is,
   a.new_is ∙ sym b.new_is,
 )
 
-does_one : (asked : Asked) (old : BenchState) (p q : List ℕ) (x y : BenchState) → Does asked old p x → Does asked old q y
+activates_one : (on : Bool) (link : ℕ) (old : ManagedState) (p q : List ℕ) (x y : ManagedState)
+    → ManagesBy on (Activates link) link old p x → ManagesBy on (Activates link) link old q y → (p ≡ q) × (x ≡ y)
+activates_one true link old p q x y a b = (a.0 ∙ sym b.0, a.1 ∙ sym b.1)
+activates_one false link old p q x y a b =
+    let one = carries_one link (activated (seen_at link old)) old a.0 b.0 x y a.1 b.1 in
+    (a.2 ∙ ap (λ (deeds : List Deed). managed_text link old deeds) one.0 ∙ sym b.2, one.1)
+
+deactivates_one : (off : Bool) (link : ℕ) (old : ManagedState) (p q : List ℕ) (x y : ManagedState)
+    → ManagesBy off (Deactivates link) link old p x → ManagesBy off (Deactivates link) link old q y → (p ≡ q) × (x ≡ y)
+deactivates_one true link old p q x y a b = (a.0 ∙ sym b.0, a.1 ∙ sym b.1)
+deactivates_one false link old p q x y a b =
+    let one = carries_one link deactivated old a.0 b.0 x y a.1 b.1 in
+    (a.2 ∙ ap (λ (deeds : List Deed). managed_text link old deeds) one.0 ∙ sym b.2, one.1)
+
+does_one : (asked : Asked) (old : ManagedState) (p q : List ℕ) (x y : ManagedState) → Does asked old p x → Does asked old q y
     → (p ≡ q) × (x ≡ y)
-does_one (Asked.Command link command) old p q x y a b = commands_one (is_refused command link old) link command old p q x y a b
+does_one (Asked.Command link command) old p q x y a b = commands_one (is_refused command link old.bench) link command old p q x y a b
 does_one (Asked.Octets link octets) old p q x y a b = exchanges_one link octets old p q x y a b
 does_one (Asked.Hear link unit) old p q x y a b = hears_one link (over unit.times (unit_bits unit.octets)) old p q x y a b
 does_one (Asked.Flags link times) old p q x y a b = hears_one link (over times flag) old p q x y a b
 does_one (Asked.Bits link bits) old p q x y a b = hears_one link (over bits.times (bits_in bits.octets)) old p q x y a b
 does_one (Asked.Event event) old p q x y a b = asks_one event old p q x y a b
 does_one (Asked.Look link) old p q x y a b = looks_one link old p q x y a b
-does_one Asked.Checkpoint old p q x y a b = (a.0 ∙ sym b.0, a.1 ∙ sym b.1)
+does_one (Asked.Activate link) old p q x y a b = activates_one (is_on (slice_get old.kept link)) link old p q x y a b
+does_one (Asked.Deactivate link) old p q x y a b = deactivates_one (not (is_on (slice_get old.kept link))) link old p q x y a b
+does_one (Asked.Checkpoint quiet) old p q x y a b = (a.0 ∙ sym b.0, a.1 ∙ sym b.1)
 does_one Asked.History old p q x y a b = (a.0 ∙ sym b.0, a.1 ∙ sym b.1)
 
 -- Lines.
 
-opens_one : (settings : Settings) (told : Lengths) (is_new : Bool) (a b : TerminalOutcome) → Opens settings told is_new a
-    → Opens settings told is_new b → a ≡ b
-opens_one settings told is_new a b x y =
+opens_one : (settings : Settings) (told : Lengths) (early : Early) (a b : TerminalOutcome) → Opens settings told early a
+    → Opens settings told early b → a ≡ b
+opens_one settings told early a b x y =
     x.outcome_is
-    ∙ ap (λ (lengths : Timers). prints [] (Some (record { bench = opened_bench settings lengths; is_new = is_new })))
-    (one_timers x.lengths y.lengths (x.lengths_are ∙ sym y.lengths_are))
+    ∙ ap (λ (lengths : Timers). opened lengths x.times) (one_timers x.lengths y.lengths (x.lengths_are ∙ sym y.lengths_are))
+    ∙ ap (λ (times : Times). opened y.lengths times) (one_times x.times y.times (x.times_are ∙ sym y.times_are))
+    ∙ sym y.outcome_is
+  where
+    opened : Timers → Times → TerminalOutcome
+    opened lengths times =
+        prints [] (Some (record { bench = opened_end (opened_bench settings lengths) settings.links times; early = early }))
+
+times_one : (told : LinkTimes) (old : ManagedState) (a b : TerminalOutcome) → SetsTimes told old a → SetsTimes told old b → a ≡ b
+times_one told old a b x y =
+    x.outcome_is
+    ∙ ap (λ (times : Times). prints [] (Some (record { bench = opened_end old.bench (length old.bench.links) times; early = Early.Over })))
+    (one_times x.times y.times (x.times_are ∙ sym y.times_are))
     ∙ sym y.outcome_is
 
 open_as_one : (profile : Profile) (n : ℕ) (line : List ℕ) (v : Values) (a b : TerminalOutcome) → MayOpenAs profile n line v a
     → MayOpenAs profile n line v b → a ≡ b
-open_as_one Narrow n line v a b x y = opens_one (settings_of v) usual true a b x y
+open_as_one Narrow n line v a b x y = opens_one (settings_of v) usual Early.Both a b x y
 open_as_one Wide n line v a b x y = x ∙ sym y
 
 open_one : (n : ℕ) (line : List ℕ) (found : Option Values) (a b : TerminalOutcome) → MayOpen n line found a → MayOpen n line found b
@@ -156,27 +237,32 @@ open_one : (n : ℕ) (line : List ℕ) (found : Option Values) (a b : TerminalOu
 open_one n line None a b x y = x ∙ sym y
 open_one n line (Some v) a b x y = open_as_one v.profile n line v a b x y
 
-is_done_one : (asked : Asked) (old : BenchState) (a b : TerminalOutcome) → IsDone asked old a → IsDone asked old b → a ≡ b
+is_done_one : (asked : Asked) (old : ManagedState) (a b : TerminalOutcome) → IsDone asked old a → IsDone asked old b → a ≡ b
 is_done_one asked old a b x y =
     let one = does_one asked old x.printed y.printed x.new y.new x.does y.does in
-    x.outcome_is ∙ ap (λ (printed : List ℕ). prints printed (Some (record { bench = x.new; is_new = false }))) one.0
-    ∙ ap (λ (new : BenchState). prints y.printed (Some (record { bench = new; is_new = false }))) one.1 ∙ sym y.outcome_is
+    x.outcome_is ∙ ap (λ (printed : List ℕ). prints printed (Some (record { bench = x.new; early = Early.Over }))) one.0
+    ∙ ap (λ (new : ManagedState). prints y.printed (Some (record { bench = new; early = Early.Over }))) one.1 ∙ sym y.outcome_is
 
-do_at_one : (there : Bool) (n : ℕ) (asked : Asked) (old : BenchState) (a b : TerminalOutcome) → MayDoAt there n asked old a
+do_at_one : (there : Bool) (n : ℕ) (asked : Asked) (old : ManagedState) (a b : TerminalOutcome) → MayDoAt there n asked old a
     → MayDoAt there n asked old b → a ≡ b
 do_at_one false n asked old a b x y = x ∙ sym y
 do_at_one true n asked old a b x y = is_done_one asked old a b x y
 
-do_one : (n : ℕ) (line : List ℕ) (found : Option Asked) (old : BenchState) (a b : TerminalOutcome) → MayDo n line found old a
+do_one : (n : ℕ) (line : List ℕ) (found : Option Asked) (old : ManagedState) (a b : TerminalOutcome) → MayDo n line found old a
     → MayDo n line found old b → a ≡ b
 do_one n line None old a b x y = x ∙ sym y
-do_one n line (Some asked) old a b x y = do_at_one (is_below (length old.links) (link_in asked)) n asked old a b x y
+do_one n line (Some asked) old a b x y = do_at_one (is_below (length old.bench.links) (link_in asked)) n asked old a b x y
 
-follow_one : (n : ℕ) (line : List ℕ) (told : Option Lengths) (old : BenchState) (a b : TerminalOutcome) → MayFollow n line told old a
-    → MayFollow n line told old b → a ≡ b
-follow_one n line None old a b x y = do_one n line (asked_of line) old a b x y
-follow_one n line (Some told) old a b x y = opens_one old.set.base.state.settings told false a b x y
+time_one : (n : ℕ) (line : List ℕ) (told : Option LinkTimes) (old : ManagedState) (a b : TerminalOutcome) → MayTime n line told old a
+    → MayTime n line told old b → a ≡ b
+time_one n line None old a b x y = do_one n line (asked_of line) old a b x y
+time_one n line (Some told) old a b x y = times_one told old a b x y
+
+follow_one : (n : ℕ) (line : List ℕ) (told : Option Lengths) (times : Option LinkTimes) (old : ManagedState) (a b : TerminalOutcome)
+    → MayFollow n line told times old a → MayFollow n line told times old b → a ≡ b
+follow_one n line None times old a b x y = time_one n line times old a b x y
+follow_one n line (Some told) times old a b x y = opens_one old.bench.set.base.state.settings told Early.Times a b x y
 
 pub one_outcome : HaveOneOutcome terminal_rules
 one_outcome n None line a b x y = open_one n line (first_line line) a b x y
-one_outcome n (Some end) line a b x y = follow_one n line (told_lengths end.is_new line) end.bench a b x y
+one_outcome n (Some end) line a b x y = follow_one n line (told_lengths end.early line) (told_times end.early line) end.bench a b x y

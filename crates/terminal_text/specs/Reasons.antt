@@ -9,7 +9,7 @@ use Rattle.text_forms.specs.declared.asked.Asked.{Asked}
 use Rattle.text_forms.specs.Asking.{asked_of}
 use Rattle.terminal_text.specs.Explaining.{said}
 use Rattle.terminal_text.specs.Answers.{is_below, link_in}
-use Rattle.terminal_text.specs.Text.{MayRead, second_in}
+use Rattle.terminal_text.specs.Text.{MayRead, early_in}
 use Rattle.terminal_text.specs.declared.fault.TerminalFault.{TerminalFault}
 use Rattle.terminal_text.specs.declared.fault.TerminalFault.TheVariants.{Step}
 use Rattle.terminal_text.specs.declared.open_end.End.{End as EndState}
@@ -19,7 +19,7 @@ use Rattle.text_lines.specs.Lines.{stops}
 abbrev pub EveryFaultIsTold : Type 0
 EveryFaultIsTold =
     (n : ℕ) (end : Option EndState) (text : List ℕ) (fault : TerminalFault) → MayRead n end text (stops fault)
-    → is_some (said (second_in end) text fault) ≡ true
+    → is_some (said (early_in end) text fault) ≡ true
 
 -- a first line that is refused though a script could begin with it is of the wide profile
 abbrev pub RefusedAsWide : Type 0
@@ -32,7 +32,7 @@ abbrev pub RefusedForItsLink : Type 0
 RefusedForItsLink =
     (n m : ℕ) (end : Option EndState) (text : List ℕ) → MayRead n end text (stops (Step m))
     → (at : EndState) × (asked : Asked) × (end ≡ Some at) × (asked_of text ≡ Some asked)
-    × (is_below (length at.bench.links) (link_in asked) ≡ false)
+    × (is_below (length at.bench.bench.links) (link_in asked) ≡ false)
 
 -- LAW: what is told of a set or a link is so
 pub record EveryReasonIsSo : Type 0 where

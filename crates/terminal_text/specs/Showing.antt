@@ -1,8 +1,12 @@
 -- WHAT THE TURNS OF A LINE SHOW, in the words of `terminal`: the messages that were heard, how the link stands where that
--- changes, and the units that were appended.
-use Rattle.std.specs.Prelude.{ℕ, suc, zero, Bool, true, false, ◌==◌, ◌&&◌, ◌+◌, List, [], ◌∷◌, ◌++◌, Option, Some, None, codes, decimal, if◌then◌else◌}
+-- changes, what level 3 asked behind them, and the units that were appended.
+use Rattle.std.specs.Prelude.{ℕ, suc, zero, Bool, true, false, ◌==◌, ◌&&◌, ◌+◌, List, [], ◌∷◌, ◌++◌, length, Option, Some, None, codes, decimal, if◌then◌else◌}
 use Rattle.std.specs.Str.{bytes_eq}
-use Rattle.term_bench.specs.Waiting.{TurnAndUnit}
+use Rattle.l3_link.specs.declared.signals.Ask.{Ask}
+use Rattle.set_events.specs.Numbers.{refusal_number}
+use Rattle.set_events.specs.declared.answer.Refusal.{Refusal}
+use Rattle.term_managed.specs.Turns.{HeardTurn, TurnAndDeeds}
+use Rattle.term_managed.specs.declared.turn.Deed.{Deed}
 use Rattle.term_bench.specs.declared.turn.Turn.{Turn}
 use Rattle.term_bench.specs.declared.word.LinkWord.{LinkWord}
 use Rattle.l2_units.specs.Numbers.{cause_number}
@@ -60,13 +64,61 @@ word_number LinkWord.Outage = 8
 abbrev pub stays : Turn → Bool
 stays turn = word_number turn.before == word_number turn.after
 
--- messages come first, then how the link stands
-abbrev pub turn_lines : ℕ → Turn → List ℕ
-turn_lines link turn =
+-- WHAT LEVEL 3 ASKED: a command, which is obeyed in the next turn, or an event, which the set answers at once
+abbrev pub what_name : Ask → List ℕ
+what_name (Ask.Rise emergency) = codes "start"
+what_name Ask.Emergency = codes "emergency"
+what_name Ask.Stop = codes "stop"
+what_name Ask.Test = codes "test"
+what_name Ask.Timed = codes "timed"
+what_name Ask.NoAnswer = codes "noanswer"
+what_name Ask.Restore = codes "restore"
+what_name Ask.Redeclare = codes "redeclare"
+what_name Ask.BackTimeout = codes "backtimeout"
+
+abbrev pub is_command : Ask → Bool
+is_command (Ask.Rise emergency) = true
+is_command Ask.Emergency = true
+is_command Ask.Stop = true
+is_command _ = false
+
+-- that a command was done isn't told
+abbrev pub answer_words : Ask → Option Refusal → List ℕ
+answer_words ask None = if is_command ask then [] else codes " done"
+answer_words ask (Some why) = codes " refused " ++ decimal (refusal_number why)
+
+abbrev pub level3_line : ℕ → ℕ → List ℕ → List ℕ → List ℕ
+level3_line link turn what answer =
+    (codes "level3 " ++ (decimal link ++ codes " "))
+    ++ (what ++ (answer ++ (codes " turn=" ++ (decimal turn ++ codes "\n"))))
+
+-- an emergency start is two commands
+abbrev pub in_emergency : Ask → Bool
+in_emergency (Ask.Rise emergency) = emergency
+in_emergency _ = false
+
+abbrev pub deed_lines : ℕ → ℕ → Deed → List ℕ
+deed_lines link turn deed =
+    (if in_emergency deed.ask then level3_line link turn (codes "emergency") (answer_words deed.ask deed.refused) else [])
+    ++ level3_line link turn (what_name deed.ask) (answer_words deed.ask deed.refused)
+
+abbrev pub deeds_lines : ℕ → ℕ → List Deed → List ℕ
+deeds_lines link turn [] = []
+deeds_lines link turn (deed ∷ deeds) = deed_lines link turn deed ++ deeds_lines link turn deeds
+
+-- messages come first, then how the link stands, then what level 3 asked
+abbrev pub own_lines : ℕ → Turn → List ℕ
+own_lines link turn =
     over turn.messages (message_line link turn.number) ++ (if stays turn then [] else link_line link turn)
 
-abbrev pub is_silent : Turn → Bool
-is_silent turn = (turn.messages == 0) && stays turn
+abbrev pub turn_lines : ℕ → TurnAndDeeds → List ℕ
+turn_lines link heard = own_lines link heard.turn ++ deeds_lines link heard.turn.number heard.deeds
+
+abbrev pub is_quiet : Turn → Bool
+is_quiet turn = (turn.messages == 0) && stays turn
+
+abbrev pub is_silent : TurnAndDeeds → Bool
+is_silent heard = is_quiet heard.turn && (length heard.deeds == 0)
 
 -- UNITS THAT WERE APPENDED. A row of units that read the same is one line, with how many they are: it ends where another
 -- unit or another line comes.
@@ -76,7 +128,7 @@ abbrev pub leading_at : List ℕ → Option SignalUnit → ℕ → ℕ
 leading_at words None later = later
 leading_at words (Some unit) later = if bytes_eq words (unit_words unit) then 1 + later else 0
 
-abbrev pub leading : List ℕ → List TurnAndUnit → ℕ
+abbrev pub leading : List ℕ → List HeardTurn → ℕ
 leading words [] = 0
 leading words (heard ∷ more) =
     if is_silent heard.turn then leading_at words heard.unit (leading words more) else 0
@@ -93,7 +145,7 @@ abbrev pub stands_in : Option (List ℕ) → List ℕ → Bool
 stands_in None words = false
 stands_in (Some before) words = bytes_eq before words
 
-abbrev pub unit_line : ℕ → Option (List ℕ) → Option SignalUnit → List TurnAndUnit → List ℕ
+abbrev pub unit_line : ℕ → Option (List ℕ) → Option SignalUnit → List HeardTurn → List ℕ
 unit_line link before None more = []
 unit_line link before (Some unit) more =
     if stands_in before (unit_words unit) then [] else row_line link (unit_words unit) (1 + leading (unit_words unit) more)
@@ -103,20 +155,20 @@ words_or None before = before
 words_or (Some unit) before = Some (unit_words unit)
 
 -- the row that goes on behind the lines of a turn
-abbrev pub row_behind : Option (List ℕ) → Turn → Option (List ℕ)
+abbrev pub row_behind : Option (List ℕ) → TurnAndDeeds → Option (List ℕ)
 row_behind before turn = if is_silent turn then before else None
 
 -- what these turns show, behind a row of units that read so, if there is one
-abbrev pub shown_behind : ℕ → Option (List ℕ) → List TurnAndUnit → List ℕ
+abbrev pub shown_behind : ℕ → Option (List ℕ) → List HeardTurn → List ℕ
 shown_behind link before [] = []
 shown_behind link before (heard ∷ more) =
     turn_lines link heard.turn ++ (unit_line link (row_behind before heard.turn) heard.unit more
     ++ shown_behind link (words_or heard.unit (row_behind before heard.turn)) more)
 
 -- WHAT TURNS SHOW
-abbrev pub shown : ℕ → List TurnAndUnit → List ℕ
+abbrev pub shown : ℕ → List HeardTurn → List ℕ
 shown link heard = shown_behind link None heard
 
 -- the same without the units
-abbrev pub without_unit : TurnAndUnit → TurnAndUnit
+abbrev pub without_unit : HeardTurn → HeardTurn
 without_unit heard = record { turn = heard.turn; unit = None }

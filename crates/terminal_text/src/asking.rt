@@ -3,16 +3,19 @@ ghost use Rattle.std.specs.Prelude.{◌≡◌, ◌<◌, ◌≤◌, IfOk, length,
 ghost use Rattle.set_model.specs.History.{IsActor};
 ghost use Rattle.text_forms.specs.declared.asked.Asked.TheVariants.{Checkpoint, History};
 ghost use Rattle.terminal_text.specs.Looking.{IsLookAt};
-ghost use Rattle.terminal_text.specs.Answers.{Asks, CommandsBy, Does, Looks, asker, is_below, is_refused, link_in, link_of_event};
+ghost use Rattle.terminal_text.specs.Answers.{Asks, CommandsBy, Does, Looks, asker, gone_text, is_below, is_refused, link_in, link_of_event};
 
 use super::fault::Want;
 use super::hearing::{hear_digits, hear_flags, hear_octets, hear_unit};
+use super::level3::{activate, deactivate};
 use super::words::{Look, write_look};
 use l2_units::Profile;
 use link_term::Command;
+use set_core::SetCore;
 use set_events::{Actor, Event};
-use std::alloc::Global;
+use std::alloc::{AllocError, Global};
 use term_bench::Bench;
+use term_managed::ManagedBench;
 use text_entries::{write_answer, write_entries, write_piece};
 use text_forms::Asked;
 
@@ -26,9 +29,11 @@ pub(crate) fn link_of(asked: &Asked) -> Option<u8>
         | Asked::Hear { link, .. }
         | Asked::Flags { link, .. }
         | Asked::Bits { link, .. }
-        | Asked::Look { link } => Some(*link),
+        | Asked::Look { link }
+        | Asked::Activate { link }
+        | Asked::Deactivate { link } => Some(*link),
         Asked::Event { event } => link_of_event(event),
-        Asked::Checkpoint | Asked::History => None,
+        Asked::Checkpoint { .. } | Asked::History => None,
     }
 }
 
@@ -45,15 +50,20 @@ fn link_of_event(event: &Event) -> Option<u8>
         | Event::NoAnswer { link }
         | Event::Timed { link }
         | Event::Restore { link }
+        | Event::Redeclare { link }
         | Event::BackTimeout { link } => Some(*link),
         Event::Offer { .. } | Event::Take | Event::Find { .. } => None,
     }
 }
 
 /// What a line asks for is done, of a link that is there: what it prints.
-pub(crate) fn ask_bench(alloc: Global, bench: &mut Bench, asked: &Asked) -> Result<Vec<u8>, Want>
-    requires there { is_below (length bench.old.links) (link_in asked.now) ≡ true }
-    requires few { length bench.old.links ≤ 16 }
+pub(crate) fn ask_bench(
+    alloc: Global,
+    bench: &mut ManagedBench,
+    asked: &Asked,
+) -> Result<Vec<u8>, Want>
+    requires there { is_below (length bench.old.bench.links) (link_in asked.now) ≡ true }
+    requires few { length bench.old.bench.links ≤ 16 }
     ensures { IfOk result (λ text. Does asked.now bench.old text.items bench.new) }
 {
     match asked {
@@ -64,15 +74,22 @@ pub(crate) fn ask_bench(alloc: Global, bench: &mut Bench, asked: &Asked) -> Resu
         Asked::Bits { link, bits } => hear_digits(alloc, bench, *link, bits),
         Asked::Event { event } => ask(alloc, bench, event),
         Asked::Look { link } => look(alloc, bench, *link),
-        Asked::Checkpoint => checkpoint(alloc, bench),
+        Asked::Activate { link } => activate(alloc, bench, *link),
+        Asked::Deactivate { link } => deactivate(alloc, bench, *link),
+        Asked::Checkpoint { quiet } => checkpoint(alloc, bench, *quiet),
         Asked::History => history(alloc, bench),
     }
 }
 
 /// A command to the terminal of a link.
-fn obey(alloc: Global, bench: &mut Bench, link: u8, command: Command) -> Result<Vec<u8>, Want>
-    requires { link < length bench.old.links }
-    ensures { IfOk result (λ text. CommandsBy (is_refused command link bench.old) link command bench.old text.items
+fn obey(
+    alloc: Global,
+    bench: &mut ManagedBench,
+    link: u8,
+    command: Command,
+) -> Result<Vec<u8>, Want>
+    requires { link < length bench.old.bench.links }
+    ensures { IfOk result (λ text. CommandsBy (is_refused command link bench.old.bench) link command bench.old text.items
         bench.new) }
 {
     let text: &[u8] = match bench.command(link, command) {
@@ -83,7 +100,7 @@ fn obey(alloc: Global, bench: &mut Bench, link: u8, command: Command) -> Result<
 }
 
 /// An event of a terminal or of user 0.
-fn ask(alloc: Global, bench: &mut Bench, event: &Event) -> Result<Vec<u8>, Want>
+fn ask(alloc: Global, bench: &mut ManagedBench, event: &Event) -> Result<Vec<u8>, Want>
     requires { IsActor (asker event.now) }
     ensures { IfOk result (λ text. Asks event.now bench.old text.items bench.new) }
 {
@@ -102,11 +119,11 @@ fn asker(event: &Event) -> Actor
 }
 
 /// How a link stands.
-fn look(alloc: Global, bench: &mut Bench, link: u8) -> Result<Vec<u8>, Want>
-    requires { link < length bench.old.links }
+fn look(alloc: Global, bench: &mut ManagedBench, link: u8) -> Result<Vec<u8>, Want>
+    requires { link < length bench.old.bench.links }
     ensures { IfOk result (λ text. Looks link bench.old text.items bench.new) }
 {
-    Ok(write_look(alloc, look_at(bench, link))?)
+    Ok(write_look(alloc, look_at(bench.bench(), link))?)
 }
 
 /// How a link stands, of this bench.
@@ -123,21 +140,31 @@ fn look_at(bench: &Bench, link: u8) -> Look
     }
 }
 
-/// A checkpoint: the entries that go.
-fn checkpoint(alloc: Global, bench: &mut Bench) -> Result<Vec<u8>, Want>
-    ensures { IfOk result (λ text. Does Checkpoint bench.old text.items bench.new) }
+/// A checkpoint: the entries that go, unless it's quiet.
+fn checkpoint(alloc: Global, bench: &mut ManagedBench, quiet: bool) -> Result<Vec<u8>, Want>
+    ensures { IfOk result (λ text. Does (Checkpoint quiet) bench.old text.items bench.new) }
 {
-    let mut text = write_piece(alloc, Profile::Narrow, bench.set().history())?;
+    let mut text = write_gone(alloc, bench.bench().set(), quiet)?;
     text.extend_from_slice(b"done\n")?;
     bench.checkpoint()?;
     Ok(text)
 }
 
+/// The entries that go at a checkpoint; nothing where it's quiet.
+fn write_gone(alloc: Global, set: &SetCore, quiet: bool) -> Result<Vec<u8>, AllocError>
+    ensures { IfOk result (λ text. text.items ≡ gone_text quiet set.now.history) }
+{
+    if quiet {
+        return Ok(Vec::new(alloc));
+    }
+    write_piece(alloc, Profile::Narrow, set.history())
+}
+
 /// The entries since the base.
-fn history(alloc: Global, bench: &mut Bench) -> Result<Vec<u8>, Want>
+fn history(alloc: Global, bench: &mut ManagedBench) -> Result<Vec<u8>, Want>
     ensures { IfOk result (λ text. Does History bench.old text.items bench.new) }
 {
-    let mut text = write_entries(alloc, Profile::Narrow, bench.set().history())?;
+    let mut text = write_entries(alloc, Profile::Narrow, bench.bench().set().history())?;
     text.extend_from_slice(b"done\n")?;
     Ok(text)
 }

@@ -7,27 +7,27 @@ ghost use Rattle.terminal_text.specs.Explaining.{said, unread};
 use super::fault::TerminalFault;
 use super::named::NamedTerminal;
 use std::alloc::{AllocError, Global};
-use text_forms::{Blame, blame_line, blame_link, blame_opening, blame_profile, explain};
+use text_forms::{Blame, Early, blame_line, blame_link, blame_opening, blame_profile, explain};
 use text_lines::Explains;
 
 impl Explains for NamedTerminal {
-    /// Whether the line is the one behind the first, which may tell the timers' lengths; `None` of the first.
-    type Before = Option<bool>;
+    /// Which lines of lengths may come; `None` before the first line.
+    type Before = Option<Early>;
 
     ghost use Rattle.terminal_text.specs.Explaining.{said};
-    ghost use Rattle.terminal_text.specs.Text.{second_in};
+    ghost use Rattle.terminal_text.specs.Text.{early_in};
 
-    ghost said = { λ end. said (second_in end) };
+    ghost said = { λ end. said (early_in end) };
 
     ghost said_by = { said };
 
-    fn before(&self) -> Option<bool> {
-        self.terminal.is_second()
+    fn before(&self) -> Option<Early> {
+        self.terminal.early()
     }
 
     fn explain(
         alloc: Global,
-        before: &Option<bool>,
+        before: &Option<Early>,
         text: &[u8],
         fault: &TerminalFault,
     ) -> Result<Option<String>, AllocError> {
@@ -38,15 +38,15 @@ impl Explains for NamedTerminal {
 /// The lines that explain a fault on this line.
 fn explain_fault(
     alloc: Global,
-    is_second: Option<bool>,
+    early: Option<Early>,
     text: &[u8],
     fault: TerminalFault,
 ) -> Result<Option<String>, AllocError>
-    ensures { IfOk result (λ told. option_map string_bytes told ≡ said is_second text.now fault) }
+    ensures { IfOk result (λ told. option_map string_bytes told ≡ said early text.now fault) }
 {
     match fault {
         TerminalFault::Text { line, .. } => {
-            shown(alloc, line, blame_unread(alloc, is_second, text)?, text)
+            shown(alloc, line, blame_unread(alloc, early, text)?, text)
         }
         TerminalFault::Step { line } => Ok(Some(explain(alloc, line, blame_link(text), text)?)),
     }
@@ -71,13 +71,13 @@ fn shown(
 /// The word at fault of a line that can't be read.
 fn blame_unread(
     alloc: Global,
-    is_second: Option<bool>,
+    early: Option<Early>,
     text: &[u8],
 ) -> Result<Option<Blame>, AllocError>
-    ensures { IfOk result (λ blame. blame ≡ unread is_second text.now) }
+    ensures { IfOk result (λ blame. blame ≡ unread early text.now) }
 {
-    if let Some(is_second) = is_second {
-        return blame_line(alloc, is_second, text);
+    if let Some(early) = early {
+        return blame_line(alloc, early, text);
     }
     match blame_opening(text) {
         Some(blame) => Ok(Some(blame)),

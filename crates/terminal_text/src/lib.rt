@@ -1,13 +1,13 @@
 //! The text of `terminal`: one end of a set of links whose lines are elsewhere.
 //!
 //! ```text
-//! line of the input (text_forms) -> bench: turns by octets and bits, calls of user 0 and of terminals (term_bench)
-//!                                     -> event lines, and one answer
+//! line of the input (text_forms) -> bench: turns by octets and bits, level 3 behind them, calls of user 0 and of
+//!                                   terminals (term_managed) -> event lines, and one answer
 //! ```
 //!
 //! [`terminal`] reads a source line by line and writes what each line prints, for whoever drives the end: the lines, which
 //! are bits, and the time, since a turn takes an octet and gives one. The first line opens the set; a line of timers may
-//! follow. `specs/Text.antt` is the text: a relation, since the marks of bits are related and not computed; by the law
+//! follow, and one of level 3's times. `specs/Text.antt` is the text: a relation, since the marks of bits are related and not computed; by the law
 //! [`one_terminal_text`] an input has one text. `specs/Answers.antt` has what a line prints, `specs/Showing.antt` what its
 //! turns show.
 //!
@@ -16,13 +16,18 @@
 //! (`text_forms`), the line itself, and a caret under the word at fault (`specs/Explaining.antt`). Each line that is refused
 //! has one, and what it says of a set or a link is so (`specs/Reasons.antt`). A line of over 4,096 octets isn't kept, and so
 //! not shown.
+//!
+//! [`terminal_kept`] and [`terminal_kept_explained`] answer a line at fault and go on from what the lines before it left
+//! (`specs/Kept.antt`).
 #![tactic(auto)]
 
 mod asking;
 mod explaining;
 mod fault;
 mod hearing;
+mod kept;
 mod laws;
+mod level3;
 mod named;
 mod open_end;
 mod rows;
@@ -32,5 +37,5 @@ mod words;
 pub use fault::TerminalFault;
 pub use laws::{as_many_octets_go_out, every_fault_is_told, every_reason_is_so, one_terminal_text};
 pub use open_end::Terminal;
-pub use text::{terminal, terminal_explained};
+pub use text::{terminal, terminal_explained, terminal_kept, terminal_kept_explained};
 pub use text_lines::Explained;

@@ -25,6 +25,9 @@ impl Model for NamedTerminal {
 
 impl NamedTerminal {
     ghost use Rattle.std.specs.Prelude.{◌≡◌, None};
+    ghost use Rattle.terminal_text.specs.Kept.{StaysAtFault};
+    ghost use Rattle.terminal_text.specs.Named.{MayPrint};
+    ghost use Rattle.text_lines.specs.Talking.{IsCarriedOut};
 
     /// Before the first line.
     pub(crate) fn new() -> NamedTerminal
@@ -33,6 +36,23 @@ impl NamedTerminal {
         NamedTerminal {
             terminal: Terminal::new(),
         }
+    }
+
+    /// Carries out the line of this number, which is no remark, and appends what it prints. A line at fault leaves the end as
+    /// it was.
+    pub(crate) fn carry_out(
+        &mut self,
+        alloc: Global,
+        number: u64,
+        text: &[u8],
+        out: &mut Vec<u8>,
+    ) -> Result<(), Stop<TerminalFault>>
+        ensures carried { IsCarriedOut result (MayPrint number self.old text.now) out.old.items out.new.items self.new }
+        ensures stays { StaysAtFault result self.old self.new }
+    {
+        let mut printed = Vec::new(alloc);
+        self.terminal.carry_out(alloc, number, text, &mut printed)?;
+        Ok(out.extend_from_slice(&write_named(alloc, &printed)?)?)
     }
 }
 
@@ -56,9 +76,7 @@ impl TalkText for NamedTerminal {
         text: &[u8],
         out: &mut Vec<u8>,
     ) -> Result<(), Stop<TerminalFault>> {
-        let mut printed = Vec::new(alloc);
-        self.terminal.line(alloc, number, text, &mut printed)?;
-        Ok(out.extend_from_slice(&write_named(alloc, &printed)?)?)
+        self.carry_out(alloc, number, text, out)
     }
 
     fn end(&self, alloc: Global, out: &mut Vec<u8>) -> Result<(), Stop<TerminalFault>> {

@@ -1,11 +1,15 @@
 //! A terminal's end under way, and what a line of the input does.
-ghost use Rattle.std.specs.Prelude.{◌≡◌, MatchResult, Some, [], length, false};
+ghost use Rattle.std.specs.Prelude.{◌≡◌, MatchResult, Some, [], length};
 ghost use Rattle.text_forms.specs.Opening.{first_line};
 ghost use Rattle.text_base.specs.declared.fault.Stop.TheVariants.{Input, Memory};
 ghost use Rattle.text_forms.specs.Timers.{timers_of};
+ghost use Rattle.text_forms.specs.Times.{times_of};
+ghost use Rattle.std.specs.Option.{option_map};
+ghost use Rattle.text_forms.specs.declared.early.Early.TheVariants.{Over};
 ghost use Rattle.text_forms.specs.Asking.{asked_of};
 ghost use Rattle.terminal_text.specs.Answers.{is_below, link_in};
-ghost use Rattle.terminal_text.specs.Text.{MayDo, MayDoAt, MayFollow, MayOpen, MayRead, TerminalOutcome, opened_bench};
+ghost use Rattle.terminal_text.specs.Kept.{StaysAtFault};
+ghost use Rattle.terminal_text.specs.Text.{IsOpenedAnew, MayDo, MayDoAt, MayFollow, MayOpen, MayRead, MayTime, TerminalOutcome, opened_end, told_lengths, told_times};
 ghost use Rattle.terminal_text.specs.declared.fault.TerminalFault.TheVariants.{Text};
 ghost use Rattle.text_lines.specs.Flaws.{flaw_of};
 ghost use Rattle.text_lines.specs.Lines.{prints};
@@ -14,22 +18,25 @@ ghost use Rattle.text_lines.specs.Talking.{IsCarriedOut, MayTell};
 use super::asking::{ask_bench, link_of};
 use super::fault::{TerminalFault, Want};
 use l2_units::Profile;
+use l3_link::Times;
 use pair_steps::End as Side;
 use std::alloc::Global;
 use std::marker::Model;
-use term_bench::Bench;
+use term_managed::ManagedBench;
 use term_model::Timers;
 use text_base::Stop;
 use text_entries::write_end;
-use text_forms::{Asked, USUAL_TIMERS, Unread, read_asked, read_opening, read_timers};
+use text_forms::{
+    Asked, Early, USUAL_TIMERS, Unread, read_asked, read_opening, read_timers, read_times,
+};
 use text_lines::{LineFlaw, TalkText, find_flaw};
 
 /// An end whose set is open.
 #[derive(Drop)]
 pub(crate) struct End {
-    bench: Bench,
-    /// No line has come behind the first: the timers' lengths may be told.
-    is_new: bool,
+    bench: ManagedBench,
+    /// Which lines of lengths may come next.
+    early: Early,
 }
 
 /// An end under way: the lines of [`terminal`](crate::terminal)'s text, as `text_lines` reads them.
@@ -50,7 +57,9 @@ impl Model for Terminal {
 
 impl Terminal {
     ghost use Rattle.std.specs.Prelude.{◌≡◌, None};
-    ghost use Rattle.terminal_text.specs.Text.{second_in};
+    ghost use Rattle.terminal_text.specs.Kept.{StaysAtFault};
+    ghost use Rattle.terminal_text.specs.Text.{MayRead, early_in};
+    ghost use Rattle.text_lines.specs.Talking.{IsCarriedOut};
 
     /// Before the first line.
     pub fn new() -> Terminal
@@ -59,14 +68,33 @@ impl Terminal {
         Terminal { end: None }
     }
 
-    /// Whether the next line is the one behind the first, which may tell the timers' lengths; `None` before the first.
-    pub fn is_second(&self) -> Option<bool>
-        ensures { result ≡ second_in self.now }
+    /// Which lines of lengths may come next; `None` before the first line.
+    pub fn early(&self) -> Option<Early>
+        ensures { result ≡ early_in self.now }
     {
         match &self.end {
-            Some(end) => Some(end.is_new),
+            Some(end) => Some(end.early),
             None => None,
         }
+    }
+
+    /// Carries out the line of this number, which is no remark, and appends what it prints. A line at fault leaves the end as
+    /// it was.
+    pub(crate) fn carry_out(
+        &mut self,
+        alloc: Global,
+        number: u64,
+        text: &[u8],
+        out: &mut Vec<u8>,
+    ) -> Result<(), Stop<TerminalFault>>
+        ensures carried { IsCarriedOut result (MayRead number self.old text.now) out.old.items out.new.items self.new }
+        ensures stays { StaysAtFault result self.old self.new }
+    {
+        let Some(end) = &mut self.end else {
+            self.end = Some(open(alloc, number, text)?);
+            return Ok(());
+        };
+        follow(alloc, end, number, text, out)
     }
 }
 
@@ -94,16 +122,12 @@ impl TalkText for Terminal {
         text: &[u8],
         out: &mut Vec<u8>,
     ) -> Result<(), Stop<TerminalFault>> {
-        let Some(end) = &mut self.end else {
-            self.end = Some(open(alloc, number, text)?);
-            return Ok(());
-        };
-        follow(alloc, end, number, text, out)
+        self.carry_out(alloc, number, text, out)
     }
 
     fn end(&self, alloc: Global, out: &mut Vec<u8>) -> Result<(), Stop<TerminalFault>> {
         if let Some(end) = &self.end {
-            out.extend_from_slice(&write_end(alloc, Side::A, end.bench.set().counts())?)?;
+            out.extend_from_slice(&write_end(alloc, Side::A, end.bench.bench().set().counts())?)?;
         }
         Ok(())
     }
@@ -122,10 +146,10 @@ fn open(alloc: Global, number: u64, text: &[u8]) -> Result<End, Stop<TerminalFau
         Profile::Narrow => {}
         Profile::Wide => return Err(unread(number, text)),
     }
-    match Bench::new(alloc, &opening.a, USUAL_TIMERS) {
+    match ManagedBench::new(alloc, &opening.a, USUAL_TIMERS, Times::USUAL) {
         Ok(bench) => Ok(End {
             bench,
-            is_new: true,
+            early: Early::Both,
         }),
         Err(_) => Err(Stop::Memory),
     }
@@ -141,7 +165,7 @@ fn unread(number: u64, text: &[u8]) -> Stop<TerminalFault>
     })
 }
 
-/// A line behind the first: the timers' lengths, or what is asked of the end.
+/// A line behind the first: the timers' lengths, level 3's times, or what is asked of the end.
 fn follow(
     alloc: Global,
     end: &mut End,
@@ -149,28 +173,92 @@ fn follow(
     text: &[u8],
     out: &mut Vec<u8>,
 ) -> Result<(), Stop<TerminalFault>>
-    ensures { IsCarriedOut result (MayRead number (Some end.old) text.now) out.old.items out.new.items
+    ensures carried { IsCarriedOut result (MayRead number (Some end.old) text.now) out.old.items out.new.items
         (Some end.new) }
+    ensures stays { StaysAtFault result end.old end.new }
 {
-    if end.is_new {
-        if let Ok(lengths) = read_timers(text) {
-            return set_timers(alloc, end, lengths);
+    match find_timers(end.early, text) {
+        Some(lengths) => set_timers(alloc, end, lengths),
+        None => go_on(alloc, end, number, text, out),
+    }
+}
+
+/// A line that doesn't tell timers.
+fn go_on(
+    alloc: Global,
+    end: &mut End,
+    number: u64,
+    text: &[u8],
+    out: &mut Vec<u8>,
+) -> Result<(), Stop<TerminalFault>>
+    ensures carried { IsCarriedOut result (MayTime number text.now (told_times end.old.early text.now) end.old.bench) out.old.items
+        out.new.items (Some end.new) }
+    ensures stays { StaysAtFault result end.old end.new }
+{
+    match find_times(end.early, text) {
+        Some(times) => {
+            end.early = Early::Over;
+            set_times(alloc, &mut end.bench, times)
+        }
+        None => {
+            answer(alloc, &mut end.bench, number, text, out)?;
+            end.early = Early::Over;
+            Ok(())
         }
     }
-    end.is_new = false;
-    answer(alloc, &mut end.bench, number, text, out)
+}
+
+/// The timers' lengths that a line tells, where it may tell them.
+fn find_timers(early: Early, text: &[u8]) -> Option<Timers>
+    ensures { option_map timers_of result ≡ told_lengths early text.now }
+{
+    match early {
+        Early::Both => read_timers(text).ok(),
+        Early::Times | Early::Over => None,
+    }
+}
+
+/// Level 3's times that a line tells, where it may tell them.
+fn find_times(early: Early, text: &[u8]) -> Option<Times>
+    ensures { option_map times_of result ≡ told_times early text.now }
+{
+    match early {
+        Early::Both | Early::Times => read_times(text).ok(),
+        Early::Over => None,
+    }
+}
+
+/// Level 3 has these times.
+fn set_times(
+    alloc: Global,
+    bench: &mut ManagedBench,
+    times: Times,
+) -> Result<(), Stop<TerminalFault>>
+    ensures { MatchResult result
+        (λ done. bench.new ≡ opened_end bench.old.bench (length bench.old.bench.links) times)
+        (λ stop. stop ≡ Memory) }
+{
+    match bench.set_times(alloc, times) {
+        Ok(()) => Ok(()),
+        Err(_) => Err(Stop::Memory),
+    }
 }
 
 /// The end is opened anew, with timers of these lengths.
 fn set_timers(alloc: Global, end: &mut End, lengths: Timers) -> Result<(), Stop<TerminalFault>>
     ensures { MatchResult result
-        (λ done. end.new ≡ record { bench = opened_bench end.old.bench.set.base.state.settings lengths; is_new = false })
+        (λ done. IsOpenedAnew lengths end.old.bench.bench.set.base.state.settings end.new)
         (λ stop. stop ≡ Memory) }
 {
-    match Bench::new(alloc, end.bench.set().config(), lengths) {
+    match ManagedBench::new(
+        alloc,
+        end.bench.bench().set().config(),
+        lengths,
+        Times::USUAL,
+    ) {
         Ok(bench) => {
             end.bench = bench;
-            end.is_new = false;
+            end.early = Early::Times;
             Ok(())
         }
         Err(_) => Err(Stop::Memory),
@@ -180,13 +268,14 @@ fn set_timers(alloc: Global, end: &mut End, lengths: Timers) -> Result<(), Stop<
 /// What a line asks for is done, and what it prints is appended.
 fn answer(
     alloc: Global,
-    bench: &mut Bench,
+    bench: &mut ManagedBench,
     number: u64,
     text: &[u8],
     out: &mut Vec<u8>,
 ) -> Result<(), Stop<TerminalFault>>
-    ensures { IsCarriedOut result (MayDo number text.now (asked_of text.now) bench.old) out.old.items
-        out.new.items (Some (record { bench = bench.new; is_new = false })) }
+    ensures carried { IsCarriedOut result (MayDo number text.now (asked_of text.now) bench.old) out.old.items
+        out.new.items (Some (record { bench = bench.new; early = Over })) }
+    ensures stays { StaysAtFault result bench.old bench.new }
 {
     match read_asked(alloc, text) {
         Ok(asked) => answer_to(alloc, bench, number, &asked, out),
@@ -198,15 +287,16 @@ fn answer(
 /// The same, of what it asks for.
 fn answer_to(
     alloc: Global,
-    bench: &mut Bench,
+    bench: &mut ManagedBench,
     number: u64,
     asked: &Asked,
     out: &mut Vec<u8>,
 ) -> Result<(), Stop<TerminalFault>>
-    ensures { IsCarriedOut result (MayDoAt (is_below (length bench.old.links) (link_in asked.now)) number asked.now
-        bench.old) out.old.items out.new.items (Some (record { bench = bench.new; is_new = false })) }
+    ensures carried { IsCarriedOut result (MayDoAt (is_below (length bench.old.bench.links) (link_in asked.now)) number asked.now
+        bench.old) out.old.items out.new.items (Some (record { bench = bench.new; early = Over })) }
+    ensures stays { StaysAtFault result bench.old bench.new }
 {
-    if !is_there(bench.links(), link_of(asked)) {
+    if !is_there(bench.bench().links(), link_of(asked)) {
         return Err(Stop::Input(TerminalFault::Step { line: number }));
     }
     match ask_bench(alloc, bench, asked) {

@@ -7,7 +7,7 @@ use super::fault::Want;
 use super::words::{is_silent, push_row, push_turn};
 use l2_units::Unit;
 use std::alloc::Global;
-use term_bench::Turn;
+use term_managed::ManagedTurn;
 use text_base::is_word;
 use text_units::push_unit_words;
 
@@ -43,7 +43,7 @@ impl Rows {
     }
 
     /// Shows what a turn did, and the unit that it appended, if it did and units are shown.
-    pub(crate) fn show(&mut self, turn: &Turn, unit: Option<&Unit>) -> Result<(), Want>
+    pub(crate) fn show(&mut self, turn: &ManagedTurn, unit: Option<&Unit>) -> Result<(), Want>
         ensures { OnOk result (Shows self.old (record { turn = turn.now; unit = option_map (λ u. u.now) unit.entry } ∷ [])
             self.new) }
     {
@@ -55,7 +55,7 @@ impl Rows {
     }
 
     /// Shows what a turn did, but for its unit: where that is something, the row ends before it.
-    fn show_lines(&mut self, turn: &Turn) -> Result<(), Want>
+    fn show_lines(&mut self, turn: &ManagedTurn) -> Result<(), Want>
         ensures { OnOk result (ShowsTurn self.old turn.now self.new) }
     {
         if is_silent(turn) {

@@ -3,11 +3,13 @@ ghost use Rattle.std.specs.Prelude.{◌≡◌, ◌++◌, IfOk, OnOk, codes, deci
 ghost use Rattle.term_bench.specs.Ends.{AtLink};
 ghost use Rattle.terminal_text.specs.Answers.{cause_or_0, counts_words, look_text, phase_name, standing_words};
 ghost use Rattle.terminal_text.specs.Looking.{IsLook};
-ghost use Rattle.terminal_text.specs.Showing.{cause_words, is_silent, link_line, link_words, message_line, over, row_line, stays, times_words, turn_lines, word_name};
+ghost use Rattle.terminal_text.specs.Showing.{cause_words, is_silent, is_quiet, link_line, link_words, message_line, over, own_lines, row_line, stays, times_words, turn_lines, word_name};
 
+use super::level3::push_deeds;
 use l2_units::Cause;
 use std::alloc::{AllocError, Global};
 use term_bench::{LinkWord, Phase, Turn, TurnCounts};
+use term_managed::ManagedTurn;
 use text_base::push_number;
 
 /// The word for how a link stands.
@@ -36,15 +38,31 @@ fn stays(turn: &Turn) -> bool
 }
 
 /// Whether a turn shows nothing, but for a unit that it appended.
-pub(crate) fn is_silent(turn: &Turn) -> bool
-    ensures { result ≡ is_silent turn.now }
+pub(crate) fn is_silent(heard: &ManagedTurn) -> bool
+    ensures { result ≡ is_silent heard.now }
+{
+    is_quiet(heard.turn()) && heard.deeds().is_empty()
+}
+
+/// Whether a turn shows nothing of its own.
+fn is_quiet(turn: &Turn) -> bool
+    ensures { result ≡ is_quiet turn.now }
 {
     turn.messages == 0 && stays(turn)
 }
 
-/// Adds the lines of a turn: a line for each message, and how the link stands where that has changed.
-pub(crate) fn push_turn(out: &mut Vec<u8>, link: u8, turn: &Turn) -> Result<(), AllocError>
-    ensures { OnOk result (out.new.items ≡ out.old.items ++ turn_lines link turn.now) }
+/// Adds the lines of a turn: its own, and of what level 3 asked behind it.
+pub(crate) fn push_turn(out: &mut Vec<u8>, link: u8, heard: &ManagedTurn) -> Result<(), AllocError>
+    ensures { OnOk result (out.new.items ≡ out.old.items ++ turn_lines link heard.now) }
+{
+    let turn = heard.turn();
+    push_own(out, link, turn)?;
+    push_deeds(out, link, turn.number, heard.deeds())
+}
+
+/// Adds the turn's own lines: a line for each message, and how the link stands where that has changed.
+fn push_own(out: &mut Vec<u8>, link: u8, turn: &Turn) -> Result<(), AllocError>
+    ensures { OnOk result (out.new.items ≡ out.old.items ++ own_lines link turn.now) }
 {
     push_messages(out, link, turn)?;
     if !stays(turn) {

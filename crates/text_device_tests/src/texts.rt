@@ -6,7 +6,7 @@ use script_accounts::{
 };
 use script_ladder::{ladder, ladder_explained};
 use std::alloc::Global;
-use terminal_text::{terminal, terminal_explained};
+use terminal_text::{terminal, terminal_explained, terminal_kept, terminal_kept_explained};
 use test_devices::{Page, Text};
 use text_base::{Fault, Sink, Source};
 use text_units::{decode, decode_explained, units};
@@ -34,9 +34,11 @@ pub(crate) enum Which {
     AuditExplained,
     Terminal,
     TerminalExplained,
+    TerminalKept,
+    TerminalKeptExplained,
 }
 
-pub(crate) const ALL: [Which; 17] = [
+pub(crate) const ALL: [Which; 19] = [
     Which::Units,
     Which::Decode,
     Which::DecodeExplained,
@@ -54,6 +56,8 @@ pub(crate) const ALL: [Which; 17] = [
     Which::AuditExplained,
     Which::Terminal,
     Which::TerminalExplained,
+    Which::TerminalKept,
+    Which::TerminalKeptExplained,
 ];
 
 const SCRIPT: &[u8] = b"set links=1 method=basic a=2 b=1 sio=80
@@ -79,8 +83,19 @@ impl Which {
             Which::Units => b"7edff705f8beaf1f\n",
             Which::Decode | Which::DecodeExplained => b"ffff00\n80ff03850000\n",
             Which::Audit | Which::AuditExplained => HISTORY,
-            Which::Terminal | Which::TerminalExplained => LINES,
+            Which::Terminal
+            | Which::TerminalExplained
+            | Which::TerminalKept
+            | Which::TerminalKeptExplained => LINES,
             _ => SCRIPT,
+        }
+    }
+
+    /// How it ends behind a line that can't be read: an end that's kept answers the line, and goes on.
+    pub(crate) fn end_at_fault(self) -> End {
+        match self {
+            Which::TerminalKept | Which::TerminalKeptExplained => End::Done,
+            _ => End::Input,
         }
     }
 }
@@ -132,6 +147,8 @@ pub(crate) fn run<S: Source, W: Sink>(
         Which::AuditExplained => end_of(audit_explained(alloc, text, page)),
         Which::Terminal => end_of(terminal(alloc, text, page)),
         Which::TerminalExplained => end_of(terminal_explained(alloc, text, page)),
+        Which::TerminalKept => end_of(terminal_kept(alloc, text, page)),
+        Which::TerminalKeptExplained => end_of(terminal_kept_explained(alloc, text, page)),
     }
 }
 

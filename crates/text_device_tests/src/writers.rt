@@ -62,7 +62,7 @@ fn at_once(writes: u32) -> Devices {
 fn tells_the_fault_behind_all(alloc: Global, which: Which, input: &[u8]) -> bool {
     let whole = run_once(alloc, which, input, at_once(MANY));
     let length = whole.octets.len().min(100_000) as u32;
-    let mut all = whole.end == End::Input;
+    let mut all = whole.end == which.end_at_fault();
     for writes in 0..length {
         all = is_cut(
             &run_once(alloc, which, input, at_once(writes)),
@@ -70,7 +70,7 @@ fn tells_the_fault_behind_all(alloc: Global, which: Which, input: &[u8]) -> bool
             writes,
         ) && all;
     }
-    all && run_once(alloc, which, input, at_once(length)).end == End::Input
+    all && run_once(alloc, which, input, at_once(length)).end == which.end_at_fault()
 }
 
 #[test]

@@ -6,7 +6,7 @@ use Rattle.l2_units.specs.declared.unit.Unit.{Unit as SignalUnit}
 use Rattle.set_events.specs.declared.event.Actor.{Actor}
 use Rattle.set_events.specs.declared.event.Actor.TheVariants.{User, Terminal}
 use Rattle.set_events.specs.declared.event.Event.{Event}
-use Rattle.set_events.specs.declared.event.Event.TheVariants.{Offer, Take, Find, Next, Heard as Hear, Up, Down, DownBlind, NoAnswer, Timed, Restore, BackTimeout}
+use Rattle.set_events.specs.declared.event.Event.TheVariants.{Offer, Take, Find, Next, Heard as Hear, Up, Down, DownBlind, NoAnswer, Timed, Restore, Redeclare, BackTimeout}
 use Rattle.set_events.specs.declared.answer.Fate.{Fate}
 use Rattle.set_events.specs.declared.answer.Fate.TheVariants.{Waiting, Unacked, Acked, Held, Parked, Back, Discarded}
 use Rattle.set_events.specs.declared.answer.Answer.{Answer}
@@ -42,6 +42,7 @@ event_text profile (DownBlind link) = numbered (codes "blind ") link
 event_text profile (NoAnswer link) = numbered (codes "noanswer ") link
 event_text profile (Timed link) = numbered (codes "timed ") link
 event_text profile (Restore link) = numbered (codes "restore ") link
+event_text profile (Redeclare link) = numbered (codes "redeclare ") link
 event_text profile (BackTimeout link) = numbered (codes "backtimeout ") link
 
 -- THE TEXT of an entry of a set of this profile, ended by LF; the answer has the words of `play`
@@ -73,6 +74,7 @@ EventFits profile (DownBlind link) = link < 2 ^ 8
 EventFits profile (NoAnswer link) = link < 2 ^ 8
 EventFits profile (Timed link) = link < 2 ^ 8
 EventFits profile (Restore link) = link < 2 ^ 8
+EventFits profile (Redeclare link) = link < 2 ^ 8
 EventFits profile (BackTimeout link) = link < 2 ^ 8
 
 abbrev pub FateFits : Fate → Type 0

@@ -116,6 +116,7 @@ fn push_event(text: &mut Vec<u8>, profile: Profile, event: &EventRef<'_>) -> Res
         EventRef::NoAnswer { link } => push_numbered(text, b"noanswer ", *link as u64),
         EventRef::Timed { link } => push_numbered(text, b"timed ", *link as u64),
         EventRef::Restore { link } => push_numbered(text, b"restore ", *link as u64),
+        EventRef::Redeclare { link } => push_numbered(text, b"redeclare ", *link as u64),
         EventRef::BackTimeout { link } => push_numbered(text, b"backtimeout ", *link as u64),
     }
 }

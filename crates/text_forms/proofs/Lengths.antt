@@ -25,7 +25,7 @@ within_least low high n x e = by (nat_le low n && nat_le n high) refl e
     by true f g = let same : n ≡ x = cc in subst (λ (m : ℕ). low ≤ m) same (grind (arith, nat_tests, f))
     by false f g = absurd cc
 
-named_least : (n : Named) (w : List ℕ) (x : ℕ) → named_of n w ≡ Some x → least n ≤ x
+pub named_least : (n : Named) (w : List ℕ) (x : ℕ) → named_of n w ≡ Some x → least n ≤ x
 named_least n w x e =
     option_and_then_some (within (least n) (most n)) (option_and_then number_of (value_in (name_of n) w)) x e (λ m o f.
     within_least (least n) (most n) m x f)

@@ -12,5 +12,6 @@ pub mod Showing
 pub mod Texts
 pub mod TerminalTexts
 pub mod Timers
+pub mod Times
 pub mod Units
 pub mod Words

@@ -4,7 +4,7 @@ use Rattle.std.specs.Option.{option_and_then}
 use Rattle.text_base.specs.Figures.{number_of}
 use Rattle.text_forms.specs.Words.{value_in}
 use Rattle.text_forms.specs.declared.named.Named.{Named}
-use Rattle.text_forms.specs.declared.named.Named.TheVariants.{T1, T2, T3, T5, T6, T7, Bsn, Bib, Fsn, Fib, Status, FirstStatus, Times, FirstTimes, Flags}
+use Rattle.text_forms.specs.declared.named.Named.TheVariants.{T1, T2, T3, T5, T6, T7, T4, T17, K1, K2, Bsn, Bib, Fsn, Fib, Status, FirstStatus, Times, FirstTimes, Flags}
 
 -- the name, with its sign
 abbrev pub name_of : Named → List ℕ
@@ -14,6 +14,10 @@ name_of T3 = codes "t3="
 name_of T5 = codes "t5="
 name_of T6 = codes "t6="
 name_of T7 = codes "t7="
+name_of T4 = codes "t4="
+name_of T17 = codes "t17="
+name_of K1 = codes "k1="
+name_of K2 = codes "k2="
 name_of Bsn = codes "bsn="
 name_of Bib = codes "bib="
 name_of Fsn = codes "fsn="
@@ -63,6 +67,10 @@ named_text T3 = codes "here stands t3=N, with N 1 to 4294967295"
 named_text T5 = codes "here stands t5=N, with N 1 to 4294967295"
 named_text T6 = codes "here stands t6=N, with N 1 to 4294967295"
 named_text T7 = codes "here stands t7=N, with N 1 to 4294967295"
+named_text T4 = codes "here stands t4=N, with N 1 to 4294967295"
+named_text T17 = codes "here stands t17=N, with N 1 to 4294967295"
+named_text K1 = codes "here stands k1=N, with N 1 to 4294967295"
+named_text K2 = codes "here stands k2=N, with N 1 to 4294967295"
 named_text Bsn = codes "here stands bsn=B, with B 0 to 127"
 named_text Bib = codes "here stands bib=B, with B 0 or 1"
 named_text Fsn = codes "here stands fsn=F, with F 0 to 127"

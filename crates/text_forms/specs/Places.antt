@@ -12,7 +12,7 @@ use Rattle.pair_steps.specs.declared.step.End.TheVariants.{A, B}
 use Rattle.text_base.specs.Figures.{number_of, hex_value, octets_of}
 use Rattle.text_forms.specs.declared.mistake.Mistake.{Mistake}
 use Rattle.text_forms.specs.declared.mistake.Mistake.TheVariants.{End, Link, Number, OddDigits, NotHexadecimal, UnitShort, WideUnitShort, UnitLong, UnitLength, WideUnitLength, Terminal}
-use Rattle.text_forms.specs.declared.terminal_mistake.TerminalMistake.TheVariants.{Bits, UnitName, Body, FirstBody, Number as NoNumber}
+use Rattle.text_forms.specs.declared.terminal_mistake.TerminalMistake.TheVariants.{Bits, UnitName, Body, FirstBody, Quiet, Number as NoNumber}
 use Rattle.text_forms.specs.declared.named.Named.{Named}
 use Rattle.text_forms.specs.Named.{named_of}
 use Rattle.text_forms.specs.Words.{Place, value_in}
@@ -74,6 +74,13 @@ a_unit profile = record { value = unit_of profile; wrong = λ word. wrong_digits
 -- a number behind its name
 abbrev pub a_named : Named → Place ℕ
 a_named named = record { value = named_of named; wrong = λ word. Terminal (NoNumber named) }
+
+-- quiet, which stands for yes
+abbrev pub quiet_of : List ℕ → Option Bool
+quiet_of word = if bytes_eq word (codes "quiet") then Some true else None
+
+abbrev pub a_quiet : Place Bool
+a_quiet = record { value = quiet_of; wrong = λ word. Terminal Quiet }
 
 -- digits 0 (48) and 1 (49), at least one
 abbrev pub is_bit : ℕ → Bool

@@ -1,15 +1,17 @@
 -- THE TEXT of each mistake that only the lines of a terminal have.
 use Rattle.std.specs.Prelude.{ℕ, List, codes}
 use Rattle.text_forms.specs.declared.terminal_mistake.TerminalMistake.{TerminalMistake}
-use Rattle.text_forms.specs.declared.terminal_mistake.TerminalMistake.TheVariants.{Wide, UnknownWord, TimersPlace, TimersWants, LinkWants, OctetsWants, HearWants, FlagsWants, BitsWants, FindWants, Bits, UnitName, Body, FirstBody, Number}
+use Rattle.text_forms.specs.declared.terminal_mistake.TerminalMistake.TheVariants.{Wide, UnknownWord, TimersPlace, TimersWants, Level3Place, Level3Wants, LinkWants, OctetsWants, HearWants, FlagsWants, BitsWants, FindWants, Bits, UnitName, Body, FirstBody, Quiet, Number}
 use Rattle.text_forms.specs.Named.{named_text}
 
 abbrev pub terminal_text : TerminalMistake → List ℕ
 terminal_text Wide = codes "the set of a terminal has the narrow profile"
 terminal_text UnknownWord =
-    codes "a line begins with start, stop, emergency, busy, ease, blind, octets, hear, flags, bits, offer, take, find, noanswer, timed, restore, backtimeout, look, checkpoint or history"
+    codes "a line begins with start, stop, emergency, calm, busy, ease, blind, outage, recover, octets, hear, flags, bits, offer, take, find, noanswer, timed, restore, redeclare, backtimeout, activate, deactivate, look, checkpoint or history"
 terminal_text TimersPlace = codes "timers is the line behind the first, and no other"
 terminal_text TimersWants = codes "timers wants six words behind it: t1=N t2=N t3=N t5=N t6=N t7=N"
+terminal_text Level3Place = codes "level3 is the line behind the first or behind timers, and no other"
+terminal_text Level3Wants = codes "level3 wants seven words behind it: t1=N t2=N t4=N t5=N t17=N k1=N k2=N"
 terminal_text LinkWants = codes "this word wants a link behind it"
 terminal_text OctetsWants = codes "octets wants a link, and octets of two hexadecimal digits"
 terminal_text HearWants =
@@ -22,4 +24,5 @@ terminal_text UnitName = codes "a unit is fisu, lssu, msu, or octets of two hexa
 terminal_text Body = codes "here stands body=HEX, 3 to 273 octets of two hexadecimal digits"
 terminal_text FirstBody =
     codes "here stands body=HEX, 3 to 273 octets of two hexadecimal digits, or bsn=B and the rest of a header"
+terminal_text Quiet = codes "here stands quiet, where the entries aren't to be printed"
 terminal_text (Number named) = named_text named

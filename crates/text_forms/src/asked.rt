@@ -24,8 +24,12 @@ pub enum Asked {
     Event { event: Event },
     /// How the link stands.
     Look { link: u8 },
-    /// A checkpoint of the set.
-    Checkpoint,
+    /// Level 3 manages the link from now on.
+    Activate { link: u8 },
+    /// Level 3 manages the link no more.
+    Deactivate { link: u8 },
+    /// A checkpoint of the set; a quiet one prints no entries.
+    Checkpoint { quiet: bool },
     /// The entries of the set's history since its base.
     History,
 }
@@ -42,9 +46,13 @@ pub struct Repeated {
 pub(crate) enum OfLink {
     /// `look`
     Look,
+    /// `activate`
+    Activate,
+    /// `deactivate`
+    Deactivate,
     /// `start`, `stop`, `emergency`, `calm`, `busy`, `ease`, `blind`, `outage` or `recover`
     Command(Command),
-    /// `noanswer`, `timed`, `restore` or `backtimeout`
+    /// `noanswer`, `timed`, `restore`, `redeclare` or `backtimeout`
     Event(LinkEvent),
 }
 
@@ -58,6 +66,8 @@ impl OfLink {
     {
         match self {
             OfLink::Look => Asked::Look { link },
+            OfLink::Activate => Asked::Activate { link },
+            OfLink::Deactivate => Asked::Deactivate { link },
             OfLink::Command(command) => Asked::Command { link, command },
             OfLink::Event(event) => Asked::Event {
                 event: event.on(link),
@@ -73,6 +83,12 @@ pub(crate) fn find_of_link(name: &[u8]) -> Option<OfLink>
     if is_word(name, b"look") {
         return Some(OfLink::Look);
     }
+    if is_word(name, b"activate") {
+        return Some(OfLink::Activate);
+    }
+    if is_word(name, b"deactivate") {
+        return Some(OfLink::Deactivate);
+    }
     if let Some(command) = find_command(name) {
         return Some(OfLink::Command(command));
     }
@@ -82,6 +98,8 @@ pub(crate) fn find_of_link(name: &[u8]) -> Option<OfLink>
         LinkEvent::Timed
     } else if is_word(name, b"restore") {
         LinkEvent::Restore
+    } else if is_word(name, b"redeclare") {
+        LinkEvent::Redeclare
     } else if is_word(name, b"backtimeout") {
         LinkEvent::BackTimeout
     } else {

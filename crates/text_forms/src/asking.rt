@@ -2,14 +2,17 @@
 ghost use Rattle.std.specs.Prelude.{◌≡◌, IfOk};
 ghost use Rattle.std.specs.Result.{result_err};
 ghost use Rattle.text_forms.specs.Timers.{timers_read};
+ghost use Rattle.text_forms.specs.Times.{times_read};
 ghost use Rattle.text_forms.specs.Words.{IsRead, at_end};
-ghost use Rattle.text_forms.specs.Asking.{asked_read, bits, blamed_line, find, flags, hear, octets, of_link, offered, wrong_first};
+ghost use Rattle.text_forms.specs.Asking.{asked_read, bits, blamed_line, checkpoint, find, flags, hear, octets, of_link, offered, wrong_first};
 
 use super::asked::{Asked, OfLink, Repeated, find_of_link};
+use super::early::Early;
 use super::mistake::Mistake;
 use super::named::Named;
 use super::terminal_mistake::TerminalMistake;
 use super::timers::read_timers;
+use super::times::read_times;
 use super::units::read_repeated;
 use super::words::{Blame, Unread, Words, cut, judge};
 use set_events::Event;
@@ -28,7 +31,7 @@ pub fn read_asked(alloc: Global, text: &[u8]) -> Result<Asked, Unread>
         return Ok(read_alone(Asked::Event { event }, behind(TerminalMistake::LinkWants))?);
     }
     if is_word(name, b"checkpoint") {
-        return Ok(read_alone(Asked::Checkpoint, behind(TerminalMistake::LinkWants))?);
+        return Ok(read_checkpoint(behind(TerminalMistake::LinkWants))?);
     }
     if is_word(name, b"history") {
         return Ok(read_alone(Asked::History, behind(TerminalMistake::LinkWants))?);
@@ -60,14 +63,17 @@ pub fn read_asked(alloc: Global, text: &[u8]) -> Result<Asked, Unread>
     }
 }
 
-/// The word at fault of a line after the first, if it can't be read: as a line of timers where it begins so and is right
-/// behind the first. It fails only where memory is wanted.
-pub fn blame_line(alloc: Global, is_second: bool, text: &[u8]) -> Result<Option<Blame>, AllocError>
-    ensures { IfOk result (λ blame. blame ≡ blamed_line is_second text.now) }
+/// The word at fault of a line after the first, if it can't be read: as a line of lengths where it begins so and such a
+/// line may come. It fails only where memory is wanted.
+pub fn blame_line(alloc: Global, early: Early, text: &[u8]) -> Result<Option<Blame>, AllocError>
+    ensures { IfOk result (λ blame. blame ≡ blamed_line early text.now) }
 {
     let (name, _) = cut(text);
-    if is_second && is_word(name, b"timers") {
+    if early.tells_timers(name) {
         return Ok(blame_timers(text));
+    }
+    if early.tells_times(name) {
+        return Ok(blame_times(text));
     }
     match read_asked(alloc, text) {
         Ok(_) => Ok(None),
@@ -83,12 +89,28 @@ fn blame_timers(text: &[u8]) -> Option<Blame>
     read_timers(text).err()
 }
 
+/// The same of a line that doesn't tell level 3's times.
+fn blame_times(text: &[u8]) -> Option<Blame>
+    ensures { result ≡ result_err (times_read text.now) }
+{
+    read_times(text).err()
+}
+
 /// A word by itself.
 fn read_alone(asked: Asked, mut words: Words<'_>) -> Result<Asked, Blame>
     ensures { result ≡ at_end asked words.entry }
 {
     words.finish()?;
     Ok(asked)
+}
+
+/// `checkpoint`, or `checkpoint quiet`
+fn read_checkpoint(mut words: Words<'_>) -> Result<Asked, Blame>
+    ensures { result ≡ checkpoint words.entry }
+{
+    let quiet = words.quiet()?;
+    words.finish()?;
+    Ok(Asked::Checkpoint { quiet })
 }
 
 /// `offer HEX`, or `offer` for the empty body
@@ -174,6 +196,8 @@ fn judge_first(name: &[u8]) -> Mistake
         judge(name, Mistake::SecondSet)
     } else if is_word(name, b"timers") {
         judge(name, Mistake::Terminal(TerminalMistake::TimersPlace))
+    } else if is_word(name, b"level3") {
+        judge(name, Mistake::Terminal(TerminalMistake::Level3Place))
     } else {
         judge(name, Mistake::Terminal(TerminalMistake::UnknownWord))
     }

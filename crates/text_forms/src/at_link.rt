@@ -20,6 +20,8 @@ pub enum LinkEvent {
     Timed,
     /// `restore`
     Restore,
+    /// `redeclare`
+    Redeclare,
     /// `backtimeout`
     BackTimeout,
 }
@@ -38,6 +40,7 @@ impl LinkEvent {
             LinkEvent::NoAnswer => Event::NoAnswer { link },
             LinkEvent::Timed => Event::Timed { link },
             LinkEvent::Restore => Event::Restore { link },
+            LinkEvent::Redeclare => Event::Redeclare { link },
             LinkEvent::BackTimeout => Event::BackTimeout { link },
         }
     }
@@ -112,6 +115,8 @@ pub(crate) fn find_link_event(name: &[u8]) -> Option<LinkEvent>
         Some(LinkEvent::Timed)
     } else if is_word(name, b"restore") {
         Some(LinkEvent::Restore)
+    } else if is_word(name, b"redeclare") {
+        Some(LinkEvent::Redeclare)
     } else if is_word(name, b"backtimeout") {
         Some(LinkEvent::BackTimeout)
     } else {
@@ -119,7 +124,7 @@ pub(crate) fn find_link_event(name: &[u8]) -> Option<LinkEvent>
     }
 }
 
-/// What `down`, `blind`, `noanswer`, `timed`, `restore` and `backtimeout` tell of a link.
+/// What `down`, `blind`, `noanswer`, `timed`, `restore`, `redeclare` and `backtimeout` tell of a link.
 pub fn read_link_event(name: &[u8], link: u8) -> Option<Event>
     ensures { result ≡ link_event name.now link }
 {

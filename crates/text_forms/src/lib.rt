@@ -10,6 +10,7 @@
 //! | `set links=L method=W a=X b=Y sio=HH`, and `profile=narrow` or `profile=wide` behind it (own; narrow where neither stands) | [`read_opening`] | `specs/Opening.antt` | [`Opening`]: the configurations of both ends |
 //! | any other of a script | [`read_move`], [`read_move_into`] | `specs/Moves.antt` | a [`pair_rises::Move`] |
 //! | `timers t1=N t2=N t3=N t5=N t6=N t7=N` of a terminal, each 1 to 2^32 - 1 | [`read_timers`] | `specs/Timers.antt` | the lengths of its timers, in octet times |
+//! | `level3 t1=N t2=N t4=N t5=N t17=N k1=N k2=N` of a terminal, so too | [`read_times`] | `specs/Times.antt` | the times of level 3, in turns |
 //! | any other of a terminal but its first | [`read_asked`] | `specs/Asking.antt`, `specs/Units.antt` | [`Asked`] |
 //! | octets in one word, of `decode` | [`blame_octets`] | `specs/OctetLines.antt` | the blame alone |
 //!
@@ -36,6 +37,7 @@ mod asked;
 mod asking;
 mod at_column;
 mod at_link;
+mod early;
 mod entry_mistake;
 mod impossible;
 mod mistake;
@@ -48,6 +50,7 @@ mod places;
 mod showing;
 mod terminal_mistake;
 mod timers;
+mod times;
 mod units;
 mod words;
 
@@ -55,6 +58,7 @@ pub use asked::{Asked, Repeated};
 pub use asking::{blame_line, read_asked};
 pub use at_column::blame_at;
 pub use at_link::{AtLink, LinkEvent, read_link_event};
+pub use early::Early;
 pub use entry_mistake::EntryMistake;
 pub use impossible::{blame_impossible, blame_link, blame_profile};
 pub use mistake::Mistake;
@@ -67,4 +71,5 @@ pub use places::{read_unit, unit_in};
 pub use showing::explain;
 pub use terminal_mistake::TerminalMistake;
 pub use timers::{USUAL_TIMERS, read_timers};
+pub use times::read_times;
 pub use words::{Blame, Unread};

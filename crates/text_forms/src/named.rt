@@ -21,6 +21,14 @@ pub enum Named {
     T6,
     /// `t7=N`, so too.
     T7,
+    /// `t4=N`, the length of timer T4 of level 3 in turns, 1 to 2^32 - 1 (Q.704 16.8).
+    T4,
+    /// `t17=N`, so too.
+    T17,
+    /// `k1=N`, that of T1 of link tests (Q.707), so too.
+    K1,
+    /// `k2=N`, that of T2 of link tests, so too.
+    K2,
     /// `bsn=B`, 0 to 127 (Q.703 2.2).
     Bsn,
     /// `bib=B`, 0 or 1.
@@ -66,6 +74,10 @@ impl Named {
             Named::T5 => b"t5=",
             Named::T6 => b"t6=",
             Named::T7 => b"t7=",
+            Named::T4 => b"t4=",
+            Named::T17 => b"t17=",
+            Named::K1 => b"k1=",
+            Named::K2 => b"k2=",
             Named::Bsn => b"bsn=",
             Named::Bib => b"bib=",
             Named::Fsn => b"fsn=",
@@ -115,6 +127,10 @@ impl Named {
             Named::T5 => "here stands t5=N, with N 1 to 4294967295",
             Named::T6 => "here stands t6=N, with N 1 to 4294967295",
             Named::T7 => "here stands t7=N, with N 1 to 4294967295",
+            Named::T4 => "here stands t4=N, with N 1 to 4294967295",
+            Named::T17 => "here stands t17=N, with N 1 to 4294967295",
+            Named::K1 => "here stands k1=N, with N 1 to 4294967295",
+            Named::K2 => "here stands k2=N, with N 1 to 4294967295",
             Named::Bsn => "here stands bsn=B, with B 0 to 127",
             Named::Bib => "here stands bib=B, with B 0 or 1",
             Named::Fsn => "here stands fsn=F, with F 0 to 127",

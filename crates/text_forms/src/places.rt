@@ -18,10 +18,10 @@ use std::alloc::{AllocError, Global};
 use text_base::{is_word, read_number, read_octets};
 
 impl<'a> Words<'a> {
-    ghost use Rattle.std.specs.Prelude.{◌≡◌, ◌≤◌, ◌^◌, [], IfOk};
+    ghost use Rattle.std.specs.Prelude.{◌≡◌, ◌≤◌, ◌^◌, [], IfOk, false};
     ghost use Rattle.text_forms.specs.Words.{behind, next_at, next_or, IsRead};
     ghost use Rattle.text_forms.specs.Named.{least, most};
-    ghost use Rattle.text_forms.specs.Places.{an_end, a_link, a_number, octets, a_unit, a_named, bits, a_body};
+    ghost use Rattle.text_forms.specs.Places.{an_end, a_link, a_number, octets, a_unit, a_named, a_quiet, bits, a_body};
     ghost use Rattle.text_forms.specs.Units.{begins_head};
 
     /// An end, a or b.
@@ -37,12 +37,17 @@ impl<'a> Words<'a> {
         }
     }
 
-    /// A link's number; one over 255 is read as 255, since no set has either link.
+    /// A link's number; one over 255 is read as 255, since no set has either link. It's mostly the last word, whose end isn't
+    /// looked for, since what reads as a number has no space.
     #[inline(always)]
     pub(crate) fn link(&mut self) -> Result<u8, Blame>
         ensures value { result ≡ next_at a_link self.old }
         ensures behind { self.new ≡ behind self.old }
     {
+        if let Some(link) = read_link(self.rest()) {
+            self.end_line();
+            return Ok(link);
+        }
         let word = self.word()?;
         match read_link(word.octets()) {
             Some(link) => Ok(link),
@@ -56,6 +61,10 @@ impl<'a> Words<'a> {
         ensures value { result ≡ next_at a_number self.old }
         ensures behind { self.new ≡ behind self.old }
     {
+        if let Some(number) = read_number(self.rest()) {
+            self.end_line();
+            return Ok(number);
+        }
         let word = self.word()?;
         match read_number(word.octets()) {
             Some(number) => Ok(number),
@@ -63,8 +72,27 @@ impl<'a> Words<'a> {
         }
     }
 
-    /// Octets in hexadecimal, at least one.
+    /// Octets in hexadecimal, at least one; the end of the last word isn't looked for.
+    #[inline(always)]
     pub(crate) fn octets(&mut self, alloc: Global) -> Result<Body, Unread>
+        ensures value { IsRead (next_at octets self.old) result }
+        ensures behind { self.new ≡ behind self.old }
+    {
+        match read_some_octets(alloc, self.rest()) {
+            Ok(Some(octets)) => {
+                self.end_line();
+                Ok(Body::from_vec(octets))
+            }
+            Ok(None) => self.octets_of_word(alloc),
+            Err(want) => {
+                self.word()?;
+                Err(Unread::from(want))
+            }
+        }
+    }
+
+    /// The same, of a word that others may follow.
+    fn octets_of_word(&mut self, alloc: Global) -> Result<Body, Unread>
         ensures value { IsRead (next_at octets self.old) result }
         ensures behind { self.new ≡ behind self.old }
     {
@@ -76,6 +104,7 @@ impl<'a> Words<'a> {
     }
 
     /// The same, or none where the line ends.
+    #[inline(always)]
     pub(crate) fn octets_or_none(&mut self, alloc: Global) -> Result<Body, Unread>
         ensures value { IsRead (next_or octets [] self.old) result }
         ensures behind { self.new ≡ behind self.old }
@@ -123,6 +152,22 @@ impl<'a> Words<'a> {
         }
         let times = self.named(named)?;
         Ok(times as u32)
+    }
+
+    /// `quiet`, or nothing where the line ends.
+    pub(crate) fn quiet(&mut self) -> Result<bool, Blame>
+        ensures value { result ≡ next_or a_quiet false self.old }
+        ensures behind { self.new ≡ behind self.old }
+    {
+        if self.is_done() {
+            return Ok(false);
+        }
+        let word = self.word()?;
+        if is_word(word.octets(), b"quiet") {
+            Ok(true)
+        } else {
+            Err(word.blame(Mistake::Terminal(TerminalMistake::Quiet)))
+        }
     }
 
     /// Whether the words of a header come next.

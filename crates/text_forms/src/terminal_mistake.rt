@@ -15,6 +15,10 @@ pub enum TerminalMistake {
     TimersPlace,
     /// `timers` with fewer than six words behind it.
     TimersWants,
+    /// `level3` on a line that isn't the one behind the first or behind `timers`.
+    Level3Place,
+    /// `level3` with fewer than seven words behind it.
+    Level3Wants,
     /// A word that wants a link alone, without it.
     LinkWants,
     /// `octets` without its link or octets.
@@ -35,6 +39,8 @@ pub enum TerminalMistake {
     Body,
     /// So too where the words of a header may stand in its place.
     FirstBody,
+    /// A word behind `checkpoint` that isn't `quiet`.
+    Quiet,
     /// A word that isn't this number in its range.
     Number(Named),
 }
@@ -47,10 +53,14 @@ impl TerminalMistake {
         match self {
             TerminalMistake::Wide => "the set of a terminal has the narrow profile",
             TerminalMistake::UnknownWord =>
-                "a line begins with start, stop, emergency, busy, ease, blind, octets, hear, flags, bits, offer, take, find, noanswer, timed, restore, backtimeout, look, checkpoint or history",
+                "a line begins with start, stop, emergency, calm, busy, ease, blind, outage, recover, octets, hear, flags, bits, offer, take, find, noanswer, timed, restore, redeclare, backtimeout, activate, deactivate, look, checkpoint or history",
             TerminalMistake::TimersPlace => "timers is the line behind the first, and no other",
             TerminalMistake::TimersWants =>
                 "timers wants six words behind it: t1=N t2=N t3=N t5=N t6=N t7=N",
+            TerminalMistake::Level3Place =>
+                "level3 is the line behind the first or behind timers, and no other",
+            TerminalMistake::Level3Wants =>
+                "level3 wants seven words behind it: t1=N t2=N t4=N t5=N t17=N k1=N k2=N",
             TerminalMistake::LinkWants => "this word wants a link behind it",
             TerminalMistake::OctetsWants =>
                 "octets wants a link, and octets of two hexadecimal digits",
@@ -66,6 +76,7 @@ impl TerminalMistake {
                 "here stands body=HEX, 3 to 273 octets of two hexadecimal digits",
             TerminalMistake::FirstBody =>
                 "here stands body=HEX, 3 to 273 octets of two hexadecimal digits, or bsn=B and the rest of a header",
+            TerminalMistake::Quiet => "here stands quiet, where the entries aren't to be printed",
             TerminalMistake::Number(named) => named.text(),
         }
     }

@@ -3,7 +3,7 @@ ghost use Rattle.std.specs.Prelude.{◌≡◌, ◌<◌, length, position};
 ghost use Rattle.std.specs.Option.{option_copied, ForSome};
 ghost use Rattle.std.specs.List.{list_all, list_any};
 ghost use Rattle.text_forms.specs.declared.words.Unread.TheVariants.{At, Memory as NoMemory};
-ghost use Rattle.text_forms.specs.Words.{first_word, other_words, is_space, is_cr, is_plain, odd_in, judged, others, value_in, words_from};
+ghost use Rattle.text_forms.specs.Words.{blamed, first_word, other_words, is_space, is_cr, is_plain, odd_in, judged, others, value_in, words_from};
 
 use super::mistake::Mistake;
 use std::alloc::AllocError;
@@ -93,20 +93,28 @@ impl<'a> Word<'a> {
         self.octets
     }
 
-    /// It's at fault: it has in it what no word has, or else this is wrong.
-    #[inline(never)]
+    /// It's at fault: it has in it what no word has, or else this is wrong. Inlined, so that a word needs no memory.
+    #[inline(always)]
     pub(crate) fn blame(&self, mistake: Mistake) -> Blame
         ensures { result ≡ blamed self.now mistake }
     {
-        Blame {
-            column: self.column,
-            mistake: judge(self.octets, mistake),
-        }
+        blame_at(self.column, self.octets, mistake)
+    }
+}
+
+/// The word of these octets at this column is at fault.
+#[inline(never)]
+fn blame_at(column: usize, octets: &[u8], mistake: Mistake) -> Blame
+    ensures { result ≡ blamed (record { column = column; octets = octets.now }) mistake }
+{
+    Blame {
+        column,
+        mistake: judge(octets, mistake),
     }
 }
 
 impl<'a> Words<'a> {
-    ghost use Rattle.std.specs.Prelude.{◌≡◌, is_none};
+    ghost use Rattle.std.specs.Prelude.{◌≡◌, [], None, is_none, unwrap_or};
     ghost use Rattle.std.specs.Option.{option_copied};
     ghost use Rattle.text_forms.specs.Words.{behind, ended, next_word};
 
@@ -153,6 +161,25 @@ impl<'a> Words<'a> {
         ensures { option_copied result ≡ self.now.left }
     {
         self.left
+    }
+
+    /// The words that are left, as one; empty where the line ends.
+    #[inline(always)]
+    pub(crate) fn rest(&self) -> &'a [u8]
+        ensures { result.now ≡ unwrap_or self.now.left [] }
+    {
+        match self.left {
+            Some(words) => words,
+            None => &[],
+        }
+    }
+
+    /// The last word of the line was read.
+    #[inline(always)]
+    pub(crate) fn end_line(&mut self)
+        ensures { self.new ≡ record { size = self.old.size; short = self.old.short; left = None } }
+    {
+        self.left = None;
     }
 
     /// Whether the line ends here.

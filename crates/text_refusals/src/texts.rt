@@ -9,7 +9,7 @@ use script_accounts::{
 use script_ladder::{ladder, ladder_explained};
 use std::alloc::Global;
 use std::test::Fail;
-use terminal_text::{terminal, terminal_explained};
+use terminal_text::{terminal, terminal_explained, terminal_kept, terminal_kept_explained};
 use test_devices::Text;
 use text_base::Fault;
 use text_units::{decode, decode_explained, units};
@@ -31,6 +31,12 @@ const LINES: &[u8] = b"set links=1 method=basic a=2 b=1 sio=80
 start 0
 octets 0 7e7e
 hear 0 fisu
+";
+
+const LINES_AT_FAULT: &[u8] = b"set links=1 method=basic a=2 b=1 sio=80
+start 1
+octets 0 7e7e
+hear 0 fisu 1
 ";
 
 const UNITS: &[u8] = b"7edff705f8beaf1f\n";
@@ -249,6 +255,31 @@ fn a_refused_allocation_ends_terminal_explained(rt: HostRuntime) -> Result<(), F
     )
 }
 
+fn terminal_kept_of(alloc: Global) -> (Came, Kept) {
+    let (mut text, mut page) = (text_of(LINES_AT_FAULT), Kept::new());
+    let ended = came(terminal_kept(alloc, &mut text, &mut page));
+    (ended, page)
+}
+
+#[test]
+fn a_refused_allocation_ends_terminal_kept(rt: HostRuntime) -> Result<(), Fail> {
+    are_right(terminal_kept_of(rt.alloc()), terminal_kept_of(rt.alloc()))
+}
+
+fn terminal_kept_explained_of(alloc: Global) -> (Came, Kept) {
+    let (mut text, mut page) = (text_of(LINES_AT_FAULT), Kept::new());
+    let ended = came(terminal_kept_explained(alloc, &mut text, &mut page));
+    (ended, page)
+}
+
+#[test]
+fn a_refused_allocation_ends_terminal_kept_explained(rt: HostRuntime) -> Result<(), Fail> {
+    are_right(
+        terminal_kept_explained_of(rt.alloc()),
+        terminal_kept_explained_of(rt.alloc()),
+    )
+}
+
 /// Whether each text is whole.
 pub(crate) fn are_whole(alloc: Global) -> bool {
     units_of(alloc).0 == Came::Whole
@@ -266,4 +297,6 @@ pub(crate) fn are_whole(alloc: Global) -> bool {
         && audit_explained_of(alloc).0 == Came::Whole
         && terminal_of(alloc).0 == Came::Whole
         && terminal_explained_of(alloc).0 == Came::Whole
+        && terminal_kept_of(alloc).0 == Came::Whole
+        && terminal_kept_explained_of(alloc).0 == Came::Whole
 }

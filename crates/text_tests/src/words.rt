@@ -12,7 +12,7 @@ fn told_of(alloc: Global, words: &[&str]) -> Result<String, AllocError> {
         Ok(Words::Script { told, explains }) => with_flag(alloc, script_told(told), explains),
         Ok(Words::Decode { wide, explains }) => with_flag(alloc, decode_told(wide), explains),
         Ok(Words::Audit { explains }) => with_flag(alloc, "audit", explains),
-        Ok(Words::Terminal { explains }) => with_flag(alloc, "terminal", explains),
+        Ok(Words::Terminal { keeps, explains }) => with_flag(alloc, terminal_told(keeps), explains),
         Ok(Words::Run(run)) => run_told(alloc, &run),
         Err(WordsFault::Words(error)) => error.to_string(alloc),
         Err(WordsFault::Link { fail, links }) => text_of(alloc, say_linkless(alloc, fail, links)?),
@@ -35,6 +35,11 @@ fn script_told(told: Told) -> &'static str {
 /// The units to decode, in words.
 fn decode_told(wide: bool) -> &'static str {
     if wide { "decode --wide" } else { "decode" }
+}
+
+/// The end to drive, in words.
+fn terminal_told(keeps: bool) -> &'static str {
+    if keeps { "terminal --keep" } else { "terminal" }
 }
 
 /// These words, and whether an explanation is asked for.
@@ -104,7 +109,7 @@ fn ask_for(alloc: Global, words: &[&str], subcommand: &str) -> bool {
 
 #[test]
 fn words_of_the_command_line(rt: HostRuntime) -> Result<(), Fail> {
-    let asked: [(&[&str], &str); 22] = [
+    let asked: [(&[&str], &str); 24] = [
         (&["play"], "play"),
         (&["play", "--explain"], "play --explain"),
         (&["units"], "units"),
@@ -125,6 +130,11 @@ fn words_of_the_command_line(rt: HostRuntime) -> Result<(), Fail> {
         (&["audit", "--explain"], "audit --explain"),
         (&["terminal"], "terminal"),
         (&["terminal", "--explain"], "terminal --explain"),
+        (&["terminal", "--keep"], "terminal --keep"),
+        (
+            &["terminal", "--explain", "--keep"],
+            "terminal --keep --explain",
+        ),
         (&["history", "a"], "history a"),
         (&["history", "b"], "history b"),
         (&["capture", "--explain"], "capture --explain"),
@@ -297,7 +307,8 @@ fn a_file_is_read_from_standard_input(rt: HostRuntime) -> Result<(), Fail> {
     let play = "mtpbank play: reads standard input: mtpbank play [--explain] < FILE";
     let units = "mtpbank units: reads standard input: mtpbank units < FILE";
     let decode = "mtpbank decode: reads standard input: mtpbank decode [--wide] [--explain] < FILE";
-    let terminal = "mtpbank terminal: reads standard input: mtpbank terminal [--explain] < FILE";
+    let terminal =
+        "mtpbank terminal: reads standard input: mtpbank terminal [--keep] [--explain] < FILE";
     let history = "mtpbank history: reads standard input: mtpbank history [--explain] END < FILE";
     let end =
         "mtpbank history: c isn't an end, a or b\nusage: mtpbank history [--explain] END < FILE";
@@ -312,7 +323,11 @@ fn a_file_is_read_from_standard_input(rt: HostRuntime) -> Result<(), Fail> {
                 decode,
             )
             && ask_for(alloc, &["terminal", "a.terminal"], terminal)
-            && ask_for(alloc, &["terminal", "--explain", "a.terminal"], terminal)
+            && ask_for(
+                alloc,
+                &["terminal", "--explain", "--keep", "a.terminal"],
+                terminal,
+            )
             && ask_for(alloc, &["history", "a", "a.play"], history)
             && ask_for(alloc, &["history", "a", "--explain", "a.play"], history)
             && ask_for(alloc, &["history", "--explain", "c"], end)
@@ -425,7 +440,9 @@ fn the_help_shows_each_line(rt: HostRuntime) -> Result<(), Fail> {
         "  down E L ",
         "  blind E L ",
         "  noanswer E L ",
+        "  timed E L ",
         "  restore E L ",
+        "  redeclare E L ",
         "  backtimeout E L ",
         "  accepted N ",
         "  found back C ",
@@ -452,7 +469,7 @@ fn the_help_shows_each_line_of_a_terminal(rt: HostRuntime) -> Result<(), Fail> {
         "  flags L N ",
         "  bits L BITS [xN] ",
         "  offer HEX, take, find N ",
-        "  noanswer L, timed L, restore L, backtimeout L ",
+        "  noanswer L, timed L, restore L, redeclare L, backtimeout L ",
         "  look L ",
         "  checkpoint ",
         "  history ",
@@ -461,6 +478,7 @@ fn the_help_shows_each_line_of_a_terminal(rt: HostRuntime) -> Result<(), Fail> {
         "  sent L UNIT [xN] ",
         "  fault line N text ",
         "  fault line N step ",
+        "      --keep\n",
         "      --explain\n",
     ];
     holds(help_shows(rt.alloc(), "terminal", &lines))

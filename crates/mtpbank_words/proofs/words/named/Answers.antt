@@ -20,9 +20,10 @@ returns-in-Some-word_of c =
     let is = found_is (out-ArgMatches c.args.matches.now).subcommand c.in-Some.name.now (rows_of f) c.in-Some.ensures.name c.in-Some.ensures.rows in
     let end = c.get_str.ensures ∙ first_value-rows f (codes "END") in
     let wide = c.is_set.ensures ∙ ap is_true (c.get_str-in_default-name.ensures ∙ first_value-rows f (codes "wide")) in
-    let explains = c.is_set-in_default-name.ensures ∙ ap is_true (c.get_str-in_default-name-2.ensures ∙ first_value-rows f (codes "explain")) in
-    let word : IsWord c.in-Some-word_of.asked c.in-Some.name.now (first_of (codes "END") (rows_of f)) (is_set (codes "wide") (rows_of f)) (is_set (codes "explain") (rows_of f)) = rw (sym end, sym wide, sym explains) c.in-Some-word_of.ensures in
-    rw is (word, options c.in-Some-word_of.asked c.in-Some.name.now _ _ _ (rows_of f) c.in_default-name.not-run word)
+    let keeps = c.is_set-in_default-name.ensures ∙ ap is_true (c.get_str-in_default-name-2.ensures ∙ first_value-rows f (codes "keep")) in
+    let explains = c.is_set-in_default-name-2.ensures ∙ ap is_true (c.get_str-in_default-name-3.ensures ∙ first_value-rows f (codes "explain")) in
+    let word : IsWord c.in-Some-word_of.asked c.in-Some.name.now (first_of (codes "END") (rows_of f)) (is_set (codes "wide") (rows_of f)) (is_set (codes "keep") (rows_of f)) (is_set (codes "explain") (rows_of f)) = rw (sym end, sym wide, sym keeps, sym explains) c.in-Some-word_of.ensures in
+    rw is (word, options c.in-Some-word_of.asked c.in-Some.name.now _ _ _ _ (rows_of f) c.in_default-name.not-run word)
 
 pub returns-in-None : goal.returns-in-None
 returns-in-None c =
@@ -30,8 +31,9 @@ returns-in-None c =
     let is = found_is (out-ArgMatches c.args.matches.now).subcommand c.in-Some.name.now (rows_of f) c.in-Some.ensures.name c.in-Some.ensures.rows in
     let end = c.get_str.ensures ∙ first_value-rows f (codes "END") in
     let wide = c.is_set.ensures ∙ ap is_true (c.get_str-in_default-name.ensures ∙ first_value-rows f (codes "wide")) in
-    let explains = c.is_set-in_default-name.ensures ∙ ap is_true (c.get_str-in_default-name-2.ensures ∙ first_value-rows f (codes "explain")) in
+    let keeps = c.is_set-in_default-name.ensures ∙ ap is_true (c.get_str-in_default-name-2.ensures ∙ first_value-rows f (codes "keep")) in
+    let explains = c.is_set-in_default-name-2.ensures ∙ ap is_true (c.get_str-in_default-name-3.ensures ∙ first_value-rows f (codes "explain")) in
     rw is (record {
-      none = λ asked found. c.in-None.ensures asked (rw (end, wide, explains) found.0);
+      none = λ asked found. c.in-None.ensures asked (rw (end, wide, keeps, explains) found.0);
       no_link = λ fail links linkless. c.in_default-name.not-run linkless.0;
     })

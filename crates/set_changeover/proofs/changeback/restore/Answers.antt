@@ -26,13 +26,13 @@ loop-alternative-preserved o c =
     let inv = c.loop-alternative.invariant in
     let change = c.ask.ensures.change in
     record {
-      stands = becomes_next (declared_from c.args.number) (declared_if c.args.number) (λ from s. refl) (λ from n s. refl) n 0 n c.args.parts.now c.loop-alternative.parts (record c.stand_last.new.parts { routes = c.ask.new.self }) (omega arith) inv.stands (λ s f. rw (← c.may_declare.ensures s f, c.if-not-may_declare.false) (let stands = c.stand_last.ensures.stands s f in grind (arith, stands, change, f.settings, c.changeback_code.ensures, c.body_of-body.ensures, c.as_slice.ensures)));
+      stands = becomes_next (declared_from c.args.number) (declared_if c.args.number) (λ from s. refl) (λ from n s. refl) n 0 n c.args.parts.now c.loop-alternative.parts (record c.stand_last-message.new.parts { routes = c.ask.new.self }) (omega arith) inv.stands (λ s f. rw (← c.may_declare.ensures s f, c.if-not-may_declare.false) (let stands = c.stand_last-message.ensures.stands s f in grind (arith, stands, change, f.settings, c.changeback_code.ensures, c.body_of-body.ensures, c.as_slice.ensures, c.stand_last-message.ensures.number, f.given_out)));
       whole = grind arith;
-      links = c.stand_last.ensures.links ∙ inv.links;
+      links = c.stand_last-message.ensures.links ∙ inv.links;
       room = record {
-        message = omega (arith, inv.room.message, c.stand_last.ensures.message);
-        body = c.stand_last.ensures.body (16 - (n + 1)) (subst (λ (more : ℕ). CanHold more c.loop-alternative.parts.bodies) (let same : 16 - n ≡ 16 - (n + 1) + 1 = omega (arith, (whole_of c.args.parts.now c.requires.holds).few) in same) inv.room.body);
-        each = λ link far low. grind (arith, nat_tests, inv.room.each link, c.stand_last.ensures.rooms (Waiting link), c.stand_last.ensures.links);
+        message = omega (arith, inv.room.message, c.stand_last-message.ensures.message);
+        body = c.stand_last-message.ensures.body (16 - (n + 1)) (subst (λ (more : ℕ). CanHold more c.loop-alternative.parts.bodies) (let same : 16 - n ≡ 16 - (n + 1) + 1 = omega (arith, (whole_of c.args.parts.now c.requires.holds).few) in same) inv.room.body);
+        each = λ link far low. grind (arith, nat_tests, inv.room.each link, c.stand_last-message.ensures.rooms (Waiting link), c.stand_last-message.ensures.links);
       };
     }
 

@@ -1,6 +1,6 @@
 use Rattle.std.proofs.Common.{rules, refl, sym, arith, ◌≡◌, ◌∙◌, Some}
 use Rattle.set_changeover.specs.Parts.{Down}
-use Rattle.set_changeover.proofs.Links.{here_room, not_left, reach_here}
+use Rattle.set_changeover.proofs.Links.{here_room, is_in, not_left, reach_here}
 use Rattle.set_changeover.proofs.changeover.answer.Goals as goal
 
 pub settle-requires-clause-room : goal.settle-requires-clause-room
@@ -17,3 +17,13 @@ settle-requires-clause-reached o c =
 
 pub returns-then-ne : goal.returns-then-ne
 returns-then-ne o c = record { stands = λ s a. not_left c.args.parts.now s c.args.number c.args.reached a (λ e. let same : c.phase_of.result ≡ Some Down = c.phase_of.ensures.value ∙ sym e in grind (arith, c.ne.ensures, c.if-ne.true)) }
+
+pub returns : goal.returns
+returns o c =
+    let e : c.phase_of.result ≡ Some Down = search rules in
+    let h = rw e at c.phase_of.ensures.here in
+    record {
+      stands = λ s a.
+          let at = is_in c.args.parts.now s c.args.number Down a h in
+          rw (at.there, at.phase_is) (record { took_is = refl; stands = c.settle.ensures.stands s at.link at.there at.phase_is a });
+    }

@@ -5,7 +5,7 @@ use Rattle.set_model.proofs.Events.{taken_back_rows}
 use Rattle.set_model.proofs.SoundLink.{takes_back}
 use Rattle.set_changeover.specs.Parts.{Down, unsent_at}
 use Rattle.set_changeover.proofs.Links.{agrees_same, is_in, here_room}
-use Rattle.set_step.proofs.Timed.{by_time, missing, not_timed}
+use Rattle.set_step.proofs.Timed.{by_time, missing, not_timed, unleft}
 use Rattle.set_step.proofs.step.settle_by_time.Goals as goal
 
 pub settle-requires-clause-room : goal.settle-requires-clause-room
@@ -44,4 +44,4 @@ returns-in_ok-make_room_beside-in-Some-clause-ok o c = λ s a.
     })
 
 pub returns-in-Some-Up : goal.returns-in-Some-Up
-returns-in-Some-Up o c = record { ok = λ s a. let i = is_in c.args.parts.now s c.args.number _ a c.in-Some-Up.ensures.here in rw i.there (rw i.phase_is (grind arith)); err = tt }
+returns-in-Some-Up o c = record { ok = λ s a. let i = is_in c.args.parts.now s c.args.number _ a c.in-Some-Up.ensures.here in rw i.there (rw i.phase_is ((unleft c.args.parts.now s c.args.number i.link c.in-Some-Up.field-0 _ (λ e. grind (arith, c.in-Some-Up.is, e)) a c.set_refused-in-Some-Up.ensures).1)); err = tt }

@@ -1,4 +1,4 @@
-use Rattle.std.proofs.Common.{refl, ap, sym, ◌∙◌}
+use Rattle.std.proofs.Common.{refl, ap, ◌∙◌}
 use Rattle.term_bench.proofs.OneLemmas.{one_there}
 use Rattle.term_bench.specs.Ends.{AtLink, word_of}
 use Rattle.terminal_text.proofs.asking.look_at.Goals as goal

@@ -8,6 +8,6 @@ use Rattle.terminal_text.proofs.explaining.explain_fault.Goals as goal
 pub returns-in_ok-explain-in-Step : goal.returns-in_ok-explain-in-Step
 returns-in_ok-explain-in-Step c =
     let text = c.args.text.now in
-    let is_second = c.args.is_second in
+    let early = c.args.early in
     ap Some (c.in_ok-explain-in-Step.ensures ∙ ap (λ (b : Blame). explanation c.in-Step.line b text) c.blame_link.ensures)
-    ∙ sym (ap (λ (fault : TerminalFault). said is_second text fault) c.in-Step.is)
+    ∙ sym (ap (λ (fault : TerminalFault). said early text fault) c.in-Step.is)

@@ -1,4 +1,4 @@
-use Rattle.std.proofs.Common.{refl, arith, ◌≡◌, ◌<◌}
+use Rattle.std.proofs.Common.{refl, arith}
 use Rattle.std.proofs.lemmas.Bool.Decides.{nat_tests}
 use Rattle.terminal_text.proofs.HearingLemmas.{bit_none, bit_quiet, bit_sent, bit_some, bit_waits, ok_so}
 use Rattle.terminal_text.proofs.hearing.hear_bit.Goals as goal
@@ -18,8 +18,8 @@ returns-then-turn-eq0 c =
     brings (grind (arith, nat_tests, c.if-turn-eq0.true)) shows c.in_ok-hearing.ensures c.hear_bit.ensures.links)
     c.show.ensures
 
-pub returns-else-turn-eq0 : goal.returns-else-turn-eq0
-returns-else-turn-eq0 c =
+pub returns : goal.returns
+returns c =
     let brings = bit_some c.in_ok-turn.field-0 c.args.link c.args.bit c.args.bench.now c.hear_bit.new.self c.in-Some.turn _ c.hear_bit.new.tap
     c.in-Some.is c.in_ok-turn.ensures.hears in
     ok_so c.show-else-turn-eq0.result

@@ -1,10 +1,13 @@
+use Rattle.std.proofs.Common.{ap, ◌∙◌, ◌∷◌, [], ◌++◌}
+use Rattle.term_bench.specs.declared.turn.Turn.{Turn}
 use Rattle.terminal_text.proofs.HearingLemmas.{octet_exchanged, ok_so}
 use Rattle.terminal_text.proofs.hearing.hear_octet.Goals as goal
 
 pub returns : goal.returns
 returns c =
-    let turned = c.in_ok-turn.ensures.turns in
+    let turned = c.in_ok-turn.ensures.hears in
     ok_so c.show.result
     (λ shows. octet_exchanged c.args.link c.args.octet c.args.bench.now c.hear_octet.new.self c.args.rows.now c.show.new.self
-    c.args.put.now.items c.push.new.self.items c.in_ok-turn.turn turned.0 turned.1 shows c.in_ok-push.ensures.items c.hear_octet.ensures.links)
+    c.args.put.now.items c.push.new.self.items c.in_ok-turn.turn turned.0 turned.1 shows (c.in_ok-push.ensures.items ∙ ap (λ (t : Turn). c.args.put.now.items ++ t.put ∷ []) c.turn-2.ensures)
+    c.hear_octet.ensures.links)
     c.show.ensures

@@ -1,4 +1,4 @@
-use Rattle.std.proofs.Common.{sym, subst, ◌∷◌, [], Option}
+use Rattle.std.proofs.Common.{sym, subst, ◌∷◌, []}
 use Rattle.std.specs.Option.{option_map}
 use Rattle.terminal_text.proofs.HearingLemmas.{ok_so}
 use Rattle.terminal_text.proofs.RowLemmas.{shows_alone, shows_with_unit}

@@ -1,7 +1,0 @@
-use Rattle.std.proofs.Common.{◌≡◌, ◌++◌, map, take, drop}
-use Rattle.set_route.specs.Routing.{stream_back}
-use Rattle.set_route.proofs.routes.Routes.give_back.Given as goal
-
-abbrev pub invariant-loop-stream : goal.invariant-loop-stream
-invariant-loop-stream l =
-    l.stream-items ≡ map (stream_back l.code) (take l.stream-index l.initial.stream-items) ++ drop l.stream-index l.initial.stream-items

@@ -1,0 +1,4 @@
+pub mod Ends
+pub mod Carrying
+pub mod Turns
+pub mod Laws

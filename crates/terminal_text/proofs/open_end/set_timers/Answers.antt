@@ -1,0 +1,11 @@
+use Rattle.std.proofs.Common.{refl, ap, ◌∙◌}
+use Rattle.set_model.specs.History.{LinkSet}
+use Rattle.term_bench.specs.Ends.{BenchState}
+use Rattle.terminal_text.proofs.OpenLemmas.{opened_anew}
+use Rattle.terminal_text.proofs.open_end.set_timers.Goals as goal
+
+pub returns-in-Ok : goal.returns-in-Ok
+returns-in-Ok c =
+    opened_anew c.args.lengths _ c.args.end.now.bench.bench.set.base.state.settings c.config.result.now c.in-Ok.bench
+    (c.config.ensures ∙ ap (λ (set : LinkSet). set.base.state.settings) (c.set.ensures ∙ ap (λ (b : BenchState). b.set) c.bench.ensures.bench))
+    refl c.in-Ok.ensures.ok
