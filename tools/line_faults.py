@@ -1,9 +1,7 @@
-"""What lines do to the octets of joined ends, by a seed: inverted bits, lost octets, cuts."""
+"""What lines do to the octets of joined ends, by a seed: they take their time; inverted bits, lost octets, cuts."""
 import sys
-from collections import Counter
+from collections import Counter, deque
 from math import log
-
-SLICE = 8  # octets that a line carries at a time
 
 
 class Lines:
@@ -11,12 +9,19 @@ class Lines:
 
     def __init__(self, asked, rng):
         self.asked, self.rng = asked, rng
+        self.slice = asked.slice  # octets that a line carries at a time
         self.bits = self.octets = sys.maxsize
         last = max(1, asked.turns - asked.cut_turns)
         self.cuts_at = sorted(rng.randrange(last) for _ in range(asked.cuts))[::-1]
         self.cut = {}
+        self.dead = set(range(asked.links - asked.dead, asked.links))
+        self.under_way = {direction: [self.line_of(rng) for _ in range(asked.links)] for direction in ("ab", "ba")}
         self.phases = [rng.randrange(max(1, 2 * asked.spells)) for _ in range(asked.links)]
         self.counts = Counter()
+
+    def line_of(self, rng):
+        """The slices under way on a line whose length is drawn: a line that was idle."""
+        return deque([b"7e" * self.slice] * (rng.randrange(self.asked.delays + 1) // self.slice if self.asked.delays else 0))
 
     def begin(self):
         self.bits, self.octets = self.gap(self.asked.noise), self.gap(self.asked.slips)
@@ -32,21 +37,31 @@ class Lines:
     def carry(self, lines, turn, direction):
         """One direction's slices, as they arrive; a line is `octets L HEX`."""
         links = len(lines)
-        while self.bits < links * SLICE * 8:
-            number, bit = divmod(self.bits, SLICE * 8)
+        lines = [self.delayed(line, row) for line, row in zip(lines, self.under_way[direction])]
+        while self.bits < links * self.slice * 8:
+            number, bit = divmod(self.bits, self.slice * 8)
             if self.is_noisy(number, turn):
                 self.change(lines, number, lambda octets: self.invert(octets, bit), "bits inverted")
             self.bits += 1 + self.gap(self.asked.noise)
-        self.bits -= links * SLICE * 8
-        while self.octets < links * SLICE:
-            number, place = divmod(self.octets, SLICE)
+        self.bits -= links * self.slice * 8
+        while self.octets < links * self.slice:
+            number, place = divmod(self.octets, self.slice)
             self.change(lines, number, lambda octets: octets[:place] + octets[place + 1:] + octets[-1:], "octets lost")
             self.octets += 1 + self.gap(self.asked.slips)
-        self.octets -= links * SLICE
-        for number, (directions, _) in self.cut.items():
-            if direction in directions:
-                lines[number] = b"octets %d %s" % (number, b"ff" * SLICE)
+        self.octets -= links * self.slice
+        cut = {number for number, (directions, _) in self.cut.items() if direction in directions}
+        for number in cut | self.dead:
+            lines[number] = b"octets %d %s" % (number, b"ff" * self.slice)
         return lines
+
+    @staticmethod
+    def delayed(line, row):
+        """What was put into the line as long ago as it's long."""
+        if not row:
+            return line
+        word, number, digits = line.split(b" ")
+        row.append(digits)
+        return b"%s %s %s" % (word, number, row.popleft())
 
     def change(self, lines, number, change, what):
         word, number_digits, digits = lines[number].split(b" ")
@@ -68,7 +83,7 @@ class Lines:
             alone = self.is_alone(number, ends)
             is_up = all(end.links[number].is_up() for end in ends)
             spared = (alone and not self.asked.cut_last) or (not is_up and self.rng.random() < 0.75)
-            if spared or number in self.cut:
+            if spared or number in self.cut or number in self.dead:
                 self.cuts_at[-1] = turn + 1_000
                 return
             self.cuts_at.pop()
@@ -82,5 +97,6 @@ class Lines:
 
     def mend(self):
         self.cut.clear()
+        self.dead.clear()
         self.cuts_at.clear()
         self.bits = self.octets = sys.maxsize
