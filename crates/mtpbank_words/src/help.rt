@@ -73,7 +73,7 @@ line opens the end, and each other asks for one thing, mostly of link L:
   octets                  octets come on the line; as many go out
   hear, flags, bits       units, flags or bits come on the line
   offer, take, find       a user's message is handed over, taken, looked for
-  noanswer, timed, restore, redeclare, backtimeout
+  noanswer, timed, restore, redeclare, backtimeout, test
                           what Q.704's timers tell the set
   activate, deactivate    level 3 starts the link, restores it, changes it back
   look                    how the link stands
@@ -112,10 +112,12 @@ Each further line prints events and then its answer, so whoever drives the end r
   flags L N           N flags stand on the line: turns K
   bits L BITS [xN]    these bits stand on the line, digits 0 and 1, the first one first: turns K
   offer HEX, take, find N                            user 0, answered as `mtpbank play` answers them
-  noanswer L, timed L, restore L, redeclare L, backtimeout L         the terminal of link L, answered so too
+  noanswer L, timed L, restore L, redeclare L, backtimeout L, test L
+                      the terminal of link L tells it to the set, answered so too
                       A refusal has its number. offer: 1 under 5 octets, 2 over 273, 3 service indicator 0, 4 the stream
                       has 1,024 unsent messages. take: 9 nothing to take. find: 8 no such number, 11 the message left
-                      with a checkpoint. restore: 5 the link isn't up. The terminal's: 9 nothing to do
+                      with a checkpoint. restore and test: 5 the link isn't up. The terminal's: 9 nothing to
+                      do, and for test always, since no set has link tests
   activate L          level 3 manages link L from now on: the events of what it asks, and done
   deactivate L        so no more, and the terminal stops. Both: refused 9 where it's so already
   look L              look L WORD phase=P turns=T sent=S good=G bad=B sixteen=X cause=C: how the link stands; its phase
@@ -211,7 +213,7 @@ lower case with one space between two words:
   .. next L           the next unit to send on link L
   .. hear L HEX       a unit that was heard on link L, without check octets
   .. up L             link L comes up at this end, which is answered done
-  .. down L, blind L, noanswer L, timed L, restore L, redeclare L, backtimeout L
+  .. down L, blind L, noanswer L, timed L, restore L, redeclare L, backtimeout L, test L
   .. -> ANSWER        as `mtpbank play` prints it; the octets that were sent stand with their check octets. Where these
                       are wrong, or a number stands in it that no set answers, the line can't be read
 A line checkpoint between entries says that the set took a checkpoint there: what is finished leaves it, and who looks
@@ -235,7 +237,7 @@ With --explain three more lines come behind that of a line which can't be read: 
 caret under the word at fault, or right behind the line where a word is missing; of a line of more than 16,384 octets
 nothing is said, and nothing of an illegal entry: the line behind legal=no is what a set answers there.
   fault line 3 text
-  line 3: here stands offer, take, find, next, hear, up, down, blind, noanswer, timed, restore, redeclare or backtimeout
+  line 3: here stands offer, take, find, next, hear, up, down, blind, noanswer, timed, restore, redeclare, backtimeout or test
     user 0 ofer 8501800030 -> accepted 0
            ^
 The status is 0 for legal=yes, and 1 else.";
@@ -433,6 +435,7 @@ messages are unacknowledged, bodies have 272 octets at most, and a cycle is forc
   redeclare E L       end E asks once more (CBD), by each code whose order isn't on its way any more: one answer more is
                       wanted for it, and the last frees it
   backtimeout E L     end E had no answer to the changeback to link L
+  test E L            end E asks for a test of link L (Q.707), which no set has: refused 5 or 9
 Words are separated by one space, numbers are decimal without leading zeros, and lines end in LF.
 
 Each of these lines prints one:
@@ -460,7 +463,7 @@ Each of these lines prints one:
                       the unit tells a status (LSSU), for noanswer and timed the link wasn't left or has settled,
                       for timed its order was sent, for restore no stream of link L runs on another link that is up,
                       but for those whose code is still in use, for redeclare each order of link L that wants an answer
-                      is on its way, and for backtimeout no code of link L is in use
+                      is on its way, for backtimeout no code of link L is in use, and for test always
 The last two lines count the users' messages of each end by where they stand.
 
 A label is four octets, the lowest first: DPC + 2^14 OPC + 2^28 SLS. The SLS, the high digit of a message's fifth

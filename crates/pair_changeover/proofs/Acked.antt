@@ -18,7 +18,7 @@ use Rattle.set_events.specs.declared.answer.DiscardCause.TheVariants.{NoAnswer a
 use Rattle.set_events.specs.declared.answer.Fate.{Fate}
 use Rattle.set_events.specs.declared.answer.Fate.TheVariants.{Waiting, Unacked, Acked, Discarded}
 use Rattle.set_events.specs.declared.event.Event.{Event}
-use Rattle.set_events.specs.declared.event.Event.TheVariants.{Offer, Take, Find, Next, Heard, Up as UpEvent, Down as DownEvent, DownBlind, NoAnswer, Timed, Restore, Redeclare, BackTimeout}
+use Rattle.set_events.specs.declared.event.Event.TheVariants.{Offer, Take, Find, Next, Heard, Up as UpEvent, Down as DownEvent, DownBlind, NoAnswer, Timed, Restore, Redeclare, BackTimeout, Test}
 use Rattle.set_model.specs.declared.phase.Phase.{Phase}
 use Rattle.set_model.specs.declared.phase.Phase.TheVariants.{Up, Down, Settled}
 use Rattle.set_model.specs.declared.reached.Reached.{Reached}
@@ -619,6 +619,7 @@ acked_first l s (Timed n) sent sound a = other_kept l sent s (Timed n) (λ m e. 
 acked_first l s (Restore n) sent sound a = other_kept l sent s (Restore n) (λ m e. absurd cc) (λ m e. absurd cc) a
 acked_first l s (Redeclare n) sent sound a = other_kept l sent s (Redeclare n) (λ m e. absurd cc) (λ m e. absurd cc) a
 acked_first l s (BackTimeout n) sent sound a = other_kept l sent s (BackTimeout n) (λ m e. absurd cc) (λ m e. absurd cc) a
+acked_first l s (Test n) sent sound a = other_kept l sent s (Test n) (λ m e. absurd cc) (λ m e. absurd cc) a
 
 -- A NEW SET
 none_acked : (l count : ℕ) (link : LinkState) → link.acked ≡ 0 → acked_of (slice_get (replicate count link) l) ≡ 0

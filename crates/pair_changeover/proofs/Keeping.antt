@@ -15,8 +15,8 @@ use Rattle.l2_window.proofs.Numbers.{below as cycle}
 use Rattle.set_events.specs.declared.answer.Fate.{Fate}
 use Rattle.set_events.specs.declared.answer.Fate.TheVariants.{Waiting, Unacked, Acked, Held, Parked, Back, Discarded}
 use Rattle.set_events.specs.declared.answer.Refusal.{Refusal as SetRefusal}
-use Rattle.set_events.specs.declared.answer.Refusal.TheVariants.{NotUp, TooShort, TooLong, Reserved, StreamFull}
-use Rattle.set_events.specs.declared.event.Event.TheVariants.{Offer, Take, Find, Down as DownEvent, DownBlind, Restore, Redeclare}
+use Rattle.set_events.specs.declared.answer.Refusal.TheVariants.{Nothing, NotUp, TooShort, TooLong, Reserved, StreamFull}
+use Rattle.set_events.specs.declared.event.Event.TheVariants.{Offer, Take, Find, Down as DownEvent, DownBlind, Restore, Redeclare, Test}
 use Rattle.set_route.specs.declared.place.Place.{Place}
 use Rattle.set_route.specs.declared.place.Place.TheVariants.{On, Changing, Nowhere}
 use Rattle.set_route.specs.Routing.{place_of, code_for, code_of, home_of}
@@ -270,6 +270,10 @@ unfolding step
 redeclare_kept {emergencies = emergencies} k s f sound =
     redeclared_at s (λ a b. a ≡ a) (λ t. Keeps emergencies s t f) k (slice_get s.links k) (keeps_still s s f refl refl)
     (redeclares_keep (code_for k 0) 16 s f sound)
+
+pub test_kept : {emergencies : Bool} (k : ℕ) (s f : State) → Keeps emergencies s (step s (Test k)).state f
+unfolding step
+test_kept k s f = in_keeps k s f (λ link. refused s Nothing) (λ link at. keeps_still s s f refl refl)
 
 -- NEXT, where no more was accepted than was sent
 record Unmoved (k count : ℕ) (rows new : List Row) : Type 0 where

@@ -8,7 +8,7 @@ use Rattle.std.proofs.Common.{refl, arith, ◌≡◌, ◌∙◌, ap, sym, subst,
 use Rattle.l2_units.specs.declared.unit.Unit.{Unit as SignalUnit}
 use Rattle.set_events.specs.declared.config.Method.{Method}
 use Rattle.set_events.specs.declared.event.Event.{Event}
-use Rattle.set_events.specs.declared.event.Event.TheVariants.{Offer, Take, Find, Next, Heard as HeardEvent, Up as UpEvent, Down as DownEvent, DownBlind, NoAnswer, Timed, Restore, Redeclare, BackTimeout}
+use Rattle.set_events.specs.declared.event.Event.TheVariants.{Offer, Take, Find, Next, Heard as HeardEvent, Up as UpEvent, Down as DownEvent, DownBlind, NoAnswer, Timed, Restore, Redeclare, BackTimeout, Test}
 use Rattle.set_model.specs.declared.phase.Phase.TheVariants.{Up}
 use Rattle.set_model.specs.Rows.{was_discarded, standing}
 use Rattle.set_model.specs.State.{LinkState, State, is_up, is_settled, link_is_settled, has_phase_settled}
@@ -27,7 +27,7 @@ use Rattle.pair_model.proofs.Pairs.{Two, swapped, HoldsOf, settings_stay}
 use Rattle.pair_changeover.specs.Diverted.{Diverts, LosesNothing}
 use Rattle.pair_changeover.proofs.Acked.{AckedFirst, sent_then as sent_by, acked_first, emits_first}
 use Rattle.pair_changeover.proofs.Changes.{Both}
-use Rattle.pair_changeover.proofs.Keeping.{Keeps, keeps_still, offer_kept, take_kept, find_kept, down_kept, restore_kept, redeclare_kept, next_keeps}
+use Rattle.pair_changeover.proofs.Keeping.{Keeps, keeps_still, offer_kept, take_kept, find_kept, down_kept, restore_kept, redeclare_kept, test_kept, next_keeps}
 use Rattle.pair_changeover.proofs.Ordered.{Ordered}
 use Rattle.pair_changeover.proofs.Overtaken.{sends_next}
 use Rattle.pair_changeover.proofs.Reaching.{Reaches, reaches}
@@ -151,6 +151,7 @@ module _ (mx my : Method) (one : IsOneMethod mx my) (p : Two) (h : HoldsOf mx my
       keeps_did p w (Redeclare k) p.near_past p.out p.back (redeclare_kept k p.near p.far h.near_sound)
       (first_at (Redeclare k))
   asks_did end (BackTimeout k) shown own sound = absurd sound
+  asks_did end (Test k) shown own sound = keeps_did p w (Test k) p.near_past p.out p.back (test_kept k p.near p.far) (first_at (Test k))
 
   -- IT SENDS
   module _ (k : ℕ) (out : List (List SignalUnit)) where

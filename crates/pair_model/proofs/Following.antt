@@ -17,7 +17,7 @@ use Rattle.set_events.specs.declared.answer.Fate.TheVariants.{Parked, Waiting}
 use Rattle.set_events.specs.declared.answer.Refusal.{Refusal as SetRefusal}
 use Rattle.set_events.specs.declared.answer.Refusal.TheVariants.{NotUp, Nothing}
 use Rattle.set_events.specs.declared.answer.Answer.TheVariants.{Done}
-use Rattle.set_events.specs.declared.event.Event.TheVariants.{Offer, Take, Find, Next, Heard, Up as UpEvent, Down as DownEvent, DownBlind, NoAnswer, Timed, Restore, Redeclare, BackTimeout}
+use Rattle.set_events.specs.declared.event.Event.TheVariants.{Offer, Take, Find, Next, Heard, Up as UpEvent, Down as DownEvent, DownBlind, NoAnswer, Timed, Restore, Redeclare, BackTimeout, Test}
 use Rattle.set_route.specs.declared.place.Place.{Place}
 use Rattle.set_route.specs.declared.place.Code.{Code}
 use Rattle.set_route.specs.declared.place.Code.TheVariants.{Free, Asked, Spent}
@@ -334,6 +334,9 @@ take_follows l s = follows_alone l s _ (leaves_alone l s Take (λ c. c))
 
 pub find_follows : (l : ℕ) (s : State) (number : ℕ) → Follows l s (step s (Find number)).state
 find_follows l s number = follows_alone l s _ (leaves_alone l s (Find number) (λ c. c))
+
+pub test_follows : (l m : ℕ) (s : State) → Follows l s (step s (Test m)).state
+test_follows l m s = follows_alone l s _ (leaves_alone l s (Test m) (λ c. c))
 
 pub next_follows : (l m : ℕ) (s : State) → m ≢ l → Follows l s (step s (Next m)).state
 next_follows l m s d = follows_alone l s _ (leaves_alone l s (Next m) d)

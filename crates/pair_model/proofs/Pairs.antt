@@ -9,7 +9,7 @@ use Rattle.l2_units.specs.declared.unit.Unit.{Unit as SignalUnit}
 use Rattle.pair_steps.specs.Lines.{units_of, units_on, with_units}
 use Rattle.set_events.specs.declared.config.Method.{Method}
 use Rattle.set_events.specs.declared.event.Event.{Event}
-use Rattle.set_events.specs.declared.event.Event.TheVariants.{Offer, Take, Find, Next, Heard, Up as UpEvent, Down as DownEvent, DownBlind, NoAnswer, Timed, Restore, Redeclare, BackTimeout}
+use Rattle.set_events.specs.declared.event.Event.TheVariants.{Offer, Take, Find, Next, Heard, Up as UpEvent, Down as DownEvent, DownBlind, NoAnswer, Timed, Restore, Redeclare, BackTimeout, Test}
 use Rattle.set_model.specs.Sound.{IsSound}
 use Rattle.set_model.specs.State.{State, Settings}
 use Rattle.set_model.specs.Step.{step}
@@ -22,7 +22,7 @@ use Rattle.pair_steps.specs.declared.step.Shown.{Shown}
 use Rattle.pair_model.specs.World.{has_own_step}
 use Rattle.pair_model.specs.Run.{Past, past_asked}
 use Rattle.pair_model.proofs.Counts.{IsApart, count_stays}
-use Rattle.pair_model.proofs.Following.{Follows, offer_follows, take_follows, find_follows, down_follows, blind_follows, unanswered_follows, timed_follows, restore_follows, redeclare_follows, timeout_follows}
+use Rattle.pair_model.proofs.Following.{Follows, offer_follows, take_follows, find_follows, down_follows, blind_follows, unanswered_follows, timed_follows, restore_follows, redeclare_follows, timeout_follows, test_follows}
 use Rattle.pair_model.proofs.Tied.{KeepBodies, keep_bodies, Side, Tied, turned, follows}
 
 pub record Two : Type 0 where
@@ -167,3 +167,4 @@ module _ (mx my : Method) (p : Two) (h : HoldsOf mx my p) where
   asks (Restore k) shown own = follows_all (Restore k) (λ l. tt) (λ l. restore_follows l k p.near)
   asks (Redeclare k) shown own = follows_all (Redeclare k) (λ l. tt) (λ l. redeclare_follows l k p.near)
   asks (BackTimeout k) shown own = follows_all (BackTimeout k) (λ l. tt) (λ l. timeout_follows l k p.near)
+  asks (Test k) shown own = follows_all (Test k) (λ l. tt) (λ l. test_follows l k p.near)

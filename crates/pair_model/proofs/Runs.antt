@@ -14,7 +14,7 @@ use Rattle.set_events.specs.declared.answer.Fate.{Fate}
 use Rattle.set_events.specs.declared.config.Method.{Method}
 use Rattle.set_events.specs.declared.config.SetConfig.{SetConfig}
 use Rattle.set_events.specs.declared.event.Event.{Event}
-use Rattle.set_events.specs.declared.event.Event.TheVariants.{Offer, Take, Find, Next, Heard, Up as UpEvent, Down as DownEvent, DownBlind, NoAnswer, Timed, Restore, Redeclare, BackTimeout}
+use Rattle.set_events.specs.declared.event.Event.TheVariants.{Offer, Take, Find, Next, Heard, Up as UpEvent, Down as DownEvent, DownBlind, NoAnswer, Timed, Restore, Redeclare, BackTimeout, Test}
 use Rattle.set_model.specs.declared.phase.Phase.{Phase}
 use Rattle.set_model.specs.declared.phase.Phase.TheVariants.{Up, Down, Settled}
 use Rattle.set_model.specs.Rows.{Fate, place}
@@ -137,6 +137,7 @@ answer_tells s (Timed k) own = on_tells k s (λ link. times_out k s link link.ph
 answer_tells s (Restore k) own = in_tells k s (λ link. comes_back k s) (λ link. comes_tells k s)
 answer_tells s (Redeclare k) own = on_tells k s (λ link. redeclares k s) (λ link. redeclares_tell k s)
 answer_tells s (BackTimeout k) own = on_tells k s (λ link. runs_out k s) (λ link. runs_tells k s)
+answer_tells s (Test k) own = in_tells k s (λ link. refused s Nothing) (λ link. tt)
 
 pub is_at_up : (k : ℕ) (s : State) → is_up k s ≡ true → (link : LinkState) × IsAt k link Up s
 is_at_up k s e = go (slice_get s.links k) refl

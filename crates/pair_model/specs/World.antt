@@ -5,7 +5,7 @@ use Rattle.pair_steps.specs.Lines.{no_units, units_on, with_units, joined_on, wi
 use Rattle.set_events.specs.declared.event.Actor.{Actor}
 use Rattle.set_events.specs.declared.event.Actor.TheVariants.{User, Terminal}
 use Rattle.set_events.specs.declared.event.Event.{Event}
-use Rattle.set_events.specs.declared.event.Event.TheVariants.{Offer, Take, Find, Next, Heard as HeardEvent, Up as UpEvent, Down, DownBlind, NoAnswer, Timed, Restore, Redeclare, BackTimeout}
+use Rattle.set_events.specs.declared.event.Event.TheVariants.{Offer, Take, Find, Next, Heard as HeardEvent, Up as UpEvent, Down, DownBlind, NoAnswer, Timed, Restore, Redeclare, BackTimeout, Test}
 use Rattle.set_events.specs.declared.answer.Answer.{Answer}
 use Rattle.set_events.specs.declared.answer.Counts.{Counts}
 use Rattle.set_events.specs.declared.answer.Answer.TheVariants.{Accepted, Taken, Found, Sent, Heard, Done, Refused}
@@ -87,6 +87,7 @@ actor_of (Timed link) = Terminal link
 actor_of (Restore link) = Terminal link
 actor_of (Redeclare link) = Terminal link
 actor_of (BackTimeout link) = Terminal link
+actor_of (Test link) = Terminal link
 
 abbrev pub answer_to : LinkSet → Event → Answer
 answer_to set event = (step set.state event).answer

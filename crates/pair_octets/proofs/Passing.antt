@@ -210,6 +210,7 @@ asked_in (Event.Timed link) apart = tt
 asked_in (Event.Restore link) apart = tt
 asked_in (Event.Redeclare link) apart = tt
 asked_in (Event.BackTimeout link) apart = tt
+asked_in (Event.Test link) apart = tt
 
 pub asked_end : (who : Actor) (event : Event) (old new : Sides) (near : ℕ → List Doing) → IsAsked who event old new → IsAskedApart event
     → IsEnd near old.near → IsEnd near new.near

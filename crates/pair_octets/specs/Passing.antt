@@ -62,6 +62,7 @@ IsAskedApart (Event.Timed link) = Unit {0}
 IsAskedApart (Event.Restore link) = Unit {0}
 IsAskedApart (Event.Redeclare link) = Unit {0}
 IsAskedApart (Event.BackTimeout link) = Unit {0}
+IsAskedApart (Event.Test link) = Unit {0}
 IsAskedApart _ = ⊥
 
 abbrev pub IsIntact : WireStep → Type 0

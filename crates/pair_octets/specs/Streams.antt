@@ -17,7 +17,7 @@ use Rattle.pair_octets.specs.declared.step.WireStep.{WireStep}
 use Rattle.pair_octets.specs.declared.step.WireStep.TheVariants.{Turn, Command as CommandStep, Ask, Damage}
 
 -- SOUND MANAGEMENT: a link is started and stopped at any time (a bench refuses a start where the link was left and isn't settled),
--- streams are restored and declared once more at any time. No end is busy, none fails blindly (Q.704 5.6); each order is answered, so none is given up
+-- streams are restored and declared once more, and links tested, at any time. No end is busy, none fails blindly (Q.704 5.6); each order is answered, so none is given up
 -- (Q.704 5.7.2), and each changeback waits for its acknowledgement (Q.704 6.3).
 abbrev pub IsSoundCommand : Command → Type 0
 IsSoundCommand Command.Emergency = Unit {0}
@@ -31,6 +31,7 @@ IsSoundEvent Event.Take = Unit {0}
 IsSoundEvent (Event.Find number) = Unit {0}
 IsSoundEvent (Event.Restore link) = Unit {0}
 IsSoundEvent (Event.Redeclare link) = Unit {0}
+IsSoundEvent (Event.Test link) = Unit {0}
 IsSoundEvent _ = ⊥
 
 abbrev pub IsSoundStep : WireStep → Type 0

@@ -10,7 +10,7 @@ use Rattle.l2_units.specs.declared.unit.Unit.{Unit as SignalUnit}
 use Rattle.set_events.specs.declared.config.Method.{Method}
 use Rattle.set_events.specs.declared.config.SetConfig.{SetConfig}
 use Rattle.set_events.specs.declared.event.Event.{Event}
-use Rattle.set_events.specs.declared.event.Event.TheVariants.{Offer, Take, Find, Next, Heard as HeardEvent, Up as UpEvent, Down as DownEvent, DownBlind, NoAnswer, Timed, Restore, Redeclare, BackTimeout}
+use Rattle.set_events.specs.declared.event.Event.TheVariants.{Offer, Take, Find, Next, Heard as HeardEvent, Up as UpEvent, Down as DownEvent, DownBlind, NoAnswer, Timed, Restore, Redeclare, BackTimeout, Test}
 use Rattle.set_model.specs.declared.phase.Phase.TheVariants.{Settled}
 use Rattle.set_model.specs.State.{LinkState, State, is_settled, settings_of}
 use Rattle.set_model.specs.Step.{step}
@@ -87,6 +87,7 @@ elsewhere (Timed k) own told off s l on = off_other k told l (off k refl) on
 elsewhere (Restore k) own told off s l on = tt
 elsewhere (Redeclare k) own told off s l on = tt
 elsewhere (BackTimeout k) own told off s l on = tt
+elsewhere (Test k) own told off s l on = tt
 
 module _ (ma mb : Method) (one : IsOneMethod ma mb) where
   -- as it's seen where a missed link is awaited still
@@ -260,6 +261,7 @@ module _ (ma mb : Method) (one : IsOneMethod ma mb) where
     act_holds end (Restore n) = asked_holds end (Restore n) (λ k e. absurd e)
     act_holds end (Redeclare n) = asked_holds end (Redeclare n) (λ k e. absurd e)
     act_holds end (BackTimeout n) = asked_holds end (BackTimeout n) (λ k e. absurd e)
+    act_holds end (Test n) = asked_holds end (Test n) (λ k e. absurd e)
 
     -- A UNIT ARRIVES
     same_links : length w.b.state.links ≡ length w.a.state.links

@@ -14,7 +14,7 @@ use Rattle.pair_steps.specs.declared.step.End.{End}
 use Rattle.pair_steps.specs.declared.step.Step.TheVariants.{Act}
 use Rattle.set_events.specs.declared.config.Method.{Method}
 use Rattle.set_events.specs.declared.event.Event.{Event}
-use Rattle.set_events.specs.declared.event.Event.TheVariants.{Offer, Take, Find, Next, Heard as HeardEvent, Up as UpEvent, Down as DownEvent, DownBlind, NoAnswer, Timed, Restore, Redeclare, BackTimeout}
+use Rattle.set_events.specs.declared.event.Event.TheVariants.{Offer, Take, Find, Next, Heard as HeardEvent, Up as UpEvent, Down as DownEvent, DownBlind, NoAnswer, Timed, Restore, Redeclare, BackTimeout, Test}
 use Rattle.set_events.specs.declared.answer.Took.TheVariants.{Message as TookMessage}
 use Rattle.set_route.specs.declared.place.Code.{Code}
 use Rattle.set_route.specs.declared.place.Code.TheVariants.{Free, Asked, Spent}
@@ -34,7 +34,7 @@ use Rattle.pair_model.proofs.Moving.{next_refused}
 use Rattle.pair_model.proofs.Pairs.{Two, HoldsOf, no_other}
 use Rattle.pair_changeover.proofs.Changes.{Both, by_link}
 use Rattle.pair_changeover.proofs.Hearing as hearing
-use Rattle.pair_changeover.proofs.Keeping.{Keeps, offer_kept, take_kept, find_kept, down_kept, blind_kept, restore_kept, redeclare_kept, next_keeps}
+use Rattle.pair_changeover.proofs.Keeping.{Keeps, offer_kept, take_kept, find_kept, down_kept, blind_kept, restore_kept, redeclare_kept, test_kept, next_keeps}
 use Rattle.pair_changeover.proofs.Obeying.{Told, Heard, Obeys, keeps, settles, answers, settles_blind, answers_blind, acknowledges, releases, obeys_both, obeys_accepted}
 use Rattle.pair_changeover.proofs.Ordered.{Ordered, sent_enough}
 use Rattle.pair_changeover.proofs.Ordered as orders
@@ -167,6 +167,7 @@ asked_keeps em end s f (Restore k) safe own sound codes = restore_kept k s f sou
 asked_keeps em end s f (Redeclare k) safe own sound codes = redeclare_kept k s f sound
 asked_keeps false end s f (BackTimeout k) safe own sound codes = absurd safe
 asked_keeps true end s f (BackTimeout k) safe own sound codes = absurd safe
+asked_keeps em end s f (Test k) safe own sound codes = test_kept k s f
 
 -- what such a change keeps of an open link, at its end and at the far end
 pub near_kept : {emergencies : Bool} (l : ℕ) (s t f : State) (link : LinkState) (there : slice_get f.links l ≡ Some link)

@@ -21,7 +21,7 @@ use Rattle.set_events.specs.declared.answer.Refusal.{Refusal}
 use Rattle.set_events.specs.declared.answer.Refusal.TheVariants.{Nothing, NotUp}
 use Rattle.set_events.specs.declared.answer.Took.TheVariants.{Message as TookMessage}
 use Rattle.set_events.specs.declared.event.Event.{Event}
-use Rattle.set_events.specs.declared.event.Event.TheVariants.{Offer, Take, Find, Next, Heard as HeardEvent, Up as UpEvent, Down as DownEvent, DownBlind, NoAnswer, Timed, Restore, Redeclare, BackTimeout}
+use Rattle.set_events.specs.declared.event.Event.TheVariants.{Offer, Take, Find, Next, Heard as HeardEvent, Up as UpEvent, Down as DownEvent, DownBlind, NoAnswer, Timed, Restore, Redeclare, BackTimeout, Test}
 use Rattle.set_route.specs.Routing.{code_for, code_of}
 use Rattle.set_model.proofs.Walk.{redeclared_at, redeclared_links}
 use Rattle.set_route.specs.declared.place.Code.{Code}
@@ -226,6 +226,7 @@ asked_older em end (Redeclare k) s plain own =
     (subst (λ (ls : List LinkState). Older s.links ls) (sym (redeclared_links (code_for k 0) 16 s)) (older_same s.links))
 asked_older false end (BackTimeout k) s plain own = absurd plain
 asked_older true end (BackTimeout k) s plain own = absurd plain
+asked_older em end (Test k) s plain own = in_older k s (λ link. refused s Nothing) (λ link up. older_same s.links)
 
 -- a link comes up
 pub rises_older : (k : ℕ) (s t : State) → Rises k s t → Older s.links t.links

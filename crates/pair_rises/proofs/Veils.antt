@@ -6,7 +6,7 @@ use Rattle.std.proofs.lemmas.Bool.{eqb-true}
 use Rattle.std.proofs.lemmas.Bool.Decides.{nat_tests}
 use Rattle.l2_units.specs.declared.unit.Unit.TheVariants.{Fisu, Lssu, Msu}
 use Rattle.set_events.specs.declared.event.Event.{Event}
-use Rattle.set_events.specs.declared.event.Event.TheVariants.{Offer, Take, Find, Next, Heard, Up as UpEvent, Down as DownEvent, DownBlind, NoAnswer, Timed, Restore, Redeclare, BackTimeout}
+use Rattle.set_events.specs.declared.event.Event.TheVariants.{Offer, Take, Find, Next, Heard, Up as UpEvent, Down as DownEvent, DownBlind, NoAnswer, Timed, Restore, Redeclare, BackTimeout, Test}
 use Rattle.set_model.specs.declared.phase.Phase.{Phase}
 use Rattle.set_model.specs.declared.phase.Phase.TheVariants.{Up, Down, Settled}
 use Rattle.set_model.specs.Sound.{IsSound}
@@ -115,6 +115,7 @@ elsewhere_so c n l s (Timed k) e = e
 elsewhere_so c n l s (Restore k) e = e
 elsewhere_so c n l s (Redeclare k) e = e
 elsewhere_so c n l s (BackTimeout k) e = e
+elsewhere_so c n l s (Test k) e = e
 
 -- veils over settled links, none of them up
 abbrev pub AreVeils : (ℕ → Option LinkState) → State → Type 0

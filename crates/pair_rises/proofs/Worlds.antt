@@ -8,7 +8,7 @@ use Rattle.set_events.specs.declared.answer.Answer.TheVariants.{Accepted, Taken,
 use Rattle.set_events.specs.declared.event.Actor.{Actor}
 use Rattle.set_events.specs.declared.event.Actor.TheVariants.{User, Terminal}
 use Rattle.set_events.specs.declared.event.Event.{Event}
-use Rattle.set_events.specs.declared.event.Event.TheVariants.{Offer, Take, Find, Next, Heard, Up as UpEvent, Down as DownEvent, DownBlind, NoAnswer, Timed, Restore, Redeclare, BackTimeout}
+use Rattle.set_events.specs.declared.event.Event.TheVariants.{Offer, Take, Find, Next, Heard, Up as UpEvent, Down as DownEvent, DownBlind, NoAnswer, Timed, Restore, Redeclare, BackTimeout, Test}
 use Rattle.set_model.specs.History.{LinkSet}
 use Rattle.set_model.specs.Sound.{IsSound}
 use Rattle.set_model.specs.State.{State}
@@ -210,6 +210,7 @@ module _ (oa ob : ℕ → Cover) where
   act_elsewhere em end (Restore k) plain own l s = tt
   act_elsewhere em end (Redeclare k) plain own l s = tt
   act_elsewhere em end (BackTimeout k) plain own l s = tt
+  act_elsewhere em end (Test k) plain own l s = tt
 
   act_other : (emergencies : Bool) (end : End) (w : World) (event : Event) → IsBare true oa ob w → IsPlainStep emergencies (Act end event) → has_own_step event ≡ false
       → Other true oa ob end w event

@@ -11,10 +11,10 @@ use Rattle.l3_orders.specs.declared.order.Order.TheVariants.{Cba}
 use Rattle.set_events.specs.declared.answer.Fate.{Fate}
 use Rattle.set_events.specs.declared.answer.Fate.TheVariants.{Waiting, Unacked, Parked}
 use Rattle.set_events.specs.declared.answer.Refusal.{Refusal as SetRefusal}
-use Rattle.set_events.specs.declared.answer.Refusal.TheVariants.{NotUp}
+use Rattle.set_events.specs.declared.answer.Refusal.TheVariants.{Nothing, NotUp}
 use Rattle.set_events.specs.declared.config.Method.{Method}
 use Rattle.set_events.specs.declared.event.Event.{Event}
-use Rattle.set_events.specs.declared.event.Event.TheVariants.{Offer, Take, Find, Next, Heard as HeardEvent, Up as UpEvent, Down as DownEvent, DownBlind, NoAnswer, Timed, Restore, Redeclare, BackTimeout}
+use Rattle.set_events.specs.declared.event.Event.TheVariants.{Offer, Take, Find, Next, Heard as HeardEvent, Up as UpEvent, Down as DownEvent, DownBlind, NoAnswer, Timed, Restore, Redeclare, BackTimeout, Test}
 use Rattle.set_route.specs.Routing.{code_for, raised}
 use Rattle.set_model.specs.declared.phase.Phase.{Phase}
 use Rattle.set_model.specs.declared.phase.Phase.TheVariants.{Up, Down, Settled}
@@ -43,7 +43,7 @@ use Rattle.pair_changeover.proofs.Overtaken.{sends_next}
 use Rattle.pair_changeover.specs.Pending.{pending, aside, accepted_of, accepted_on}
 use Rattle.pair_changeover.proofs.Changes.{by_link}
 use Rattle.pair_changeover.proofs.Arriving.{rises_at}
-use Rattle.pair_changeover.proofs.Keeping.{Keeps, keeps_still, users_body, offer_kept, take_kept, find_kept, down_kept, blind_kept, restore_kept, redeclare_kept, next_queues, next_aside}
+use Rattle.pair_changeover.proofs.Keeping.{Keeps, keeps_still, users_body, offer_kept, take_kept, find_kept, down_kept, blind_kept, restore_kept, redeclare_kept, test_kept, next_queues, next_aside}
 use Rattle.pair_changeover.proofs.Ordered.{Ordered, ordered_back, asked_ordered, sent_enough, sends_keep, rises_both}
 use Rattle.pair_changeover.proofs.Table.{new_message}
 use Rattle.pair_changeover.proofs.Texts.{AreCodes}
@@ -221,6 +221,7 @@ module _ (s f : State) (sound : IsSound s) (offered_here got lost : ℕ → List
         acks = redeclared_acks (code_for k 0) 16 s f sound;
       })
   event_keeps emergencies (BackTimeout k) end own safe other = absurd (never_timed_out emergencies end k safe)
+  event_keeps emergencies (Test k) end own safe other = in_keeps k (λ link. refused s Nothing) (λ link at. keeps_self)
 
   -- OFFER
   offer_out : (body : List ℕ) → stream_of body < 16 → (o : Option SetRefusal)
@@ -346,6 +347,7 @@ module _ {emergencies : Bool} (p : Two) (sound : IsSound p.near) (w : Streams em
   asked_streams end (Restore k) own safe = event_streams end (Restore k) refl safe (λ body e. absurd cc) (restore_kept k p.near p.far sound)
   asked_streams end (Redeclare k) own safe = event_streams end (Redeclare k) refl safe (λ body e. absurd cc) (redeclare_kept k p.near p.far sound)
   asked_streams end (BackTimeout k) own safe = absurd (never_timed_out emergencies end k safe)
+  asked_streams end (Test k) own safe = event_streams end (Test k) refl safe (λ body e. absurd cc) (test_kept k p.near p.far)
 
 -- IT SENDS
 waiting_not_back : (k c : ℕ) (fate : Fate) → is_waiting k fate ≡ true → is_back c fate ≡ false

@@ -12,7 +12,7 @@ use Rattle.set_events.specs.declared.answer.Answer.TheVariants.{Accepted, Taken,
 use Rattle.set_events.specs.declared.config.Method.{Method}
 use Rattle.set_events.specs.declared.config.SetConfig.{SetConfig}
 use Rattle.set_events.specs.declared.event.Event.{Event}
-use Rattle.set_events.specs.declared.event.Event.TheVariants.{Offer, Take, Find, Next, Heard, Up as UpEvent, Down as DownEvent, DownBlind, NoAnswer, Timed, Restore, Redeclare, BackTimeout}
+use Rattle.set_events.specs.declared.event.Event.TheVariants.{Offer, Take, Find, Next, Heard, Up as UpEvent, Down as DownEvent, DownBlind, NoAnswer, Timed, Restore, Redeclare, BackTimeout, Test}
 use Rattle.set_model.specs.Sound.{IsSound}
 use Rattle.set_model.specs.State.{State, Settings, is_up, is_settled, link_is_settled, link_count, has_phase_settled, opened_with, settings_of}
 use Rattle.set_model.specs.Step.{Outcome as SetOutcome, step}
@@ -34,7 +34,7 @@ use Rattle.pair_model.proofs.Runs.{seen, Holds, Goes, step_goes, is_at_up, both_
 use Rattle.pair_changeover.proofs.Overtaken.{sends_next}
 use Rattle.pair_changeover.proofs.Arriving.{rises_at}
 use Rattle.pair_changeover.proofs.Counted.{Counts, counts_back, counts_kept, counts_risen, heard_counts}
-use Rattle.pair_changeover.proofs.Keeping.{Keeps as EventKeeps, keeps_still, offer_kept, take_kept, find_kept, down_kept, blind_kept, restore_kept, redeclare_kept}
+use Rattle.pair_changeover.proofs.Keeping.{Keeps as EventKeeps, keeps_still, offer_kept, take_kept, find_kept, down_kept, blind_kept, restore_kept, redeclare_kept, test_kept}
 use Rattle.pair_changeover.proofs.Ordered.{sends_keep}
 use Rattle.pair_changeover.proofs.Runs.{none_counted}
 use Rattle.pair_changeover.proofs.Texts.{AreCodes}
@@ -59,6 +59,7 @@ event_kept s f end (Timed k) sound codes own safe = absurd safe
 event_kept s f end (Restore k) sound codes own safe = restore_kept k s f sound
 event_kept s f end (Redeclare k) sound codes own safe = redeclare_kept k s f sound
 event_kept s f end (BackTimeout k) sound codes own safe = absurd safe
+event_kept s f end (Test k) sound codes own safe = test_kept k s f
 
 -- a sent unit changes no end
 abbrev pub CountsIn : World → Type 0

@@ -18,7 +18,7 @@ use Rattle.set_events.specs.declared.answer.Refusal.{Refusal as SetRefusal}
 use Rattle.set_events.specs.declared.answer.Refusal.TheVariants.{NotUp, Nothing}
 use Rattle.set_events.specs.declared.answer.Took.{Took}
 use Rattle.set_events.specs.declared.event.Event.{Event}
-use Rattle.set_events.specs.declared.event.Event.TheVariants.{Offer, Take, Find, Next, Heard, Up as UpEvent, Down as DownEvent, DownBlind, NoAnswer, Timed, Restore, Redeclare, BackTimeout}
+use Rattle.set_events.specs.declared.event.Event.TheVariants.{Offer, Take, Find, Next, Heard, Up as UpEvent, Down as DownEvent, DownBlind, NoAnswer, Timed, Restore, Redeclare, BackTimeout, Test}
 use Rattle.set_events.specs.declared.history.Entry.{Entry}
 use Rattle.set_route.specs.declared.place.Code.{Code}
 use Rattle.set_route.specs.declared.place.Code.TheVariants.{Free, Asked, Spent}
@@ -239,6 +239,7 @@ event_passes s (Timed n) = on_passes s (Timed n) n (λ link. times_out n s link 
 event_passes s (Restore n) = in_passes s (Restore n) n (λ link. comes_back n s) (λ link. come_passes s (Restore n) n)
 event_passes s (Redeclare n) = on_passes s (Redeclare n) n (λ link. redeclares n s) (λ link. redeclare_passes s (Redeclare n) n)
 event_passes s (BackTimeout n) = on_passes s (BackTimeout n) n (λ link. runs_out n s) (λ link. run_passes s (BackTimeout n) n)
+event_passes s (Test n) = in_passes s (Test n) n (λ link. refused s Nothing) (λ link. append-nil s.inbox)
 
 -- A WHOLE HISTORY, from any state
 history_passes : (s : State) (entries : List Entry) → IsLegal s entries → s.inbox ++ delivered_in entries ≡ handed_in entries ++ (after s entries).inbox

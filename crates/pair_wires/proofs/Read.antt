@@ -118,6 +118,7 @@ module _ (past : Past) (history : List Entry) (who : Actor) (stream : ℕ) (kept
   event_kept (Event.Restore link) answer = none_more (Event.Restore link) answer refl
   event_kept (Event.Redeclare link) answer = none_more (Event.Redeclare link) answer refl
   event_kept (Event.BackTimeout link) answer = none_more (Event.BackTimeout link) answer refl
+  event_kept (Event.Test link) answer = none_more (Event.Test link) answer refl
 
 pub offers_kept : OffersAreKept
 offers_kept past history who event answer kept stream = event_kept past history who stream (kept stream) event answer

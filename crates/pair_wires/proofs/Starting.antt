@@ -313,6 +313,7 @@ asked_no Event.Take m sound = tt
 asked_no (Event.Find number) m sound = tt
 asked_no (Event.Restore link) m sound = tt
 asked_no (Event.Redeclare link) m sound = tt
+asked_no (Event.Test link) m sound = tt
 asked_no (Event.Next link) m sound = absurd sound
 asked_no (Event.Heard link unit) m sound = absurd sound
 asked_no (Event.Up link) m sound = absurd sound

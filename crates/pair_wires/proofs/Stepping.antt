@@ -14,7 +14,7 @@ use Rattle.set_events.specs.declared.event.Event.{Event}
 use Rattle.set_events.specs.declared.history.Entry.{Entry}
 use Rattle.set_model.specs.History.{Base, LinkSet, entries_in, longest_history}
 use Rattle.set_model.specs.State.{LinkState, State, has_phase_up}
-use Rattle.set_model.specs.Step.{NotUp, comes_back, redeclares, refused, step, with_known}
+use Rattle.set_model.specs.Step.{NotUp, Nothing, comes_back, redeclares, refused, step, with_known}
 use Rattle.set_model.proofs.Lists.{get_set_other, get_set_same, within}
 use Rattle.set_model.proofs.Walk.{link_count_stays, step_is}
 use Rattle.set_octets.specs.Lives.{GoesOn, IsNoUp}
@@ -306,6 +306,14 @@ module _ (a b : SetConfig) (end : End) (full : LinkSet) (far : LinkSet) (w : Goi
       (λ past. ap (λ (e : Event). (past_asked e (Answered entry.answer) past).offered) event) in
       record { next = k.next; covers = k.covers; same_lines = k.same_lines }
 
+  no_test : (link : ℕ) → entry.event ≡ Event.Test link → slice_get full.state.links link ≡ None → entry.answer ≡ (step full.state entry.event).answer → AsksOn
+  no_test link event none answer_is =
+      let o = ap (λ (e : Event). step full.state e) event ∙ step_is full.state (Event.Test link)
+      ∙ ap (λ (found : Option LinkState). with_known found full.state (λ at. if has_phase_up at.phase then refused full.state Nothing else refused full.state NotUp)) none in
+      let k = vain_keeps a b end far 0 full w entry answer_is (ap (λ x. x.state) o) (ap handed_by (answer_is ∙ ap (λ x. x.answer) o))
+      (λ past. ap (λ (e : Event). (past_asked e (Answered entry.answer) past).offered) event) in
+      record { next = k.next; covers = k.covers; same_lines = k.same_lines }
+
   pub asks_on : IsSoundEvent entry.event → entry.answer ≡ (step full.state entry.event).answer → is_full full ≡ false → AsksOn
   asks_on sound answer_is room = go entry.event refl sound
     where
@@ -329,6 +337,14 @@ module _ (a b : SetConfig) (end : End) (full : LinkSet) (far : LinkSet) (w : Goi
               acts_so answer_is (ap has_own_step e)
               (ap (λ (x : Event). has_actor w.g.stage.world (actor_of x)) e ∙ known_link a b end far link full w (within full.state.links link at there))
               (subst (λ (x : Event). IsPlainMove false (MoveStep (Act end x))) (sym e) tt) room
+      go (Event.Test link) e s = by (slice_get full.state.links link) refl
+        where
+          by : (found : Option LinkState) → slice_get full.state.links link ≡ found → AsksOn
+          by None none = no_test link e none answer_is
+          by (Some at) there =
+              acts_so answer_is (ap has_own_step e)
+              (ap (λ (x : Event). has_actor w.g.stage.world (actor_of x)) e ∙ known_link a b end far link full w (within full.state.links link at there))
+              (subst (λ (x : Event). IsPlainMove false (MoveStep (Act end x))) (sym e) tt) room
       go (Event.Next link) e s = absurd s
       go (Event.Heard link unit) e s = absurd s
       go (Event.Up link) e s = absurd s
@@ -344,6 +360,7 @@ no_up Event.Take m s = (tt, tt)
 no_up (Event.Find number) m s = (tt, tt)
 no_up (Event.Restore link) m s = (tt, tt)
 no_up (Event.Redeclare link) m s = (tt, tt)
+no_up (Event.Test link) m s = (tt, tt)
 no_up (Event.Next link) m s = absurd s
 no_up (Event.Heard link unit) m s = absurd s
 no_up (Event.Up link) m s = absurd s

@@ -296,6 +296,7 @@ impl<G: Allocator + Copy> World<G> {
             | EventRef::Timed { link }
             | EventRef::Restore { link }
             | EventRef::Redeclare { link }
+            | EventRef::Test { link }
             | EventRef::BackTimeout { link } => self.terminal_of(*link),
         }
     }

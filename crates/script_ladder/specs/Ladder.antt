@@ -11,7 +11,7 @@ use Rattle.l2_units.specs.Profile.{fsn_count}
 use Rattle.l3_orders.specs.Grammar.{order_of}
 use Rattle.text_units.specs.Decoding.{order_words}
 use Rattle.set_events.specs.declared.event.Event.{Event}
-use Rattle.set_events.specs.declared.event.Event.TheVariants.{Offer, Take, Find, Next, Heard as HeardEvent, Up as UpEvent, Down, DownBlind, NoAnswer, Timed, Restore, Redeclare, BackTimeout}
+use Rattle.set_events.specs.declared.event.Event.TheVariants.{Offer, Take, Find, Next, Heard as HeardEvent, Up as UpEvent, Down, DownBlind, NoAnswer, Timed, Restore, Redeclare, BackTimeout, Test}
 use Rattle.set_events.specs.declared.answer.Answer.TheVariants.{Accepted, Taken, Found, Sent, Heard, Done, Refused}
 use Rattle.set_events.specs.declared.answer.Counts.{Counts}
 use Rattle.set_events.specs.declared.answer.Report.{Report}
@@ -301,6 +301,7 @@ done_words (Timed link) = link_words [] link (codes " settled: order not sent")
 done_words (Restore link) = link_words (codes "streams asked back to ") link []
 done_words (Redeclare link) = link_words (codes "asked back again to ") link []
 done_words (BackTimeout link) = link_words (codes "no answer about ") link []
+done_words (Test link) = link_words (codes "test of ") link []
 done_words (Offer body) = codes "done"
 done_words Take = codes "done"
 done_words (Find number) = codes "done"
@@ -334,6 +335,7 @@ answer_words p (Timed link) shown = plain p shown
 answer_words p (Restore link) shown = plain p shown
 answer_words p (Redeclare link) shown = plain p shown
 answer_words p (BackTimeout link) shown = plain p shown
+answer_words p (Test link) shown = plain p shown
 answer_words p Take shown = plain p shown
 answer_words p (Find number) shown = plain p shown
 answer_words p (Next link) shown = plain p shown
@@ -456,6 +458,7 @@ given_up (Timed link) = Some link
 given_up (Restore link) = None
 given_up (Redeclare link) = None
 given_up (BackTimeout link) = None
+given_up (Test link) = None
 given_up (Offer body) = None
 given_up Take = None
 given_up (Find number) = None

@@ -155,6 +155,7 @@ fn write_done(alloc: Global, event: &Event) -> Result<Vec<u8>, AllocError>
         Event::Restore { link } => write_link(alloc, "streams asked back to ", *link, ""),
         Event::Redeclare { link } => write_link(alloc, "asked back again to ", *link, ""),
         Event::BackTimeout { link } => write_link(alloc, "no answer about ", *link, ""),
+        Event::Test { link } => write_link(alloc, "test of ", *link, ""),
         _ => Vec::from_slice(alloc, b"done"),
     }
 }

@@ -20,7 +20,7 @@ use Rattle.pair_rises.specs.declared.moves.Move.TheVariants.{Step as MoveStep, R
 use Rattle.pair_rises.specs.Rises.{comes_up, fills_line, idle_at, is_first, moved, risen_so}
 use Rattle.text_forms.specs.declared.at_link.AtLink.{AtLink}
 use Rattle.text_forms.specs.declared.at_link.AtLink.TheVariants.{Emit as Emitting, Arrive as Arriving, Rise as Rising, Fill as Filling, Event as Telling}
-use Rattle.text_forms.specs.declared.at_link.LinkEvent.TheVariants.{Down as TellsDown, Blind as TellsBlind, NoAnswer as TellsNoAnswer, Timed as TellsTimed, Restore as TellsRestore, Redeclare as TellsRedeclare, BackTimeout as TellsBackTimeout}
+use Rattle.text_forms.specs.declared.at_link.LinkEvent.TheVariants.{Down as TellsDown, Blind as TellsBlind, NoAnswer as TellsNoAnswer, Timed as TellsTimed, Restore as TellsRestore, Redeclare as TellsRedeclare, BackTimeout as TellsBackTimeout, Test as TellsTest}
 use Rattle.text_forms.specs.declared.mistake.Mistake.{Mistake}
 use Rattle.text_forms.specs.declared.mistake.Mistake.TheVariants.{NoSuchLink, NotSettled, NotSettledThere, NothingUnderWay, NoUnitThere, TogetherWants, OfferWants, TakeWants, FindWants, OnLinkWants, LoseWants, HearWants}
 use Rattle.text_forms.specs.Impossible.{why_not}
@@ -57,6 +57,7 @@ on_plain (Telling TellsTimed) end link = refl
 on_plain (Telling TellsRestore) end link = refl
 on_plain (Telling TellsRedeclare) end link = refl
 on_plain (Telling TellsBackTimeout) end link = refl
+on_plain (Telling TellsTest) end link = refl
 
 module _ (move : Move) where
   together_plain : (rest : Rest) → together rest ≡ Ok move → IsPlainMove move

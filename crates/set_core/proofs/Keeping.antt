@@ -13,7 +13,7 @@ use Rattle.set_events.specs.declared.answer.Counts.{Counts}
 use Rattle.set_events.specs.declared.event.Actor.{Actor}
 use Rattle.set_events.specs.declared.event.Actor.TheVariants.{User, Terminal}
 use Rattle.set_events.specs.declared.event.Event.{Event}
-use Rattle.set_events.specs.declared.event.Event.TheVariants.{Offer, Take, Find, Next, Heard, Up, Down, DownBlind, NoAnswer, Timed, Restore, Redeclare, BackTimeout}
+use Rattle.set_events.specs.declared.event.Event.TheVariants.{Offer, Take, Find, Next, Heard, Up, Down, DownBlind, NoAnswer, Timed, Restore, Redeclare, BackTimeout, Test}
 use Rattle.set_events.specs.declared.history.Entry.{Entry}
 use Rattle.set_core.specs.declared.tally.Tally.{Tally}
 use Rattle.set_events.specs.declared.config.SetConfig.{SetConfig}
@@ -134,6 +134,7 @@ tells_accept_none s link (Timed n) own = accepts_none s (Timed n) refl
 tells_accept_none s link (Restore n) own = accepts_none s (Restore n) refl
 tells_accept_none s link (Redeclare n) own = accepts_none s (Redeclare n) refl
 tells_accept_none s link (BackTimeout n) own = accepts_none s (BackTimeout n) refl
+tells_accept_none s link (Test n) own = accepts_none s (Test n) refl
 
 -- The counts: the rows', and those of what left them.
 abbrev given_up : FinishedCounts → ℕ

@@ -6,7 +6,7 @@ use Rattle.l2_units.specs.declared.unit.Unit.TheVariants.{Fisu, Msu}
 use Rattle.set_events.specs.declared.answer.Answer.{Answer}
 use Rattle.set_events.specs.declared.event.Event.{Event}
 use Rattle.set_events.specs.declared.lent.EventRef.{EventRef}
-use Rattle.set_events.specs.declared.lent.EventRef.TheVariants.{Offer as LentOffer, Take as LentTake, Find as LentFind, Next as LentNext, Heard as LentUnit, Up as LentUp, Down as LentDown, DownBlind as LentDownBlind, NoAnswer as LentNoAnswer, Timed as LentTimed, Restore as LentRestore, Redeclare as LentRedeclare, BackTimeout as LentBackTimeout}
+use Rattle.set_events.specs.declared.lent.EventRef.TheVariants.{Offer as LentOffer, Take as LentTake, Find as LentFind, Next as LentNext, Heard as LentUnit, Up as LentUp, Down as LentDown, DownBlind as LentDownBlind, NoAnswer as LentNoAnswer, Timed as LentTimed, Restore as LentRestore, Redeclare as LentRedeclare, BackTimeout as LentBackTimeout, Test as LentTest}
 use Rattle.set_events.specs.declared.lent.AnswerRef.{AnswerRef}
 use Rattle.set_events.specs.declared.lent.AnswerRef.TheVariants.{Accepted as LentAccepted, Taken as LentTaken, Found as LentFound, Sent as LentSent, Heard as LentHeard, Done as LentDone, Refused as LentRefused}
 use Rattle.set_events.specs.declared.reply.Said.{Said}
@@ -27,6 +27,7 @@ event_in (LentTimed link) = Event.Timed link
 event_in (LentRestore link) = Event.Restore link
 event_in (LentRedeclare link) = Event.Redeclare link
 event_in (LentBackTimeout link) = Event.BackTimeout link
+event_in (LentTest link) = Event.Test link
 
 -- the octets of its body; there may be none
 abbrev pub octets_in : EventRef → List ℕ

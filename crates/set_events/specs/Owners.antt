@@ -3,7 +3,7 @@ use Rattle.std.specs.Prelude.{◌≡◌}
 use Rattle.set_events.specs.declared.event.Actor.{Actor}
 use Rattle.set_events.specs.declared.event.Actor.TheVariants.{User, Terminal}
 use Rattle.set_events.specs.declared.event.Event.{Event}
-use Rattle.set_events.specs.declared.event.Event.TheVariants.{Offer, Take, Find, Next, Heard, Up, Down, DownBlind, NoAnswer, Timed, Restore, Redeclare, BackTimeout}
+use Rattle.set_events.specs.declared.event.Event.TheVariants.{Offer, Take, Find, Next, Heard, Up, Down, DownBlind, NoAnswer, Timed, Restore, Redeclare, BackTimeout, Test}
 
 -- WHOSE AN EVENT IS: a user offers, takes and finds; a terminal asks and tells of its own link.
 abbrev pub IsOwn : Actor → Event → Type 0
@@ -20,4 +20,5 @@ IsOwn (Terminal number) (Timed link) = link ≡ number
 IsOwn (Terminal number) (Restore link) = link ≡ number
 IsOwn (Terminal number) (Redeclare link) = link ≡ number
 IsOwn (Terminal number) (BackTimeout link) = link ≡ number
+IsOwn (Terminal number) (Test link) = link ≡ number
 IsOwn _ _ = ⊥

@@ -52,6 +52,8 @@ pub enum Event {
     Redeclare { link: u8 },
     /// The far end didn't acknowledge the changeback to this link (own).
     BackTimeout { link: u8 },
+    /// A link test of this link is to begin (Q.707 2.2).
+    Test { link: u8 },
 }
 
 impl Event {
@@ -78,6 +80,7 @@ impl Event {
             Event::Restore { link } => Ok(Event::Restore { link: *link }),
             Event::Redeclare { link } => Ok(Event::Redeclare { link: *link }),
             Event::BackTimeout { link } => Ok(Event::BackTimeout { link: *link }),
+            Event::Test { link } => Ok(Event::Test { link: *link }),
         }
     }
 
@@ -101,6 +104,7 @@ impl Event {
             (Event::Restore { link: a }, Event::Restore { link: b }) => *a == *b,
             (Event::Redeclare { link: a }, Event::Redeclare { link: b }) => *a == *b,
             (Event::BackTimeout { link: a }, Event::BackTimeout { link: b }) => *a == *b,
+            (Event::Test { link: a }, Event::Test { link: b }) => *a == *b,
             _ => false,
         }
     }

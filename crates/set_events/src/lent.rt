@@ -26,6 +26,7 @@ pub enum EventRef<'a> {
     Restore { link: u8 },
     Redeclare { link: u8 },
     BackTimeout { link: u8 },
+    Test { link: u8 },
 }
 
 impl<'a> EventRef<'a> {
@@ -53,6 +54,7 @@ impl<'a> EventRef<'a> {
             Event::Restore { link } => EventRef::Restore { link: *link },
             Event::Redeclare { link } => EventRef::Redeclare { link: *link },
             Event::BackTimeout { link } => EventRef::BackTimeout { link: *link },
+            Event::Test { link } => EventRef::Test { link: *link },
         }
     }
 
@@ -81,6 +83,7 @@ impl<'a> EventRef<'a> {
             EventRef::Restore { link } => Ok(Event::Restore { link: *link }),
             EventRef::Redeclare { link } => Ok(Event::Redeclare { link: *link }),
             EventRef::BackTimeout { link } => Ok(Event::BackTimeout { link: *link }),
+            EventRef::Test { link } => Ok(Event::Test { link: *link }),
         }
     }
 
@@ -115,6 +118,7 @@ impl<'a> EventRef<'a> {
             (EventRef::Restore { link: a }, EventRef::Restore { link: b }) => *a == *b,
             (EventRef::Redeclare { link: a }, EventRef::Redeclare { link: b }) => *a == *b,
             (EventRef::BackTimeout { link: a }, EventRef::BackTimeout { link: b }) => *a == *b,
+            (EventRef::Test { link: a }, EventRef::Test { link: b }) => *a == *b,
             _ => false,
         }
     }

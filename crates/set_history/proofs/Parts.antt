@@ -18,7 +18,7 @@ use Rattle.set_events.specs.declared.answer.Report.{Report}
 use Rattle.set_events.specs.declared.event.Actor.{Actor}
 use Rattle.set_events.specs.declared.event.Actor.TheVariants.{User, Terminal}
 use Rattle.set_events.specs.declared.event.Event.{Event}
-use Rattle.set_events.specs.declared.event.Event.TheVariants.{Offer, Take, Find, Next, Heard, Up, Down, DownBlind, NoAnswer, Timed, Restore, Redeclare, BackTimeout}
+use Rattle.set_events.specs.declared.event.Event.TheVariants.{Offer, Take, Find, Next, Heard, Up, Down, DownBlind, NoAnswer, Timed, Restore, Redeclare, BackTimeout, Test}
 use Rattle.set_events.specs.declared.history.Entry.{Entry}
 use Rattle.set_history.specs.Forms.{event_form, answer_form, actor_form, form_octet, unit_form, fate_number, fate_told, report_number, report_told}
 use Rattle.set_history.specs.Told.{word, unit_as, behind_unit_as, unit, behind_unit, who_at, behind_who_at, event_told, behind_event, answer_told, behind_answer, entry_as, behind_entry_as, entry_told, behind_entry}
@@ -112,6 +112,7 @@ event_back (Timed link) rest h = refl
 event_back (Restore link) rest h = refl
 event_back (Redeclare link) rest h = refl
 event_back (BackTimeout link) rest h = refl
+event_back (Test link) rest h = refl
 
 behind_event_back : (event : Event) (rest : List ℕ) → IsEventKept event → behind_event (event_form event) (event_text event ++ rest) ≡ rest
 behind_event_back (Offer body) rest h = behind_body_back (2 ^ 64) body rest h (omega (arith, h))
@@ -127,6 +128,7 @@ behind_event_back (Timed link) rest h = refl
 behind_event_back (Restore link) rest h = refl
 behind_event_back (Redeclare link) rest h = refl
 behind_event_back (BackTimeout link) rest h = refl
+behind_event_back (Test link) rest h = refl
 
 -- what was answered
 answer_back : (answer : Answer) (rest : List ℕ) → IsAnswerKept answer → answer_told (answer_form answer) (answer_text answer ++ rest) ≡ answer
@@ -166,6 +168,7 @@ event_few (Timed link) = omega arith
 event_few (Restore link) = omega arith
 event_few (Redeclare link) = omega arith
 event_few (BackTimeout link) = omega arith
+event_few (Test link) = omega arith
 
 answer_few : (answer : Answer) → answer_form answer < 8
 answer_few (Accepted number) = omega arith

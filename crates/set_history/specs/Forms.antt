@@ -16,7 +16,7 @@ use Rattle.set_events.specs.declared.answer.Took.{Took}
 use Rattle.set_events.specs.declared.event.Actor.{Actor}
 use Rattle.set_events.specs.declared.event.Actor.TheVariants.{User, Terminal}
 use Rattle.set_events.specs.declared.event.Event.{Event}
-use Rattle.set_events.specs.declared.event.Event.TheVariants.{Offer, Take, Find, Next, Heard, Up, Down, DownBlind, NoAnswer, Timed, Restore, Redeclare, BackTimeout}
+use Rattle.set_events.specs.declared.event.Event.TheVariants.{Offer, Take, Find, Next, Heard, Up, Down, DownBlind, NoAnswer, Timed, Restore, Redeclare, BackTimeout, Test}
 
 -- what was asked
 abbrev pub event_form : Event → ℕ
@@ -33,6 +33,7 @@ event_form (Restore link) = 9
 event_form (BackTimeout link) = 10
 event_form (Timed link) = 11
 event_form (Redeclare link) = 12
+event_form (Test link) = 13
 
 -- what was answered
 abbrev pub answer_form : Answer → ℕ

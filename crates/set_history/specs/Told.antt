@@ -10,7 +10,7 @@ use Rattle.set_events.specs.declared.answer.Answer.TheVariants.{Accepted, Taken,
 use Rattle.set_events.specs.declared.event.Actor.{Actor}
 use Rattle.set_events.specs.declared.event.Actor.TheVariants.{User, Terminal}
 use Rattle.set_events.specs.declared.event.Event.{Event}
-use Rattle.set_events.specs.declared.event.Event.TheVariants.{Offer, Take, Find, Next, Heard, Up, Down, DownBlind, NoAnswer, Timed, Restore, Redeclare, BackTimeout}
+use Rattle.set_events.specs.declared.event.Event.TheVariants.{Offer, Take, Find, Next, Heard, Up, Down, DownBlind, NoAnswer, Timed, Restore, Redeclare, BackTimeout, Test}
 use Rattle.set_events.specs.declared.history.Entry.{Entry}
 use Rattle.set_history.specs.Forms.{fate_told, report_told, refusal_told}
 use Rattle.set_history.specs.Written.{history_text, AreAllKept}
@@ -90,7 +90,8 @@ event_told form octets =
     if form == 8 then NoAnswer (octet octets) else
     if form == 9 then Restore (octet octets) else
     if form == 10 then BackTimeout (octet octets) else
-    if form == 11 then Timed (octet octets) else Redeclare (octet octets)
+    if form == 11 then Timed (octet octets) else
+    if form == 12 then Redeclare (octet octets) else Test (octet octets)
 
 abbrev pub behind_event : ℕ → List ℕ → List ℕ
 behind_event form octets =

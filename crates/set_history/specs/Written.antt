@@ -12,7 +12,7 @@ use Rattle.set_events.specs.declared.answer.Fate.TheVariants.{Waiting, Unacked, 
 use Rattle.set_events.specs.declared.event.Actor.{Actor}
 use Rattle.set_events.specs.declared.event.Actor.TheVariants.{User, Terminal}
 use Rattle.set_events.specs.declared.event.Event.{Event}
-use Rattle.set_events.specs.declared.event.Event.TheVariants.{Offer, Take, Find, Next, Heard, Up, Down, DownBlind, NoAnswer, Timed, Restore, Redeclare, BackTimeout}
+use Rattle.set_events.specs.declared.event.Event.TheVariants.{Offer, Take, Find, Next, Heard, Up, Down, DownBlind, NoAnswer, Timed, Restore, Redeclare, BackTimeout, Test}
 use Rattle.set_events.specs.declared.history.Entry.{Entry}
 use Rattle.set_history.specs.Forms.{form_octet, unit_form, fate_number, report_number}
 
@@ -59,6 +59,7 @@ event_text (Timed link) = link ∷ []
 event_text (Restore link) = link ∷ []
 event_text (Redeclare link) = link ∷ []
 event_text (BackTimeout link) = link ∷ []
+event_text (Test link) = link ∷ []
 
 abbrev pub answer_text : Answer → List ℕ
 answer_text (Accepted number) = number_text number

@@ -9,10 +9,10 @@ ghost use Rattle.set_history.specs.Forms.{fate_told, cause_told, report_told, to
 use l2_units::ControlFault;
 use set_events::{AnswerRef, DiscardCause, EventRef, Fate, Refusal, Report, Took};
 
-/// The number of what was asked, 0 to 12.
+/// The number of what was asked, 0 to 13.
 pub(crate) fn event_form(event: &EventRef<'_>) -> u8
     ensures value { result ≡ form_of_event (event_in event.now) }
-    ensures few { result < 13 }
+    ensures few { result < 14 }
 {
     match event {
         EventRef::Offer { .. } => 0,
@@ -28,6 +28,7 @@ pub(crate) fn event_form(event: &EventRef<'_>) -> u8
         EventRef::BackTimeout { .. } => 10,
         EventRef::Timed { .. } => 11,
         EventRef::Redeclare { .. } => 12,
+        EventRef::Test { .. } => 13,
     }
 }
 

@@ -80,7 +80,8 @@ impl<'a> Octets<'a> {
             9 => EventRef::Restore { link: self.octet() },
             10 => EventRef::BackTimeout { link: self.octet() },
             11 => EventRef::Timed { link: self.octet() },
-            _ => EventRef::Redeclare { link: self.octet() },
+            12 => EventRef::Redeclare { link: self.octet() },
+            _ => EventRef::Test { link: self.octet() },
         }
     }
 

@@ -82,7 +82,8 @@ fn put_event<A: Allocator>(octets: &mut Vec<u8, A>, event: &EventRef<'_>)
         | EventRef::Timed { link }
         | EventRef::Restore { link }
         | EventRef::Redeclare { link }
-        | EventRef::BackTimeout { link } => octets.push_reserved(*link),
+        | EventRef::BackTimeout { link }
+        | EventRef::Test { link } => octets.push_reserved(*link),
     }
 }
 

@@ -26,8 +26,8 @@ BringsBackTo profile number (Msu head body) =
 BringsBackTo profile number _ = ⊥
 
 -- its own link, that of an order which its unit brings, the home of the code that it acknowledges, the one on which the
--- stream of an offered message runs, or for which the order waits that is taken back; Take, Find, Restore and
--- Redeclare concern none
+-- stream of an offered message runs, or for which the order waits that is taken back; Take, Find, Restore, Redeclare
+-- and Test concern none
 abbrev pub Concerns : Event → ℕ → State → Type 0
 Concerns (Offer body) number s = place_of (stream_of body) s.routing ≡ On number
 Concerns (Next link) number s = link ≡ number

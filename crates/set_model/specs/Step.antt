@@ -15,7 +15,7 @@ pub use Rattle.set_events.specs.declared.answer.Refusal.TheVariants.{TooShort, T
 pub use Rattle.set_events.specs.declared.answer.Answer.{Answer}
 pub use Rattle.set_events.specs.declared.answer.Answer.TheVariants.{Accepted, Taken, Found, Sent, Heard as HeardBack, Done, Refused}
 pub use Rattle.set_events.specs.declared.event.Event.{Event}
-pub use Rattle.set_events.specs.declared.event.Event.TheVariants.{Offer, Take, Find, Next, Heard, Up as UpEvent, Down as DownEvent, DownBlind, NoAnswer, Timed, Restore, Redeclare, BackTimeout}
+pub use Rattle.set_events.specs.declared.event.Event.TheVariants.{Offer, Take, Find, Next, Heard, Up as UpEvent, Down as DownEvent, DownBlind, NoAnswer, Timed, Restore, Redeclare, BackTimeout, Test}
 use Rattle.set_route.specs.Routing.{place_of, code_for, accepted, raised}
 use Rattle.set_model.specs.Rows.{Fate, Waiting, Parked, Unacked, Acked, Row, all_with, unack, wait, is_unacked, is_waiting, is_parked, octets_in, unsent, stream_of, service_indicator, turned, moved, appended, place, counts_of, total_of}
 use Rattle.set_model.specs.State.{Phase, Up, Down, Settled, LinkState, State, given, with_link, link_count, late_at, has_phase_up, fate_at, window_of}
@@ -257,6 +257,7 @@ stepped s (Timed link) = on_link link s (λ state. times_out link s state state.
 stepped s (Restore link) = in_service link s (λ state. comes_back link s)
 stepped s (Redeclare link) = on_link link s (λ state. redeclares link s)
 stepped s (BackTimeout link) = on_link link s (λ state. runs_out link s)
+stepped s (Test link) = in_service link s (λ state. refused s Nothing)
 
 -- THE STEP. Its name is sealed, since a goal that names an event would compute all that the event does.
 unfoldable pub step : State → Event → Outcome

@@ -402,6 +402,7 @@ module _ (s : State) (sound : IsSound s) (settings : IsSettings s.settings) (h :
   step_holds (Event.Restore n) asked = in_holds n s (λ link. comes_back n s) h (λ link there. restores_hold n s (omega (arith, within s.links n link there, few)) few h)
   step_holds (Event.Redeclare n) asked = on_holds n s (λ link. redeclares n s) h (λ link there. redeclares_hold n s (omega (arith, within s.links n link there, few)) h)
   step_holds (Event.BackTimeout n) asked = on_holds n s (λ link. runs_out n s) h (λ link there. runs_out_holds n s h)
+  step_holds (Event.Test n) asked = in_holds n s (λ link. refused s Nothing) h (λ link there. h)
 
 -- THE UNIT THAT IS GIVEN.
 each_at : (rows : List Row) (n : ℕ) (row : Row) → AreBodies rows → slice_get rows n ≡ Some row → IsBody row.body

@@ -3,7 +3,7 @@
 use Rattle.std.specs.Prelude.{◌≡◌, ℕ, Bool, true, false}
 use Rattle.set_model.specs.Checkpoint.{counts_in}
 use Rattle.set_model.specs.State.{State, is_settled, late_at}
-use Rattle.set_model.specs.Step.{Accepted, Answer, BackTimeout, Done, DownBlind, DownEvent, Event, Find, Finished, Found, Heard, HeardBack, Next, NoAnswer, Timed, NoSuchLink, NotDown, NotUp, Nothing, Offer, Refused, Reserved, Redeclare, Restore, Sent, SetRefusal, StreamFull, Take, Taken, TooLong, TooShort, UnknownNumber, Unsettled, UpEvent}
+use Rattle.set_model.specs.Step.{Accepted, Answer, BackTimeout, Done, DownBlind, DownEvent, Event, Find, Finished, Found, Heard, HeardBack, Next, NoAnswer, Timed, NoSuchLink, NotDown, NotUp, Nothing, Offer, Refused, Reserved, Redeclare, Restore, Sent, SetRefusal, StreamFull, Take, Taken, Test, TooLong, TooShort, UnknownNumber, Unsettled, UpEvent}
 use Rattle.set_shared.specs.declared.link_set.LinkNow.{LinkNow}
 
 -- in such a state the link stands so, and so many messages of users stand in each place
@@ -42,6 +42,9 @@ may_refuse (Redeclare link) NoSuchLink = true
 may_refuse (Redeclare link) Nothing = true
 may_refuse (BackTimeout link) NoSuchLink = true
 may_refuse (BackTimeout link) Nothing = true
+may_refuse (Test link) NoSuchLink = true
+may_refuse (Test link) NotUp = true
+may_refuse (Test link) Nothing = true
 may_refuse event why = false
 
 -- THE ANSWERS that an event can have

@@ -1,7 +1,7 @@
 //! What an event does to a set. Each function is a case of the set's step.
 ghost use Rattle.std.specs.Prelude.{◌≡◌, ◌^◌, true, IsOk, OnOk, OnErr};
 ghost use Rattle.set_events.specs.Lent.{event_in};
-ghost use Rattle.set_model.specs.Step.{on_link, in_service, rises, falls, gives_up, times_out};
+ghost use Rattle.set_model.specs.Step.{Nothing, on_link, in_service, refused, rises, falls, gives_up, times_out};
 ghost use Rattle.set_changeover.specs.Agreement.{Holds};
 ghost use Rattle.set_step.specs.Answering.{wants_none, stepped_by};
 ghost use Rattle.set_changeover.specs.Parts.{Answers, AreCounted, kept_of};
@@ -59,6 +59,21 @@ pub(crate) fn take_step<A: Allocator + Copy>(
         EventRef::Restore { link } => restore(parts, *link, reply),
         EventRef::Redeclare { link } => redeclare(parts, *link, reply),
         EventRef::BackTimeout { link } => time_out(parts, *link, reply),
+        EventRef::Test { link } => {
+            refuse_test(parts, *link, reply);
+            Ok(())
+        }
+    }
+}
+
+/// No test begins: the link isn't up, or its set has no tests (Q.707 2.2).
+fn refuse_test<A: Allocator + Copy>(parts: &Parts<A>, number: u8, reply: &mut Reply)
+    ensures { Answers parts.now parts.now reply.new
+        (λ s. in_service number s (λ link. refused s Nothing)) }
+{
+    match unserved(parts, number) {
+        Some(why) => reply.set_refused(why),
+        None => reply.set_refused(Refusal::Nothing),
     }
 }
 

@@ -100,6 +100,7 @@ pub(crate) enum Call {
     Restore(u8),
     Redeclare(u8),
     BackTimeout(u8),
+    Test(u8),
 }
 
 fn event_of(call: Call) -> Event {
@@ -112,6 +113,7 @@ fn event_of(call: Call) -> Event {
         Call::Restore(link) => Event::Restore { link },
         Call::Redeclare(link) => Event::Redeclare { link },
         Call::BackTimeout(link) => Event::BackTimeout { link },
+        Call::Test(link) => Event::Test { link },
     }
 }
 

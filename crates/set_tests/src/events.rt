@@ -61,7 +61,8 @@ fn each_event_is_copied() -> Result<(), Fail> {
             && is_copied(Event::Timed { link: 15 })
             && is_copied(Event::Restore { link: 15 })
             && is_copied(Event::Redeclare { link: 15 })
-            && is_copied(Event::BackTimeout { link: 15 }),
+            && is_copied(Event::BackTimeout { link: 15 })
+            && is_copied(Event::Test { link: 15 }),
     )
 }
 

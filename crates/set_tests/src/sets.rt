@@ -246,6 +246,21 @@ fn refuses_in_order(set: &mut SetCore) -> bool {
         && set.place_of(9).is_none()
 }
 
+/// Of a link that isn't there, isn't up yet, is up, and was left: a set has no tests.
+#[test]
+fn no_set_has_link_tests(rt: HostRuntime) -> Result<(), Fail> {
+    holds(of_set(rt.alloc(), 1, |_alloc, set| refuses_tests(set)))
+}
+
+fn refuses_tests(set: &mut SetCore) -> bool {
+    refuses(set, Call::Test(1), Refusal::NoSuchLink)
+        && refuses(set, Call::Test(0), Refusal::NotUp)
+        && does(set, Call::Up(0))
+        && refuses(set, Call::Test(0), Refusal::Nothing)
+        && does(set, Call::Down(0))
+        && refuses(set, Call::Test(0), Refusal::NotUp)
+}
+
 /// Each allocation fails once: the call answers `NoMemory`, and the set is as it was.
 ///
 /// Run with each allocation failing in turn (tools/refuse-memory); with memory it passes as it is.

@@ -13,7 +13,7 @@ use Rattle.set_events.specs.declared.answer.Fate.{Fate}
 use Rattle.set_events.specs.declared.answer.Refusal.{Refusal as SetRefusal}
 use Rattle.set_events.specs.declared.answer.Took.{Took}
 use Rattle.set_events.specs.declared.event.Event.{Event}
-use Rattle.set_events.specs.declared.event.Event.TheVariants.{Offer, Take, Find, Next, Heard, Up as UpEvent, Down as DownEvent, DownBlind, NoAnswer, Timed, Restore, Redeclare, BackTimeout}
+use Rattle.set_events.specs.declared.event.Event.TheVariants.{Offer, Take, Find, Next, Heard, Up as UpEvent, Down as DownEvent, DownBlind, NoAnswer, Timed, Restore, Redeclare, BackTimeout, Test}
 use Rattle.set_route.specs.Routing.{place_of, code_for, code_of, home_of, can_ask, asked_again}
 use Rattle.set_route.specs.declared.place.Place.{Place}
 use Rattle.set_route.specs.declared.place.Place.TheVariants.{On, Changing, Nowhere}
@@ -559,6 +559,7 @@ module _ (cover : LinkState) (not_up : has_phase_up cover.phase ≡ false) (l : 
   all_alike s (Restore n) o other = service_alike n s (λ t link. comes_back n t) o (λ link d. comes_alike n s o)
   all_alike s (Redeclare n) o other = known_alike (redeclares n) n s o (redeclares_alike n s o)
   all_alike s (BackTimeout n) o other = timeout_alike n s o
+  all_alike s (Test n) o other = service_alike n s (λ t link. refused t SetRefusal.Nothing) o (λ link d. refused_alike s SetRefusal.Nothing)
 
   pub settled_out : (s : State) → is_settled l s ≡ true → IsOut s
   settled_out s e = go (slice_get s.links l) refl

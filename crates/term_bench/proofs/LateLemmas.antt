@@ -10,7 +10,7 @@ use Rattle.set_events.specs.declared.answer.Answer.{Answer}
 use Rattle.set_events.specs.declared.answer.Fate.{Fate}
 use Rattle.set_events.specs.declared.answer.Refusal.{Refusal as SetRefusal}
 use Rattle.set_events.specs.declared.event.Event.{Event}
-use Rattle.set_events.specs.declared.event.Event.TheVariants.{Offer, Take, Find, Next, Heard, Up as UpEvent, Down as DownEvent, DownBlind, NoAnswer, Timed, Restore, Redeclare, BackTimeout}
+use Rattle.set_events.specs.declared.event.Event.TheVariants.{Offer, Take, Find, Next, Heard, Up as UpEvent, Down as DownEvent, DownBlind, NoAnswer, Timed, Restore, Redeclare, BackTimeout, Test}
 use Rattle.set_route.specs.Routing.{code_for, code_of}
 use Rattle.set_route.specs.declared.place.Code.{Code}
 use Rattle.set_route.specs.declared.place.Code.TheVariants.{Free}
@@ -192,6 +192,7 @@ module _ (n : ℕ) where
   late_stays s (Restore k) = service_keeps k s _ (λ link e. comes_keeps k s)
   late_stays s (Redeclare k) = known_keeps k s _ (λ link e. redeclares_keep k s)
   late_stays s (BackTimeout k) = known_keeps k s _ (λ link e. runs_keeps k s)
+  late_stays s (Test k) = service_keeps k s _ (λ link e none. refl)
 
 -- so what was counted stands
 pub counts_stand : (s t : State) (event : Event) (answer : Answer) (counts : List ℕ) → answer ≡ (step s event).answer

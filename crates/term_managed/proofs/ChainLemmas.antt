@@ -105,7 +105,7 @@ carries_alone link Ask.Emergency old a b x y first second =
     tells_alone (is_barred link Command.Emergency old) link Command.Emergency old a b x y first second
 carries_alone link Ask.Stop old a b x y first second =
     tells_alone (is_barred link Command.Stop old) link Command.Stop old a b x y first second
-carries_alone link Ask.Test old a b x y first second = (first.0 ∙ sym second.0, first.1 ∙ sym second.1)
+carries_alone link Ask.Test old a b x y first second = asks_alone link (Event.Test link) old a b x y first second
 carries_alone link Ask.Timed old a b x y first second = asks_alone link (Event.Timed link) old a b x y first second
 carries_alone link Ask.NoAnswer old a b x y first second = asks_alone link (Event.NoAnswer link) old a b x y first second
 carries_alone link Ask.Restore old a b x y first second = asks_alone link (Event.Restore link) old a b x y first second
@@ -206,7 +206,7 @@ carries_there links link (Ask.Rise false) old ready is =
 carries_there links link Ask.Emergency old ready is =
     tells_there links link Command.Emergency (is_barred link Command.Emergency old) old ready is
 carries_there links link Ask.Stop old ready is = tells_there links link Command.Stop (is_barred link Command.Stop old) old ready is
-carries_there links link Ask.Test old ready is = (Some Refusal.Nothing, old, (refl, refl), ready)
+carries_there links link Ask.Test old ready is = asks_there links link (Event.Test link) old ready
 carries_there links link Ask.Timed old ready is = asks_there links link (Event.Timed link) old ready
 carries_there links link Ask.NoAnswer old ready is = asks_there links link (Event.NoAnswer link) old ready
 carries_there links link Ask.Restore old ready is = asks_there links link (Event.Restore link) old ready

@@ -42,8 +42,7 @@ pub record Asks (link : ℕ) (event : Event) (old : BenchState) (refused : Optio
   pub links_are : new.links ≡ old.links
   pub refused_is : refused ≡ refusal_in answer
 
--- WHAT IS ASKED of a link, done or refused (Q.704 5, 6, 12.2): its terminal is commanded, or the set is told an event. A set
--- without link tests refuses a test.
+-- WHAT IS ASKED of a link, done or refused (Q.704 5, 6, 12.2): its terminal is commanded, or the set is told an event.
 abbrev pub CarriesOut : ℕ → Ask → BenchState → Option Refusal → BenchState → Type 0
 CarriesOut link (Ask.Rise true) old refused new =
     (first : Option Refusal) × (between : BenchState)
@@ -51,7 +50,7 @@ CarriesOut link (Ask.Rise true) old refused new =
 CarriesOut link (Ask.Rise false) old refused new = Tells link Command.Start old refused new
 CarriesOut link Ask.Emergency old refused new = Tells link Command.Emergency old refused new
 CarriesOut link Ask.Stop old refused new = Tells link Command.Stop old refused new
-CarriesOut link Ask.Test old refused new = (refused ≡ Some Refusal.Nothing) × (new ≡ old)
+CarriesOut link Ask.Test old refused new = Asks link (Event.Test link) old refused new
 CarriesOut link Ask.Timed old refused new = Asks link (Event.Timed link) old refused new
 CarriesOut link Ask.NoAnswer old refused new = Asks link (Event.NoAnswer link) old refused new
 CarriesOut link Ask.Restore old refused new = Asks link (Event.Restore link) old refused new

@@ -61,8 +61,7 @@ fn carry_out(bench: &mut Bench, link: u8, ask: Ask) -> Result<Option<Refusal>, S
         Ask::Rise { emergency: false } => Ok(tell(bench, link, Command::Start)),
         Ask::Emergency => Ok(tell(bench, link, Command::Emergency)),
         Ask::Stop => Ok(tell(bench, link, Command::Stop)),
-        // Managements without tests ask for none, since the set has none.
-        Ask::Test => Ok(Some(Refusal::Nothing)),
+        Ask::Test => ask_set(bench, link, &Event::Test { link }),
         Ask::Timed => ask_set(bench, link, &Event::Timed { link }),
         Ask::NoAnswer => ask_set(bench, link, &Event::NoAnswer { link }),
         Ask::Restore => ask_set(bench, link, &Event::Restore { link }),

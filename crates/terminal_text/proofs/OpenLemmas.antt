@@ -156,3 +156,4 @@ is_actor (Event.Timed link) links few below = below_16 link links few below
 is_actor (Event.Restore link) links few below = below_16 link links few below
 is_actor (Event.Redeclare link) links few below = below_16 link links few below
 is_actor (Event.BackTimeout link) links few below = below_16 link links few below
+is_actor (Event.Test link) links few below = below_16 link links few below

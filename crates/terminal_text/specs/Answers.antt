@@ -86,6 +86,7 @@ asker (Event.Timed link) = TerminalOf link
 asker (Event.Restore link) = TerminalOf link
 asker (Event.Redeclare link) = TerminalOf link
 asker (Event.BackTimeout link) = TerminalOf link
+asker (Event.Test link) = TerminalOf link
 asker _ = User 0
 
 pub record Asks (event : Event) (old : ManagedState) (printed : List ℕ) (new : ManagedState) : Type 0 where
@@ -176,6 +177,7 @@ link_of_event (Event.Timed link) = Some link
 link_of_event (Event.Restore link) = Some link
 link_of_event (Event.Redeclare link) = Some link
 link_of_event (Event.BackTimeout link) = Some link
+link_of_event (Event.Test link) = Some link
 link_of_event _ = None
 
 abbrev pub link_in : Asked → Option ℕ

@@ -51,7 +51,8 @@ fn link_of_event(event: &Event) -> Option<u8>
         | Event::Timed { link }
         | Event::Restore { link }
         | Event::Redeclare { link }
-        | Event::BackTimeout { link } => Some(*link),
+        | Event::BackTimeout { link }
+        | Event::Test { link } => Some(*link),
         Event::Offer { .. } | Event::Take | Event::Find { .. } => None,
     }
 }

@@ -20,7 +20,7 @@ use Rattle.l2_units.specs.declared.cause.ControlFault.TheVariants.{Bsn, Fib}
 use Rattle.set_events.specs.declared.event.Actor.{Actor}
 use Rattle.set_events.specs.declared.event.Actor.TheVariants.{User, Terminal}
 use Rattle.set_events.specs.declared.event.Event.{Event}
-use Rattle.set_events.specs.declared.event.Event.TheVariants.{Offer, Take, Find, Next, Heard as Hear, Up, Down, DownBlind, NoAnswer, Timed, Restore, Redeclare, BackTimeout}
+use Rattle.set_events.specs.declared.event.Event.TheVariants.{Offer, Take, Find, Next, Heard as Hear, Up, Down, DownBlind, NoAnswer, Timed, Restore, Redeclare, BackTimeout, Test}
 use Rattle.set_events.specs.declared.answer.Fate.{Fate}
 use Rattle.set_events.specs.declared.answer.Fate.TheVariants.{Waiting, Unacked, Acked, Held, Parked, Back, Discarded}
 use Rattle.set_events.specs.declared.answer.Took.{Took}
@@ -159,6 +159,7 @@ asked_back p law (Timed n) more h = ap (asked_in p) (numbered_front (codes "time
 asked_back p law (Restore n) more h = ap (asked_in p) (numbered_front (codes "restore ") n (codes "-> " ++ more)) ∙ on_link (codes "restore") n (codes "-> " ++ more) h
 asked_back p law (Redeclare n) more h = ap (asked_in p) (numbered_front (codes "redeclare ") n (codes "-> " ++ more)) ∙ on_link (codes "redeclare") n (codes "-> " ++ more) h
 asked_back p law (BackTimeout n) more h = ap (asked_in p) (numbered_front (codes "backtimeout ") n (codes "-> " ++ more)) ∙ on_link (codes "backtimeout") n (codes "-> " ++ more) h
+asked_back p law (Test n) more h = ap (asked_in p) (numbered_front (codes "test ") n (codes "-> " ++ more)) ∙ on_link (codes "test") n (codes "-> " ++ more) h
 
 -- What was answered.
 
@@ -375,6 +376,7 @@ skip_event p (Timed n) more h = skip_numbered (codes "timed ") n more refl (wide
 skip_event p (Restore n) more h = skip_numbered (codes "restore ") n more refl (wide n h)
 skip_event p (Redeclare n) more h = skip_numbered (codes "redeclare ") n more refl (wide n h)
 skip_event p (BackTimeout n) more h = skip_numbered (codes "backtimeout ") n more refl (wide n h)
+skip_event p (Test n) more h = skip_numbered (codes "test ") n more refl (wide n h)
 
 -- The entry.
 

@@ -6,7 +6,7 @@ use Rattle.l2_units.specs.declared.unit.Unit.{Unit as SignalUnit}
 use Rattle.set_events.specs.declared.event.Actor.{Actor}
 use Rattle.set_events.specs.declared.event.Actor.TheVariants.{User, Terminal}
 use Rattle.set_events.specs.declared.event.Event.{Event}
-use Rattle.set_events.specs.declared.event.Event.TheVariants.{Offer, Take, Find, Next, Heard as Hear, Up, Down, DownBlind, NoAnswer, Timed, Restore, Redeclare, BackTimeout}
+use Rattle.set_events.specs.declared.event.Event.TheVariants.{Offer, Take, Find, Next, Heard as Hear, Up, Down, DownBlind, NoAnswer, Timed, Restore, Redeclare, BackTimeout, Test}
 use Rattle.set_events.specs.declared.answer.Fate.{Fate}
 use Rattle.set_events.specs.declared.answer.Fate.TheVariants.{Waiting, Unacked, Acked, Held, Parked, Back, Discarded}
 use Rattle.set_events.specs.declared.answer.Answer.{Answer}
@@ -44,6 +44,7 @@ event_text profile (Timed link) = numbered (codes "timed ") link
 event_text profile (Restore link) = numbered (codes "restore ") link
 event_text profile (Redeclare link) = numbered (codes "redeclare ") link
 event_text profile (BackTimeout link) = numbered (codes "backtimeout ") link
+event_text profile (Test link) = numbered (codes "test ") link
 
 -- THE TEXT of an entry of a set of this profile, ended by LF; the answer has the words of `play`
 abbrev pub entry_text : Profile → Entry → List ℕ
@@ -76,6 +77,7 @@ EventFits profile (Timed link) = link < 2 ^ 8
 EventFits profile (Restore link) = link < 2 ^ 8
 EventFits profile (Redeclare link) = link < 2 ^ 8
 EventFits profile (BackTimeout link) = link < 2 ^ 8
+EventFits profile (Test link) = link < 2 ^ 8
 
 abbrev pub FateFits : Fate → Type 0
 FateFits (Waiting link) = link < 2 ^ 8

@@ -23,7 +23,7 @@
 //! | what | its text |
 //! |---|---|
 //! | who asked | `user N`, `terminal L` |
-//! | what was asked | `offer HEX` (`offer` alone for the empty body), `take`, `find N`, `next L`, `hear L HEX`, `up L`, `down L`, `blind L`, `noanswer L`, `timed L`, `restore L`, `redeclare L`, `backtimeout L` |
+//! | what was asked | `offer HEX` (`offer` alone for the empty body), `take`, `find N`, `next L`, `hear L HEX`, `up L`, `down L`, `blind L`, `noanswer L`, `timed L`, `restore L`, `redeclare L`, `backtimeout L`, `test L` |
 //! | what was answered | the line of an answer |
 //! | a checkpoint | `checkpoint`, a line between entries |
 //!

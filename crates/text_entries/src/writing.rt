@@ -118,6 +118,7 @@ fn push_event(text: &mut Vec<u8>, profile: Profile, event: &EventRef<'_>) -> Res
         EventRef::Restore { link } => push_numbered(text, b"restore ", *link as u64),
         EventRef::Redeclare { link } => push_numbered(text, b"redeclare ", *link as u64),
         EventRef::BackTimeout { link } => push_numbered(text, b"backtimeout ", *link as u64),
+        EventRef::Test { link } => push_numbered(text, b"test ", *link as u64),
     }
 }
 

@@ -8,7 +8,7 @@ use Rattle.term_model.specs.declared.command.Command.TheVariants.{Start, Stop, E
 use Rattle.text_forms.specs.declared.asked.Asked.{Asked}
 use Rattle.text_forms.specs.declared.asked.OfLink.{OfLink}
 use Rattle.text_forms.specs.declared.asked.OfLink.TheVariants.{Look as Looking, Activate as Activating, Deactivate as Deactivating, Command as Commanding, Event as Telling}
-use Rattle.text_forms.specs.declared.at_link.LinkEvent.TheVariants.{NoAnswer, Timed, Restore, Redeclare, BackTimeout}
+use Rattle.text_forms.specs.declared.at_link.LinkEvent.TheVariants.{NoAnswer, Timed, Restore, Redeclare, BackTimeout, Test}
 use Rattle.text_forms.specs.declared.mistake.Mistake.{Mistake}
 use Rattle.text_forms.specs.declared.mistake.Mistake.TheVariants.{SecondSet, Terminal}
 use Rattle.text_forms.specs.declared.named.Named.TheVariants.{Times, Flags}
@@ -75,7 +75,8 @@ event_or_command name None =
     else (if bytes_eq name (codes "timed") then Some (Telling Timed)
     else (if bytes_eq name (codes "restore") then Some (Telling Restore)
     else (if bytes_eq name (codes "redeclare") then Some (Telling Redeclare)
-    else (if bytes_eq name (codes "backtimeout") then Some (Telling BackTimeout) else None))))
+    else (if bytes_eq name (codes "backtimeout") then Some (Telling BackTimeout)
+    else (if bytes_eq name (codes "test") then Some (Telling Test) else None)))))
 
 abbrev pub of_link_of : List ℕ → Option OfLink
 of_link_of name =

@@ -8,7 +8,7 @@ entry_mistake_text Actor = codes "an entry begins with user or terminal, and a c
 entry_mistake_text ActorNumber =
     codes "a user is a number below 65536, and a terminal one below 256, without leading zeros"
 entry_mistake_text Asked =
-    codes "here stands offer, take, find, next, hear, up, down, blind, noanswer, timed, restore, redeclare or backtimeout"
+    codes "here stands offer, take, find, next, hear, up, down, blind, noanswer, timed, restore, redeclare, backtimeout or test"
 entry_mistake_text AskedValue =
     codes "offer wants octets, find a number below 2^64, hear a link and a unit, and another word a link below 256"
 entry_mistake_text Answered = codes "behind -> stands accepted, taken, found, sent, heard, done or refused"

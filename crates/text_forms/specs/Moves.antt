@@ -5,7 +5,7 @@ use Rattle.std.specs.Result.{result_ok}
 use Rattle.std.specs.Str.{bytes_eq}
 use Rattle.l2_units.specs.declared.profile.Profile.{Profile}
 use Rattle.set_events.specs.declared.event.Event.{Event}
-use Rattle.set_events.specs.declared.event.Event.TheVariants.{Offer, Take, Find, Down, DownBlind, NoAnswer, Timed, Restore, Redeclare, BackTimeout}
+use Rattle.set_events.specs.declared.event.Event.TheVariants.{Offer, Take, Find, Down, DownBlind, NoAnswer, Timed, Restore, Redeclare, BackTimeout, Test}
 use Rattle.pair_steps.specs.declared.step.End.{End}
 use Rattle.pair_steps.specs.declared.step.Step.TheVariants.{Act, Emit, Arrive, Lose, Together, Inject}
 use Rattle.pair_rises.specs.declared.moves.Move.{Move}
@@ -15,7 +15,7 @@ use Rattle.text_forms.specs.declared.mistake.Mistake.TheVariants.{SecondSet, Unk
 use Rattle.text_forms.specs.declared.at_link.AtLink.{AtLink}
 use Rattle.text_forms.specs.declared.at_link.AtLink.TheVariants.{Emit as Emitting, Arrive as Arriving, Rise as Rising, Fill as Filling, Event as Telling}
 use Rattle.text_forms.specs.declared.at_link.LinkEvent.{LinkEvent}
-use Rattle.text_forms.specs.declared.at_link.LinkEvent.TheVariants.{Down as TellsDown, Blind as TellsBlind, NoAnswer as TellsNoAnswer, Timed as TellsTimed, Restore as TellsRestore, Redeclare as TellsRedeclare, BackTimeout as TellsBackTimeout}
+use Rattle.text_forms.specs.declared.at_link.LinkEvent.TheVariants.{Down as TellsDown, Blind as TellsBlind, NoAnswer as TellsNoAnswer, Timed as TellsTimed, Restore as TellsRestore, Redeclare as TellsRedeclare, BackTimeout as TellsBackTimeout, Test as TellsTest}
 use Rattle.text_forms.specs.Words.{Read, Rest, at_place, at_place_or, at_end, behind_name, first_word, judged}
 use Rattle.text_forms.specs.Places.{an_end, a_link, a_number, octets, a_unit}
 
@@ -60,7 +60,8 @@ link_event_of name =
     else (if bytes_eq name (codes "timed") then Some TellsTimed
     else (if bytes_eq name (codes "restore") then Some TellsRestore
     else (if bytes_eq name (codes "redeclare") then Some TellsRedeclare
-    else (if bytes_eq name (codes "backtimeout") then Some TellsBackTimeout else None))))))
+    else (if bytes_eq name (codes "backtimeout") then Some TellsBackTimeout
+    else (if bytes_eq name (codes "test") then Some TellsTest else None)))))))
 
 abbrev pub event_on : LinkEvent → ℕ → Event
 event_on TellsDown = Down
@@ -70,6 +71,7 @@ event_on TellsTimed = Timed
 event_on TellsRestore = Restore
 event_on TellsRedeclare = Redeclare
 event_on TellsBackTimeout = BackTimeout
+event_on TellsTest = Test
 
 abbrev pub link_event : List ℕ → ℕ → Option Event
 link_event name link = option_map (λ event. event_on event link) (link_event_of name)

@@ -7,7 +7,7 @@ use Rattle.text_forms.specs.Named.{named_text}
 abbrev pub terminal_text : TerminalMistake → List ℕ
 terminal_text Wide = codes "the set of a terminal has the narrow profile"
 terminal_text UnknownWord =
-    codes "a line begins with start, stop, emergency, calm, busy, ease, blind, outage, recover, octets, hear, flags, bits, offer, take, find, noanswer, timed, restore, redeclare, backtimeout, activate, deactivate, look, checkpoint or history"
+    codes "a line begins with start, stop, emergency, calm, busy, ease, blind, outage, recover, octets, hear, flags, bits, offer, take, find, noanswer, timed, restore, redeclare, backtimeout, test, activate, deactivate, look, checkpoint or history"
 terminal_text TimersPlace = codes "timers is the line behind the first, and no other"
 terminal_text TimersWants = codes "timers wants six words behind it: t1=N t2=N t3=N t5=N t6=N t7=N"
 terminal_text Level3Place = codes "level3 is the line behind the first or behind timers, and no other"

@@ -52,7 +52,7 @@ pub(crate) enum OfLink {
     Deactivate,
     /// `start`, `stop`, `emergency`, `calm`, `busy`, `ease`, `blind`, `outage` or `recover`
     Command(Command),
-    /// `noanswer`, `timed`, `restore`, `redeclare` or `backtimeout`
+    /// `noanswer`, `timed`, `restore`, `redeclare`, `backtimeout` or `test`
     Event(LinkEvent),
 }
 
@@ -102,6 +102,8 @@ pub(crate) fn find_of_link(name: &[u8]) -> Option<OfLink>
         LinkEvent::Redeclare
     } else if is_word(name, b"backtimeout") {
         LinkEvent::BackTimeout
+    } else if is_word(name, b"test") {
+        LinkEvent::Test
     } else {
         return None;
     };

@@ -24,6 +24,8 @@ pub enum LinkEvent {
     Redeclare,
     /// `backtimeout`
     BackTimeout,
+    /// `test`
+    Test,
 }
 
 impl LinkEvent {
@@ -42,6 +44,7 @@ impl LinkEvent {
             LinkEvent::Restore => Event::Restore { link },
             LinkEvent::Redeclare => Event::Redeclare { link },
             LinkEvent::BackTimeout => Event::BackTimeout { link },
+            LinkEvent::Test => Event::Test { link },
         }
     }
 }
@@ -119,12 +122,14 @@ pub(crate) fn find_link_event(name: &[u8]) -> Option<LinkEvent>
         Some(LinkEvent::Redeclare)
     } else if is_word(name, b"backtimeout") {
         Some(LinkEvent::BackTimeout)
+    } else if is_word(name, b"test") {
+        Some(LinkEvent::Test)
     } else {
         None
     }
 }
 
-/// What `down`, `blind`, `noanswer`, `timed`, `restore`, `redeclare` and `backtimeout` tell of a link.
+/// What `down`, `blind`, `noanswer`, `timed`, `restore`, `redeclare`, `backtimeout` and `test` tell of a link.
 pub fn read_link_event(name: &[u8], link: u8) -> Option<Event>
     ensures { result ≡ link_event name.now link }
 {

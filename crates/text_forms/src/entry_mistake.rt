@@ -32,7 +32,7 @@ impl EntryMistake {
             EntryMistake::ActorNumber =>
                 "a user is a number below 65536, and a terminal one below 256, without leading zeros",
             EntryMistake::Asked =>
-                "here stands offer, take, find, next, hear, up, down, blind, noanswer, timed, restore, redeclare or backtimeout",
+                "here stands offer, take, find, next, hear, up, down, blind, noanswer, timed, restore, redeclare, backtimeout or test",
             EntryMistake::AskedValue =>
                 "offer wants octets, find a number below 2^64, hear a link and a unit, and another word a link below 256",
             EntryMistake::Answered =>

@@ -56,7 +56,7 @@ pub enum Mistake {
     TakeWants,
     /// `find` without its end or number.
     FindWants,
-    /// `emit`, `arrive`, `rise`, `fill`, `down`, `blind`, `noanswer`, `timed`, `restore`, `redeclare` or `backtimeout` without its end or link.
+    /// `emit`, `arrive`, `rise`, `fill`, `down`, `blind`, `noanswer`, `timed`, `restore`, `redeclare`, `backtimeout` or `test` without its end or link.
     OnLinkWants,
     /// `lose` without its end, link or place.
     LoseWants,

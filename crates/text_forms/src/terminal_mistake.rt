@@ -53,7 +53,7 @@ impl TerminalMistake {
         match self {
             TerminalMistake::Wide => "the set of a terminal has the narrow profile",
             TerminalMistake::UnknownWord =>
-                "a line begins with start, stop, emergency, calm, busy, ease, blind, outage, recover, octets, hear, flags, bits, offer, take, find, noanswer, timed, restore, redeclare, backtimeout, activate, deactivate, look, checkpoint or history",
+                "a line begins with start, stop, emergency, calm, busy, ease, blind, outage, recover, octets, hear, flags, bits, offer, take, find, noanswer, timed, restore, redeclare, backtimeout, test, activate, deactivate, look, checkpoint or history",
             TerminalMistake::TimersPlace => "timers is the line behind the first, and no other",
             TerminalMistake::TimersWants =>
                 "timers wants six words behind it: t1=N t2=N t3=N t5=N t6=N t7=N",
